@@ -76,7 +76,7 @@ def print_silent(programs, folder):
         write_entries(log, [*requests, ("M", moment, "")])
     verdict, *surveys = [commands(programs, logs[0])[0], *(commands(programs, log)[1] for log in logs)]
     (judged, legal, silent), (_, text, found) = seconds_of([verdict, *surveys])
-    if not text.startswith(b"end ") or not found.startswith(f"breach {CLIENTS + 1} transaction 1\n".encode()):
+    if not text.startswith(b"end ") or not found.startswith(f"breach {CLIENTS + 1} transaction 1 client OPTIONS ".encode()):
         sys.exit(f"{text!r} {found!r}")
     print(f"{CLIENTS} clients: verdict {judged:.3f} s, survey {legal:.3f} s; all silent at one moment: {silent:.3f} s, {silent / legal:.2f} times")
 

@@ -18,9 +18,9 @@ def survey_of_part(name, part):
 
 
 def place(words, number):
-    """Where a finding of a part stands among those of the whole: by its entry, by what it is, and by the first entry of its transaction, where the words after its number tell that: role, method,
-    branch, its first entry and its last one."""
-    method, first = (words[5], int(words[7])) if words[0] != "malformed" and len(words) >= 9 else ("", 0)
+    """Where a finding of a part stands among those of the whole: by its entry, by what it is, and by the first entry of its transaction. The words after its number tell that: role, method, branch,
+    its first entry and its last one."""
+    method, first = (words[5], int(words[7])) if words[0] != "malformed" else ("", 0)
     return int(words[1]), RANKS[words[0]], first, method != "CANCEL", number  # the CANCEL that an element sends comes before its INVITE, where both begin
 
 
@@ -41,9 +41,8 @@ class Parts:
             if int(number) in self.ends:
                 self.wrong = self.wrong or "part %s is there twice" % part
             self.ends[int(number)] = words
-        elif words and words[0] in RANKS and len(words) >= 4:
-            named = words[0] == "malformed" or len(words) >= 9
-            self.findings.append((place(words, int(number)), len(self.findings), line if named else "%s of part %s" % (line, part)))
+        elif words and words[0] in RANKS and len(words) >= (5 if words[0] == "malformed" else 9):
+            self.findings.append((place(words, int(number)), len(self.findings), line))
         else:
             self.wrong = self.wrong or "part %s: %s" % (part, line)
 

@@ -63,7 +63,7 @@ class Story:
             keys = (("server", self.branch, self.host, own),)
         else:
             keys = (("client", self.branch, "", own),)
-            if method == "CANCEL":
+            if method == "CANCEL" and not code:
                 keys += (("client", self.branch, "", "INVITE"),)
         self.entries.append(Entry(letter, moment, data, keys, self.branch))
 

@@ -40,6 +40,19 @@ def status_of_survey(lines):
     return 2 if lines[-1].startswith("log fault") else 0 if not words else 3 if words == {"undecided"} else 1
 
 
+def verdict_in(line):
+    """The words of a verdict that a line of a survey begins with."""
+    words = line.split(" ")
+    return " ".join(words[:4]) if words[0] in ("breach", "undecided") else line
+
+
+def words_of(log, key, at):
+    """What a line says of a transaction that is found at an entry: role, method, branch, first and last entry."""
+    own = [number for number, one in enumerate(log.entries[:at], 1) if key in one.keys]
+    restarts = [number for number, one in enumerate(log.entries[:at], 1) if one.letter == "Z"]
+    return f"{key[0]} {key[3]} z9hG4bK{key[1]} {own[0]} {max(own + restarts)}"
+
+
 def numbers_of(log):
     """The number of each transaction, by its first entry."""
     numbers = {}
@@ -109,12 +122,12 @@ class Expected:
         """The lines of the survey. Of a transaction that no verdict tells of it takes what is said, where that can be."""
         found = [((number, 0, 0), line) for number, line in self.faults()]
         for key, at in self.unknown.items():
-            told = [line.split() for line in said if line.endswith(f" transaction {self.numbers[key]}")]
+            told = [line.split() for line in said if line.split()[2:4] == ["transaction", str(self.numbers[key])]]
             self.troubles[key] = (int(told[0][1]), told[0][0]) if len(told) == 1 and int(told[0][1]) >= at else None
         for key, trouble in self.troubles.items():
             if trouble:
                 entry, word = trouble
-                found.append(((entry, 1 if word == "breach" else 2, self.numbers[key]), f"{word} {entry} transaction {self.numbers[key]}"))
+                found.append(((entry, 1 if word == "breach" else 2, self.numbers[key]), f"{word} {entry} transaction {self.numbers[key]} {words_of(self.log, key, entry)}"))
         return [line for _, line in sorted(found)] + [self.end(len(found))]
 
 
@@ -127,7 +140,7 @@ def by_branch(log, lines):
         key = None if word == "malformed" else keys[int(rest.split()[1])]
         branch = log.entries[int(entry) - 1].branch if key is None else key[1]
         # in a part the numbers are others: those of one entry may stand in another order
-        found[branch].append((int(entry), word, rest if key is None else key))
+        found[branch].append((int(entry), word, rest if key is None else (key, rest.split(" ", 2)[2])))
     return {branch: sorted(it, key=str) for branch, it in found.items()}
 
 
@@ -153,7 +166,7 @@ def shares_faults(surveyor, told, log, lines, count):
         word, entry, rest = line.split(" ", 2)
         if word != "malformed":
             key = keys[int(rest.split()[1]) - 1]
-            wanted[share_of(key, count)].append(f"{word} {entry} transaction {ranks[key]}")
+            wanted[share_of(key, count)].append(f"{word} {entry} transaction {ranks[key]} {rest.split(' ', 2)[2]}")
     for number in range(1, count + 1):
         part, status = surveyor.says(log.bytes(), "--part", f"{number}/{count}")
         malformed += [line for line in part if line.startswith("malformed")]
@@ -175,7 +188,7 @@ def faults_of(judge, surveyor, number, log):
     if lines != wanted or status != status_of_survey(wanted):
         faults.append(f"{told}: wanted {wanted}\n  says {lines}, status {status}")
     verdict = judge.says(log.bytes())[0][0]
-    first = lines[0] if not lines[0].startswith("end ") else f"legal {lines[0].removeprefix('end ').removesuffix(' findings 0')}"
+    first = verdict_in(lines[0]) if not lines[0].startswith("end ") else f"legal {lines[0].removeprefix('end ').removesuffix(' findings 0')}"
     if first != verdict:
         faults.append(f"{told}: the verdict is {verdict}, and the survey begins with {lines[0]}")
     whole = by_branch(log, lines)

@@ -1,7 +1,8 @@
 """siptrace as a library: verdicts and surveys by libsiptrace.so, through ctypes.
 
   siptrace.py LIBRARY FILE..            judges the log in each file, and writes a line for each, as the program siptrace does
-  siptrace.py LIBRARY --survey FILE..   surveys the log in each file, and writes the lines that the program sipsurvey writes"""
+  siptrace.py LIBRARY --survey FILE..   surveys the log in each file, and writes the lines that the program sipsurvey writes,
+                                        without the words for a transaction after its number"""
 
 import ctypes
 import os

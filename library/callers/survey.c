@@ -1,4 +1,4 @@
-/* Surveys the log in each file that it is given, by libsiptrace, and writes the lines that the program sipsurvey writes. */
+/* Surveys the log in each file that it is given, by libsiptrace, and writes the lines that the program sipsurvey writes, without the words for a transaction after its number. */
 #include "telling.h"
 
 /* A survey that a call has made: its findings, which are taken from malloc, and what it came to. */

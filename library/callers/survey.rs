@@ -1,4 +1,4 @@
-//! Surveys the log in each file that it is given, by libsiptrace, and writes the lines that the program sipsurvey writes.
+//! Surveys the log in each file that it is given, by libsiptrace, and writes the lines that the program sipsurvey writes, without the words for a transaction after its number.
 mod siptrace;
 
 use std::{env, fs, io, process::ExitCode};

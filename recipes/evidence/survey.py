@@ -11,7 +11,7 @@ from sip_lines import call_id, cseq, die, first_line, is_response, method_of, sp
 from .asking import Judge, log_of
 from .case import Case, mark
 from .faults import MOST_STATES
-from .finding import OF_ALL, Entry, Found, Index, key_in, keys_or_none, sum_of_branch
+from .finding import OF_ALL, Entry, Found, Index, keys_or_none, sum_of_branch
 from .kinds import kind_of
 from .messages import is_request, latin
 from .rules import fault_told
@@ -85,9 +85,9 @@ class Survey:
         self.last = self.index.moments[-1] if self.count else 0
         self.restarts = [number for number, one in enumerate(self.index.branches, 1) if one == OF_ALL]
         self.branches = len(set(self.index.branches) - {0, OF_ALL})
-        self.found, keys = defaultdict(list), list(self.index.keys)  # by the sum of the branch
+        self.found = defaultdict(list)  # by the sum of the branch
         for words in found:
-            self.add(words, int(words[1]), keys)
+            self.add(words, int(words[1]))
 
     def check_order(self):
         """Ends where the log cannot be read to its end."""
@@ -98,15 +98,17 @@ class Survey:
         if fault is not None:
             die("entry %d cannot be read: see `siptrace check`" % fault, 2)
 
-    def add(self, words, at, keys):
+    def add(self, words, at):
         """Notes what was found at an entry, by its branch."""
         if words[0] == "malformed":
             first = self.index.entry(at)
             branch = self.index.branches[at - 1]
             self.found[branch].append(Trouble(words[0], at, (), first, int(words[4 if words[2] == "line" else 3])))
         else:
-            key = key_in(keys[int(words[3]) - 1])
-            self.found[sum_of_branch(key[1])].append(Trouble(words[0], at, key, None))
+            role, method, _, number, _ = words[4:]
+            first = self.index.entry(int(number))
+            key = next(key for key in keys_or_none(first.letter, first.data) if (key[0], key[3]) == (role, method.encode("latin-1")))
+            self.found[sum_of_branch(key[1])].append(Trouble(words[0], at, key, first))
 
     def troubled(self):
         """The entries of each branch in which something was found, in the order of their first ones."""
@@ -126,11 +128,7 @@ class Survey:
 
     def troubles(self, entries):
         """What was found in the entries of one branch, each transaction once."""
-        heard = self.heard(entries)
-        for trouble in self.found[self.index.branches[entries[0].number - 1]]:
-            if trouble.key:
-                trouble = trouble._replace(first=next(one for one in heard if one.data and trouble.key in keys_or_none(one.letter, one.data)))
-            yield trouble
+        return self.found[self.index.branches[entries[0].number - 1]]
 
     def heard(self, entries):
         """These without the messages that are malformed, which concern no transaction."""

@@ -8,7 +8,8 @@ HEADER = b"sip-trace 1\nt1 500 t2 4000 t4 5000 tolerance 50\n"
 
 
 class Survey:
-    """A survey that goes on. `tell` gets the words of each line, in a thread of its own: ["breach", "5", "transaction", "1"]."""
+    """A survey that goes on. `tell` gets the words of each line, in a thread of its own: ["breach", "5", "transaction", "1", "client",
+    "INVITE", "z9hG4bKa", "2", "4"]: role, method, branch, first and last entry stand after the number."""
 
     def __init__(self, tell, header=HEADER, program="sipsurvey"):
         self.process = subprocess.Popen([program], stdin=subprocess.PIPE, stdout=subprocess.PIPE)

@@ -20,10 +20,14 @@ STANDARD = TOP / "docs/standard"
 PARTS = {
     "Text": (["Text", "Case", "Chars", "Profile"], ["TEXT.md"]),
     "Message": (["Outcome", "Faults", "StartLine", "Via", "Values", "Field", "Body", "Lines", "Says", "Transport", "Reason", "fault", "sip_message"], ["MESSAGE.md"]),
-    "Keys": (["sip_key"], ["KEYS.md"]),
-    "Log": (["rules", "Times", "Window", "Source", "format", "LogHeader", "action", "LogEntry", "LogFault", "LogSays", "sip_log"], ["LOG.md", "MACHINES.md"]),
-    "Machines": (["sip_machine", "sip_states"], ["MACHINES.md", "VERDICT.md"]),
-    "Verdict": (["sip_verdict"], ["VERDICT.md"]),
+    "Keys": (["role", "Branch", "SentBy", "Key", "Concerns", "Solid", "AckOf"], ["KEYS.md"]),
+    "Log": (["rules", "Times", "Window", "Source", "format", "LogHeader", "action", "LogEntry", "log_reason", "LogSays", "sip_log"], ["LOG.md", "MACHINES.md"]),
+    "Machines": (
+        ["kind", "Kind", "MachineEvent", "Retransmits", "Waiting", "Provisional", "Debts", "Figure", "Replies", "PlainClient", "PlainServer", "InviteClient", "InviteServer"]
+        + ["InviteClient3261", "InviteServer3261", "Transaction", "KeyMachine", "Stands"],
+        ["MACHINES.md", "VERDICT.md"],
+    ),
+    "Verdict": (["verdict", "judge_error", "Observation", "VerdictOf"], ["VERDICT.md"]),
 }
 BEGIN, BEGIN_LAWS = "<!-- tests/trusted --write writes from here -->\n", "<!-- tests/trusted --write writes the laws from here -->\n"
 END = "<!-- to here -->\n"
@@ -171,7 +175,7 @@ def main(arguments):
         for it in some:
             print(f"  lines {it.first + 1} to {it.last + 1}: {it.name}")
     print(f"of std: {' '.join(sorted(others - {*lost}))}")
-    machines = {Path(module).suffix[1:]: file for module, file in repository.modules.items() if file and module.startswith("Rattle.sip_machine.specs.")}
+    machines = {Path(module).suffix[1:]: file for module, file in repository.modules.items() if file and module.startswith("Rattle.sip_standard.specs.")}
     missing, other = list(untold(items)), list(differing(text_of(STANDARD / "MACHINES.md"), machines))
     strangers, open_lines = sorted(set(unknown_files())), list(unlisted(repository, page))
     for it in [*missing, *other, *strangers, *open_lines, *hidden, *changes, *of_laws]:

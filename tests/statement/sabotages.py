@@ -1,10 +1,11 @@
 """What tests/trusted-sabotage does to a copy of the checkout: by name the edits, and a text of the line that tests/trusted must say of them."""
 
-MESSAGE, PROFILE, TEXT = "crates/sip_machine/specs/Message.antt", "crates/sip_standard/specs/Profile.antt", "crates/sip_standard/specs/Text.antt"
-PLAIN_CLIENT, TEXTS, NAMING = (f"crates/sip_machine/specs/{it}.antt" for it in ("PlainClient", "Texts", "Naming"))
-MACHINES, VERDICT_LIB = "docs/standard/MACHINES.md", "crates/sip_verdict/src/lib.rt"
-VERDICT, JUDGING, STAGE = (f"crates/sip_verdict/src/{it}.rt" for it in ("verdict", "judging", "stage"))
-HEAD = "use Rattle.sip_machine.specs.declared.event.Kind.{Kind}\n"
+KIND, PROFILE, TEXT, PLAIN_CLIENT = (f"crates/sip_standard/specs/{it}.antt" for it in ("Kind", "Profile", "Text", "PlainClient"))
+TEXTS, NAMING = (f"crates/sip_machine/specs/{it}.antt" for it in ("Texts", "Naming"))
+MACHINES, VERDICT_LIB, STANDARD_LIB = "docs/standard/MACHINES.md", "crates/sip_verdict/src/lib.rt", "crates/sip_standard/src/lib.rt"
+VERDICT, FORMAT = (f"crates/sip_standard/src/{it}.rt" for it in ("verdict", "format"))
+JUDGING, STAGE = (f"crates/sip_verdict/src/{it}.rt" for it in ("judging", "stage"))
+HEAD = "use Rattle.sip_standard.specs.declared.kind.Kind.{Kind}\n"
 ABOVE_FINAL = "-- a final response, section 7.2: 2xx to 6xx\n"
 FINAL, END_OF_FINAL = "IsFinal code = (200 ≤ code) × ", "(code ≤ 699)\n\n-- a success"
 PLANTED = "abbrev pub planted : ℕ → Type 0\nplanted code = code ≤ 699\n\n"
@@ -18,17 +19,17 @@ def at(file, *changes):
 
 def plant(above, mention="planted code", wanted="`planted`"):
     """A definition in some form above IsFinal, which mentions it: the table has it by name, or the form is told."""
-    return at(MESSAGE, (ABOVE_FINAL, above + ABOVE_FINAL), (FINAL + END_OF_FINAL, FINAL + END_OF_FINAL.replace("(code ≤ 699)", mention))), wanted
+    return at(KIND, (ABOVE_FINAL, above + ABOVE_FINAL), (FINAL + END_OF_FINAL, FINAL + END_OF_FINAL.replace("(code ≤ 699)", mention))), wanted
 
 
 def planted_elsewhere(mention, uses, wanted, definition=PLANTED):
     """A definition of Naming.antt, which IsFinal mentions by some path."""
     edits, _ = plant("", mention)
-    return [*edits[1:], *at(MESSAGE, (HEAD, uses + HEAD)), *at(NAMING, ("\n-- ", f"\n{definition}-- "))], wanted
+    return [*edits[1:], *at(KIND, (HEAD, uses + HEAD)), *at(NAMING, ("\n-- ", f"\n{definition}-- "))], wanted
 
 
 def definition(file, old, new, wanted):
-    return at(f"crates/sip_machine/specs/{file}.antt", (old, new)), wanted
+    return at(f"crates/sip_standard/specs/{file}.antt", (old, new)), wanted
 
 
 def page(old, new, wanted):
@@ -42,8 +43,8 @@ def law(crate, old, new, wanted):
 DEFINITIONS = {
     "a definition in an anonymous module": plant("module _ {X : Type 0} where\n  " + PLANTED.replace("\np", "\n  p")),
     "a module in an anonymous module": plant("module _ {X : Type 0} where\n  module _ {Y : Type 0} where\n    " + PLANTED.replace("\np", "\n    p"), wanted=UNREAD),
-    "a clause below an empty line": (at(MESSAGE, ("kind_of (status", "\nkind_of (status")), UNREAD),
-    "an indented line below an empty line": (at(MESSAGE, ("method_named name =\n", "method_named name =\n\n")), "Message.antt:12: a line of no definition"),
+    "a clause below an empty line": (at(KIND, ("kind_of (status", "\nkind_of (status")), UNREAD),
+    "an indented line below an empty line": (at(KIND, ("method_named name =\n", "method_named name =\n\n")), "Kind.antt:12: a line of no definition"),
     "a name between two strings with a quote inside": (
         at(PROFILE, ('Lit "\\"" then Many', 'Lit "\\"" then planted then Many'), ("-- domainlabel", "abbrev pub planted : List ℕ → Type 0\nplanted text = text ≡ []\n\n-- domainlabel")),
         "`planted`",
@@ -68,7 +69,7 @@ DEFINITIONS = {
     "a name right behind a dot": plant(PLANTED, "(λ n.planted n) code", "a name right after the dot"),
     "a set of rules": plant(PLANTED + "pub ruleset R = planted\n\n", wanted=UNREAD),
     "a path without a use line": planted_elsewhere("Rattle.sip_machine.specs.Naming.planted code", "", "+ Not followed: `Rattle.sip_machine"),
-    "a path from the package on": planted_elsewhere("package.Rattle.sip_machine.specs.Naming.planted code", "", "+ Not followed: `Rattle.sip_machine"),
+    "a path from the package on": planted_elsewhere("package.Rattle.sip_machine.specs.Naming.planted code", "", "+ Not followed: `Rattle.sip_standard"),
     "a use line through another": planted_elsewhere("planted code", "use Rattle.sip_machine.specs.Naming as Q\nuse Q.{planted}\n", "a use line that is not read"),
     "a path through a module": planted_elsewhere("Naming.planted code", "use Rattle.sip_machine.specs.Naming\n", "`sip_machine/specs/Naming.antt`"),
     "a path through a folder": planted_elsewhere("Q.Naming.planted code", "use Rattle.sip_machine.specs as Q\n", "`sip_machine/specs/Naming.antt`"),
@@ -77,14 +78,14 @@ DEFINITIONS = {
     "all names of a module": planted_elsewhere("planted code", "use Rattle.sip_machine.specs.Naming.*\n", "a use line that is not read"),
     "a name under that of another": (at(PLAIN_CLIENT, ("{IsProvisional, IsFinal}", "{IsProvisional, IsSuccess as IsFinal}")), "under the name IsFinal, which others have"),
     "a name handed on under that of another": (
-        at(PLAIN_CLIENT, ("Message.{IsProvisional, IsFinal}", "Message.{IsProvisional}\nuse Rattle.sip_machine.specs.Texts.{IsFinal}"))
-        + at(TEXTS, ("use Rattle.std", "pub use Rattle.sip_machine.specs.Message.{IsSuccess as IsFinal}\nuse Rattle.std")),
-        "Texts.antt:1: Rattle.sip_machine.specs.Message.IsSuccess under the name IsFinal",
+        at(PLAIN_CLIENT, ("Kind.{IsProvisional, IsFinal}", "Kind.{IsProvisional}\nuse Rattle.sip_machine.specs.Texts.{IsFinal}"))
+        + at(TEXTS, ("use Rattle.std", "pub use Rattle.sip_standard.specs.Kind.{IsSuccess as IsFinal}\nuse Rattle.std")),
+        "Texts.antt:1: Rattle.sip_standard.specs.Kind.IsSuccess under the name IsFinal",
     ),
 }
 
 LAST = "    LogFault { entry: u32, reason: LogReason },\n}\n"
-FAULT, USE_FAULT = "Malformed { entry: u32, fault: Fault }", "use sip_standard::Fault;"
+FAULT, USE_FAULT = "Malformed { entry: u32, fault: Fault }", "use crate::fault::Fault;"
 VIEW = " {\n    ghost Value = { Verdict };\n\n    ghost view = { λ v. v };\n}\n"
 TYPE = "/// What is planted.\npub struct Planted {\n    pub first: u8,\n}\n\n"
 TOP_OF_STAGE = "//! "
@@ -95,24 +96,24 @@ TYPES = {
     "an impl Model on another name of a type": (
         at(VERDICT, (LAST, LAST + "\npub type Said = Verdict;\n\nimpl Model for Said" + VIEW)), "`impl Model for Verdict`"),
     "an impl Model in another file": (
-        at(STAGE, (TOP_OF_STAGE, "use crate::verdict::Verdict as Spoken;\n\nimpl std::marker::Model for Spoken" + VIEW + "\n" + TOP_OF_STAGE)), "`impl Model for Verdict`"),
+        at(FORMAT, (TOP_OF_STAGE, "use crate::verdict::Verdict as Spoken;\n\nimpl std::marker::Model for Spoken" + VIEW + "\n" + TOP_OF_STAGE)), "`impl Model for Verdict`"),
     "an impl in a module of a file": (
         at(VERDICT, (LAST, LAST + "\nmod inside {\n    impl Model for Verdict {\n        ghost Value = { Verdict };\n    }\n}\n")),
         "an impl on Verdict that stands inside something",
     ),
     "a type by its path": (
-        at(VERDICT, (FAULT, FAULT.replace(" }", ", planted: crate::stage::Planted }"))) + at(STAGE, (TOP_OF_STAGE, TYPE + TOP_OF_STAGE)), "`Planted`"),
+        at(VERDICT, (FAULT, FAULT.replace(" }", ", planted: crate::format::Planted }"))) + at(FORMAT, (TOP_OF_STAGE, TYPE + TOP_OF_STAGE)), "`Planted`"),
     "a type in a module of a file": (
-        at(VERDICT, (FAULT, FAULT.replace(" }", ", planted: crate::stage::inside::Planted }"))) + at(STAGE, (TOP_OF_STAGE, "pub mod inside {\n    pub struct Planted(u8);\n}\n\n" + TOP_OF_STAGE)),
-        "+ Not followed: `Rattle.sip_verdict.stage.inside.Planted`",
+        at(VERDICT, (FAULT, FAULT.replace(" }", ", planted: crate::format::inside::Planted }"))) + at(FORMAT, (TOP_OF_STAGE, "pub mod inside {\n    pub struct Planted(u8);\n}\n\n" + TOP_OF_STAGE)),
+        "+ Not followed: `Rattle.sip_standard.format.inside.Planted`",
     ),
     "a type through use lines in braces": (
-        at(VERDICT, (USE_FAULT, "use crate::{stage::{Planted}};\n" + USE_FAULT), (FAULT, FAULT.replace(" }", ", planted: Planted }"))) + at(STAGE, (TOP_OF_STAGE, TYPE + TOP_OF_STAGE)),
+        at(VERDICT, (USE_FAULT, "use crate::{format::{Planted}};\n" + USE_FAULT), (FAULT, FAULT.replace(" }", ", planted: Planted }"))) + at(FORMAT, (TOP_OF_STAGE, TYPE + TOP_OF_STAGE)),
         "`Planted`",
     ),
-    "all types of a module": (at(VERDICT, (USE_FAULT, USE_FAULT + "\nuse crate::stage::*;")), "a use line that is not read"),
+    "all types of a module": (at(VERDICT, (USE_FAULT, USE_FAULT + "\nuse crate::format::*;")), "a use line that is not read"),
     "a comment of another form": (at(VERDICT, ("//! What is said", "/* a comment */\n//! What is said")), "a comment between /* and */"),
-    "a module from another file": (at(VERDICT_LIB, ("mod verdict;", '#[path = "stage.rt"]\nmod verdict;')), "path is not followed"),
+    "a module from another file": (at(STANDARD_LIB, ("mod verdict;", '#[path = "format.rt"]\nmod verdict;')), "path is not followed"),
     "a type for some builds alone": (at(VERDICT, ("pub enum Verdict {", "#[cfg(any())]\npub enum Verdict {")), "cfg is not followed"),
     "a second judge": (at(STAGE, (TOP_OF_STAGE, "pub fn judge() -> bool\n    ensures { result ≡ true }\n{\n    true\n}\n\n" + TOP_OF_STAGE)), "not one function judge"),
     "a judge that is not handed on": (at(VERDICT_LIB, ("judging::{judge, judge_bytes}", "judging::{judge_bytes}")), "not one function judge"),
@@ -165,7 +166,7 @@ TABLES = {
         "InviteClient3261", "\n    ⊎ (IsUnsuccessful code × (y ≡ (Completed reliable request e.moment, gains true e.text)))", "", "InviteClient3261.antt has no row for: in proceeding"),
     "the timers of the client by RFC 3261, in the definition": definition("InviteClient3261", "{ Receives = Receives }", "{ Receives = Receives; sends_by = λ p x. [] }", "has not as its invite_client_3261"),
     "whose rows the client by RFC 3261 has": definition(
-        "InviteClient3261", "specs.InviteClient as corrected", "specs.InviteServer as corrected", "corrected is Rattle.sip_machine.specs.InviteServer"),
+        "InviteClient3261", "specs.InviteClient as corrected", "specs.InviteServer as corrected", "corrected is Rattle.sip_standard.specs.InviteServer"),
     "a 2xx of the server by RFC 3261, in the definition": definition("InviteServer3261", "(Passed, drops)", "(Passed, softens)", "does not have what the page tells: Sends of (In (Proceeding"),
     "a 2xx of the server by RFC 3261, in the page": page("| a 2xx is sent | passed, which owes nothing |", "| a 2xx is sent | accepted |", "no words are known for row 2"),
     "a row of the server by RFC 3261 less, in the page": page("| 3 | passed | a 2xx is sent | passed |\n", "", "the table has not once row 3"),

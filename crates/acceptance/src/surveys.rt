@@ -5,10 +5,10 @@ use crate::notation::log_of;
 use crate::wants::{holds, reads};
 use sip_log::{Entry, FromRead, LogError, Progress, ToWrite};
 use sip_verdict::{
-    Finding, StepError, Survey, SurveyEnd, SurveyError, end_line, finding_line, survey,
-    survey_bytes,
+    Finding, Part, StepError, Survey, SurveyEnd, SurveyError, end_line, finding_line, survey,
+    survey_bytes, survey_part,
 };
-use std::alloc::Global;
+use std::alloc::{AllocError, Global};
 use std::hash::{BuildHasherDefault, FoldHasher};
 use std::process::Abort;
 use std::test::Fail;
@@ -25,14 +25,29 @@ fn written(alloc: Global, log: &[u8], text: &mut Vec<u8>) -> Result<(), SurveyEr
     Ok(())
 }
 
-/// Tells what is found in the log of these bytes in memory by the lines of a survey.
-fn told(alloc: Global, log: &[u8], text: &mut String) -> Result<(), SurveyError> {
+/// Tells what is found in the log of these bytes in memory by the lines of a survey, without the words of their transactions.
+fn told(alloc: Global, log: &[u8], text: &mut Vec<u8>) -> Result<(), SurveyError> {
     let (found, end) = survey_bytes(alloc, log, Hasher::new())?;
     for finding in &found {
-        text.push_str(finding_line(alloc, finding)?.as_str())?;
+        text.extend_from_slice(finding_line(alloc, finding, None)?.as_slice())?;
     }
-    text.push_str(end_line(alloc, &end, found.len() as u64)?.as_str())?;
+    let last = end_line(alloc, &end, found.len() as u64)?;
+    text.extend_from_slice(last.as_str().as_bytes())?;
     Ok(())
+}
+
+/// The lines of a survey without the words of their transactions.
+fn bare(alloc: Global, lines: &str) -> Result<String, AllocError> {
+    let mut text = String::new(alloc);
+    for line in lines.lines() {
+        let (words, _) = line
+            .split_once(" client ")
+            .or(line.split_once(" server "))
+            .unwrap_or((line, ""));
+        text.push_str(words)?;
+        text.push_str("\n")?;
+    }
+    Ok(text)
 }
 
 /// The survey of a log has these lines, whether its bytes come from a reader or lie in memory.
@@ -45,9 +60,10 @@ fn surveys_log(
     written(rt.alloc(), log.as_bytes(), &mut text)?;
     let lines = str::from_utf8(text.as_slice()).map_err(|_| "no text")?;
     reads(rt, lines, want, row);
-    let mut text = String::new(rt.alloc());
+    let mut text = Vec::new(rt.alloc());
     told(rt.alloc(), log.as_bytes(), &mut text)?;
-    reads(rt, text.as_str(), want, row);
+    let lines = str::from_utf8(text.as_slice()).map_err(|_| "no text")?;
+    reads(rt, lines, bare(rt.alloc(), want)?.as_str(), row);
     Ok(())
 }
 
@@ -84,9 +100,40 @@ fn gives_one_up_and_finds_another(rt: HostRuntime) -> Result<(), Fail> {
         answers = answers.as_str()
     )?;
     let want =
-        "undecided 128 transaction 1\nbreach 146 transaction 2\nend entries 146 transactions 2 findings 2\n";
+        "undecided 128 transaction 1 server OPTIONS z9hG4bKa 1 128\nbreach 146 transaction 2 client OPTIONS z9hG4bKb 144 144\nend entries 146 transactions 2 findings 2\n";
     let log = log_of(alloc, words.as_str())?;
     surveys_log(&rt, log.as_str(), ("a server with two answers", want))
+}
+
+/// The survey of part `number` of two has these lines.
+fn surveys_part(
+    rt: &(impl Abort + AllocGlobal),
+    log: &str,
+    number: u32,
+    want: &str,
+) -> Result<(), Fail> {
+    let part = Part::new(number, 2).ok_or("a part")?;
+    let mut text = Vec::new(rt.alloc());
+    let mut source = FromRead::new(log.as_bytes());
+    let mut writer = ToWrite::new(&mut text);
+    survey_part(rt.alloc(), &mut source, &mut writer, Hasher::new(), &part)?;
+    drop(writer);
+    let lines = str::from_utf8(text.as_slice()).map_err(|_| "no text")?;
+    reads(rt, lines, want, "a part");
+    Ok(())
+}
+
+/// A restart ends the client of one branch and the server of the other, in each part: FNV-1a of z9hg4bka is 431978031, and of z9hg4bkb 448755650. The
+/// client is silent after it, and the server answers what nobody has asked any more.
+#[test]
+fn a_restart_stands_in_each_part(rt: HostRuntime) -> Result<(), Fail> {
+    let words = "early 50 late 50; S 0 OPTIONS a; R 0 OPTIONS b; Z 100; M 600; S 700 OPTIONS b 200";
+    let log = log_of(rt.alloc(), words)?;
+    let breach =
+        "breach 5 transaction 1 server OPTIONS z9hG4bKb 2 5\nend entries 5 transactions 1 findings 1\n";
+    surveys_part(&rt, log.as_str(), 1, breach)?;
+    let none = "end entries 5 transactions 1 findings 0\n";
+    surveys_part(&rt, log.as_str(), 2, none)
 }
 
 /// The entries of a log as they come, and the survey that takes them.

@@ -2,13 +2,12 @@
 use Rattle.std.specs.Prelude.{ℕ}
 use Rattle.sip_standard.specs.declared.fault.Unit.{Unit}
 use Rattle.sip_standard.specs.declared.fault.Unit.TheVariants.{Head, Line, Body}
-use Rattle.sip_standard.specs.Reason.{reason_number}
+use Rattle.sip_standard.specs.Reason.{reason_number, log_reason_number}
 use Rattle.sip_verdict.specs.declared.finding.Finding.{Finding}
 use Rattle.sip_verdict.specs.declared.survey_end.SurveyEnd.{SurveyEnd}
 use Rattle.sip_verdict.specs.declared.survey_end.SurveyEnd.TheVariants as ended
-use Rattle.sip_verdict.specs.declared.verdict.Verdict.{Verdict}
-use Rattle.sip_verdict.specs.declared.verdict.Verdict.TheVariants.{Legal, Malformed, Breach, Undecided, LogFault}
-use Rattle.sip_verdict.specs.Rendering.{log_reason_number}
+use Rattle.sip_standard.specs.declared.verdict.Verdict.{Verdict}
+use Rattle.sip_standard.specs.declared.verdict.Verdict.TheVariants.{Legal, Malformed, Breach, Undecided, LogFault}
 use Rattle.sip_verdict.specs.SurveyOf.{verdict_of}
 use Rattle.c_siptrace.specs.declared.plain_summary.PlainSummary.{PlainSummary}
 use Rattle.c_siptrace.specs.declared.plain_verdict.PlainVerdict.{PlainVerdict}

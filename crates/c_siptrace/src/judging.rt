@@ -1,7 +1,7 @@
 //! The verdict on a log that lies in memory.
 ghost use Rattle.std.specs.Prelude.{◌≡◌, ◌≢◌, IfOk};
-ghost use Rattle.sip_verdict.specs.VerdictOf.{IsVerdictOf};
-ghost use Rattle.sip_verdict.specs.declared.verdict.Verdict.{Verdict};
+ghost use Rattle.sip_standard.specs.VerdictOf.{IsVerdictOf};
+ghost use Rattle.sip_standard.specs.declared.verdict.Verdict.{Verdict};
 ghost use Rattle.c_siptrace.specs.Plain.{plain};
 ghost use Rattle.c_siptrace.specs.Status.{answered, no_memory};
 

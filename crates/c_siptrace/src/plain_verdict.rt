@@ -1,7 +1,7 @@
 //! A verdict in plain numbers.
 ghost use Rattle.std.specs.Prelude.{◌≡◌};
 ghost use Rattle.c_siptrace.specs.Plain.{line_of, plain, unit_number};
-ghost use Rattle.sip_verdict.specs.declared.verdict.Verdict.TheVariants.{LogFault, Malformed};
+ghost use Rattle.sip_standard.specs.declared.verdict.Verdict.TheVariants.{LogFault, Malformed};
 
 use sip_verdict::{Fault, LogReason, Unit, Verdict};
 

@@ -1,15 +1,15 @@
 -- What each verdict says by itself: the entries before the one that it names go well.
 use Rattle.std.proofs.Common.{◌≡◌, ◌+◌, ◌⊎◌, inl, inr, refl, sym, subst, ◌∙◌, ap, ℕ, List, [], ◌∷◌, ◌++◌, length, append_assoc}
-use Rattle.sip_key.specs.Key.{KeyParts}
+use Rattle.sip_standard.specs.Key.{KeyParts}
 use Rattle.sip_standard.specs.Times.{Times}
 use Rattle.sip_standard.specs.LogEntry.{Item}
 use Rattle.sip_standard.specs.LogSays.{LogEnd, Clean, Stops, LogSays}
 use Rattle.sip_standard.specs.declared.fault.Fault.{Fault}
-use Rattle.sip_verdict.specs.declared.verdict.Verdict.{Verdict}
-use Rattle.sip_verdict.specs.declared.verdict.Verdict.TheVariants.{Malformed, Breach, Undecided, LogFault}
-use Rattle.sip_verdict.specs.declared.log_reason.LogReason.{LogReason}
-use Rattle.sip_verdict.specs.Keyed.{Observation}
-use Rattle.sip_verdict.specs.VerdictOf.{Sees, HasTrouble, IsVerdictBehind, IsVerdictOf}
+use Rattle.sip_standard.specs.declared.verdict.Verdict.{Verdict}
+use Rattle.sip_standard.specs.declared.verdict.Verdict.TheVariants.{Malformed, Breach, Undecided, LogFault}
+use Rattle.sip_standard.specs.declared.log_reason.LogReason.{LogReason}
+use Rattle.sip_standard.specs.Observation.{Observation}
+use Rattle.sip_standard.specs.VerdictOf.{Sees, HasTrouble, IsVerdictBehind, IsVerdictOf}
 use Rattle.consequences.specs.Front.{GoWell, IsFirstInTrouble, IsFirstFault, IsFirstBreach, IsFirstWide, CannotBeRead}
 
 abbrev Entries : Type 0

@@ -1,9 +1,9 @@
 -- The ACK of a response to an INVITE.
 use Rattle.std.specs.Prelude.{◌≤◌}
-use Rattle.sip_key.specs.AckOf.{AckOf}
-use Rattle.sip_machine.specs.declared.event.Method.TheVariants.{Ack}
+use Rattle.sip_standard.specs.AckOf.{AckOf}
+use Rattle.sip_standard.specs.declared.kind.Method.TheVariants.{Ack}
 use Rattle.sip_standard.specs.Window.{close_at}
-use Rattle.sip_machine.specs.MachineEvent.{MachineEvent}
+use Rattle.sip_standard.specs.MachineEvent.{MachineEvent}
 use Rattle.sip_standard.specs.Times.{Times}
 use Rattle.consequences.specs.Events.{SendsRequest}
 

@@ -1,9 +1,9 @@
 -- What an event is, in the words of RFC 3261.
 use Rattle.std.specs.Prelude.{◌≡◌, ◌≤◌, ◌⊎◌, ℕ, List, All}
 use Rattle.sip_standard.specs.declared.action.Action.TheVariants.{Sent, Received, Failed, Restart}
-use Rattle.sip_machine.specs.declared.event.Method.{Method}
-use Rattle.sip_machine.specs.declared.event.Kind.TheVariants.{Request, Response}
-use Rattle.sip_machine.specs.MachineEvent.{MachineEvent}
+use Rattle.sip_standard.specs.declared.kind.Method.{Method}
+use Rattle.sip_standard.specs.declared.kind.Kind.TheVariants.{Request, Response}
+use Rattle.sip_standard.specs.MachineEvent.{MachineEvent}
 
 -- a request of this method is sent
 abbrev pub SendsRequest : Method → MachineEvent → Type 0

@@ -1,16 +1,14 @@
 -- The front of a log that is in no trouble, and what a verdict says by itself.
 use Rattle.std.specs.Prelude.{◌≡◌, ◌+◌, ◌⊎◌, ℕ, Some, None, List, [], ◌∷◌, ◌++◌, length, All, ⊤}
-use Rattle.sip_key.specs.Key.{KeyParts}
+use Rattle.sip_standard.specs.Key.{KeyParts}
 use Rattle.sip_standard.specs.Times.{Times}
 use Rattle.sip_standard.specs.declared.fault.Fault.{Fault}
 use Rattle.sip_standard.specs.LogEntry.{Item}
 use Rattle.sip_standard.specs.LogSays.{LogEnd, Stops, LogSays, LacksHeader}
-use Rattle.sip_standard.specs.LogFault.{LogFault}
-use Rattle.sip_verdict.specs.declared.log_reason.LogReason.{LogReason}
-use Rattle.sip_verdict.specs.declared.log_reason.LogReason.TheVariants.{Header}
-use Rattle.sip_verdict.specs.LogReason.{reason_of}
-use Rattle.sip_verdict.specs.Keyed.{Observation}
-use Rattle.sip_verdict.specs.VerdictOf.{keys_in, Sees, RunsOver, IsWideAt, IsFirstKey}
+use Rattle.sip_standard.specs.declared.log_reason.LogReason.{LogReason}
+use Rattle.sip_standard.specs.declared.log_reason.LogReason.TheVariants.{Header}
+use Rattle.sip_standard.specs.Observation.{Observation}
+use Rattle.sip_standard.specs.VerdictOf.{keys_in, Sees, RunsOver, IsWideAt, IsFirstKey}
 
 -- each transaction of these entries has a run over all of them
 abbrev pub AllRun : Times → List (Observation KeyParts) → Type 0
@@ -65,5 +63,5 @@ IsFirstWide input number transaction =
 abbrev pub CannotBeRead : List ℕ → ℕ → LogReason → Type 0
 CannotBeRead input number reason =
     ((number ≡ 0) × (reason ≡ Header) × LacksHeader input)
-    ⊎ ((p : Times) × (items : List Item) × (front : List (Observation KeyParts)) × (fault : LogFault) × LogSays input p items (Stops fault)
-    × GoWell p [] items front × (number ≡ length front + 1) × (reason ≡ reason_of fault))
+    ⊎ ((p : Times) × (items : List Item) × (front : List (Observation KeyParts)) × (fault : LogReason) × LogSays input p items (Stops fault)
+    × GoWell p [] items front × (number ≡ length front + 1) × (reason ≡ fault))

@@ -1,9 +1,9 @@
 -- The machines of RFC 3261 section 17, by the rules that an element was built by.
 use Rattle.std.specs.Prelude.{Bool}
-use Rattle.sip_key.specs.declared.role.Role.{Role}
+use Rattle.sip_standard.specs.declared.role.Role.{Role}
 use Rattle.sip_standard.specs.declared.rules.Rules.{Rules}
-use Rattle.sip_machine.specs.Figure.{Figure, Owing}
-use Rattle.sip_states.specs.KeyMachine.{machine_of, transaction_of}
+use Rattle.sip_standard.specs.Figure.{Figure, Owing}
+use Rattle.sip_standard.specs.KeyMachine.{machine_of, transaction_of}
 
 -- the figure of a role by these rules, for INVITE or for any other method
 abbrev pub figure_of : (rules : Rules) (role : Role) (invite : Bool) → Figure (transaction_of (machine_of rules role invite)).Phase

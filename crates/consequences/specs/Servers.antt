@@ -1,8 +1,8 @@
 -- When an INVITE that comes again is no new one.
 use Rattle.std.specs.Prelude.{◌<◌, ◌*◌, ◌⊎◌, List, All}
-use Rattle.sip_machine.specs.declared.event.Method.TheVariants.{Invite, Ack}
+use Rattle.sip_standard.specs.declared.kind.Method.TheVariants.{Invite, Ack}
 use Rattle.sip_standard.specs.Window.{open_at}
-use Rattle.sip_machine.specs.MachineEvent.{MachineEvent}
+use Rattle.sip_standard.specs.MachineEvent.{MachineEvent}
 use Rattle.sip_standard.specs.Times.{Times}
 use Rattle.consequences.specs.Events.{GetsRequest, IsRestart}
 

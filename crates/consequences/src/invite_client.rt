@@ -1,17 +1,17 @@
 //! The INVITE client transaction, RFC 3261 section 17.1.1, by either rules.
 ghost use Rattle.std.specs.List.{Any};
 ghost use Rattle.std.specs.Prelude.{◌≡◌, ◌≤◌, ◌<◌, ◌*◌, ◌⊎◌, ◌++◌, ◌∷◌, ℕ, true, false, List, All};
-ghost use Rattle.sip_key.specs.declared.role.Role.TheVariants.{Client};
+ghost use Rattle.sip_standard.specs.declared.role.Role.TheVariants.{Client};
 ghost use Rattle.sip_standard.specs.declared.action.Action.TheVariants.{Sent};
 ghost use Rattle.sip_standard.specs.declared.rules.Rules.{Rules};
-ghost use Rattle.sip_machine.specs.declared.event.Kind.TheVariants.{Request};
-ghost use Rattle.sip_machine.specs.declared.event.Method.TheVariants.{Invite, Cancel};
-ghost use Rattle.sip_machine.specs.Figure.{quiet};
+ghost use Rattle.sip_standard.specs.declared.kind.Kind.TheVariants.{Request};
+ghost use Rattle.sip_standard.specs.declared.kind.Method.TheVariants.{Invite, Cancel};
+ghost use Rattle.sip_standard.specs.Figure.{quiet};
 ghost use Rattle.sip_standard.specs.Window.{open_at, close_at};
-ghost use Rattle.sip_machine.specs.MachineEvent.{MachineEvent};
-ghost use Rattle.sip_machine.specs.Message.{IsFinal, IsSuccess, IsUnsuccessful};
+ghost use Rattle.sip_standard.specs.MachineEvent.{MachineEvent};
+ghost use Rattle.sip_standard.specs.Kind.{IsFinal, IsSuccess, IsUnsuccessful};
 ghost use Rattle.sip_standard.specs.Times.{Times};
-ghost use Rattle.sip_states.specs.Stands.{Stands, StandsBehind};
+ghost use Rattle.sip_standard.specs.Stands.{Stands, StandsBehind};
 ghost use Rattle.consequences.specs.Acknowledged.{Acknowledges};
 ghost use Rattle.consequences.specs.Events.{SendsRequest, GetsResponse, IsAnyCode, IsRefused, IsRestart};
 ghost use Rattle.consequences.specs.Machines.{figure_of, StateOf};

@@ -1,16 +1,16 @@
 //! The INVITE server transaction, RFC 3261 section 17.2.1, by either rules. A response that the transport refuses counts as sent.
 ghost use Rattle.std.specs.List.{Any};
 ghost use Rattle.std.specs.Prelude.{◌≡◌, ◌≤◌, ◌<◌, ◌⊎◌, ◌++◌, ◌∷◌, ℕ, true, List, All};
-ghost use Rattle.sip_key.specs.declared.role.Role.TheVariants.{Server};
+ghost use Rattle.sip_standard.specs.declared.role.Role.TheVariants.{Server};
 ghost use Rattle.sip_standard.specs.declared.action.Action.TheVariants.{Sent};
 ghost use Rattle.sip_standard.specs.declared.rules.Rules.{Rules};
 ghost use Rattle.sip_standard.specs.declared.rules.Rules.TheVariants.{R3261, R6026};
-ghost use Rattle.sip_machine.specs.declared.event.Method.TheVariants.{Invite};
+ghost use Rattle.sip_standard.specs.declared.kind.Method.TheVariants.{Invite};
 ghost use Rattle.sip_standard.specs.Window.{close_at};
-ghost use Rattle.sip_machine.specs.MachineEvent.{MachineEvent};
-ghost use Rattle.sip_machine.specs.Message.{IsProvisional, IsFinal, IsSuccess, IsUnsuccessful};
+ghost use Rattle.sip_standard.specs.MachineEvent.{MachineEvent};
+ghost use Rattle.sip_standard.specs.Kind.{IsProvisional, IsFinal, IsSuccess, IsUnsuccessful};
 ghost use Rattle.sip_standard.specs.Times.{Times};
-ghost use Rattle.sip_states.specs.Stands.{Stands, StandsBehind};
+ghost use Rattle.sip_standard.specs.Stands.{Stands, StandsBehind};
 ghost use Rattle.consequences.specs.Events.{IsOfOneKind, GetsRequest, IsResponse, SendsResponse, IsAnyCode, IsRestart};
 ghost use Rattle.consequences.specs.Machines.{figure_of, StateOf};
 ghost use Rattle.consequences.specs.Servers.{BeginNoneAnew};

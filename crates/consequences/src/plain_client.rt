@@ -1,14 +1,14 @@
 //! The non-INVITE client transaction, RFC 3261 section 17.1.2, which is the same by both rules.
 ghost use Rattle.std.specs.Prelude.{◌≡◌, ◌≤◌, ◌<◌, ◌*◌, ◌++◌, ◌∷◌, ℕ, false, min, List, All};
-ghost use Rattle.sip_key.specs.declared.role.Role.TheVariants.{Client};
+ghost use Rattle.sip_standard.specs.declared.role.Role.TheVariants.{Client};
 ghost use Rattle.sip_standard.specs.declared.action.Action.TheVariants.{Sent};
 ghost use Rattle.sip_standard.specs.declared.rules.Rules.{Rules};
-ghost use Rattle.sip_machine.specs.Figure.{quiet};
+ghost use Rattle.sip_standard.specs.Figure.{quiet};
 ghost use Rattle.sip_standard.specs.Window.{close_at};
-ghost use Rattle.sip_machine.specs.MachineEvent.{MachineEvent};
-ghost use Rattle.sip_machine.specs.Message.{IsFinal};
+ghost use Rattle.sip_standard.specs.MachineEvent.{MachineEvent};
+ghost use Rattle.sip_standard.specs.Kind.{IsFinal};
 ghost use Rattle.sip_standard.specs.Times.{Times};
-ghost use Rattle.sip_states.specs.Stands.{Stands, StandsBehind};
+ghost use Rattle.sip_standard.specs.Stands.{Stands, StandsBehind};
 ghost use Rattle.consequences.specs.Events.{SendsAnyRequest, GetsResponse};
 ghost use Rattle.consequences.specs.Machines.{figure_of, StateOf};
 ghost use Rattle.consequences.specs.Repeats.{IsSpaced, requests_of};

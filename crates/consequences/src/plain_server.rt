@@ -1,13 +1,13 @@
 //! The non-INVITE server transaction, RFC 3261 section 17.2.2. A response that the transport refuses counts as sent.
 ghost use Rattle.std.specs.List.{Any};
 ghost use Rattle.std.specs.Prelude.{◌≡◌, ◌≤◌, ◌<◌, ◌*◌, ◌⊎◌, ◌++◌, ◌∷◌, ℕ, false, List, All};
-ghost use Rattle.sip_key.specs.declared.role.Role.TheVariants.{Server};
+ghost use Rattle.sip_standard.specs.declared.role.Role.TheVariants.{Server};
 ghost use Rattle.sip_standard.specs.declared.rules.Rules.{Rules};
 ghost use Rattle.sip_standard.specs.Window.{open_at, close_at};
-ghost use Rattle.sip_machine.specs.MachineEvent.{MachineEvent};
-ghost use Rattle.sip_machine.specs.Message.{IsFinal};
+ghost use Rattle.sip_standard.specs.MachineEvent.{MachineEvent};
+ghost use Rattle.sip_standard.specs.Kind.{IsFinal};
 ghost use Rattle.sip_standard.specs.Times.{Times};
-ghost use Rattle.sip_states.specs.Stands.{Stands};
+ghost use Rattle.sip_standard.specs.Stands.{Stands};
 ghost use Rattle.consequences.specs.Events.{IsOfOneKind, GetsAnyRequest, SendsResponse, SendsBytes, IsRestart};
 ghost use Rattle.consequences.specs.Machines.{figure_of, StateOf};
 

@@ -1,15 +1,15 @@
 //! A restart of the element, by which its transactions are lost (own, in no RFC).
 ghost use Rattle.std.specs.Prelude.{◌≡◌, ◌++◌, ◌∷◌, [], ◌⊎◌, Bool, true, false, List, All};
-ghost use Rattle.sip_key.specs.declared.role.Role.TheVariants.{Client, Server};
+ghost use Rattle.sip_standard.specs.declared.role.Role.TheVariants.{Client, Server};
 ghost use Rattle.sip_standard.specs.declared.action.Action.TheVariants.{Sent};
 ghost use Rattle.sip_standard.specs.declared.rules.Rules.{Rules};
-ghost use Rattle.sip_machine.specs.declared.event.Kind.TheVariants.{Request};
-ghost use Rattle.sip_machine.specs.declared.event.Method.TheVariants.{Invite, Cancel};
-ghost use Rattle.sip_machine.specs.Figure.{Owing, quiet};
-ghost use Rattle.sip_machine.specs.MachineEvent.{MachineEvent};
+ghost use Rattle.sip_standard.specs.declared.kind.Kind.TheVariants.{Request};
+ghost use Rattle.sip_standard.specs.declared.kind.Method.TheVariants.{Invite, Cancel};
+ghost use Rattle.sip_standard.specs.Figure.{Owing, quiet};
+ghost use Rattle.sip_standard.specs.MachineEvent.{MachineEvent};
 ghost use Rattle.sip_standard.specs.Times.{Times};
-ghost use Rattle.sip_states.specs.KeyMachine.{MachineKind, transaction_of};
-ghost use Rattle.sip_states.specs.Stands.{StandsBehind};
+ghost use Rattle.sip_standard.specs.KeyMachine.{MachineKind, transaction_of};
+ghost use Rattle.sip_standard.specs.Stands.{StandsBehind};
 ghost use Rattle.consequences.specs.Events.{SendsRequest, SendsAnyRequest, GetsAnyRequest, IsRestart};
 ghost use Rattle.consequences.specs.Machines.{figure_of, StateOf};
 

@@ -1,16 +1,15 @@
 //! A wider tolerance.
 ghost use Rattle.std.specs.Prelude.{◌≡◌, ◌≤◌, ℕ, List, []};
-ghost use Rattle.sip_key.specs.Key.{KeyParts};
-ghost use Rattle.sip_standard.specs.LogSays.{LogEnd};
-ghost use Rattle.sip_standard.specs.LogSays.{LogSays};
+ghost use Rattle.sip_standard.specs.Key.{KeyParts};
+ghost use Rattle.sip_standard.specs.LogSays.{LogEnd, LogSays};
 ghost use Rattle.sip_standard.specs.LogEntry.{Item};
-ghost use Rattle.sip_machine.specs.Figure.{Owing};
-ghost use Rattle.sip_machine.specs.MachineEvent.{MachineEvent};
+ghost use Rattle.sip_standard.specs.Figure.{Owing};
+ghost use Rattle.sip_standard.specs.MachineEvent.{MachineEvent};
 ghost use Rattle.sip_standard.specs.Times.{Times};
-ghost use Rattle.sip_states.specs.KeyMachine.{MachineKind, transaction_of};
-ghost use Rattle.sip_states.specs.Stands.{Stands};
-ghost use Rattle.sip_verdict.specs.Keyed.{Observation};
-ghost use Rattle.sip_verdict.specs.VerdictOf.{RunsOver};
+ghost use Rattle.sip_standard.specs.KeyMachine.{MachineKind, transaction_of};
+ghost use Rattle.sip_standard.specs.Stands.{Stands};
+ghost use Rattle.sip_standard.specs.Observation.{Observation};
+ghost use Rattle.sip_standard.specs.VerdictOf.{RunsOver};
 ghost use Rattle.consequences.specs.Front.{AreSeen};
 ghost use Rattle.consequences.specs.Tolerance.{tolerant, AreOneKind};
 

@@ -1,9 +1,9 @@
 //! What each verdict says by itself. That of a legal log is `sip_verdict::a_legal_log_has_runs`.
 ghost use Rattle.std.specs.Prelude.{ℕ, List};
 ghost use Rattle.sip_standard.specs.declared.fault.Fault.{Fault};
-ghost use Rattle.sip_verdict.specs.VerdictOf.{IsVerdictOf};
-ghost use Rattle.sip_verdict.specs.declared.log_reason.LogReason.{LogReason};
-ghost use Rattle.sip_verdict.specs.declared.verdict.Verdict.TheVariants.{Malformed, Breach, Undecided, LogFault};
+ghost use Rattle.sip_standard.specs.VerdictOf.{IsVerdictOf};
+ghost use Rattle.sip_standard.specs.declared.log_reason.LogReason.{LogReason};
+ghost use Rattle.sip_standard.specs.declared.verdict.Verdict.TheVariants.{Malformed, Breach, Undecided, LogFault};
 ghost use Rattle.consequences.specs.Front.{IsFirstFault, IsFirstBreach, IsFirstWide, CannotBeRead};
 
 /// A malformed log has a message with a fault, and no entry before it is in trouble.

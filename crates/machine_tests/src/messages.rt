@@ -1,6 +1,6 @@
 //! Messages of one transaction, kept in a book, and their events.
 ghost use Rattle.std.specs.Prelude.{ℕ, IfOk, OnErr, OnOk, ◌≤◌, ◌<◌};
-ghost use Rattle.sip_machine.specs.MachineEvent.{FitsBook};
+ghost use Rattle.sip_machine.specs.NumberedEvent.{FitsBook};
 ghost use Rattle.sip_machine.specs.Texts.{Keeps};
 
 use sip_machine::{Action, Book, Event};

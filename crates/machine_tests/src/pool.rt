@@ -1,6 +1,6 @@
 //! Pools: runs of debts, and which states are the same, by hand.
 ghost use Rattle.std.specs.Prelude.{◌<◌, All, OnErr, OnOk, length};
-ghost use Rattle.sip_machine.specs.MachineEvent.{FitsBook};
+ghost use Rattle.sip_machine.specs.NumberedEvent.{FitsBook};
 ghost use Rattle.sip_machine.specs.Rules.{Knows};
 
 use crate::messages::{Numbered, Start, book_of, event_of};

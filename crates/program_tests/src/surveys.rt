@@ -37,7 +37,7 @@ fn surveys_the_standard_input_or_the_file(rt: HostRuntime) -> Result<(), Fail> {
     let (right, wrong) = (right.as_str(), wrong.as_str());
     let none = ("end entries 4 transactions 1 findings 0\n", "", 0);
     let found = (
-        "breach 2 transaction 1\nend entries 2 transactions 1 findings 1\n",
+        "breach 2 transaction 1 client REGISTER z9hG4bKr1 1 2\nend entries 2 transactions 1 findings 1\n",
         "",
         1,
     );
@@ -45,6 +45,14 @@ fn surveys_the_standard_input_or_the_file(rt: HostRuntime) -> Result<(), Fail> {
     ends(&rt, &[], wrong, right, found)?;
     ends(&rt, &[PATH], wrong, right, none)?;
     ends(&rt, &[PATH], right, wrong, found)
+}
+
+// FNV-1a of z9hg4bkr1 is 2386688665: its messages fall into part 2 of 2.
+#[test]
+fn surveys_a_part_alone(rt: HostRuntime) -> Result<(), Fail> {
+    let log = hasty(rt.alloc())?;
+    let none = ("end entries 2 transactions 0 findings 0\n", "", 0);
+    ends(&rt, &["--part", "1/2"], log.as_str(), "", none)
 }
 
 #[test]

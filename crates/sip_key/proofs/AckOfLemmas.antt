@@ -8,13 +8,13 @@ use Rattle.std.proofs.Common.{sym, ◌∙◌, ap, ap₂, subst, append-nil}
 use Rattle.std.proofs.lemmas.List.Elements.{filter-append}
 use Rattle.sip_message.specs.Params.{comma}
 use Rattle.sip_standard.specs.StartLine.{StartLine, request}
-use Rattle.sip_key.specs.Solid.{solid}
+use Rattle.sip_standard.specs.Solid.{solid}
 use Rattle.sip_message.specs.Reading.{Reading}
 use Rattle.sip_message.specs.Reads.{Reads}
 use Rattle.sip_standard.specs.Says.{Said}
 use Rattle.sip_message.specs.SaidOf.{said_of}
 use Rattle.sip_message.proofs.lemmas.says.Reading.{said-is}
-use Rattle.sip_key.specs.AckOf.{IsAckLine, IsAckOf, AckOf}
+use Rattle.sip_standard.specs.AckOf.{IsAckLine, IsAckOf, AckOf}
 
 -- a request whose method is ACK, and another with the same URI
 pub ack-line : (method uri other target : List ℕ) (a i : StartLine) (r : Bool) → a ≡ request method uri → i ≡ request other target → method ≡ codes "ACK"

@@ -7,11 +7,11 @@ use Rattle.sip_message.specs.Field.{Field}
 use Rattle.sip_message.specs.Elements.{Element, AreElements, values}
 use Rattle.sip_message.specs.Reading.{Parts, HasParts}
 use Rattle.sip_standard.specs.Says.{Said}
-use Rattle.sip_key.specs.declared.role.Role.{Role}
-use Rattle.sip_key.specs.declared.role.Direction.{Direction}
-use Rattle.sip_key.specs.Key.{KeyParts}
-use Rattle.sip_key.specs.Branch.{cookie_branch}
-use Rattle.sip_key.specs.Concerns.{role_of, sent_by_of, method_of, own_key, is_sent, lacks_cookie}
+use Rattle.sip_standard.specs.declared.role.Role.{Role}
+use Rattle.sip_standard.specs.declared.role.Direction.{Direction}
+use Rattle.sip_standard.specs.Key.{KeyParts}
+use Rattle.sip_standard.specs.Branch.{cookie_branch}
+use Rattle.sip_standard.specs.Concerns.{role_of, sent_by_of, method_of, own_key, is_sent, lacks_cookie}
 
 -- the port of the first element is one
 first-port : (vals : List (List ℕ)) (e : Element) (es : List Element) → AreElements vals (e ∷ es) → IfSome e.1.port Port

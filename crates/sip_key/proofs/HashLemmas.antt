@@ -1,10 +1,11 @@
 -- What a key feeds a hasher: one text, which tells its parts.
 use Rattle.std.proofs.Common.{◌≡◌, ◌/◌, ◌%◌, ◌<◌, ◌++◌, ◌∷◌, [], ℕ, zero, suc, List, length, take, drop, get_or, replicate, refl, sym, ap, ap₂, ◌∙◌, append_assoc, arith}
 use Rattle.std.proofs.lemmas.List.{take_at, drop_at, length-append}
-use Rattle.sip_key.specs.declared.role.Role.{Role}
-use Rattle.sip_key.specs.declared.role.Role.TheVariants.{Client, Server}
+use Rattle.sip_standard.specs.declared.role.Role.{Role}
+use Rattle.sip_standard.specs.declared.role.Role.TheVariants.{Client, Server}
 use Rattle.sip_key.specs.contracts.key.KeyHash.TheImpl as key_hash
-use Rattle.sip_key.specs.Key.{KeyParts, role_byte, length_bytes, key_text}
+use Rattle.sip_standard.specs.Key.{KeyParts}
+use Rattle.sip_key.specs.inner.KeyText.{role_byte, length_bytes, key_text}
 
 -- sides with the same byte are the same
 role-by_its_byte : (r s : Role) → role_byte r ≡ role_byte s → r ≡ s

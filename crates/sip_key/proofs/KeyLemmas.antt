@@ -5,9 +5,9 @@ use Rattle.std.specs.Char.{to_ascii_lowercase}
 use Rattle.std.proofs.lemmas.List.{take_at, drop_at, length-append, length-map, length-replicate, map-append}
 use Rattle.std.proofs.lemmas.Str.Ascii.{lowercase_is}
 use Rattle.sip_standard.specs.Case.{folded}
-use Rattle.sip_key.specs.declared.role.Role.{Role}
-use Rattle.sip_key.specs.declared.role.Role.TheVariants.{Client, Server}
-use Rattle.sip_key.specs.Key.{parts_at, length_bytes, role_byte, key_head, key_text}
+use Rattle.sip_standard.specs.declared.role.Role.{Role}
+use Rattle.sip_standard.specs.declared.role.Role.TheVariants.{Client, Server}
+use Rattle.sip_key.specs.inner.KeyText.{parts_at, length_bytes, role_byte, key_head, key_text}
 
 -- a text between its front and what comes after it
 between : (front text rest : List ℕ) (from to : ℕ) → from ≡ length front → to ≡ from + length text → slice_range (front ++ (text ++ rest)) from to ≡ text

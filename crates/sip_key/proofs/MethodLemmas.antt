@@ -16,11 +16,11 @@ use Rattle.sip_message.specs.Reads.{Reads}
 use Rattle.sip_message.specs.SaidOf.{said_of, said_via}
 use Rattle.sip_message.proofs.lemmas.text.Cuts as each
 use Rattle.sip_message.proofs.lemmas.field.OneWay.{each-token}
-use Rattle.sip_key.specs.declared.role.Role.TheVariants.{Client}
-use Rattle.sip_key.specs.declared.role.Direction.{Direction}
-use Rattle.sip_key.specs.Key.{KeyParts}
-use Rattle.sip_key.specs.Branch.{cookie_branch}
-use Rattle.sip_key.specs.Concerns.{role_of, sent_by_of, method_of, is_sent, own_key, cancelled_key, Concerns}
+use Rattle.sip_standard.specs.declared.role.Role.TheVariants.{Client}
+use Rattle.sip_standard.specs.declared.role.Direction.{Direction}
+use Rattle.sip_standard.specs.Key.{KeyParts}
+use Rattle.sip_standard.specs.Branch.{cookie_branch}
+use Rattle.sip_standard.specs.Concerns.{role_of, sent_by_of, method_of, is_sent, own_key, cancelled_key, Concerns}
 
 -- a byte in a range is not above it
 range_low : (low high b : ℕ) → is_in_range low high b ≡ true → b ≤ high

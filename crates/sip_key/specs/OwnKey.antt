@@ -1,11 +1,11 @@
 -- What is answered of a key.
 use Rattle.std.specs.Prelude.{◌≡◌, true, false, Option, Result, Ok, Err, ⊤}
 use Rattle.sip_standard.specs.Says.{Said}
-use Rattle.sip_key.specs.declared.role.Direction.{Direction}
-use Rattle.sip_key.specs.Key.{KeyParts}
+use Rattle.sip_standard.specs.declared.role.Direction.{Direction}
+use Rattle.sip_standard.specs.Key.{KeyParts}
 use Rattle.sip_key.specs.declared.concern.KeyError.{KeyError}
 use Rattle.sip_key.specs.declared.concern.KeyError.TheVariants as error
-use Rattle.sip_key.specs.Concerns.{own_key, lacks_cookie}
+use Rattle.sip_standard.specs.Concerns.{own_key, lacks_cookie}
 
 -- the message's own key, or that it lacks the cookie; of memory nothing is said
 abbrev pub IsOwnKey : Said → Direction → Result (Option KeyParts) KeyError → Type 0

@@ -1,1 +1,2 @@
+pub mod KeyText
 pub mod KeyLaws

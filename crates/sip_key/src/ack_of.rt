@@ -1,10 +1,10 @@
 //! Which ACK belongs to which INVITE.
 ghost use Rattle.std.specs.Prelude.{◌≡◌, ◌↔◌, [], IsTrue};
-ghost use Rattle.sip_key.specs.Solid.{solid};
+ghost use Rattle.sip_standard.specs.Solid.{solid};
 ghost use Rattle.sip_message.specs.ValueParts.{start_parts};
 ghost use Rattle.sip_message.specs.Reading.{Reading};
 ghost use Rattle.sip_message.specs.SaidOf.{said_of};
-ghost use Rattle.sip_key.specs.AckOf.{IsAckLine, IsAckOf, SameSolid};
+ghost use Rattle.sip_standard.specs.AckOf.{IsAckLine, IsAckOf, SameSolid};
 
 use crate::solid::{next_solid, same_solid};
 use sip_message::{Message, Routes, StartLine};
@@ -71,7 +71,7 @@ impl<'s, 'a> Model for SolidRoute<'s, 'a> {
     ghost use Rattle.std.specs.Prelude.{ℕ, List, ◌++◌, ◌∷◌};
     ghost use Rattle.std.specs.List.{flat_map};
     ghost use Rattle.sip_message.specs.Params.{comma};
-    ghost use Rattle.sip_key.specs.Solid.{solid};
+    ghost use Rattle.sip_standard.specs.Solid.{solid};
 
     ghost Value = { List ℕ };
 

@@ -3,17 +3,17 @@ ghost use Rattle.std.specs.Prelude.{◌≡◌, ◌≢◌, IfOk, IfSome, MatchOpt
 ghost use Rattle.sip_standard.specs.Case.{folded};
 ghost use Rattle.sip_standard.specs.Profile.{Port};
 ghost use Rattle.sip_text.specs.Host.{host_parts, host_text};
-ghost use Rattle.sip_key.specs.Branch.{cookie_branch};
+ghost use Rattle.sip_standard.specs.Branch.{cookie_branch};
 ghost use Rattle.sip_message.specs.ValueParts.{start_parts};
 ghost use Rattle.sip_message.specs.ViaParts.{element};
-ghost use Rattle.sip_key.specs.Concerns.{cancelled_key, method_of, own_key, role_of, sent_by_of};
+ghost use Rattle.sip_standard.specs.Concerns.{cancelled_key, method_of, own_key, role_of, sent_by_of};
 ghost use Rattle.sip_key.specs.OwnKey.{IsOwnKey};
 ghost use Rattle.sip_message.specs.SaidOf.{said_of, said_via};
 
 use crate::branch::has_cookie;
 use crate::key::Key;
-use crate::role::{Direction, Role};
 use sip_message::{Message, StartLine, Via};
+use sip_standard::{Direction, Role};
 use sip_text::Host;
 use std::alloc::{AllocError, Global};
 use thiserror::Error;

@@ -4,14 +4,15 @@ ghost use Rattle.std.specs.Cmp.{decided, partial_equiv_from_equiv};
 ghost use Rattle.std.specs.Hash as fed;
 ghost use Rattle.sip_standard.specs.Case.{folded};
 ghost use Rattle.sip_standard.specs.Profile.{Port};
-ghost use Rattle.sip_key.specs.Key.{same_key, key_text, key_head, length_bytes, role_byte};
-ghost use Rattle.sip_key.specs.SentBy.{sent_by};
-ghost use Rattle.sip_key.specs.declared.role.Role.{Role};
-ghost use Rattle.sip_key.specs.declared.role.Role.TheVariants.{Client, Server};
+ghost use Rattle.sip_standard.specs.Key.{same_key};
+ghost use Rattle.sip_key.specs.inner.KeyText.{key_text, key_head, length_bytes, role_byte};
+ghost use Rattle.sip_standard.specs.SentBy.{sent_by};
+ghost use Rattle.sip_standard.specs.declared.role.Role.{Role};
+ghost use Rattle.sip_standard.specs.declared.role.Role.TheVariants.{Client, Server};
 ghost use Rattle.sip_key.specs.inner.KeyLaws.{same_key-decides};
 
-use crate::role::Role;
 use crate::sent_by::{MOST_PORT_BYTES, push_port};
+use sip_standard::Role;
 use std::alloc::{AllocError, Global};
 use std::hash::{Hash, Hasher};
 use std::marker::Model;
@@ -30,7 +31,8 @@ pub struct Key {
 
 impl Model for Key {
     ghost use Rattle.std.specs.Prelude.{◌≡◌, ◌≤◌, length};
-    ghost use Rattle.sip_key.specs.Key.{KeyParts, key_text, parts_at};
+    ghost use Rattle.sip_standard.specs.Key.{KeyParts};
+    ghost use Rattle.sip_key.specs.inner.KeyText.{key_text, parts_at};
 
     ghost Value = { KeyParts };
 

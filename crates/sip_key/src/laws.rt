@@ -2,9 +2,9 @@
 ghost use Rattle.std.specs.Prelude.{◌≡◌, ◌↔◌, ℕ, List, true};
 ghost use Rattle.sip_message.specs.Reading.{Reading};
 ghost use Rattle.sip_message.specs.Reads.{Reads};
-ghost use Rattle.sip_key.specs.Key.{KeyParts, same_key};
+ghost use Rattle.sip_standard.specs.Key.{KeyParts, same_key};
 ghost use Rattle.sip_message.specs.SaidOf.{said_of};
-ghost use Rattle.sip_key.specs.AckOf.{AckOf, IsAckOf};
+ghost use Rattle.sip_standard.specs.AckOf.{AckOf, IsAckOf};
 
 use crate::key::Key;
 use std::hash::Hash;

@@ -3,7 +3,7 @@ ghost use Rattle.std.specs.Prelude.{◌≡◌, ◌++◌, ◌∷◌, IfSome, OnOk
 ghost use Rattle.std.specs.Str.Parse.{digits_value};
 ghost use Rattle.sip_standard.specs.Profile.{Port};
 ghost use Rattle.sip_text.specs.Bytes.{colon};
-ghost use Rattle.sip_key.specs.SentBy.{port_number};
+ghost use Rattle.sip_standard.specs.SentBy.{port_number};
 
 use itoa::Buffer;
 use std::alloc::AllocError;

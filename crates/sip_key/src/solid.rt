@@ -1,7 +1,7 @@
 //! Texts compared but for their blanks.
 ghost use Rattle.std.specs.Prelude.{◌≡◌, ◌∷◌, ◌↔◌, [], IfOk, IsTrue, MatchOption};
-ghost use Rattle.sip_message.specs.Unfold.{is_blank};
-ghost use Rattle.sip_key.specs.Solid.{solid};
+ghost use Rattle.sip_standard.specs.Solid.{solid};
+ghost use Rattle.sip_standard.specs.Field.{is_lws_byte};
 
 use std::alloc::{AllocError, Global};
 use std::marker::Model;
@@ -34,7 +34,7 @@ struct Solid<'a> {
 
 impl<'a> Model for Solid<'a> {
     ghost use Rattle.std.specs.Prelude.{ℕ, List};
-    ghost use Rattle.sip_key.specs.Solid.{solid};
+    ghost use Rattle.sip_standard.specs.Solid.{solid};
 
     ghost Value = { List ℕ };
 
@@ -73,7 +73,7 @@ pub(crate) fn next_solid(text: &[u8]) -> Option<(u8, &[u8])>
 
 // SP, HTAB, CR or LF.
 fn is_blank(byte: u8) -> bool
-    ensures { result ≡ is_blank byte }
+    ensures { result ≡ is_lws_byte byte }
 {
     matches!(byte, b' ' | b'\t' | b'\r' | b'\n')
 }

@@ -7,7 +7,7 @@ use Rattle.sip_machine.specs.Owes.{owes_names}
 use Rattle.sip_machine.specs.Owing.{CodeOwing, owing_seen, owing_names}
 use Rattle.sip_machine.specs.Told.{ToldField, Told, Flag, Number, Message, field_by, told_by, told_of, field_message, messages_told}
 use Rattle.sip_machine.specs.inner.DebtLaws.{All-front, All-back}
-use Rattle.sip_states.specs.KeyMachine.{coded_of, of_machine, to_machine}
+use Rattle.sip_states.specs.KeySets.{coded_of, of_machine, to_machine}
 use Rattle.sip_states.specs.Told.{Saying, said_state, meant, AreToldAs, AreTold}
 use Rattle.sip_states.specs.declared.any_set.AnySet.{AnySet}
 use Rattle.sip_states.specs.declared.told.ToldState.{ToldState}

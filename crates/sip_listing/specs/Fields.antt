@@ -1,7 +1,7 @@
 use Rattle.std.specs.Prelude.{◌≡◌, ◌++◌, ℕ, Bool, true, false, Option, Some, None, List, All, codes, decimal}
 use Rattle.std.specs.List.{flat_map}
 use Rattle.sip_machine.specs.Texts.{Texts, text_of}
-use Rattle.sip_machine.specs.Debts.{Owed}
+use Rattle.sip_standard.specs.Debts.{Owed}
 use Rattle.sip_machine.specs.Told.{ToldField, Flag, Number, Message}
 
 -- The words of which the text of a state is made. A message is told by a number.

@@ -1,6 +1,6 @@
 use Rattle.std.specs.Prelude.{◌++◌, ℕ, List}
 use Rattle.std.specs.List.{flat_map}
-use Rattle.sip_machine.specs.Figure.{Owing}
+use Rattle.sip_standard.specs.Figure.{Owing}
 use Rattle.sip_machine.specs.Told.{Told, told_by}
 use Rattle.sip_listing.specs.Fields.{field_text, owes_fields}
 

@@ -1,11 +1,12 @@
 use Rattle.std.specs.Prelude.{◌++◌, ℕ, List, All, codes, decimal, length, map}
-use Rattle.sip_key.specs.declared.role.Role.{Role}
-use Rattle.sip_key.specs.declared.role.Role.TheVariants.{Client, Server}
-use Rattle.sip_key.specs.Key.{KeyParts}
+use Rattle.sip_standard.specs.declared.role.Role.{Role}
+use Rattle.sip_standard.specs.declared.role.Role.TheVariants.{Client, Server}
+use Rattle.sip_standard.specs.Key.{KeyParts}
 use Rattle.sip_machine.specs.Texts.{Texts}
 use Rattle.sip_standard.specs.Times.{Times}
 use Rattle.sip_states.specs.Held.{Held}
-use Rattle.sip_states.specs.KeyMachine.{MachineKind, coded_of, PhaseOf, StateOf, by_machine}
+use Rattle.sip_standard.specs.KeyMachine.{MachineKind}
+use Rattle.sip_states.specs.KeySets.{coded_of, PhaseOf, StateOf, by_machine}
 use Rattle.sip_states.specs.declared.any_set.AnySet.{AnySet}
 use Rattle.sip_states.specs.AnySet.{meaning_of, OfSet}
 use Rattle.sip_listing.specs.Fields.{Tells}

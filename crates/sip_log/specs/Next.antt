@@ -1,14 +1,14 @@
 use Rattle.std.specs.Prelude.{◌≡◌, ◌<◌, ◌≤◌, ◌++◌, ℕ, List}
 use Rattle.sip_standard.specs.declared.format.Format.{Format}
 use Rattle.sip_standard.specs.LogEntry.{Item, IsEntry, entry_says}
-use Rattle.sip_standard.specs.LogFault.{LogFault}
+use Rattle.sip_standard.specs.declared.log_reason.LogReason.{LogReason}
 use Rattle.sip_standard.specs.LogSays.{most_entries, LogEnd, Clean, Stops, EndsWith}
 
 -- what comes next in an input: its end, something with the bytes after it, or the fault for which it cannot be read on
 pub data Next (A : Type 0) : Type 0 where
   ends : Next A
   gives : A → List ℕ → Next A
-  stops : LogFault → Next A
+  stops : LogReason → Next A
 
 -- after so many entries, the last at this moment: what comes next in the rest of an input
 abbrev pub ComesNext : Format → ℕ → ℕ → List ℕ → Next Item → Type 0

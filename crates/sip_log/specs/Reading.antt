@@ -6,7 +6,7 @@ use Rattle.sip_log.specs.declared.log_error.LogError.{LogError}
 use Rattle.sip_log.specs.declared.log_error.LogError.TheVariants as errors
 use Rattle.sip_standard.specs.declared.format.Format.{Format}
 use Rattle.sip_standard.specs.declared.format.Format.TheVariants.{One}
-use Rattle.sip_standard.specs.LogFault as faults
+use Rattle.sip_standard.specs.declared.log_reason.LogReason.TheVariants as faults
 use Rattle.sip_log.specs.Next.{Next, ends, gives, stops, ComesNext}
 use Rattle.sip_standard.specs.LogHeader.{Header}
 use Rattle.sip_standard.specs.LogEntry.{Item}

@@ -2,15 +2,15 @@ use Rattle.std.specs.Prelude.{◌≡◌, ℕ, Bool, true, List, Option, Some, No
 use Rattle.sip_log.specs.declared.entry.Entry.{Entry}
 use Rattle.sip_log.specs.declared.log_error.LogError.{LogError}
 use Rattle.sip_log.specs.declared.log_error.LogError.TheVariants as errors
-use Rattle.sip_standard.specs.LogFault as faults
-use Rattle.sip_standard.specs.LogFault.{LogFault}
+use Rattle.sip_standard.specs.declared.log_reason.LogReason.TheVariants as faults
+use Rattle.sip_standard.specs.declared.log_reason.LogReason.{LogReason}
 use Rattle.sip_log.specs.Next.{Next, ends, gives, stops}
 use Rattle.sip_standard.specs.LogEntry.{Item}
 
 -- What an answer tells of the input.
 
 -- an error: a fault is one of the input, where no read failed; Io comes only with a failed read; of Memory nothing is said
-abbrev pub FailsAs : Bool → Bool → (LogFault → Type 0) → LogError → Type 0
+abbrev pub FailsAs : Bool → Bool → (LogReason → Type 0) → LogError → Type 0
 FailsAs before after P errors.Header = (after ≡ before) × P faults.Header
 FailsAs before after P errors.EntryLine = (after ≡ before) × P faults.EntryLine
 FailsAs before after P errors.Truncated = (after ≡ before) × P faults.Truncated

@@ -1,6 +1,10 @@
-use Rattle.std.specs.Prelude.{ℕ, Bool}
+use Rattle.std.specs.Prelude.{ℕ, Bool, ◌≢◌, ◌≤◌}
 use Rattle.sip_standard.specs.declared.action.Action.{Action}
-use Rattle.sip_machine.specs.declared.event.Kind.{Kind}
+use Rattle.sip_standard.specs.declared.kind.Kind.{Kind}
+use Rattle.sip_standard.specs.declared.action.Action.TheVariants.{Restart}
+use Rattle.sip_standard.specs.Times.{last_moment}
+use Rattle.sip_machine.specs.Texts.{Texts, Keeps, text_of}
+use Rattle.sip_standard.specs.MachineEvent.{MachineEvent}
 
 -- an event of the code, whose message is a number of a book
 pub record NumberedEvent : Type 0 where
@@ -9,3 +13,18 @@ pub record NumberedEvent : Type 0 where
   pub number : ℕ
   pub kind : Kind
   pub reliable : Bool
+
+-- the event of the code beside the texts of a book
+abbrev pub event_in : Texts → NumberedEvent → MachineEvent
+event_in texts e =
+    record { moment = e.moment; action = e.action; text = text_of texts e.number; kind = e.kind; reliable = e.reliable }
+
+-- the book keeps the message of the event, and its moment is within the limits
+pub record KeepsMessage (texts : Texts) (e : NumberedEvent) : Type 0 where
+  pub keeps : Keeps texts e.number
+  pub limit : e.moment ≤ last_moment
+
+-- so it is with an event of a message; a restart has none, and fits any book
+pub record FitsBook (texts : Texts) (e : NumberedEvent) : Type 0 where
+  pub keeps : e.action ≢ Restart → Keeps texts e.number
+  pub limit : e.moment ≤ last_moment

@@ -1,7 +1,7 @@
 use Rattle.std.specs.Prelude.{ℕ, ◌<◌, ◌^◌, List, [], All, get_or, map}
 use Rattle.sip_ledger.specs.declared.debt.Debt.{Debt}
 use Rattle.sip_machine.specs.Texts.{Texts, text_of}
-use Rattle.sip_machine.specs.Debts.{Owed}
+use Rattle.sip_standard.specs.Debts.{Owed}
 
 -- A machine's debts of the code, whose messages are numbers of a book.
 

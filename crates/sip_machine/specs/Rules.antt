@@ -1,7 +1,7 @@
 use Rattle.std.specs.Prelude.{◌≡◌, ◌≢◌, ◌↔◌, ◌⊎◌, ℕ, Option, None, List, [], ◌∷◌, All, Contains, AllPairs, map}
 use Rattle.sip_machine.specs.Limits.{IsWithin, IsOpenAt}
 use Rattle.sip_machine.specs.Texts.{Texts, Keeps}
-use Rattle.sip_machine.specs.MachineEvent.{MachineEvent}
+use Rattle.sip_standard.specs.MachineEvent.{MachineEvent}
 
 -- a machine over states X: its first state, its ended state, its visible steps, when it may end and how long it may stay
 pub record Rules (X : Type 0) : Type 1 where

@@ -4,7 +4,7 @@ ghost use Rattle.std.specs.List.{list_any};
 ghost use Rattle.sip_ledger.specs.Debts.{counts_at, softened_debt, is_payable, debt_deadlines, paid_by};
 ghost use Rattle.sip_ledger.specs.Ledgers.{rows_of};
 ghost use Rattle.sip_ledger.specs.Runs.{AreRuns};
-ghost use Rattle.sip_machine.specs.Debts.{earliest};
+ghost use Rattle.sip_machine.specs.Deadlines.{earliest};
 ghost use Rattle.sip_machine.specs.Owes.{owed_in, owes_names};
 ghost use Rattle.sip_machine.specs.Prints.{ArePrints};
 ghost use Rattle.sip_machine.specs.inner.Dues.{AreBetween, rows_in};

@@ -3,58 +3,38 @@ ghost use Rattle.std.specs.Prelude.{◌≡◌, ◌≢◌, ◌≤◌, ◌↔◌, 
 ghost use Rattle.sip_standard.specs.Transport.{is_reliable};
 ghost use Rattle.sip_message.specs.ValueParts.{start_parts};
 ghost use Rattle.sip_standard.specs.declared.action.Action.TheVariants.{Mark, Restart};
-ghost use Rattle.sip_machine.specs.declared.event.Kind.TheVariants.{Request};
-ghost use Rattle.sip_machine.specs.declared.event.Method.TheVariants.{Other};
+ghost use Rattle.sip_standard.specs.declared.kind.Kind.TheVariants.{Request};
+ghost use Rattle.sip_standard.specs.declared.kind.Method.TheVariants.{Other};
 ghost use Rattle.sip_standard.specs.Times.{last_moment};
-ghost use Rattle.sip_machine.specs.Message.{method_named, kind_of, IsProvisional, IsFinal, IsSuccess, IsUnsuccessful};
+ghost use Rattle.sip_standard.specs.Kind.{method_named, kind_of, IsProvisional, IsFinal, IsSuccess, IsUnsuccessful};
 
 use sip_message::{Message, StartLine};
+use sip_standard::{Kind, Method};
 use sip_times::Action;
 use std::marker::Model;
 
-/// The methods of requests that machines tell apart (RFC 3261, sections 9, 13 and 17.1.1.3).
-#[derive(Clone, Copy, Debug, PartialEq, Eq)]
-pub enum Method {
-    Invite,
-    Ack,
-    Cancel,
-    /// Any other.
-    Other,
-}
-
-impl Method {
-    /// The method of this name, which is compared with case (RFC 3261, section 7.1).
-    fn named(name: &[u8]) -> Method
-        ensures { result ≡ method_named name.now }
-    {
-        if name == b"INVITE".as_slice() {
-            Method::Invite
-        } else if name == b"ACK".as_slice() {
-            Method::Ack
-        } else if name == b"CANCEL".as_slice() {
-            Method::Cancel
-        } else {
-            Method::Other
-        }
+/// The method of this name, which is compared with case (RFC 3261, section 7.1).
+fn method_named(name: &[u8]) -> Method
+    ensures { result ≡ method_named name.now }
+{
+    if name == b"INVITE".as_slice() {
+        Method::Invite
+    } else if name == b"ACK".as_slice() {
+        Method::Ack
+    } else if name == b"CANCEL".as_slice() {
+        Method::Cancel
+    } else {
+        Method::Other
     }
 }
 
-/// What a machine asks of a message: a request's method, or a response's code, 100 to 699.
-#[derive(Clone, Copy, Debug, PartialEq, Eq)]
-pub enum Kind {
-    Request(Method),
-    Response(u16),
-}
-
-impl Kind {
-    /// The kind of a message with this start line.
-    fn of(start: StartLine<'_>) -> Kind
-        ensures { result ≡ kind_of (start_parts start.entry) }
-    {
-        match start {
-            StartLine::Request { method, .. } => Kind::Request(Method::named(method)),
-            StartLine::Status { code, .. } => Kind::Response(code),
-        }
+/// The kind of a message with this start line.
+fn kind_of(start: StartLine<'_>) -> Kind
+    ensures { result ≡ kind_of (start_parts start.entry) }
+{
+    match start {
+        StartLine::Request { method, .. } => Kind::Request(method_named(method)),
+        StartLine::Status { code, .. } => Kind::Response(code),
     }
 }
 
@@ -129,7 +109,7 @@ impl Event {
             moment,
             action,
             number,
-            kind: Kind::of(message.start()),
+            kind: kind_of(message.start()),
             reliable: message.is_reliable(),
         }
     }

@@ -6,13 +6,14 @@ mod acks;
 use self::InviteClientPhase::{Accepted, Calling, Completed, Ended, Idle, Proceeding};
 use crate::book::Book;
 use crate::dues::Dues;
-use crate::event::{Event, Kind, Method, is_provisional, is_success, is_unsuccessful};
+use crate::event::{Event, is_provisional, is_success, is_unsuccessful};
 use crate::invite_client::acks::first_acked;
 use crate::phases::{Change, Phase, Phases, Turn};
 use crate::timers::timeout;
 use crate::told::Field::{Flag, Message, Number};
 use crate::told::Told;
 use crate::waiting::Waiting;
+use sip_standard::{Kind, Method};
 use sip_times::Params;
 use std::alloc::{AllocError, Global};
 use std::hash::Hash;
@@ -49,7 +50,7 @@ pub enum InviteClientPhase {
 }
 
 impl Phase for InviteClientPhase {
-    ghost use Rattle.sip_machine.specs.InviteClient.Laws.{invite_client_exact};
+    ghost use Rattle.sip_machine.specs.inner.InviteClient.Laws.{invite_client_exact};
 
     ghost exact = { invite_client_exact };
 }
@@ -80,9 +81,10 @@ impl InviteClient {
 
 impl Phases for InviteClient {
     ghost use Rattle.sip_machine.specs.declared.invite_client.InviteClientPhase.TheVariants.{Idle, Ended};
-    ghost use Rattle.sip_machine.specs.InviteClient.{InviteClientPhase as Seen, invite_client, invite_client_told, invite_client_seen, invite_client_names, InviteClientInRange};
+    ghost use Rattle.sip_standard.specs.InviteClient.{InviteClientPhase as Seen, invite_client};
+    ghost use Rattle.sip_machine.specs.inner.InviteClient.{invite_client_told, invite_client_seen, invite_client_names, InviteClientInRange};
     ghost use Rattle.sip_machine.specs.inner.Coded.{has_phases};
-    ghost use Rattle.sip_machine.specs.InviteClient.Laws.{invite_client_is_coded};
+    ghost use Rattle.sip_machine.specs.inner.InviteClient.Laws.{invite_client_is_coded};
 
     type Phase = InviteClientPhase;
 

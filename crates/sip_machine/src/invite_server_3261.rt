@@ -1,26 +1,29 @@
 //! The INVITE server transaction of RFC 3261 section 17.2.1, without the accepted state of RFC 6026.
 ghost use Rattle.std.specs.Prelude.{◌≡◌, ◌≤◌, ◌↔◌, ℕ, IsTrue, false};
 ghost use Rattle.std.specs.Option.{option_map};
-ghost use Rattle.sip_machine.specs.declared.event.Kind.TheVariants.{Response};
+ghost use Rattle.sip_standard.specs.declared.kind.Kind.TheVariants.{Response};
 ghost use Rattle.sip_machine.specs.declared.invite_server.InviteServerPhase.TheVariants.{Idle};
 ghost use Rattle.sip_machine.specs.declared.invite_server_3261.InviteServer3261Phase.TheVariants.{In};
 ghost use Rattle.sip_standard.specs.Times.{Times, last_moment};
 ghost use Rattle.sip_machine.specs.Texts.{Texts};
-ghost use Rattle.sip_machine.specs.MachineEvent.{MachineEvent, event_in};
-ghost use Rattle.sip_machine.specs.Message.{IsSuccess};
-ghost use Rattle.sip_machine.specs.InviteServer.{invite_server_seen};
+ghost use Rattle.sip_standard.specs.MachineEvent.{MachineEvent};
+ghost use Rattle.sip_machine.specs.NumberedEvent.{event_in};
+ghost use Rattle.sip_standard.specs.Kind.{IsSuccess};
+ghost use Rattle.sip_machine.specs.inner.InviteServer.{invite_server_seen};
 ghost use Rattle.sip_machine.specs.Owing.{turn_seen, turn_names, TurnInRange};
-ghost use Rattle.sip_machine.specs.InviteServer3261.{Passed, Receives, Sends, remembers, invite_server_3261_seen, invite_server_3261_names, InviteServer3261InRange};
-ghost use Rattle.sip_machine.specs.InviteServer3261.Laws.{turn_within};
+ghost use Rattle.sip_standard.specs.InviteServer3261.{Passed, Receives, Sends, remembers};
+ghost use Rattle.sip_machine.specs.inner.InviteServer3261.{invite_server_3261_seen, invite_server_3261_names, InviteServer3261InRange};
+ghost use Rattle.sip_machine.specs.inner.InviteServer3261.Laws.{turn_within};
 ghost use Rattle.sip_machine.specs.inner.Single.{AnswersOne};
 
 use crate::book::Book;
 use crate::dues::Dues;
-use crate::event::{Event, Kind, Method, is_success};
+use crate::event::{Event, is_success};
 use crate::invite_server::{InviteServer, InviteServerPhase};
 use crate::paying::equal_bytes;
 use crate::phases::{Change, Phase, Phases, Turn};
 use crate::told::{Field, Told};
+use sip_standard::{Kind, Method};
 use sip_times::Params;
 use std::alloc::{AllocError, Global};
 use std::hash::Hash;
@@ -40,7 +43,7 @@ pub enum InviteServer3261Phase {
 }
 
 impl Phase for InviteServer3261Phase {
-    ghost use Rattle.sip_machine.specs.InviteServer3261.Laws.{invite_server_3261_exact};
+    ghost use Rattle.sip_machine.specs.inner.InviteServer3261.Laws.{invite_server_3261_exact};
 
     ghost exact = { invite_server_3261_exact };
 }
@@ -75,9 +78,10 @@ impl Phases for InviteServer3261 {
     ghost use Rattle.std.specs.Prelude.{refl, [], false};
     ghost use Rattle.sip_machine.specs.declared.invite_server.InviteServerPhase.TheVariants.{Idle};
     ghost use Rattle.sip_machine.specs.declared.invite_server_3261.InviteServer3261Phase.TheVariants.{In};
-    ghost use Rattle.sip_machine.specs.InviteServer3261.{InviteServer3261Phase as Seen, invite_server_3261, invite_server_3261_told, invite_server_3261_seen, invite_server_3261_names, InviteServer3261InRange};
+    ghost use Rattle.sip_standard.specs.InviteServer3261.{InviteServer3261Phase as Seen, invite_server_3261};
+    ghost use Rattle.sip_machine.specs.inner.InviteServer3261.{invite_server_3261_told, invite_server_3261_seen, invite_server_3261_names, InviteServer3261InRange};
     ghost use Rattle.sip_machine.specs.inner.Coded.{has_phases};
-    ghost use Rattle.sip_machine.specs.InviteServer3261.Laws.{invite_server_3261_is_coded};
+    ghost use Rattle.sip_machine.specs.inner.InviteServer3261.Laws.{invite_server_3261_is_coded};
 
     type Phase = InviteServer3261Phase;
 

@@ -29,7 +29,7 @@ mod waiting;
 
 pub use book::Book;
 pub use dues::Dues;
-pub use event::{Event, Kind, Method};
+pub use event::Event;
 pub use invite_client::{InviteClient, InviteClientPhase};
 pub use invite_client_3261::InviteClient3261;
 pub use invite_server::{InviteServer, InviteServerPhase};
@@ -40,6 +40,7 @@ pub use plain_client::{PlainClient, PlainClientPhase};
 pub use plain_server::{PlainServer, PlainServerPhase};
 pub use pool::Pool;
 pub use sip_ledger::{Debt, Run};
+pub use sip_standard::{Kind, Method};
 pub use sip_times::{Action, Params, Rules};
 pub use told::{Field, Told};
 pub use waiting::Waiting;

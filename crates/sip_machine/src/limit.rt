@@ -1,7 +1,7 @@
 //! Last moments.
 ghost use Rattle.std.specs.Prelude.{◌≡◌, ◌∷◌, MatchBool, Some, option_to_list};
 ghost use Rattle.sip_machine.specs.Limits.{IsWithin};
-ghost use Rattle.sip_machine.specs.Debts.{earliest};
+ghost use Rattle.sip_machine.specs.Deadlines.{earliest};
 
 /// Whether the moment is past the last one, if there is one.
 pub(crate) fn is_past(moment: u64, last: Option<u64>) -> bool

@@ -4,12 +4,13 @@ ghost use Rattle.std.specs.Prelude.{◌≡◌};
 use self::PlainClientPhase::{Completed, Ended, Idle, Proceeding, Trying};
 use crate::book::Book;
 use crate::dues::Dues;
-use crate::event::{Event, Kind, is_final, is_provisional};
+use crate::event::{Event, is_final, is_provisional};
 use crate::phases::{Change, Phase, Phases, Turn};
 use crate::timers::{linger, timeout};
 use crate::told::Field::{Flag, Number};
 use crate::told::Told;
 use crate::waiting::Waiting;
+use sip_standard::Kind;
 use sip_times::Params;
 use std::alloc::{AllocError, Global};
 use std::hash::Hash;
@@ -30,7 +31,7 @@ pub enum PlainClientPhase {
 }
 
 impl Phase for PlainClientPhase {
-    ghost use Rattle.sip_machine.specs.PlainClient.Laws.{plain_client_exact};
+    ghost use Rattle.sip_machine.specs.inner.PlainClient.Laws.{plain_client_exact};
 
     ghost exact = { plain_client_exact };
 }
@@ -61,9 +62,10 @@ impl PlainClient {
 
 impl Phases for PlainClient {
     ghost use Rattle.sip_machine.specs.declared.plain_client.PlainClientPhase.TheVariants.{Idle, Ended};
-    ghost use Rattle.sip_machine.specs.PlainClient.{PlainClientPhase as Seen, plain_client, plain_client_told, plain_client_seen, plain_client_names, PlainClientInRange};
+    ghost use Rattle.sip_standard.specs.PlainClient.{PlainClientPhase as Seen, plain_client};
+    ghost use Rattle.sip_machine.specs.inner.PlainClient.{plain_client_told, plain_client_seen, plain_client_names, PlainClientInRange};
     ghost use Rattle.sip_machine.specs.inner.Coded.{has_phases};
-    ghost use Rattle.sip_machine.specs.PlainClient.Laws.{plain_client_is_coded};
+    ghost use Rattle.sip_machine.specs.inner.PlainClient.Laws.{plain_client_is_coded};
 
     type Phase = PlainClientPhase;
 

@@ -1,7 +1,7 @@
 //! Provisional responses of the `Book`, read anew.
 ghost use Rattle.std.specs.Prelude.{◌≡◌, ◌↔◌, IfOk, IsTrue, codes, drop, take};
 ghost use Rattle.sip_machine.specs.Texts.{Keeps, text_of};
-ghost use Rattle.sip_machine.specs.Provisional.{Is100};
+ghost use Rattle.sip_standard.specs.Provisional.{Is100};
 ghost use Rattle.sip_machine.specs.inner.Start.{IsStatus100};
 ghost use Rattle.sip_message.specs.ValueParts.{start_parts};
 

@@ -2,8 +2,8 @@
 ghost use Rattle.std.specs.Prelude.{◌≤◌, ◌<◌, ◌^◌, ◌↔◌, IsTrue};
 ghost use Rattle.sip_standard.specs.Times.{last_moment};
 ghost use Rattle.sip_machine.specs.Texts.{Keeps, text_of};
-ghost use Rattle.sip_machine.specs.MachineEvent.{KeepsMessage, event_in};
-ghost use Rattle.sip_machine.specs.Retransmits.{Retransmits};
+ghost use Rattle.sip_machine.specs.NumberedEvent.{KeepsMessage, event_in};
+ghost use Rattle.sip_standard.specs.Retransmits.{Retransmits};
 
 use crate::book::Book;
 use crate::event::Event;

@@ -2,11 +2,10 @@
 use Rattle.std.proofs.Common.{◌≡◌, ℕ, zero, suc, ◌+◌, ◌-◌, ◌*◌, ◌%◌, ◌^◌, ◌<◌, ◌≤◌, eqb, Bool, true, false, not, cond, ◌||◌, List, [], ◌∷◌, map, length, take, get_or, Fits, w8, w64, refl, sym, ap, ap₂, ◌∙◌, subst, arith}
 use Rattle.std.proofs.lemmas.Bool.{both_ways, agree_below, agree_below_at, not-true, eqb-true}
 use Rattle.std.proofs.lemmas.Simd.{map-map, mask_l-mod, length-chunk, length-zip2, get_or-chunk, get_or-zip2, leading_from_mask_l}
-use Rattle.std.proofs.lemmas.List.{length-map, get_or-map}
+use Rattle.std.proofs.lemmas.List.{length-map, get_or-map, take-map, take-take}
 use Rattle.std.proofs.lemmas.List.Sums.{prefix_len_passes}
 use Rattle.std.specs.Int.{from_le_bytes}
 use Rattle.std.proofs.lemmas.Nat.{or_of_8}
-use Rattle.std.proofs.lemmas.List.{take-map, take-take}
 use Rattle.sip_message.specs.inner.Numbers.{small, filled, number_of}
 use lib.Bits.{bit_xor}
 use lib.Lanes.{chunk, zip2, mask_l, top}

@@ -1,6 +1,5 @@
 -- A message that was read: as it is spelled, with the parts of its named fields.
 use Rattle.std.specs.Prelude.{◌≡◌, ℕ, List, ◌∷◌}
-use Rattle.sip_message.specs.declared.name.Known.{Known}
 use Rattle.sip_message.specs.declared.name.Known.TheVariants as known_name
 use Rattle.sip_message.specs.Address.{AddressParts, AddressText}
 use Rattle.sip_message.specs.Values.{CSeqText}
@@ -8,10 +7,7 @@ use Rattle.sip_message.specs.Field.{Field}
 use Rattle.sip_message.specs.Message.{Message, MessageText}
 use Rattle.sip_message.specs.Only.{IsOnly}
 use Rattle.sip_message.specs.Elements.{Element, AreElements, values}
-
--- the text is the first value of a field of the name
-abbrev pub IsValueOf : Known → List Field → List ℕ → Type 0
-IsValueOf known fields text = (more : List (List ℕ)) × (values known fields ≡ text ∷ more)
+use Rattle.sip_standard.specs.Says.{IsFirstOf}
 
 -- an address, with its text
 abbrev pub AddressValue : List ℕ → List ℕ × AddressParts → Type 0
@@ -33,10 +29,10 @@ pub record Parts : Type 0 where
 -- these are the parts of the named fields
 pub record HasParts (fields : List Field) (p : Parts) : Type 0 where
   pub vias : AreElements (values known_name.Via fields) (p.via ∷ p.others)
-  pub from : (text : List ℕ) × IsValueOf known_name.From fields text × AddressValue text p.from
-  pub to : (text : List ℕ) × IsValueOf known_name.To fields text × AddressValue text p.to
-  pub call_id : IsValueOf known_name.CallId fields p.call_id
-  pub cseq : (text : List ℕ) × IsValueOf known_name.CSeq fields text × CSeqValue text p.cseq
+  pub from : (text : List ℕ) × IsFirstOf (values known_name.From fields) text × AddressValue text p.from
+  pub to : (text : List ℕ) × IsFirstOf (values known_name.To fields) text × AddressValue text p.to
+  pub call_id : IsFirstOf (values known_name.CallId fields) p.call_id
+  pub cseq : (text : List ℕ) × IsFirstOf (values known_name.CSeq fields) text × CSeqValue text p.cseq
 
 -- what contracts see of a message: its start line, its fields and its body as they are spelled, and
 -- the parts of its named fields
@@ -48,8 +44,8 @@ pub record Reading : Type 0 where
 pub record Keeps (m : Message) (p : Parts) (v f t i c : List ℕ) : Type 0 where
   pub parts : IsOnly (HasParts m.fields) p
   pub spelled : (bytes : List ℕ) × MessageText bytes m
-  pub via : IsValueOf known_name.Via m.fields v
-  pub from : IsValueOf known_name.From m.fields f
-  pub to : IsValueOf known_name.To m.fields t
-  pub call_id : IsValueOf known_name.CallId m.fields i
-  pub cseq : IsValueOf known_name.CSeq m.fields c
+  pub via : IsFirstOf (values known_name.Via m.fields) v
+  pub from : IsFirstOf (values known_name.From m.fields) f
+  pub to : IsFirstOf (values known_name.To m.fields) t
+  pub call_id : IsFirstOf (values known_name.CallId m.fields) i
+  pub cseq : IsFirstOf (values known_name.CSeq m.fields) c

@@ -2,10 +2,11 @@
 ghost use Rattle.std.specs.Prelude.{◌≡◌, ◌≤◌, ◌<◌, ◌++◌, decimal, OnOk, OnErr};
 ghost use Rattle.std.specs.List.{list_any};
 ghost use Rattle.sip_message.specs.Lines.{with_end};
-ghost use Rattle.sip_message.specs.Unfold.{is_blank, is_end_byte, unfolded, unfolded_run};
+ghost use Rattle.sip_standard.specs.Field.{is_lws_byte};
+ghost use Rattle.sip_standard.specs.Canonical.{is_end_byte, unfolded, unfolded_run, start_text};
 ghost use Rattle.sip_message.specs.Name.{name_text};
 ghost use Rattle.sip_message.specs.Message.{unfolded_field, message_of};
-ghost use Rattle.sip_message.specs.Canon.{start_text, field_text, canon};
+ghost use Rattle.sip_message.specs.Canon.{field_text, canon};
 ghost use Rattle.sip_message.specs.inner.Appends.{Appends, HasCode, fields_text};
 ghost use Rattle.sip_message.specs.Views.{name_parts, field_parts, slice_fields};
 ghost use Rattle.sip_message.specs.ValueParts.{start_parts};
@@ -99,7 +100,7 @@ fn has_end(text: &[u8]) -> bool
 
 // Whether the byte may stand in a run of blanks.
 fn is_blank(byte: u8) -> bool
-    ensures { result ≡ is_blank byte }
+    ensures { result ≡ is_lws_byte byte }
 {
     matches!(byte, b' ' | b'\t' | b'\r' | b'\n')
 }

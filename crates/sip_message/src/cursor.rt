@@ -2,7 +2,7 @@
 ghost use Rattle.std.specs.Prelude.{◌≡◌, false, option_copied};
 ghost use Rattle.sip_text.specs.Parts.{IsOnlyValue};
 ghost use Rattle.sip_text.specs.inner.Cut.{before, behind, past};
-ghost use Rattle.sip_message.specs.Unfold.{is_blank};
+ghost use Rattle.sip_standard.specs.Field.{is_lws_byte};
 ghost use Rattle.sip_message.specs.inner.Fronts.{IsOnlyBehind, StopsBlank, LineFront, is_line, TokenFront, MarkFront, ProtocolFront, pair_parts, text_parts, protocol_parts};
 
 use memchr::memchr;
@@ -22,7 +22,7 @@ pub fn cut_token(text: &[u8]) -> Option<(&[u8], &[u8])>
 /// What is after the mark at the front: blanks, the byte, and blanks.
 #[inline(always)]
 pub fn past_mark(text: &[u8], mark: u8) -> Option<&[u8]>
-    requires { is_blank mark ≡ false }
+    requires { is_lws_byte mark ≡ false }
     ensures { IsOnlyValue (MarkFront mark) text_parts text.now result }
 {
     let inner = past(skip_blanks(text), mark)?;

@@ -162,7 +162,7 @@ fn is_host(text: &[u8]) -> bool
 }
 
 // Whether a name of an ordinary kind stands between two places. Most hosts are such names.
-#[inline(never)]
+#[inline]
 fn is_name_at(text: &[u8], at: usize, to: usize) -> bool
     requires { (at ≤ to) × (to ≤ length text.now) }
     ensures { IsTrue result → Hostname (segment at to text.now) }

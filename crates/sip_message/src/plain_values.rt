@@ -13,6 +13,7 @@ use crate::values::{CSeq, is_call_id, read_cseq};
 use sip_masks::Masks;
 
 /// Whether a Call-ID stands from one place up to another.
+#[inline(never)]
 pub(crate) fn is_call_id_at(masks: &Masks<'_, '_>, at: usize, end: usize) -> bool
     requires { (at ≤ end) × (end ≤ length masks.now) }
     ensures { IsTrue result → CallId (segment at end masks.now) }

@@ -42,9 +42,9 @@ pub(crate) fn read_ordinary<'a>(
     ensures head { IfOk result (λ found. IfSome found (λ read. IsOrdinary bytes.now (start_parts read.0) (fields_parts fields.new) read.1.now)) }
     ensures asked { IfOk result (λ found. IfSome found (λ _. AskedOf (fields_parts fields.new) asked.new)) }
 {
-    let mut others = [0; WORDS];
-    let mut controls = [0; WORDS];
-    let masks = Masks::of(front(bytes), &mut others, &mut controls);
+    let mut words = [0; 2 * WORDS];
+    let (others, controls) = words.split_at_mut(WORDS);
+    let masks = Masks::of(front(bytes), others, controls);
     let Some(end) = line_end(&masks, 0) else {
         return Ok(None);
     };
@@ -200,6 +200,7 @@ fn is_value_at<'a>(
 
 // Keeps the first element of Via between two places, if elements stand there and none is kept yet.
 // Whether they stand there.
+#[inline(never)]
 fn keep_via<'a>(masks: &Masks<'a, '_>, at: usize, end: usize, kept: &mut Option<Via<'a>>) -> bool
     requires { (at ≤ end) × (end ≤ length masks.now) }
     ensures { KeepsVia (segment at end masks.now) result kept.old kept.new }

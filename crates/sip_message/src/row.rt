@@ -3,7 +3,7 @@ ghost use Rattle.std.specs.Prelude.{◌≡◌, ◌≤◌, ◌<◌, ◌-◌, ◌�
 ghost use Rattle.std.specs.List.{prefix_len};
 ghost use Rattle.sip_standard.specs.Profile.{Sws};
 ghost use Rattle.sip_text.specs.Parts.{IsOnlyValue};
-ghost use Rattle.sip_message.specs.Unfold.{is_blank};
+ghost use Rattle.sip_standard.specs.Field.{is_lws_byte};
 ghost use Rattle.sip_message.specs.Address.{AddressParts, AddressText};
 ghost use Rattle.sip_message.specs.Field.{ValueText, Row};
 ghost use Rattle.sip_message.specs.inner.Fronts.{text_parts};
@@ -55,7 +55,7 @@ fn trim_blanks(text: &[u8]) -> Option<&[u8]>
 
 // The length of the front of bytes of blank runs.
 fn blank_len(text: &[u8]) -> usize
-    ensures run { result ≡ prefix_len is_blank text.now }
+    ensures run { result ≡ prefix_len is_lws_byte text.now }
     ensures within { result ≤ length text.now }
 {
     for (at, byte) in text.iter().enumerate() {
@@ -68,8 +68,8 @@ fn blank_len(text: &[u8]) -> usize
 
 // The length of the text without the bytes of blank runs at its end.
 fn solid_len(text: &[u8]) -> usize
-    ensures blank { (k : ℕ) → result ≤ k → k < length text.now → is_blank (slice_index text.now k) ≡ true }
-    ensures solid { 0 < result → is_blank (slice_index text.now (result - 1)) ≡ false }
+    ensures blank { (k : ℕ) → result ≤ k → k < length text.now → is_lws_byte (slice_index text.now k) ≡ true }
+    ensures solid { 0 < result → is_lws_byte (slice_index text.now (result - 1)) ≡ false }
     ensures within { result ≤ length text.now }
 {
     let mut len = text.len();
@@ -82,7 +82,7 @@ fn solid_len(text: &[u8]) -> usize
 // A byte of a blank run. Most bytes are above all of these.
 #[inline]
 fn is_blank(byte: u8) -> bool
-    ensures { result ≡ is_blank byte }
+    ensures { result ≡ is_lws_byte byte }
 {
     byte <= b' ' && matches!(byte, b' ' | b'\t' | b'\r' | b'\n')
 }

@@ -70,7 +70,7 @@ word_found word line rest b f token full (passes named (n, r, (is_token, n_is), 
     ∙ append_assoc n (w ++ (58 ∷ v)) (13 ∷ rest) ∙ ap (λ t. n ++ t) (append_assoc w (58 ∷ v) (13 ∷ rest)) in
     let same = same_run n word (w ++ (58 ∷ (v ++ (13 ∷ rest)))) (58 ∷ spelled.rest) (token_run n is_token) (token_run word token) (colon_no_token w (v ++ (13 ∷ rest)) wsp) refl (sym flat ∙ spelled.is) in
     let after : v ++ (13 ∷ rest) ≡ spelled.rest = colon_front w (v ++ (13 ∷ rest)) spelled.rest wsp same.1 in
-    let field : f ≡ record { line = 1; name = full_name (folded (named.0)); value = value } = cc in
+    let field : f ≡ record { line = 1; spelled = named.0; name = full_name (folded (named.0)); value = value } = cc in
     record {
       named = ap (λ g. g.name) field ∙ ap (λ t. full_name (folded t)) (n_is ∙ same.0) ∙ full;
       first = λ via vias says.
@@ -122,14 +122,14 @@ lines_found (line ∷ more) rest b fields start s (passes f f_is (stopped fault 
 lines_found (line ∷ more) rest b fields start s (stopped fault stops_at e) found tell = absurd (cc)
 
 -- the start line and the fields, and what stands after the head
-told_found : (bytes rest first : List ℕ) (others : List (List ℕ)) (b : List ℕ) (told : StartLine × List SaidField) (s : Said)
+told_found : (bytes rest first : List ℕ) (others : List (List ℕ)) (b : List ℕ) (told : StartLine × List SaidField × List ℕ) (s : Said)
     → bytes ≡ (first ++ 13 ∷ []) ++ (10 ∷ (flat_map (λ line. line ++ codes "\r\n") others ++ (13 ∷ rest))) → (behind : List ℕ) → LinesTell behind first others (gives told)
     → led_branch bytes ≡ Some b → FieldsTell (told.0) (told.1) s → s.via.branch ≡ Some b
-told_found bytes rest first others b told s whole behind (passes start starts (passes fields fields_is (passes names names_is (passes fine fine_is given)))) found tell =
+told_found bytes rest first others b told s whole behind (passes start starts (passes fields fields_is (passes names names_is (passes body body_is given)))) found tell =
     let tail = flat_map (λ line. line ++ codes "\r\n") others ++ (13 ∷ rest) in
     let lacks = lacks-append line_feed first (13 ∷ []) (lack-start first start starts) (refl, tt) in
     let at : after_line bytes ≡ Some tail = ap after_line whole ∙ after_front (first ++ 13 ∷ []) tail lacks in
-    let e : told ≡ (start, fields) = cc in
+    let e : told ≡ (start, fields, body) = cc in
     let same : told.1 ≡ fields = ap (λ t. t.1) e in
     lines_found others rest b (told.1) (told.0) s (subst (λ fs. FieldsSay 1 others (gives fs)) (sym same) fields_is) (sym (ap first_branch at) ∙ found) tell
 told_found bytes rest first others b told s whole behind (passes start starts (passes fields fields_is (passes names names_is (stopped fault stops_at e)))) found tell = absurd (cc)
@@ -137,7 +137,7 @@ told_found bytes rest first others b told s whole behind (passes start starts (p
 told_found bytes rest first others b told s whole behind (passes start starts (stopped fault stops_at e)) found tell = absurd (cc)
 told_found bytes rest first others b told s whole behind (stopped fault stops_at e) found tell = absurd (cc)
 
-bytes_found : (bytes b : List ℕ) (told : StartLine × List SaidField) (s : Said) → BytesTell bytes (gives told) → led_branch bytes ≡ Some b → FieldsTell (told.0) (told.1) s → s.via.branch ≡ Some b
+bytes_found : (bytes b : List ℕ) (told : StartLine × List SaidField × List ℕ) (s : Said) → BytesTell bytes (gives told) → led_branch bytes ≡ Some b → FieldsTell (told.0) (told.1) s → s.via.branch ≡ Some b
 bytes_found bytes b told s (passes cut cut_is (passes clean is_clean (first, others, lines, tells))) found tell =
     let each = flat_map (λ line. line ++ codes "\r\n") others in
     let rest = 10 ∷ (cut.1) in

@@ -1,9 +1,9 @@
 -- A branch that stands plainly in the first field of a message is that of its top Via.
 use Rattle.std.proofs.Common.{◌≡◌, ◌∙◌, ◌⊎◌, inl, inr, ◌+◌, ◌||◌, ℕ, List, [], ◌∷◌, ◌++◌, Bool, Option, Some, None, take, drop, length, if◌then◌else◌, cond, nat_eq, true, false, refl, sym, ap, subst, append_assoc, arith}
 use Rattle.std.proofs.lemmas.Bool.{eqb-true}
-use Rattle.std.specs.Prelude.{codes}
+use Rattle.std.specs.Prelude.{codes, nat_lt}
 use Rattle.std.specs.List.{prefix_len, starts_with}
-use Rattle.std.specs.Char.{to_ascii_lowercase}
+use Rattle.std.specs.Char.{to_ascii_lowercase, is_ascii_digit}
 use Rattle.sip_standard.specs.Text.{Exactly, ◌then◌, Optional, Many}
 use Rattle.sip_standard.specs.Case.{folded}
 use Rattle.sip_standard.specs.Chars.{AnyCase, is_among, EachSays}
@@ -12,8 +12,6 @@ use Rattle.sip_text.specs.Bytes.{semicolon, is_token_byte, is_wsp}
 use Prim.Native.String.{String}
 use Rattle.std.proofs.lemmas.List.{take-append-drop}
 use Rattle.std.specs.Cmp.Lexicographic.{same_text}
-use Rattle.std.specs.Char.{is_ascii_digit}
-use Rattle.std.specs.Prelude.{nat_lt}
 use Rattle.sip_text.specs.inner.Blanks.{Blank}
 use Rattle.sip_text.proofs.strings.BlanksLemmas.{units-blanks}
 use Rattle.sip_text.proofs.texts.LacksLemmas.{Lacks, AllLack, lacks-append, lack-one, lack-exactly, lack-then, lack-optional, lack-many, lack-some, lack-between}

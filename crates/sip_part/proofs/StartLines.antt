@@ -11,8 +11,7 @@ use Rattle.sip_text.specs.Bytes.{line_feed}
 use Rattle.sip_text.proofs.texts.LacksLemmas.{Lacks, AllLack, lacks-append, lack-one, lack-exactly, lack-then, lack-or, lack-optional, lack-many, lack-some, lack-between}
 use Rattle.sip_text.proofs.uris.UriHostLemmas.{IsForeign, lack-host}
 use Rattle.sip_text.proofs.hosts.ProfileLemmas.{host-parts}
-use Rattle.sip_standard.specs.StartLine.{StartLine, request, status}
-use Rattle.sip_standard.specs.StartLine.{StartSays}
+use Rattle.sip_standard.specs.StartLine.{StartLine, request, status, StartSays}
 
 -- a text that is some other one in lower case
 lower_other : (b : ℕ) → nat_eq (to_ascii_lowercase b) line_feed ≡ false → nat_eq b line_feed ≡ false

@@ -1,6 +1,6 @@
 use Rattle.std.specs.Prelude.{ℕ}
-use Rattle.sip_verdict.specs.declared.verdict.Verdict.{Verdict}
-use Rattle.sip_verdict.specs.declared.verdict.Verdict.TheVariants as verdicts
+use Rattle.sip_standard.specs.declared.verdict.Verdict.{Verdict}
+use Rattle.sip_standard.specs.declared.verdict.Verdict.TheVariants as verdicts
 use Rattle.sip_verdict.specs.declared.listing.Listing.{Listing}
 use Rattle.sip_verdict.specs.declared.listing.Listing.TheVariants.{Text, Stopped, NoEntry}
 use Rattle.sip_verdict.specs.declared.shown.Shown.{Shown}

@@ -2,7 +2,7 @@
 ghost use Rattle.std.specs.Prelude.{◌≡◌, ◌++◌, ◌∷◌, [], false, OnOk, IfOk, IfErr};
 ghost use Rattle.std.specs.Io.KnownBytes.{Appends};
 ghost use Rattle.sip_standard.specs.LogSays.{line_feed};
-ghost use Rattle.sip_verdict.specs.Rendering.{rendered};
+ghost use Rattle.sip_standard.specs.Rendering.{rendered};
 ghost use Rattle.sip_program.specs.Answers.{IsJudged, IsShown, IsListed, listing_text};
 ghost use Rattle.sip_program.specs.Failures.{Blames};
 

@@ -1,5 +1,5 @@
 -- The method of a message and its body (RFC 3261, sections 8.1.1.5, 18.3 and 20.14).
-use Rattle.std.specs.Prelude.{◌≡◌, ℕ, ◌≤◌, true, List, [], ◌∷◌, length, Option, None, Some, IfSome, is_some, ⊤}
+use Rattle.std.specs.Prelude.{◌≡◌, ℕ, ◌≤◌, true, List, [], ◌∷◌, length, take, Option, None, Some, IfSome, is_some, ⊤}
 use Rattle.std.specs.Str.Parse.{digits_value}
 use Rattle.sip_standard.specs.Text.{◌or◌}
 use Rattle.sip_standard.specs.Chars.{AnyCase}
@@ -24,10 +24,15 @@ MethodSays (status code why) cseq = ⊤
 abbrev pub StreamSays : List ℕ → Type 0
 StreamSays via = (v : SaidVia) × (more : List SaidVia) × ViasSay (v ∷ more) via × (AnyCase "tcp" or AnyCase "tls") v.transport
 
--- 8 to 11: the method, and as many bytes after the head as Content-Length says, which a stream has, and no more (section 18.3)
-abbrev pub BodySays : StartLine → ℕ × List ℕ → List ℕ → Option ℕ → List ℕ → Outcome ⊤ → Type 0
+-- the body: as many bytes as Content-Length says, and all of them without it
+abbrev pub cut_body : Option ℕ → List ℕ → List ℕ
+cut_body None rest = rest
+cut_body (Some n) rest = take n rest
+
+-- 8 to 11: the method, and as many bytes after the head as Content-Length says, which a stream has, and no more (section 18.3); the body is given
+abbrev pub BodySays : StartLine → ℕ × List ℕ → List ℕ → Option ℕ → List ℕ → Outcome (List ℕ) → Type 0
 BodySays start cseq via len rest =
     Then (Holds (MethodSays start (cseq.1)) (fault_in_line (cseq.0) reason.MethodMismatch)) (λ _.
     Then (Holds (StreamSays via → is_some len ≡ true) (fault_in_body reason.NoLength)) (λ _.
     Then (Holds (IfSome len (λ n. n ≤ length rest)) (fault_in_body reason.ShortBody)) (λ _.
-    Then (Holds (StreamSays via → IfSome len (λ n. length rest ≤ n)) (fault_in_body reason.LongBody)) (λ _. Gives tt))))
+    Then (Holds (StreamSays via → IfSome len (λ n. length rest ≤ n)) (fault_in_body reason.LongBody)) (λ _. Gives (cut_body len rest)))))

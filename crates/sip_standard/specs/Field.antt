@@ -33,9 +33,10 @@ RowSays name text =
     (cond (named "content-length") (OneOrMore (One is_ascii_digit) text)
     (Many (Lws or One (λ byte. is_in_range 0x21 0x7E byte || nat_le 0x80 byte)) text)))))
 
--- a field: the number of its line, its name and its value
+-- a field: the number of its line, its name as it is spelled and in full without case, and its value
 pub record SaidField : Type 0 where
   pub line : ℕ
+  pub spelled : List ℕ
   pub name : List ℕ
   pub value : List ℕ
 
@@ -61,7 +62,7 @@ abbrev pub FieldSays : ℕ → List ℕ → Outcome SaidField → Type 0
 FieldSays n line =
     Then (Demand (λ (named : List ℕ × List ℕ). ((Token is named.0) then Many Wsp then Lit ":" then Exactly named.1) line) (fault_in_line n reason.FieldLine)) (λ named.
     Then (Demand (λ value. (IsTrimmed value × (Sws then Exactly value then Sws) named.1) × RowSays (full_name (folded named.0)) value) (fault_in_line n reason.Value)) (λ value.
-    Gives (record { line = n; name = full_name (folded named.0); value = value })))
+    Gives (record { line = n; spelled = named.0; name = full_name (folded named.0); value = value })))
 
 -- the lines are fields, the lines being numbered from n
 abbrev pub FieldsSay : ℕ → List (List ℕ) → Outcome (List SaidField) → Type 0

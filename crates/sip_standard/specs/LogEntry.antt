@@ -1,11 +1,10 @@
+-- The entries of a log: their limits, their order, and the one text of each.
 use Rattle.std.specs.Prelude.{◌≡◌, ◌≢◌, ◌≤◌, ◌++◌, ℕ, List, [], ◌∷◌, length, codes, decimal, ⊤}
 use Rattle.sip_standard.specs.Times.{last_moment}
 use Rattle.sip_standard.specs.declared.action.Action.{Action}
 use Rattle.sip_standard.specs.declared.action.Action.TheVariants.{Sent, Received, Failed, Mark, Restart}
 use Rattle.sip_standard.specs.declared.format.Format.{Format}
 use Rattle.sip_standard.specs.declared.format.Format.TheVariants.{Two}
-
--- The entries of a log: their limits, their order, and the one text of each.
 
 -- an entry: what was done, when, and with which message; a mark and a restart have none
 pub record Item : Type 0 where

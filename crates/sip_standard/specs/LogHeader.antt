@@ -1,11 +1,10 @@
+-- Log formats 1 and 2: the texts of a header.
 use Rattle.std.specs.Prelude.{◌≡◌, ◌≢◌, ◌⊎◌, ◌++◌, ℕ, List, codes, decimal}
 use Rattle.sip_standard.specs.Times.{Times, AreTimes}
 use Rattle.sip_standard.specs.declared.rules.Rules.{Rules}
 use Rattle.sip_standard.specs.declared.rules.Rules.TheVariants.{R3261, R6026}
 use Rattle.sip_standard.specs.declared.format.Format.{Format}
 use Rattle.sip_standard.specs.declared.format.Format.TheVariants.{One, Two}
-
--- Log formats 1 and 2: the texts of a header.
 
 -- the timers in line 2 of a header: t1 N t2 N t4 N
 abbrev pub timers_text : Times → List ℕ

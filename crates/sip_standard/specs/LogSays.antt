@@ -1,12 +1,12 @@
+-- What an input says as a log: a header of its format, entries, and how they end.
 use Rattle.std.specs.Prelude.{◌≡◌, ◌≢◌, ◌⊎◌, ◌<◌, ◌≤◌, ◌++◌, ℕ, List, [], ◌∷◌, length, slice_index, flat_map}
 use Rattle.sip_standard.specs.Times.{Times}
 use Rattle.sip_standard.specs.declared.action.Action.{Action}
 use Rattle.sip_standard.specs.declared.format.Format.{Format}
 use Rattle.sip_standard.specs.LogHeader.{Header}
 use Rattle.sip_standard.specs.LogEntry.{Item, HasMessage, IsWithinLimits, IsOf, InOrder, last_of, line_says, entry_says}
-use Rattle.sip_standard.specs.LogFault.{LogFault, EntryLine, Truncated, Order, Limit}
-
--- What an input says as a log: a header of its format, entries, and how they end.
+use Rattle.sip_standard.specs.declared.log_reason.LogReason.{LogReason}
+use Rattle.sip_standard.specs.declared.log_reason.LogReason.TheVariants.{EntryLine, Truncated, Order, Limit}
 
 -- LF in ASCII
 abbrev pub line_feed : ℕ
@@ -17,7 +17,7 @@ abbrev pub most_entries : ℕ
 most_entries = 1000000
 
 -- the first of two cases: this one, with its fault, or it does not hold, and the later one does
-abbrev pub First : Type 0 → LogFault → LogFault → Type 0 → Type 0
+abbrev pub First : Type 0 → LogReason → LogReason → Type 0 → Type 0
 First Case its fault Later = (Case × (fault ≡ its)) ⊎ (¬ Case × Later)
 
 -- the line at the front, with what is after its LF, which is among the first 32 bytes
@@ -28,7 +28,7 @@ pub record FrontLine (rest line behind : List ℕ) : Type 0 where
 
 -- cases 3 to 7, of the line at the front and what is after it: the line is not of the form; moment or length is outside the limits; the moment
 -- is below that of the entry before; the input ends before the message and its LF are whole; the byte after the message is not LF
-abbrev pub LineFault : Format → ℕ → List ℕ → List ℕ → LogFault → Type 0
+abbrev pub LineFault : Format → ℕ → List ℕ → List ℕ → LogReason → Type 0
 LineFault format last line behind fault =
     (((action : Action) (moment len : ℕ) → IsOf format action → line ≢ line_says action moment len) × (fault ≡ EntryLine))
     ⊎ ((action : Action) × (moment : ℕ) × (len : ℕ) × IsOf format action × (line ≡ line_says action moment len)
@@ -38,7 +38,7 @@ LineFault format last line behind fault =
 -- how the entries of a log end: with the input, or where no entry can be read
 pub data LogEnd : Type 0 where
   Clean : LogEnd
-  Stops : LogFault → LogEnd
+  Stops : LogReason → LogEnd
 
 -- so many entries, the last at this moment, end so with the rest of an input: nothing is left, or the first of seven cases holds. Case 1: the entry
 -- would be one more than the most; case 2: no LF is among the first 32 bytes, and the input ends before the 32nd, or it does not

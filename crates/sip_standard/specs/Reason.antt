@@ -2,6 +2,8 @@
 use Rattle.std.specs.Prelude.{ℕ, List, codes}
 use Rattle.sip_standard.specs.declared.fault.Reason.{Reason}
 use Rattle.sip_standard.specs.declared.fault.Reason.TheVariants as reason
+use Rattle.sip_standard.specs.declared.log_reason.LogReason.{LogReason}
+use Rattle.sip_standard.specs.declared.log_reason.LogReason.TheVariants.{Header, EntryLine, Truncated, Order, Limit}
 
 -- the number by which a verdict names the reason
 abbrev pub reason_number : Reason → ℕ
@@ -32,3 +34,19 @@ reason_name reason.NoLength = codes "NoLength"
 reason_name reason.ShortBody = codes "ShortBody"
 reason_name reason.LongBody = codes "LongBody"
 reason_name reason.NoCookie = codes "NoCookie"
+
+-- the number of a log's fault
+abbrev pub log_reason_number : LogReason → ℕ
+log_reason_number Header = 20
+log_reason_number EntryLine = 21
+log_reason_number Truncated = 22
+log_reason_number Order = 23
+log_reason_number Limit = 24
+
+-- its name
+abbrev pub log_reason_name : LogReason → List ℕ
+log_reason_name Header = codes "Header"
+log_reason_name EntryLine = codes "EntryLine"
+log_reason_name Truncated = codes "Truncated"
+log_reason_name Order = codes "Order"
+log_reason_name Limit = codes "Limit"

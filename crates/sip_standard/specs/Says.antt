@@ -13,14 +13,14 @@ use Rattle.sip_standard.specs.Field.{SaidField, all, said_values, FieldsSay, Nam
 use Rattle.sip_standard.specs.Body.{length_in, BodySays}
 use Rattle.sip_standard.specs.Lines.{CutSays, LinesSay}
 
--- 3 to 11: the start line and the fields of these lines, with this after the head
-abbrev pub LinesTell : List ℕ → List ℕ → List (List ℕ) → Outcome (StartLine × List SaidField) → Type 0
+-- 3 to 11: the start line, the fields and the body of these lines, with this after the head
+abbrev pub LinesTell : List ℕ → List ℕ → List (List ℕ) → Outcome (StartLine × List SaidField × List ℕ) → Type 0
 LinesTell rest first others =
     Then (Demand (StartSays first) (fault_in_line 0 reason.StartLine)) (λ start. Then (FieldsSay 1 others) (λ fields. Then (NamesSay fields) (λ names.
-    Then (BodySays start (names.1) (names.0.1) (length_in (all "content-length" fields)) rest) (λ _. Gives (start, fields)))))
+    Then (BodySays start (names.1) (names.0.1) (length_in (all "content-length" fields)) rest) (λ body. Gives (start, fields, body)))))
 
 -- 1 to 11: those of the bytes, in whose head no CR stands without LF, and no LF without CR
-abbrev pub BytesTell : List ℕ → Outcome (StartLine × List SaidField) → Type 0
+abbrev pub BytesTell : List ℕ → Outcome (StartLine × List SaidField × List ℕ) → Type 0
 BytesTell bytes =
     Then (Demand (CutSays bytes) (fault_in_head reason.NoHeadEnd)) (λ cut.
     Then (Holds (Many (Lit "\r\n" or One (λ byte. not (byte == 0x0D) && not (byte == 0x0A))) (cut.0)) (fault_in_head reason.BareLineEnd)) (λ _ out.

@@ -1,3 +1,4 @@
+-- The times of an element (RFC 3261, section 17).
 use Rattle.std.specs.Prelude.{◌≤◌, ℕ}
 use Rattle.sip_standard.specs.declared.rules.Rules.{Rules}
 

@@ -1,3 +1,4 @@
+-- From when until when a timer may fire (RFC 3261, section 17).
 use Rattle.std.specs.Prelude.{◌+◌, ◌-◌, ℕ, Option, Some}
 use Rattle.sip_standard.specs.Times.{Times}
 

@@ -1,14 +1,26 @@
 //! What one must believe of SIP (RFC 3261) to read what this repository proves: the definitions that its contracts cite, each once, in the
 //! order in which one reads, and the types that entries and answers are made of. `specs/` has a file for each noun: sets of texts, case, characters,
-//! the profile of the grammar, what a message says or why bytes are none, times and windows, and what an input says as a log.
+//! the profile of the grammar, what a message says or why bytes are none, keys, times and windows, what an input says as a log, the six machines,
+//! runs, and the verdict.
 #![tactic(auto)]
 
 mod action;
 mod fault;
 mod format;
+mod judge_error;
+mod kind;
+pub mod laws;
+mod log_reason;
+mod role;
 mod rules;
+mod verdict;
 
 pub use crate::fault::{Fault, Reason, Unit};
 pub use action::Action;
 pub use format::Format;
+pub use judge_error::JudgeError;
+pub use kind::{Kind, Method};
+pub use log_reason::LogReason;
+pub use role::{Direction, Role};
 pub use rules::Rules;
+pub use verdict::Verdict;

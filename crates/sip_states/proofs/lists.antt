@@ -1,4 +1,3 @@
 pub mod EachOnce
-pub mod Few
 pub mod Listed
 pub mod Twice

@@ -1,15 +1,16 @@
 -- A set of states of one of the machines.
 use Rattle.std.specs.Prelude.{◌≡◌, ◌⊎◌, ℕ, Option, [], ◌∷◌}
-use Rattle.sip_key.specs.Key.{KeyParts}
+use Rattle.sip_standard.specs.Key.{KeyParts}
 use Rattle.sip_standard.specs.Times.{Times}
 use Rattle.sip_machine.specs.Texts.{Texts}
 use Rattle.sip_machine.specs.NumberedEvent.{NumberedEvent}
-use Rattle.sip_machine.specs.Figure.{rules_of as rules_of_figure, until_of}
+use Rattle.sip_machine.specs.FigureRules.{rules_of as rules_of_figure, until_of}
 use Rattle.sip_machine.specs.Owing.{owing_seen, owing_names, OwingInRange}
-use Rattle.sip_machine.specs.Transaction.{idle_state, ended_state}
+use Rattle.sip_machine.specs.inner.Coded.{idle_state, ended_state}
 use Rattle.sip_states.specs.Runs.{IsWide}
 use Rattle.sip_states.specs.Held.{Held}
-use Rattle.sip_states.specs.KeyMachine.{MachineKind, machine_of_key, transaction_of, coded_of, PhaseOf, StateOf, held_of, by_machine, by_one_machine, start_of_machine}
+use Rattle.sip_standard.specs.KeyMachine.{MachineKind, machine_of_key, transaction_of}
+use Rattle.sip_states.specs.KeySets.{coded_of, PhaseOf, StateOf, held_of, by_machine, by_one_machine, start_of_machine}
 use Rattle.sip_states.specs.Meaning.{Meaning, IsKeptBy, IsKnown, Given, HasWaited, HasTaken, HasAgenda}
 use Rattle.sip_states.specs.declared.any_set.AnySet.{AnySet}
 

@@ -1,8 +1,7 @@
 pub mod Runs
-pub mod Stands
 pub mod Held
 pub mod inner
-pub mod KeyMachine
+pub mod KeySets
 pub mod Meaning
 pub mod AnySet
 pub mod Told

@@ -1,8 +1,7 @@
 -- What a set of states of a machine means, and what its calls do.
 use Rattle.std.specs.Prelude.{◌≡◌, ◌≤◌, ◌+◌, ℕ, Option, List, All, Contains, length, map}
 use Rattle.sip_machine.specs.Texts.{Texts, IsBook}
-use Rattle.sip_machine.specs.NumberedEvent.{NumberedEvent}
-use Rattle.sip_machine.specs.MachineEvent.{event_in}
+use Rattle.sip_machine.specs.NumberedEvent.{NumberedEvent, event_in}
 use Rattle.sip_machine.specs.Rules.{Rules, Knows, StandFor}
 use Rattle.sip_states.specs.Runs.{Wait, RunGives, IsAgenda, widest}
 use Rattle.sip_states.specs.Held.{Held, IsKept}

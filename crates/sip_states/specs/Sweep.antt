@@ -4,7 +4,8 @@ use Rattle.sip_standard.specs.Times.{Times}
 use Rattle.sip_machine.specs.Owing.{owing_names}
 use Rattle.sip_machine.specs.Naming.{AppendsAll}
 use Rattle.sip_states.specs.Held.{Held}
-use Rattle.sip_states.specs.KeyMachine.{MachineKind, coded_of, StateOf, held_of, by_machine}
+use Rattle.sip_standard.specs.KeyMachine.{MachineKind}
+use Rattle.sip_states.specs.KeySets.{coded_of, StateOf, held_of, by_machine}
 use Rattle.sip_states.specs.declared.any_set.AnySet.{AnySet}
 use Rattle.sip_states.specs.AnySet.{SetWaits}
 use Rattle.sip_states.specs.Tables.{Tabled}

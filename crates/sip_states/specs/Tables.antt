@@ -1,7 +1,7 @@
 -- What tables of sets hold, and what each call leaves of them.
 use Rattle.std.specs.Prelude.{◌≡◌, ◌≢◌, ◌≤◌, ◌<◌, ◌⊎◌, ◌++◌, ◌∷◌, [], ◌+◌, ◌-◌, ℕ, List, Option, Some, None, All, position, length, slice_get, slice_set}
 use Rattle.std.specs.Option.{option_map}
-use Rattle.sip_key.specs.Key.{KeyParts}
+use Rattle.sip_standard.specs.Key.{KeyParts}
 use Rattle.sip_standard.specs.Times.{Times}
 use Rattle.sip_states.specs.declared.any_set.AnySet.{AnySet}
 use Rattle.sip_states.specs.AnySet.{start_of, IsEmpty, IsAgendaOf}

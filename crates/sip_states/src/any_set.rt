@@ -1,6 +1,6 @@
 //! The states of one transaction, whichever machine it has.
 ghost use Rattle.std.specs.Prelude.{◌≡◌, ◌↔◌, ◌≤◌, IfOk, IsErrOf, IsTrue, OnErr, OnOk};
-ghost use Rattle.sip_machine.specs.MachineEvent.{FitsBook};
+ghost use Rattle.sip_machine.specs.NumberedEvent.{FitsBook};
 ghost use Rattle.sip_states.specs.AnySet.{moment_of, start_of, IsEmpty, IsKeptSet, IsQuietSet, IsKnownSet, SetWaits, SetTakes, IsSetTooWide, IsAgendaOf};
 ghost use Rattle.sip_states.specs.Sweep.{AppendsNumbers};
 ghost use Rattle.sip_states.specs.Told.{AreTold};
@@ -29,6 +29,20 @@ pub enum AnySet {
     InviteClient3261(StateSet<InviteClient3261>),
     /// Section 17.2.1, without it.
     InviteServer3261(StateSet<InviteServer3261>),
+}
+
+/// The same of a set, whichever machine it has.
+macro_rules! each_machine {
+    ($any:expr, $set:ident => $answer:expr) => {
+        match $any {
+            AnySet::InviteClient($set) => $answer,
+            AnySet::PlainClient($set) => $answer,
+            AnySet::InviteServer($set) => $answer,
+            AnySet::PlainServer($set) => $answer,
+            AnySet::InviteClient3261($set) => $answer,
+            AnySet::InviteServer3261($set) => $answer,
+        }
+    };
 }
 
 impl AnySet {
@@ -67,14 +81,7 @@ impl AnySet {
         ensures ok { OnOk result (SetWaits moment self.old self.new) }
         ensures err { OnErr result (self.new ≡ self.old) }
     {
-        match self {
-            AnySet::InviteClient(set) => set.advance(moment),
-            AnySet::PlainClient(set) => set.advance(moment),
-            AnySet::InviteServer(set) => set.advance(moment),
-            AnySet::PlainServer(set) => set.advance(moment),
-            AnySet::InviteClient3261(set) => set.advance(moment),
-            AnySet::InviteServer3261(set) => set.advance(moment),
-        }
+        each_machine!(self, set => set.advance(moment))
     }
 
     /// Takes the event. On an error the set is as before.
@@ -87,28 +94,14 @@ impl AnySet {
         ensures too_many { IsErrOf result TakeError.TooMany → IsSetTooWide book.now event.now self.old }
         ensures err { OnErr result (self.new ≡ self.old) }
     {
-        match self {
-            AnySet::InviteClient(set) => set.take(book, event),
-            AnySet::PlainClient(set) => set.take(book, event),
-            AnySet::InviteServer(set) => set.take(book, event),
-            AnySet::PlainServer(set) => set.take(book, event),
-            AnySet::InviteClient3261(set) => set.take(book, event),
-            AnySet::InviteServer3261(set) => set.take(book, event),
-        }
+        each_machine!(self, set => set.take(book, event))
     }
 
     /// Gives back the room that no state takes.
     pub(crate) fn trim(&mut self)
         ensures { self.new ≡ self.old }
     {
-        match self {
-            AnySet::InviteClient(set) => set.trim(),
-            AnySet::PlainClient(set) => set.trim(),
-            AnySet::InviteServer(set) => set.trim(),
-            AnySet::PlainServer(set) => set.trim(),
-            AnySet::InviteClient3261(set) => set.trim(),
-            AnySet::InviteServer3261(set) => set.trim(),
-        }
+        each_machine!(self, set => set.trim())
     }
 
     /// Each state is there once and in range, each can wait at the moment, and there are at most
@@ -116,14 +109,7 @@ impl AnySet {
     pub fn known(&self)
         ensures { IsKeptSet self.now }
     {
-        match self {
-            AnySet::InviteClient(set) => set.known(),
-            AnySet::PlainClient(set) => set.known(),
-            AnySet::InviteServer(set) => set.known(),
-            AnySet::PlainServer(set) => set.known(),
-            AnySet::InviteClient3261(set) => set.known(),
-            AnySet::InviteServer3261(set) => set.known(),
-        }
+        each_machine!(self, set => set.known())
     }
 
     /// The last moment to which some run can wait, in milliseconds; None if there is none.
@@ -131,69 +117,34 @@ impl AnySet {
         requires { ¬ IsEmpty self.now }
         ensures { IsAgendaOf result self.now }
     {
-        match self {
-            AnySet::InviteClient(set) => set.last_moment(),
-            AnySet::PlainClient(set) => set.last_moment(),
-            AnySet::InviteServer(set) => set.last_moment(),
-            AnySet::PlainServer(set) => set.last_moment(),
-            AnySet::InviteClient3261(set) => set.last_moment(),
-            AnySet::InviteServer3261(set) => set.last_moment(),
-        }
+        each_machine!(self, set => set.last_moment())
     }
 
     /// Appends the numbers of the messages that its states name, each at least once.
     pub(crate) fn names(&self, out: &mut Vec<u32>) -> Result<(), AllocError>
         ensures { OnOk result (AppendsNumbers self.now out.old.items out.new.items) }
     {
-        match self {
-            AnySet::InviteClient(set) => set.names(out),
-            AnySet::PlainClient(set) => set.names(out),
-            AnySet::InviteServer(set) => set.names(out),
-            AnySet::PlainServer(set) => set.names(out),
-            AnySet::InviteClient3261(set) => set.names(out),
-            AnySet::InviteServer3261(set) => set.names(out),
-        }
+        each_machine!(self, set => set.names(out))
     }
 
     /// Whether its one state is the one before anything was sent or received, or the one after an end. Where it is not told so, nothing is said.
     pub(crate) fn is_quiet(&self) -> bool
         ensures { IsTrue result → IsQuietSet self.now }
     {
-        match self {
-            AnySet::InviteClient(set) => set.is_quiet(),
-            AnySet::PlainClient(set) => set.is_quiet(),
-            AnySet::InviteServer(set) => set.is_quiet(),
-            AnySet::PlainServer(set) => set.is_quiet(),
-            AnySet::InviteClient3261(set) => set.is_quiet(),
-            AnySet::InviteServer3261(set) => set.is_quiet(),
-        }
+        each_machine!(self, set => set.is_quiet())
     }
 
     /// Its states in words, in no order of their own.
     pub fn told(&self, alloc: Global) -> Result<Vec<ToldState>, AllocError>
         ensures { IfOk result (λ told. AreTold self.now told.items) }
     {
-        match self {
-            AnySet::InviteClient(set) => told_states(alloc, set),
-            AnySet::PlainClient(set) => told_states(alloc, set),
-            AnySet::InviteServer(set) => told_states(alloc, set),
-            AnySet::PlainServer(set) => told_states(alloc, set),
-            AnySet::InviteClient3261(set) => told_states(alloc, set),
-            AnySet::InviteServer3261(set) => told_states(alloc, set),
-        }
+        each_machine!(self, set => told_states(alloc, set))
     }
 
     /// Whether no run is left.
     pub fn is_empty(&self) -> bool
         ensures { IsTrue result ↔ IsEmpty self.now }
     {
-        match self {
-            AnySet::InviteClient(set) => set.is_empty(),
-            AnySet::PlainClient(set) => set.is_empty(),
-            AnySet::InviteServer(set) => set.is_empty(),
-            AnySet::PlainServer(set) => set.is_empty(),
-            AnySet::InviteClient3261(set) => set.is_empty(),
-            AnySet::InviteServer3261(set) => set.is_empty(),
-        }
+        each_machine!(self, set => set.is_empty())
     }
 }

@@ -1,18 +1,19 @@
 //! Laws of runs. The functions do nothing: their contracts are the laws.
 ghost use Rattle.std.specs.List.{Any};
 ghost use Rattle.std.specs.Prelude.{◌≡◌, ◌≤◌, ◌↔◌, ◌⊎◌, ◌++◌, ◌∷◌, [], ℕ, Bool, true, false, List, All, Contains};
-ghost use Rattle.sip_machine.specs.declared.event.Kind.TheVariants.{Request, Response};
-ghost use Rattle.sip_machine.specs.declared.event.Method.TheVariants.{Invite, Ack, Cancel};
-ghost use Rattle.sip_machine.specs.declared.event.Method.{Method};
-ghost use Rattle.sip_machine.specs.Figure.{Restarts};
-ghost use Rattle.sip_machine.specs.MachineEvent.{MachineEvent};
+ghost use Rattle.sip_standard.specs.declared.kind.Kind.TheVariants.{Request, Response};
+ghost use Rattle.sip_standard.specs.declared.kind.Method.TheVariants.{Invite, Ack, Cancel};
+ghost use Rattle.sip_standard.specs.declared.kind.Method.{Method};
+ghost use Rattle.sip_standard.specs.Figure.{Restarts};
+ghost use Rattle.sip_standard.specs.MachineEvent.{MachineEvent};
 ghost use Rattle.sip_standard.specs.Window.{open_at};
-ghost use Rattle.sip_machine.specs.Message.{IsFinal};
+ghost use Rattle.sip_standard.specs.Kind.{IsFinal};
 ghost use Rattle.sip_standard.specs.Times.{Times};
-ghost use Rattle.sip_states.specs.KeyMachine.{MachineKind, PhaseOf, machine_of, transaction_of, key_rules};
+ghost use Rattle.sip_standard.specs.KeyMachine.{MachineKind, machine_of, transaction_of};
+ghost use Rattle.sip_states.specs.KeySets.{PhaseOf, key_rules};
 ghost use Rattle.sip_states.specs.Runs.{Wait, RunGives, RuledRun, AfterRun};
-ghost use Rattle.sip_states.specs.Stands.{Stands, StandsBehind};
-ghost use Rattle.sip_key.specs.declared.role.Role.TheVariants.{Client, Server};
+ghost use Rattle.sip_standard.specs.Stands.{Stands, StandsBehind};
+ghost use Rattle.sip_standard.specs.declared.role.Role.TheVariants.{Client, Server};
 ghost use Rattle.sip_standard.specs.declared.action.Action.TheVariants.{Sent, Received};
 ghost use Rattle.sip_standard.specs.declared.rules.Rules.{Rules as BuiltBy};
 ghost use Rattle.sip_standard.specs.declared.rules.Rules.TheVariants.{R6026};

@@ -1,7 +1,7 @@
 //! What an event gives from states.
 ghost use Rattle.std.specs.Prelude.{◌≡◌, ◌≤◌, ◌++◌, List, All, IfOk, OnOk, OnErr, drop, length, take};
 ghost use Rattle.std.specs.Bool.{OnTrue, OnFalse};
-ghost use Rattle.sip_machine.specs.MachineEvent.{FitsBook, event_in};
+ghost use Rattle.sip_machine.specs.NumberedEvent.{FitsBook, event_in};
 ghost use Rattle.sip_machine.specs.Owing.{CodeOwing};
 ghost use Rattle.sip_machine.specs.Rules.{Covers, Knows, StandFor};
 ghost use Rattle.sip_states.specs.inner.Ways.{GivesAfter, GivesFrom};

@@ -1,3 +1,4 @@
+mod Answered
 mod AskedLemmas
 mod Slashes
 mod StatusLemmas

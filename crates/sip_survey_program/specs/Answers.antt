@@ -3,25 +3,24 @@ use Rattle.std.specs.Prelude.{◌≡◌, ℕ, List, Option, None, Some, IfSome}
 use Rattle.std.specs.Io.KnownBytes.{Appends}
 use Rattle.sip_verdict.specs.declared.finding.Finding.{Finding}
 use Rattle.sip_verdict.specs.declared.survey_end.SurveyEnd.{SurveyEnd}
-use Rattle.sip_verdict.specs.SurveyOf.{IsSurveyOf}
 use Rattle.sip_part.specs.Part.{PartOf}
-use Rattle.sip_verdict.specs.SurveyParts.{IsPartSurveyOf}
-use Rattle.sip_verdict.specs.SurveyText.{survey_text}
+use Rattle.sip_verdict.specs.SurveyParts.{IsPartToldOf}
+use Rattle.sip_verdict.specs.SurveyText.{IsToldOf}
 use Rattle.sip_survey_program.specs.declared.words.Asked.{Asked}
 use Rattle.sip_survey_program.specs.declared.words.Log.{Log}
 use Rattle.sip_survey_program.specs.declared.words.Log.TheVariants.{Input, File}
 use Rattle.sip_survey_program.specs.Asked.{IsAskedBy}
 use Rattle.sip_survey_program.specs.Status.{status_of}
 
--- the survey of the input, or of the part that is named
-abbrev pub IsSurveyFor : Option PartOf → List ℕ → List Finding → SurveyEnd → Type 0
-IsSurveyFor None input found end = IsSurveyOf input found end
-IsSurveyFor (Some part) input found end = IsPartSurveyOf part input found end
+-- the survey of the input, or of the part that is named, and its text
+abbrev pub IsSurveyFor : Option PartOf → List ℕ → List Finding → SurveyEnd → List ℕ → Type 0
+IsSurveyFor None input found end text = IsToldOf input found end text
+IsSurveyFor (Some part) input found end text = IsPartToldOf part input found end text
 
 -- this survey of the input is written, a line for each finding and a last one, and this is its status
 abbrev pub IsSurveyed : (part : Option PartOf) (input before after : Option (List ℕ)) → ℕ → Type 0
 IsSurveyed part input before after status =
-    IfSome input (λ bytes. (found : List Finding) × (end : SurveyEnd) × IsSurveyFor part bytes found end × Appends before after (survey_text found end)
+    IfSome input (λ bytes. (found : List Finding) × (end : SurveyEnd) × (text : List ℕ) × IsSurveyFor part bytes found end text × Appends before after text
     × (status ≡ status_of found end))
 
 -- the log that is asked for: the standard input, or what the file of that path has

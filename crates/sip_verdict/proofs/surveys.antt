@@ -10,6 +10,7 @@ pub mod FoundParts
 pub mod Gathering
 pub mod HasSurvey
 pub mod Hearing
+pub mod Histories
 pub mod IdleAgain
 pub mod Kept
 pub mod Lasting

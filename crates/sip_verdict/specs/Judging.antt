@@ -1,6 +1,6 @@
 -- What a judge that takes the entries of a log as they come stands for.
 use Rattle.std.specs.Prelude.{◌≡◌, ◌≢◌, ◌≤◌, ◌+◌, ℕ, List, [], ◌∷◌, ◌++◌, Option, Some, None, Result, Ok, Err, All, length}
-use Rattle.sip_key.specs.Key.{KeyParts}
+use Rattle.sip_standard.specs.Key.{KeyParts}
 use Rattle.sip_standard.specs.Times.{Times, last_moment}
 use Rattle.sip_machine.specs.Texts.{Texts}
 use Rattle.sip_states.specs.Runs.{RuledRun}
@@ -10,9 +10,10 @@ use Rattle.sip_verdict.specs.declared.stage.Stage.{Stage}
 use Rattle.sip_verdict.specs.declared.stage.Stage.TheVariants.{Open, Told, Failed}
 use Rattle.sip_verdict.specs.declared.step_error.StepError.{StepError}
 use Rattle.sip_verdict.specs.declared.step_error.StepError.TheVariants as errors
-use Rattle.sip_verdict.specs.declared.verdict.Verdict.{Verdict}
-use Rattle.sip_verdict.specs.declared.verdict.Verdict.TheVariants.{Legal}
-use Rattle.sip_verdict.specs.Keyed.{Observation, keys_of, events_of, newest_moment}
+use Rattle.sip_standard.specs.declared.verdict.Verdict.{Verdict}
+use Rattle.sip_standard.specs.declared.verdict.Verdict.TheVariants.{Legal}
+use Rattle.sip_standard.specs.Observation.{Observation}
+use Rattle.sip_verdict.specs.Keyed.{keys_of, events_of, newest_moment}
 use Rattle.sip_verdict.specs.Verdicts.{IsTrouble}
 use Rattle.sip_verdict.specs.MessageReading.{key_machines}
 use Rattle.sip_verdict.specs.Named.{WereNamed, key_messages}

@@ -1,15 +1,9 @@
-use Rattle.std.specs.Prelude.{ℕ, Bool, Option, List, [], ◌∷◌, ◌++◌, if◌then◌else◌, map, filter, fold, flat_map}
+use Rattle.std.specs.Prelude.{ℕ, Bool, List, [], ◌∷◌, ◌++◌, if◌then◌else◌, map, filter, fold, flat_map}
 use Rattle.std.specs.List.{list_any}
-use Rattle.sip_machine.specs.MachineEvent.{MachineEvent}
+use Rattle.sip_standard.specs.MachineEvent.{MachineEvent}
 use Rattle.sip_machine.specs.Rules.{Rules}
-use Rattle.sip_standard.specs.declared.fault.Fault.{Fault}
 use Rattle.sip_states.specs.Runs.{RuledRun}
-
--- what the verdict sees of an entry: the fault of its message, if it has one, its event, and the keys of the transactions that it concerns
-pub record Observation (K : Type 0) : Type 0 where
-  pub fault : Option Fault
-  pub event : MachineEvent
-  pub keys : List K
+use Rattle.sip_standard.specs.Observation.{Observation}
 
 -- how keys are compared, and the machine of each
 pub record Machines (K : Type 0) : Type 1 where

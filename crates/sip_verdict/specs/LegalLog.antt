@@ -2,10 +2,11 @@
 use Rattle.std.specs.Prelude.{◌≡◌, ℕ, false, List, All, IfSome}
 use Rattle.sip_standard.specs.Outcome.{gives}
 use Rattle.sip_standard.specs.Says.{Said, Says}
-use Rattle.sip_key.specs.declared.role.Direction.{Direction}
-use Rattle.sip_key.specs.Concerns.{lacks_cookie}
+use Rattle.sip_standard.specs.declared.role.Direction.{Direction}
+use Rattle.sip_standard.specs.Concerns.{lacks_cookie}
 use Rattle.sip_verdict.specs.Reading.{HasRuns}
-use Rattle.sip_verdict.specs.MessageReading.{direction_of, message_reading}
+use Rattle.sip_standard.specs.Observation.{direction_of}
+use Rattle.sip_verdict.specs.MessageReading.{message_reading}
 
 -- the bytes are a message of the grammar, RFC 3261 sections 7 and 25, with the cookie if it is a request that is sent, section 8.1.1.7
 abbrev pub IsFormed : Direction → List ℕ → Type 0

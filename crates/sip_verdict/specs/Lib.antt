@@ -3,17 +3,14 @@ pub mod Keyed
 pub mod LegalLog
 pub mod Listing
 pub mod ListingOf
-pub mod LogReason
 pub mod MessageReading
 pub mod Named
 pub mod Reading
-pub mod Rendering
 pub mod Showing
 pub mod SurveyLaws
 pub mod SurveyOf
 pub mod SurveyParts
 pub mod SurveyText
 pub mod Surveys
-pub mod VerdictOf
 pub mod Verdicts
 pub mod inner

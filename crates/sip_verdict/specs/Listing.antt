@@ -8,11 +8,12 @@ use Rattle.sip_standard.specs.LogEntry.{Item}
 use Rattle.sip_standard.specs.LogSays.{LogEnd}
 use Rattle.sip_log.specs.Log.{Readable, IsLogOf}
 use Rattle.sip_listing.specs.Lines.{AreLinesOf}
-use Rattle.sip_verdict.specs.declared.verdict.Verdict.{Verdict}
-use Rattle.sip_verdict.specs.declared.verdict.Verdict.TheVariants.{Legal, Malformed, Breach, Undecided, LogFault}
+use Rattle.sip_standard.specs.declared.verdict.Verdict.{Verdict}
+use Rattle.sip_standard.specs.declared.verdict.Verdict.TheVariants.{Legal, Malformed, Breach, Undecided, LogFault}
 use Rattle.sip_verdict.specs.declared.listing.Listing.{Listing}
 use Rattle.sip_verdict.specs.declared.listing.Listing.TheVariants.{Text, Stopped, NoEntry}
-use Rattle.sip_verdict.specs.Keyed.{Observation, Machines, keys_of, events_of}
+use Rattle.sip_standard.specs.Observation.{Observation}
+use Rattle.sip_verdict.specs.Keyed.{Machines, keys_of, events_of}
 use Rattle.sip_verdict.specs.Verdicts.{IsFirst}
 use Rattle.sip_verdict.specs.Reading.{EntryReading, BeginsWell, IsVerdictBy}
 

@@ -1,8 +1,8 @@
 -- The listing of an entry of a log of SIP messages.
 use Rattle.std.specs.Prelude.{ℕ, List}
-use Rattle.sip_key.specs.Key.{KeyParts}
+use Rattle.sip_standard.specs.Key.{KeyParts}
 use Rattle.sip_standard.specs.Times.{Times}
-use Rattle.sip_states.specs.KeyMachine.{machine_of_key}
+use Rattle.sip_standard.specs.KeyMachine.{machine_of_key}
 use Rattle.sip_listing.specs.Transaction.{transaction_text, state_text}
 use Rattle.sip_verdict.specs.declared.listing.Listing.{Listing}
 use Rattle.sip_verdict.specs.MessageReading.{key_machines, message_reading}

@@ -1,11 +1,13 @@
 -- Which messages of a log are still needed: those that a state of a transaction names.
 use Rattle.std.specs.Prelude.{◌≡◌, ◌≢◌, ◌≤◌, ◌↔◌, ◌+◌, ℕ, List, ◌++◌, AllPairs, Contains, length, map}
-use Rattle.sip_key.specs.Key.{KeyParts}
+use Rattle.sip_standard.specs.Key.{KeyParts}
 use Rattle.sip_standard.specs.Times.{Times}
 use Rattle.sip_machine.specs.Told.{messages_told}
 use Rattle.sip_states.specs.Runs.{RuledRun}
-use Rattle.sip_states.specs.KeyMachine.{MachineKind, PhaseOf, machine_of_key, coded_of}
-use Rattle.sip_verdict.specs.Keyed.{Observation, Machines, events_of, newest_moment}
+use Rattle.sip_standard.specs.KeyMachine.{MachineKind, machine_of_key}
+use Rattle.sip_states.specs.KeySets.{PhaseOf, coded_of}
+use Rattle.sip_standard.specs.Observation.{Observation}
+use Rattle.sip_verdict.specs.Keyed.{Machines, events_of, newest_moment}
 
 -- the messages that a state names: those that its phase tells, and what is owed
 abbrev pub messages_of : (machine : MachineKind) → PhaseOf machine → List (List ℕ)

@@ -2,11 +2,11 @@ use Rattle.std.specs.Prelude.{◌≡◌, ◌+◌, ◌⊎◌, [], ◌∷◌, ◌+
 use Rattle.sip_standard.specs.Times.{Times}
 use Rattle.sip_standard.specs.LogEntry.{Item}
 use Rattle.sip_standard.specs.LogSays.{LogEnd, Clean, Stops, LogSays, LacksHeader}
-use Rattle.sip_verdict.specs.declared.log_reason.LogReason.TheVariants.{Header}
-use Rattle.sip_verdict.specs.declared.verdict.Verdict.{Verdict}
-use Rattle.sip_verdict.specs.declared.verdict.Verdict.TheVariants.{Legal, LogFault}
-use Rattle.sip_verdict.specs.LogReason.{reason_of}
-use Rattle.sip_verdict.specs.Keyed.{Observation, Machines, keys_of}
+use Rattle.sip_standard.specs.declared.log_reason.LogReason.TheVariants.{Header}
+use Rattle.sip_standard.specs.declared.verdict.Verdict.{Verdict}
+use Rattle.sip_standard.specs.declared.verdict.Verdict.TheVariants.{Legal, LogFault}
+use Rattle.sip_standard.specs.Observation.{Observation}
+use Rattle.sip_verdict.specs.Keyed.{Machines, keys_of}
 use Rattle.sip_verdict.specs.Verdicts.{AllRun, IsFine, IsGood, IsTrouble}
 
 -- The verdict of an input of any bytes, whatever its messages are.
@@ -20,7 +20,7 @@ pub record EntryReading (K : Type 0) : Type 1 where
 -- cannot be read; or that of the next entry, if it is in trouble, and if it is not, that of what is left after it
 abbrev pub Judges : {K : Type 0} → EntryReading K → Times → List (Observation K) → List Item → LogEnd → Verdict → Type 0
 Judges r times es [] Clean v = v ≡ Legal (length es) (length (keys_of (r.machines times) es))
-Judges r times es [] (Stops fault) v = v ≡ LogFault (length es + 1) (reason_of fault)
+Judges r times es [] (Stops fault) v = v ≡ LogFault (length es + 1) fault
 Judges {K} r times es (item ∷ items) end v =
     (e : Observation K) × r.Observes es item e
     × (IsTrouble (r.machines times) es e v ⊎ (IsFine (r.machines times) es e × Judges r times (es ++ e ∷ []) items end v))

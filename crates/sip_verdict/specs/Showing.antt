@@ -6,29 +6,23 @@ use Rattle.sip_standard.specs.LogSays.{line_feed, LogEnd, Clean, Stops}
 use Rattle.sip_standard.specs.LogEntry.{entry_says, Item}
 use Rattle.sip_log.specs.Log.{Faulty, Readable, IsLogOf}
 use Rattle.sip_standard.specs.declared.fault.Fault.{Fault}
-use Rattle.sip_message.specs.Message.{Message, Spells}
 use Rattle.sip_standard.specs.Outcome.{stops}
 use Rattle.sip_standard.specs.Says.{Says}
-use Rattle.sip_message.specs.Canon.{canon}
-use Rattle.sip_verdict.specs.declared.log_reason.LogReason.TheVariants as reasons
-use Rattle.sip_verdict.specs.declared.verdict.Verdict.TheVariants as verdicts
 use Rattle.sip_verdict.specs.declared.shown.Shown.{Shown}
 use Rattle.sip_verdict.specs.declared.shown.Shown.TheVariants.{End, Malformed, LogFault}
-use Rattle.sip_verdict.specs.LogReason.{reason_of}
 use Rattle.sip_verdict.specs.Listing.{has_message}
-use Rattle.sip_verdict.specs.Rendering.{rendered}
+use Rattle.sip_standard.specs.Rendering.{rendered}
+use Rattle.sip_standard.specs.Canonical.{IsCanonical}
+use Rattle.sip_standard.specs.declared.log_reason.LogReason.TheVariants as reasons
+use Rattle.sip_standard.specs.declared.verdict.Verdict.TheVariants as verdicts
 
 -- What is shown of an input: its entries, one after another, each with its message in the canonical form.
 
--- the canonical form of the message that bytes spell
-abbrev pub IsCanon : List ℕ → List ℕ → Type 0
-IsCanon bytes text = (m : Message) × Spells bytes m × (text ≡ canon m)
-
 -- what stands for an entry's message: its canonical form, and nothing where it has none
 abbrev pub IsCanonOf : Action → List ℕ → List ℕ → Type 0
-IsCanonOf Sent bytes text = IsCanon bytes text
-IsCanonOf Received bytes text = IsCanon bytes text
-IsCanonOf Failed bytes text = IsCanon bytes text
+IsCanonOf Sent bytes text = IsCanonical bytes text
+IsCanonOf Received bytes text = IsCanonical bytes text
+IsCanonOf Failed bytes text = IsCanonical bytes text
 IsCanonOf Mark bytes text = text ≡ []
 IsCanonOf Restart bytes text = text ≡ []
 
@@ -52,7 +46,7 @@ last_text (LogFault entry reason) = rendered (verdicts.LogFault entry reason)
 abbrev pub EndsAs : ℕ → List Item → LogEnd → Shown → Type 0
 EndsAs count (e ∷ rest) end shown = (fault : Fault) × (has_message e.action ≡ true) × Says e.text (stops fault) × (shown ≡ Malformed (count + 1) fault)
 EndsAs count [] Clean shown = shown ≡ End count
-EndsAs count [] (Stops fault) shown = shown ≡ LogFault (count + 1) (reason_of fault)
+EndsAs count [] (Stops fault) shown = shown ≡ LogFault (count + 1) fault
 
 -- what is shown of an input with a header
 pub record ShowsEntries (input text : List ℕ) (shown : Shown) : Type 0 where

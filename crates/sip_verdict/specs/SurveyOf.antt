@@ -1,19 +1,18 @@
 -- The survey of an input: all that is wrong in its log, each transaction being judged for itself.
 use Rattle.std.specs.Prelude.{◌≡◌, ◌↔◌, ◌+◌, ◌<◌, ◌⊎◌, ℕ, Some, List, [], ◌∷◌, ◌++◌, length, Contains, AllPairs, ⊤}
-use Rattle.sip_key.specs.Key.{KeyParts}
+use Rattle.sip_standard.specs.Key.{KeyParts}
 use Rattle.sip_standard.specs.Times.{Times}
 use Rattle.sip_standard.specs.LogEntry.{Item}
 use Rattle.sip_standard.specs.LogSays.{LogEnd, Clean, Stops, LogSays, LacksHeader}
 use Rattle.sip_verdict.specs.declared.finding.Finding.{Finding}
 use Rattle.sip_verdict.specs.declared.finding.Finding.TheVariants.{Malformed, Breach, Undecided}
 use Rattle.sip_verdict.specs.declared.survey_end.SurveyEnd.{SurveyEnd}
+use Rattle.sip_standard.specs.declared.log_reason.LogReason.TheVariants.{Header}
+use Rattle.sip_standard.specs.declared.verdict.Verdict.{Verdict}
+use Rattle.sip_standard.specs.Observation.{Observation}
+use Rattle.sip_standard.specs.VerdictOf.{keys_in, Sees, RunsOver, IsWideAt}
 use Rattle.sip_verdict.specs.declared.survey_end.SurveyEnd.TheVariants as ended
-use Rattle.sip_verdict.specs.declared.log_reason.LogReason.TheVariants.{Header}
-use Rattle.sip_verdict.specs.declared.verdict.Verdict.{Verdict}
-use Rattle.sip_verdict.specs.declared.verdict.Verdict.TheVariants as verdicts
-use Rattle.sip_verdict.specs.LogReason.{reason_of}
-use Rattle.sip_verdict.specs.Keyed.{Observation}
-use Rattle.sip_verdict.specs.VerdictOf.{keys_in, Sees, RunsOver, IsWideAt}
+use Rattle.sip_standard.specs.declared.verdict.Verdict.TheVariants as verdicts
 
 -- the transaction is in no trouble over the entries: it has a run over them, and it was too wide at none of them
 abbrev pub IsSound : Times → List (Observation KeyParts) → KeyParts → Type 0
@@ -56,7 +55,7 @@ AreFoundAt p front e found = AllPairs Precedes found × ((f : Finding) → Conta
 -- what is found at the entries that are left after these, one after another, and how they end
 abbrev pub IsSurveyAfter : Times → List (Observation KeyParts) → List Item → LogEnd → List Finding → SurveyEnd → Type 0
 IsSurveyAfter p es [] Clean found end = (found ≡ []) × (end ≡ ended.Clean (length es) (length (keys_in es)))
-IsSurveyAfter p es [] (Stops fault) found end = (found ≡ []) × (end ≡ ended.LogFault (length es + 1) (reason_of fault))
+IsSurveyAfter p es [] (Stops fault) found end = (found ≡ []) × (end ≡ ended.LogFault (length es + 1) fault)
 IsSurveyAfter p es (item ∷ items) close found end =
     (e : Observation KeyParts) × (here : List Finding) × (later : List Finding) × Sees es item e × (found ≡ here ++ later)
     × AreFoundAt p es e here × IsSurveyAfter p (es ++ e ∷ []) items close later end

@@ -3,15 +3,18 @@ use Rattle.std.specs.Prelude.{◌≡◌, ◌⊎◌, ℕ, MatchOption, List, [], 
 use Rattle.sip_standard.specs.declared.action.Action.TheVariants.{Mark}
 use Rattle.sip_standard.specs.Times.{Times}
 use Rattle.sip_standard.specs.LogEntry.{Item}
-use Rattle.sip_standard.specs.LogSays.{LogEnd}
-use Rattle.sip_standard.specs.LogSays.{LogSays, LacksHeader}
+use Rattle.sip_standard.specs.LogSays.{LogEnd, LogSays, LacksHeader}
 use Rattle.sip_part.specs.Part.{PartOf, TellsBranch, falls_into}
 use Rattle.sip_verdict.specs.declared.finding.Finding.{Finding}
 use Rattle.sip_verdict.specs.declared.survey_end.SurveyEnd.{SurveyEnd}
-use Rattle.sip_verdict.specs.declared.survey_end.SurveyEnd.TheVariants as ended
-use Rattle.sip_verdict.specs.declared.log_reason.LogReason.TheVariants.{Header}
-use Rattle.sip_verdict.specs.MessageReading.{direction_of}
+use Rattle.sip_standard.specs.declared.log_reason.LogReason.TheVariants.{Header}
+use Rattle.sip_standard.specs.Observation.{direction_of, Observation}
 use Rattle.sip_verdict.specs.SurveyOf.{IsSurveyAfter}
+use Rattle.sip_standard.specs.Key.{KeyParts}
+use Rattle.sip_verdict.specs.MessageReading.{message_reading}
+use Rattle.sip_verdict.specs.Reading.{AreObserved}
+use Rattle.sip_verdict.specs.SurveyText.{IsSurveyText}
+use Rattle.sip_verdict.specs.declared.survey_end.SurveyEnd.TheVariants as ended
 
 -- an item as it is in the log of the part: itself where it has no message or its message falls into the part, and else a mark of its moment
 abbrev pub IsPartItem : PartOf → Item → Item → Type 0
@@ -30,3 +33,13 @@ abbrev pub IsPartSurveyOf : PartOf → List ℕ → List Finding → SurveyEnd �
 IsPartSurveyOf part input found end =
     (LacksHeader input × (found ≡ []) × (end ≡ ended.LogFault 0 Header))
     ⊎ ((p : Times) × (items : List Item) × (close : LogEnd) × (cuts : List Item) × LogSays input p items close × IsPartLog part items cuts × IsSurveyAfter p [] cuts close found end)
+
+-- what is observed of the entries of the log of the part
+abbrev pub ArePartEntriesOf : PartOf → List ℕ → List (Observation KeyParts) → Type 0
+ArePartEntriesOf part input es =
+    (LacksHeader input × (es ≡ []))
+    ⊎ ((p : Times) × (items : List Item) × (close : LogEnd) × (cuts : List Item) × LogSays input p items close × IsPartLog part items cuts × AreObserved message_reading [] cuts es)
+
+-- the survey of a part of an input, and its text
+abbrev pub IsPartToldOf : PartOf → List ℕ → List Finding → SurveyEnd → List ℕ → Type 0
+IsPartToldOf part input found end text = IsPartSurveyOf part input found end × ((es : List (Observation KeyParts)) × ArePartEntriesOf part input es × IsSurveyText es found end text)

@@ -1,19 +1,24 @@
 -- What a survey that takes the entries of a log as they come stands for.
-use Rattle.std.specs.Prelude.{◌≡◌, ◌≢◌, ◌≤◌, ◌+◌, ℕ, Bool, true, false, List, ◌++◌, Option, Some, None, Result, Err, Contains, length}
-use Rattle.sip_key.specs.Key.{KeyParts}
+use Rattle.std.specs.Prelude.{◌≡◌, ◌≢◌, ◌≤◌, ◌+◌, ℕ, Bool, true, false, List, ◌++◌, Option, Some, None, Result, Err, Contains, length, max, slice_get}
+use Rattle.sip_standard.specs.Key.{KeyParts}
 use Rattle.sip_standard.specs.Times.{Times}
 use Rattle.sip_machine.specs.Texts.{Texts}
 use Rattle.sip_states.specs.Runs.{RuledRun}
 use Rattle.sip_states.specs.Tables.{Tabled}
 use Rattle.sip_verdict.specs.declared.step_error.StepError.{StepError}
-use Rattle.sip_verdict.specs.declared.step_error.StepError.TheVariants as errors
 use Rattle.sip_verdict.specs.declared.survey_end.SurveyEnd.{SurveyEnd}
-use Rattle.sip_verdict.specs.declared.survey_end.SurveyEnd.TheVariants as ended
-use Rattle.sip_verdict.specs.Keyed.{Observation, events_of, newest_moment}
+use Rattle.sip_standard.specs.Observation.{Observation}
+use Rattle.sip_verdict.specs.Keyed.{events_of, newest_moment}
 use Rattle.sip_verdict.specs.MessageReading.{key_machines}
 use Rattle.sip_verdict.specs.Named.{AreMany, key_messages}
 use Rattle.sip_verdict.specs.SurveyOf.{IsSound}
 use Rattle.sip_verdict.specs.inner.Surveying.{TablesSurvey}
+use Rattle.sip_verdict.specs.declared.histories.Histories.{Histories}
+use Rattle.sip_verdict.specs.declared.histories.History.{History}
+use Rattle.sip_verdict.specs.SurveyText.{IsFirstOf, IsLastOf}
+use Rattle.sip_standard.specs.VerdictOf.{keys_in}
+use Rattle.sip_verdict.specs.declared.step_error.StepError.TheVariants as errors
+use Rattle.sip_verdict.specs.declared.survey_end.SurveyEnd.TheVariants as ended
 
 -- a state in which a run of a key in no trouble over the entries can stand at the newest names the message
 pub record IsStillNamed (p : Times) (es : List (Observation KeyParts)) (text : List ℕ) : Type 0 where
@@ -34,14 +39,26 @@ pub record WereStillNamed (p : Times) (es : List (Observation KeyParts)) (count 
 abbrev pub AreFewKept : Times → List (Observation KeyParts) → ℕ → Type 0
 AreFewKept p es kept = (named : ℕ) × WereStillNamed p es named × (kept ≤ named + named + 64)
 
--- what a survey holds: the number and the moment of its newest entry, the messages that it keeps, the set of each key, which of them are in trouble, how
--- many messages its last sweep left, and whether it failed
+-- the history tells the first of the entries that concern the transaction, with its branch, and the last one, which may be the newest restart
+pub record IsHistoryOf (es : List (Observation KeyParts)) (restart : ℕ) (key : KeyParts) (h : History) : Type 0 where
+  pub first : IsFirstOf es key h.first h.branch.items
+  pub last : IsLastOf es key (max h.last restart)
+
+-- so it is of each transaction of the entries
+pub record AreHistories (es : List (Observation KeyParts)) (b : Histories) : Type 0 where
+  pub long : length b.each.items ≡ length (keys_in es)
+  pub restart : b.restart ≤ length es
+  pub each : (n : ℕ) (key : KeyParts) (h : History) → slice_get (keys_in es) n ≡ Some key → slice_get b.each.items n ≡ Some h → IsHistoryOf es b.restart key h
+
+-- what a survey holds: the number and the moment of its newest entry, the messages that it keeps, the set of each key, which of them are in trouble, the
+-- history of each, how many messages its last sweep left, and whether it failed
 pub record Surveying : Type 0 where
   pub number : ℕ
   pub moment : ℕ
   pub texts : Texts
   pub tables : Tabled
   pub deaf : List Bool
+  pub histories : Histories
   pub left : ℕ
   pub failed : Bool
 
@@ -57,6 +74,7 @@ pub record SurveysFor (s : Surveying) (es : List (Observation KeyParts)) : Type 
   pub number : s.number ≡ length es
   pub moment : s.moment ≡ newest_moment es
   pub follows : AreSurveyed s.texts s.tables s.deaf s.left es
+  pub histories : AreHistories es s.histories
 
 -- what a survey can answer: after a failure that it failed
 abbrev pub MayAnswer : Bool → Result Unit StepError → Type 0

@@ -1,8 +1,9 @@
 use Rattle.std.specs.Prelude.{◌≡◌, ◌+◌, ℕ, true, Some, None, List, [], ◌∷◌, ◌++◌, length, All}
-use Rattle.sip_verdict.specs.declared.verdict.Verdict.{Verdict}
-use Rattle.sip_verdict.specs.declared.verdict.Verdict.TheVariants.{Malformed, Breach, Undecided}
+use Rattle.sip_standard.specs.declared.verdict.Verdict.{Verdict}
+use Rattle.sip_standard.specs.declared.verdict.Verdict.TheVariants.{Malformed, Breach, Undecided}
 use Rattle.sip_states.specs.Runs.{AfterRun, IsWide}
-use Rattle.sip_verdict.specs.Keyed.{Observation, Machines, concerns, keys_of, events_of, HasRun}
+use Rattle.sip_standard.specs.Observation.{Observation}
+use Rattle.sip_verdict.specs.Keyed.{Machines, concerns, keys_of, events_of, HasRun}
 
 -- The entries of a log that are in trouble.
 

@@ -1,20 +1,22 @@
 //! What is found at an entry.
 ghost use Rattle.std.specs.Prelude.{◌≡◌, ◌≤◌, ◌+◌, ◌++◌, ◌∷◌, [], List, All, Contains, IfOk, OnOk, length};
-ghost use Rattle.sip_key.specs.Key.{KeyParts};
+ghost use Rattle.sip_standard.specs.Key.{KeyParts};
 ghost use Rattle.sip_standard.specs.Times.{last_moment};
 ghost use Rattle.sip_standard.specs.LogSays.{most_entries};
 ghost use Rattle.sip_log.specs.Told.{item};
 ghost use Rattle.sip_verdict.specs.declared.finding.Finding.{Finding};
-ghost use Rattle.sip_verdict.specs.Keyed.{Observation, newest_moment};
+ghost use Rattle.sip_standard.specs.Observation.{Observation};
+ghost use Rattle.sip_verdict.specs.Keyed.{newest_moment};
 ghost use Rattle.sip_verdict.specs.MessageReading.{message_reading, ConcernsNone};
-ghost use Rattle.sip_verdict.specs.VerdictOf.{keys_in};
+ghost use Rattle.sip_standard.specs.VerdictOf.{keys_in};
 ghost use Rattle.sip_verdict.specs.SurveyOf.{AreFoundAt};
-ghost use Rattle.sip_verdict.specs.Surveys.{AreSurveyed};
+ghost use Rattle.sip_verdict.specs.Surveys.{AreHistories, AreSurveyed};
 ghost use Rattle.sip_verdict.specs.inner.TablesTracking.{is_among, MayTake};
 ghost use Rattle.sip_verdict.specs.inner.Surveying.{ArePassing, AreWatched, IsFresh, TablesSurvey, fault_listing};
 
 use crate::concerned::Concerned;
 use crate::finding::Finding;
+use crate::histories::Histories;
 use crate::observing::{Told, observe};
 use crate::passing::Hearing;
 use crate::releasing::pass_each;
@@ -28,11 +30,12 @@ use std::alloc::{AllocError, Global};
 use std::hash::BuildHasher;
 
 /// Takes the entry that comes next: the fault of its message, if it has one. Which transactions come into trouble is added to those
-/// that are.
+/// that are, and the entry is noted of those that it concerns.
 fn take<H: BuildHasher>(
     alloc: Global,
     standing: &mut Standing<H>,
     troubled: &mut Troubled,
+    histories: &mut Histories,
     entry: &Entry,
 ) -> Result<Option<Fault>, AllocError>
     requires limit { entry.now.moment ≤ last_moment }
@@ -43,6 +46,8 @@ fn take<H: BuildHasher>(
     ensures may { OnOk result (MayTake standing.new.book standing.new.tables (entry.now.number + 1) entry.now.moment) }
     ensures watched { OnOk result (AreWatched [] standing.new.tables troubled.new) }
     ensures keyless { OnOk result (ConcernsNone (item entry.now) → standing.new.book ≡ standing.old.book) }
+    ensures histories { OnOk result ((es : List (Observation KeyParts)) (e : Observation KeyParts) → AreHistories es histories.old → standing.old.tables.keys ≡ keys_in es
+        → entry.now.number ≡ length es + 1 → message_reading.Observes es (item entry.now) e → AreHistories (es ++ e ∷ []) histories.new) }
     ensures taken { IfOk result (λ fault. (es : List (Observation KeyParts)) → IsFresh troubled.old → TablesSurvey standing.old.book es standing.old.tables troubled.old.deaf.items
         → newest_moment es ≤ entry.now.moment
         → (e : Observation KeyParts) × message_reading.Observes es (item entry.now) e × (e.fault ≡ fault) × (e.event.moment ≡ entry.now.moment)
@@ -74,6 +79,7 @@ fn take<H: BuildHasher>(
         }
         Told::Restart => {
             standing.tables.known();
+            histories.restart = entry.number;
             let event = Event::restart(entry.moment);
             let concerned = Concerned::All;
             let hearing = Hearing { event, concerned };
@@ -89,6 +95,7 @@ fn take<H: BuildHasher>(
         Told::Heard { event, concerned } => {
             let concerned = touch_each(&mut standing.tables, concerned)?;
             troubled.grow(standing.tables.len())?;
+            histories.note_each(alloc, concerned, entry)?;
             standing.tables.known();
             let hearing = Hearing { event, concerned };
             pass_each(
@@ -120,6 +127,7 @@ fn find<H: BuildHasher>(
     alloc: Global,
     standing: &mut Standing<H>,
     troubled: &mut Troubled,
+    histories: &mut Histories,
     entry: &Entry,
     found: &mut Vec<Finding>,
 ) -> Result<(), AllocError>
@@ -133,6 +141,8 @@ fn find<H: BuildHasher>(
     ensures watched { OnOk result (AreWatched [] standing.new.tables troubled.new) }
     ensures fresh { OnOk result (IsFresh troubled.new) }
     ensures keyless { OnOk result (ConcernsNone (item entry.now) → standing.new.book ≡ standing.old.book) }
+    ensures histories { OnOk result ((es : List (Observation KeyParts)) (e : Observation KeyParts) → AreHistories es histories.old → standing.old.tables.keys ≡ keys_in es
+        → entry.now.number ≡ length es + 1 → message_reading.Observes es (item entry.now) e → AreHistories (es ++ e ∷ []) histories.new) }
     ensures front { (more : List Finding) × (found.new.items ≡ found.old.items ++ more) }
     ensures found { OnOk result ((es : List (Observation KeyParts)) → TablesSurvey standing.old.book es standing.old.tables troubled.old.deaf.items
         → entry.now.number ≡ length es + 1 → newest_moment es ≤ entry.now.moment
@@ -140,7 +150,7 @@ fn find<H: BuildHasher>(
         × AreFoundAt standing.old.tables.times es e here × (found.new.items ≡ found.old.items ++ here)
         × TablesSurvey standing.new.book (es ++ e ∷ []) standing.new.tables troubled.new.deaf.items) }
 {
-    let fault = take(alloc, standing, troubled, entry)?;
+    let fault = take(alloc, standing, troubled, histories, entry)?;
     push_fault(entry.number, fault, found)?;
     troubled.tell(entry.number, found)
 }
@@ -151,6 +161,7 @@ pub(crate) fn find_next<H: BuildHasher>(
     alloc: Global,
     standing: &mut Standing<H>,
     troubled: &mut Troubled,
+    histories: &mut Histories,
     left: &mut usize,
     entry: &Entry,
     found: &mut Vec<Finding>,
@@ -167,6 +178,8 @@ pub(crate) fn find_next<H: BuildHasher>(
     ensures fresh { OnOk result (IsFresh troubled.new) }
     ensures left { left.new ≤ most_entries + 1 }
     ensures keyless { OnOk result (ConcernsNone (item entry.now) → All (Contains standing.old.book) standing.new.book) }
+    ensures histories { OnOk result ((es : List (Observation KeyParts)) (e : Observation KeyParts) → AreHistories es histories.old → standing.old.tables.keys ≡ keys_in es
+        → entry.now.number ≡ length es + 1 → message_reading.Observes es (item entry.now) e → AreHistories (es ++ e ∷ []) histories.new) }
     ensures front { (more : List Finding) × (found.new.items ≡ found.old.items ++ more) }
     ensures found { OnOk result ((es : List (Observation KeyParts)) → AreSurveyed standing.old.book standing.old.tables troubled.old.deaf.items left.old es
         → entry.now.number ≡ length es + 1 → newest_moment es ≤ entry.now.moment
@@ -174,7 +187,7 @@ pub(crate) fn find_next<H: BuildHasher>(
         × AreFoundAt standing.old.tables.times es e here × (found.new.items ≡ found.old.items ++ here)
         × AreSurveyed standing.new.book standing.new.tables troubled.new.deaf.items left.new (es ++ e ∷ [])) }
 {
-    find(alloc, standing, troubled, entry, found)?;
+    find(alloc, standing, troubled, histories, entry, found)?;
     if standing.kept() <= 2 * *left + SPARE {
         return Ok(());
     }

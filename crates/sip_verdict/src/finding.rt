@@ -2,8 +2,7 @@
 ghost use Rattle.std.specs.Prelude.{◌≡◌};
 ghost use Rattle.sip_verdict.specs.SurveyOf.{verdict_of};
 
-use crate::verdict::Verdict;
-use sip_standard::Fault;
+use sip_standard::{Fault, Verdict};
 
 /// What a survey finds at an entry. Entries and transactions are numbered from 1, as in a verdict.
 #[derive(Clone, Copy, Debug, PartialEq, Eq)]

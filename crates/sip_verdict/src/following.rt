@@ -1,23 +1,26 @@
 //! A survey that takes the entries of a log as they come.
-ghost use Rattle.std.specs.Prelude.{◌≡◌, ◌↔◌, ◌++◌, ◌∷◌, [], false, List, Some, All, Contains, IsTrue, OnOk, OnErr, length};
+ghost use Rattle.std.specs.Prelude.{◌≡◌, ◌<◌, ◌-◌, ◌↔◌, ◌++◌, ◌∷◌, [], false, List, Some, All, Contains, IfSome, IsSomeAnd, IsTrue, OnOk, OnErr, length, slice_get};
 ghost use Rattle.std.specs.Result.{is_err};
-ghost use Rattle.sip_key.specs.Key.{KeyParts};
+ghost use Rattle.sip_standard.specs.Key.{KeyParts};
 ghost use Rattle.sip_log.specs.Told.{item};
 ghost use Rattle.sip_verdict.specs.declared.finding.Finding.{Finding};
 ghost use Rattle.sip_verdict.specs.declared.survey_end.SurveyEnd.TheVariants.{Clean};
-ghost use Rattle.sip_verdict.specs.Keyed.{Observation};
+ghost use Rattle.sip_standard.specs.Observation.{Observation};
 ghost use Rattle.sip_verdict.specs.MessageReading.{message_reading, ConcernsNone};
-ghost use Rattle.sip_verdict.specs.VerdictOf.{keys_in};
+ghost use Rattle.sip_standard.specs.VerdictOf.{keys_in};
 ghost use Rattle.sip_verdict.specs.SurveyOf.{AreFoundAt};
+ghost use Rattle.sip_verdict.specs.SurveyText.{IsFirstOf, IsLastOf};
 ghost use Rattle.sip_verdict.specs.Judging.{MayComeNext};
 ghost use Rattle.sip_verdict.specs.Surveys.{AreFewKept, MayAnswer, SurveysFor, end_after};
 
 use crate::entries::find_next;
 use crate::finding::Finding;
+use crate::histories::Histories;
 use crate::standing::Standing;
 use crate::step_error::StepError;
 use crate::stream::may_come_next;
 use crate::survey_end::SurveyEnd;
+use crate::transaction::Transaction;
 use crate::troubled::Troubled;
 use sip_log::Entry;
 use sip_machine::Params;
@@ -32,6 +35,7 @@ pub struct Survey<H: BuildHasher> {
     alloc: Global,
     standing: Standing<H>,
     troubled: Troubled,
+    histories: Histories,
     number: u32,
     moment: u64,
     left: usize,
@@ -47,7 +51,7 @@ impl<H: BuildHasher> Model for Survey<H> {
 
     ghost Value = { Surveying };
 
-    ghost view = { λ s. record { number = s.number; moment = s.moment; texts = s.standing.book; tables = s.standing.tables; deaf = s.troubled.deaf.items; left = s.left; failed = s.failed } };
+    ghost view = { λ s. record { number = s.number; moment = s.moment; texts = s.standing.book; tables = s.standing.tables; deaf = s.troubled.deaf.items; histories = s.histories; left = s.left; failed = s.failed } };
 
     ghost invariant = { λ s. s.failed ≡ false → MayTake s.standing.book s.standing.tables (s.number + 1) s.moment × AreWatched [] s.standing.tables s.troubled
         × IsFresh s.troubled × (s.left ≤ most_entries + 1) };
@@ -63,6 +67,7 @@ impl<H: BuildHasher + Drop> Survey<H> {
             alloc,
             standing: Standing::new(alloc, params, hasher),
             troubled: Troubled::new(alloc),
+            histories: Histories::new(alloc),
             number: 0,
             moment: 0,
             left: 0,
@@ -100,6 +105,7 @@ impl<H: BuildHasher + Drop> Survey<H> {
             self.alloc,
             &mut self.standing,
             &mut self.troubled,
+            &mut self.histories,
             &mut self.left,
             entry,
             found,
@@ -128,6 +134,21 @@ impl<H: BuildHasher + Drop> Survey<H> {
         Some(SurveyEnd::Clean {
             entries: self.number,
             transactions: self.standing.transactions(),
+        })
+    }
+
+    /// The transaction with this number, by which a finding names it; None where no transaction has it.
+    pub fn transaction(&self, number: u32) -> Option<Transaction<'_>>
+        ensures { (es : List (Observation KeyParts)) → SurveysFor self.now es → 0 < number
+            → IfSome (slice_get (keys_in es) (number - 1)) (λ key. IsSomeAnd result (λ t. (t.key.now ≡ key) × IsFirstOf es key t.first t.branch.now × IsLastOf es key t.last)) }
+    {
+        let key = self.standing.key(number)?;
+        let history = self.histories.each.get(number as usize - 1)?;
+        Some(Transaction {
+            key,
+            branch: history.branch.as_slice(),
+            first: history.first,
+            last: history.last.max(self.histories.restart),
         })
     }
 

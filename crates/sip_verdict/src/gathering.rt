@@ -6,11 +6,10 @@ ghost use Rattle.sip_verdict.specs.inner.SurveyingLogs.{IsSurveyAt, SurveysRead}
 
 use crate::finding::Finding;
 use crate::following::Survey;
-use crate::judge_error::JudgeError;
-use crate::log_reason::LogReason;
 use crate::reading::{Next, read_header, read_next};
 use crate::survey_end::SurveyEnd;
 use sip_log::{Progress, Source};
+use sip_standard::{JudgeError, LogReason};
 use std::alloc::Global;
 use std::hash::BuildHasher;
 

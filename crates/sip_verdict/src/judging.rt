@@ -1,14 +1,13 @@
 //! Judges a log from its first byte to its verdict.
 ghost use Rattle.std.specs.Prelude.{◌≡◌, true, false, List, Option, ℕ, IfSome, IfOk, OnOk, IsErrOf};
 ghost use Rattle.sip_log.specs.Reading.{beside_source};
-ghost use Rattle.sip_verdict.specs.VerdictOf.{IsVerdictOf};
+ghost use Rattle.sip_standard.specs.VerdictOf.{IsVerdictOf};
 ghost use Rattle.sip_verdict.specs.inner.Sweeping.{IsAt, StandsForRead};
 
-use crate::judge_error::JudgeError;
 use crate::reading::{Next, read_header, read_next};
 use crate::stream::Judge;
-use crate::verdict::Verdict;
 use sip_log::{Progress, Source};
+use sip_standard::{JudgeError, Verdict};
 use std::alloc::Global;
 use std::hash::BuildHasher;
 

@@ -1,13 +1,14 @@
 //! Laws of verdicts. The functions do nothing: their contracts are the laws.
 ghost use Rattle.std.specs.Prelude.{◌≡◌, ◌↔◌, ◌≤◌, ◌++◌, ℕ, List, AllPairs};
-ghost use Rattle.sip_verdict.specs.VerdictOf.{IsVerdictOf};
+ghost use Rattle.sip_standard.specs.VerdictOf.{IsVerdictOf};
 ghost use Rattle.sip_verdict.specs.LegalLog.{IsLegalLog};
-ghost use Rattle.sip_verdict.specs.declared.verdict.Verdict.TheVariants.{Legal};
-ghost use Rattle.sip_verdict.specs.declared.verdict.Verdict.{Verdict as VerdictValue};
-ghost use Rattle.sip_verdict.specs.Keyed.{Observation, HasRun};
+ghost use Rattle.sip_standard.specs.declared.verdict.Verdict.TheVariants.{Legal};
+ghost use Rattle.sip_standard.specs.declared.verdict.Verdict.{Verdict as VerdictValue};
+ghost use Rattle.sip_standard.specs.Observation.{Observation};
+ghost use Rattle.sip_verdict.specs.Keyed.{HasRun};
 ghost use Rattle.sip_verdict.specs.MessageReading.{key_machines, message_reading};
 ghost use Rattle.sip_verdict.specs.Reading.{IsVerdictBy};
-ghost use Rattle.sip_key.specs.Key.{KeyParts};
+ghost use Rattle.sip_standard.specs.Key.{KeyParts};
 ghost use Rattle.sip_standard.specs.declared.format.Format.{Format};
 ghost use Rattle.sip_standard.specs.declared.format.Format.TheVariants.{One, Two};
 ghost use Rattle.sip_standard.specs.LogEntry.{Item};
@@ -16,7 +17,7 @@ ghost use Rattle.sip_standard.specs.LogSays.{Clean};
 ghost use Rattle.sip_log.specs.Log.{Readable, IsLogOf};
 ghost use Rattle.sip_standard.specs.Times.{Times};
 
-use crate::verdict::Verdict;
+use sip_standard::Verdict;
 
 /// An input has at most one verdict.
 pub fn an_input_has_one_verdict(_one: &Verdict, _other: &Verdict)

@@ -7,7 +7,7 @@ mod entries;
 mod finding;
 mod following;
 mod gathering;
-mod judge_error;
+mod histories;
 mod judging;
 mod laws;
 mod listing;
@@ -30,14 +30,13 @@ mod survey_error;
 mod survey_laws;
 mod surveying;
 mod sweeping;
+mod transaction;
 mod troubled;
-mod verdict;
 mod walking;
 
 pub use finding::Finding;
 pub use following::Survey;
 pub use gathering::survey_bytes;
-pub use judge_error::JudgeError;
 pub use judging::{judge, judge_bytes};
 pub use laws::{
     a_legal_log_has_runs, a_line_of_rules_6026_changes_no_verdict,
@@ -45,13 +44,12 @@ pub use laws::{
     a_verdict_is_that_by_the_reading_of_messages, an_input_has_a_verdict, an_input_has_one_verdict,
 };
 pub use listing::{Listing, states_at};
-pub use log_reason::LogReason;
 pub use rendering::{end_line, finding_line, render};
 pub use show_error::ShowError;
 pub use showing::show;
 pub use shown::Shown;
 pub use sip_part::Part;
-pub use sip_standard::{Fault, Reason, Unit};
+pub use sip_standard::{Fault, JudgeError, LogReason, Reason, Unit, Verdict};
 pub use step_error::StepError;
 pub use stream::Judge;
 pub use summary::Summary;
@@ -67,4 +65,4 @@ pub use survey_laws::{
     what_stands_lasts,
 };
 pub use surveying::{survey, survey_part};
-pub use verdict::Verdict;
+pub use transaction::Transaction;

@@ -3,10 +3,9 @@ ghost use Rattle.std.specs.Prelude.{◌≡◌, true, false, IfSome, IfOk, OnOk, 
 ghost use Rattle.sip_verdict.specs.ListingOf.{IsListingOf};
 ghost use Rattle.sip_verdict.specs.inner.Walking.{listed_behind};
 
-use crate::judge_error::JudgeError;
-use crate::verdict::Verdict;
 use crate::walking::Walk;
 use sip_log::Source;
+use sip_standard::{JudgeError, Verdict};
 use std::alloc::Global;
 use std::hash::BuildHasher;
 

@@ -2,11 +2,11 @@
 ghost use Rattle.std.specs.Prelude.{◌≤◌, ◌<◌, ◌≡◌, ℕ, List, IfOk, OnErr};
 ghost use Rattle.sip_standard.specs.Times.{last_moment};
 ghost use Rattle.sip_machine.specs.Texts.{Keeps};
-ghost use Rattle.sip_key.specs.Key.{KeyParts};
+ghost use Rattle.sip_standard.specs.Key.{KeyParts};
 ghost use Rattle.sip_message.specs.SaidOf.{said_of};
 ghost use Rattle.sip_log.specs.Told.{item};
-ghost use Rattle.sip_verdict.specs.Keyed.{Observation};
-ghost use Rattle.sip_verdict.specs.MessageReading.{direction_of, message_reading};
+ghost use Rattle.sip_standard.specs.Observation.{Observation, direction_of};
+ghost use Rattle.sip_verdict.specs.MessageReading.{message_reading};
 ghost use Rattle.sip_verdict.specs.inner.Observing.{AreKeysOf, IsObserved, IsKept, IsHeard, silent_told};
 
 use crate::concerned::Concerned;

@@ -1,13 +1,16 @@
 //! What one entry leaves of the runs of the transactions.
 ghost use Rattle.std.specs.Prelude.{◌≡◌, ◌≤◌, ℕ, List, All, IfOk, OnOk};
 ghost use Rattle.std.specs.Option.{ForSome, option_copied};
-ghost use Rattle.sip_key.specs.Key.{KeyParts};
+ghost use Rattle.sip_standard.specs.Key.{KeyParts};
 ghost use Rattle.sip_standard.specs.Times.{Times};
-ghost use Rattle.sip_machine.specs.MachineEvent.{MachineEvent, event_in, FitsBook};
-ghost use Rattle.sip_states.specs.KeyMachine.{MachineKind, key_rules};
+ghost use Rattle.sip_standard.specs.MachineEvent.{MachineEvent};
+ghost use Rattle.sip_machine.specs.NumberedEvent.{event_in, FitsBook};
+ghost use Rattle.sip_standard.specs.KeyMachine.{MachineKind};
+ghost use Rattle.sip_states.specs.KeySets.{key_rules};
 ghost use Rattle.sip_states.specs.AnySet.{moment_of, IsEmpty, IsKnownSet};
 ghost use Rattle.sip_states.specs.Tables.{IsGiven, due_of};
-ghost use Rattle.sip_verdict.specs.Keyed.{Observation, newest_moment};
+ghost use Rattle.sip_standard.specs.Observation.{Observation};
+ghost use Rattle.sip_verdict.specs.Keyed.{newest_moment};
 ghost use Rattle.sip_verdict.specs.MessageReading.{key_machines};
 ghost use Rattle.sip_verdict.specs.inner.Concerned.{each};
 ghost use Rattle.sip_verdict.specs.inner.Stepping.{IsStepped};

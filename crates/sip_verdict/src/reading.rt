@@ -3,15 +3,14 @@ ghost use Rattle.std.specs.Prelude.{◌≡◌, true, Some, [], Option, List, ℕ
 ghost use Rattle.sip_standard.specs.Times.{Times};
 ghost use Rattle.sip_log.specs.Reading.{entries, beside_source};
 ghost use Rattle.sip_standard.specs.LogEntry.{Item};
-ghost use Rattle.sip_verdict.specs.VerdictOf.{IsVerdictOf};
+ghost use Rattle.sip_standard.specs.VerdictOf.{IsVerdictOf};
 ghost use Rattle.sip_verdict.specs.Listing.{trouble_of};
 ghost use Rattle.sip_verdict.specs.inner.Walking.{HasRead, WalkGives, MovesOn};
 
-use crate::judge_error::JudgeError;
-use crate::log_reason::{LogReason, reason_of};
-use crate::verdict::Verdict;
+use crate::log_reason::reason_of;
 use sip_log::{Entry, Progress, Source};
 use sip_machine::Params;
+use sip_standard::{JudgeError, LogReason, Verdict};
 use std::alloc::Global;
 
 /// What a log has after the entries that were read.

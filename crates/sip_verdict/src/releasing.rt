@@ -1,12 +1,13 @@
 //! What one entry leaves of the runs of each transaction, where those in trouble start anew and hear nothing more.
 ghost use Rattle.std.specs.Prelude.{◌≡◌, ◌≤◌, ◌∷◌, [], ℕ, false, None, List, All, OnOk, length};
 ghost use Rattle.std.specs.Option.{ForSome, option_copied};
-ghost use Rattle.sip_key.specs.Key.{KeyParts};
+ghost use Rattle.sip_standard.specs.Key.{KeyParts};
 ghost use Rattle.sip_standard.specs.Times.{Times};
 ghost use Rattle.sip_machine.specs.Texts.{Texts};
-ghost use Rattle.sip_machine.specs.MachineEvent.{FitsBook};
+ghost use Rattle.sip_machine.specs.NumberedEvent.{FitsBook};
 ghost use Rattle.sip_states.specs.Tables.{IsGiven, due_of};
-ghost use Rattle.sip_verdict.specs.Keyed.{Observation, newest_moment};
+ghost use Rattle.sip_standard.specs.Observation.{Observation};
+ghost use Rattle.sip_verdict.specs.Keyed.{newest_moment};
 ghost use Rattle.sip_verdict.specs.inner.Concerned.{each};
 ghost use Rattle.sip_verdict.specs.inner.TablesTracking.{hearers, is_among, AreHearers, AreTold, MayHear, MayPass};
 ghost use Rattle.sip_verdict.specs.inner.Surveying.{AreConcerned, ArePassing, AreWatched, HearsNumbers, any};

@@ -1,17 +1,20 @@
 //! The text of a verdict.
 ghost use Rattle.std.specs.Prelude.{◌≡◌, ◌++◌, IfOk, OnOk, codes, decimal, string_bytes};
-ghost use Rattle.sip_verdict.specs.Rendering.{rendered, rendered_unit};
+ghost use Rattle.sip_standard.specs.Rendering.{rendered, rendered_unit};
 ghost use Rattle.sip_verdict.specs.Showing.{last_text};
-ghost use Rattle.sip_verdict.specs.SurveyText.{end_text, finding_text};
-ghost use Rattle.sip_verdict.specs.declared.verdict.Verdict.TheVariants.{Malformed, LogFault};
+ghost use Rattle.sip_verdict.specs.SurveyText.{end_text};
+ghost use Rattle.sip_standard.specs.declared.verdict.Verdict.TheVariants.{Malformed, LogFault};
+ghost use Rattle.std.specs.Option.{option_copied};
+ghost use Rattle.sip_listing.specs.Transaction.{role_text};
+ghost use Rattle.sip_verdict.specs.inner.SurveyingLogs.{line_with, words_of};
 
 use crate::finding::Finding;
-use crate::log_reason::LogReason;
 use crate::shown::Shown;
 use crate::survey_end::SurveyEnd;
-use crate::verdict::Verdict;
+use crate::transaction::Transaction;
 use itoa::Buffer;
-use sip_standard::{Fault, Unit};
+use sip_key::Role;
+use sip_standard::{Fault, LogReason, Unit, Verdict};
 use std::alloc::{AllocError, Global};
 
 /// The text of a verdict, one line without its end: `legal entries E transactions T`, `malformed E UNIT NO REASON`,
@@ -56,13 +59,52 @@ pub(crate) fn last_line(alloc: Global, shown: &Shown) -> Result<String, AllocErr
     }
 }
 
-/// The line of what is found at an entry, with its end: the text of the verdict of the same words.
-pub fn finding_line(alloc: Global, finding: &Finding) -> Result<String, AllocError>
-    ensures { IfOk result (λ text. string_bytes text ≡ finding_text finding.now) }
+/// The line of what is found at an entry, with its end: the text of the verdict of the same words, and after it the words ROLE METHOD
+/// BRANCH FIRST LAST of the transaction, where it is known.
+pub fn finding_line(
+    alloc: Global,
+    finding: &Finding,
+    transaction: Option<&Transaction<'_>>,
+) -> Result<Vec<u8>, AllocError>
+    ensures { IfOk result (λ line. line.items ≡ line_with finding.now (option_copied transaction.entry)) }
 {
-    let mut text = render(alloc, &Verdict::from(*finding))?;
-    text.push_str("\n")?;
-    Ok(text)
+    let words = render(alloc, &Verdict::from(*finding))?;
+    let mut line = Vec::new(alloc);
+    line.extend_from_slice(words.as_str().as_bytes())?;
+    if let Some(transaction) = transaction {
+        push_transaction(&mut line, transaction)?;
+    }
+    line.push(b'\n')?;
+    Ok(line)
+}
+
+/// Appends the words of a transaction, each after a blank.
+fn push_transaction(line: &mut Vec<u8>, transaction: &Transaction<'_>) -> Result<(), AllocError>
+    ensures { OnOk result (line.new.items ≡ line.old.items ++ words_of transaction.now) }
+{
+    push_word(line, role_text(transaction.key.role()).as_bytes())?;
+    push_word(line, transaction.key.method())?;
+    push_word(line, transaction.branch)?;
+    push_word(line, Buffer::new().format(transaction.first).as_bytes())?;
+    push_word(line, Buffer::new().format(transaction.last).as_bytes())
+}
+
+/// The side of a transaction in a word.
+fn role_text(role: Role) -> &'static str
+    ensures { result.now ≡ role_text role }
+{
+    match role {
+        Role::Client => "client",
+        Role::Server => "server",
+    }
+}
+
+/// Appends a word after a blank.
+fn push_word(line: &mut Vec<u8>, word: &[u8]) -> Result<(), AllocError>
+    ensures { OnOk result (line.new.items ≡ line.old.items ++ codes " " ++ word.now) }
+{
+    line.push(b' ')?;
+    line.extend_from_slice(word)
 }
 
 /// The last line of a survey in which so much was found, with its end: `end entries E transactions T findings F`, or the text of the

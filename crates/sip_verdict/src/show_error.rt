@@ -3,8 +3,8 @@ ghost use Rattle.std.specs.Prelude.{◌≡◌};
 ghost use Rattle.sip_verdict.specs.declared.show_error.ShowError.TheVariants.{Write, Memory};
 ghost use Rattle.sip_verdict.specs.inner.Showing.{unshown};
 
-use crate::judge_error::JudgeError;
 use sip_log::Broken;
+use sip_standard::JudgeError;
 use std::alloc::AllocError;
 use thiserror::Error;
 

@@ -3,8 +3,9 @@ ghost use Rattle.std.specs.Prelude.{◌≡◌, ◌++◌, ◌∷◌, [], ℕ, Lis
 ghost use Rattle.std.specs.Io.KnownBytes.{Appends};
 ghost use Rattle.sip_standard.specs.LogSays.{line_feed};
 ghost use Rattle.sip_log.specs.Told.{item};
+ghost use Rattle.sip_standard.specs.Canonical.{IsCanonical};
 ghost use Rattle.sip_verdict.specs.declared.show_error.ShowError.TheVariants.{Read, Write};
-ghost use Rattle.sip_verdict.specs.Showing.{IsCanon, IsCanonOf, last_text, IsShownOf};
+ghost use Rattle.sip_verdict.specs.Showing.{IsCanonOf, last_text, IsShownOf};
 ghost use Rattle.sip_verdict.specs.inner.Showing.{IsFaulty, HasNoForm, ShowsEntry};
 
 use crate::log_reason::reason_of;
@@ -93,7 +94,7 @@ fn form_of(alloc: Global, action: Action, bytes: &[u8]) -> Result<Vec<u8>, ReadE
 
 /// The canonical form of a message.
 fn canonical(alloc: Global, bytes: &[u8]) -> Result<Vec<u8>, ReadError>
-    ensures form { IfOk result (λ form. IsCanon bytes.now form.items) }
+    ensures form { IfOk result (λ form. IsCanonical bytes.now form.items) }
     ensures fault { IfErr result (IsFaulty bytes.now) }
 {
     let message = match Message::read(alloc, bytes) {

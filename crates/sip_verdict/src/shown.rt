@@ -1,6 +1,5 @@
 //! What was shown of a log.
-use crate::log_reason::LogReason;
-use sip_standard::Fault;
+use sip_standard::{Fault, LogReason};
 
 /// How a log that is shown ends. Entries are numbered from 1; a fault of the header is at entry 0.
 #[derive(Clone, Copy, Debug, PartialEq, Eq)]

@@ -1,5 +1,5 @@
 //! How far a judge is.
-use crate::verdict::Verdict;
+use sip_standard::Verdict;
 
 /// How far a judge is: it goes on, it has told a verdict, or it failed.
 #[derive(Clone, Copy, Debug, PartialEq, Eq)]

@@ -1,8 +1,8 @@
 //! Why a judge has no answer.
 ghost use Rattle.std.specs.Prelude.{◌≡◌};
-ghost use Rattle.sip_verdict.specs.declared.judge_error.JudgeError.TheVariants as judging;
+ghost use Rattle.sip_standard.specs.declared.judge_error.JudgeError.TheVariants as judging;
 
-use crate::judge_error::JudgeError;
+use sip_standard::JudgeError;
 use thiserror::Error;
 
 /// Why a judge did not judge an entry.

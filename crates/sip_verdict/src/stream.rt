@@ -1,11 +1,12 @@
 //! A judge that takes the entries of a log as they come.
 ghost use Rattle.std.specs.Prelude.{◌≡◌, ◌≢◌, ◌↔◌, ◌≤◌, ◌-◌, [], ℕ, None, Some, List, All, Contains, IsTrue, IfOk, IfNone, IfSome, MatchOption, OnOk, length, slice_get};
-ghost use Rattle.sip_key.specs.Key.{KeyParts};
+ghost use Rattle.sip_standard.specs.Key.{KeyParts};
 ghost use Rattle.sip_log.specs.Told.{item};
 ghost use Rattle.sip_states.specs.Tables.{HasNumber, IsGiven, due_of};
 ghost use Rattle.sip_verdict.specs.declared.stage.Stage.TheVariants.{Open};
-ghost use Rattle.sip_verdict.specs.declared.verdict.Verdict.TheVariants.{Legal};
-ghost use Rattle.sip_verdict.specs.Keyed.{Observation, keys_of};
+ghost use Rattle.sip_standard.specs.declared.verdict.Verdict.TheVariants.{Legal};
+ghost use Rattle.sip_standard.specs.Observation.{Observation};
+ghost use Rattle.sip_verdict.specs.Keyed.{keys_of};
 ghost use Rattle.sip_verdict.specs.MessageReading.{key_machines, message_reading, ConcernsNone};
 ghost use Rattle.sip_verdict.specs.Named.{AreFew, key_messages};
 ghost use Rattle.sip_verdict.specs.Judging.{StandsFor, CanWaitUntil, MayComeNext, IsNext, CanAnswer, stage_behind, last_verdict};
@@ -14,10 +15,10 @@ use crate::stage::Stage;
 use crate::standing::Standing;
 use crate::step_error::StepError;
 use crate::sweeping::judge_next;
-use crate::verdict::Verdict;
 use sip_key::Key;
 use sip_log::Entry;
 use sip_machine::Params;
+use sip_standard::Verdict;
 use std::alloc::{AllocError, Global};
 use std::hash::BuildHasher;
 use std::marker::Model;

@@ -1,5 +1,5 @@
 //! How the log of a survey ends.
-use crate::log_reason::LogReason;
+use sip_standard::LogReason;
 
 /// How the log of a survey ends. Entries are numbered from 1; a fault of the header is at entry 0.
 #[derive(Clone, Copy, Debug, PartialEq, Eq)]

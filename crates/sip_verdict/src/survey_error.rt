@@ -3,9 +3,9 @@ ghost use Rattle.std.specs.Prelude.{◌≡◌};
 ghost use Rattle.sip_verdict.specs.declared.survey_error.SurveyError.TheVariants.{Write, Memory};
 ghost use Rattle.sip_verdict.specs.inner.SurveyingLogs.{unsurveyed};
 
-use crate::judge_error::JudgeError;
 use crate::step_error::StepError;
 use sip_log::Broken;
+use sip_standard::JudgeError;
 use std::alloc::AllocError;
 use thiserror::Error;
 

@@ -1,6 +1,6 @@
 //! Laws of surveys. The functions do nothing: their contracts are the laws.
 ghost use Rattle.std.specs.Prelude.{◌≡◌, ◌↔◌, ◌≤◌, ◌⊎◌, ◌++◌, ◌∷◌, [], ℕ, Bool, true, List, All, AllPairs, Contains};
-ghost use Rattle.sip_verdict.specs.VerdictOf.{IsVerdictOf, keys_in, events_for, RunsOver, IsWideAt};
+ghost use Rattle.sip_standard.specs.VerdictOf.{IsVerdictOf, keys_in, events_for, RunsOver, IsWideAt};
 ghost use Rattle.sip_verdict.specs.SurveyOf.{IsSound, Breaks, Widens, IsSurveyAfter, IsSurveyOf, verdict_in};
 ghost use Rattle.sip_part.specs.Part.{PartOf, falls_into};
 ghost use Rattle.sip_verdict.specs.SurveyParts.{IsPartLog};
@@ -8,19 +8,20 @@ ghost use Rattle.sip_verdict.specs.SurveyLaws.{IsOf, Names, AreAbout, chosen_in,
 ghost use Rattle.sip_verdict.specs.declared.finding.Finding.{Finding as FindingValue};
 ghost use Rattle.sip_verdict.specs.declared.finding.Finding.TheVariants.{Malformed, Breach, Undecided};
 ghost use Rattle.sip_verdict.specs.declared.survey_end.SurveyEnd.{SurveyEnd as EndValue};
-ghost use Rattle.sip_verdict.specs.declared.verdict.Verdict.{Verdict as VerdictValue};
-ghost use Rattle.sip_verdict.specs.Keyed.{Observation, newest_moment};
+ghost use Rattle.sip_standard.specs.declared.verdict.Verdict.{Verdict as VerdictValue};
+ghost use Rattle.sip_standard.specs.Observation.{Observation};
+ghost use Rattle.sip_verdict.specs.Keyed.{newest_moment};
 ghost use Rattle.sip_verdict.specs.MessageReading.{message_reading};
 ghost use Rattle.sip_verdict.specs.Reading.{AreObserved};
 ghost use Rattle.sip_standard.specs.declared.fault.Fault.{Fault as FaultValue};
-ghost use Rattle.sip_key.specs.Key.{KeyParts};
+ghost use Rattle.sip_standard.specs.Key.{KeyParts};
 ghost use Rattle.sip_standard.specs.LogEntry.{Item};
 ghost use Rattle.sip_standard.specs.LogSays.{LogEnd};
 ghost use Rattle.sip_standard.specs.Times.{Times};
-ghost use Rattle.sip_machine.specs.MachineEvent.{MachineEvent};
-ghost use Rattle.sip_machine.specs.Figure.{Owing, Lasts};
-ghost use Rattle.sip_states.specs.Stands.{Stands};
-ghost use Rattle.sip_states.specs.KeyMachine.{MachineKind, machine_of_key, transaction_of};
+ghost use Rattle.sip_standard.specs.MachineEvent.{MachineEvent};
+ghost use Rattle.sip_standard.specs.Figure.{Owing, Lasts};
+ghost use Rattle.sip_standard.specs.Stands.{Stands};
+ghost use Rattle.sip_standard.specs.KeyMachine.{MachineKind, machine_of_key, transaction_of};
 
 /// An input has at most one survey.
 pub fn a_survey_is_one()

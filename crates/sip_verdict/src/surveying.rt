@@ -1,32 +1,34 @@
 //! Surveys a log from its first byte to its last.
-ghost use Rattle.std.specs.Prelude.{◌≡◌, ◌++◌, ◌∷◌, [], ℕ, false, true, List, Option, IfOk, IfSome, OnOk, IsErrOf, flat_map, option_copied};
+ghost use Rattle.std.specs.Prelude.{◌≡◌, ◌++◌, ◌∷◌, [], ℕ, false, true, List, Option, IfOk, IfSome, OnOk, IsErrOf, option_copied};
 ghost use Rattle.std.specs.Io.KnownBytes.{Appends};
 ghost use Rattle.sip_log.specs.Reading.{beside_source};
 ghost use Rattle.sip_verdict.specs.declared.finding.Finding.{Finding};
 ghost use Rattle.sip_verdict.specs.declared.survey_error.SurveyError.TheVariants.{Read, Write};
-ghost use Rattle.sip_verdict.specs.SurveyOf.{IsSurveyOf};
 ghost use Rattle.sip_log.specs.Told.{item};
-ghost use Rattle.sip_verdict.specs.SurveyParts.{IsPartSurveyOf};
-ghost use Rattle.sip_verdict.specs.SurveyText.{SumsUp, end_text, finding_text, survey_text};
-ghost use Rattle.sip_verdict.specs.inner.SurveyingLogs.{AreCounted, IsSurveyAt, IsSurveyIn, IsTaken, IsWritten, SurveysRead};
+ghost use Rattle.sip_verdict.specs.SurveyParts.{IsPartToldOf};
+ghost use Rattle.sip_verdict.specs.SurveyText.{IsToldOf, SumsUp, end_text};
+ghost use Rattle.sip_verdict.specs.inner.SurveyingLogs.{AreCounted, AreLinesBy, IsLineBy, IsSurveyAt, IsTaken, IsToldIn, IsWritten, SurveysRead, TellsOf};
 
 use crate::finding::Finding;
 use crate::following::Survey;
-use crate::log_reason::LogReason;
 use crate::observing::direction_of;
 use crate::reading::{Next, read_header, read_next};
 use crate::rendering::{end_line, finding_line};
 use crate::summary::Summary;
 use crate::survey_end::SurveyEnd;
 use crate::survey_error::SurveyError;
+use crate::transaction::Transaction;
 use sip_log::{Entry, Progress, Sink, Source};
 use sip_machine::Action;
 use sip_part::Part;
+use sip_standard::LogReason;
 use std::alloc::{AllocError, Global};
 use std::hash::BuildHasher;
 
 /// All that is wrong in the log of the reader's bytes. What is found at an entry is written when the entry was read, a line for each
-/// finding in the words of a verdict, and at the end a last line: `end entries E transactions T findings F`, or the fault of the log.
+/// finding: the words of a verdict, and after them, where it is found of a transaction, `ROLE METHOD BRANCH FIRST LAST`: its role
+/// (`client` or `server`), the method of its request, its branch as its first message spells it, and the numbers of its first entry and
+/// of its last one so far. The last line is `end entries E transactions T findings F`, or the fault of the log.
 ///
 /// `SurveyError::Read` is answered only if the reader has failed, and `SurveyError::Write` only if the writer has. After an error the
 /// lines of what was found so far may have been written, but for the last in part. The hasher is for the keys of the transactions; any
@@ -38,8 +40,8 @@ pub fn survey<R: Source, W: Sink, H: BuildHasher + Drop>(
     hasher: H,
 ) -> Result<Summary, SurveyError>
     requires { R.has_failed reader.old ≡ false }
-    ensures surveyed { IfOk result (λ summary. IfSome (R.left reader.old) (λ input. (found : List Finding) × IsSurveyOf input found summary.end × SumsUp found summary
-        × Appends (W.written writer.old) (W.written writer.new) (survey_text found summary.end))) }
+    ensures surveyed { IfOk result (λ summary. IfSome (R.left reader.old) (λ input. (found : List Finding) × (text : List ℕ) × IsToldOf input found summary.end text × SumsUp found summary
+        × Appends (W.written writer.old) (W.written writer.new) text)) }
     ensures fine { OnOk result ((R.has_failed reader.new ≡ false) × (W.has_failed writer.new ≡ W.has_failed writer.old)) }
     ensures read { IsErrOf result Read → R.has_failed reader.new ≡ true }
     ensures write { IsErrOf result Write → W.has_failed writer.new ≡ true }
@@ -58,8 +60,8 @@ pub fn survey_part<R: Source, W: Sink, H: BuildHasher + Drop>(
     part: &Part,
 ) -> Result<Summary, SurveyError>
     requires { R.has_failed reader.old ≡ false }
-    ensures surveyed { IfOk result (λ summary. IfSome (R.left reader.old) (λ input. (found : List Finding) × IsPartSurveyOf part.now input found summary.end × SumsUp found summary
-        × Appends (W.written writer.old) (W.written writer.new) (survey_text found summary.end))) }
+    ensures surveyed { IfOk result (λ summary. IfSome (R.left reader.old) (λ input. (found : List Finding) × (text : List ℕ) × IsPartToldOf part.now input found summary.end text × SumsUp found summary
+        × Appends (W.written writer.old) (W.written writer.new) text)) }
     ensures fine { OnOk result ((R.has_failed reader.new ≡ false) × (W.has_failed writer.new ≡ W.has_failed writer.old)) }
     ensures read { IsErrOf result Read → R.has_failed reader.new ≡ true }
     ensures write { IsErrOf result Write → W.has_failed writer.new ≡ true }
@@ -76,8 +78,8 @@ fn survey_in<R: Source, W: Sink, H: BuildHasher + Drop>(
     part: Option<&Part>,
 ) -> Result<Summary, SurveyError>
     requires { R.has_failed reader.old ≡ false }
-    ensures surveyed { IfOk result (λ summary. IfSome (R.left reader.old) (λ input. (found : List Finding) × IsSurveyIn (option_copied part.entry) input found summary.end × SumsUp found summary
-        × Appends (W.written writer.old) (W.written writer.new) (survey_text found summary.end))) }
+    ensures surveyed { IfOk result (λ summary. IfSome (R.left reader.old) (λ input. (found : List Finding) × (text : List ℕ) × IsToldIn (option_copied part.entry) input found summary.end text × SumsUp found summary
+        × Appends (W.written writer.old) (W.written writer.new) text)) }
     ensures fine { OnOk result ((R.has_failed reader.new ≡ false) × (W.has_failed writer.new ≡ W.has_failed writer.old)) }
     ensures read { IsErrOf result Read → R.has_failed reader.new ≡ true }
     ensures write { IsErrOf result Write → W.has_failed writer.new ≡ true }
@@ -143,7 +145,7 @@ fn write_entries<R: Source, W: Sink, H: BuildHasher + Drop>(
                 found.clear();
                 cut_to(alloc, part, &mut entry)?;
                 survey.entry(&entry, &mut found)?;
-                counts = put_findings(alloc, writer, found.as_slice(), counts)?;
+                counts = put_findings(alloc, writer, survey, found.as_slice(), counts)?;
                 buffer = entry.bytes;
             }
             Next::End => return finish(alloc, writer, survey.end().unwrap(), counts),
@@ -156,14 +158,15 @@ fn write_entries<R: Source, W: Sink, H: BuildHasher + Drop>(
     }
 }
 
-/// Writes a line for each of the findings, and counts them.
-fn put_findings<W: Sink>(
+/// Writes a line for each of the findings of the newest entry, and counts them.
+fn put_findings<W: Sink, H: BuildHasher + Drop>(
     alloc: Global,
     writer: &mut W,
+    survey: &Survey<H>,
     found: &[Finding],
     counts: Counts,
 ) -> Result<Counts, SurveyError>
-    ensures text { OnOk result (Appends (W.written writer.old) (W.written writer.new) (flat_map finding_text found.now)) }
+    ensures text { OnOk result ((text : List ℕ) × Appends (W.written writer.old) (W.written writer.new) text × AreLinesBy survey.now found.now text) }
     ensures counted { IfOk result (AreCounted found.now counts) }
     ensures fine { OnOk result (W.has_failed writer.new ≡ W.has_failed writer.old) }
     ensures read { IsErrOf result Read → ⊥ }
@@ -171,11 +174,42 @@ fn put_findings<W: Sink>(
 {
     let mut counts = counts;
     for finding in found {
-        let line = finding_line(alloc, finding)?;
-        writer.put(line.as_str().as_bytes())?;
+        put_finding(alloc, writer, survey, finding)?;
         counts = counts.with(finding).ok_or(SurveyError::Memory)?;
     }
     Ok(counts)
+}
+
+/// The transaction of which something is found.
+fn transaction_of<'a, H: BuildHasher + Drop>(
+    survey: &'a Survey<H>,
+    finding: &Finding,
+) -> Option<Transaction<'a>>
+    ensures { TellsOf survey.now finding.now result }
+{
+    match *finding {
+        Finding::Malformed { .. } => None,
+        Finding::Breach { transaction, .. } => survey.transaction(transaction),
+        Finding::Undecided { transaction, .. } => survey.transaction(transaction),
+    }
+}
+
+/// Writes the line of a finding of the newest entry.
+fn put_finding<W: Sink, H: BuildHasher + Drop>(
+    alloc: Global,
+    writer: &mut W,
+    survey: &Survey<H>,
+    finding: &Finding,
+) -> Result<(), SurveyError>
+    ensures text { OnOk result ((line : List ℕ) × Appends (W.written writer.old) (W.written writer.new) line × IsLineBy survey.now finding.now line) }
+    ensures fine { OnOk result (W.has_failed writer.new ≡ W.has_failed writer.old) }
+    ensures read { IsErrOf result Read → ⊥ }
+    ensures write { IsErrOf result Write → W.has_failed writer.new ≡ true }
+{
+    let transaction = transaction_of(survey, finding);
+    let line = finding_line(alloc, finding, transaction.as_ref())?;
+    writer.put(line.as_slice())?;
+    Ok(())
 }
 
 /// Writes the last line.

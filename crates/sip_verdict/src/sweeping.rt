@@ -1,18 +1,19 @@
 //! Judges entries, and forgets the messages that no transaction needs any more.
 ghost use Rattle.std.specs.Prelude.{◌≡◌, ◌≤◌, ◌+◌, List, All, Contains, IfOk, IfNone, OnOk, length};
-ghost use Rattle.sip_key.specs.Key.{KeyParts};
+ghost use Rattle.sip_standard.specs.Key.{KeyParts};
 ghost use Rattle.sip_standard.specs.Times.{last_moment};
 ghost use Rattle.sip_standard.specs.LogSays.{most_entries};
 ghost use Rattle.sip_log.specs.Told.{item};
-ghost use Rattle.sip_verdict.specs.Keyed.{Observation, newest_moment};
+ghost use Rattle.sip_standard.specs.Observation.{Observation};
+ghost use Rattle.sip_verdict.specs.Keyed.{newest_moment};
 ghost use Rattle.sip_verdict.specs.MessageReading.{message_reading, ConcernsNone};
 ghost use Rattle.sip_verdict.specs.Judging.{AreFollowed};
 ghost use Rattle.sip_verdict.specs.inner.Sweeping.{AreFollowedOn};
 ghost use Rattle.sip_verdict.specs.inner.TablesTracking.{MayTake};
 
 use crate::standing::Standing;
-use crate::verdict::Verdict;
 use sip_log::Entry;
+use sip_standard::Verdict;
 use std::alloc::{AllocError, Global};
 use std::hash::BuildHasher;
 

@@ -2,19 +2,17 @@
 ghost use Rattle.std.specs.Prelude.{◌≡◌, ◌+◌, ◌≤◌, true, Some, Option, List, ℕ, IfOk, IfErr, IfSome, IfNone, OnOk, IsErrOf};
 ghost use Rattle.sip_standard.specs.LogSays.{most_entries};
 ghost use Rattle.sip_log.specs.Reading.{beside_source};
-ghost use Rattle.sip_verdict.specs.declared.verdict.Verdict.TheVariants.{LogFault};
-ghost use Rattle.sip_verdict.specs.VerdictOf.{IsVerdictOf};
+ghost use Rattle.sip_standard.specs.declared.verdict.Verdict.TheVariants.{LogFault};
+ghost use Rattle.sip_standard.specs.VerdictOf.{IsVerdictOf};
 ghost use Rattle.sip_verdict.specs.Listing.{trouble_of};
 ghost use Rattle.sip_verdict.specs.ListingOf.{IsListingOf};
 ghost use Rattle.sip_verdict.specs.inner.Walking.{Walks, WalksOn, MayStep};
 
-use crate::judge_error::JudgeError;
 use crate::listing::Listing;
-use crate::log_reason::LogReason;
 use crate::reading::{Next, read_header, read_next};
 use crate::standing::Standing;
-use crate::verdict::Verdict;
 use sip_log::{Progress, Source};
+use sip_standard::{JudgeError, LogReason, Verdict};
 use std::alloc::Global;
 use std::hash::BuildHasher;
 

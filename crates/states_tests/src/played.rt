@@ -3,7 +3,7 @@ ghost use Rattle.std.specs.Prelude.{◌≡◌, ◌≤◌, [], ℕ, All, IfOk, On
 ghost use Rattle.sip_machine.specs.Rules.{Knows};
 ghost use Rattle.sip_machine.specs.Texts.{Keeps};
 ghost use Rattle.sip_machine.specs.Owing.{owing_names};
-ghost use Rattle.sip_machine.specs.InviteServer.{invite_server_names};
+ghost use Rattle.sip_machine.specs.inner.InviteServer.{invite_server_names};
 
 use sip_machine::{Action, Book, Event, InviteServer, Params};
 use sip_message::Message;

@@ -4,10 +4,10 @@ use Rattle.std.specs.Bool.{Decides}
 use Rattle.std.specs.Cmp.{first_so, second_so}
 use Rattle.std.specs.Cmp.Lexicographic.{bytes_decides}
 use Rattle.std.specs.Str.{bytes_eq}
-use Rattle.sip_key.specs.declared.role.Role.{Role}
-use Rattle.sip_key.specs.declared.role.Role.TheVariants.{Client, Server}
-use Rattle.sip_key.specs.contracts.role.RolePartialEq.TheImpl as role_eq
-use Rattle.sip_key.specs.Key.{KeyParts, same_key}
+use Rattle.sip_standard.specs.declared.role.Role.{Role}
+use Rattle.sip_standard.specs.declared.role.Role.TheVariants.{Client, Server}
+use Rattle.sip_standard.specs.contracts.role.RolePartialEq.TheImpl as role_eq
+use Rattle.sip_standard.specs.Key.{KeyParts, same_key}
 
 same_role-so : (r s : Role) → role_eq.ghosts.eq r s ≡ true → r ≡ s
 same_role-so Client Client h = refl

@@ -7,8 +7,8 @@ use Rattle.sip_standard.specs.Times.{Times}
 use Rattle.sip_standard.specs.declared.format.Format.{Format}
 use Rattle.sip_log.specs.declared.entry.Entry.{Entry}
 use Rattle.sip_log.specs.declared.log_error.LogError.{LogError}
-use Rattle.sip_standard.specs.LogFault.{LogFault}
-use Rattle.sip_standard.specs.LogFault as faults
+use Rattle.sip_standard.specs.declared.log_reason.LogReason.{LogReason}
+use Rattle.sip_standard.specs.declared.log_reason.LogReason.TheVariants as faults
 use Rattle.sip_log.specs.Next.{Next, ends, gives, stops, ComesNext}
 use Rattle.sip_standard.specs.LogEntry.{Item, entry_says, IsEntry, InOrder, last_of}
 use Rattle.sip_standard.specs.LogHeader.{Header}
@@ -233,22 +233,22 @@ module _ (start : Option (List ℕ)) (items : List Item) (old new : ReaderState)
   Stands-ends on stands nexts = ended-at old.stage refl on stands nexts
 
   -- where the log cannot be read on: at its header, or after these entries
-  abbrev pub StopsAt : List ℕ → Option Times → LogFault → Type 0
+  abbrev pub StopsAt : List ℕ → Option Times → LogReason → Type 0
   StopsAt input None fault = LacksHeader input × (fault ≡ faults.Header)
   StopsAt input (Some p) fault = LogSays input p items (Stops fault)
 
-  stops-first : (t : Option Times) (s : Option (List ℕ)) (fault : LogFault) → items ≡ [] → IfSome s (λ xs. ComesFirst new.format t xs (stops fault)) → IfSome s (λ input. StopsAt input t fault)
+  stops-first : (t : Option Times) (s : Option (List ℕ)) (fault : LogReason) → items ≡ [] → IfSome s (λ xs. ComesFirst new.format t xs (stops fault)) → IfSome s (λ input. StopsAt input t fault)
   stops-first t None fault none says = tt
   stops-first None (Some xs) fault none (no_header, same) = (no_header, ap of same)
     where
-      of : Next Item → LogFault
+      of : Next Item → LogReason
       of (stops f) = f
       of (gives e behind) = fault
       of ends = fault
   stops-first (Some p) (Some xs) fault none (behind, header, next) =
       subst (λ is. LogSays xs p is (Stops fault)) (sym none) (Begins-ends xs new.format p [] behind (Begins-header xs new.format p behind header) (Stops fault) next)
 
-  stops-next : (t : Option Times) (s : Option (List ℕ)) (fault : LogFault) → old.count ≡ length items → old.last ≡ last_of 0 items → HasRead s old.format t items old.left → IfSome old.left (λ xs. ComesNext old.format old.count old.last xs (stops fault)) → IfSome s (λ input. StopsAt input t fault)
+  stops-next : (t : Option Times) (s : Option (List ℕ)) (fault : LogReason) → old.count ≡ length items → old.last ≡ last_of 0 items → HasRead s old.format t items old.left → IfSome old.left (λ xs. ComesNext old.format old.count old.last xs (stops fault)) → IfSome s (λ input. StopsAt input t fault)
   stops-next None s fault counts moment has says = absurd has
   stops-next (Some p) None fault counts moment has says = tt
   stops-next (Some p) (Some input) fault counts moment (rest, left, begins) says =
@@ -270,7 +270,7 @@ module _ (start : Option (List ℕ)) (items : List Item) (old new : ReaderState)
   pub Stands-stops : (e : LogError) → GoesOn old → Stands start items old → Nexts old new (Err e) → FailsAs old.has_failed new.has_failed (λ fault. IfSome start (λ input. StopsAt input new.times fault)) e
   Stands-stops e on stands nexts = stops-at old.stage e refl on stands nexts
 
-  fault-of : (t : Option Times) (s : Option (List ℕ)) (fault : LogFault) → IfSome s (λ input. StopsAt input t fault) → IfSome s (λ input. IsFaultOf input fault)
+  fault-of : (t : Option Times) (s : Option (List ℕ)) (fault : LogReason) → IfSome s (λ input. StopsAt input t fault) → IfSome s (λ input. IsFaultOf input fault)
   fault-of t None fault at = tt
   fault-of None (Some input) fault at = inl at
   fault-of (Some p) (Some input) fault at = inr (p, items, at)

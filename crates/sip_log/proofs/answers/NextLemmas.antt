@@ -5,8 +5,9 @@ use Rattle.std.proofs.lemmas.Bool.{cases_lt}
 use Rattle.std.proofs.Math.Seq.{get_or-append_seam}
 use Rattle.sip_standard.specs.declared.action.Action.{Action}
 use Rattle.sip_standard.specs.declared.format.Format.{Format}
-use Rattle.sip_standard.specs.LogFault.{LogFault, EntryLine, Truncated, Order, Limit}
-use Rattle.sip_standard.specs.LogFault as faults
+use Rattle.sip_standard.specs.declared.log_reason.LogReason.{LogReason}
+use Rattle.sip_standard.specs.declared.log_reason.LogReason.TheVariants.{EntryLine, Truncated, Order, Limit}
+use Rattle.sip_standard.specs.declared.log_reason.LogReason.TheVariants as faults
 use Rattle.sip_log.specs.Next.{Next, gives, stops, ComesNext, next_at}
 use Rattle.sip_standard.specs.LogSays.{line_feed, most_entries, First, FrontLine, LogEnd, Clean, Stops, LineFault, EndsWith}
 use Rattle.sip_standard.specs.LogEntry.{Item, line_says, HasMessage, body_says, entry_says, IsOf, IsWithinLimits, IsEntry}
@@ -18,17 +19,17 @@ use Rattle.sip_log.proofs.lines.LineLemmas.{message-of}
 -- The pieces of how entries end, one in the other.
 
 -- cases 6 and 7: the message
-abbrev pub AtBody : Action → ℕ → List ℕ → LogFault → Type 0
+abbrev pub AtBody : Action → ℕ → List ℕ → LogReason → Type 0
 AtBody action len behind fault =
     HasMessage action × First (length behind ≤ len) Truncated fault ((slice_index behind len ≢ line_feed) × (fault ≡ EntryLine))
 
 -- cases 4 and 5: the numbers of the line
-abbrev pub AtNumbers : ℕ → Action → ℕ → ℕ → List ℕ → LogFault → Type 0
+abbrev pub AtNumbers : ℕ → Action → ℕ → ℕ → List ℕ → LogReason → Type 0
 AtNumbers last action moment len behind fault =
     First (¬ IsWithinLimits action moment len) Limit fault (First (moment < last) Order fault (AtBody action len behind fault))
 
 -- case 2: the front, and what is after its line
-abbrev pub AtFront : Format → ℕ → List ℕ → LogFault → Type 0
+abbrev pub AtFront : Format → ℕ → List ℕ → LogReason → Type 0
 AtFront format last rest fault =
     (((line behind : List ℕ) → ¬ (FrontLine rest line behind)) × First (length rest < 32) Truncated fault (fault ≡ EntryLine))
     ⊎ ((line : List ℕ) × (behind : List ℕ) × FrontLine rest line behind × LineFault format last line behind fault)
@@ -44,8 +45,8 @@ end-comes format count last rest Clean next = next
 end-comes format count last rest (Stops fault) next = next
 
 -- what comes next is a fault, or an entry with what is after it
-abbrev Told : (LogFault → Type 0) → (Item → List ℕ → Type 0) → Next Item → Type 0
-Told P G next = ((fault : LogFault) × (next ≡ stops fault) × P fault) ⊎ ((e : Item) × (after : List ℕ) × (next ≡ gives e after) × G e after)
+abbrev Told : (LogReason → Type 0) → (Item → List ℕ → Type 0) → Next Item → Type 0
+Told P G next = ((fault : LogReason) × (next ≡ stops fault) × P fault) ⊎ ((e : Item) × (after : List ℕ) × (next ≡ gives e after) × G e after)
 
 pub not_below : (a b : ℕ) → ¬ (a < b) → b ≤ a
 not_below a b other = elim (cases_lt a b) as (λ _. b ≤ a) [ inl lt ↦ absurd (other lt) | inr le ↦ le ]

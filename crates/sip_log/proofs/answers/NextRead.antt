@@ -7,8 +7,8 @@ use Rattle.sip_standard.specs.Times.{last_moment}
 use Rattle.sip_standard.specs.declared.action.Action.{Action}
 use Rattle.sip_standard.specs.declared.action.Action.TheVariants.{Sent, Received, Failed, Mark, Restart}
 use Rattle.sip_standard.specs.declared.format.Format.{Format}
-use Rattle.sip_standard.specs.LogFault.{LogFault}
-use Rattle.sip_standard.specs.LogFault as faults
+use Rattle.sip_standard.specs.declared.log_reason.LogReason.{LogReason}
+use Rattle.sip_standard.specs.declared.log_reason.LogReason.TheVariants as faults
 use Rattle.sip_log.specs.Next.{Next, ends, gives, stops, ComesNext}
 use Rattle.sip_standard.specs.LogSays.{line_feed, most_entries, First, LineFault}
 use Rattle.sip_log.specs.inner.Spelling.{space, letter, length_text, line_text}
@@ -25,14 +25,14 @@ use Rattle.sip_log.proofs.logs.LogExists.{limits-or-not}
 
 -- A fault.
 
-message-stops : (action : Action) (moment len : ℕ) (behind : List ℕ) (fault : LogFault) → AtBody action len behind fault → read.MessageComes action moment len behind (stops fault)
+message-stops : (action : Action) (moment len : ℕ) (behind : List ℕ) (fault : LogReason) → AtBody action len behind fault → read.MessageComes action moment len behind (stops fault)
 message-stops action moment len behind fault (other, inl (short, same)) = inl ((λ more. omega arith), ap stops same)
 message-stops action moment len behind fault (other, inr (long, (unclosed, same))) =
     let inside : len < length behind = not_above (length behind) len long in
     inr (inside, (take len behind, get_or behind len 0, drop (len + 1) behind, cut-at behind len inside, length-take-le len behind (omega arith), inl (unclosed, ap stops same)))
 
 -- a message's numbers
-message-numbers : (last : ℕ) (action : Action) (moment len : ℕ) (behind : List ℕ) (fault : LogFault) → HasMessage action → AtNumbers last action moment len behind fault
+message-numbers : (last : ℕ) (action : Action) (moment len : ℕ) (behind : List ℕ) (fault : LogReason) → HasMessage action → AtNumbers last action moment len behind fault
     → read.HeadComes last (message action moment len) behind (stops fault)
 message-numbers last action moment len behind fault other (inl (outside, same)) = inl ((λ k. outside (message-within action moment len k)), ap stops same)
 message-numbers last action moment len behind fault other (inr (inside, rest)) = elim (limits-or-not (message action moment len)) [
@@ -45,7 +45,7 @@ message-numbers last action moment len behind fault other (inr (inside, rest)) =
     order (inr (late, body)) = inr (not_below moment last late, message-stops action moment len behind fault body)
 
 -- those of an entry without a message
-plain-numbers : (last : ℕ) (action : Action) (moment len : ℕ) (behind : List ℕ) (fault : LogFault) → ¬ (HasMessage action) → AtNumbers last action moment len behind fault → read.HeadComes last (plain action moment) behind (stops fault)
+plain-numbers : (last : ℕ) (action : Action) (moment len : ℕ) (behind : List ℕ) (fault : LogReason) → ¬ (HasMessage action) → AtNumbers last action moment len behind fault → read.HeadComes last (plain action moment) behind (stops fault)
 plain-numbers last action moment len behind fault none (inl (outside, same)) = inl ((λ k. outside (k, (λ has. absurd (none has)))), ap stops same)
 plain-numbers last action moment len behind fault none (inr (inside, rest)) = elim (limits-or-not (plain action moment)) [
   | inr outside ↦ absurd (inside (λ w. outside w.0))
@@ -56,7 +56,7 @@ plain-numbers last action moment len behind fault none (inr (inside, rest)) = el
     order (inl (early, same)) = inl ((λ le. omega arith), ap stops same)
     order (inr (late, body)) = absurd (none body.0)
 
-line-stops : (format : Format) (last : ℕ) (line behind : List ℕ) (fault : LogFault) → length line < 32 → LineFault format last line behind fault → read.FormComes format last line behind (stops fault)
+line-stops : (format : Format) (last : ℕ) (line behind : List ℕ) (fault : LogReason) → length line < 32 → LineFault format last line behind fault → read.FormComes format last line behind (stops fault)
 line-stops format last line behind fault short (inl (none, same)) = inl (unread, ap stops same)
   where
     unread : (h : Head) → ¬ (HeadLine format line h)
@@ -67,7 +67,7 @@ line-stops format last line behind fault short (inr (action, moment, len, of, is
   | inl has ↦ inr (message action moment len, message-read format line action moment len short has is, message-numbers last action moment len behind fault has numbers)
 ]
 
-front-stops : (format : Format) (last : ℕ) (rest : List ℕ) (fault : LogFault) → AtFront format last rest fault → read.LineComes format last rest (stops fault)
+front-stops : (format : Format) (last : ℕ) (rest : List ℕ) (fault : LogReason) → AtFront format last rest fault → read.LineComes format last rest (stops fault)
 front-stops format last rest fault (inl (none, inl (few, same))) = inl (none, inl ((λ many. omega arith), ap stops same))
 front-stops format last rest fault (inl (none, inr (many, same))) = inl (none, inr (not_below (length rest) 32 many, ap stops same))
 front-stops format last rest fault (inr (line, behind, front, at)) = inr (line, behind, front, line-stops format last line behind fault front.short at)

@@ -6,8 +6,8 @@ use Rattle.sip_standard.specs.declared.format.Format.{Format}
 use Rattle.sip_log.specs.declared.entry.Entry.{Entry}
 use Rattle.sip_log.specs.declared.log_error.LogError.{LogError}
 use Rattle.sip_log.specs.declared.log_error.LogError.TheVariants as errors
-use Rattle.sip_standard.specs.LogFault as faults
-use Rattle.sip_standard.specs.LogFault.{LogFault}
+use Rattle.sip_standard.specs.declared.log_reason.LogReason.TheVariants as faults
+use Rattle.sip_standard.specs.declared.log_reason.LogReason.{LogReason}
 use Rattle.sip_log.specs.Next.{Next, ends, gives, stops, ComesNext}
 use Rattle.sip_standard.specs.LogEntry.{Item}
 use Rattle.sip_standard.specs.LogSays.{LacksHeader}
@@ -26,7 +26,7 @@ IfSome-map None P Q f h = tt
 IfSome-map (Some x) P Q f h = f x h
 
 -- an error says the same in other words
-pub FailsAs-map : (before after : Bool) (P Q : LogFault → Type 0) (e : LogError) → ((fault : LogFault) → P fault → Q fault) → FailsAs before after P e → FailsAs before after Q e
+pub FailsAs-map : (before after : Bool) (P Q : LogReason → Type 0) (e : LogError) → ((fault : LogReason) → P fault → Q fault) → FailsAs before after P e → FailsAs before after Q e
 FailsAs-map before after P Q errors.Header f h = (h.0, f faults.Header h.1)
 FailsAs-map before after P Q errors.EntryLine f h = (h.0, f faults.EntryLine h.1)
 FailsAs-map before after P Q errors.Truncated f h = (h.0, f faults.Truncated h.1)
@@ -46,12 +46,12 @@ Says-map old new before after P Q seen (Err e) f h =
     (λ fault. IfSome-map old (λ xs. P xs (stops fault)) (λ xs. Q xs (stops fault)) (λ xs. f xs (stops fault))) h
 
 -- the fault of a header
-fault_of : {A : Type 0} → Next A → LogFault
+fault_of : {A : Type 0} → Next A → LogReason
 fault_of (stops fault) = fault
 fault_of (gives a behind) = faults.Header
 fault_of ends = faults.Header
 
-pub fault-first : (input : List ℕ) (fault : LogFault) → read.HeaderComes input (stops fault) → LacksHeader input × (fault ≡ faults.Header)
+pub fault-first : (input : List ℕ) (fault : LogReason) → read.HeaderComes input (stops fault) → LacksHeader input × (fault ≡ faults.Header)
 unfolding fault_of
 fault-first input fault is = (no-header input fault is, header-is is)
   where
@@ -61,7 +61,7 @@ fault-first input fault is = (no-header input fault is, header-is is)
     header-is (inr (none, same)) = ap fault_of same
 
 -- the header's fault comes first
-pub header-fault : (format : Format) (input : List ℕ) (fault : LogFault) → read.HeaderComes input (stops fault) → ComesFirst format None input (stops fault)
+pub header-fault : (format : Format) (input : List ℕ) (fault : LogReason) → read.HeaderComes input (stops fault) → ComesFirst format None input (stops fault)
 header-fault format input fault is =
     let first = fault-first input fault is in
     (first.0, ap (λ f. stops f) first.1)
@@ -87,7 +87,7 @@ Says-headed old mid new before between after format p (Err e) first says =
     subst (λ b. FailsAs b after (λ fault. IfSome old (λ xs. ComesFirst format (Some p) xs (stops fault))) e) first.0
     (FailsAs-map between after _ _ e (λ fault. value old fault first.1) says)
   where
-    value : (o : Option (List ℕ)) (fault : LogFault) → IfSome o (λ xs. (ys : List ℕ) × (mid ≡ Some ys) × read.HeaderComes xs (gives (format, p) ys)) → IfSome mid (λ xs. entry.EntryComes format 0 0 xs (stops fault))
+    value : (o : Option (List ℕ)) (fault : LogReason) → IfSome o (λ xs. (ys : List ℕ) × (mid ≡ Some ys) × read.HeaderComes xs (gives (format, p) ys)) → IfSome mid (λ xs. entry.EntryComes format 0 0 xs (stops fault))
         → IfSome o (λ xs. ComesFirst format (Some p) xs (stops fault))
     value None fault is behind = tt
     value (Some xs) fault is behind =

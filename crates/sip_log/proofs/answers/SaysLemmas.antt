@@ -4,8 +4,8 @@ use Rattle.std.specs.Option.{IfSome}
 use Rattle.std.specs.Io.KnownBytes.{prepend_known}
 use Rattle.sip_log.specs.declared.log_error.LogError.{LogError}
 use Rattle.sip_log.specs.declared.log_error.LogError.TheVariants as errors
-use Rattle.sip_standard.specs.LogFault as faults
-use Rattle.sip_standard.specs.LogFault.{LogFault}
+use Rattle.sip_standard.specs.declared.log_reason.LogReason.TheVariants as faults
+use Rattle.sip_standard.specs.declared.log_reason.LogReason.{LogReason}
 use Rattle.sip_log.specs.inner.Reads.{Reads}
 use Rattle.sip_log.specs.Next.{Next, stops}
 use Rattle.sip_log.specs.Told.{TellsWhatComes}
@@ -23,12 +23,12 @@ module _ {B : Type 0} {held held2 : List ℕ} {left left2 : Option (List ℕ)} {
   )
 
   -- a fault of the log
-  pub Says-fault : (reason : LogFault) → ((ys : List ℕ) → left2 ≡ Some ys → P (held2 ++ ys) (stops reason))
+  pub Says-fault : (reason : LogReason) → ((ys : List ℕ) → left2 ≡ Some ys → P (held2 ++ ys) (stops reason))
       → (mid ≡ before) × IfSome (prepend_known held left) (λ xs. P xs (stops reason))
   Says-fault reason fact = (reads.fine, told reads (λ xs. P xs (stops reason)) fact)
 
   -- a fault after is one in front
-  Says-behind : (rest : List ℕ) (after : Bool) (Q : List ℕ → Next B → Type 0) (fault : LogFault) → ((ys : List ℕ) (n : Next B) → left2 ≡ Some ys → Q (rest ++ ys) n → P (held2 ++ ys) n)
+  Says-behind : (rest : List ℕ) (after : Bool) (Q : List ℕ → Next B → Type 0) (fault : LogReason) → ((ys : List ℕ) (n : Next B) → left2 ≡ Some ys → Q (rest ++ ys) n → P (held2 ++ ys) n)
       → (after ≡ mid) × IfSome (prepend_known rest left2) (λ xs. Q xs (stops fault)) → (after ≡ before) × IfSome (prepend_known held left) (λ xs. P xs (stops fault))
   Says-behind rest after Q fault step says = (
     says.0 ∙ reads.fine,

@@ -11,7 +11,7 @@ use Rattle.sip_standard.specs.declared.rules.Rules.TheVariants.{R3261, R6026}
 use Rattle.memchr.specs.Find.{IsFirstByte, is_byte}
 use Rattle.sip_standard.specs.declared.format.Format.{Format}
 use Rattle.sip_standard.specs.declared.format.Format.TheVariants.{One, Two}
-use Rattle.sip_standard.specs.LogFault as faults
+use Rattle.sip_standard.specs.declared.log_reason.LogReason.TheVariants as faults
 use Rattle.sip_standard.specs.LogSays.{line_feed}
 use Rattle.sip_log.specs.inner.Spelling.{space}
 use Rattle.sip_standard.specs.LogHeader.{rules_text}

@@ -5,7 +5,7 @@ use Rattle.std.proofs.Math.ListN.{get_or-append}
 use Rattle.std.proofs.Math.Seq.{get_or-append_seam}
 use Rattle.memchr.specs.Find.{IsFirstByte, is_byte}
 use Rattle.sip_standard.specs.declared.format.Format.{Format}
-use Rattle.sip_standard.specs.LogFault as faults
+use Rattle.sip_standard.specs.declared.log_reason.LogReason.TheVariants as faults
 use Rattle.sip_standard.specs.LogSays.{line_feed, FrontLine, most_entries}
 use Rattle.sip_standard.specs.LogEntry.{Item}
 use Rattle.sip_log.specs.inner.Line.{longest_line, Head, HeadLine}

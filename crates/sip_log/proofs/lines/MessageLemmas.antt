@@ -2,7 +2,7 @@
 use Rattle.std.proofs.Common.{◌≡◌, ◌≢◌, inl, inr, ℕ, ◌+◌, ◌<◌, List, ◌++◌, length, take, drop, get_or, refl, ap, arith}
 use Rattle.std.proofs.lemmas.List.{length-take-le, length-append}
 use Rattle.sip_standard.specs.declared.action.Action.{Action}
-use Rattle.sip_standard.specs.LogFault as faults
+use Rattle.sip_standard.specs.declared.log_reason.LogReason.TheVariants as faults
 use Rattle.sip_standard.specs.LogSays.{line_feed}
 use Rattle.sip_log.specs.Next.{gives, stops}
 use Rattle.sip_log.specs.inner.Entry.{CloseComes, MessageComes}

@@ -13,8 +13,8 @@ use Rattle.sip_standard.specs.declared.action.Action.{Action}
 use Rattle.sip_standard.specs.declared.action.Action.TheVariants.{Sent, Received, Failed, Mark, Restart}
 use Rattle.sip_standard.specs.declared.format.Format.{Format}
 use Rattle.sip_standard.specs.declared.format.Format.TheVariants.{One, Two}
-use Rattle.sip_standard.specs.LogFault.{LogFault}
-use Rattle.sip_standard.specs.LogFault as faults
+use Rattle.sip_standard.specs.declared.log_reason.LogReason.{LogReason}
+use Rattle.sip_standard.specs.declared.log_reason.LogReason.TheVariants as faults
 use Rattle.sip_log.specs.inner.Number.{IsNumber, digit_zero}
 use Rattle.sip_standard.specs.LogSays.{line_feed, FrontLine, most_entries, LogEnd, Clean, Stops, LacksHeader}
 use Rattle.sip_log.specs.inner.Spelling.{space, letter}
@@ -201,7 +201,7 @@ front-or-not rest = elim (cut-or-lacks line_feed rest) [
 abbrev Comes : {A : Type 0} → (Next A → Type 0) → Type 0
 Comes {A} P = (next : Next A) × P next
 
-Unless-some : {A : Type 0} (Demand : Type 0) (reason : LogFault) (Follows : Next A → Type 0) → Settled Demand → (Demand → Comes Follows)
+Unless-some : {A : Type 0} (Demand : Type 0) (reason : LogReason) (Follows : Next A → Type 0) → Settled Demand → (Demand → Comes Follows)
     → Comes (λ next. Unless Demand reason next (Follows next))
 Unless-some Demand reason Follows (inl holds) follows = let f = follows holds in (f.0, inr (holds, f.1))
 Unless-some Demand reason Follows (inr fails) follows = (stops reason, inl (fails, refl))
@@ -248,7 +248,7 @@ next-some format count last (x ∷ xs) =
     (next.0, inr ((λ same. cc), next.1))
 
 -- an entry leaves fewer bytes
-Unless-gives : {A : Type 0} (Demand : Type 0) (reason : LogFault) (a : A) (behind : List ℕ) (Follows : Type 0) → Unless Demand reason (gives a behind) Follows → Follows
+Unless-gives : {A : Type 0} (Demand : Type 0) (reason : LogReason) (a : A) (behind : List ℕ) (Follows : Type 0) → Unless Demand reason (gives a behind) Follows → Follows
 Unless-gives Demand reason a behind Follows (inl (fails, same)) = cc
 Unless-gives Demand reason a behind Follows (inr (holds, follows)) = follows
 
@@ -446,7 +446,7 @@ first-some input = elim (begins-or-not (title_text One) input) as (λ _. Comes (
 ]
 
 -- where no header is read, there is none
-pub no-header : (input : List ℕ) (fault : LogFault) → HeaderComes input (stops fault) → LacksHeader input
+pub no-header : (input : List ℕ) (fault : LogReason) → HeaderComes input (stops fault) → LacksHeader input
 no-header input fault is format p behind header = absurd (other (ComesFirst-one input _ _ (header-read format input p behind header) is))
   where
     other : ◌≢◌ {A = Next (Format × Times)} (gives (format, p) behind) (stops fault)

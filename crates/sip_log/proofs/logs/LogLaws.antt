@@ -8,7 +8,7 @@ use Rattle.sip_standard.specs.declared.rules.Rules.TheVariants.{R3261, R6026}
 use Rattle.sip_standard.specs.declared.action.Action.{Action}
 use Rattle.sip_standard.specs.declared.format.Format.{Format}
 use Rattle.sip_standard.specs.declared.format.Format.TheVariants.{One, Two}
-use Rattle.sip_standard.specs.LogFault.{LogFault}
+use Rattle.sip_standard.specs.declared.log_reason.LogReason.{LogReason}
 use Rattle.sip_standard.specs.LogSays.{line_feed, FrontLine, LogEnd, Clean, Stops}
 use Rattle.sip_log.specs.inner.Spelling.{space}
 use Rattle.sip_standard.specs.LogEntry.{Item, HasMessage}
@@ -123,7 +123,7 @@ FrontLine-one rest line behind line2 behind2 is is2 =
 
 -- What comes next.
 
-Unless-one : {A : Type 0} (Demand : Type 0) (reason : LogFault) (n n2 : Next A) (Follows Follows2 : Type 0) → (Follows → Follows2 → n ≡ n2)
+Unless-one : {A : Type 0} (Demand : Type 0) (reason : LogReason) (n n2 : Next A) (Follows Follows2 : Type 0) → (Follows → Follows2 → n ≡ n2)
     → Unless Demand reason n Follows → Unless Demand reason n2 Follows2 → n ≡ n2
 Unless-one Demand reason n n2 Follows Follows2 one (inl a) (inl b) = a.1 ∙ sym b.1
 Unless-one Demand reason n n2 Follows Follows2 one (inl a) (inr b) = absurd (a.0 b.0)

@@ -7,8 +7,8 @@ use Rattle.sip_message.specs.Reads.{Reads}
 use Rattle.sip_standard.specs.Says.{Says}
 use Rattle.sip_message.specs.SaidOf.{said_of}
 use Rattle.sip_message.proofs.lemmas.says.Reading.{says-reads, says-no_fault}
-use Rattle.sip_key.specs.Solid.{solid}
-use Rattle.sip_key.specs.AckOf.{AckOf, IsAckOf, SameSolid}
+use Rattle.sip_standard.specs.Solid.{solid}
+use Rattle.sip_standard.specs.AckOf.{AckOf, IsAckOf, SameSolid}
 use Rattle.sip_key.proofs.AckOfLemmas.{ack-of_bytes}
 use Rattle.sip_machine.specs.inner.Tos.{IsToOf}
 

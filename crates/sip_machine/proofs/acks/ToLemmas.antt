@@ -12,7 +12,7 @@ use Rattle.std.proofs.lemmas.List.{get_or-map, get_or-take, get_or_default, leng
 use Rattle.std.proofs.lemmas.List.Elements.{All-contains, All-get_or, All-push, All-weaker, Contains-get_or}
 use Rattle.std.proofs.lemmas.List.Kept.{AllPairs-cons}
 use Rattle.sip_message.proofs.lemmas.message.Views.{same_reading}
-use Rattle.sip_key.specs.Solid.{solid}
+use Rattle.sip_standard.specs.Solid.{solid}
 use Rattle.sip_machine.specs.Texts.{Texts, IsBook, Keeps, text_of}
 use Rattle.sip_machine.specs.Retained.{only}
 use Rattle.sip_machine.specs.declared.tos.To.{To}

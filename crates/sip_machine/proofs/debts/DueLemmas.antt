@@ -8,7 +8,7 @@ use Rattle.std.proofs.lemmas.Bool.Decides.{nat_tests}
 use Rattle.std.proofs.lemmas.List.{get_or-set_same, set-get_or}
 use Rattle.sip_ledger.specs.declared.debt.Debt.{Debt}
 use Rattle.sip_ledger.specs.Debts.{counts_at, is_payable, IsWithoutFirst as LedgerWithoutFirst, paid_by}
-use Rattle.sip_machine.specs.Debts.{IsWithoutFirst}
+use Rattle.sip_standard.specs.Debts.{IsWithoutFirst}
 use Rattle.sip_machine.specs.Owes.{owed_in}
 use Rattle.sip_machine.specs.inner.Dues.{rows_in, AreBetween, AreDues}
 

@@ -8,7 +8,7 @@ use Rattle.sip_ledger.specs.declared.run.Run.{Run}
 use Rattle.sip_ledger.specs.Debts.{is_payable, paid_by}
 use Rattle.sip_ledger.specs.Runs.{debts_in}
 use Rattle.sip_machine.specs.Texts.{Texts, text_of}
-use Rattle.sip_machine.specs.Debts.{IsWithoutFirst}
+use Rattle.sip_standard.specs.Debts.{IsWithoutFirst}
 use Rattle.sip_machine.specs.inner.Acks.{HasTo}
 use Rattle.sip_machine.specs.inner.Tos.{IsToOf}
 use Rattle.sip_machine.specs.inner.DebtLaws.{All-front, All-back}

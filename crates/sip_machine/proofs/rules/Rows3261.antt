@@ -5,28 +5,31 @@ use Rattle.std.specs.Option.{option_map}
 use Rattle.std.proofs.Common.{inl, inr, refl, ap, sym, subst, ◌∙◌, arith}
 use Rattle.std.proofs.lemmas.List.{map-append, append-nil}
 use Rattle.std.proofs.lemmas.List.Elements.{filter_map-append}
-use Rattle.sip_machine.specs.declared.event.Kind.{Kind}
-use Rattle.sip_machine.specs.declared.event.Kind.TheVariants.{Request, Response}
+use Rattle.sip_standard.specs.declared.kind.Kind.{Kind}
+use Rattle.sip_standard.specs.declared.kind.Kind.TheVariants.{Request, Response}
 use Rattle.sip_machine.specs.declared.invite_server.InviteServerPhase.{InviteServerPhase as CodePhase}
 use Rattle.sip_machine.specs.declared.told.Field.{Field as CodeField}
 use Rattle.sip_machine.specs.declared.phases.Turn.{Turn}
 use Rattle.sip_standard.specs.Times.{Times}
 use Rattle.sip_machine.specs.Texts.{Texts}
-use Rattle.sip_machine.specs.MachineEvent.{MachineEvent}
-use Rattle.sip_machine.specs.Message.{IsSuccess}
+use Rattle.sip_standard.specs.MachineEvent.{MachineEvent}
+use Rattle.sip_standard.specs.Kind.{IsSuccess}
 use Rattle.sip_machine.specs.Told.{field_message, field_of_code}
-use Rattle.sip_machine.specs.Figure.{After, drops}
-use Rattle.sip_machine.specs.InviteClient as client
-use Rattle.sip_machine.specs.InviteClient.{InviteClientPhase, Ended, Calling, Proceeding}
-use Rattle.sip_machine.specs.InviteClient3261 as client_3261
-use Rattle.sip_machine.specs.InviteServer as server
-use Rattle.sip_machine.specs.InviteServer.{InviteServerPhase, invite_server_seen, invite_server_names, InviteServerInRange}
-use Rattle.sip_machine.specs.InviteServer3261 as server_3261
-use Rattle.sip_machine.specs.InviteServer3261.{InviteServer3261Phase, In, Within, invite_server_3261_seen, invite_server_3261_names, InviteServer3261InRange}
+use Rattle.sip_machine.specs.FigureRules.{After}
+use Rattle.sip_standard.specs.Figure.{drops}
+use Rattle.sip_standard.specs.InviteClient as client
+use Rattle.sip_standard.specs.InviteClient.{InviteClientPhase, Ended, Calling, Proceeding}
+use Rattle.sip_standard.specs.InviteClient3261 as client_3261
+use Rattle.sip_standard.specs.InviteServer as server
+use Rattle.sip_standard.specs.InviteServer.{InviteServerPhase}
+use Rattle.sip_machine.specs.inner.InviteServer.{invite_server_seen, invite_server_names, InviteServerInRange}
+use Rattle.sip_standard.specs.InviteServer3261 as server_3261
+use Rattle.sip_standard.specs.InviteServer3261.{InviteServer3261Phase, In, Within}
+use Rattle.sip_machine.specs.inner.InviteServer3261.{invite_server_3261_seen, invite_server_3261_names, InviteServer3261InRange}
 use Rattle.sip_machine.specs.Owing.{turn_seen, turn_names, TurnInRange}
 use Rattle.sip_machine.specs.inner.Single.{AnswersOne}
-use Rattle.sip_machine.specs.InviteClient3261.Laws.{IsEndedBy}
-use Rattle.sip_machine.specs.InviteServer3261.Laws.{turn_within}
+use Rattle.sip_machine.specs.inner.InviteClient3261.Laws.{IsEndedBy}
+use Rattle.sip_machine.specs.inner.InviteServer3261.Laws.{turn_within}
 
 -- a 2xx ends a client
 pub ended_row : (p : Times) (x : InviteClientPhase) (k : Kind) (e : MachineEvent) (y : After InviteClientPhase) → IsEndedBy x k → client_3261.Receives p x k e y ↔ (y ≡ (Ended, drops))

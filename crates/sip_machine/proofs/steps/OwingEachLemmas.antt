@@ -17,11 +17,13 @@ use Rattle.sip_standard.specs.Times.{Times}
 use Rattle.sip_standard.specs.Window.{close_at}
 use Rattle.sip_machine.specs.Limits.{IsWithin}
 use Rattle.sip_machine.specs.Texts.{Texts, Keeps}
-use Rattle.sip_machine.specs.MachineEvent.{MachineEvent}
+use Rattle.sip_standard.specs.MachineEvent.{MachineEvent}
 use Rattle.sip_machine.specs.Rules.{Covers, FromSome, Knows}
-use Rattle.sip_machine.specs.Debts.{Owed, earliest, must_deadlines, unexpired}
+use Rattle.sip_standard.specs.Debts.{Owed}
+use Rattle.sip_machine.specs.Deadlines.{earliest, must_deadlines, unexpired}
 use Rattle.sip_machine.specs.Owes.{owes_names, owes_seen}
-use Rattle.sip_machine.specs.Figure.{Figure, Owing, Steps, TakeOf, closes_at, until_of}
+use Rattle.sip_standard.specs.Figure.{Figure, Owing, Steps}
+use Rattle.sip_machine.specs.FigureRules.{TakeOf, closes_at, until_of}
 use Rattle.sip_machine.specs.Owing.{CodeOwing, turn_seen, turn_names, TurnInRange, owing_seen, owing_names, OwingInRange}
 use Rattle.sip_machine.specs.inner.Single.{AnswersOne}
 use Rattle.sip_machine.specs.inner.DebtLaws.{IsWithin-earliest, All-front, All-back}

@@ -16,11 +16,13 @@ use Rattle.sip_standard.specs.Times.{Times}
 use Rattle.sip_standard.specs.Window.{close_at}
 use Rattle.sip_machine.specs.Limits.{IsWithin}
 use Rattle.sip_machine.specs.Texts.{Texts, Keeps}
-use Rattle.sip_machine.specs.MachineEvent.{MachineEvent}
+use Rattle.sip_standard.specs.MachineEvent.{MachineEvent}
 use Rattle.sip_machine.specs.Rules.{Knows, OrStays}
-use Rattle.sip_machine.specs.Debts.{Owed, IsWithoutFirst, unexpired, softened}
+use Rattle.sip_standard.specs.Debts.{Owed, IsWithoutFirst, softened}
+use Rattle.sip_machine.specs.Deadlines.{unexpired}
 use Rattle.sip_machine.specs.Owes.{owed_seen, owes_seen, owes_names, OwesInRange}
-use Rattle.sip_machine.specs.Figure.{Figure, IsFigure, Change, keeps, softens, drops, gains, After, Owing, changed, led_to, quiet, Follows, Repays, Emits, Fails, Restarts, Steps, TakeOf, until_of}
+use Rattle.sip_standard.specs.Figure.{Figure, Change, keeps, softens, drops, gains, Owing, changed, quiet, Follows, Repays, Emits, Fails, Restarts, Steps}
+use Rattle.sip_machine.specs.FigureRules.{IsFigure, After, led_to, TakeOf, until_of}
 use Rattle.sip_machine.specs.Owing.{CodeOwing, change_seen, change_names, turn_seen, turn_names, TurnInRange, owing_seen, owing_names, OwingInRange, changed_debts}
 use Rattle.sip_machine.specs.inner.Single.{IsTheOne, AnswersOne}
 use Rattle.sip_machine.specs.inner.Both.{AnswersBoth}

@@ -14,7 +14,7 @@ use Rattle.sip_message.specs.SaidOf.{said_of}
 use Rattle.sip_message.proofs.lemmas.canon.Law.{code-decimal}
 use Rattle.sip_message.proofs.lemmas.says.Reading.{says-reads, said-is, says-no_fault}
 use Rattle.sip_message.proofs.lemmas.start_line.OneWay.{length-version, status_parts}
-use Rattle.sip_machine.specs.Provisional.{Is100}
+use Rattle.sip_standard.specs.Provisional.{Is100}
 use Rattle.sip_machine.specs.inner.Start.{IsStatus100}
 use Rattle.sip_standard.specs.Outcome.{stops}
 use Rattle.sip_standard.specs.Says.{Says}

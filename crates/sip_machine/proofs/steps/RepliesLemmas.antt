@@ -5,10 +5,11 @@ use Rattle.sip_ledger.specs.declared.debt.Debt.{Debt}
 use Rattle.sip_machine.specs.declared.phases.Change.TheVariants as code
 use Rattle.sip_machine.specs.Texts.{Texts, IsBook, Keeps, text_of}
 use Rattle.sip_machine.specs.Rules.{Knows}
-use Rattle.sip_machine.specs.Provisional.{Is100}
+use Rattle.sip_standard.specs.Provisional.{Is100}
 use Rattle.sip_machine.specs.Owes.{owes_names}
-use Rattle.sip_machine.specs.Figure.{After, gains}
-use Rattle.sip_machine.specs.Replies.{Replies}
+use Rattle.sip_machine.specs.FigureRules.{After}
+use Rattle.sip_standard.specs.Figure.{gains}
+use Rattle.sip_standard.specs.Replies.{Replies}
 use Rattle.sip_machine.specs.Owing.{turn_seen, turn_names, TurnInRange}
 use Rattle.sip_machine.specs.inner.Single.{IsTheOne}
 use Rattle.sip_ledger.specs.Debts.{is_payable}

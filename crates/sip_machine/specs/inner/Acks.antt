@@ -1,5 +1,5 @@
 use Rattle.std.specs.Prelude.{◌≤◌, ℕ, List}
-use Rattle.sip_key.specs.AckOf.{AckOf}
+use Rattle.sip_standard.specs.AckOf.{AckOf}
 use Rattle.sip_ledger.specs.declared.debt.Debt.{Debt}
 use Rattle.sip_machine.specs.Texts.{Texts, text_of}
 use Rattle.sip_machine.specs.inner.Tos.{IsToOf}

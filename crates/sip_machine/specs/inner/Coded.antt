@@ -1,12 +1,34 @@
 use Rattle.std.specs.Prelude.{◌≡◌, ◌≢◌, ◌⊎◌, ◌≤◌, ℕ, List, [], All, Contains, map}
-use Rattle.sip_machine.specs.declared.event.Kind.{Kind}
+use Rattle.sip_standard.specs.declared.kind.Kind.{Kind}
 use Rattle.sip_standard.specs.Times.{Times}
 use Rattle.sip_machine.specs.Texts.{Texts, IsBook, text_of}
-use Rattle.sip_machine.specs.MachineEvent.{MachineEvent}
+use Rattle.sip_standard.specs.MachineEvent.{MachineEvent}
 use Rattle.sip_machine.specs.Rules.{Knows}
 use Rattle.sip_machine.specs.Told.{Told, messages_told}
-use Rattle.sip_machine.specs.Figure.{Figure, IsFigure, After, closes_at, drops}
-use Rattle.sip_machine.specs.Transaction.{Coded}
+use Rattle.sip_standard.specs.Figure.{Figure, drops}
+use Rattle.sip_machine.specs.FigureRules.{IsFigure, After, closes_at}
+use Rattle.sip_machine.specs.Owing.{CodeOwing}
+
+-- How the code has a transaction.
+
+-- the phases of the code, whose messages are numbers of a book: what a phase stands for, what it names, which are
+-- in range, the one before anything was sent or received, and the one after an end; and a phase in words
+pub record Coded (Phase : Type 0) : Type 1 where
+  pub Code : Type 0
+  pub seen : Texts → Code → Phase
+  pub names : Code → List ℕ
+  pub InRange : Code → Type 0
+  pub idle : Code
+  pub ended : Code
+  pub told : Phase → Told (List ℕ)
+
+-- the state of the code before anything was sent or received
+abbrev pub idle_state : {Phase : Type 0} (c : Coded Phase) → CodeOwing c.Code
+idle_state c = record { phase = c.idle; owes = [] }
+
+-- and the one after an end
+abbrev pub ended_state : {Phase : Type 0} (c : Coded Phase) → CodeOwing c.Code
+ended_state c = record { phase = c.ended; owes = [] }
 
 -- What the laws of each machine say.
 

@@ -4,7 +4,8 @@ use Rattle.std.proofs.Common.{refl, sym, ◌∙◌, ap, ap₂, subst, arith, con
 use Rattle.std.proofs.lemmas.List.{map-append}
 use Rattle.std.proofs.lemmas.List.Elements.{All-head, All-tail, All-nil, All-cons, All-map, All-append, All-weaker}
 use Rattle.sip_machine.specs.Limits.{IsWithin}
-use Rattle.sip_machine.specs.Debts.{IsWithoutFirst, earliest}
+use Rattle.sip_standard.specs.Debts.{IsWithoutFirst}
+use Rattle.sip_machine.specs.Deadlines.{earliest}
 
 -- Lists without their first element of a kind, and the least of moments.
 

@@ -11,9 +11,10 @@ use Rattle.sip_standard.specs.declared.action.Action.TheVariants.{Sent, Received
 use Rattle.sip_standard.specs.Times.{Times}
 use Rattle.sip_machine.specs.Limits.{IsWithin}
 use Rattle.sip_machine.specs.Texts.{Texts}
-use Rattle.sip_machine.specs.MachineEvent.{MachineEvent}
+use Rattle.sip_standard.specs.MachineEvent.{MachineEvent}
 use Rattle.sip_machine.specs.Rules.{OrStays}
-use Rattle.sip_machine.specs.Figure.{Figure, Owing, Follows, Repays, until_of}
+use Rattle.sip_standard.specs.Figure.{Figure, Owing, Follows, Repays}
+use Rattle.sip_machine.specs.FigureRules.{until_of}
 use Rattle.sip_machine.specs.Owing.{CodeOwing, changed_debts, owing_seen}
 use Rattle.sip_ledger.specs.Debts.{counts_at, paid_by}
 

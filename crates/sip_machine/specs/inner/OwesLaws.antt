@@ -6,7 +6,8 @@ use Rattle.std.proofs.lemmas.List.Elements.{All-head, All-tail, All-nil, All-con
 use Rattle.sip_ledger.specs.declared.debt.Debt.{Debt}
 use Rattle.sip_machine.specs.Limits.{IsWithin}
 use Rattle.sip_machine.specs.Texts.{Texts, IsBook, Keeps, text_of}
-use Rattle.sip_machine.specs.Debts.{Owed, unexpired, softened, Pays, must_deadlines, earliest}
+use Rattle.sip_standard.specs.Debts.{Owed, softened}
+use Rattle.sip_machine.specs.Deadlines.{unexpired, Pays, must_deadlines, earliest}
 use Rattle.sip_machine.specs.Owes.{owed_seen, owes_seen, owes_names}
 use Rattle.sip_ledger.specs.Debts.{counts_at, softened_debt, is_payable, debt_deadlines}
 use Rattle.sip_machine.specs.inner.DebtLaws.{filter-map, All-front, All-back, All-without, IsWithin-earliest}

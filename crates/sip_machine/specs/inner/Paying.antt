@@ -2,7 +2,7 @@ use Rattle.std.specs.Prelude.{◌≤◌, ℕ, Option, None, Some, List, All}
 use Rattle.sip_ledger.specs.declared.debt.Debt.{Debt}
 use Rattle.sip_ledger.specs.Debts.{paid_by}
 use Rattle.sip_machine.specs.Texts.{Texts, text_of}
-use Rattle.sip_machine.specs.Debts.{IsWithoutFirst}
+use Rattle.sip_standard.specs.Debts.{IsWithoutFirst}
 
 -- What a send pays.
 

@@ -7,7 +7,8 @@ use Rattle.sip_machine.specs.contracts.waiting.WaitingPartialEq.TheImpl as deriv
 use Rattle.sip_standard.specs.Times.{Times}
 use Rattle.sip_standard.specs.Window.{close_at}
 use Rattle.sip_machine.specs.Texts.{Texts, IsBook, Keeps, text_of}
-use Rattle.sip_machine.specs.Waiting.{Waiting, waiting_closes, waiting_seen}
+use Rattle.sip_standard.specs.Waiting.{Waiting}
+use Rattle.sip_machine.specs.inner.Waiting.{waiting_closes, waiting_seen}
 use Rattle.sip_machine.specs.inner.MessageLaws.{message_apart}
 
 -- Laws of requests that wait, and of timers that start.

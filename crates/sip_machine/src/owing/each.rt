@@ -6,9 +6,9 @@ ghost use Rattle.sip_standard.specs.declared.action.Action.TheVariants.{Received
 ghost use Rattle.sip_ledger.specs.declared.debt.Debt.{Debt};
 ghost use Rattle.sip_ledger.specs.Ledgers.{from_to};
 ghost use Rattle.sip_standard.specs.Window.{close_at};
-ghost use Rattle.sip_machine.specs.MachineEvent.{FitsBook, KeepsMessage, event_in};
+ghost use Rattle.sip_machine.specs.NumberedEvent.{FitsBook, KeepsMessage, event_in};
 ghost use Rattle.sip_machine.specs.Rules.{Covers, FromSome, Knows};
-ghost use Rattle.sip_machine.specs.Figure.{TakeOf};
+ghost use Rattle.sip_machine.specs.FigureRules.{TakeOf};
 ghost use Rattle.sip_machine.specs.Owing.{CodeOwing, owing_seen, owing_names, OwingInRange};
 ghost use Rattle.sip_machine.specs.inner.Single.{AnswersOne};
 ghost use Rattle.sip_machine.specs.inner.Effects.{Leads, LeadsFrom, RestsFrom, led_by, unexpired_at};

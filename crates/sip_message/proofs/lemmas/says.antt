@@ -4,3 +4,4 @@ pub mod Values
 pub mod Names
 pub mod Bytes
 pub mod Reading
+pub mod Canonical

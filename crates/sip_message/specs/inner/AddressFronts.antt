@@ -8,7 +8,7 @@ use Rattle.sip_text.specs.Bytes.{colon, is_one_of, is_token_byte}
 use Rattle.sip_text.specs.Uri.{UriText}
 use Rattle.sip_text.specs.inner.Cut.{before, behind}
 use Rattle.sip_message.specs.declared.address.Cuts.{Cuts}
-use Rattle.sip_message.specs.Unfold.{is_blank}
+use Rattle.sip_standard.specs.Field.{is_lws_byte}
 use Rattle.sip_message.specs.Params.{left_angle, right_angle, ParamsPart, BehindBlanks}
 use Rattle.sip_message.specs.Address.{AddressParts}
 use Rattle.sip_message.specs.inner.Fronts.{Stops, Behind, Seq}
@@ -41,7 +41,7 @@ HasScheme text =
 
 -- a byte of a URI that stands without "<"
 abbrev pub is_unmarked_byte : ℕ → Bool
-is_unmarked_byte byte = not (is_blank byte) && not (is_one_of (codes ",?;") byte)
+is_unmarked_byte byte = not (is_lws_byte byte) && not (is_one_of (codes ",?;") byte)
 
 -- the display name, the text of the URI, and what follows them
 pub record CutParts : Type 0 where

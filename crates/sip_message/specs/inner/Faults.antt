@@ -10,7 +10,8 @@ use Rattle.sip_message.specs.Name.{FieldName}
 use Rattle.sip_standard.specs.StartLine.{StartLine}
 use Rattle.sip_message.specs.StartLine.{StartText}
 use Rattle.sip_message.specs.Field.{Field, NameText, ValueText, Row}
-use Rattle.sip_message.specs.Message.{Message, found, MethodFits, content_length, HasLength, IsEnough, IsNoMore, cut_body}
+use Rattle.sip_message.specs.Message.{Message, found, MethodFits, content_length, HasLength, IsEnough, IsNoMore}
+use Rattle.sip_standard.specs.Body.{cut_body}
 use Rattle.sip_standard.specs.Faults.{fault_in_head, fault_in_line, fault_in_body}
 use Rattle.sip_standard.specs.Field.{FirstOf, NoSecond, OneOf}
 

@@ -10,7 +10,9 @@ use Rattle.sip_message.specs.declared.via.Via.{Via}
 use Rattle.sip_message.specs.Field.{Field}
 use Rattle.sip_message.specs.inner.Faults.{BodyOf}
 use Rattle.sip_standard.specs.Outcome.{gives}
-use Rattle.sip_message.specs.Reading.{IsValueOf, CSeqValue}
+use Rattle.sip_standard.specs.Says.{IsFirstOf}
+use Rattle.sip_message.specs.Elements.{values}
+use Rattle.sip_message.specs.Reading.{CSeqValue}
 use Rattle.sip_message.specs.ValueParts.{start_parts, cseq_parts}
 use Rattle.sip_message.specs.ViaParts.{element}
 use Rattle.sip_message.specs.inner.ElementFronts.{FirstVia}
@@ -38,11 +40,11 @@ names_of n = record {
 
 -- where the named fields stand
 pub record Stand (fields : List Field) (n : Names) : Type 0 where
-  pub via : IsValueOf known_name.Via fields (n.via.1)
-  pub from : IsValueOf known_name.From fields n.from
-  pub to : IsValueOf known_name.To fields n.to
-  pub call_id : IsValueOf known_name.CallId fields n.call_id
-  pub cseq : IsValueOf known_name.CSeq fields (n.cseq.1)
+  pub via : IsFirstOf (values known_name.Via fields) (n.via.1)
+  pub from : IsFirstOf (values known_name.From fields) n.from
+  pub to : IsFirstOf (values known_name.To fields) n.to
+  pub call_id : IsFirstOf (values known_name.CallId fields) n.call_id
+  pub cseq : IsFirstOf (values known_name.CSeq fields) (n.cseq.1)
 
 -- the body, wherever the first Via and the CSeq stand
 abbrev pub HasBody : StartLine → Via → CSeq → Option (List ℕ) → List ℕ → List ℕ → Type 0

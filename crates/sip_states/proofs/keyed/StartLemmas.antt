@@ -1,11 +1,12 @@
 -- A key that starts anew: the set with which it comes can wait for ever, and needs no mark.
 use Rattle.std.proofs.Common.{ℕ, Bool, List, [], ◌∷◌, None, Contains, inl, inr, map, slice_set, refl, sym, subst}
-use Rattle.sip_key.specs.Key.{KeyParts}
+use Rattle.sip_standard.specs.Key.{KeyParts}
 use Rattle.sip_standard.specs.Times.{Times}
 use Rattle.sip_machine.specs.Texts.{Texts}
 use Rattle.sip_states.specs.Runs.{IsAgenda}
 use Rattle.sip_states.specs.Held.{Held}
-use Rattle.sip_states.specs.KeyMachine.{MachineKind, StateOf, machine_of_key, start_is, start_of_machine}
+use Rattle.sip_standard.specs.KeyMachine.{MachineKind, machine_of_key}
+use Rattle.sip_states.specs.KeySets.{StateOf, start_is, start_of_machine}
 use Rattle.sip_states.specs.Meaning.{HasAgenda}
 use Rattle.sip_states.specs.AnySet.{IsAgendaOf, meaning_of, start_of}
 use Rattle.sip_states.specs.declared.any_set.AnySet.{AnySet}

@@ -3,7 +3,7 @@ use Rattle.std.proofs.lemmas.List.Quantifiers.{position-Some}
 use Rattle.std.proofs.lemmas.Option.{slice_get-get_or}
 use Rattle.std.specs.Map.{keys_of, values_of, lookup}
 use Rattle.indexmap.specs.Layout.{set_value_at}
-use Rattle.sip_key.specs.Key.{KeyParts, same_key}
+use Rattle.sip_standard.specs.Key.{KeyParts, same_key}
 use Rattle.sip_key.specs.inner.KeyLaws.{same_key-decides}
 
 -- Lists of keys with their sets.

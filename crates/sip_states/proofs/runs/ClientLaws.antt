@@ -2,25 +2,28 @@
 use Rattle.std.proofs.Common.{◌≡◌, ◌≤◌, ◌⊎◌, inl, inr, ℕ, Bool, true, false, Some, None, List, [], ◌∷◌, ◌++◌, ◌∙◌, refl, sym, subst, arith}
 use Rattle.std.specs.Prelude.{⊤}
 use Rattle.std.proofs.Math.Decide.{dec_le}
-use Rattle.sip_key.specs.declared.role.Role.TheVariants.{Client}
+use Rattle.sip_standard.specs.declared.role.Role.TheVariants.{Client}
 use Rattle.sip_standard.specs.declared.rules.Rules.{Rules as BuiltBy}
 use Rattle.sip_standard.specs.declared.rules.Rules.TheVariants.{R3261, R6026}
 use Rattle.sip_standard.specs.declared.action.Action.{Action}
 use Rattle.sip_standard.specs.declared.action.Action.TheVariants.{Sent, Received, Failed, Mark, Restart}
-use Rattle.sip_machine.specs.declared.event.Method.{Method}
-use Rattle.sip_machine.specs.declared.event.Method.TheVariants.{Invite, Ack, Cancel}
-use Rattle.sip_machine.specs.declared.event.Kind.{Kind}
-use Rattle.sip_machine.specs.declared.event.Kind.TheVariants.{Request, Response}
+use Rattle.sip_standard.specs.declared.kind.Method.{Method}
+use Rattle.sip_standard.specs.declared.kind.Method.TheVariants.{Invite, Ack, Cancel}
+use Rattle.sip_standard.specs.declared.kind.Kind.{Kind}
+use Rattle.sip_standard.specs.declared.kind.Kind.TheVariants.{Request, Response}
 use Rattle.sip_standard.specs.Times.{Times}
 use Rattle.sip_standard.specs.Window.{open_at}
-use Rattle.sip_machine.specs.MachineEvent.{MachineEvent}
-use Rattle.sip_machine.specs.Message.{IsFinal}
-use Rattle.sip_machine.specs.Debts.{Owed, unexpired}
-use Rattle.sip_machine.specs.Figure.{Figure, After as Row, Owing, led_to, Emits, Fails, Steps, rules_of as rules_of_figure}
-use Rattle.sip_machine.specs.InviteClient as invite
-use Rattle.sip_machine.specs.PlainClient as plain
+use Rattle.sip_standard.specs.MachineEvent.{MachineEvent}
+use Rattle.sip_standard.specs.Kind.{IsFinal}
+use Rattle.sip_standard.specs.Debts.{Owed}
+use Rattle.sip_machine.specs.Deadlines.{unexpired}
+use Rattle.sip_standard.specs.Figure.{Figure, Owing, Emits, Fails, Steps}
+use Rattle.sip_machine.specs.FigureRules.{After as Row, led_to, rules_of as rules_of_figure}
+use Rattle.sip_standard.specs.InviteClient as invite
+use Rattle.sip_standard.specs.PlainClient as plain
 use Rattle.sip_states.specs.Runs.{Step, Hides, Takes, Does, Goes, taken, AfterRun}
-use Rattle.sip_states.specs.KeyMachine.{OfInviteClient, OfPlainClient, machine_of, PhaseOf, key_rules}
+use Rattle.sip_standard.specs.KeyMachine.{OfInviteClient, OfPlainClient, machine_of}
+use Rattle.sip_states.specs.KeySets.{PhaseOf, key_rules}
 use Rattle.sip_states.proofs.runs.RunLemmas.{Goes-last}
 use Rattle.sip_states.proofs.runs.FewerLemmas.{Goes-through}
 

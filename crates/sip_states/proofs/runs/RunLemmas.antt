@@ -1,5 +1,5 @@
 use Rattle.std.proofs.Common.{◌≡◌, ◌≤◌, ◌↔◌, ℕ, List, [], ◌∷◌, ◌++◌, map, refl, ap, subst, ◌∙◌}
-use Rattle.sip_machine.specs.MachineEvent.{MachineEvent}
+use Rattle.sip_standard.specs.MachineEvent.{MachineEvent}
 use Rattle.sip_machine.specs.Rules.{Rules}
 use Rattle.sip_states.specs.Runs.{Step, Hides, Takes, moment_of_step, Does, Goes, Reaches, taken, Wait, RunGives, RuledRun, AfterRun}
 

@@ -2,19 +2,22 @@
 use Rattle.std.proofs.Common.{◌≡◌, ◌⊎◌, inl, inr, ℕ, suc, Bool, true, false, None, List, [], ◌∷◌, ◌++◌, refl, subst, arith}
 use Rattle.std.specs.List.{Any}
 use Rattle.sip_standard.specs.declared.action.Action.{Action}
-use Rattle.sip_key.specs.declared.role.Role.TheVariants.{Server}
+use Rattle.sip_standard.specs.declared.role.Role.TheVariants.{Server}
 use Rattle.sip_standard.specs.declared.rules.Rules.{Rules as BuiltBy}
 use Rattle.sip_standard.specs.declared.rules.Rules.TheVariants.{R3261, R6026}
 use Rattle.sip_standard.specs.declared.action.Action.TheVariants.{Sent, Received, Failed, Mark, Restart}
-use Rattle.sip_machine.specs.declared.event.Method.{Method}
-use Rattle.sip_machine.specs.declared.event.Kind.{Kind}
-use Rattle.sip_machine.specs.declared.event.Kind.TheVariants.{Request, Response}
+use Rattle.sip_standard.specs.declared.kind.Method.{Method}
+use Rattle.sip_standard.specs.declared.kind.Kind.{Kind}
+use Rattle.sip_standard.specs.declared.kind.Kind.TheVariants.{Request, Response}
 use Rattle.sip_standard.specs.Times.{Times}
-use Rattle.sip_machine.specs.MachineEvent.{MachineEvent}
-use Rattle.sip_machine.specs.Debts.{Owed, unexpired}
-use Rattle.sip_machine.specs.Figure.{Figure, After as Row, Owing, quiet, Emits, Fails, Steps, rules_of as rules_of_figure}
+use Rattle.sip_standard.specs.MachineEvent.{MachineEvent}
+use Rattle.sip_standard.specs.Debts.{Owed}
+use Rattle.sip_machine.specs.Deadlines.{unexpired}
+use Rattle.sip_standard.specs.Figure.{Figure, Owing, quiet, Emits, Fails, Steps}
+use Rattle.sip_machine.specs.FigureRules.{After as Row, rules_of as rules_of_figure}
 use Rattle.sip_states.specs.Runs.{Step, Hides, Takes, Goes, taken, AfterRun}
-use Rattle.sip_states.specs.KeyMachine.{machine_of, transaction_of, PhaseOf, key_rules}
+use Rattle.sip_standard.specs.KeyMachine.{machine_of, transaction_of}
+use Rattle.sip_states.specs.KeySets.{PhaseOf, key_rules}
 use Rattle.sip_states.proofs.sets.Waiting.{IsOpenAt-none}
 use Rattle.sip_states.proofs.runs.RunLemmas.{Goes-last}
 

@@ -5,13 +5,14 @@ use Rattle.std.proofs.lemmas.List.{append_assoc, append-nil}
 use Rattle.std.proofs.lemmas.List.Elements.{All-head, All-nil, All-cons, All-append}
 use Rattle.sip_standard.specs.Times.{Times}
 use Rattle.sip_machine.specs.Limits.{IsOpenAt}
-use Rattle.sip_machine.specs.MachineEvent.{MachineEvent}
+use Rattle.sip_standard.specs.MachineEvent.{MachineEvent}
 use Rattle.sip_machine.specs.Rules.{Waits, Hide}
-use Rattle.sip_machine.specs.Figure.{Figure, IsFigure, Owing, quiet, Lasts, MayEnd, closes_of, closes_at, rules_of}
+use Rattle.sip_standard.specs.Figure.{Figure, Owing, quiet, Lasts, MayEnd}
+use Rattle.sip_machine.specs.FigureRules.{IsFigure, closes_of, closes_at, rules_of}
 use Rattle.sip_machine.specs.inner.DebtLaws.{All-front, All-back}
 use Rattle.sip_machine.specs.inner.OwesLaws.{IsWithin-owed}
 use Rattle.sip_machine.specs.inner.FigureLaws.{rules_lawful}
-use Rattle.sip_states.specs.Stands.{Stands, begins, waits, ends, takes, StandsBehind}
+use Rattle.sip_standard.specs.Stands.{Stands, begins, waits, ends, takes, StandsBehind}
 use Rattle.sip_states.specs.Runs.{Step, Hides, Takes, Goes, taken, RuledRun, AfterRun}
 use Rattle.sip_states.proofs.sets.Waiting.{IsWithin-none, Wait-stay}
 use Rattle.sip_states.proofs.runs.RunLemmas.{taken-append, Goes-push, Run-wait, After-run}

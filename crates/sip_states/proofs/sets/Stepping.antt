@@ -3,7 +3,7 @@ use Rattle.std.proofs.Math.Seq.{drop-append_seam, get_or-append_seam}
 use Rattle.std.proofs.lemmas.List.{get_or_append_left, map-append}
 use Rattle.std.proofs.lemmas.List.Elements.{All-append, All-contains, Contains-get_or, Contains-append_left, Contains-append_right, Contains-append_cases}
 use Rattle.sip_machine.specs.Texts.{Texts, IsBook}
-use Rattle.sip_machine.specs.MachineEvent.{MachineEvent}
+use Rattle.sip_standard.specs.MachineEvent.{MachineEvent}
 use Rattle.sip_machine.specs.Rules.{Rules, Covers, FromSome, IsLawful, Knows, StandFor}
 use Rattle.sip_states.specs.inner.Ways.{SomeCanEnd, GivesFrom, GivesAfter}
 use Rattle.sip_states.proofs.lists.Listed.{Contains-none, Contains-here, Contains-there, Contains-cons, Contains-single, Contains-map, Contains-from_map}

@@ -3,12 +3,12 @@ use Rattle.std.proofs.lemmas.List.{length-map}
 use Rattle.std.proofs.lemmas.List.Elements.{All-contains_itself, All-head, All-weaker, Contains-get_or}
 use Rattle.sip_machine.specs.Limits.{IsWithin}
 use Rattle.sip_machine.specs.Texts.{Texts}
-use Rattle.sip_machine.specs.MachineEvent.{MachineEvent}
+use Rattle.sip_standard.specs.MachineEvent.{MachineEvent}
 use Rattle.sip_machine.specs.Rules.{Rules, IsLawful, Waits, StandFor}
 use Rattle.sip_states.specs.Held.{IsKept}
 use Rattle.sip_states.specs.inner.Ways.{Advances}
 use Rattle.sip_states.specs.Runs.{RunGives, IsWide, widest}
-use Rattle.sip_states.proofs.lists.Few.{distinct_few}
+use Rattle.sip_standard.proofs.Few.{distinct_few}
 use Rattle.sip_states.proofs.sets.Following.{Follows, seen_waits, ended_stays}
 use Rattle.sip_states.proofs.lists.Listed.{Contains-map}
 use Rattle.sip_states.proofs.sets.Waiting.{IsWithin-none}

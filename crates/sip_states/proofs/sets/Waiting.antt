@@ -1,6 +1,6 @@
 use Rattle.std.proofs.Common.{◌≡◌, ◌≤◌, ◌↔◌, ◌⊎◌, inl, inr, ℕ, Option, Some, None, List, [], ◌∷◌, map, refl, sym, subst, arith}
 use Rattle.sip_machine.specs.Limits.{IsWithin, IsOpenAt}
-use Rattle.sip_machine.specs.MachineEvent.{MachineEvent}
+use Rattle.sip_standard.specs.MachineEvent.{MachineEvent}
 use Rattle.sip_machine.specs.Rules.{Rules, IsLawful, Waits, Hide}
 use Rattle.sip_states.specs.Runs.{Hides, Reaches, Wait, RunGives}
 

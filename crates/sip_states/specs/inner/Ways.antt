@@ -2,7 +2,7 @@ use Rattle.std.specs.Prelude.{◌≡◌, ◌≢◌, ◌≤◌, ◌+◌, ◌↔�
 use Rattle.std.specs.List.{Any}
 use Rattle.sip_machine.specs.Limits.{IsWithin, IsOpenAt}
 use Rattle.sip_machine.specs.Texts.{Texts}
-use Rattle.sip_machine.specs.MachineEvent.{MachineEvent}
+use Rattle.sip_standard.specs.MachineEvent.{MachineEvent}
 use Rattle.sip_machine.specs.Rules.{Rules, Waits}
 use Rattle.sip_states.specs.Runs.{Wait, RunGives}
 

@@ -4,15 +4,17 @@ use Rattle.std.specs.Option.{option_map}
 use Rattle.std.proofs.lemmas.Bool.{false≢true}
 use Rattle.std.proofs.lemmas.List.Quantifiers.{position-Some}
 use Rattle.std.proofs.lemmas.Option.{slice_get_within, slice_get-get_or}
-use Rattle.sip_key.specs.Key.{KeyParts}
+use Rattle.sip_standard.specs.Key.{KeyParts}
 use Rattle.sip_machine.specs.Texts.{Texts}
 use Rattle.sip_states.specs.Agenda.{is_overdue}
 use Rattle.sip_states.specs.AnySet.{moment_of}
-use Rattle.sip_states.specs.KeyMachine.{key_rules, machine_of_key}
+use Rattle.sip_states.specs.KeySets.{key_rules}
+use Rattle.sip_standard.specs.KeyMachine.{machine_of_key}
 use Rattle.sip_states.specs.Tables.{Tabled, due_of}
 use Rattle.sip_states.specs.declared.any_set.AnySet.{AnySet}
 use Rattle.sip_verdict.specs.Judging.{Judging, StandsFor, CanWaitUntil}
-use Rattle.sip_verdict.specs.Keyed.{Observation, keys_of, events_of, newest_moment}
+use Rattle.sip_standard.specs.Observation.{Observation}
+use Rattle.sip_verdict.specs.Keyed.{keys_of, events_of, newest_moment}
 use Rattle.sip_verdict.specs.MessageReading.{key_machines}
 use Rattle.sip_verdict.specs.inner.Stepping.{RunsUntil}
 use Rattle.sip_verdict.specs.inner.TablesTracking.{LeadsOf, key_keeping, transactions_of, MayPass, MayTake, AllAreOnRecord, TablesTrack}

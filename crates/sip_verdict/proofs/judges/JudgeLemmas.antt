@@ -1,22 +1,20 @@
 -- A judge after one entry more, and what it tells of the input that the entries were read of.
 use Rattle.std.proofs.Common.{◌≡◌, ◌+◌, ◌-◌, ◌∙◌, ℕ, Option, Some, None, IfSome, MatchOption, slice_get, List, [], ◌∷◌, ◌++◌, length, refl, sym, ap, subst}
 use Rattle.std.proofs.lemmas.List.{length_push}
-use Rattle.sip_key.specs.Key.{KeyParts}
+use Rattle.sip_standard.specs.Key.{KeyParts}
 use Rattle.sip_machine.specs.Texts.{Texts}
 use Rattle.sip_states.specs.Tables.{HasNumber, IsGiven, Tabled}
 use Rattle.sip_log.specs.declared.entry.Entry.{Entry}
-use Rattle.sip_standard.specs.LogFault.{LogFault}
 use Rattle.sip_standard.specs.LogSays.{Clean, Stops, LogSays}
 use Rattle.sip_log.specs.Told.{item}
-use Rattle.sip_log.specs.Reading as log
-use Rattle.sip_verdict.specs.declared.log_reason.LogReason.{LogReason}
+use Rattle.sip_standard.specs.declared.log_reason.LogReason.{LogReason}
 use Rattle.sip_verdict.specs.declared.stage.Stage.TheVariants.{Open}
-use Rattle.sip_verdict.specs.declared.verdict.Verdict.{Verdict}
-use Rattle.sip_verdict.specs.declared.verdict.Verdict.TheVariants.{Legal, LogFault as FaultOfLog}
-use Rattle.sip_verdict.specs.LogReason.{reason_of}
-use Rattle.sip_verdict.specs.Keyed.{Observation, keys_of}
+use Rattle.sip_standard.specs.declared.verdict.Verdict.{Verdict}
+use Rattle.sip_standard.specs.declared.verdict.Verdict.TheVariants.{Legal, LogFault as FaultOfLog}
+use Rattle.sip_standard.specs.Observation.{Observation}
+use Rattle.sip_verdict.specs.Keyed.{keys_of}
 use Rattle.sip_verdict.specs.Verdicts.{IsTrouble}
-use Rattle.sip_verdict.specs.VerdictOf.{IsVerdictOf}
+use Rattle.sip_standard.specs.VerdictOf.{IsVerdictOf}
 use Rattle.sip_verdict.specs.MessageReading.{key_machines, message_reading}
 use Rattle.sip_verdict.specs.Judging.{Judging, StandsFor, MayComeNext, IsNext}
 use Rattle.sip_verdict.specs.inner.Sweeping.{AreFollowedOn, StandsForRead}
@@ -29,6 +27,7 @@ use Rattle.sip_log.proofs.answers.ReadingLemmas.{IfSome-map}
 use Rattle.sip_verdict.proofs.judges.JudgingLemmas.{observed-push, judged_ends, judged_trouble}
 use Rattle.sip_verdict.proofs.verdicts.VerdictLemmas.{by-verdict}
 use Rattle.sip_verdict.proofs.sweeps.FollowedLemmas.{observed_moment, followed_keys}
+use Rattle.sip_log.specs.Reading as log
 
 -- an entry may be taken that may come next
 pub may_take_next : (texts : Texts) (t : Tabled) (count last number moment : ℕ) → MayComeNext count last number moment → MayTake texts t (count + 1) last → MayTake texts t number moment
@@ -76,7 +75,7 @@ module _ (start : Option (List ℕ)) (now : log.ReaderState) (j : Judging) (read
       verdict_of start legal (judged_ends message_reading j.tables.times _ start now read read.follows.follows.tracks.good Clean legal refl logs)
 
   -- the next entry cannot be read
-  pub read_stops : (count : ℕ) (reason : LogReason) → count ≡ j.number → (fault : LogFault) × (reason ≡ reason_of fault) × IfSome start (λ input. LogSays input j.tables.times read.items (Stops fault))
+  pub read_stops : (count : ℕ) (reason : LogReason) → count ≡ j.number → (fault : LogReason) × (reason ≡ fault) × IfSome start (λ input. LogSays input j.tables.times read.items (Stops fault))
       → IfSome start (λ input. IsVerdictOf input (FaultOfLog (count + 1) reason))
   read_stops count reason counts (fault, is, logs) =
       verdict_of start (FaultOfLog (count + 1) reason) (judged_ends message_reading j.tables.times _ start now read read.follows.follows.tracks.good (Stops fault) (FaultOfLog (count + 1) reason)

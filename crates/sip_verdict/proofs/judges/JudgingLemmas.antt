@@ -6,8 +6,8 @@ use Rattle.sip_standard.specs.LogEntry.{Item}
 use Rattle.sip_standard.specs.LogSays.{LogEnd, LogSays}
 use Rattle.sip_log.specs.Reading as log
 use Rattle.sip_log.proofs.answers.ReadingLemmas.{IfSome-map}
-use Rattle.sip_verdict.specs.declared.verdict.Verdict.{Verdict}
-use Rattle.sip_verdict.specs.Keyed.{Observation}
+use Rattle.sip_standard.specs.declared.verdict.Verdict.{Verdict}
+use Rattle.sip_standard.specs.Observation.{Observation}
 use Rattle.sip_verdict.specs.Verdicts.{IsGood, IsTrouble}
 use Rattle.sip_verdict.specs.Reading.{EntryReading, AreObserved, Judges, IsVerdictBy}
 use Rattle.sip_verdict.specs.inner.Walking.{HasRead, Judged}

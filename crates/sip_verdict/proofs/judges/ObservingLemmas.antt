@@ -9,27 +9,26 @@ use Rattle.sip_message.specs.Reads.{Reads}
 use Rattle.sip_standard.specs.Outcome.{gives, stops}
 use Rattle.sip_standard.specs.Says.{Said, Says}
 use Rattle.sip_message.specs.SaidOf.{said_of}
-use Rattle.sip_key.specs.declared.role.Direction.{Direction}
-use Rattle.sip_key.specs.declared.role.Direction.TheVariants as way
-use Rattle.sip_key.specs.Key.{KeyParts}
-use Rattle.sip_key.specs.Branch.{cookie_branch}
-use Rattle.sip_key.specs.Concerns.{Concerns, is_sent, lacks_cookie}
+use Rattle.sip_standard.specs.declared.role.Direction.{Direction}
+use Rattle.sip_standard.specs.declared.role.Direction.TheVariants as way
+use Rattle.sip_standard.specs.Key.{KeyParts}
+use Rattle.sip_standard.specs.Branch.{cookie_branch}
+use Rattle.sip_standard.specs.Concerns.{Concerns, is_sent, lacks_cookie}
 use Rattle.sip_standard.specs.declared.action.Action.{Action}
 use Rattle.sip_standard.specs.declared.action.Action.TheVariants.{Sent, Received, Failed, Mark, Restart}
-use Rattle.sip_machine.specs.Message.{kind_of}
-use Rattle.sip_machine.specs.NumberedEvent.{NumberedEvent}
+use Rattle.sip_standard.specs.Kind.{kind_of}
+use Rattle.sip_machine.specs.NumberedEvent.{NumberedEvent, event_in, FitsBook}
 use Rattle.sip_machine.specs.Texts.{Texts, Keeps, text_of}
-use Rattle.sip_machine.specs.MachineEvent.{event_in, FitsBook}
 use Rattle.sip_standard.specs.Times.{last_moment}
 use Rattle.sip_log.specs.declared.entry.Entry.{Entry}
 use Rattle.sip_log.specs.Told.{item}
 use Rattle.sip_standard.specs.LogEntry.{Item}
 use Rattle.sip_verdict.specs.declared.concerned.Concerned.{Concerned}
 use Rattle.sip_verdict.specs.declared.concerned.Concerned.TheVariants as concerned
-use Rattle.sip_verdict.specs.Keyed.{Observation}
+use Rattle.sip_standard.specs.Observation.{Observation, direction_of, silent_observation, fault_observation, no_cookie, message_event, ObservesMessage, has_fault, has_no_cookie, is_heard}
 use Rattle.sip_verdict.specs.Listing.{has_message}
-use Rattle.sip_verdict.specs.MessageReading.{direction_of, silent_observation, fault_observation, no_cookie, message_event, ObservesMessage, has_fault, has_no_cookie, is_heard, message_reading, ConcernsNone}
-use Rattle.sip_verdict.specs.VerdictOf.{keys_in}
+use Rattle.sip_verdict.specs.MessageReading.{message_reading, ConcernsNone}
+use Rattle.sip_standard.specs.VerdictOf.{keys_in}
 use Rattle.sip_verdict.specs.inner.Concerned.{each, is_all}
 use Rattle.sip_verdict.specs.inner.Observing.{IsObserved, IsHeard, IsKept, silent_told}
 use Rattle.sip_verdict.proofs.verdicts.MessageUnique.{observes_one}
@@ -145,7 +144,7 @@ event_kept item r texts event number bytes is keeps text = let same : number ≡
 -- What concerns no key.
 
 -- without a branch there is no key
-no_keys : {A B : Type 0} (own other : A → B) (cancels : Bool) (branch : Option A) → branch ≡ None
+pub no_keys : {A B : Type 0} (own other : A → B) (cancels : Bool) (branch : Option A) → branch ≡ None
     → option_to_list (option_map own branch) ++ option_to_list (if cancels then option_map other branch else None) ≡ []
 no_keys own other cancels (Some x) none = absurd cc
 no_keys own other true None none = refl
@@ -182,7 +181,7 @@ other_way way direction i j e same (is_heard s keys says fine concerns is) none 
     (no_branch _ _ (is_sent (λ method. bytes_eq method (codes "CANCEL")) s.start way) (cookie_branch s.via.branch) (sym concerns ∙ sym (ap (λ o. o.keys) is) ∙ none))
 
 -- an entry with a message went some way
-went : (action : Action) → has_message action ≡ true → (direction : Direction) × (direction_of action ≡ Some direction)
+pub went : (action : Action) → has_message action ≡ true → (direction : Direction) × (direction_of action ≡ Some direction)
 went Sent says = (way.Sent, refl)
 went Received says = (way.Received, refl)
 went Failed says = (way.Sent, refl)

@@ -2,12 +2,13 @@
 use Rattle.std.proofs.Common.{◌≡◌, ◌≢◌, ◌≤◌, ℕ, List, [], ◌∷◌, ◌++◌, sym, ap, ◌∙◌, subst}
 use Rattle.sip_standard.specs.Times.{Times}
 use Rattle.sip_machine.specs.Texts.{Texts}
-use Rattle.sip_machine.specs.NumberedEvent.{NumberedEvent}
-use Rattle.sip_machine.specs.MachineEvent.{MachineEvent, event_in}
+use Rattle.sip_machine.specs.NumberedEvent.{NumberedEvent, event_in}
+use Rattle.sip_standard.specs.MachineEvent.{MachineEvent}
 use Rattle.sip_machine.specs.Rules.{Rules, StandFor}
 use Rattle.sip_states.specs.Runs.{AfterRun, IsWide}
 use Rattle.sip_states.specs.Held.{Held}
-use Rattle.sip_states.specs.KeyMachine.{MachineKind, PhaseOf, key_rules, StateOf, set_of}
+use Rattle.sip_standard.specs.KeyMachine.{MachineKind}
+use Rattle.sip_states.specs.KeySets.{PhaseOf, key_rules, StateOf, set_of}
 use Rattle.sip_states.specs.Meaning.{IsKnown, Given, HasTaken}
 use Rattle.sip_states.specs.AnySet.{meaning_of, moment_of, IsEmpty, IsKnownSet, SetTakes, IsSetTooWide}
 use Rattle.sip_states.specs.declared.any_set.AnySet.{AnySet}

@@ -3,11 +3,12 @@ use Rattle.std.proofs.Common.{◌≡◌, ◌≤◌, ℕ, List, [], ◌∷◌, �
 use Rattle.std.specs.Prelude.{filter, fold, AllPairs}
 use Rattle.std.proofs.lemmas.List.{map-append}
 use Rattle.std.proofs.lemmas.List.Elements.{All-nil, All-cons, All-head, All-map, All-filter, filter-append}
-use Rattle.sip_machine.specs.MachineEvent.{MachineEvent}
+use Rattle.sip_standard.specs.MachineEvent.{MachineEvent}
 use Rattle.sip_states.specs.Runs.{RuledRun}
-use Rattle.sip_states.proofs.lists.Few.{AllPairs-head, AllPairs-tail}
+use Rattle.sip_standard.proofs.Few.{AllPairs-head, AllPairs-tail}
 use Rattle.sip_states.proofs.runs.FewerLemmas.{Run-fewer}
-use Rattle.sip_verdict.specs.Keyed.{Observation, Machines, concerns, events_of, newest_moment, HasRun}
+use Rattle.sip_standard.specs.Observation.{Observation}
+use Rattle.sip_verdict.specs.Keyed.{Machines, concerns, events_of, newest_moment, HasRun}
 
 module _ {K : Type 0} where
   -- the first is not after the second

@@ -1,7 +1,7 @@
 -- What an event leaves of the runs of one transaction, whatever its machine is.
 use Rattle.std.proofs.Common.{◌≡◌, ◌≢◌, ◌≤◌, ℕ, List, [], ◌∷◌, ◌++◌, Contains, map, length, sym, ◌∙◌, subst, arith}
 use Rattle.sip_machine.specs.Texts.{Texts}
-use Rattle.sip_machine.specs.MachineEvent.{MachineEvent}
+use Rattle.sip_standard.specs.MachineEvent.{MachineEvent}
 use Rattle.sip_machine.specs.Rules.{Rules, IsLawful, StandFor}
 use Rattle.sip_verdict.specs.declared.passing.Fate.TheVariants.{Runs, NoRun, TooWide}
 use Rattle.sip_states.specs.Runs.{Wait, RunGives, AfterRun, IsWide, widest}

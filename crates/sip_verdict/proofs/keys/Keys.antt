@@ -8,7 +8,8 @@ use Rattle.std.proofs.lemmas.List.Elements.{filter-append}
 use Rattle.std.proofs.lemmas.List.Folds.{list_any-append}
 use Rattle.std.proofs.lemmas.List.Sums.{fold-append}
 use Rattle.std.proofs.lemmas.Grind.{flat_map-append}
-use Rattle.sip_verdict.specs.Keyed.{Observation, Machines, with_key, keys_of, concerns, events_of, newest_moment}
+use Rattle.sip_standard.specs.Observation.{Observation}
+use Rattle.sip_verdict.specs.Keyed.{Machines, with_key, keys_of, concerns, events_of, newest_moment}
 
 -- the comparison of keys is exact
 abbrev pub IsExact : {K : Type 0} → Machines K → Type 0
@@ -22,7 +23,7 @@ pub cond_true : {A : Type 0} (b : Bool) (x y : A) → b ≡ true → cond b x y 
 cond_true b x y e = ap (λ t. cond t x y) e
 
 -- neither is true where their disjunction is not
-or_false : (a b : Bool) → (a || b) ≡ false → (a ≡ false) × (b ≡ false)
+pub or_false : (a b : Bool) → (a || b) ≡ false → (a ≡ false) × (b ≡ false)
 or_false true b h = absurd (false≢true (sym h))
 or_false false b h = (refl, h)
 

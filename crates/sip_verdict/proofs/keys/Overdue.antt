@@ -3,18 +3,18 @@ use Rattle.std.proofs.Common.{◌≡◌, ◌≤◌, ◌↔◌, ℕ, true, false,
 use Rattle.std.proofs.lemmas.Bool.{ltb-true, ltb-false, false≢true}
 use Rattle.sip_standard.specs.Times.{Times}
 use Rattle.sip_machine.specs.Texts.{Texts}
-use Rattle.sip_machine.specs.MachineEvent.{MachineEvent}
+use Rattle.sip_standard.specs.MachineEvent.{MachineEvent}
 use Rattle.sip_machine.specs.Limits.{IsWithin}
 use Rattle.sip_machine.specs.Rules.{Rules}
 use Rattle.sip_states.specs.Runs.{IsAgenda}
-use Rattle.sip_states.specs.KeyMachine.{MachineKind, key_rules}
+use Rattle.sip_standard.specs.KeyMachine.{MachineKind}
+use Rattle.sip_states.specs.KeySets.{key_rules}
 use Rattle.sip_states.specs.Meaning.{HasAgenda}
-use Rattle.sip_states.specs.AnySet.{moment_of, IsAgendaOf}
+use Rattle.sip_states.specs.AnySet.{moment_of, IsAgendaOf, meaning_of}
 use Rattle.sip_states.specs.Agenda.{is_overdue}
 use Rattle.sip_states.specs.declared.any_set.AnySet.{AnySet}
 use Rattle.sip_states.proofs.runs.RunLemmas.{Run-wait, After-run}
 use Rattle.sip_verdict.specs.inner.Stepping.{RunsUntil}
-use Rattle.sip_states.specs.AnySet.{meaning_of}
 use Rattle.sip_verdict.specs.inner.TablesTracking.{LeadsOf}
 use Rattle.sip_states.proofs.keyed.ByMachine.{rules_are, moment_is, of_set}
 

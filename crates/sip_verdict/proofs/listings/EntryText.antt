@@ -6,23 +6,24 @@ use Rattle.sip_standard.specs.declared.action.Action.{Action}
 use Rattle.sip_standard.specs.declared.action.Action.TheVariants.{Sent, Received, Failed, Mark, Restart}
 use Rattle.sip_standard.specs.declared.rules.Rules.TheVariants.{R6026}
 use Rattle.sip_verdict.specs.Reading.{AreObserved}
-use Rattle.sip_verdict.specs.VerdictOf.{keys_in}
+use Rattle.sip_standard.specs.VerdictOf.{keys_in}
 use Rattle.std.proofs.lemmas.List.{append-nil}
 use Rattle.std.proofs.lemmas.List.Elements.{All-nil, All-cons, All-head, All-tail, All-push, Contains-get_or}
 use Rattle.std.proofs.lemmas.Option.{slice_get_within, get_or_from_slice_get}
-use Rattle.sip_key.specs.Key.{KeyParts, same_key}
+use Rattle.sip_standard.specs.Key.{KeyParts, same_key}
 use Rattle.sip_key.specs.inner.KeyLaws.{same_key-decides}
-use Rattle.sip_key.specs.declared.role.Direction.{Direction}
+use Rattle.sip_standard.specs.declared.role.Direction.{Direction}
 use Rattle.sip_standard.specs.Times.{Times}
 use Rattle.sip_machine.specs.Texts.{Texts}
-use Rattle.sip_states.specs.KeyMachine.{machine_of_key}
+use Rattle.sip_standard.specs.KeyMachine.{machine_of_key}
 use Rattle.sip_states.specs.AnySet.{IsKnownSet}
 use Rattle.sip_states.specs.Tables.{Tabled}
 use Rattle.sip_listing.specs.Transaction.{transaction_text}
 use Rattle.sip_standard.specs.LogEntry.{Item}
-use Rattle.sip_verdict.specs.Keyed.{Observation, with_key, concerns, events_of}
+use Rattle.sip_standard.specs.Observation.{Observation, direction_of, silent_observation, ObservesMessage, has_fault, has_no_cookie, is_heard}
+use Rattle.sip_verdict.specs.Keyed.{with_key, concerns, events_of}
 use Rattle.sip_verdict.specs.Verdicts.{IsFirst}
-use Rattle.sip_verdict.specs.MessageReading.{key_machines, message_reading, direction_of, silent_observation, ObservesMessage, has_fault, has_no_cookie, is_heard}
+use Rattle.sip_verdict.specs.MessageReading.{key_machines, message_reading}
 use Rattle.sip_verdict.specs.Listing.{IsKeyText, AreKeyTexts, IsEntryText}
 use Rattle.sip_verdict.specs.ListingOf.{key_words}
 use Rattle.sip_verdict.specs.inner.Tracking.{IsJudged, IsStanding}
@@ -32,7 +33,7 @@ use Rattle.sip_verdict.proofs.keys.Keys.{contains-among, keys_of-push}
 use Rattle.sip_verdict.proofs.tables.TablesPassing.{All-place, zip-place, keys_are}
 use Rattle.sip_verdict.proofs.tables.TablesTouching.{keys_exact}
 use Rattle.sip_message.proofs.lemmas.says.Reading.{says-reads}
-use Rattle.sip_key.specs.Concerns.{Concerns}
+use Rattle.sip_standard.specs.Concerns.{Concerns}
 use Rattle.sip_key.proofs.MethodLemmas.{keys_ascii}
 use Rattle.sip_verdict.proofs.listings.ListingLemmas.{TellsBook, told_set, standing_lines}
 

@@ -3,23 +3,22 @@ use Rattle.std.proofs.Common.{◌≡◌, inr, Bool, Ok, Err, Option, Some, None,
 use Rattle.sip_standard.specs.Times.{Times}
 use Rattle.sip_log.specs.declared.entry.Entry.{Entry}
 use Rattle.sip_log.specs.declared.log_error.LogError.{LogError}
-use Rattle.sip_log.specs.declared.log_error.LogError.TheVariants as errors
 use Rattle.sip_standard.specs.LogEntry.{Item}
 use Rattle.sip_standard.specs.LogSays.{LogEnd, Clean, LogSays}
 use Rattle.sip_log.specs.Told.{FailsAs, item}
-use Rattle.sip_log.specs.Reading as log
 use Rattle.sip_log.specs.Reading.{Nexts}
 use Rattle.sip_log.proofs.answers.ReadingLemmas.{FailsAs-map}
 use Rattle.sip_log.proofs.answers.CallerLemmas.{StandsAt, StopsAt, Stands-gives, Stands-ends, Stands-stops, Stands-log, Nexts-counted, Nexts-times}
-use Rattle.sip_verdict.specs.declared.log_reason.LogReason.{LogReason}
-use Rattle.sip_verdict.specs.declared.log_reason.LogReason.TheVariants as reasons
+use Rattle.sip_standard.specs.declared.log_reason.LogReason.{LogReason}
 use Rattle.sip_verdict.specs.declared.reading.Next.TheVariants.{Fault}
-use Rattle.sip_verdict.specs.LogReason.{reason_of}
 use Rattle.sip_verdict.specs.inner.Judging.{told_as}
 use Rattle.sip_verdict.specs.inner.Walking.{HasRead, WalkGives}
+use Rattle.sip_log.specs.declared.log_error.LogError.TheVariants as errors
+use Rattle.sip_log.specs.Reading as log
+use Rattle.sip_standard.specs.declared.log_reason.LogReason.TheVariants as reasons
 
 -- a reason is that of a fault of the input, where no read failed
-pub told-fault : (before after : Bool) (P : LogReason → Type 0) (e : LogError) (reason : LogReason) → Ok reason ≡ told_as e → FailsAs before after (λ fault. P (reason_of fault)) e → (after ≡ before) × P reason
+pub told-fault : (before after : Bool) (P : LogReason → Type 0) (e : LogError) (reason : LogReason) → Ok reason ≡ told_as e → FailsAs before after (λ fault. P fault) e → (after ≡ before) × P reason
 told-fault before after P errors.Header reason is fails = let same : reasons.Header ≡ reason = cc in (fails.0, subst P same fails.1)
 told-fault before after P errors.EntryLine reason is fails = let same : reasons.EntryLine ≡ reason = cc in (fails.0, subst P same fails.1)
 told-fault before after P errors.Truncated reason is fails = let same : reasons.Truncated ≡ reason = cc in (fails.0, subst P same fails.1)
@@ -48,7 +47,7 @@ module _ (start : Option (List ℕ)) (times : Times) (items : List Item) (now ne
   pub gives_fault : (e : LogError) (reason : LogReason) → Ok reason ≡ told_as e → Nexts now new (Err e) → (new.has_failed ≡ now.has_failed) × WalkGives start times items new (Fault reason)
   gives_fault e reason is nexts =
       told-fault now.has_failed new.has_failed (λ r. WalkGives start times items new (Fault r)) e reason is (FailsAs-map now.has_failed new.has_failed
-      (λ fault. IfSome start (λ input. StopsAt start items now new input new.times fault)) (λ fault. WalkGives start times items new (Fault (reason_of fault))) e
+      (λ fault. IfSome start (λ input. StopsAt start items now new input new.times fault)) (λ fault. WalkGives start times items new (Fault fault)) e
       (λ fault stops. (fault, refl, subst (λ t. IfSome start (λ input. StopsAt start items now new input t fault)) (Nexts-times now new (Err e) times read.on read.times_are nexts) stops))
       (Stands-stops start items now new e (inr read.on) read.stands nexts))
 

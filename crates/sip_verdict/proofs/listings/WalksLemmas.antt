@@ -1,26 +1,24 @@
 -- What a step of a walk adds to the entries that were judged.
 use Rattle.std.proofs.Common.{◌≡◌, inl, inr, ◌<◌, ◌≤◌, ◌+◌, ◌∙◌, ℕ, Option, Some, None, IsSomeAnd, IfSome, IfNone, List, [], ◌∷◌, ◌++◌, length, refl, sym, ap, subst, arith}
 use Rattle.std.proofs.lemmas.List.{length-map, length_push}
-use Rattle.sip_key.specs.Key.{KeyParts}
+use Rattle.sip_standard.specs.Key.{KeyParts}
 use Rattle.sip_standard.specs.Times.{Times}
 use Rattle.sip_machine.specs.Texts.{Texts}
 use Rattle.sip_states.specs.Tables.{Tabled}
 use Rattle.sip_log.specs.declared.entry.Entry.{Entry}
-use Rattle.sip_standard.specs.LogFault.{LogFault}
 use Rattle.sip_standard.specs.LogEntry.{Item}
 use Rattle.sip_standard.specs.LogSays.{LogEnd, Clean, Stops, LogSays}
 use Rattle.sip_log.specs.Told.{item}
-use Rattle.sip_log.specs.Reading as log
 use Rattle.sip_log.proofs.answers.ReadingLemmas.{IfSome-map}
-use Rattle.sip_verdict.specs.declared.log_reason.LogReason.{LogReason}
-use Rattle.sip_verdict.specs.declared.verdict.Verdict.{Verdict}
-use Rattle.sip_verdict.specs.declared.verdict.Verdict.TheVariants.{Legal, Malformed, Breach, Undecided, LogFault as FaultOfLog}
+use Rattle.sip_standard.specs.declared.log_reason.LogReason.{LogReason}
+use Rattle.sip_standard.specs.declared.verdict.Verdict.{Verdict}
+use Rattle.sip_standard.specs.declared.verdict.Verdict.TheVariants.{Legal, Malformed, Breach, Undecided, LogFault as FaultOfLog}
 use Rattle.sip_verdict.specs.declared.listing.Listing.{Listing}
 use Rattle.sip_verdict.specs.declared.listing.Listing.TheVariants.{Text, Stopped, NoEntry}
-use Rattle.sip_verdict.specs.LogReason.{reason_of}
-use Rattle.sip_verdict.specs.Keyed.{Observation, Machines, keys_of, newest_moment}
+use Rattle.sip_standard.specs.Observation.{Observation}
+use Rattle.sip_verdict.specs.Keyed.{Machines, keys_of, newest_moment}
 use Rattle.sip_verdict.specs.Verdicts.{IsTrouble}
-use Rattle.sip_verdict.specs.VerdictOf.{IsVerdictOf}
+use Rattle.sip_standard.specs.VerdictOf.{IsVerdictOf}
 use Rattle.sip_verdict.specs.Listing.{first_entry, trouble_of}
 use Rattle.sip_verdict.specs.ListingOf.{key_words, IsListingOf}
 use Rattle.sip_verdict.specs.MessageReading.{key_machines, message_reading}
@@ -36,6 +34,7 @@ use Rattle.sip_verdict.proofs.judges.JudgeLemmas.{verdict_of}
 use Rattle.sip_verdict.proofs.listings.NumberingLemmas.{numbered_start}
 use Rattle.sip_verdict.proofs.tables.TrackingLemmas.{tracks_none}
 use Rattle.sip_verdict.proofs.listings.WalkingLemmas.{read_log, read_count}
+use Rattle.sip_log.specs.Reading as log
 
 -- nothing was judged yet
 pub walks_start : (start : Option (List ℕ)) (now : log.ReaderState) (p : Times) (texts : Texts) (t : Tabled) → texts ≡ [] → t ≡ record { times = p; keys = []; sets = []; records = [] } → HasRead start p [] now → Walks start now texts t
@@ -102,7 +101,7 @@ module _ (start : Option (List ℕ)) (now : log.ReaderState) (texts : Texts) (t 
       )
 
   -- it cannot be read on
-  pub walks_fault : (count : ℕ) (reason : LogReason) → count ≡ now.count → (fault : LogFault) × (reason ≡ reason_of fault) × IfSome start (λ input. LogSays input t.times walks.judged.items (Stops fault))
+  pub walks_fault : (count : ℕ) (reason : LogReason) → count ≡ now.count → (fault : LogReason) × (reason ≡ fault) × IfSome start (λ input. LogSays input t.times walks.judged.items (Stops fault))
       → IfSome start (λ input. IsVerdictOf input (FaultOfLog (count + 1) reason))
   walks_fault count reason counts (fault, is, logs) =
       let j = walks.judged in

@@ -9,7 +9,6 @@ use Rattle.sip_log.specs.declared.log_error.LogError.{LogError}
 use Rattle.sip_standard.specs.LogSays.{line_feed, LogEnd, Clean, Stops, LogSays}
 use Rattle.sip_standard.specs.LogEntry.{Item}
 use Rattle.sip_log.specs.Told.{FailsAs, item}
-use Rattle.sip_log.specs.Reading as log
 use Rattle.sip_log.specs.Reading.{entries, Nexts}
 use Rattle.sip_log.proofs.answers.ReadingLemmas.{FailsAs-map, IfSome-map}
 use Rattle.sip_log.proofs.answers.CallerLemmas.{Stands, StandsAt, StopsAt, Stands-gives, Stands-ends, Stands-stops, Stands-log, Nexts-counted, Nexts-times}
@@ -18,9 +17,9 @@ use Rattle.sip_standard.specs.Outcome.{stops}
 use Rattle.sip_standard.specs.Says.{Says}
 use Rattle.sip_verdict.specs.declared.shown.Shown.{Shown}
 use Rattle.sip_verdict.specs.declared.shown.Shown.TheVariants.{End, Malformed, LogFault as FaultOfLog}
-use Rattle.sip_verdict.specs.LogReason.{reason_of}
 use Rattle.sip_verdict.specs.Listing.{has_message}
 use Rattle.sip_verdict.specs.Showing.{IsCanonOf, shown_entry, AreShown, last_text, EndsAs, IsShownOf}
+use Rattle.sip_log.specs.Reading as log
 
 -- one more entry is shown
 AreShown-push : (count : ℕ) (items : List Item) (text : List ℕ) (e : Item) (form : List ℕ) (n : ℕ) → n ≡ count + length items + 1 → AreShown count items text → IsCanonOf e.action e.text form
@@ -107,12 +106,12 @@ module _ (start : Option (List ℕ)) (now : log.ReaderState) (old w : Option (Li
 
     -- the next entry cannot be read
     pub showed_stops : (n : ℕ) → n ≡ now.count → (e : LogError) → Nexts now new (Err e)
-        → FailsAs now.has_failed new.has_failed (λ fault. Appends w w2 (last_text (FaultOfLog (n + 1) (reason_of fault)) ++ line_feed ∷ []) → Answers start old w2 (FaultOfLog (n + 1) (reason_of fault))) e
+        → FailsAs now.has_failed new.has_failed (λ fault. Appends w w2 (last_text (FaultOfLog (n + 1) fault) ++ line_feed ∷ []) → Answers start old w2 (FaultOfLog (n + 1) fault)) e
     showed_stops n many e nexts =
         let times = Nexts-times now new (Err e) s.times s.on s.times_are nexts in
         FailsAs-map now.has_failed new.has_failed (λ fault. IfSome start (λ input. StopsAt start s.items now new input new.times fault))
-        (λ fault. Appends w w2 (last_text (FaultOfLog (n + 1) (reason_of fault)) ++ line_feed ∷ []) → Answers start old w2 (FaultOfLog (n + 1) (reason_of fault))) e
-        (λ fault stop last. ends (Stops fault) (FaultOfLog (n + 1) (reason_of fault)) (ap (λ c. FaultOfLog (c + 1) (reason_of fault)) (many ∙ count_is)) (Some s.times) refl
+        (λ fault. Appends w w2 (last_text (FaultOfLog (n + 1) fault) ++ line_feed ∷ []) → Answers start old w2 (FaultOfLog (n + 1) fault)) e
+        (λ fault stop last. ends (Stops fault) (FaultOfLog (n + 1) fault) (ap (λ c. FaultOfLog (c + 1) fault) (many ∙ count_is)) (Some s.times) refl
         (IfSome-map start (λ input. StopsAt start s.items now new input new.times fault) (λ input. LogSays input s.times s.items (Stops fault))
         (λ input is. subst (λ t. StopsAt start s.items now new input t fault) times is) stop) last)
         (Stands-stops start s.items now new e (inr s.on) s.stands nexts)

@@ -5,16 +5,17 @@ use Rattle.std.specs.List.{list_any}
 use Rattle.std.proofs.lemmas.Option.{slice_get_within, get_or_from_slice_get}
 use Rattle.std.proofs.lemmas.List.{append-nil}
 use Rattle.std.proofs.lemmas.List.Elements.{Contains-append_left}
-use Rattle.sip_key.specs.Key.{KeyParts, same_key}
+use Rattle.sip_standard.specs.Key.{KeyParts, same_key}
 use Rattle.sip_standard.specs.Times.{Times}
 use Rattle.sip_machine.specs.Texts.{Texts}
-use Rattle.sip_states.specs.KeyMachine.{machine_of_key}
+use Rattle.sip_standard.specs.KeyMachine.{machine_of_key}
 use Rattle.sip_states.specs.AnySet.{start_of}
 use Rattle.sip_states.specs.Tables.{Tabled, Touches}
 use Rattle.sip_states.specs.declared.any_set.AnySet.{AnySet}
 use Rattle.sip_states.proofs.lists.Listed.{Contains-none}
 use Rattle.sip_verdict.specs.declared.troubled.Troubled.{Troubled}
-use Rattle.sip_verdict.specs.Keyed.{Observation, with_key, newest_moment, keys_of, events_of}
+use Rattle.sip_standard.specs.Observation.{Observation}
+use Rattle.sip_verdict.specs.Keyed.{with_key, newest_moment, keys_of, events_of}
 use Rattle.sip_verdict.specs.MessageReading.{key_machines}
 use Rattle.sip_verdict.specs.inner.TablesTracking.{LeadsOf, TouchesEach}
 use Rattle.sip_verdict.specs.inner.Surveying.{IsFresh, IsFollowed, TablesSurvey, IsPassing, ArePassing, any}
@@ -34,7 +35,7 @@ pub record AreMore (old t : Tabled) : Type 0 where
   pub each : (n : ℕ) (key : KeyParts) (s : AnySet) → slice_get t.keys n ≡ Some key → slice_get t.sets n ≡ Some s
       → ((slice_get old.keys n ≡ Some key) × (slice_get old.sets n ≡ Some s)) ⊎ ((length old.keys ≤ n) × (s ≡ start_of old.times key) × ¬ Contains old.keys key)
 
-none_more : (t : Tabled) → length t.sets ≡ length t.keys → AreMore t t
+pub none_more : (t : Tabled) → length t.sets ≡ length t.keys → AreMore t t
 none_more t long = record { times = refl; long = long; few = omega arith; among = λ key has. has; each = λ n key s at here. inl (at, here) }
 
 -- one key more
@@ -63,7 +64,7 @@ module _ (old t : Tabled) (h : AreMore old t) (k : KeyParts) (n : ℕ) where
         λ has. absent t.keys new (subst (Contains t.keys) (sym a.1) (h.among key has)),
       )
 
-more_each : (old : Tabled) (ks : List KeyParts) (ns : List ℕ) (t u : Tabled) → AreMore old t → TouchesEach ks ns t u → AreMore old u
+pub more_each : (old : Tabled) (ks : List KeyParts) (ns : List ℕ) (t u : Tabled) → AreMore old t → TouchesEach ks ns t u → AreMore old u
 more_each old [] [] t u h same = subst (AreMore old) (sym same) h
 more_each old [] (n ∷ ns) t u h touched = absurd touched
 more_each old (k ∷ ks) [] t u h touched = absurd touched

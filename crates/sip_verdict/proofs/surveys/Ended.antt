@@ -2,16 +2,17 @@
 use Rattle.std.proofs.Common.{◌≡◌, ◌≤◌, ◌+◌, ◌-◌, ◌⊎◌, inl, inr, ℕ, zero, suc, Bool, true, false, Some, List, [], ◌∷◌, ◌++◌, Contains, length, slice_get, All, append_assoc, append-nil, refl, sym, ap, ◌∙◌, subst, arith}
 use Rattle.std.proofs.lemmas.Option.{slice_get_within}
 use Rattle.std.proofs.lemmas.List.Elements.{All-contains}
-use Rattle.sip_key.specs.Key.{KeyParts}
+use Rattle.sip_standard.specs.Key.{KeyParts}
 use Rattle.sip_standard.specs.Times.{Times}
 use Rattle.sip_machine.specs.Texts.{Texts}
-use Rattle.sip_states.specs.KeyMachine.{machine_of_key}
+use Rattle.sip_standard.specs.KeyMachine.{machine_of_key}
 use Rattle.sip_states.specs.Tables.{Tabled}
 use Rattle.sip_states.specs.declared.any_set.AnySet.{AnySet}
 use Rattle.sip_verdict.specs.declared.troubled.Troubled.{Troubled}
-use Rattle.sip_verdict.specs.Keyed.{Observation, newest_moment}
+use Rattle.sip_standard.specs.Observation.{Observation}
+use Rattle.sip_verdict.specs.Keyed.{newest_moment}
 use Rattle.sip_verdict.specs.MessageReading.{key_machines}
-use Rattle.sip_verdict.specs.VerdictOf.{keys_in, RunsOver, IsWideAt}
+use Rattle.sip_standard.specs.VerdictOf.{keys_in, RunsOver, IsWideAt}
 use Rattle.sip_verdict.specs.SurveyOf.{IsSound, Breaks, Widens, HoldsOf, AreFoundAt}
 use Rattle.sip_verdict.specs.inner.TablesTracking.{LeadsOf, is_among}
 use Rattle.sip_verdict.specs.inner.Surveying.{IsNumberOf, IsFollowed, IsOrdered, TablesSurvey, IsPassing, ArePassing, AreAscending}

@@ -1,6 +1,6 @@
 -- The verdict of an input is the first finding of its survey.
 use Rattle.std.proofs.Common.{◌≡◌, ◌≤◌, ◌⊎◌, inl, inr, ℕ, Some, None, List, [], ◌∷◌, ◌++◌, All, AllPairs, Contains, length, refl, sym, ap, ap₂, ◌∙◌, subst, arith, length-append}
-use Rattle.sip_key.specs.Key.{KeyParts}
+use Rattle.sip_standard.specs.Key.{KeyParts}
 use Rattle.sip_standard.specs.Times.{Times}
 use Rattle.sip_standard.specs.LogEntry.{Item}
 use Rattle.sip_standard.specs.LogSays.{LogEnd, Clean, Stops}
@@ -9,10 +9,10 @@ use Rattle.sip_states.proofs.lists.Listed.{Contains-none, Contains-here, Contain
 use Rattle.sip_verdict.specs.declared.finding.Finding.{Finding}
 use Rattle.sip_verdict.specs.declared.finding.Finding.TheVariants.{Malformed, Breach, Undecided}
 use Rattle.sip_verdict.specs.declared.survey_end.SurveyEnd.{SurveyEnd}
-use Rattle.sip_verdict.specs.declared.verdict.Verdict.{Verdict}
-use Rattle.sip_verdict.specs.declared.verdict.Verdict.TheVariants as verdicts
-use Rattle.sip_verdict.specs.Keyed.{Observation}
-use Rattle.sip_verdict.specs.VerdictOf.{keys_in, RunsOver, IsWideAt, IsFirstKey, HasTrouble, IsVerdictBehind, IsVerdictOf}
+use Rattle.sip_standard.specs.declared.verdict.Verdict.{Verdict}
+use Rattle.sip_standard.specs.declared.verdict.Verdict.TheVariants as verdicts
+use Rattle.sip_standard.specs.Observation.{Observation}
+use Rattle.sip_standard.specs.VerdictOf.{keys_in, RunsOver, IsWideAt, IsFirstKey, HasTrouble, IsVerdictBehind, IsVerdictOf}
 use Rattle.sip_verdict.specs.SurveyOf.{Breaks, Widens, HoldsOf, Precedes, AreFoundAt, IsSurveyAfter, IsSurveyOf, verdict_of, verdict_in}
 use Rattle.sip_verdict.proofs.verdicts.Unique.{All-middle}
 use Rattle.sip_verdict.proofs.keys.Splitting.{split_compare}

@@ -1,14 +1,15 @@
 -- A transaction that is idle again can be forgotten: what is found of it later is what is found of a new one.
 use Rattle.std.proofs.Common.{◌≡◌, ◌≤◌, ◌↔◌, ◌⊎◌, inl, inr, ℕ, List, [], ◌∷◌, ◌++◌, All, AllPairs, refl, sym, ap, ◌∙◌, subst, arith, append_assoc, append-nil}
 use Rattle.std.proofs.lemmas.List.Elements.{All-weaker}
-use Rattle.sip_key.specs.Key.{KeyParts}
+use Rattle.sip_standard.specs.Key.{KeyParts}
 use Rattle.sip_standard.specs.Times.{Times}
-use Rattle.sip_machine.specs.Figure.{Owing}
-use Rattle.sip_states.specs.Stands.{Stands, StandsBehind}
-use Rattle.sip_states.specs.KeyMachine.{machine_of_key, transaction_of}
-use Rattle.sip_verdict.specs.Keyed.{Observation, newest_moment}
+use Rattle.sip_standard.specs.Figure.{Owing}
+use Rattle.sip_standard.specs.Stands.{Stands, StandsBehind}
+use Rattle.sip_standard.specs.KeyMachine.{machine_of_key, transaction_of}
+use Rattle.sip_standard.specs.Observation.{Observation}
+use Rattle.sip_verdict.specs.Keyed.{newest_moment}
 use Rattle.sip_verdict.specs.MessageReading.{key_machines}
-use Rattle.sip_verdict.specs.VerdictOf.{events_for, RunsOver, IsWideAt}
+use Rattle.sip_standard.specs.VerdictOf.{events_for, RunsOver, IsWideAt}
 use Rattle.sip_verdict.specs.SurveyOf.{IsSound, Breaks, Widens}
 use Rattle.sip_verdict.specs.SurveyLaws.{IsIdleAgain}
 use Rattle.sip_verdict.proofs.keys.FewerEntries.{newest-to, newest-before, events-all, events-append}

@@ -1,41 +1,50 @@
--- What is found at the entries of a log, one after another, and what it comes to when the log ends. For surveying and gathering: found_on, gathered, gathered_header; for gathering: gathered_on, gathered_end, gathered_stop.
+-- What is found at the entries of a log, one after another, and what it comes to when the log ends. For surveying and gathering: found_on; for surveying: entries_in, gathered_of, header_lacks, told_without; for gathering: gathered_on, gathered_end, gathered_stop, gathered_header.
 use Rattle.std.proofs.Common.{◌≡◌, ◌+◌, ◌∙◌, inl, inr, ℕ, Option, Some, None, IfSome, List, [], ◌∷◌, ◌++◌, length, refl, sym, ap, subst, append_assoc, arith}
 use Rattle.std.proofs.lemmas.List.{append-nil}
-use Rattle.sip_key.specs.Key.{KeyParts}
+use Rattle.sip_standard.specs.Key.{KeyParts}
 use Rattle.sip_standard.specs.Times.{Times}
 use Rattle.sip_part.specs.Part.{PartOf}
 use Rattle.sip_log.specs.declared.entry.Entry.{Entry}
-use Rattle.sip_standard.specs.LogFault.{LogFault}
 use Rattle.sip_standard.specs.LogSays.{LogEnd, Clean, Stops, LogSays, LacksHeader}
 use Rattle.sip_standard.specs.LogEntry.{Item}
 use Rattle.sip_log.specs.Told.{item}
-use Rattle.sip_log.specs.Reading as log
 use Rattle.sip_log.proofs.answers.ReadingLemmas.{IfSome-map}
 use Rattle.sip_verdict.specs.declared.finding.Finding.{Finding}
-use Rattle.sip_verdict.specs.declared.log_reason.LogReason.{LogReason}
-use Rattle.sip_verdict.specs.declared.log_reason.LogReason.TheVariants.{Header}
+use Rattle.sip_standard.specs.declared.log_reason.LogReason.{LogReason}
+use Rattle.sip_standard.specs.declared.log_reason.LogReason.TheVariants.{Header}
 use Rattle.sip_verdict.specs.declared.survey_end.SurveyEnd.{SurveyEnd}
-use Rattle.sip_verdict.specs.declared.survey_end.SurveyEnd.TheVariants as ended
-use Rattle.sip_verdict.specs.declared.verdict.Verdict.{Verdict}
-use Rattle.sip_verdict.specs.declared.verdict.Verdict.TheVariants.{Legal, Malformed, Breach, Undecided, LogFault as FaultOfLog}
-use Rattle.sip_verdict.specs.Keyed.{Observation}
+use Rattle.sip_standard.specs.declared.verdict.Verdict.{Verdict}
+use Rattle.sip_standard.specs.declared.verdict.Verdict.TheVariants.{Legal, Malformed, Breach, Undecided, LogFault as FaultOfLog}
+use Rattle.sip_standard.specs.Observation.{Observation}
 use Rattle.sip_verdict.specs.Listing.{trouble_of}
-use Rattle.sip_verdict.specs.LogReason.{reason_of}
 use Rattle.sip_verdict.specs.MessageReading.{message_reading}
-use Rattle.sip_verdict.specs.VerdictOf.{keys_in, HasTrouble, IsVerdictBehind, IsVerdictOf}
+use Rattle.sip_standard.specs.VerdictOf.{keys_in, HasTrouble, IsVerdictBehind, IsVerdictOf}
 use Rattle.sip_verdict.specs.SurveyOf.{AreFoundAt, IsSurveyAfter}
 use Rattle.sip_verdict.specs.Surveys.{Surveying, SurveysFor}
 use Rattle.sip_verdict.specs.SurveyParts.{IsPartLog}
-use Rattle.sip_verdict.specs.inner.SurveyingLogs.{AreTaken, IsSurveyIn, IsTaken, SurveysRead}
+use Rattle.sip_verdict.specs.inner.SurveyingLogs.{AreTaken, IsSurveyIn, IsTaken, SurveysRead, IsToldIn}
 use Rattle.sip_verdict.specs.inner.Walking.{HasRead}
 use Rattle.sip_verdict.proofs.judges.StandingLemmas.{same_some}
+use Rattle.sip_verdict.specs.SurveyText.{IsSurveyText, end_text}
+use Rattle.sip_verdict.specs.Reading.{AreObserved}
+use Rattle.sip_log.specs.Reading as log
+use Rattle.sip_verdict.specs.declared.survey_end.SurveyEnd.TheVariants as ended
 
 -- one more is taken
-taken_push : (part : Option PartOf) (items takens : List Item) (item taken : Item) → AreTaken part items takens → IsTaken part item taken → AreTaken part (items ++ item ∷ []) (takens ++ taken ∷ [])
+pub taken_push : (part : Option PartOf) (items takens : List Item) (item taken : Item) → AreTaken part items takens → IsTaken part item taken → AreTaken part (items ++ item ∷ []) (takens ++ taken ∷ [])
 taken_push part [] [] item taken are one = (one, tt)
 taken_push part [] (x ∷ takens) item taken are one = absurd are
 taken_push part (i ∷ items) [] item taken are one = absurd are
 taken_push part (i ∷ items) (x ∷ takens) item taken (first, are) one = (first, taken_push part items takens item taken are one)
+
+-- and seen so
+pub seen_push : (before : List (Observation KeyParts)) (items : List Item) (es : List (Observation KeyParts)) (item : Item) (e : Observation KeyParts) → AreObserved message_reading before items es
+    → message_reading.Observes (before ++ es) item e → AreObserved message_reading before (items ++ item ∷ []) (es ++ e ∷ [])
+seen_push before [] [] item e are one = (subst (λ xs. message_reading.Observes xs item e) (append-nil before) one, tt)
+seen_push before [] (o ∷ es) item e are one = absurd are
+seen_push before (i ∷ items) [] item e are one = absurd are
+seen_push before (i ∷ items) (o ∷ es) item e (first, are) one =
+    (first, seen_push (before ++ o ∷ []) items es item e are (subst (λ xs. message_reading.Observes xs item e) (sym (append_assoc before (o ∷ []) es)) one))
 
 -- the whole log is taken as it is
 taken_whole : (items takens : List Item) → AreTaken None items takens → takens ≡ items
@@ -58,6 +67,17 @@ survey_in None input p items takens close found end log are whole =
     inr (p, items, close, log, subst (λ is. IsSurveyAfter p [] is close found end) (taken_whole items takens are) whole)
 survey_in (Some part) input p items takens close found end log are whole = inr (p, items, close, takens, log, taken_part part items takens are, whole)
 
+-- these are the entries of the survey
+pub entries_in : (part : Option PartOf) (input : List ℕ) (p : Times) (items takens : List Item) (es : List (Observation KeyParts)) (close : LogEnd) (found : List Finding) (end : SurveyEnd) (text : List ℕ)
+    → LogSays input p items close → AreTaken part items takens → AreObserved message_reading [] takens es → IsSurveyIn part input found end → IsSurveyText es found end text → IsToldIn part input found end text
+entries_in None input p items takens es close found end text log are seen survey told =
+    (survey, (es, inr (p, items, close, log, subst (λ is. AreObserved message_reading [] is es) (taken_whole items takens are) seen), told))
+entries_in (Some part) input p items takens es close found end text log are seen survey told = (survey, (es, inr (p, items, close, takens, log, taken_part part items takens are, seen), told))
+
+pub told_without : (part : Option PartOf) (input : List ℕ) (end : SurveyEnd) → LacksHeader input → end ≡ ended.LogFault 0 Header → IsToldIn part input [] end (end_text end 0)
+told_without None input end lacks same = (inl (lacks, refl, same), ([], inl (lacks, refl), ([], refl, refl)))
+told_without (Some part) input end lacks same = (inl (lacks, refl, same), ([], inl (lacks, refl), ([], refl, refl)))
+
 -- an input without a header has this survey, whatever part of it is taken
 survey_without : (part : Option PartOf) (input : List ℕ) (end : SurveyEnd) → LacksHeader input → end ≡ ended.LogFault 0 Header → IsSurveyIn part input [] end
 survey_without None input end lacks same = inl (lacks, refl, same)
@@ -65,7 +85,7 @@ survey_without (Some part) input end lacks same = inl (lacks, refl, same)
 
 module _ (part : Option PartOf) (start : Option (List ℕ)) (now : log.ReaderState) (s : Surveying) (found : List Finding) (read : SurveysRead part s found start now) where
   -- one more entry was read and taken so, and this was found at it
-  pub found_on : (e cut : Entry) (new : log.ReaderState) → HasRead start s.tables.times (read.items ++ item e ∷ []) new → IsTaken part (item e) (item cut) → (k : Surveying) → k.tables.times ≡ s.tables.times
+  unfoldable pub found_on : (e cut : Entry) (new : log.ReaderState) → HasRead start s.tables.times (read.items ++ item e ∷ []) new → IsTaken part (item e) (item cut) → (k : Surveying) → k.tables.times ≡ s.tables.times
       → (seen : Observation KeyParts) (here : List Finding) → message_reading.Observes read.es (item cut) seen → AreFoundAt s.tables.times read.es seen here → SurveysFor k (read.es ++ seen ∷ [])
       → SurveysRead part k (found ++ here) start new
   found_on e cut new more is_taken k times seen here observed are stands =
@@ -75,6 +95,7 @@ module _ (part : Option PartOf) (start : Option (List ℕ)) (now : log.ReaderSta
         taken = read.taken ++ item cut ∷ [];
         es = read.es ++ seen ∷ [];
         are_taken = taken_push part read.items read.taken (item e) (item cut) read.are_taken is_taken;
+        seen = seen_push [] read.taken read.es (item cut) seen read.seen observed;
         follows = stands;
         read = subst (λ t. HasRead start t (read.items ++ item e ∷ []) new) (sym times) more;
         front = λ rest close later end left.
@@ -97,14 +118,16 @@ module _ (part : Option PartOf) (start : Option (List ℕ)) (now : log.ReaderSta
       subst (λ fs. SurveysRead part k fs start new) (sym same) (found_on e cut new more is_taken k times seen here observed are stands)
 
   -- the log ends so after the entries that were read
-  pub gathered : (close : LogEnd) (end : SurveyEnd) → IsSurveyAfter s.tables.times read.es [] close [] end → IfSome start (λ input. LogSays input s.tables.times read.items close)
-      → IfSome start (λ input. IsSurveyIn part input found end)
-  gathered close end left logs =
+  pub gathered_of : (close : LogEnd) (end : SurveyEnd) → IsSurveyAfter s.tables.times read.es [] close [] end → (input : List ℕ) → LogSays input s.tables.times read.items close → IsSurveyIn part input found end
+  gathered_of close end left input log_is =
       let p = s.tables.times in
       let whole : IsSurveyAfter p [] read.taken close found end =
       subst (λ fs. IsSurveyAfter p [] read.taken close fs end) (append-nil found) (subst (λ is. IsSurveyAfter p [] is close (found ++ []) end) (append-nil read.taken) (read.front [] close [] end left)) in
-      IfSome-map start (λ input. LogSays input p read.items close) (λ input. IsSurveyIn part input found end)
-      (λ input l. survey_in part input p read.items read.taken close found end l read.are_taken whole) logs
+      survey_in part input p read.items read.taken close found end log_is read.are_taken whole
+
+  gathered : (close : LogEnd) (end : SurveyEnd) → IsSurveyAfter s.tables.times read.es [] close [] end → IfSome start (λ input. LogSays input s.tables.times read.items close)
+      → IfSome start (λ input. IsSurveyIn part input found end)
+  gathered close end left logs = IfSome-map start (λ input. LogSays input s.tables.times read.items close) (λ input. IsSurveyIn part input found end) (gathered_of close end left) logs
 
   -- it was read to its end
   pub gathered_end : (end : SurveyEnd) → end ≡ ended.Clean (length read.es) (length (keys_in read.es)) → IfSome start (λ input. LogSays input s.tables.times read.items Clean)
@@ -112,7 +135,7 @@ module _ (part : Option PartOf) (start : Option (List ℕ)) (now : log.ReaderSta
   gathered_end end is logs = gathered Clean end (refl, is) logs
 
   -- what comes after so many entries cannot be read
-  pub gathered_stop : (count : ℕ) (reason : LogReason) → count ≡ s.number → (fault : LogFault) × (reason ≡ reason_of fault) × IfSome start (λ input. LogSays input s.tables.times read.items (Stops fault))
+  pub gathered_stop : (count : ℕ) (reason : LogReason) → count ≡ s.number → (fault : LogReason) × (reason ≡ fault) × IfSome start (λ input. LogSays input s.tables.times read.items (Stops fault))
       → IfSome start (λ input. IsSurveyIn part input found (ended.LogFault (count + 1) reason))
   gathered_stop count reason counted (fault, same, logs) =
       gathered (Stops fault) (ended.LogFault (count + 1) reason)
@@ -138,7 +161,7 @@ counted p es (item ∷ items) close v (e, sees, inl trouble) none = trouble-coun
 counted p es (item ∷ items) close v (e, sees, inr (formed, runs, narrow, more)) none = counted p (es ++ e ∷ []) items close v more none
 
 -- where the verdict is of entry 0 the input lacks a header, so this is its survey
-header_lacks : (input : List ℕ) (v : Verdict) → IsVerdictOf input v → trouble_of v ≡ Some 0 → LacksHeader input
+pub header_lacks : (input : List ℕ) (v : Verdict) → IsVerdictOf input v → trouble_of v ≡ Some 0 → LacksHeader input
 header_lacks input v (inl (lacks, is)) none = lacks
 header_lacks input v (inr (p, items, close, says, behind)) none = absurd (counted p [] items close v behind none)
 

@@ -1,6 +1,6 @@
 -- Each input has a survey: none is without.
 use Rattle.std.proofs.Common.{inl, inr, ◌+◌, ℕ, List, [], ◌∷◌, ◌++◌, length, refl}
-use Rattle.sip_key.specs.Key.{KeyParts}
+use Rattle.sip_standard.specs.Key.{KeyParts}
 use Rattle.sip_standard.specs.Times.{Times}
 use Rattle.sip_standard.specs.LogEntry.{Item}
 use Rattle.sip_standard.specs.LogSays.{LogEnd, Clean, Stops}
@@ -8,15 +8,14 @@ use Rattle.sip_log.specs.Log.{Log, Faulty, Readable, IsLogOf}
 use Rattle.sip_log.proofs.logs.Logs.{log_is_some}
 use Rattle.sip_verdict.specs.declared.finding.Finding.{Finding}
 use Rattle.sip_verdict.specs.declared.survey_end.SurveyEnd.{SurveyEnd}
-use Rattle.sip_verdict.specs.declared.survey_end.SurveyEnd.TheVariants as ended
-use Rattle.sip_verdict.specs.declared.log_reason.LogReason.TheVariants.{Header}
-use Rattle.sip_verdict.specs.LogReason.{reason_of}
-use Rattle.sip_verdict.specs.Keyed.{Observation}
-use Rattle.sip_verdict.specs.VerdictOf.{keys_in}
+use Rattle.sip_standard.specs.declared.log_reason.LogReason.TheVariants.{Header}
+use Rattle.sip_standard.specs.Observation.{Observation}
+use Rattle.sip_standard.specs.VerdictOf.{keys_in}
 use Rattle.sip_verdict.specs.SurveyOf.{Breaks, Widens, AreFoundAt, IsSurveyAfter, IsSurveyOf}
 use Rattle.sip_verdict.proofs.verdicts.HasVerdict.{sees_entry}
 use Rattle.sip_verdict.proofs.surveys.Numbers.{Weakly, numbers_some}
 use Rattle.sip_verdict.proofs.surveys.FoundParts.{listed, listed_found}
+use Rattle.sip_verdict.specs.declared.survey_end.SurveyEnd.TheVariants as ended
 
 -- something is found at each entry, if only nothing
 found_some : (p : Times) (es : List (Observation KeyParts)) (e : Observation KeyParts) → Weakly ((found : List Finding) × AreFoundAt p es e found)
@@ -29,7 +28,7 @@ found_some p es e never =
 -- entries have a survey after others
 after_some : (p : Times) (es : List (Observation KeyParts)) (items : List Item) (close : LogEnd) → Weakly ((found : List Finding) × (end : SurveyEnd) × IsSurveyAfter p es items close found end)
 after_some p es [] Clean never = never ([], ended.Clean (length es) (length (keys_in es)), (refl, refl))
-after_some p es [] (Stops fault) never = never ([], ended.LogFault (length es + 1) (reason_of fault), (refl, refl))
+after_some p es [] (Stops fault) never = never ([], ended.LogFault (length es + 1) fault, (refl, refl))
 after_some p es (item ∷ items) close never =
     sees_entry es item (λ seen.
     found_some p es seen.0 (λ here.

@@ -1,12 +1,13 @@
 -- One transaction of a survey hears the event of an entry, or has waited too long for it.
 use Rattle.std.proofs.Common.{◌≡◌, ◌≢◌, ◌≤◌, ◌<◌, ◌+◌, ◌-◌, ◌⊎◌, inl, inr, ℕ, Bool, true, false, Option, Some, None, List, [], ◌∷◌, ◌++◌, MatchBool, length, slice_get, slice_set, slice_index_or, refl, sym, ap, ◌∙◌, subst, true≢false, arith}
 use Rattle.std.proofs.lemmas.Option.{slice_get-get_or}
-use Rattle.sip_key.specs.Key.{KeyParts}
+use Rattle.sip_standard.specs.Key.{KeyParts}
 use Rattle.sip_standard.specs.Times.{Times}
 use Rattle.sip_machine.specs.Texts.{Texts}
-use Rattle.sip_machine.specs.NumberedEvent.{NumberedEvent}
-use Rattle.sip_machine.specs.MachineEvent.{MachineEvent, event_in}
-use Rattle.sip_states.specs.KeyMachine.{MachineKind, machine_of_key, key_rules}
+use Rattle.sip_machine.specs.NumberedEvent.{NumberedEvent, event_in}
+use Rattle.sip_standard.specs.MachineEvent.{MachineEvent}
+use Rattle.sip_standard.specs.KeyMachine.{MachineKind, machine_of_key}
+use Rattle.sip_states.specs.KeySets.{key_rules}
 use Rattle.sip_states.specs.Agenda.{is_overdue}
 use Rattle.sip_states.specs.AnySet.{moment_of, start_of}
 use Rattle.sip_states.specs.Tables.{Tabled, IsGiven}
@@ -14,7 +15,8 @@ use Rattle.sip_states.specs.declared.any_set.AnySet.{AnySet}
 use Rattle.sip_verdict.specs.declared.passing.Fate.{Fate}
 use Rattle.sip_verdict.specs.declared.passing.Fate.TheVariants.{Runs, NoRun, TooWide}
 use Rattle.sip_verdict.specs.declared.troubled.Troubled.{Troubled}
-use Rattle.sip_verdict.specs.Keyed.{Observation, Machines, newest_moment, HasRun}
+use Rattle.sip_standard.specs.Observation.{Observation}
+use Rattle.sip_verdict.specs.Keyed.{Machines, newest_moment, HasRun}
 use Rattle.sip_verdict.specs.MessageReading.{key_machines}
 use Rattle.sip_verdict.specs.SurveyOf.{IsSound, Breaks}
 use Rattle.sip_verdict.specs.inner.Stepping.{IsStepped}

@@ -4,10 +4,10 @@ use Rattle.std.proofs.Math.Decide.{dec_le}
 use Rattle.std.proofs.lemmas.List.{same_from_push, get_or_append_left}
 use Rattle.std.proofs.lemmas.List.Elements.{All-nil, All-weaker, All-push}
 use Rattle.sip_standard.specs.Times.{Times}
-use Rattle.sip_machine.specs.MachineEvent.{MachineEvent}
-use Rattle.sip_machine.specs.Figure.{Figure, Owing, quiet, Lasts, MayEnd}
-use Rattle.sip_states.specs.Stands.{Stands, begins, waits, ends, takes}
-use Rattle.sip_states.specs.KeyMachine.{MachineKind, transaction_of}
+use Rattle.sip_standard.specs.MachineEvent.{MachineEvent}
+use Rattle.sip_standard.specs.Figure.{Figure, Owing, quiet, Lasts, MayEnd}
+use Rattle.sip_standard.specs.Stands.{Stands, begins, waits, ends, takes}
+use Rattle.sip_standard.specs.KeyMachine.{MachineKind, transaction_of}
 use Rattle.sip_verdict.specs.SurveyLaws.{IsIdleAgain}
 use Rattle.sip_verdict.proofs.verdicts.Unique.{All-middle}
 use Rattle.sip_verdict.proofs.surveys.Lasting.{idle_lasts, idle_stays, lasts_earlier}

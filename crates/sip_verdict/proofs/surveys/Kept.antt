@@ -1,12 +1,12 @@
 -- How many messages a survey keeps, after an entry and a sweep.
 use Rattle.std.proofs.Common.{◌≡◌, ◌≤◌, ◌+◌, ℕ, Bool, List, [], ◌∷◌, ◌++◌, length, append_assoc, append-nil, refl, sym, ap, ◌∙◌, subst, arith}
-use Rattle.sip_key.specs.Key.{KeyParts}
+use Rattle.sip_standard.specs.Key.{KeyParts}
 use Rattle.sip_standard.specs.Times.{Times}
 use Rattle.sip_machine.specs.Texts.{Texts}
-use Rattle.sip_states.specs.KeyMachine.{machine_of_key}
+use Rattle.sip_standard.specs.KeyMachine.{machine_of_key}
 use Rattle.sip_states.specs.Tables.{Tabled}
 use Rattle.sip_states.proofs.lists.Listed.{Contains-none}
-use Rattle.sip_verdict.specs.Keyed.{Observation}
+use Rattle.sip_standard.specs.Observation.{Observation}
 use Rattle.sip_verdict.specs.Named.{AreMany}
 use Rattle.sip_verdict.specs.Surveys.{IsStillNamed, WereStillNamed, AreSurveyed}
 use Rattle.sip_verdict.specs.inner.Surveying.{TablesSurvey}

@@ -2,14 +2,16 @@
 use Rattle.std.proofs.Common.{◌≡◌, ◌≤◌, ℕ, true, Option, Some, None, IfSome, IsSomeAnd, List, [], All, subst, arith}
 use Rattle.std.proofs.lemmas.List.Elements.{All-head, All-weaker}
 use Rattle.sip_standard.specs.Times.{Times}
-use Rattle.sip_machine.specs.MachineEvent.{MachineEvent}
+use Rattle.sip_standard.specs.MachineEvent.{MachineEvent}
 use Rattle.sip_machine.specs.Rules.{Waits}
-use Rattle.sip_machine.specs.Figure.{Figure, IsFigure, Owing, quiet, Lasts, MayEnd, closes_of, closes_at, rules_of}
+use Rattle.sip_standard.specs.Figure.{Figure, Owing, quiet, Lasts, MayEnd}
+use Rattle.sip_machine.specs.FigureRules.{IsFigure, closes_of, closes_at, rules_of}
 use Rattle.sip_machine.specs.inner.DebtLaws.{All-front, All-back}
 use Rattle.sip_machine.specs.inner.OwesLaws.{IsWithin-owed}
 use Rattle.sip_machine.specs.inner.FigureLaws.{rules_lawful}
-use Rattle.sip_states.specs.Stands.{Stands}
-use Rattle.sip_states.specs.KeyMachine.{MachineKind, transaction_of, coded_holds}
+use Rattle.sip_standard.specs.Stands.{Stands}
+use Rattle.sip_standard.specs.KeyMachine.{MachineKind, transaction_of}
+use Rattle.sip_states.specs.KeySets.{coded_holds}
 use Rattle.sip_states.proofs.runs.StandsLemmas.{stands-runs}
 use Rattle.sip_states.proofs.sets.Waiting.{IsWithin-none}
 

@@ -1,13 +1,14 @@
 -- Numbers of transactions, one after another.
 use Rattle.std.proofs.Common.{◌≡◌, ◌≢◌, ◌≤◌, ◌<◌, ◌+◌, ℕ, zero, suc, true, false, List, [], ◌∷◌, AllPairs, length, get_or, drop, slice_get, refl, sym, ap, ◌∙◌, subst, arith, add-one, drop-cons}
-use Rattle.sip_key.specs.Key.{KeyParts}
+use Rattle.sip_standard.specs.Key.{KeyParts}
 use Rattle.sip_standard.specs.Times.{Times}
 use Rattle.sip_machine.specs.Texts.{Texts}
 use Rattle.sip_machine.specs.NumberedEvent.{NumberedEvent}
-use Rattle.sip_states.proofs.lists.Few.{AllPairs-tail}
+use Rattle.sip_standard.proofs.Few.{AllPairs-tail}
 use Rattle.sip_states.specs.Tables.{Tabled}
 use Rattle.sip_verdict.specs.declared.troubled.Troubled.{Troubled}
-use Rattle.sip_verdict.specs.Keyed.{Observation, newest_moment}
+use Rattle.sip_standard.specs.Observation.{Observation}
+use Rattle.sip_verdict.specs.Keyed.{newest_moment}
 use Rattle.sip_verdict.specs.inner.TablesTracking.{is_among}
 use Rattle.sip_verdict.specs.inner.Surveying.{AreConcerned, ArePassing, HearsNumbers}
 use Rattle.sip_verdict.proofs.tables.TablesPassing.{among_rest, first_apart}

@@ -6,22 +6,22 @@ use Rattle.std.proofs.lemmas.List.Elements.{All-nil, All-cons, All-weaker}
 use Rattle.std.proofs.lemmas.List.Kept.{AllPairs-cons}
 use Rattle.std.proofs.lemmas.List.Sums.{fold-append}
 use Rattle.std.proofs.lemmas.Grind.{flat_map-append}
-use Rattle.sip_key.specs.Key.{KeyParts, same_key}
+use Rattle.sip_standard.specs.Key.{KeyParts, same_key}
 use Rattle.sip_standard.specs.Times.{Times}
 use Rattle.sip_machine.specs.inner.DebtLaws.{All-front}
 use Rattle.sip_standard.specs.declared.format.Format.{Format}
-use Rattle.sip_standard.specs.LogEntry.{Item}
+use Rattle.sip_standard.specs.LogEntry.{Item, InOrder}
 use Rattle.sip_standard.specs.LogSays.{LogEnd}
-use Rattle.sip_standard.specs.LogEntry.{InOrder}
-use Rattle.sip_states.proofs.lists.Few.{AllPairs-head, AllPairs-tail}
+use Rattle.sip_standard.proofs.Few.{AllPairs-head, AllPairs-tail}
 use Rattle.sip_states.proofs.lists.Listed.{Contains-none}
 use Rattle.sip_verdict.specs.declared.finding.Finding.{Finding}
 use Rattle.sip_verdict.specs.declared.finding.Finding.TheVariants.{Malformed, Breach, Undecided}
 use Rattle.sip_verdict.specs.declared.survey_end.SurveyEnd.{SurveyEnd}
-use Rattle.sip_verdict.specs.Keyed.{Observation, with_key}
+use Rattle.sip_standard.specs.Observation.{Observation}
+use Rattle.sip_verdict.specs.Keyed.{with_key}
 use Rattle.sip_verdict.specs.MessageReading.{message_reading}
 use Rattle.sip_verdict.specs.Reading.{AreObserved}
-use Rattle.sip_verdict.specs.VerdictOf.{keys_in}
+use Rattle.sip_standard.specs.VerdictOf.{keys_in}
 use Rattle.sip_verdict.specs.SurveyOf.{Breaks, Widens, HoldsOf, IsFoundAt, IsSurveyAfter, IsSurveyOf}
 use Rattle.sip_verdict.specs.SurveyLaws.{IsOf}
 use Rattle.sip_verdict.proofs.keys.Splitting.{split_compare}

@@ -1,10 +1,10 @@
 -- A transaction has one finding, where it is in trouble, and none where it is in none. For the survey's body: sound_fewer, stays_in_trouble, trouble_breaks.
 use Rattle.std.proofs.Common.{◌≡◌, ◌≤◌, ◌⊎◌, inl, inr, List, [], ◌∷◌, ◌++◌, AllPairs, refl, sym, ap, ◌∙◌, subst, append_assoc, append-nil}
-use Rattle.sip_key.specs.Key.{KeyParts}
+use Rattle.sip_standard.specs.Key.{KeyParts}
 use Rattle.sip_standard.specs.Times.{Times}
-use Rattle.sip_verdict.specs.Keyed.{Observation}
+use Rattle.sip_standard.specs.Observation.{Observation}
 use Rattle.sip_verdict.specs.MessageReading.{key_machines}
-use Rattle.sip_verdict.specs.VerdictOf.{RunsOver}
+use Rattle.sip_standard.specs.VerdictOf.{RunsOver}
 use Rattle.sip_verdict.specs.SurveyOf.{IsSound, Breaks, Widens}
 use Rattle.sip_verdict.proofs.keys.FewerEntries.{fewer-entries}
 use Rattle.sip_verdict.proofs.verdicts.VerdictLemmas.{run-over, over-run}

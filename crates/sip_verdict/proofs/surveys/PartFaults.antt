@@ -1,7 +1,7 @@
 -- A fault is found in the log of some transactions exactly where it is found in the whole and its message stays.
 use Rattle.std.proofs.Common.{◌≡◌, ◌↔◌, ◌<◌, ◌+◌, inl, inr, ℕ, zero, suc, Bool, Some, None, List, [], ◌∷◌, ◌++◌, Contains, length, refl, sym, ap, ◌∙◌, subst, arith, append_assoc, append-nil, MatchOption, length-append}
 use Rattle.sip_standard.specs.declared.fault.Fault.{Fault}
-use Rattle.sip_key.specs.Key.{KeyParts}
+use Rattle.sip_standard.specs.Key.{KeyParts}
 use Rattle.sip_standard.specs.declared.action.Action.{Action}
 use Rattle.sip_standard.specs.declared.action.Action.TheVariants.{Sent, Received, Failed, Mark, Restart}
 use Rattle.sip_standard.specs.Times.{Times}
@@ -10,10 +10,10 @@ use Rattle.sip_standard.specs.LogSays.{LogEnd}
 use Rattle.sip_verdict.specs.declared.finding.Finding.{Finding}
 use Rattle.sip_verdict.specs.declared.finding.Finding.TheVariants.{Malformed}
 use Rattle.sip_verdict.specs.declared.survey_end.SurveyEnd.{SurveyEnd}
-use Rattle.sip_verdict.specs.Keyed.{Observation}
-use Rattle.sip_verdict.specs.MessageReading.{message_reading, direction_of, silent_observation, ObservesMessage}
+use Rattle.sip_standard.specs.Observation.{Observation, direction_of, silent_observation, ObservesMessage}
+use Rattle.sip_verdict.specs.MessageReading.{message_reading}
 use Rattle.sip_verdict.specs.Reading.{AreObserved}
-use Rattle.sip_verdict.specs.VerdictOf.{keys_in, Sees}
+use Rattle.sip_standard.specs.VerdictOf.{keys_in, Sees}
 use Rattle.sip_verdict.specs.SurveyOf.{IsFoundAt, IsSurveyAfter}
 use Rattle.sip_verdict.specs.SurveyLaws.{StaysOrIsMark, IsCutLog, StaysAt}
 use Rattle.sip_verdict.proofs.verdicts.MessageUnique.{observes_one}

@@ -2,18 +2,20 @@
 use Rattle.std.proofs.Common.{◌≡◌, ◌≤◌, ◌<◌, ◌↔◌, ℕ, Bool, true, false, Some, List, [], All, AllPairs, Contains, length, slice_get, refl, sym, ap, ◌∙◌, subst, arith}
 use Rattle.std.specs.List.{flat_map, list_any}
 use Rattle.std.proofs.lemmas.Option.{slice_get_within, get_or_from_slice_get, slice_get-get_or}
-use Rattle.sip_key.specs.Key.{KeyParts, same_key}
+use Rattle.sip_standard.specs.Key.{KeyParts, same_key}
 use Rattle.sip_standard.specs.Times.{Times}
 use Rattle.sip_machine.specs.Texts.{Texts, IsBook, Keeps}
 use Rattle.sip_machine.specs.Retained.{only}
-use Rattle.sip_machine.specs.MachineEvent.{MachineEvent}
+use Rattle.sip_standard.specs.MachineEvent.{MachineEvent}
 use Rattle.sip_states.specs.Runs.{RuledRun}
-use Rattle.sip_states.specs.KeyMachine.{machine_of_key, key_rules}
+use Rattle.sip_standard.specs.KeyMachine.{machine_of_key}
+use Rattle.sip_states.specs.KeySets.{key_rules}
 use Rattle.sip_states.specs.AnySet.{moment_of}
 use Rattle.sip_states.specs.Sweep.{numbers_of, AdvancesAll}
 use Rattle.sip_states.specs.Tables.{Tabled}
 use Rattle.sip_states.specs.declared.any_set.AnySet.{AnySet}
-use Rattle.sip_verdict.specs.Keyed.{Observation, keys_of, events_of, newest_moment}
+use Rattle.sip_standard.specs.Observation.{Observation}
+use Rattle.sip_verdict.specs.Keyed.{keys_of, events_of, newest_moment}
 use Rattle.sip_verdict.specs.MessageReading.{key_machines}
 use Rattle.sip_verdict.specs.Named.{AreMany, messages_of}
 use Rattle.sip_verdict.specs.Surveys.{IsStillNamed}

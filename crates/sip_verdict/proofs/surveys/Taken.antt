@@ -5,14 +5,14 @@ use Rattle.std.specs.List.{list_any}
 use Rattle.std.proofs.Math.Decide.{dec_le}
 use Rattle.std.proofs.lemmas.List.Elements.{All-head, All-tail, Contains-get_or}
 use Rattle.sip_standard.specs.declared.action.Action.TheVariants.{Restart}
-use Rattle.sip_machine.specs.declared.event.Kind.TheVariants.{Request}
-use Rattle.sip_machine.specs.declared.event.Method.TheVariants.{Other}
-use Rattle.sip_key.specs.Key.{KeyParts, same_key}
+use Rattle.sip_standard.specs.declared.kind.Kind.TheVariants.{Request}
+use Rattle.sip_standard.specs.declared.kind.Method.TheVariants.{Other}
+use Rattle.sip_standard.specs.Key.{KeyParts, same_key}
 use Rattle.sip_standard.specs.Times.{Times}
 use Rattle.sip_machine.specs.Texts.{Texts, Keeps, text_of}
-use Rattle.sip_machine.specs.NumberedEvent.{NumberedEvent}
-use Rattle.sip_machine.specs.MachineEvent.{MachineEvent, event_in}
-use Rattle.sip_states.specs.KeyMachine.{MachineKind, machine_of_key}
+use Rattle.sip_machine.specs.NumberedEvent.{NumberedEvent, event_in}
+use Rattle.sip_standard.specs.MachineEvent.{MachineEvent}
+use Rattle.sip_standard.specs.KeyMachine.{MachineKind, machine_of_key}
 use Rattle.sip_states.specs.AnySet.{meaning_of}
 use Rattle.sip_states.specs.Tables.{Tabled}
 use Rattle.sip_states.specs.declared.any_set.AnySet.{AnySet}
@@ -25,9 +25,10 @@ use Rattle.sip_verdict.specs.declared.observing.Told.{Told}
 use Rattle.sip_verdict.specs.declared.observing.Told.TheVariants as told
 use Rattle.sip_verdict.specs.declared.passing.Hearing.{Hearing}
 use Rattle.sip_verdict.specs.declared.troubled.Troubled.{Troubled}
-use Rattle.sip_verdict.specs.Keyed.{Observation, with_key, newest_moment}
+use Rattle.sip_standard.specs.Observation.{Observation}
+use Rattle.sip_verdict.specs.Keyed.{with_key, newest_moment}
 use Rattle.sip_verdict.specs.MessageReading.{key_machines, message_reading}
-use Rattle.sip_verdict.specs.VerdictOf.{keys_in}
+use Rattle.sip_standard.specs.VerdictOf.{keys_in}
 use Rattle.sip_verdict.specs.inner.Concerned.{each, is_all}
 use Rattle.sip_verdict.specs.inner.Observing.{IsObserved, restart_observation}
 use Rattle.sip_verdict.specs.inner.TablesTracking.{LeadsOf, is_among, AreTold, TouchesEach}
@@ -58,7 +59,7 @@ grown_survey old new number bytes grown es t deaf h = record { order = h.order; 
     by key s false (leads, sound) = (grown_leads old new number bytes t.times grown (machine_of_key t.times.rules key) _ (newest_moment es) s leads, sound)
 
 -- keys that are there are no more
-known_keys : (p : Times) (keys more : List KeyParts) → All (Contains keys) more → fold (with_key same_key) keys more ≡ keys
+pub known_keys : (p : Times) (keys more : List KeyParts) → All (Contains keys) more → fold (with_key same_key) keys more ≡ keys
 known_keys p keys [] among = refl
 known_keys p keys (key ∷ more) among =
     ap (λ ks. fold (with_key same_key) ks more)
@@ -77,7 +78,7 @@ Passes texts moment hearing t b u c =
     → ArePassing texts p es e any t b → ArePassing texts p es e (is_among []) u c
 
 -- the keys of the entries, and of one more that concerns none
-keys_none : (p : Times) (es : List (Observation KeyParts)) (e : Observation KeyParts) → e.keys ≡ [] → keys_in (es ++ e ∷ []) ≡ keys_in es
+pub keys_none : (p : Times) (es : List (Observation KeyParts)) (e : Observation KeyParts) → e.keys ≡ [] → keys_in (es ++ e ∷ []) ≡ keys_in es
 keys_none p es e none = keys_of-push (key_machines p) es e ∙ ap (fold (with_key same_key) (keys_in es)) none
 
 module _ (old mid : Texts) (number : ℕ) (bytes : List ℕ) (grown : IsGrown old number bytes mid) (i : Item) (moment : ℕ) (at : i.moment ≡ moment) where

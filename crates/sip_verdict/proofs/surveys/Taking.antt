@@ -1,11 +1,11 @@
 -- An item as it is in the log of a part.
 use Rattle.std.proofs.Common.{◌≡◌, ◌∙◌, ℕ, Bool, false, Option, Some, None, MatchOption, List, [], if◌then◌else◌, ap}
 use Rattle.std.specs.Prelude.{is_none}
-use Rattle.sip_key.specs.declared.role.Direction.{Direction}
+use Rattle.sip_standard.specs.declared.role.Direction.{Direction}
 use Rattle.sip_standard.specs.declared.action.Action.TheVariants.{Mark}
 use Rattle.sip_standard.specs.LogEntry.{Item}
 use Rattle.sip_part.specs.Part.{PartOf, TellsBranch, falls_into}
-use Rattle.sip_verdict.specs.MessageReading.{direction_of}
+use Rattle.sip_standard.specs.Observation.{direction_of}
 use Rattle.sip_verdict.specs.SurveyParts.{IsPartItem}
 
 -- a mark of its moment

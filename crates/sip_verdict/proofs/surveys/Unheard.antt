@@ -4,10 +4,10 @@ use Rattle.std.specs.Prelude.{filter}
 use Rattle.std.specs.List.{list_any}
 use Rattle.std.proofs.lemmas.List.{length-map}
 use Rattle.std.proofs.lemmas.List.Elements.{filter-append}
-use Rattle.sip_key.specs.Key.{KeyParts, same_key}
+use Rattle.sip_standard.specs.Key.{KeyParts, same_key}
 use Rattle.sip_standard.specs.Times.{Times}
-use Rattle.sip_verdict.specs.Keyed.{Observation}
-use Rattle.sip_verdict.specs.VerdictOf.{events_for, IsWideAt}
+use Rattle.sip_standard.specs.Observation.{Observation}
+use Rattle.sip_standard.specs.VerdictOf.{events_for, IsWideAt}
 
 -- an entry that concerns it has an event of it
 concerned_events : (key : KeyParts) (front : List (Observation KeyParts)) (e : Observation KeyParts) (rest : List (Observation KeyParts)) → list_any (same_key key) e.keys ≡ true → events_for key (front ++ e ∷ rest) ≡ [] → ⊥

@@ -1,13 +1,13 @@
 -- A transaction that is too wide at an entry has a run over it.
 use Rattle.std.proofs.Common.{◌<◌, ℕ, List, [], ◌∷◌, ◌++◌, All, length, sym, subst, arith}
 use Rattle.std.proofs.lemmas.List.Elements.{All-head}
-use Rattle.sip_key.specs.Key.{KeyParts}
+use Rattle.sip_standard.specs.Key.{KeyParts}
 use Rattle.sip_standard.specs.Times.{Times}
-use Rattle.sip_states.specs.Stands.{Stands, takes, StandsBehind}
-use Rattle.sip_states.specs.KeyMachine.{machine_of_key, transaction_of}
-use Rattle.sip_verdict.specs.Keyed.{Observation}
+use Rattle.sip_standard.specs.Stands.{Stands, takes, StandsBehind}
+use Rattle.sip_standard.specs.KeyMachine.{machine_of_key, transaction_of}
+use Rattle.sip_standard.specs.Observation.{Observation}
 use Rattle.sip_verdict.specs.MessageReading.{key_machines}
-use Rattle.sip_verdict.specs.VerdictOf.{events_for, RunsOver, IsWideAt}
+use Rattle.sip_standard.specs.VerdictOf.{events_for, RunsOver, IsWideAt}
 use Rattle.sip_verdict.proofs.keys.Keys.{newest_moment-push, events_of-concerned}
 
 -- the first of more than so many

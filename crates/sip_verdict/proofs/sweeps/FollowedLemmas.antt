@@ -3,20 +3,21 @@ use Rattle.std.proofs.Common.{◌≡◌, ◌<◌, ◌≤◌, ◌+◌, ◌∙◌,
 use Rattle.std.proofs.lemmas.List.{append-nil}
 use Rattle.std.proofs.lemmas.List.Elements.{Contains-get_or}
 use Rattle.std.proofs.lemmas.Slice.Zip.{firsts-zip}
-use Rattle.sip_key.specs.declared.role.Direction.{Direction}
-use Rattle.sip_key.specs.Key.{KeyParts}
+use Rattle.sip_standard.specs.declared.role.Direction.{Direction}
+use Rattle.sip_standard.specs.Key.{KeyParts}
 use Rattle.sip_standard.specs.Times.{Times}
 use Rattle.sip_machine.specs.Texts.{Texts, IsBook, Keeps}
-use Rattle.sip_states.specs.KeyMachine.{machine_of_key}
+use Rattle.sip_standard.specs.KeyMachine.{machine_of_key}
 use Rattle.sip_states.specs.Tables.{Tabled}
 use Rattle.sip_states.proofs.lists.Listed.{Contains-none, Contains-map}
 use Rattle.sip_standard.specs.LogEntry.{Item}
-use Rattle.sip_verdict.specs.declared.verdict.Verdict.{Verdict}
-use Rattle.sip_verdict.specs.Keyed.{Observation, Machines, keys_of, newest_moment}
+use Rattle.sip_standard.specs.declared.verdict.Verdict.{Verdict}
+use Rattle.sip_standard.specs.Observation.{Observation, silent_observation, ObservesMessage, direction_of, has_fault, has_no_cookie, is_heard}
+use Rattle.sip_verdict.specs.Keyed.{Machines, keys_of, newest_moment}
 use Rattle.sip_standard.specs.declared.action.Action.{Action}
 use Rattle.sip_standard.specs.declared.action.Action.TheVariants.{Sent, Received, Failed, Mark, Restart}
-use Rattle.sip_verdict.specs.VerdictOf.{keys_in}
-use Rattle.sip_verdict.specs.MessageReading.{key_machines, silent_observation, message_reading, ObservesMessage, direction_of, has_fault, has_no_cookie, is_heard}
+use Rattle.sip_standard.specs.VerdictOf.{keys_in}
+use Rattle.sip_verdict.specs.MessageReading.{key_machines, message_reading}
 use Rattle.sip_verdict.specs.Named.{IsNamed, AreMany, WereNamed, key_messages}
 use Rattle.sip_verdict.specs.Judging.{AreFollowed}
 use Rattle.sip_verdict.specs.inner.Sweeping.{AreFollowedOn}

@@ -7,11 +7,12 @@ use Rattle.sip_standard.specs.Times.{Times}
 use Rattle.sip_ledger.specs.declared.debt.Debt.{Debt}
 use Rattle.sip_machine.specs.Texts.{Texts, text_of}
 use Rattle.sip_machine.specs.Owes.{owes_seen, owes_names}
-use Rattle.sip_machine.specs.MachineEvent.{MachineEvent}
+use Rattle.sip_standard.specs.MachineEvent.{MachineEvent}
 use Rattle.sip_machine.specs.Rules.{Rules, IsLawful, StandFor}
 use Rattle.sip_machine.proofs.texts.TextLaws.{Contains-nil, Contains-cons_cases}
 use Rattle.sip_states.specs.Runs.{Wait, RuledRun}
-use Rattle.sip_states.specs.KeyMachine.{MachineKind, coded_of, coded_holds, StateOf}
+use Rattle.sip_standard.specs.KeyMachine.{MachineKind}
+use Rattle.sip_states.specs.KeySets.{coded_of, coded_holds, StateOf}
 use Rattle.sip_states.specs.AnySet.{meaning_of}
 use Rattle.sip_states.proofs.lists.Listed.{Contains-map, Contains-from_map, Contains-here, Contains-there, Contains-none}
 use Rattle.sip_states.proofs.sets.Waiting.{StaysFrom, EndsFrom, Wait-cases}

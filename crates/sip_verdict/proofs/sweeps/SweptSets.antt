@@ -5,13 +5,14 @@ use Rattle.std.proofs.lemmas.List.Elements.{Contains-get_or}
 use Rattle.sip_standard.specs.Times.{Times}
 use Rattle.sip_machine.specs.Texts.{Texts, IsBook, Keeps, text_of}
 use Rattle.sip_machine.specs.Retained.{only}
-use Rattle.sip_machine.specs.MachineEvent.{MachineEvent}
+use Rattle.sip_standard.specs.MachineEvent.{MachineEvent}
 use Rattle.sip_machine.specs.Limits.{IsWithin, IsOpenAt}
 use Rattle.sip_machine.specs.Rules.{Rules, IsLawful, StandFor}
 use Rattle.sip_machine.specs.inner.OwingLaws.{window_same, until_same}
 use Rattle.sip_machine.proofs.texts.RetainLemmas.{only-Keeps, text_of-only}
 use Rattle.sip_states.specs.Runs.{Wait, IsAgenda}
-use Rattle.sip_states.specs.KeyMachine.{MachineKind, transaction_of, coded_of, coded_holds, StateOf}
+use Rattle.sip_standard.specs.KeyMachine.{MachineKind, transaction_of}
+use Rattle.sip_states.specs.KeySets.{coded_of, coded_holds, StateOf}
 use Rattle.sip_states.specs.Meaning.{IsKnown, HasWaited, HasAgenda}
 use Rattle.sip_states.specs.AnySet.{meaning_of, moment_of, SetWaits, IsKnownSet, IsAgendaOf}
 use Rattle.sip_states.specs.Sweep.{numbers_of, IsAdvanced}

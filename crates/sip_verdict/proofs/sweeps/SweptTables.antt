@@ -3,19 +3,20 @@ use Rattle.std.proofs.Common.{◌≡◌, ◌≤◌, ◌<◌, ◌↔◌, inl, inr
 use Rattle.std.specs.List.{flat_map}
 use Rattle.std.proofs.lemmas.List.Elements.{All-contains, Contains-get_or}
 use Rattle.std.proofs.lemmas.Option.{slice_get_within, get_or_from_slice_get, slice_get-get_or}
-use Rattle.sip_key.specs.Key.{KeyParts}
+use Rattle.sip_standard.specs.Key.{KeyParts}
 use Rattle.sip_machine.specs.Texts.{Texts, IsBook, Keeps}
 use Rattle.sip_machine.specs.Retained.{only}
 use Rattle.sip_machine.specs.Rules.{Knows}
 use Rattle.sip_machine.proofs.texts.RetainLemmas.{only-Keeps}
-use Rattle.sip_states.specs.KeyMachine.{machine_of_key}
+use Rattle.sip_standard.specs.KeyMachine.{machine_of_key}
 use Rattle.sip_states.specs.Meaning.{HasWaited, IsKnown}
 use Rattle.sip_states.specs.AnySet.{meaning_of, moment_of, SetWaits, IsKnownSet}
 use Rattle.sip_states.specs.Sweep.{numbers_of, IsAdvanced, AdvancesAll, AppendsNamed}
 use Rattle.sip_states.specs.Tables.{Tabled}
 use Rattle.sip_states.specs.declared.any_set.AnySet.{AnySet}
 use Rattle.sip_states.proofs.lists.Listed.{Contains-none}
-use Rattle.sip_verdict.specs.Keyed.{Observation, events_of, newest_moment}
+use Rattle.sip_standard.specs.Observation.{Observation}
+use Rattle.sip_verdict.specs.Keyed.{events_of, newest_moment}
 use Rattle.sip_verdict.specs.MessageReading.{key_machines}
 use Rattle.sip_verdict.specs.inner.Tracking.{IsReady, Tracks}
 use Rattle.sip_verdict.specs.inner.TablesTracking.{key_keeping, transactions_of, TablesTrack, MayPass, IsOnRecord, AllAreOnRecord}

@@ -5,22 +5,23 @@ use Rattle.std.specs.List.{list_any, zip}
 use Rattle.std.specs.Cmp.{unsigned_Decides}
 use Rattle.std.proofs.lemmas.List.Elements.{All-push}
 use Rattle.std.proofs.lemmas.Option.{slice_get_within, get_or_from_slice_get}
-use Rattle.sip_key.specs.Key.{KeyParts, same_key}
+use Rattle.sip_standard.specs.Key.{KeyParts, same_key}
 use Rattle.sip_key.specs.inner.KeyLaws.{same_key-decides}
 use Rattle.sip_standard.specs.Times.{Times}
 use Rattle.sip_machine.specs.Texts.{Texts, Keeps}
-use Rattle.sip_machine.specs.MachineEvent.{event_in}
-use Rattle.sip_states.specs.KeyMachine.{machine_of_key, start_is}
+use Rattle.sip_machine.specs.NumberedEvent.{event_in}
+use Rattle.sip_standard.specs.KeyMachine.{machine_of_key}
+use Rattle.sip_states.specs.KeySets.{start_is}
 use Rattle.sip_states.specs.Meaning.{IsKnown}
-use Rattle.sip_states.specs.AnySet.{moment_of, IsKnownSet, start_of}
+use Rattle.sip_states.specs.AnySet.{moment_of, IsKnownSet, start_of, meaning_of}
 use Rattle.sip_states.specs.Tables.{Tabled, Touches, with_key}
 use Rattle.sip_states.specs.declared.any_set.AnySet.{AnySet}
 use Rattle.sip_verdict.specs.declared.passing.Hearing.{Hearing}
-use Rattle.sip_verdict.specs.Keyed.{Observation, newest_moment}
+use Rattle.sip_standard.specs.Observation.{Observation}
+use Rattle.sip_verdict.specs.Keyed.{newest_moment}
 use Rattle.sip_verdict.specs.Keyed as keyed
 use Rattle.sip_verdict.specs.MessageReading.{key_machines}
 use Rattle.sip_verdict.specs.inner.Tracking.{IsTouched}
-use Rattle.sip_states.specs.AnySet.{meaning_of}
 use Rattle.sip_verdict.specs.inner.TablesTracking.{LeadsOf, key_keeping, transactions_of, AreTold, TouchesEach, HaveNumbers, is_among, MayPass, IsOnRecord, AreOnRecord}
 use Rattle.sip_verdict.specs.inner.Concerned.{each, is_all}
 use Rattle.sip_verdict.proofs.keys.Keys.{IsExact, contains-among}
@@ -212,7 +213,7 @@ same_place (u ∷ xs) apart (suc i) (suc k) x a b =
     ap suc (same_place xs (λ m n d low within. apart (suc m) (suc n) d (omega arith) (omega arith)) i k x a b)
 
 -- a key is one of those of an event just where its number is
-same_numbers : (all : List KeyParts) → AllPairs (λ a b. a ≢ b) all → (ns : List ℕ) (ks : List KeyParts) → HaveNumbers all ns ks → (n : ℕ) (k : KeyParts) → slice_get all n ≡ Some k → list_any (same_key k) ks ≡ is_among ns (n + 1)
+pub same_numbers : (all : List KeyParts) → AllPairs (λ a b. a ≢ b) all → (ns : List ℕ) (ks : List KeyParts) → HaveNumbers all ns ks → (n : ℕ) (k : KeyParts) → slice_get all n ≡ Some k → list_any (same_key k) ks ≡ is_among ns (n + 1)
 same_numbers all apart [] [] h n k at = refl
 same_numbers all apart [] (key ∷ ks) h n k at = absurd h
 same_numbers all apart (i ∷ ns) [] h n k at = absurd h

@@ -4,8 +4,9 @@ use Rattle.std.specs.Prelude.{fold}
 use Rattle.std.specs.List.{list_any}
 use Rattle.std.proofs.lemmas.List.{map-append}
 use Rattle.std.proofs.lemmas.List.Elements.{All-nil, All-map, All-weaker, All-push, All-head, All-tail, Contains-get_or}
-use Rattle.sip_verdict.specs.declared.verdict.Verdict.TheVariants.{Breach, Undecided}
-use Rattle.sip_verdict.specs.Keyed.{Observation, Machines, with_key, keys_of, newest_moment, HasRun}
+use Rattle.sip_standard.specs.declared.verdict.Verdict.TheVariants.{Breach, Undecided}
+use Rattle.sip_standard.specs.Observation.{Observation}
+use Rattle.sip_verdict.specs.Keyed.{Machines, with_key, keys_of, newest_moment, HasRun}
 use Rattle.sip_verdict.specs.Verdicts.{IsFirst, IsTooWide, IsGood, IsTrouble}
 use Rattle.sip_verdict.specs.inner.Tracking.{Keeping, IsReady, IsStanding, Tracks, TracksBefore, GoesOn, IsTouched}
 use Rattle.sip_verdict.proofs.keys.Keys.{IsExact, cond_true, cond_false, keys_of-push, new_key, contains-among, not_among, among-with_key}

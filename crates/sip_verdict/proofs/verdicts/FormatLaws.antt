@@ -11,10 +11,10 @@ use Rattle.sip_standard.specs.LogSays.{LogEnd, Clean, LogSays}
 use Rattle.sip_log.specs.Log.{Readable, IsLogOf}
 use Rattle.sip_log.proofs.logs.Logs.{log-of-two, clean-log}
 use Rattle.sip_log.proofs.logs.LogLaws.{Header-one}
-use Rattle.sip_verdict.specs.declared.verdict.Verdict.{Verdict}
+use Rattle.sip_standard.specs.declared.verdict.Verdict.{Verdict}
 use Rattle.sip_verdict.specs.Reading.{Judges, IsVerdictBy}
 use Rattle.sip_verdict.specs.MessageReading.{message_reading}
-use Rattle.sip_verdict.specs.VerdictOf.{IsVerdictOf}
+use Rattle.sip_standard.specs.VerdictOf.{IsVerdictOf}
 use Rattle.sip_verdict.proofs.verdicts.OneVerdict.{one_log, not_both}
 use Rattle.sip_verdict.proofs.verdicts.VerdictLemmas.{by-verdict, verdict-by}
 

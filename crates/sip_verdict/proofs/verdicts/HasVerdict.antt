@@ -4,14 +4,12 @@ use Rattle.std.proofs.lemmas.List.Elements.{All-nil, All-cons, All-head, All-tai
 use Rattle.sip_standard.specs.declared.fault.Fault.{Fault}
 use Rattle.sip_standard.specs.Outcome.{stops}
 use Rattle.sip_standard.specs.Says.{Says}
-use Rattle.sip_message.specs.Reading as message
 use Rattle.sip_message.specs.Reads.{Reads}
 use Rattle.sip_message.specs.SaidOf.{said_of}
 use Rattle.sip_message.proofs.lemmas.message.Total.{reading-or-fault}
-use Rattle.sip_key.specs.declared.role.Direction.{Direction}
-use Rattle.sip_key.specs.declared.role.Direction.TheVariants as way
-use Rattle.sip_key.specs.Key.{KeyParts}
-use Rattle.sip_key.specs.Concerns.{lacks_cookie}
+use Rattle.sip_standard.specs.declared.role.Direction.{Direction}
+use Rattle.sip_standard.specs.Key.{KeyParts}
+use Rattle.sip_standard.specs.Concerns.{lacks_cookie}
 use Rattle.sip_standard.specs.declared.action.Action.{Action}
 use Rattle.sip_standard.specs.declared.action.Action.TheVariants.{Sent, Received, Failed, Mark, Restart}
 use Rattle.sip_standard.specs.Times.{Times}
@@ -19,16 +17,18 @@ use Rattle.sip_standard.specs.LogEntry.{Item}
 use Rattle.sip_standard.specs.LogSays.{LogEnd, Clean, Stops}
 use Rattle.sip_log.specs.Log.{Log, Faulty, Readable, IsLogOf}
 use Rattle.sip_log.proofs.logs.Logs.{log_is_some}
-use Rattle.sip_verdict.specs.declared.verdict.Verdict.{Verdict}
-use Rattle.sip_verdict.specs.declared.verdict.Verdict.TheVariants.{Legal, Malformed, Breach, Undecided, LogFault}
-use Rattle.sip_verdict.specs.declared.log_reason.LogReason.TheVariants.{Header}
-use Rattle.sip_verdict.specs.LogReason.{reason_of}
-use Rattle.sip_verdict.specs.Keyed.{Observation, Machines, keys_of, HasRun}
+use Rattle.sip_standard.specs.declared.verdict.Verdict.{Verdict}
+use Rattle.sip_standard.specs.declared.verdict.Verdict.TheVariants.{Legal, Malformed, Breach, Undecided, LogFault}
+use Rattle.sip_standard.specs.declared.log_reason.LogReason.TheVariants.{Header}
+use Rattle.sip_standard.specs.Observation.{Observation, direction_of, silent_observation, ObservesMessage, has_fault, has_no_cookie, is_heard}
+use Rattle.sip_verdict.specs.Keyed.{Machines, keys_of, HasRun}
 use Rattle.sip_verdict.specs.Verdicts.{IsFirst, IsTooWide, AllRun, IsFine, IsTrouble}
 use Rattle.sip_verdict.specs.Reading.{EntryReading, Judges, IsVerdictBy}
-use Rattle.sip_verdict.specs.VerdictOf.{keys_in}
-use Rattle.sip_verdict.specs.MessageReading.{message_reading, direction_of, silent_observation, ObservesMessage, has_fault, has_no_cookie, is_heard}
+use Rattle.sip_standard.specs.VerdictOf.{keys_in}
+use Rattle.sip_verdict.specs.MessageReading.{message_reading}
 use Rattle.sip_verdict.specs.inner.Observing.{mark_observation, restart_observation}
+use Rattle.sip_message.specs.Reading as message
+use Rattle.sip_standard.specs.declared.role.Direction.TheVariants as way
 
 -- it is not false
 abbrev Weakly : Type 0 → Type 0
@@ -93,7 +93,7 @@ module _ {K : Type 0} (r : EntryReading K) (sees : Sees r) where
   -- entries have a verdict after others
   judges_some : (p : Times) (es : List (Observation K)) (items : List Item) (end : LogEnd) → Weakly ((v : Verdict) × Judges r p es items end v)
   judges_some p es [] Clean never = never (Legal (length es) (length (keys_of (r.machines p) es)), refl)
-  judges_some p es [] (Stops fault) never = never (LogFault (length es + 1) (reason_of fault), refl)
+  judges_some p es [] (Stops fault) never = never (LogFault (length es + 1) fault, refl)
   judges_some p es (item ∷ items) end never =
       sees es item (λ seen.
       fine_or_trouble (r.machines p) es seen.0 (λ v trouble. never (v, (seen.0, seen.1, inl trouble))) (λ fine.

@@ -2,10 +2,11 @@
 use Rattle.std.proofs.Common.{◌≡◌, ◌⊎◌, inl, inr, ℕ, None, List, [], ◌∷◌, ◌++◌, All, refl, sym, ap, subst, append_assoc}
 use Rattle.std.proofs.lemmas.List.Elements.{All-nil, All-cons}
 use Rattle.sip_standard.specs.Times.{Times}
-use Rattle.sip_verdict.specs.declared.verdict.Verdict.TheVariants.{Legal}
+use Rattle.sip_standard.specs.declared.verdict.Verdict.TheVariants.{Legal}
 use Rattle.sip_standard.specs.LogSays.{LogEnd, Clean, Stops, LogSays}
 use Rattle.sip_standard.specs.LogEntry.{Item}
-use Rattle.sip_verdict.specs.Keyed.{Observation, Machines, HasRun}
+use Rattle.sip_standard.specs.Observation.{Observation}
+use Rattle.sip_verdict.specs.Keyed.{Machines, HasRun}
 use Rattle.sip_verdict.specs.Verdicts.{AllRun, IsGood}
 use Rattle.sip_verdict.specs.Reading.{EntryReading, AreObserved, Judges, IsVerdictBy, HasRuns}
 use Rattle.sip_verdict.proofs.judges.JudgingLemmas.{observed-push}

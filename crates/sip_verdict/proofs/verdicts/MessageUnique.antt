@@ -5,19 +5,19 @@ use Rattle.sip_standard.specs.declared.fault.Fault.{Fault}
 use Rattle.sip_standard.specs.Outcome.{Outcome, gives, stops}
 use Rattle.sip_standard.specs.Says.{Said, Says}
 use Rattle.sip_message.proofs.lemmas.says.Reading.{says-one, says-no_fault}
-use Rattle.sip_key.specs.declared.role.Direction.{Direction}
-use Rattle.sip_key.specs.Key.{KeyParts}
-use Rattle.sip_key.specs.Concerns.{Concerns, lacks_cookie, own_key, cancelled_key}
+use Rattle.sip_standard.specs.declared.role.Direction.{Direction}
+use Rattle.sip_standard.specs.Key.{KeyParts}
+use Rattle.sip_standard.specs.Concerns.{Concerns, lacks_cookie, own_key, cancelled_key}
 use Rattle.sip_standard.specs.LogEntry.{Item}
-use Rattle.sip_verdict.specs.Keyed.{Observation}
-use Rattle.sip_verdict.specs.MessageReading.{fault_observation, message_event, ObservesMessage, has_fault, has_no_cookie, is_heard, direction_of, message_reading}
+use Rattle.sip_standard.specs.Observation.{Observation, fault_observation, message_event, ObservesMessage, has_fault, has_no_cookie, is_heard, direction_of}
+use Rattle.sip_verdict.specs.MessageReading.{message_reading}
 
 -- bytes that have a fault say no message
-fault_says_none : (text : List ℕ) (fault : Fault) (s : Said) → Says text (stops fault) → Says text (gives s) → ⊥
+pub fault_says_none : (text : List ℕ) (fault : Fault) (s : Said) → Says text (stops fault) → Says text (gives s) → ⊥
 fault_says_none text fault s has says = says-no_fault text s fault says has
 
 -- and bytes say one message
-one_said : (text : List ℕ) (s t : Said) → Says text (gives s) → Says text (gives t) → s ≡ t
+pub one_said : (text : List ℕ) (s t : Said) → Says text (gives s) → Says text (gives t) → s ≡ t
 one_said text s t a b = let same : ◌≡◌ {A = Outcome Said} (gives s) (gives t) = says-one text (gives s) (gives t) a b in cc
 
 -- the same bytes have or lack the cookie

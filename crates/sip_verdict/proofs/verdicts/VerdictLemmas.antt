@@ -1,22 +1,24 @@
 -- The verdict of an input by one recursion for SIP messages is that by any reading's, for theirs.
 use Rattle.std.proofs.Common.{◌↔◌, inl, inr, ℕ, List, [], ◌∷◌, ◌++◌}
 use Rattle.std.proofs.lemmas.List.Elements.{All-weaker}
-use Rattle.sip_key.specs.Key.{KeyParts}
+use Rattle.sip_standard.specs.Key.{KeyParts}
 use Rattle.sip_standard.specs.Times.{Times}
-use Rattle.sip_machine.specs.Figure.{Owing}
+use Rattle.sip_standard.specs.Figure.{Owing}
 use Rattle.sip_standard.specs.LogEntry.{Item}
 use Rattle.sip_standard.specs.LogSays.{LogEnd, Clean, Stops}
-use Rattle.sip_verdict.specs.declared.verdict.Verdict.{Verdict}
-use Rattle.sip_verdict.specs.declared.verdict.Verdict.TheVariants.{Legal, Malformed, Breach, Undecided, LogFault}
-use Rattle.sip_states.specs.KeyMachine.{machine_of_key, transaction_of, coded_holds, key_rules}
+use Rattle.sip_standard.specs.declared.verdict.Verdict.{Verdict}
+use Rattle.sip_standard.specs.declared.verdict.Verdict.TheVariants.{Legal, Malformed, Breach, Undecided, LogFault}
+use Rattle.sip_standard.specs.KeyMachine.{machine_of_key, transaction_of}
+use Rattle.sip_states.specs.KeySets.{coded_holds, key_rules}
 use Rattle.sip_states.specs.Runs.{AfterRun}
-use Rattle.sip_states.specs.Stands.{StandsBehind}
+use Rattle.sip_standard.specs.Stands.{StandsBehind}
 use Rattle.sip_states.proofs.runs.StandsLemmas.{stands-runs, behind-after}
-use Rattle.sip_verdict.specs.Keyed.{Observation, HasRun, newest_moment}
+use Rattle.sip_standard.specs.Observation.{Observation}
+use Rattle.sip_verdict.specs.Keyed.{HasRun, newest_moment}
 use Rattle.sip_verdict.specs.Verdicts.{IsFirst, IsTooWide, IsTrouble}
 use Rattle.sip_verdict.specs.Reading.{Judges, IsVerdictBy}
 use Rattle.sip_verdict.specs.MessageReading.{key_machines, message_reading}
-use Rattle.sip_verdict.specs.VerdictOf.{events_for, RunsOver, IsWideAt, IsFirstKey, HasTrouble, IsVerdictBehind, IsVerdictOf}
+use Rattle.sip_standard.specs.VerdictOf.{events_for, RunsOver, IsWideAt, IsFirstKey, HasTrouble, IsVerdictBehind, IsVerdictOf}
 
 -- the first key of which a fact holds
 first-key : (P Q : KeyParts → Type 0) → ((k : KeyParts) → P k → Q k) → ((k : KeyParts) → Q k → P k) → (keys : List KeyParts) (n : ℕ) → IsFirst P keys n → IsFirstKey Q keys n

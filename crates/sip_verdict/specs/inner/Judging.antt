@@ -1,10 +1,10 @@
 use Rattle.std.specs.Prelude.{Result, Ok, Err}
 use Rattle.sip_log.specs.declared.log_error.LogError.{LogError}
 use Rattle.sip_log.specs.declared.log_error.LogError.TheVariants as log
-use Rattle.sip_verdict.specs.declared.log_reason.LogReason.{LogReason}
-use Rattle.sip_verdict.specs.declared.log_reason.LogReason.TheVariants as reasons
-use Rattle.sip_verdict.specs.declared.judge_error.JudgeError.{JudgeError}
-use Rattle.sip_verdict.specs.declared.judge_error.JudgeError.TheVariants.{Io, Memory}
+use Rattle.sip_standard.specs.declared.log_reason.LogReason.{LogReason}
+use Rattle.sip_standard.specs.declared.log_reason.LogReason.TheVariants as reasons
+use Rattle.sip_standard.specs.declared.judge_error.JudgeError.{JudgeError}
+use Rattle.sip_standard.specs.declared.judge_error.JudgeError.TheVariants.{Io, Memory}
 
 -- what an error of reading a log is told as: the reason of its fault, or why there is no answer
 abbrev pub told_as : LogError → Result LogReason JudgeError

@@ -1,6 +1,6 @@
 -- The book of a log's messages, and what is listed of one entry.
 use Rattle.std.specs.Prelude.{◌≡◌, ◌<◌, ◌+◌, ◌-◌, ◌++◌, ◌∷◌, [], ℕ, Some, List, All, IsAscii, codes, length, slice_get, string_bytes}
-use Rattle.sip_key.specs.Key.{KeyParts}
+use Rattle.sip_standard.specs.Key.{KeyParts}
 use Rattle.sip_machine.specs.Texts.{Texts, Keeps, text_of}
 use Rattle.sip_states.specs.Tables.{Tabled}
 use Rattle.sip_states.specs.declared.any_set.AnySet.{AnySet}
@@ -8,7 +8,8 @@ use Rattle.sip_standard.specs.LogEntry.{Item}
 use Rattle.sip_listing.specs.Transaction.{transaction_text, Lists}
 use Rattle.sip_verdict.specs.declared.listing.Listing.{Listing}
 use Rattle.sip_verdict.specs.declared.listing.Listing.TheVariants.{Text, Stopped, NoEntry}
-use Rattle.sip_verdict.specs.Keyed.{Observation, Machines}
+use Rattle.sip_standard.specs.Observation.{Observation}
+use Rattle.sip_verdict.specs.Keyed.{Machines}
 use Rattle.sip_verdict.specs.MessageReading.{ConcernsNone}
 use Rattle.sip_verdict.specs.Verdicts.{IsGood, IsTrouble}
 use Rattle.sip_verdict.specs.Listing.{Words, first_entry, IsEntryText}

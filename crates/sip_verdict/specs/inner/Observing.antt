@@ -1,10 +1,10 @@
 use Rattle.std.specs.Prelude.{◌≡◌, ◌≢◌, ◌⊎◌, ◌++◌, ◌∷◌, [], ℕ, true, false, List, None, AllPairs, Result, Ok, Err, ⊤}
 use Rattle.sip_machine.specs.Texts.{Texts, Keeps, text_of}
-use Rattle.sip_machine.specs.MachineEvent.{event_in, FitsBook}
+use Rattle.sip_machine.specs.NumberedEvent.{event_in, FitsBook}
 use Rattle.sip_standard.specs.Says.{Said}
-use Rattle.sip_key.specs.Key.{KeyParts}
-use Rattle.sip_key.specs.Concerns.{Concerns, lacks_cookie}
-use Rattle.sip_key.specs.declared.role.Direction.{Direction}
+use Rattle.sip_standard.specs.Key.{KeyParts}
+use Rattle.sip_standard.specs.Concerns.{Concerns, lacks_cookie}
+use Rattle.sip_standard.specs.declared.role.Direction.{Direction}
 use Rattle.sip_key.specs.declared.concern.KeyError.{KeyError}
 use Rattle.sip_key.specs.declared.concern.KeyError.TheVariants as error
 use Rattle.sip_log.specs.declared.entry.Entry.{Entry}
@@ -15,10 +15,10 @@ use Rattle.sip_standard.specs.declared.action.Action.TheVariants as action
 use Rattle.sip_verdict.specs.declared.concerned.Concerned.{Concerned}
 use Rattle.sip_verdict.specs.declared.observing.Told.{Told}
 use Rattle.sip_verdict.specs.declared.observing.Told.TheVariants.{Unheard, Fault, Restart, Heard}
-use Rattle.sip_verdict.specs.Keyed.{Observation}
-use Rattle.sip_verdict.specs.VerdictOf.{keys_in}
+use Rattle.sip_standard.specs.Observation.{Observation, fault_observation, silent_observation}
+use Rattle.sip_standard.specs.VerdictOf.{keys_in}
 use Rattle.sip_verdict.specs.Listing.{has_message}
-use Rattle.sip_verdict.specs.MessageReading.{fault_observation, silent_observation, ConcernsNone}
+use Rattle.sip_verdict.specs.MessageReading.{ConcernsNone}
 use Rattle.sip_verdict.specs.inner.Concerned.{each, is_all}
 
 -- What the judge is told of an entry.

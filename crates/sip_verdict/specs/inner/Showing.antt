@@ -7,8 +7,8 @@ use Rattle.sip_message.specs.declared.fault.ReadError.{ReadError}
 use Rattle.sip_message.specs.declared.fault.ReadError.TheVariants as message
 use Rattle.sip_standard.specs.Outcome.{stops}
 use Rattle.sip_standard.specs.Says.{Says}
-use Rattle.sip_verdict.specs.declared.judge_error.JudgeError.{JudgeError}
-use Rattle.sip_verdict.specs.declared.judge_error.JudgeError.TheVariants as judging
+use Rattle.sip_standard.specs.declared.judge_error.JudgeError.{JudgeError}
+use Rattle.sip_standard.specs.declared.judge_error.JudgeError.TheVariants as judging
 use Rattle.sip_verdict.specs.declared.show_error.ShowError.{ShowError}
 use Rattle.sip_verdict.specs.declared.show_error.ShowError.TheVariants.{Read, Write, Memory}
 use Rattle.sip_verdict.specs.Listing.{has_message}

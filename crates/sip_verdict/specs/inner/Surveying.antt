@@ -1,18 +1,18 @@
 use Rattle.std.specs.Prelude.{◌≡◌, ◌≢◌, ◌≤◌, ◌<◌, ◌+◌, ◌-◌, ◌⊎◌, ◌++◌, [], ◌∷◌, ℕ, Bool, true, false, Option, Some, None, List, AllPairs, Contains, ◌↔◌, MatchBool, length, map, slice_get, slice_set}
-use Rattle.sip_key.specs.Key.{KeyParts}
+use Rattle.sip_standard.specs.Key.{KeyParts}
 use Rattle.sip_standard.specs.Times.{Times}
 use Rattle.sip_machine.specs.Texts.{Texts}
 use Rattle.sip_standard.specs.declared.fault.Fault.{Fault}
-use Rattle.sip_machine.specs.NumberedEvent.{NumberedEvent}
-use Rattle.sip_machine.specs.MachineEvent.{event_in}
-use Rattle.sip_states.specs.KeyMachine.{machine_of_key}
+use Rattle.sip_machine.specs.NumberedEvent.{NumberedEvent, event_in}
+use Rattle.sip_standard.specs.KeyMachine.{machine_of_key}
 use Rattle.sip_states.specs.Tables.{Tabled}
 use Rattle.sip_states.specs.declared.any_set.AnySet.{AnySet}
 use Rattle.sip_verdict.specs.declared.finding.Finding.{Finding}
 use Rattle.sip_verdict.specs.declared.finding.Finding.TheVariants.{Malformed, Breach, Undecided}
 use Rattle.sip_verdict.specs.declared.troubled.Troubled.{Troubled}
-use Rattle.sip_verdict.specs.Keyed.{Observation, concerns, newest_moment}
-use Rattle.sip_verdict.specs.VerdictOf.{RunsOver, keys_in}
+use Rattle.sip_standard.specs.Observation.{Observation}
+use Rattle.sip_verdict.specs.Keyed.{concerns, newest_moment}
+use Rattle.sip_standard.specs.VerdictOf.{RunsOver, keys_in}
 use Rattle.sip_verdict.specs.SurveyOf.{IsSound, Breaks, Widens}
 use Rattle.sip_verdict.specs.MessageReading.{key_machines}
 use Rattle.sip_verdict.specs.inner.Tracking.{IsReady, GoesOn}

@@ -1,26 +1,33 @@
 -- How a whole log is read and surveyed, entry by entry.
-use Rattle.std.specs.Prelude.{◌≡◌, ◌≤◌, ◌+◌, ◌++◌, [], ◌∷◌, ℕ, false, Option, Some, None, List, length, filter, flat_map, ⊤}
+use Rattle.std.specs.Prelude.{◌≡◌, ◌≤◌, ◌+◌, ◌++◌, [], ◌∷◌, ℕ, false, Option, Some, None, List, length, filter, ⊤, ◌<◌, ◌-◌, IfSome, IsSomeAnd, slice_get}
 use Rattle.std.specs.Io.KnownBytes.{Appends}
-use Rattle.sip_key.specs.Key.{KeyParts}
+use Rattle.sip_standard.specs.Key.{KeyParts}
 use Rattle.sip_standard.specs.LogEntry.{Item}
-use Rattle.sip_standard.specs.LogSays.{LogEnd, most_entries}
+use Rattle.sip_standard.specs.LogSays.{LogEnd, most_entries, line_feed}
 use Rattle.sip_part.specs.Part.{PartOf}
-use Rattle.sip_log.specs.Reading as log
 use Rattle.sip_log.specs.Reading.{Place, entries}
 use Rattle.sip_verdict.specs.declared.finding.Finding.{Finding}
-use Rattle.sip_verdict.specs.declared.judge_error.JudgeError.{JudgeError}
-use Rattle.sip_verdict.specs.declared.judge_error.JudgeError.TheVariants as judging
+use Rattle.sip_standard.specs.declared.judge_error.JudgeError.{JudgeError}
 use Rattle.sip_verdict.specs.declared.summary.Summary.{Summary}
 use Rattle.sip_verdict.specs.declared.survey_end.SurveyEnd.{SurveyEnd}
 use Rattle.sip_verdict.specs.declared.survey_error.SurveyError.{SurveyError}
 use Rattle.sip_verdict.specs.declared.survey_error.SurveyError.TheVariants.{Read, Memory}
 use Rattle.sip_verdict.specs.declared.surveying.Counts.{Counts}
-use Rattle.sip_verdict.specs.Keyed.{Observation}
-use Rattle.sip_verdict.specs.SurveyOf.{IsSurveyAfter, IsSurveyOf}
-use Rattle.sip_verdict.specs.SurveyParts.{IsPartItem, IsPartSurveyOf}
-use Rattle.sip_verdict.specs.SurveyText.{SumsUp, finding_text, is_undecided, survey_text}
+use Rattle.sip_standard.specs.Observation.{Observation}
+use Rattle.sip_verdict.specs.SurveyOf.{IsSurveyAfter, IsSurveyOf, IsFoundAt, verdict_of}
+use Rattle.sip_verdict.specs.SurveyParts.{IsPartItem, IsPartSurveyOf, IsPartToldOf}
+use Rattle.sip_verdict.specs.SurveyText.{SumsUp, is_undecided, IsFirstOf, IsLastOf, IsLineOf, IsToldOf, transaction_words}
 use Rattle.sip_verdict.specs.Surveys.{Surveying, SurveysFor}
 use Rattle.sip_verdict.specs.inner.Walking.{HasRead}
+use Rattle.sip_standard.specs.Times.{Times}
+use Rattle.sip_verdict.specs.declared.finding.Finding.TheVariants.{Malformed, Breach, Undecided}
+use Rattle.sip_verdict.specs.declared.transaction.Transaction.{Transaction}
+use Rattle.sip_verdict.specs.MessageReading.{message_reading}
+use Rattle.sip_verdict.specs.Reading.{AreObserved}
+use Rattle.sip_standard.specs.Rendering.{rendered}
+use Rattle.sip_standard.specs.VerdictOf.{keys_in}
+use Rattle.sip_log.specs.Reading as log
+use Rattle.sip_standard.specs.declared.judge_error.JudgeError.TheVariants as judging
 
 -- what a log that could not be read to its end is told as
 abbrev pub unsurveyed : JudgeError → SurveyError
@@ -32,11 +39,40 @@ pub record AreCounted (found : List Finding) (old new : Counts) : Type 0 where
   pub findings : new.findings ≡ old.findings + length found
   pub undecided : new.undecided ≡ old.undecided + length (filter is_undecided found)
 
--- these findings are all that was counted, and their lines were written
-pub record AreTold (found : List Finding) (counts : Counts) (before after : Option (List ℕ)) : Type 0 where
+-- these findings are all that was counted, and these lines were written
+pub record AreTold (found : List Finding) (lines : List ℕ) (counts : Counts) (before after : Option (List ℕ)) : Type 0 where
   pub findings : counts.findings ≡ length found
   pub undecided : counts.undecided ≡ length (filter is_undecided found)
-  pub written : Appends before after (flat_map finding_text found)
+  pub written : Appends before after lines
+
+-- the words for a transaction, as the survey tells it
+abbrev pub words_of : Transaction → List ℕ
+words_of t = transaction_words t.key.now t.branch.now t.first t.last
+
+-- the line of a finding with them, where the transaction is known
+abbrev pub line_with : Finding → Option Transaction → List ℕ
+line_with f None = rendered (verdict_of f) ++ line_feed ∷ []
+line_with f (Some t) = rendered (verdict_of f) ++ words_of t ++ line_feed ∷ []
+
+-- the survey tells the transaction with this number
+abbrev pub Tells : Surveying → ℕ → Option Transaction → Type 0
+Tells s number told = (es : List (Observation KeyParts)) → SurveysFor s es → 0 < number
+    → IfSome (slice_get (keys_in es) (number - 1)) (λ key. IsSomeAnd told (λ t. (t.key.now ≡ key) × IsFirstOf es key t.first t.branch.now × IsLastOf es key t.last))
+
+-- the one of which something is found; none of a message with a fault
+abbrev pub TellsOf : Surveying → Finding → Option Transaction → Type 0
+TellsOf s (Malformed entry fault) told = told ≡ None
+TellsOf s (Breach entry number) told = Tells s number told
+TellsOf s (Undecided entry number) told = Tells s number told
+
+-- this is the line of the finding, if it is found at the newest entry of those that the survey stands for
+abbrev pub IsLineBy : Surveying → Finding → List ℕ → Type 0
+IsLineBy s f line = (p : Times) (es : List (Observation KeyParts)) (e : Observation KeyParts) → SurveysFor s (es ++ e ∷ []) → IsFoundAt p es e f → IsLineOf (es ++ e ∷ []) f line
+
+-- and these are the lines of such findings, one after another
+abbrev pub AreLinesBy : Surveying → List Finding → List ℕ → Type 0
+AreLinesBy s [] text = text ≡ []
+AreLinesBy s (f ∷ found) text = (line : List ℕ) × (more : List ℕ) × IsLineBy s f line × AreLinesBy s found more × (text ≡ line ++ more)
 
 -- the item as it is surveyed: itself, or as it is in the log of the part
 abbrev pub IsTaken : Option PartOf → Item → Item → Type 0
@@ -54,12 +90,18 @@ abbrev pub IsSurveyIn : Option PartOf → List ℕ → List Finding → SurveyEn
 IsSurveyIn None input found end = IsSurveyOf input found end
 IsSurveyIn (Some part) input found end = IsPartSurveyOf part input found end
 
+-- and its text
+abbrev pub IsToldIn : Option PartOf → List ℕ → List Finding → SurveyEnd → List ℕ → Type 0
+IsToldIn None input found end text = IsToldOf input found end text
+IsToldIn (Some part) input found end text = IsPartToldOf part input found end text
+
 -- the survey of the input, or of a part, is written, and the summary sums it up
 pub record IsWritten (part : Option PartOf) (input : List ℕ) (summary : Summary) (before after : Option (List ℕ)) : Type 0 where
   pub found : List Finding
-  pub survey : IsSurveyIn part input found summary.end
+  pub text : List ℕ
+  pub told : IsToldIn part input found summary.end text
   pub sums : SumsUp found summary
-  pub text : Appends before after (survey_text found summary.end)
+  pub written : Appends before after text
 
 -- the survey goes on, and took all entries that were read up to this place
 pub record IsSurveyAt (s : Surveying) (place : Place) : Type 0 where
@@ -75,6 +117,7 @@ pub record SurveysRead (part : Option PartOf) (s : Surveying) (found : List Find
   pub taken : List Item
   pub es : List (Observation KeyParts)
   pub are_taken : AreTaken part items taken
+  pub seen : AreObserved message_reading [] taken es
   pub follows : SurveysFor s es
   pub read : HasRead start s.tables.times items now
   pub front : (rest : List Item) (close : LogEnd) (later : List Finding) (end : SurveyEnd) → IsSurveyAfter s.tables.times es rest close later end

@@ -1,14 +1,14 @@
 -- How a judge goes on after an entry.
 use Rattle.std.specs.Prelude.{◌≡◌, ◌≤◌, ◌++◌, ◌∷◌, [], ℕ, List, Option, Some, None}
-use Rattle.sip_key.specs.Key.{KeyParts}
+use Rattle.sip_standard.specs.Key.{KeyParts}
 use Rattle.sip_machine.specs.Texts.{Texts}
 use Rattle.sip_states.specs.Tables.{Tabled}
 use Rattle.sip_standard.specs.LogSays.{most_entries}
 use Rattle.sip_log.specs.Reading as log
 use Rattle.sip_log.specs.Reading.{Place, entries}
 use Rattle.sip_verdict.specs.declared.stage.Stage.TheVariants.{Open}
-use Rattle.sip_verdict.specs.declared.verdict.Verdict.{Verdict}
-use Rattle.sip_verdict.specs.Keyed.{Observation}
+use Rattle.sip_standard.specs.declared.verdict.Verdict.{Verdict}
+use Rattle.sip_standard.specs.Observation.{Observation}
 use Rattle.sip_verdict.specs.Verdicts.{IsTrouble}
 use Rattle.sip_verdict.specs.MessageReading.{key_machines, message_reading}
 use Rattle.sip_verdict.specs.Judging.{Judging, AreFollowed, StandsFor}

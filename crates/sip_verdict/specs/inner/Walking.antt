@@ -1,29 +1,29 @@
 -- How a log is read and judged, entry by entry.
 use Rattle.std.specs.Prelude.{◌≡◌, ◌<◌, ◌≤◌, ◌+◌, ◌++◌, ◌∷◌, [], ℕ, Option, Some, None, IfSome, List, length, ⊤}
-use Rattle.sip_key.specs.Key.{KeyParts}
+use Rattle.sip_standard.specs.Key.{KeyParts}
 use Rattle.sip_standard.specs.Times.{Times}
 use Rattle.sip_machine.specs.Texts.{Texts}
 use Rattle.sip_states.specs.Tables.{Tabled}
-use Rattle.sip_standard.specs.LogFault.{LogFault}
 use Rattle.sip_standard.specs.LogEntry.{Item}
 use Rattle.sip_standard.specs.LogSays.{most_entries, Clean, Stops, LogSays}
 use Rattle.sip_log.specs.Told.{item}
-use Rattle.sip_log.specs.Reading as log
 use Rattle.sip_log.specs.Reading.{Place, entries, Continues}
 use Rattle.sip_log.proofs.answers.CallerLemmas.{Stands}
 use Rattle.sip_verdict.specs.declared.reading.Next.{Next}
 use Rattle.sip_verdict.specs.declared.reading.Next.TheVariants.{Entry, End, Fault}
-use Rattle.sip_verdict.specs.declared.verdict.Verdict.{Verdict}
-use Rattle.sip_verdict.specs.declared.verdict.Verdict.TheVariants.{Legal, Malformed, Breach, Undecided, LogFault as FaultOfLog}
+use Rattle.sip_standard.specs.declared.verdict.Verdict.{Verdict}
+use Rattle.sip_standard.specs.declared.verdict.Verdict.TheVariants.{Legal, Malformed, Breach, Undecided, LogFault as FaultOfLog}
 use Rattle.sip_verdict.specs.declared.listing.Listing.{Listing}
 use Rattle.sip_verdict.specs.declared.listing.Listing.TheVariants.{Stopped, NoEntry}
-use Rattle.sip_verdict.specs.LogReason.{reason_of}
-use Rattle.sip_verdict.specs.Keyed.{Observation, newest_moment}
+use Rattle.sip_standard.specs.Observation.{Observation}
+use Rattle.sip_verdict.specs.Keyed.{newest_moment}
 use Rattle.sip_verdict.specs.Reading.{EntryReading, AreObserved}
-use Rattle.sip_verdict.specs.VerdictOf.{IsVerdictOf}
+use Rattle.sip_standard.specs.VerdictOf.{IsVerdictOf}
 use Rattle.sip_verdict.specs.MessageReading.{message_reading}
 use Rattle.sip_verdict.specs.inner.Numbering.{AreNumbered}
 use Rattle.sip_verdict.specs.inner.TablesTracking.{TablesTrack, MayTake}
+use Rattle.sip_standard.specs.declared.log_reason.LogReason.{LogReason}
+use Rattle.sip_log.specs.Reading as log
 
 -- What is read.
 
@@ -37,7 +37,7 @@ pub record HasRead (start : Option (List ℕ)) (times : Times) (items : List Ite
 abbrev pub WalkGives : Option (List ℕ) → Times → List Item → log.ReaderState → Next → Type 0
 WalkGives start times items new (Entry e) = HasRead start times (items ++ item e ∷ []) new
 WalkGives start times items new End = IfSome start (λ input. LogSays input times items Clean)
-WalkGives start times items new (Fault reason) = (fault : LogFault) × (reason ≡ reason_of fault) × IfSome start (λ input. LogSays input times items (Stops fault))
+WalkGives start times items new (Fault reason) = (fault : LogReason) × (reason ≡ fault) × IfSome start (λ input. LogSays input times items (Stops fault))
 
 -- one more has the next number and keeps order and limits
 abbrev pub MovesOn : Place → Place → Next → Type 0

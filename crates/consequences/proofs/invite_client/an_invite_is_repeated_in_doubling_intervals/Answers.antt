@@ -1,12 +1,12 @@
 use Rattle.std.proofs.Common.{◌*◌, ℕ, true, List}
-use Rattle.sip_key.specs.declared.role.Role.TheVariants.{Client}
+use Rattle.sip_standard.specs.declared.role.Role.TheVariants.{Client}
 use Rattle.sip_standard.specs.declared.rules.Rules.{Rules}
 use Rattle.sip_standard.specs.declared.rules.Rules.TheVariants.{R3261, R6026}
-use Rattle.sip_machine.specs.MachineEvent.{MachineEvent}
+use Rattle.sip_standard.specs.MachineEvent.{MachineEvent}
 use Rattle.sip_standard.specs.Times.{Times}
-use Rattle.sip_machine.specs.InviteClient as corrected
-use Rattle.sip_machine.specs.InviteClient3261 as without
-use Rattle.sip_states.specs.Stands.{Stands}
+use Rattle.sip_standard.specs.InviteClient as corrected
+use Rattle.sip_standard.specs.InviteClient3261 as without
+use Rattle.sip_standard.specs.Stands.{Stands}
 use Rattle.consequences.specs.Machines.{figure_of, StateOf}
 use Rattle.consequences.specs.Repeats.{IsSpaced, invites_of}
 use Rattle.consequences.proofs.lemmas.client.InviteClients.{receives_6026, receives_3261}

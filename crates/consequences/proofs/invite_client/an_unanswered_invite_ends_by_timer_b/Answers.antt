@@ -1,18 +1,18 @@
 use Rattle.std.proofs.Common.{◌≡◌, ◌<◌, ◌++◌, ◌∷◌, ◌*◌, ℕ, true, List, All}
-use Rattle.sip_key.specs.declared.role.Role.TheVariants.{Client}
+use Rattle.sip_standard.specs.declared.role.Role.TheVariants.{Client}
 use Rattle.sip_standard.specs.declared.action.Action.TheVariants.{Sent}
 use Rattle.sip_standard.specs.declared.rules.Rules.{Rules}
 use Rattle.sip_standard.specs.declared.rules.Rules.TheVariants.{R3261, R6026}
-use Rattle.sip_machine.specs.declared.event.Kind.TheVariants.{Request}
-use Rattle.sip_machine.specs.declared.event.Method.TheVariants.{Invite, Cancel}
-use Rattle.sip_machine.specs.Figure.{quiet}
+use Rattle.sip_standard.specs.declared.kind.Kind.TheVariants.{Request}
+use Rattle.sip_standard.specs.declared.kind.Method.TheVariants.{Invite, Cancel}
+use Rattle.sip_standard.specs.Figure.{quiet}
 use Rattle.sip_standard.specs.Window.{close_at}
-use Rattle.sip_machine.specs.MachineEvent.{MachineEvent}
+use Rattle.sip_standard.specs.MachineEvent.{MachineEvent}
 use Rattle.sip_standard.specs.Times.{Times}
-use Rattle.sip_machine.specs.InviteClient as corrected
-use Rattle.sip_machine.specs.InviteClient3261 as without
-use Rattle.sip_states.specs.KeyMachine.{OfInviteClient, OfInviteClient3261}
-use Rattle.sip_states.specs.Stands.{Stands, StandsBehind}
+use Rattle.sip_standard.specs.InviteClient as corrected
+use Rattle.sip_standard.specs.InviteClient3261 as without
+use Rattle.sip_standard.specs.KeyMachine.{OfInviteClient, OfInviteClient3261}
+use Rattle.sip_standard.specs.Stands.{Stands, StandsBehind}
 use Rattle.consequences.specs.Events.{SendsRequest, GetsResponse, IsAnyCode}
 use Rattle.consequences.specs.Machines.{figure_of, StateOf}
 use Rattle.consequences.proofs.lemmas.client.InviteClients.{receives_6026, receives_3261}

@@ -1,20 +1,20 @@
 use Rattle.std.proofs.Common.{◌≡◌, ◌≤◌, ◌⊎◌, inl, inr, ◌++◌, ◌∷◌, ◌∙◌, ℕ, Bool, true, Option, List, All, refl, sym, arith}
 use Rattle.std.specs.List.{Any}
-use Rattle.sip_key.specs.declared.role.Role.TheVariants.{Server}
+use Rattle.sip_standard.specs.declared.role.Role.TheVariants.{Server}
 use Rattle.sip_standard.specs.declared.action.Action.TheVariants.{Sent}
 use Rattle.sip_standard.specs.declared.rules.Rules.{Rules}
 use Rattle.sip_standard.specs.declared.rules.Rules.TheVariants.{R3261, R6026}
-use Rattle.sip_machine.specs.declared.event.Kind.TheVariants.{Response}
-use Rattle.sip_machine.specs.Figure.{Change}
+use Rattle.sip_standard.specs.declared.kind.Kind.TheVariants.{Response}
+use Rattle.sip_standard.specs.Figure.{Change}
 use Rattle.sip_standard.specs.Window.{close_at}
-use Rattle.sip_machine.specs.MachineEvent.{MachineEvent}
-use Rattle.sip_machine.specs.Message.{IsProvisional, IsFinal, IsSuccess, IsUnsuccessful}
+use Rattle.sip_standard.specs.MachineEvent.{MachineEvent}
+use Rattle.sip_standard.specs.Kind.{IsProvisional, IsFinal, IsSuccess, IsUnsuccessful}
 use Rattle.sip_standard.specs.Times.{Times}
-use Rattle.sip_machine.specs.InviteServer.{InviteServerPhase, Proceeding, invite_server}
-use Rattle.sip_machine.specs.InviteServer as corrected
-use Rattle.sip_machine.specs.InviteServer3261.{InviteServer3261Phase, invite_server_3261}
-use Rattle.sip_machine.specs.InviteServer3261 as without
-use Rattle.sip_states.specs.Stands.{StandsBehind}
+use Rattle.sip_standard.specs.InviteServer.{InviteServerPhase, Proceeding, invite_server}
+use Rattle.sip_standard.specs.InviteServer as corrected
+use Rattle.sip_standard.specs.InviteServer3261.{InviteServer3261Phase, invite_server_3261}
+use Rattle.sip_standard.specs.InviteServer3261 as without
+use Rattle.sip_standard.specs.Stands.{StandsBehind}
 use Rattle.consequences.specs.Events.{IsResponse, SendsResponse}
 use Rattle.consequences.specs.Machines.{figure_of, StateOf}
 use Rattle.consequences.specs.Servers.{BeginNoneAnew}

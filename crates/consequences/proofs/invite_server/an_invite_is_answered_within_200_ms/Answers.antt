@@ -1,15 +1,15 @@
 use Rattle.std.proofs.Common.{◌≤◌, ◌<◌, ◌⊎◌, ◌++◌, ◌∷◌, ℕ, true, List, All}
 use Rattle.std.specs.List.{Any}
-use Rattle.sip_key.specs.declared.role.Role.TheVariants.{Server}
+use Rattle.sip_standard.specs.declared.role.Role.TheVariants.{Server}
 use Rattle.sip_standard.specs.declared.rules.Rules.{Rules}
 use Rattle.sip_standard.specs.declared.rules.Rules.TheVariants.{R3261, R6026}
-use Rattle.sip_machine.specs.declared.event.Method.TheVariants.{Invite}
+use Rattle.sip_standard.specs.declared.kind.Method.TheVariants.{Invite}
 use Rattle.sip_standard.specs.Window.{close_at}
-use Rattle.sip_machine.specs.MachineEvent.{MachineEvent}
+use Rattle.sip_standard.specs.MachineEvent.{MachineEvent}
 use Rattle.sip_standard.specs.Times.{Times}
-use Rattle.sip_machine.specs.InviteServer.{invite_server}
-use Rattle.sip_machine.specs.InviteServer3261.{invite_server_3261}
-use Rattle.sip_states.specs.Stands.{Stands}
+use Rattle.sip_standard.specs.InviteServer.{invite_server}
+use Rattle.sip_standard.specs.InviteServer3261.{invite_server_3261}
+use Rattle.sip_standard.specs.Stands.{Stands}
 use Rattle.consequences.specs.Events.{GetsRequest, SendsResponse, IsAnyCode, IsRestart}
 use Rattle.consequences.specs.Machines.{figure_of, StateOf}
 use Rattle.consequences.proofs.lemmas.server.Asleep.{corrected-asleep, without-asleep}

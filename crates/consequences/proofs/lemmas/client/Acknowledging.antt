@@ -2,20 +2,20 @@
 use Rattle.std.proofs.Common.{◌≡◌, ◌≤◌, ◌<◌, ◌*◌, ◌⊎◌, inl, inr, ℕ, Bool, true, false, Some, None, List, [], ◌∷◌, ◌++◌, All, Contains, refl, sym, subst, ◌∙◌, arith}
 use Rattle.std.specs.List.{Any}
 use Rattle.std.proofs.lemmas.List.Elements.{Contains-push}
-use Rattle.sip_key.specs.AckOf.{AckOf}
+use Rattle.sip_standard.specs.AckOf.{AckOf}
 use Rattle.sip_standard.specs.declared.action.Action.{Action}
 use Rattle.sip_standard.specs.declared.action.Action.TheVariants.{Sent, Received, Failed, Mark, Restart}
-use Rattle.sip_machine.specs.declared.event.Method.TheVariants.{Invite}
-use Rattle.sip_machine.specs.declared.event.Kind.{Kind}
-use Rattle.sip_machine.specs.declared.event.Kind.TheVariants.{Response}
+use Rattle.sip_standard.specs.declared.kind.Method.TheVariants.{Invite}
+use Rattle.sip_standard.specs.declared.kind.Kind.{Kind}
+use Rattle.sip_standard.specs.declared.kind.Kind.TheVariants.{Response}
 use Rattle.sip_standard.specs.Times.{Times}
 use Rattle.sip_standard.specs.Window.{open_at, close_at}
-use Rattle.sip_machine.specs.MachineEvent.{MachineEvent}
-use Rattle.sip_machine.specs.Message.{IsSuccess, IsUnsuccessful}
-use Rattle.sip_machine.specs.Debts.{Owed}
-use Rattle.sip_machine.specs.Figure.{Figure, keeps, gains, Owing, changed, quiet, Emits, Steps, Takes, Lasts, MayEnd}
-use Rattle.sip_machine.specs.InviteClient.{InviteClientPhase, Idle, Ended, Calling, Proceeding, Completed, Sends, Satisfies}
-use Rattle.sip_states.specs.Stands.{Stands}
+use Rattle.sip_standard.specs.MachineEvent.{MachineEvent}
+use Rattle.sip_standard.specs.Kind.{IsSuccess, IsUnsuccessful}
+use Rattle.sip_standard.specs.Debts.{Owed}
+use Rattle.sip_standard.specs.Figure.{Figure, keeps, gains, Owing, changed, quiet, Emits, Steps, Takes, Lasts, MayEnd}
+use Rattle.sip_standard.specs.InviteClient.{InviteClientPhase, Idle, Ended, Calling, Proceeding, Completed, Sends, Satisfies}
+use Rattle.sip_standard.specs.Stands.{Stands}
 use Rattle.consequences.specs.Acknowledged.{Acknowledges}
 use Rattle.consequences.specs.Events.{SendsRequest, GetsResponse, IsRefused, IsRestart}
 use Rattle.consequences.proofs.lemmas.run.Lists.{any-last, any-earlier}

@@ -2,16 +2,16 @@
 use Rattle.std.proofs.Common.{◌≡◌, ◌≤◌, ◌*◌, ◌⊎◌, inl, inr, ℕ, Bool, true, false, Some, List, [], ◌∷◌, ◌++◌, filter, map, min, refl, sym, ap, subst, ◌∙◌, arith, if◌then◌else◌}
 use Rattle.sip_standard.specs.declared.action.Action.{Action}
 use Rattle.sip_standard.specs.declared.action.Action.TheVariants.{Sent, Received, Failed, Mark, Restart}
-use Rattle.sip_machine.specs.declared.event.Method.TheVariants.{Invite, Ack, Cancel, Other}
-use Rattle.sip_machine.specs.declared.event.Kind.{Kind}
-use Rattle.sip_machine.specs.declared.event.Kind.TheVariants.{Request, Response}
+use Rattle.sip_standard.specs.declared.kind.Method.TheVariants.{Invite, Ack, Cancel, Other}
+use Rattle.sip_standard.specs.declared.kind.Kind.{Kind}
+use Rattle.sip_standard.specs.declared.kind.Kind.TheVariants.{Request, Response}
 use Rattle.sip_standard.specs.Times.{Times}
 use Rattle.sip_standard.specs.Window.{open_at}
-use Rattle.sip_machine.specs.MachineEvent.{MachineEvent}
-use Rattle.sip_machine.specs.Figure.{Figure, Change, keeps, Owing, quiet, Emits, Fails, Steps}
-use Rattle.sip_machine.specs.InviteClient as invite
-use Rattle.sip_machine.specs.PlainClient as plain
-use Rattle.sip_states.specs.Stands.{Stands}
+use Rattle.sip_standard.specs.MachineEvent.{MachineEvent}
+use Rattle.sip_standard.specs.Figure.{Figure, Change, keeps, Owing, quiet, Emits, Fails, Steps}
+use Rattle.sip_standard.specs.InviteClient as invite
+use Rattle.sip_standard.specs.PlainClient as plain
+use Rattle.sip_standard.specs.Stands.{Stands}
 use Rattle.consequences.specs.Repeats.{sends_invite, sends_request, AreSpaced, IsSpaced}
 use Rattle.consequences.proofs.lemmas.client.InviteClients.{Row, Receiving, client, IsDone, Answers, IsReceiving, pays-nothing, sends-idle, sends-calling, sends-proceeding, sends-accepted, sends-completed, sends-ended}
 use Rattle.consequences.proofs.lemmas.run.Running.{IsKept, left_at, stands-run, run-keeps}

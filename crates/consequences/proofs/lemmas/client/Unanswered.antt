@@ -3,18 +3,18 @@ use Rattle.std.proofs.Common.{◌≡◌, ◌≤◌, ◌<◌, ◌*◌, ◌⊎◌,
 use Rattle.std.specs.List.{Any}
 use Rattle.sip_standard.specs.declared.action.Action.{Action}
 use Rattle.sip_standard.specs.declared.action.Action.TheVariants.{Sent, Received, Failed, Mark, Restart}
-use Rattle.sip_machine.specs.declared.event.Method.TheVariants.{Invite, Ack, Cancel}
-use Rattle.sip_machine.specs.declared.event.Kind.{Kind}
-use Rattle.sip_machine.specs.declared.event.Kind.TheVariants.{Request}
+use Rattle.sip_standard.specs.declared.kind.Method.TheVariants.{Invite, Ack, Cancel}
+use Rattle.sip_standard.specs.declared.kind.Kind.{Kind}
+use Rattle.sip_standard.specs.declared.kind.Kind.TheVariants.{Request}
 use Rattle.sip_standard.specs.Times.{Times}
 use Rattle.sip_standard.specs.Window.{open_at, close_at}
-use Rattle.sip_machine.specs.MachineEvent.{MachineEvent}
-use Rattle.sip_machine.specs.Waiting.{Waiting}
-use Rattle.sip_machine.specs.Message.{IsProvisional, IsSuccess, IsUnsuccessful}
-use Rattle.sip_machine.specs.Debts.{Owed}
-use Rattle.sip_machine.specs.Figure.{Figure, keeps, gains, Owing, quiet, Emits, Fails, Steps, Takes, Lasts, MayEnd}
-use Rattle.sip_machine.specs.InviteClient.{InviteClientPhase, Idle, Ended, Calling, Proceeding, Accepted, Completed, Sends, ends_refused}
-use Rattle.sip_states.specs.Stands.{Stands, StandsBehind}
+use Rattle.sip_standard.specs.MachineEvent.{MachineEvent}
+use Rattle.sip_standard.specs.Waiting.{Waiting}
+use Rattle.sip_standard.specs.Kind.{IsProvisional, IsSuccess, IsUnsuccessful}
+use Rattle.sip_standard.specs.Debts.{Owed}
+use Rattle.sip_standard.specs.Figure.{Figure, keeps, gains, Owing, quiet, Emits, Fails, Steps, Takes, Lasts, MayEnd}
+use Rattle.sip_standard.specs.InviteClient.{InviteClientPhase, Idle, Ended, Calling, Proceeding, Accepted, Completed, Sends, ends_refused}
+use Rattle.sip_standard.specs.Stands.{Stands, StandsBehind}
 use Rattle.consequences.specs.Events.{SendsRequest, GetsResponse, IsAnyCode, IsRefused, IsRestart}
 use Rattle.consequences.proofs.lemmas.run.Lists.{any-last, any-earlier, any-none, All-front, All-last}
 use Rattle.consequences.proofs.lemmas.client.Once.{IsInvited, invites-once, over-emits, over-steps}

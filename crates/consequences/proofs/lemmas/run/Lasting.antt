@@ -2,11 +2,13 @@
 use Rattle.std.proofs.Common.{◌≤◌, ℕ, Option, Some, None, IfSome, List, [], All}
 use Rattle.std.proofs.lemmas.List.Elements.{All-head}
 use Rattle.sip_standard.specs.Times.{Times}
-use Rattle.sip_machine.specs.MachineEvent.{MachineEvent}
-use Rattle.sip_machine.specs.Figure.{Figure, IsFigure, Owing, Lasts, closes_of, closes_at}
+use Rattle.sip_standard.specs.MachineEvent.{MachineEvent}
+use Rattle.sip_standard.specs.Figure.{Figure, Owing, Lasts}
+use Rattle.sip_machine.specs.FigureRules.{IsFigure, closes_of, closes_at}
 use Rattle.sip_machine.specs.inner.OwesLaws.{IsWithin-owed}
-use Rattle.sip_states.specs.KeyMachine.{MachineKind, transaction_of, coded_holds}
-use Rattle.sip_states.specs.Stands.{Stands}
+use Rattle.sip_standard.specs.KeyMachine.{MachineKind, transaction_of}
+use Rattle.sip_states.specs.KeySets.{coded_holds}
+use Rattle.sip_standard.specs.Stands.{Stands}
 use Rattle.sip_states.proofs.runs.StandsLemmas.{stands-runs}
 use Rattle.consequences.proofs.lemmas.run.Lists.{All-front, All-back}
 

@@ -4,9 +4,9 @@ use Rattle.std.specs.Prelude.{nat_le}
 use Rattle.std.proofs.lemmas.List.Elements.{All-contains, Contains-append_left}
 use Rattle.std.proofs.lemmas.List.Folds.{list_any-from_Any}
 use Rattle.sip_standard.specs.Times.{Times}
-use Rattle.sip_machine.specs.MachineEvent.{MachineEvent}
-use Rattle.sip_machine.specs.Debts.{Owed, IsWithoutFirst}
-use Rattle.sip_machine.specs.Figure.{Figure, Owing, Lasts, MayEnd}
+use Rattle.sip_standard.specs.MachineEvent.{MachineEvent}
+use Rattle.sip_standard.specs.Debts.{Owed, IsWithoutFirst}
+use Rattle.sip_standard.specs.Figure.{Figure, Owing, Lasts, MayEnd}
 use Rattle.consequences.proofs.lemmas.run.Lists.{contains-cases, contains-filter}
 use Rattle.consequences.proofs.lemmas.run.Running.{left_at}
 

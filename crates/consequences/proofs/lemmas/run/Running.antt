@@ -2,11 +2,11 @@
 use Rattle.std.proofs.Common.{◌≡◌, ◌≤◌, ◌||◌, ℕ, List, [], ◌∷◌, ◌++◌, filter, refl, ap, subst, sym, append_assoc}
 use Rattle.std.specs.Prelude.{nat_le}
 use Rattle.sip_standard.specs.declared.action.Action.{Action}
-use Rattle.sip_machine.specs.Debts.{Owed}
+use Rattle.sip_standard.specs.Debts.{Owed}
 use Rattle.sip_standard.specs.Times.{Times}
-use Rattle.sip_machine.specs.MachineEvent.{MachineEvent}
-use Rattle.sip_machine.specs.Figure.{Figure, Owing, quiet, Steps, Takes, Lasts, MayEnd}
-use Rattle.sip_states.specs.Stands.{Stands, begins, waits, ends, takes}
+use Rattle.sip_standard.specs.MachineEvent.{MachineEvent}
+use Rattle.sip_standard.specs.Figure.{Figure, Owing, quiet, Steps, Takes, Lasts, MayEnd}
+use Rattle.sip_standard.specs.Stands.{Stands, begins, waits, ends, takes}
 
 -- from x at h, waits and ends lead to a state at a moment
 pub data Rests {X : Type 0} (f : Figure X) (p : Times) (x : Owing X) (h : ℕ) : ℕ → Owing X → Type 0 where

@@ -2,17 +2,17 @@
 use Rattle.std.proofs.Common.{◌≡◌, ◌≤◌, ◌⊎◌, inl, inr, ℕ, Bool, true, false, Option, None, List, [], ◌∷◌, ◌++◌, All, refl, ap, subst, IsSomeAnd}
 use Rattle.sip_standard.specs.declared.action.Action.{Action}
 use Rattle.sip_standard.specs.declared.action.Action.TheVariants.{Sent, Received, Failed, Mark, Restart}
-use Rattle.sip_machine.specs.declared.event.Method.{Method}
-use Rattle.sip_machine.specs.declared.event.Method.TheVariants.{Invite}
-use Rattle.sip_machine.specs.declared.event.Kind.{Kind}
-use Rattle.sip_machine.specs.declared.event.Kind.TheVariants.{Request, Response}
+use Rattle.sip_standard.specs.declared.kind.Method.{Method}
+use Rattle.sip_standard.specs.declared.kind.Method.TheVariants.{Invite}
+use Rattle.sip_standard.specs.declared.kind.Kind.{Kind}
+use Rattle.sip_standard.specs.declared.kind.Kind.TheVariants.{Request, Response}
 use Rattle.sip_standard.specs.Times.{Times}
-use Rattle.sip_machine.specs.MachineEvent.{MachineEvent}
-use Rattle.sip_machine.specs.Debts.{Owed, IsWithoutFirst}
-use Rattle.sip_machine.specs.Figure.{Figure, Change, Owing, quiet, Emits, Fails, Steps, Takes, MayEnd}
-use Rattle.sip_machine.specs.InviteServer as corrected
-use Rattle.sip_machine.specs.InviteServer3261 as without
-use Rattle.sip_machine.specs.PlainServer as plain
+use Rattle.sip_standard.specs.MachineEvent.{MachineEvent}
+use Rattle.sip_standard.specs.Debts.{Owed, IsWithoutFirst}
+use Rattle.sip_standard.specs.Figure.{Figure, Change, Owing, quiet, Emits, Fails, Steps, Takes, MayEnd}
+use Rattle.sip_standard.specs.InviteServer as corrected
+use Rattle.sip_standard.specs.InviteServer3261 as without
+use Rattle.sip_standard.specs.PlainServer as plain
 use Rattle.consequences.specs.Events.{IsRestart}
 use Rattle.consequences.proofs.lemmas.run.Lists.{All-front, All-last}
 use Rattle.consequences.proofs.lemmas.run.Running.{Runs, IsKept, step-of, run-keeps}

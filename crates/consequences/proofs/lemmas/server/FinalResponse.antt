@@ -4,18 +4,18 @@ use Rattle.std.specs.List.{Any}
 use Rattle.std.proofs.lemmas.List.Elements.{All-nil, All-filter, All-push, All-weaker, All-map}
 use Rattle.sip_standard.specs.declared.action.Action.{Action}
 use Rattle.sip_standard.specs.declared.action.Action.TheVariants.{Sent, Received, Failed, Mark, Restart}
-use Rattle.sip_machine.specs.declared.event.Method.TheVariants.{Invite, Ack}
-use Rattle.sip_machine.specs.declared.event.Kind.{Kind}
-use Rattle.sip_machine.specs.declared.event.Kind.TheVariants.{Response}
+use Rattle.sip_standard.specs.declared.kind.Method.TheVariants.{Invite, Ack}
+use Rattle.sip_standard.specs.declared.kind.Kind.{Kind}
+use Rattle.sip_standard.specs.declared.kind.Kind.TheVariants.{Response}
 use Rattle.sip_standard.specs.Times.{Times}
 use Rattle.sip_standard.specs.Window.{open_at, close_at}
-use Rattle.sip_machine.specs.MachineEvent.{MachineEvent}
-use Rattle.sip_machine.specs.Message.{IsProvisional, IsFinal, IsSuccess, IsUnsuccessful}
-use Rattle.sip_machine.specs.Debts.{Owed, softened, IsWithoutFirst}
-use Rattle.sip_machine.specs.Figure.{Figure, Change, Owing, changed, quiet, Emits, Fails, Steps, Takes, Lasts, MayEnd}
-use Rattle.sip_machine.specs.InviteServer.{InviteServerPhase, Idle, Proceeding, Accepted, Completed, Confirmed}
-use Rattle.sip_machine.specs.InviteServer as corrected
-use Rattle.sip_states.specs.Stands.{StandsBehind}
+use Rattle.sip_standard.specs.MachineEvent.{MachineEvent}
+use Rattle.sip_standard.specs.Kind.{IsProvisional, IsFinal, IsSuccess, IsUnsuccessful}
+use Rattle.sip_standard.specs.Debts.{Owed, softened, IsWithoutFirst}
+use Rattle.sip_standard.specs.Figure.{Figure, Change, Owing, changed, quiet, Emits, Fails, Steps, Takes, Lasts, MayEnd}
+use Rattle.sip_standard.specs.InviteServer.{InviteServerPhase, Idle, Proceeding, Accepted, Completed, Confirmed}
+use Rattle.sip_standard.specs.InviteServer as corrected
+use Rattle.sip_standard.specs.Stands.{StandsBehind}
 use Rattle.consequences.specs.Events.{GetsRequest, IsResponse, SendsResponse, IsRestart}
 use Rattle.consequences.specs.Servers.{BeginNoneAnew}
 use Rattle.consequences.proofs.lemmas.server.Asleep.{nothing-to-pay}

@@ -4,17 +4,17 @@ use Rattle.std.specs.List.{Any}
 use Rattle.std.proofs.lemmas.List.Elements.{All-head}
 use Rattle.sip_standard.specs.declared.action.Action.{Action}
 use Rattle.sip_standard.specs.declared.action.Action.TheVariants.{Sent, Received, Failed, Mark, Restart}
-use Rattle.sip_machine.specs.declared.event.Method.TheVariants.{Invite}
-use Rattle.sip_machine.specs.declared.event.Kind.{Kind}
-use Rattle.sip_machine.specs.declared.event.Kind.TheVariants.{Request, Response}
+use Rattle.sip_standard.specs.declared.kind.Method.TheVariants.{Invite}
+use Rattle.sip_standard.specs.declared.kind.Kind.{Kind}
+use Rattle.sip_standard.specs.declared.kind.Kind.TheVariants.{Request, Response}
 use Rattle.sip_standard.specs.Times.{Times}
 use Rattle.sip_standard.specs.Window.{close_at}
-use Rattle.sip_machine.specs.MachineEvent.{MachineEvent}
-use Rattle.sip_machine.specs.Message.{IsSuccess}
-use Rattle.sip_machine.specs.Figure.{Figure, keeps, Owing, changed, quiet, Follows, Emits, Fails, Steps, Takes, Lasts, MayEnd}
-use Rattle.sip_machine.specs.InviteServer.{InviteServerPhase, Idle, Proceeding, Accepted, Completed, Confirmed}
-use Rattle.sip_machine.specs.InviteServer as corrected
-use Rattle.sip_states.specs.Stands.{Stands}
+use Rattle.sip_standard.specs.MachineEvent.{MachineEvent}
+use Rattle.sip_standard.specs.Kind.{IsSuccess}
+use Rattle.sip_standard.specs.Figure.{Figure, keeps, Owing, changed, quiet, Follows, Emits, Fails, Steps, Takes, Lasts, MayEnd}
+use Rattle.sip_standard.specs.InviteServer.{InviteServerPhase, Idle, Proceeding, Accepted, Completed, Confirmed}
+use Rattle.sip_standard.specs.InviteServer as corrected
+use Rattle.sip_standard.specs.Stands.{Stands}
 use Rattle.consequences.specs.Events.{GetsRequest, SendsResponse, IsAnyCode, IsRestart}
 use Rattle.consequences.proofs.lemmas.server.Asleep.{IsAsleep, IsInvite, nothing-to-pay, sleeps-on}
 use Rattle.consequences.proofs.lemmas.run.Lists.{any-last, any-earlier}

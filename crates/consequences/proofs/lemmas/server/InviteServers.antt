@@ -1,15 +1,15 @@
 -- Both INVITE servers. But for a 2xx they have the same rows, over phases that each has in its own way.
 use Rattle.std.proofs.Common.{◌≡◌, ◌*◌, ◌⊎◌, inl, inr, ℕ, Bool, true, false, Option, Some, None, List, refl, sym, subst, min}
-use Rattle.sip_machine.specs.declared.event.Method.TheVariants.{Invite, Ack}
-use Rattle.sip_machine.specs.declared.event.Kind.{Kind}
-use Rattle.sip_machine.specs.declared.event.Kind.TheVariants.{Request, Response}
+use Rattle.sip_standard.specs.declared.kind.Method.TheVariants.{Invite, Ack}
+use Rattle.sip_standard.specs.declared.kind.Kind.{Kind}
+use Rattle.sip_standard.specs.declared.kind.Kind.TheVariants.{Request, Response}
 use Rattle.sip_standard.specs.Times.{Times}
-use Rattle.sip_machine.specs.MachineEvent.{MachineEvent}
-use Rattle.sip_machine.specs.Message.{IsProvisional, IsSuccess, IsUnsuccessful}
-use Rattle.sip_machine.specs.Figure.{Figure, Change, keeps, softens, gains}
-use Rattle.sip_machine.specs.InviteServer.{InviteServerPhase, Idle, Proceeding, Accepted, Completed, Confirmed, invite_server}
-use Rattle.sip_machine.specs.InviteServer as corrected
-use Rattle.sip_machine.specs.InviteServer3261 as without
+use Rattle.sip_standard.specs.MachineEvent.{MachineEvent}
+use Rattle.sip_standard.specs.Kind.{IsProvisional, IsSuccess, IsUnsuccessful}
+use Rattle.sip_standard.specs.Figure.{Figure, Change, keeps, softens, gains}
+use Rattle.sip_standard.specs.InviteServer.{InviteServerPhase, Idle, Proceeding, Accepted, Completed, Confirmed, invite_server}
+use Rattle.sip_standard.specs.InviteServer as corrected
+use Rattle.sip_standard.specs.InviteServer3261 as without
 
 abbrev pub Row : Type 0
 Row = InviteServerPhase × Change

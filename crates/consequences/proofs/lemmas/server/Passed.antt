@@ -2,17 +2,17 @@
 use Rattle.std.proofs.Common.{◌≡◌, ◌⊎◌, inl, inr, ℕ, Bool, true, false, List, [], ◌∷◌, ◌++◌, All, refl, sym, subst, ◌∙◌, arith}
 use Rattle.sip_standard.specs.declared.action.Action.{Action}
 use Rattle.sip_standard.specs.declared.action.Action.TheVariants.{Sent, Received, Failed, Mark, Restart}
-use Rattle.sip_machine.specs.declared.event.Method.TheVariants.{Invite}
-use Rattle.sip_machine.specs.declared.event.Kind.{Kind}
-use Rattle.sip_machine.specs.declared.event.Kind.TheVariants.{Request, Response}
+use Rattle.sip_standard.specs.declared.kind.Method.TheVariants.{Invite}
+use Rattle.sip_standard.specs.declared.kind.Kind.{Kind}
+use Rattle.sip_standard.specs.declared.kind.Kind.TheVariants.{Request, Response}
 use Rattle.sip_standard.specs.Times.{Times}
-use Rattle.sip_machine.specs.MachineEvent.{MachineEvent}
-use Rattle.sip_machine.specs.Message.{IsFinal, IsSuccess}
-use Rattle.sip_machine.specs.Debts.{Owed}
-use Rattle.sip_machine.specs.Figure.{Figure, Change, drops, Owing, quiet, Emits, Fails, Steps, Takes}
-use Rattle.sip_machine.specs.InviteServer.{InviteServerPhase, Idle, Proceeding}
-use Rattle.sip_machine.specs.InviteServer3261.{InviteServer3261Phase, Passed, In, Receives, Sends, invite_server_3261}
-use Rattle.sip_states.specs.Stands.{StandsBehind}
+use Rattle.sip_standard.specs.MachineEvent.{MachineEvent}
+use Rattle.sip_standard.specs.Kind.{IsFinal, IsSuccess}
+use Rattle.sip_standard.specs.Debts.{Owed}
+use Rattle.sip_standard.specs.Figure.{Figure, Change, drops, Owing, quiet, Emits, Fails, Steps, Takes}
+use Rattle.sip_standard.specs.InviteServer.{InviteServerPhase, Idle, Proceeding}
+use Rattle.sip_standard.specs.InviteServer3261.{InviteServer3261Phase, Passed, In, Receives, Sends, invite_server_3261}
+use Rattle.sip_standard.specs.Stands.{StandsBehind}
 use Rattle.consequences.specs.Events.{GetsRequest, IsResponse, SendsResponse}
 use Rattle.consequences.proofs.lemmas.server.Asleep.{IsInvite, nothing-to-pay, without-asleep, asleep-emits, asleep-steps}
 use Rattle.consequences.proofs.lemmas.server.InviteServers.{first_in, is-server-3261}

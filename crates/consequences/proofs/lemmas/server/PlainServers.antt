@@ -4,18 +4,18 @@ use Rattle.std.specs.List.{Any}
 use Rattle.std.proofs.lemmas.List.Elements.{All-nil, All-filter, All-push, All-weaker, Contains-push}
 use Rattle.sip_standard.specs.declared.action.Action.{Action}
 use Rattle.sip_standard.specs.declared.action.Action.TheVariants.{Sent, Received, Failed, Mark, Restart}
-use Rattle.sip_machine.specs.declared.event.Method.{Method}
-use Rattle.sip_machine.specs.declared.event.Kind.{Kind}
-use Rattle.sip_machine.specs.declared.event.Kind.TheVariants.{Request, Response}
+use Rattle.sip_standard.specs.declared.kind.Method.{Method}
+use Rattle.sip_standard.specs.declared.kind.Kind.{Kind}
+use Rattle.sip_standard.specs.declared.kind.Kind.TheVariants.{Request, Response}
 use Rattle.sip_standard.specs.Times.{Times}
 use Rattle.sip_standard.specs.Window.{open_at, close_at}
-use Rattle.sip_machine.specs.MachineEvent.{MachineEvent}
-use Rattle.sip_machine.specs.Replies.{Replies}
-use Rattle.sip_machine.specs.Message.{IsProvisional, IsFinal}
-use Rattle.sip_machine.specs.Debts.{Owed, IsWithoutFirst}
-use Rattle.sip_machine.specs.Figure.{Figure, Change, gains, Owing, changed, quiet, Emits, Steps, Takes, Lasts, MayEnd}
-use Rattle.sip_machine.specs.PlainServer.{PlainServerPhase, Idle, Trying, Proceeding, Completed, Receives, Sends, plain_server}
-use Rattle.sip_states.specs.Stands.{Stands}
+use Rattle.sip_standard.specs.MachineEvent.{MachineEvent}
+use Rattle.sip_standard.specs.Replies.{Replies}
+use Rattle.sip_standard.specs.Kind.{IsProvisional, IsFinal}
+use Rattle.sip_standard.specs.Debts.{Owed, IsWithoutFirst}
+use Rattle.sip_standard.specs.Figure.{Figure, Change, gains, Owing, changed, quiet, Emits, Steps, Takes, Lasts, MayEnd}
+use Rattle.sip_standard.specs.PlainServer.{PlainServerPhase, Idle, Trying, Proceeding, Completed, Receives, Sends, plain_server}
+use Rattle.sip_standard.specs.Stands.{Stands}
 use Rattle.consequences.specs.Events.{GetsAnyRequest, SendsResponse, SendsBytes, IsRestart}
 use Rattle.consequences.proofs.lemmas.server.Asleep.{nothing-to-pay}
 use Rattle.consequences.proofs.lemmas.run.Lists.{any-last, any-earlier, any-none, All-front, All-last}

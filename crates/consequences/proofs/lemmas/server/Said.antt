@@ -4,10 +4,10 @@ use Rattle.std.specs.List.{Any}
 use Rattle.std.proofs.lemmas.List.Elements.{All-head, All-tail, All-append, All-contains}
 use Rattle.std.specs.Prelude.{slice_index_or}
 use Rattle.sip_standard.specs.declared.action.Action.TheVariants.{Sent, Failed}
-use Rattle.sip_machine.specs.declared.event.Kind.TheVariants.{Response}
-use Rattle.sip_machine.specs.MachineEvent.{MachineEvent}
-use Rattle.sip_machine.specs.Message.{IsProvisional, IsFinal}
-use Rattle.sip_machine.specs.Debts.{Owed, IsWithoutFirst}
+use Rattle.sip_standard.specs.declared.kind.Kind.TheVariants.{Response}
+use Rattle.sip_standard.specs.MachineEvent.{MachineEvent}
+use Rattle.sip_standard.specs.Kind.{IsProvisional, IsFinal}
+use Rattle.sip_standard.specs.Debts.{Owed, IsWithoutFirst}
 use Rattle.consequences.specs.Events.{IsResponse, SendsResponse}
 use Rattle.consequences.proofs.lemmas.run.Lists.{any-earlier, All-front, All-back}
 

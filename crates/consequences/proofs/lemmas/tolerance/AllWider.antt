@@ -1,16 +1,16 @@
 -- A run of each of the six machines is one by a wider tolerance.
 use Rattle.std.proofs.Common.{◌≡◌, ◌≤◌, ℕ, List}
-use Rattle.sip_machine.specs.Figure.{Owing}
-use Rattle.sip_machine.specs.MachineEvent.{MachineEvent}
+use Rattle.sip_standard.specs.Figure.{Owing}
+use Rattle.sip_standard.specs.MachineEvent.{MachineEvent}
 use Rattle.sip_standard.specs.Times.{Times}
-use Rattle.sip_machine.specs.InviteClient.{invite_client}
-use Rattle.sip_machine.specs.InviteClient3261.{invite_client_3261}
-use Rattle.sip_machine.specs.InviteServer.{invite_server}
-use Rattle.sip_machine.specs.InviteServer3261.{invite_server_3261}
-use Rattle.sip_machine.specs.PlainClient.{plain_client}
-use Rattle.sip_machine.specs.PlainServer.{plain_server}
-use Rattle.sip_states.specs.KeyMachine.{MachineKind, OfInviteClient, OfPlainClient, OfInviteServer, OfPlainServer, OfInviteClient3261, OfInviteServer3261, transaction_of}
-use Rattle.sip_states.specs.Stands.{Stands}
+use Rattle.sip_standard.specs.InviteClient.{invite_client}
+use Rattle.sip_standard.specs.InviteClient3261.{invite_client_3261}
+use Rattle.sip_standard.specs.InviteServer.{invite_server}
+use Rattle.sip_standard.specs.InviteServer3261.{invite_server_3261}
+use Rattle.sip_standard.specs.PlainClient.{plain_client}
+use Rattle.sip_standard.specs.PlainServer.{plain_server}
+use Rattle.sip_standard.specs.KeyMachine.{MachineKind, OfInviteClient, OfPlainClient, OfInviteServer, OfPlainServer, OfInviteClient3261, OfInviteServer3261, transaction_of}
+use Rattle.sip_standard.specs.Stands.{Stands}
 use Rattle.consequences.specs.Tolerance.{tolerant, AreOneKind}
 use Rattle.consequences.proofs.lemmas.run.Lasting.{what_stands_lasts}
 use Rattle.consequences.proofs.lemmas.tolerance.Sorted.{MayIn, MayIn3261, client-sorted, client-3261-sorted, plain-client-sorted, server-sorted, server-3261-sorted}

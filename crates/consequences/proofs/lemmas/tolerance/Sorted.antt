@@ -5,20 +5,20 @@ use Rattle.std.proofs.lemmas.Slice.Eq.{bytes_eq-Decides}
 use Rattle.std.proofs.lemmas.List.Elements.{All-nil, All-filter, All-push, All-weaker, All-cons}
 use Rattle.sip_standard.specs.declared.action.Action.{Action}
 use Rattle.sip_standard.specs.declared.action.Action.TheVariants.{Sent, Received, Failed, Mark, Restart}
-use Rattle.sip_machine.specs.declared.event.Kind.{Kind}
-use Rattle.sip_machine.specs.declared.event.Kind.TheVariants.{Request, Response}
-use Rattle.sip_machine.specs.declared.event.Method.TheVariants.{Invite, Ack, Cancel}
+use Rattle.sip_standard.specs.declared.kind.Kind.{Kind}
+use Rattle.sip_standard.specs.declared.kind.Kind.TheVariants.{Request, Response}
+use Rattle.sip_standard.specs.declared.kind.Method.TheVariants.{Invite, Ack, Cancel}
 use Rattle.sip_standard.specs.Times.{Times}
-use Rattle.sip_machine.specs.MachineEvent.{MachineEvent}
-use Rattle.sip_machine.specs.Message.{IsSuccess}
-use Rattle.sip_machine.specs.Provisional.{Is100}
-use Rattle.sip_machine.specs.Debts.{Owed, softened, IsWithoutFirst}
-use Rattle.sip_machine.specs.Figure.{Figure, Change, keeps, softens, drops, gains, Owing, changed, quiet, Emits, Fails, Steps}
-use Rattle.sip_machine.specs.InviteClient as client
-use Rattle.sip_machine.specs.InviteClient3261 as client_3261
-use Rattle.sip_machine.specs.PlainClient as plain
-use Rattle.sip_machine.specs.InviteServer as server
-use Rattle.sip_machine.specs.InviteServer3261 as server_3261
+use Rattle.sip_standard.specs.MachineEvent.{MachineEvent}
+use Rattle.sip_standard.specs.Kind.{IsSuccess}
+use Rattle.sip_standard.specs.Provisional.{Is100}
+use Rattle.sip_standard.specs.Debts.{Owed, softened, IsWithoutFirst}
+use Rattle.sip_standard.specs.Figure.{Figure, Change, keeps, softens, drops, gains, Owing, changed, quiet, Emits, Fails, Steps}
+use Rattle.sip_standard.specs.InviteClient as client
+use Rattle.sip_standard.specs.InviteClient3261 as client_3261
+use Rattle.sip_standard.specs.PlainClient as plain
+use Rattle.sip_standard.specs.InviteServer as server
+use Rattle.sip_standard.specs.InviteServer3261 as server_3261
 use Rattle.consequences.proofs.lemmas.server.Asleep.{nothing-to-pay}
 use Rattle.consequences.proofs.lemmas.server.Said.{all-without}
 use Rattle.consequences.proofs.lemmas.run.Running.{IsKept, left_at, stands-run, run-keeps}

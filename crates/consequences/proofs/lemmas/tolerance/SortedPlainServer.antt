@@ -4,15 +4,15 @@ use Rattle.std.specs.List.{Any}
 use Rattle.std.proofs.lemmas.List.Elements.{All-nil, All-cons, All-head, All-tail, All-filter, All-push, All-weaker}
 use Rattle.sip_standard.specs.declared.action.Action.{Action}
 use Rattle.sip_standard.specs.declared.action.Action.TheVariants.{Sent, Received, Failed, Mark, Restart}
-use Rattle.sip_machine.specs.declared.event.Kind.{Kind}
-use Rattle.sip_machine.specs.declared.event.Kind.TheVariants.{Request, Response}
+use Rattle.sip_standard.specs.declared.kind.Kind.{Kind}
+use Rattle.sip_standard.specs.declared.kind.Kind.TheVariants.{Request, Response}
 use Rattle.sip_standard.specs.Times.{Times}
-use Rattle.sip_machine.specs.MachineEvent.{MachineEvent}
-use Rattle.sip_machine.specs.Message.{IsProvisional, IsFinal}
-use Rattle.sip_machine.specs.Provisional.{Is100}
-use Rattle.sip_machine.specs.Debts.{Owed, softened, IsWithoutFirst}
-use Rattle.sip_machine.specs.Figure.{Change, Owing, changed, quiet, Emits, Steps}
-use Rattle.sip_machine.specs.PlainServer.{PlainServerPhase, Idle, Trying, Proceeding, Completed, Receives, Sends, plain_server}
+use Rattle.sip_standard.specs.MachineEvent.{MachineEvent}
+use Rattle.sip_standard.specs.Kind.{IsProvisional, IsFinal}
+use Rattle.sip_standard.specs.Provisional.{Is100}
+use Rattle.sip_standard.specs.Debts.{Owed, softened, IsWithoutFirst}
+use Rattle.sip_standard.specs.Figure.{Change, Owing, changed, quiet, Emits, Steps}
+use Rattle.sip_standard.specs.PlainServer.{PlainServerPhase, Idle, Trying, Proceeding, Completed, Receives, Sends, plain_server}
 use Rattle.consequences.specs.Events.{IsResponse, SendsResponse}
 use Rattle.consequences.specs.Tolerance.{AreOneKind}
 use Rattle.consequences.proofs.lemmas.server.Asleep.{nothing-to-pay}

@@ -1,20 +1,20 @@
 -- The figures by a wider tolerance: their rows stand, and their windows open earlier and close later.
 use Rattle.std.proofs.Common.{◌≤◌, ◌*◌, ℕ, Bool, true, false, Some, None, IsSomeAnd, IfSome, List, [], ◌∷◌, All, arith, if◌then◌else◌}
 use Rattle.std.proofs.lemmas.List.Elements.{All-nil, All-cons, All-head}
-use Rattle.sip_machine.specs.declared.event.Kind.{Kind}
-use Rattle.sip_machine.specs.declared.event.Kind.TheVariants.{Request, Response}
-use Rattle.sip_machine.specs.declared.event.Method.TheVariants.{Invite, Ack, Cancel}
+use Rattle.sip_standard.specs.declared.kind.Kind.{Kind}
+use Rattle.sip_standard.specs.declared.kind.Kind.TheVariants.{Request, Response}
+use Rattle.sip_standard.specs.declared.kind.Method.TheVariants.{Invite, Ack, Cancel}
 use Rattle.sip_standard.specs.Times.{Times}
 use Rattle.sip_standard.specs.Window.{open_at, close_at}
-use Rattle.sip_machine.specs.MachineEvent.{MachineEvent}
-use Rattle.sip_machine.specs.Retransmits.{Retransmits}
-use Rattle.sip_machine.specs.Figure.{Change}
-use Rattle.sip_machine.specs.InviteClient as client
-use Rattle.sip_machine.specs.InviteClient3261 as client_3261
-use Rattle.sip_machine.specs.PlainClient as plain
-use Rattle.sip_machine.specs.InviteServer as server
-use Rattle.sip_machine.specs.InviteServer3261 as server_3261
-use Rattle.sip_machine.specs.PlainServer as plain_server
+use Rattle.sip_standard.specs.MachineEvent.{MachineEvent}
+use Rattle.sip_standard.specs.Retransmits.{Retransmits}
+use Rattle.sip_standard.specs.Figure.{Change}
+use Rattle.sip_standard.specs.InviteClient as client
+use Rattle.sip_standard.specs.InviteClient3261 as client_3261
+use Rattle.sip_standard.specs.PlainClient as plain
+use Rattle.sip_standard.specs.InviteServer as server
+use Rattle.sip_standard.specs.InviteServer3261 as server_3261
+use Rattle.sip_standard.specs.PlainServer as plain_server
 use Rattle.consequences.specs.Tolerance.{tolerant}
 use Rattle.consequences.proofs.lemmas.tolerance.Wider.{IsSteady}
 

@@ -1,16 +1,16 @@
 use Rattle.std.proofs.Common.{◌≡◌, ◌++◌, ◌∷◌, true, List}
-use Rattle.sip_key.specs.declared.role.Role.TheVariants.{Client}
+use Rattle.sip_standard.specs.declared.role.Role.TheVariants.{Client}
 use Rattle.sip_standard.specs.declared.action.Action.TheVariants.{Sent}
 use Rattle.sip_standard.specs.declared.rules.Rules.{Rules}
 use Rattle.sip_standard.specs.declared.rules.Rules.TheVariants.{R3261, R6026}
-use Rattle.sip_machine.specs.declared.event.Kind.TheVariants.{Request}
-use Rattle.sip_machine.specs.declared.event.Method.TheVariants.{Invite, Cancel}
-use Rattle.sip_machine.specs.MachineEvent.{MachineEvent}
+use Rattle.sip_standard.specs.declared.kind.Kind.TheVariants.{Request}
+use Rattle.sip_standard.specs.declared.kind.Method.TheVariants.{Invite, Cancel}
+use Rattle.sip_standard.specs.MachineEvent.{MachineEvent}
 use Rattle.sip_standard.specs.Times.{Times}
-use Rattle.sip_machine.specs.InviteClient as corrected
-use Rattle.sip_machine.specs.InviteClient3261 as without
-use Rattle.sip_machine.specs.PlainClient.{plain_client}
-use Rattle.sip_states.specs.Stands.{StandsBehind}
+use Rattle.sip_standard.specs.InviteClient as corrected
+use Rattle.sip_standard.specs.InviteClient3261 as without
+use Rattle.sip_standard.specs.PlainClient.{plain_client}
+use Rattle.sip_standard.specs.Stands.{StandsBehind}
 use Rattle.consequences.specs.Events.{SendsRequest, IsRestart}
 use Rattle.consequences.specs.Machines.{figure_of, StateOf}
 use Rattle.consequences.proofs.lemmas.client.InviteClients.{client, receives_6026, receives_3261}

@@ -1,20 +1,20 @@
 use Rattle.std.proofs.Common.{◌≡◌, ◌++◌, ◌∷◌, Bool, true, false, List, All, subst}
 use Rattle.std.proofs.lemmas.List.Elements.{All-weaker}
-use Rattle.sip_key.specs.declared.role.Role.TheVariants.{Server}
+use Rattle.sip_standard.specs.declared.role.Role.TheVariants.{Server}
 use Rattle.sip_standard.specs.declared.action.Action.TheVariants.{Sent, Received}
 use Rattle.sip_standard.specs.declared.rules.Rules.{Rules}
 use Rattle.sip_standard.specs.declared.rules.Rules.TheVariants.{R3261, R6026}
-use Rattle.sip_machine.specs.declared.event.Kind.{Kind}
-use Rattle.sip_machine.specs.declared.event.Kind.TheVariants.{Request}
-use Rattle.sip_machine.specs.declared.event.Method.{Method}
-use Rattle.sip_machine.specs.declared.event.Method.TheVariants.{Invite}
-use Rattle.sip_machine.specs.Figure.{Figure, Owing, quiet, Takes}
-use Rattle.sip_machine.specs.MachineEvent.{MachineEvent}
+use Rattle.sip_standard.specs.declared.kind.Kind.{Kind}
+use Rattle.sip_standard.specs.declared.kind.Kind.TheVariants.{Request}
+use Rattle.sip_standard.specs.declared.kind.Method.{Method}
+use Rattle.sip_standard.specs.declared.kind.Method.TheVariants.{Invite}
+use Rattle.sip_standard.specs.Figure.{Figure, Owing, quiet, Takes}
+use Rattle.sip_standard.specs.MachineEvent.{MachineEvent}
 use Rattle.sip_standard.specs.Times.{Times}
-use Rattle.sip_machine.specs.InviteServer.{invite_server}
-use Rattle.sip_machine.specs.InviteServer3261.{invite_server_3261}
-use Rattle.sip_machine.specs.PlainServer.{plain_server}
-use Rattle.sip_states.specs.Stands.{StandsBehind}
+use Rattle.sip_standard.specs.InviteServer.{invite_server}
+use Rattle.sip_standard.specs.InviteServer3261.{invite_server_3261}
+use Rattle.sip_standard.specs.PlainServer.{plain_server}
+use Rattle.sip_standard.specs.Stands.{StandsBehind}
 use Rattle.consequences.specs.Events.{GetsAnyRequest, IsRestart}
 use Rattle.consequences.specs.Machines.{figure_of, StateOf}
 use Rattle.consequences.proofs.lemmas.server.Asleep.{IsAsleep, IsInvite, IsAnyRequest, corrected-asleep, without-asleep, plain-asleep, asleep-emits, sleeps-on, restart-sleeps}

@@ -2,8 +2,8 @@ use Rattle.std.proofs.Common.{◌≡◌, ℕ, List, sym, ◌∙◌}
 use Rattle.sip_standard.specs.Outcome.{gives}
 use Rattle.sip_standard.specs.Says.{Said, Says}
 use Rattle.sip_message.proofs.lemmas.says.Reading.{says-reads, said-is}
-use Rattle.sip_states.specs.KeyMachine.{machine_of_key}
-use Rattle.sip_verdict.specs.VerdictOf.{events_for}
+use Rattle.sip_standard.specs.KeyMachine.{machine_of_key}
+use Rattle.sip_standard.specs.VerdictOf.{events_for}
 use Rattle.consequences.proofs.lemmas.tolerance.AllWider.{all-wider}
 use Rattle.consequences.proofs.lemmas.tolerance.SeenKinds.{events-are-of-one-kind}
 use Rattle.consequences.proofs.tolerance.a_wider_tolerance_keeps_a_transaction.Goals as goal

@@ -1,6 +1,6 @@
 use Rattle.std.proofs.Common.{sym, ◌∙◌, ap}
-use Rattle.sip_key.specs.Solid.{solid}
-use Rattle.sip_key.specs.AckOf.{SameSolid}
+use Rattle.sip_standard.specs.Solid.{solid}
+use Rattle.sip_standard.specs.AckOf.{SameSolid}
 use Rattle.sip_key.proofs.ack_of.is_ack_of.Goals as goal
 
 pub returns-then-same_solid : goal.returns-then-same_solid

@@ -3,8 +3,8 @@ use Rattle.std.proofs.Common.{sym, ◌∙◌, ap, subst}
 use Rattle.sip_standard.specs.Profile.{Port}
 use Rattle.sip_message.specs.Elements.{Element}
 use Rattle.sip_message.specs.SaidOf.{said_of, said_via}
-use Rattle.sip_key.specs.Branch.{cookie_branch}
-use Rattle.sip_key.specs.Concerns.{role_of, sent_by_of}
+use Rattle.sip_standard.specs.Branch.{cookie_branch}
+use Rattle.sip_standard.specs.Concerns.{role_of, sent_by_of}
 use Rattle.sip_key.proofs.ConcernLemmas.{top-port, own-is}
 use Rattle.sip_key.proofs.concern.key_of.Goals as goal
 

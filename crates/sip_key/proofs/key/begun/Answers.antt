@@ -1,7 +1,7 @@
 use Rattle.std.proofs.Common.{◌≡◌, ◌++◌, ◌∷◌, [], length, ap, ap₂, ◌∙◌, arith}
 use Rattle.std.proofs.lemmas.Grind.{common_steps}
 use Rattle.sip_standard.specs.Case.{folded}
-use Rattle.sip_key.specs.Key.{length_bytes, role_byte, key_head}
+use Rattle.sip_key.specs.inner.KeyText.{length_bytes, role_byte, key_head}
 use Rattle.sip_key.proofs.KeyLemmas.{begun_folded}
 use Rattle.sip_key.proofs.key.begun.Goals as goal
 

@@ -1,5 +1,5 @@
 use Rattle.std.proofs.Common.{◌≡◌, ◌++◌, ◌∷◌, [], ◌/◌, ◌%◌, replicate, append_assoc, ap, ◌∙◌, arith}
-use Rattle.sip_key.specs.Key.{length_bytes}
+use Rattle.sip_key.specs.inner.KeyText.{length_bytes}
 use Rattle.sip_key.proofs.key.push_length.Goals as goal
 
 pub returns : goal.returns

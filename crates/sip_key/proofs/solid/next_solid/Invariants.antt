@@ -1,5 +1,5 @@
 use Rattle.std.proofs.Common.{◌≡◌, length}
-use Rattle.sip_key.specs.Solid.{solid}
+use Rattle.sip_standard.specs.Solid.{solid}
 use Rattle.sip_key.proofs.solid.next_solid.Given as goal
 
 -- what was passed was blank

@@ -1,4 +1,4 @@
-use Rattle.sip_key.specs.Solid.{solid}
+use Rattle.sip_standard.specs.Solid.{solid}
 use Rattle.sip_key.proofs.SolidLemmas.{same-items}
 use Rattle.sip_key.proofs.solid.same_solid.Goals as goal
 

@@ -1,5 +1,5 @@
 use Rattle.std.proofs.Common.{◌≡◌, take}
-use Rattle.sip_key.specs.Solid.{solid}
+use Rattle.sip_standard.specs.Solid.{solid}
 use Rattle.sip_key.proofs.solid.solid_of.Given as goal
 
 -- what is no blank so far

@@ -1,5 +1,5 @@
 use Rattle.std.proofs.Common.{◌≡◌, ◌+◌, ◌<◌, ◌≤◌, inl, inr, [], length, drop, arith, ap}
-use Rattle.sip_standard.specs.LogFault as faults
+use Rattle.sip_standard.specs.declared.log_reason.LogReason.TheVariants as faults
 use Rattle.sip_log.specs.inner.Entry.{LineComes, HeadComes}
 use Rattle.sip_log.specs.Told.{entry_next}
 use Rattle.sip_log.specs.inner.Window.{items}

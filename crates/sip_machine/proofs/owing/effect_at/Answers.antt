@@ -1,8 +1,8 @@
 use Rattle.std.specs.Prelude.{◌<◌, IfOk}
 use Rattle.std.proofs.Common.{sym, subst}
-use Rattle.sip_machine.specs.MachineEvent.{event_in}
+use Rattle.sip_machine.specs.NumberedEvent.{event_in}
 use Rattle.sip_machine.specs.Rules.{Knows}
-use Rattle.sip_machine.specs.Figure.{TakeOf}
+use Rattle.sip_machine.specs.FigureRules.{TakeOf}
 use Rattle.sip_machine.specs.Owing.{at_rest, owing_seen, owing_names, OwingInRange}
 use Rattle.sip_machine.specs.inner.Both.{AnswersBoth}
 use Rattle.sip_machine.specs.inner.Effects.{given_by}

@@ -4,8 +4,8 @@ use Rattle.sip_standard.specs.declared.action.Action.TheVariants.{Sent, Received
 use Rattle.sip_machine.specs.Limits.{IsWithin}
 use Rattle.sip_machine.specs.Texts.{Keeps}
 use Rattle.sip_machine.specs.Owes.{owed_in, owes_names}
-use Rattle.sip_machine.specs.MachineEvent.{event_in}
-use Rattle.sip_machine.specs.Figure.{until_of}
+use Rattle.sip_machine.specs.NumberedEvent.{event_in}
+use Rattle.sip_machine.specs.FigureRules.{until_of}
 use Rattle.sip_machine.specs.Owing.{state_in, owing_seen}
 use Rattle.sip_machine.specs.inner.DebtLaws.{All-front}
 use Rattle.sip_machine.proofs.steps.OwingSteps.{taken}

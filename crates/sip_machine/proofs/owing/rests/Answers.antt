@@ -1,6 +1,6 @@
 use Rattle.std.proofs.Common.{sym, true≢false, ◌∙◌}
 use Rattle.sip_machine.specs.Texts.{Keeps}
-use Rattle.sip_machine.specs.MachineEvent.{event_in}
+use Rattle.sip_machine.specs.NumberedEvent.{event_in}
 use Rattle.sip_machine.specs.Owes.{owed_in, owes_names}
 use Rattle.sip_machine.specs.inner.DebtLaws.{All-front, All-back}
 use Rattle.sip_machine.proofs.steps.OwingSteps.{rested-stays, rested-pays}

@@ -1,5 +1,4 @@
-use Rattle.std.proofs.Common.{take, map}
-use Rattle.std.proofs.Common.{◌≡◌, ◌++◌}
+use Rattle.std.proofs.Common.{take, map, ◌≡◌, ◌++◌}
 use Rattle.sip_message.specs.inner.Appends.{fields_text}
 use Rattle.sip_message.specs.Views.{field_parts}
 use Rattle.sip_message.proofs.canon.append_fields.Given as goal

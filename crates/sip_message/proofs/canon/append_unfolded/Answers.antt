@@ -1,5 +1,5 @@
 use Rattle.std.proofs.Common.{sym, ◌∙◌, subst}
-use Rattle.sip_message.specs.Unfold.{unfolded}
+use Rattle.sip_standard.specs.Canonical.{unfolded}
 use Rattle.sip_message.specs.inner.Appends.{Appends}
 use Rattle.sip_message.proofs.lemmas.canon.Spelling.{unfolded-same}
 use Rattle.sip_message.proofs.lemmas.lines.HeadEnd.{inner-none}

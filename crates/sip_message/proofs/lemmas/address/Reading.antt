@@ -15,7 +15,7 @@ use Rattle.sip_text.specs.inner.Cut.{before, behind, past}
 use Rattle.sip_text.proofs.cuts.CutLemmas.{cut-whole, past-some, before-led, behind-led}
 use Rattle.sip_text.proofs.texts.ManyLemmas.{some-many}
 use Rattle.sip_text.proofs.texts.LacksLemmas.{Lacks}
-use Rattle.sip_message.specs.Unfold.{is_blank}
+use Rattle.sip_standard.specs.Field.{is_lws_byte}
 use Rattle.sip_message.specs.Params.{left_angle, right_angle, Mark, ParamsPart, BehindBlanks}
 use Rattle.sip_message.specs.Address.{AddressParts, AddressText, name_addr, addr_spec, BeforeUri, DisplayName}
 use Rattle.sip_message.specs.inner.Fronts.{Stops, Behind, IsOnlyBehind, both}
@@ -73,7 +73,7 @@ no_scheme b t token apart (c ∷ s, rest, all, whole) =
 abbrev is_scheme_front : ℕ → Bool
 is_scheme_front b = is_token_byte b || nat_eq b colon
 
-blank-front : (b : ℕ) → is_blank b ≡ true → is_scheme_front b ≡ false
+blank-front : (b : ℕ) → is_lws_byte b ≡ true → is_scheme_front b ≡ false
 blank-front = blank_is (λ b. is_scheme_front b ≡ false) refl refl refl refl
 
 fails-more : (test : ℕ → Bool) (u v : List ℕ) → Fails test u → Fails test (u ++ v)
@@ -286,16 +286,16 @@ display-fits (Some name) text inner (rest, inl quoted, behind) = inl quoted.0
 display-fits (Some name) text inner (rest, inr words, behind) = inr words.0
 
 -- a byte of a URI without "<"
-not-plain : (b : ℕ) → is_blank b ≡ true → is_unmarked_byte b ≡ false
+not-plain : (b : ℕ) → is_lws_byte b ≡ true → is_unmarked_byte b ≡ false
 not-plain = blank_is (λ b. is_unmarked_byte b ≡ false) refl refl refl refl
 
-plain-all : (u : List ℕ) → All (λ b. not (is_blank b)) u → All (λ b. not (is_one_of (codes ",?;") b)) u → All is_unmarked_byte u
+plain-all : (u : List ℕ) → All (λ b. not (is_lws_byte b)) u → All (λ b. not (is_one_of (codes ",?;") b)) u → All is_unmarked_byte u
 plain-all [] solid other = tt
-plain-all (b ∷ u) solid other = (and_from (not (is_blank b)) (not (is_one_of (codes ",?;") b)) solid.0 other.0, plain-all u solid.1 other.1)
+plain-all (b ∷ u) solid other = (and_from (not (is_lws_byte b)) (not (is_one_of (codes ",?;") b)) solid.0 other.0, plain-all u solid.1 other.1)
 
 all-other : (u : List ℕ) → All is_unmarked_byte u → All (λ b. not (is_one_of (codes ",?;") b)) u
 all-other [] all = tt
-all-other (b ∷ u) all = ((and_parts (not (is_blank b)) (not (is_one_of (codes ",?;") b)) all.0).1, all-other u all.1)
+all-other (b ∷ u) all = ((and_parts (not (is_lws_byte b)) (not (is_one_of (codes ",?;") b)) all.0).1, all-other u all.1)
 
 fails-plain : (u : List ℕ) → Fails is_unmarked_byte u → Stops is_unmarked_byte u
 fails-plain [] fails = absurd fails

@@ -13,12 +13,13 @@ use Rattle.sip_message.specs.declared.name.Known.TheVariants as known_name
 use Rattle.sip_message.specs.Name.{known, is_name_of}
 use Rattle.sip_message.specs.Field.{Field, Row}
 use Rattle.sip_message.specs.Elements.{values}
-use Rattle.sip_message.specs.Reading.{IsValueOf, CSeqValue}
+use Rattle.sip_message.specs.Reading.{CSeqValue}
 use Rattle.sip_message.specs.ViaParts.{element}
 use Rattle.sip_message.specs.ValueParts.{cseq_parts}
 use Rattle.sip_message.specs.inner.ElementFronts.{FirstVia}
 use Rattle.sip_message.specs.inner.Kept.{SaysFirst, KeptOf, KeepsMore}
 use Rattle.sip_message.proofs.lemmas.via.Value.{first-none}
+use Rattle.sip_standard.specs.Says.{IsFirstOf}
 
 -- the values with a further field
 values-more : (k : Known) (fields : List Field) (f : Field) → values k (fields ++ f ∷ []) ≡ values k fields ++ values k (f ∷ [])
@@ -102,21 +103,21 @@ some-is R parts o a x o_is is said =
     some-same x y same = cc
 
 -- where there is a Via, an element is kept
-pub via-some : (fields : List Field) (kept : Kept) (text : List ℕ) → KeptOf fields kept → IsValueOf known_name.Via fields text → IsSome kept.via
+pub via-some : (fields : List Field) (kept : Kept) (text : List ℕ) → KeptOf fields kept → IsFirstOf (values known_name.Via fields) text → IsSome kept.via
 via-some fields kept text of first = let said = says-some FirstVia element _ first.0 text kept.via of.via first.1 in is-some element kept.via said.0 said.2
 
 -- and it is the top one
-pub via-is : (fields : List Field) (kept : Kept) (text : List ℕ) (v : Via) → KeptOf fields kept → IsValueOf known_name.Via fields text → kept.via ≡ Some v → FirstVia text (element v)
+pub via-is : (fields : List Field) (kept : Kept) (text : List ℕ) (v : Via) → KeptOf fields kept → IsFirstOf (values known_name.Via fields) text → kept.via ≡ Some v → FirstVia text (element v)
 via-is fields kept text v of first is =
     let said = says-some FirstVia element _ first.0 text kept.via of.via first.1 in
     some-is (FirstVia text) element kept.via v said.0 is said.2 said.1
 
 -- where there is a CSeq, a value is kept
-pub cseq-some : (fields : List Field) (kept : Kept) (text : List ℕ) → KeptOf fields kept → IsValueOf known_name.CSeq fields text → IsSome kept.cseq
+pub cseq-some : (fields : List Field) (kept : Kept) (text : List ℕ) → KeptOf fields kept → IsFirstOf (values known_name.CSeq fields) text → IsSome kept.cseq
 cseq-some fields kept text of first = let said = says-some CSeqValue cseq_parts _ first.0 text kept.cseq of.cseq first.1 in is-some cseq_parts kept.cseq said.0 said.2
 
 -- and it is that of the field
-pub cseq-is : (fields : List Field) (kept : Kept) (text : List ℕ) (c : CSeq) → KeptOf fields kept → IsValueOf known_name.CSeq fields text → kept.cseq ≡ Some c → CSeqValue text (cseq_parts c)
+pub cseq-is : (fields : List Field) (kept : Kept) (text : List ℕ) (c : CSeq) → KeptOf fields kept → IsFirstOf (values known_name.CSeq fields) text → kept.cseq ≡ Some c → CSeqValue text (cseq_parts c)
 cseq-is fields kept text c of first is =
     let said = says-some CSeqValue cseq_parts _ first.0 text kept.cseq of.cseq first.1 in
     some-is (CSeqValue text) cseq_parts kept.cseq c said.0 is said.2 said.1

@@ -7,13 +7,14 @@ use Rattle.sip_message.specs.Address.{AddressParts, AddressText}
 use Rattle.sip_message.specs.Field.{Field}
 use Rattle.sip_message.specs.inner.Fronts.{Behind, MarkFront}
 use Rattle.sip_message.specs.Elements.{Element, MoreElements, ElementsText, AreElements, values}
-use Rattle.sip_message.specs.Reading.{IsValueOf, AddressValue, CSeqValue, Parts, HasParts}
+use Rattle.sip_message.specs.Reading.{AddressValue, CSeqValue, Parts, HasParts}
 use Rattle.sip_message.proofs.lemmas.front.Cuts.{mark-parts, same-behind}
 use Rattle.sip_message.proofs.lemmas.via.Elements.{more-mark, no_mark-nil, ends-more}
 use Rattle.sip_message.proofs.lemmas.message.Views.{same-value}
 use Rattle.sip_message.proofs.lemmas.value.CSeq.{same-cseq}
 use Rattle.sip_message.proofs.lemmas.via.Steps.{one-via}
 use Rattle.sip_message.proofs.lemmas.address.Reading.{one-address}
+use Rattle.sip_standard.specs.Says.{IsFirstOf}
 
 -- after a comma stands one text
 same-mark : (text r s : List ℕ) → MarkFront comma text r → MarkFront comma text s → r ≡ s
@@ -58,7 +59,7 @@ same-elements [] es fs a b = a ∙ sym b
 same-elements (text ∷ texts) es fs (now, more, is, are, whole) (now_too, more_too, is_too, are_too, whole_too) =
     whole ∙ ap (λ t. t ++ more) (same-now text now now_too is is_too) ∙ ap (λ t. now_too ++ t) (same-elements texts more more_too are are_too) ∙ sym whole_too
 
-same-address : (known : Known) (fields : List Field) (a b : List ℕ × AddressParts) → (text : List ℕ) × IsValueOf known fields text × AddressValue text a → (text : List ℕ) × IsValueOf known fields text × AddressValue text b → a ≡ b
+same-address : (known : Known) (fields : List Field) (a b : List ℕ × AddressParts) → (text : List ℕ) × IsFirstOf (values known fields) text × AddressValue text a → (text : List ℕ) × IsFirstOf (values known fields) text × AddressValue text b → a ≡ b
 same-address known fields (w, a) (x, b) (t, t_is, (a_is, w_is)) (u, u_is, (b_is, x_is)) =
     let same : u ≡ t = same-value known fields u_is t_is in
     let parts : a ≡ b = one-address t a b a_is (subst (λ y. AddressText y b) same b_is) in

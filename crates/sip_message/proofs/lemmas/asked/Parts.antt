@@ -10,8 +10,9 @@ use Rattle.sip_message.specs.Name.{FieldName, known, other, name_of, long_name, 
 use Rattle.sip_message.specs.Field.{Field, Row}
 use Rattle.sip_message.specs.Message.{Message, found_from, IsFirstFound, MessageText}
 use Rattle.sip_message.specs.Elements.{Element, MoreElements, ElementsText, AreElements, values}
-use Rattle.sip_message.specs.Reading.{IsValueOf, Parts, HasParts}
+use Rattle.sip_message.specs.Reading.{Parts, HasParts}
 use Rattle.sip_message.proofs.lemmas.canon.Law.{fields-rows}
+use Rattle.sip_standard.specs.Says.{IsFirstOf}
 
 -- a name is the one that its long form spells
 spelled-known : (k : Known) → name_of (long_name k) ≡ known k
@@ -52,7 +53,7 @@ found-values n k (f ∷ fs) = at (is_name_of k f.name) (found-values (n + 1) k f
     at false later = later
 
 -- the first field of a name has its first value
-pub first-value : (k : Known) (fs : List Field) (one : ℕ × List ℕ) → IsFirstFound k fs one → IsValueOf k fs (one.1)
+pub first-value : (k : Known) (fs : List Field) (one : ℕ × List ℕ) → IsFirstFound k fs one → IsFirstOf (values k fs) (one.1)
 first-value k fs one first = (map (λ x. x.1) first.0, found-values 1 k fs ∙ ap (map (λ x. x.1)) first.1)
 
 -- further elements of the grammar
@@ -83,7 +84,7 @@ first-elements text texts rows =
     (now.0, now.1 ++ later.0, (now.0 ∷ now.1, later.0, now.2, later.1, refl))
 
 -- a value of the name, of its row
-pub row-of : (k : Known) (fs : List Field) (text : List ℕ) → AllByRecursion (λ f. Row f.name f.value) fs → IsValueOf k fs text → Row (known k) text
+pub row-of : (k : Known) (fs : List Field) (text : List ℕ) → AllByRecursion (λ f. Row f.name f.value) fs → IsFirstOf (values k fs) text → Row (known k) text
 row-of k fs text rows is = (subst (AllByRecursion (Row (known k))) is.1 (row-values k fs rows)).0
 
 -- a message has parts

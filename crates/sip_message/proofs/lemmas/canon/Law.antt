@@ -3,9 +3,8 @@ use Rattle.std.proofs.Common.{◌≡◌, ℕ, ◌+◌, ◌≤◌, ◌<◌, Bool,
 use Rattle.std.specs.Prelude.{is_some, get_or, ◌^◌, codes, decimal, IsTrue, bytes_eq}
 use Rattle.std.specs.Char.{is_ascii_digit}
 use Rattle.std.specs.Str.Parse.{digits_value}
-use Rattle.std.specs.List.{AllByRecursion, concat, flat_map}
+use Rattle.std.specs.List.{AllByRecursion, concat, flat_map, list_all}
 use Rattle.std.proofs.lemmas.Bool.{both_ways, and_from, and_parts, eqb-true}
-use Rattle.std.specs.List.{list_all}
 use Rattle.std.proofs.lemmas.Str.Parse.{numerals_by_value, tells_all_ascii_digits}
 use Rattle.std.proofs.lemmas.Fmt.{decimal-digits_value}
 use Rattle.std.proofs.lemmas.Int.Digits.{digits_value-lt}
@@ -23,15 +22,17 @@ use Rattle.sip_message.specs.declared.name.Known.{Known}
 use Rattle.sip_message.specs.declared.name.Known.TheVariants as known_name
 use Rattle.sip_standard.specs.Lines.{OpensBlank}
 use Rattle.sip_message.specs.Lines.{is_inner_byte, with_end}
-use Rattle.sip_message.specs.Unfold.{is_blank, OpensSolid, EndsSolid, unfolded}
+use Rattle.sip_message.specs.Unfold.{OpensSolid, EndsSolid}
+use Rattle.sip_standard.specs.Field.{is_lws_byte}
+use Rattle.sip_standard.specs.Canonical.{unfolded, start_text}
 use Rattle.sip_message.specs.Name.{FieldName, known, other, spellings, name_by, name_of, long_name, name_text, is_name_of}
 use Rattle.sip_standard.specs.StartLine.{StartLine, request, status}
 use Rattle.sip_message.specs.StartLine.{StartText, CodeText, is_reason_byte}
 use Rattle.sip_message.specs.Values.{Digits}
 use Rattle.sip_message.specs.Field.{Field, Row, FieldText, FieldsText}
-use Rattle.sip_standard.specs.Body.{length_in}
-use Rattle.sip_message.specs.Message.{Message, found_from, found, HasField, IsNotTwice, IsStream, MethodFits, is_stream, content_length, IsEnough, IsNoMore, cut_body, MessageFits, MessageText, unfolded_field, message_of, Spells}
-use Rattle.sip_message.specs.Canon.{start_text, field_text, canon}
+use Rattle.sip_standard.specs.Body.{length_in, cut_body}
+use Rattle.sip_message.specs.Message.{Message, found_from, found, HasField, IsNotTwice, IsStream, MethodFits, is_stream, content_length, IsEnough, IsNoMore, MessageFits, MessageText, unfolded_field, message_of, Spells}
+use Rattle.sip_message.specs.Canon.{field_text, canon}
 use Rattle.sip_message.proofs.lemmas.text.Cuts.{All, all_both}
 use Rattle.sip_message.proofs.lemmas.text.Each.{each-many, each-one, each-between, is_solid, solid_class, wsp-blank}
 use Rattle.sip_message.proofs.lemmas.field.OneWay.{each-token, blank-token}
@@ -63,14 +64,14 @@ ends-part [] b z ends = ends
 ends-part (a ∷ []) b z ends = ends
 ends-part (a ∷ c ∷ u) b z ends = ends-part (c ∷ u) b z ends
 
-ends_no_blank : (u : List ℕ) (b : ℕ) (z : List ℕ) → EndsSolid (u ++ b ∷ z) → All is_blank (b ∷ z) → ⊥
-ends_no_blank [] b [] ends all = both_ways (is_blank b) ends all.0
+ends_no_blank : (u : List ℕ) (b : ℕ) (z : List ℕ) → EndsSolid (u ++ b ∷ z) → All is_lws_byte (b ∷ z) → ⊥
+ends_no_blank [] b [] ends all = both_ways (is_lws_byte b) ends all.0
 ends_no_blank [] b (c ∷ z) ends all = ends_no_blank [] c z ends all.1
 ends_no_blank (a ∷ []) b z ends all = ends_no_blank [] b z ends all
 ends_no_blank (a ∷ c ∷ u) b z ends all = ends_no_blank (c ∷ u) b z ends all
 
 closed-trimmed : Closed Trimmed
-closed-trimmed [] v b w ends opens blanks is = absurd (both_ways (is_blank b) is.0 blanks.0)
+closed-trimmed [] v b w ends opens blanks is = absurd (both_ways (is_lws_byte b) is.0 blanks.0)
 closed-trimmed (a ∷ u) [] b w ends opens blanks is =
     absurd (ends_no_blank (a ∷ u) b w (subst EndsSolid (ap (λ t. a ∷ (u ++ t)) (append-nil (b ∷ w))) is.1) blanks)
 closed-trimmed (a ∷ u) (c ∷ v) b w ends opens blanks is =

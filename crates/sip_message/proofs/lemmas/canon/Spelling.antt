@@ -7,7 +7,8 @@ use Rattle.sip_text.specs.Bytes.{crlf, carriage_return, line_feed, space, is_wsp
 use Rattle.sip_text.proofs.texts.ManyLemmas.{many-nil, many-cons, many-append, many-one}
 use Rattle.sip_standard.specs.Lines.{CutSays}
 use Rattle.sip_message.specs.Lines.{is_inner_byte, HasNoBareEnd, IsFolded, with_end}
-use Rattle.sip_message.specs.Unfold.{is_end_byte, is_blank, unfolded_run, unfolded_from, unfolded}
+use Rattle.sip_standard.specs.Field.{is_lws_byte}
+use Rattle.sip_standard.specs.Canonical.{is_end_byte, unfolded_run, unfolded_from, unfolded}
 use Rattle.sip_message.proofs.lemmas.text.Cuts.{Cuts, first_longer, same_length, second_longer, two_cuts, All, all_right, all_both}
 
 -- bytes that are no line ends
@@ -41,7 +42,7 @@ run-inner run = at (list_any is_end_byte run) refl
     at false is = each run is
 
 -- a solid byte is no line end
-pub solid-inner : (b : ℕ) → is_blank b ≡ false → is_inner_byte b ≡ true
+pub solid-inner : (b : ℕ) → is_lws_byte b ≡ false → is_inner_byte b ≡ true
 solid-inner b is = at (is_wsp b) (nat_eq b carriage_return) (nat_eq b line_feed) is
   where
     at : (x y z : Bool) → (x || (y || z)) ≡ false → (not y && not z) ≡ true
@@ -53,9 +54,9 @@ solid-inner b is = at (is_wsp b) (nat_eq b carriage_return) (nat_eq b line_feed)
 -- an unfolded text has no line end
 from-inner : (text run : List ℕ) → Inner (unfolded_from run text)
 from-inner [] run = run-inner run
-from-inner (b ∷ text) run = at (is_blank b) refl (from-inner text (run ++ b ∷ [])) (from-inner text [])
+from-inner (b ∷ text) run = at (is_lws_byte b) refl (from-inner text (run ++ b ∷ [])) (from-inner text [])
   where
-    at : (blank : Bool) → is_blank b ≡ blank → Inner (unfolded_from (run ++ b ∷ []) text) → Inner (unfolded_from [] text) → Inner (cond blank (unfolded_from (run ++ b ∷ []) text) (unfolded_run run ++ b ∷ unfolded_from [] text))
+    at : (blank : Bool) → is_lws_byte b ≡ blank → Inner (unfolded_from (run ++ b ∷ []) text) → Inner (unfolded_from [] text) → Inner (cond blank (unfolded_from (run ++ b ∷ []) text) (unfolded_run run ++ b ∷ unfolded_from [] text))
     at true is left right = left
     at false is left right = all_both is_inner_byte (unfolded_run run) (b ∷ unfolded_from [] text) (run-inner run) (solid-inner b is, right)
 
@@ -79,7 +80,7 @@ inner-run run inner = ap (λ folds. cond folds (space ∷ []) run) (none run inn
 -- a text without a line end is as it is
 from-same : (text run : List ℕ) → Inner run → Inner text → unfolded_from run text ≡ run ++ text
 from-same [] run inner all = inner-run run inner ∙ sym (append-nil run)
-from-same (b ∷ text) run inner all = at (is_blank b) (from-same text (run ++ b ∷ []) (all_both is_inner_byte run (b ∷ []) inner (all.0, tt)) all.1) (from-same text [] tt all.1)
+from-same (b ∷ text) run inner all = at (is_lws_byte b) (from-same text (run ++ b ∷ []) (all_both is_inner_byte run (b ∷ []) inner (all.0, tt)) all.1) (from-same text [] tt all.1)
   where
     at : (blank : Bool) → unfolded_from (run ++ b ∷ []) text ≡ (run ++ b ∷ []) ++ text → unfolded_from [] text ≡ text → cond blank (unfolded_from (run ++ b ∷ []) text) (unfolded_run run ++ b ∷ unfolded_from [] text) ≡ run ++ b ∷ text
     at true left right = left ∙ append_assoc run (b ∷ []) text

@@ -5,7 +5,8 @@ use Rattle.std.specs.Char.{is_ascii_digit}
 use Rattle.std.proofs.lemmas.Bool.{both_ways, and_from, le-leb}
 use Rattle.std.proofs.lemmas.List.{append-nil, append_assoc, drop_more, length-drop, take_more, get_or-drop}
 use Rattle.std.proofs.lemmas.Str.{digit_value_digit}
-use Rattle.sip_message.specs.Unfold.{is_blank, unfolded_run, unfolded_from, unfolded}
+use Rattle.sip_standard.specs.Field.{is_lws_byte}
+use Rattle.sip_standard.specs.Canonical.{unfolded_run, unfolded_from, unfolded}
 use Rattle.sip_message.specs.StartLine.{CodeText}
 use Rattle.sip_message.specs.inner.Appends.{Appends}
 use Rattle.sip_message.proofs.lemmas.canon.Law.{code-decimal}
@@ -28,7 +29,7 @@ run-more text from at low below =
     ∙ ap (λ b. take (at - from) (drop from text) ++ b ∷ []) (get_or-drop from text (at - from) 0 ∙ ap (λ n. get_or text n 0) (omega (arith, low)))
 
 -- a blank joins the run
-pub unfold-blank : (old text out : List ℕ) (from at : ℕ) → at < length text → is_blank (get_or text at 0) ≡ true → Unfolding old text from at out → Unfolding old text from (at + 1) out
+pub unfold-blank : (old text out : List ℕ) (from at : ℕ) → at < length text → is_lws_byte (get_or text at 0) ≡ true → Unfolding old text from at out → Unfolding old text from (at + 1) out
 unfold-blank old text out from at below blank u = record {
   done = u.done;
   appended = u.appended;
@@ -45,7 +46,7 @@ unfold-blank old text out from at below blank u = record {
         ∙ ap (λ b. cond b (unfolded_from (run ++ get_or text at 0 ∷ []) (drop (at + 1) text)) (unfolded_run run ++ get_or text at 0 ∷ unfolded_from [] (drop (at + 1) text))) blank
 
 -- another byte is written after the run
-pub unfold-solid : (old text out mid new : List ℕ) (from at : ℕ) → at < length text → is_blank (get_or text at 0) ≡ false → Unfolding old text from at out → mid ≡ out ++ unfolded_run (take (at - from) (drop from text)) → new ≡ mid ++ get_or text at 0 ∷ [] → Unfolding old text (at + 1) (at + 1) new
+pub unfold-solid : (old text out mid new : List ℕ) (from at : ℕ) → at < length text → is_lws_byte (get_or text at 0) ≡ false → Unfolding old text from at out → mid ≡ out ++ unfolded_run (take (at - from) (drop from text)) → new ≡ mid ++ get_or text at 0 ∷ [] → Unfolding old text (at + 1) (at + 1) new
 unfold-solid old text out mid new from at below solid u mid_is new_is = record {
   done = u.done ++ (unfolded_run run ++ get_or text at 0 ∷ []);
   appended =

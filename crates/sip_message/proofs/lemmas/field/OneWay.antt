@@ -6,7 +6,8 @@ use Rattle.sip_standard.specs.Profile.{Token}
 use Rattle.sip_text.specs.Bytes.{colon, is_wsp, is_token_byte}
 use Rattle.sip_message.specs.Name.{FieldName, name_of}
 use Rattle.sip_message.specs.Field.{NameText, ValueText}
-use Rattle.sip_message.specs.Unfold.{is_blank, OpensSolid, EndsSolid}
+use Rattle.sip_message.specs.Unfold.{OpensSolid, EndsSolid}
+use Rattle.sip_standard.specs.Field.{is_lws_byte}
 use Rattle.sip_message.proofs.lemmas.text.Cuts.{Cuts, first_longer, same_length, second_longer, two_cuts, same_front, Stops, All, all_left, all_right, all_both}
 use Rattle.sip_message.proofs.lemmas.text.Each.{Each, each-one, each-some, each-many, each-sws, blank_is, wsp-blank}
 
@@ -15,7 +16,7 @@ pub each-token : Each is_token_byte Token
 each-token = each-some is_token_byte _ (each-one is_token_byte is_token_byte (λ b is. is))
 
 -- no blank is a byte of a token
-pub blank-token : (b : ℕ) → is_blank b ≡ true → is_token_byte b ≡ false
+pub blank-token : (b : ℕ) → is_lws_byte b ≡ true → is_token_byte b ≡ false
 blank-token = blank_is (λ b. is_token_byte b ≡ false) refl refl refl refl
 
 -- WSP in a row
@@ -48,22 +49,22 @@ same_name line r s n m one other =
     (one.name_is ∙ ap name_of names.0 ∙ sym other.name_is, cc)
 
 -- a text that ends with a blank does not end solid
-pub ends_blank : (u : List ℕ) (b : ℕ) (z : List ℕ) → EndsSolid (u ++ b ∷ z) → All is_blank (b ∷ z) → ⊥
-ends_blank [] b [] ends all = both_ways (is_blank b) ends all.0
+pub ends_blank : (u : List ℕ) (b : ℕ) (z : List ℕ) → EndsSolid (u ++ b ∷ z) → All is_lws_byte (b ∷ z) → ⊥
+ends_blank [] b [] ends all = both_ways (is_lws_byte b) ends all.0
 ends_blank [] b (c ∷ z) ends all = ends_blank [] c z ends all.1
 ends_blank (a ∷ []) b z ends all = ends_blank [] b z ends all
 ends_blank (a ∷ c ∷ u) b z ends all = ends_blank (c ∷ u) b z ends all
 
 -- texts that end solid, before blanks, are the same
-pub same_solid : (u v x y : List ℕ) → EndsSolid u → EndsSolid x → All is_blank v → All is_blank y → u ++ v ≡ x ++ y → u ≡ x
+pub same_solid : (u v x y : List ℕ) → EndsSolid u → EndsSolid x → All is_lws_byte v → All is_lws_byte y → u ++ v ≡ x ++ y → u ≡ x
 same_solid u v x y us xs vs ys same = at (two_cuts u v x y same)
   where
     at : Cuts u v x y → u ≡ x
     at (same_length left right) = left
     at (first_longer b z longer is) =
-        absurd (ends_blank x b z (subst EndsSolid longer us) (all_left is_blank (b ∷ z) v (subst (All is_blank) is ys)))
+        absurd (ends_blank x b z (subst EndsSolid longer us) (all_left is_lws_byte (b ∷ z) v (subst (All is_lws_byte) is ys)))
     at (second_longer b z longer is) =
-        absurd (ends_blank u b z (subst EndsSolid longer xs) (all_left is_blank (b ∷ z) y (subst (All is_blank) is vs)))
+        absurd (ends_blank u b z (subst EndsSolid longer xs) (all_left is_lws_byte (b ∷ z) y (subst (All is_lws_byte) is vs)))
 
 -- a value between blanks
 value_whole : (rest value : List ℕ) (v : ValueText rest value) → rest ≡ v.whole.0 ++ (value ++ v.whole.3.1)
@@ -76,25 +77,25 @@ pub same_value : (rest value other : List ℕ) → ValueText rest value → Valu
 same_value rest value other one two =
     at value other one.opens one.ends two.opens two.ends (sym (value_whole rest value one) ∙ value_whole rest other two)
   where
-    front : All is_blank one.whole.0
+    front : All is_lws_byte one.whole.0
     front = each-sws _ one.whole.2
 
-    front_too : All is_blank two.whole.0
+    front_too : All is_lws_byte two.whole.0
     front_too = each-sws _ two.whole.2
 
-    back : All is_blank one.whole.3.1
+    back : All is_lws_byte one.whole.3.1
     back = each-sws _ one.whole.3.3
 
-    back_too : All is_blank two.whole.3.1
+    back_too : All is_lws_byte two.whole.3.1
     back_too = each-sws _ two.whole.3.3
 
     at : (v w : List ℕ) → OpensSolid v → EndsSolid v → OpensSolid w → EndsSolid w → one.whole.0 ++ (v ++ one.whole.3.1) ≡ two.whole.0 ++ (w ++ two.whole.3.1) → v ≡ w
     at [] [] vo ve wo we same = refl
     at [] (b ∷ w) vo ve wo we same =
-        let all : All is_blank (two.whole.0 ++ (b ∷ w ++ two.whole.3.1)) = subst (All is_blank) same (all_both is_blank one.whole.0 one.whole.3.1 front back) in
-        absurd (both_ways (is_blank b) wo (all_right is_blank two.whole.0 (b ∷ w ++ two.whole.3.1) all).0)
+        let all : All is_lws_byte (two.whole.0 ++ (b ∷ w ++ two.whole.3.1)) = subst (All is_lws_byte) same (all_both is_lws_byte one.whole.0 one.whole.3.1 front back) in
+        absurd (both_ways (is_lws_byte b) wo (all_right is_lws_byte two.whole.0 (b ∷ w ++ two.whole.3.1) all).0)
     at (b ∷ v) [] vo ve wo we same =
-        let all : All is_blank (one.whole.0 ++ (b ∷ v ++ one.whole.3.1)) = subst (All is_blank) (sym same) (all_both is_blank two.whole.0 two.whole.3.1 front_too back_too) in
-        absurd (both_ways (is_blank b) vo (all_right is_blank one.whole.0 (b ∷ v ++ one.whole.3.1) all).0)
+        let all : All is_lws_byte (one.whole.0 ++ (b ∷ v ++ one.whole.3.1)) = subst (All is_lws_byte) (sym same) (all_both is_lws_byte two.whole.0 two.whole.3.1 front_too back_too) in
+        absurd (both_ways (is_lws_byte b) vo (all_right is_lws_byte one.whole.0 (b ∷ v ++ one.whole.3.1) all).0)
     at (b ∷ v) (c ∷ w) vo ve wo we same =
-        same_solid (b ∷ v) one.whole.3.1 (c ∷ w) two.whole.3.1 ve we back back_too (same_front is_blank one.whole.0 _ two.whole.0 _ front front_too vo wo same).1
+        same_solid (b ∷ v) one.whole.3.1 (c ∷ w) two.whole.3.1 ve we back back_too (same_front is_lws_byte one.whole.0 _ two.whole.0 _ front front_too vo wo same).1

@@ -13,7 +13,7 @@ use Rattle.sip_text.specs.inner.Cut.{past}
 use Rattle.sip_text.specs.inner.Blanks.{Blank, blank_len}
 use Rattle.sip_text.proofs.texts.ManyLemmas.{front-rest, many-nil, many-push, same_many}
 use Rattle.sip_text.proofs.strings.BlanksLemmas.{units-blanks, blanks-units, blank-step, blanks-longest}
-use Rattle.sip_message.specs.Unfold.{is_blank}
+use Rattle.sip_standard.specs.Field.{is_lws_byte}
 use Rattle.sip_message.specs.inner.Fronts.{Stops, StopsBlank, Behind, IsOnlyBehind, TokenFront, MarkFront, BlanksFront, Seq, both}
 use Rattle.sip_message.proofs.lemmas.text.Cuts.{same_front}
 use Rattle.sip_message.proofs.lemmas.field.OneWay.{each-token}
@@ -99,7 +99,7 @@ stops-behind text stops =
     (behind, (λ other is. same-behind text other text is behind))
 
 -- after a byte that is no blank stands no blank run
-pub stops-byte : (b : ℕ) (text : List ℕ) → is_blank b ≡ false → StopsBlank (b ∷ text)
+pub stops-byte : (b : ℕ) (text : List ℕ) → is_lws_byte b ≡ false → StopsBlank (b ∷ text)
 stops-byte b text solid = at (is_wsp b) (nat_eq b carriage_return) solid
   where
     at : (x y : Bool) → (x || (y || nat_eq b line_feed)) ≡ false → ◌≡◌ {A = ℕ} (cond x 1 (cond (y && slice_index text 0 == line_feed && is_wsp (slice_index text 1)) 3 0)) 0
@@ -108,7 +108,7 @@ stops-byte b text solid = at (is_wsp b) (nat_eq b carriage_return) solid
     at false false is = refl
 
 -- a mark at the front: blanks, the byte, and blanks
-pub mark-parts : (mark : ℕ) (text rest : List ℕ) → is_blank mark ≡ false → MarkFront mark text rest → (inner : List ℕ) × Behind text (mark ∷ inner) × Behind inner rest
+pub mark-parts : (mark : ℕ) (text rest : List ℕ) → is_lws_byte mark ≡ false → MarkFront mark text rest → (inner : List ℕ) × Behind text (mark ∷ inner) × Behind inner rest
 mark-parts mark text rest solid (stops, (m, r, (s, t, sws, (byte, after, byte_is, after_is, t_is), m_is), r_is, whole)) =
     (after ++ rest, (stops-byte mark (after ++ rest) solid, (s, mark ∷ (after ++ rest), sws, refl, flat)), (stops, (after, rest, after_is, refl, refl)))
   where
@@ -134,13 +134,13 @@ past-cons : (mark : ℕ) (rest : List ℕ) → past mark (mark ∷ rest) ≡ Som
 past-cons mark rest = ap (λ same. cond same (Some rest) None) (eq-eqb mark mark refl)
 
 -- without the byte after the blanks there is no mark
-pub no-mark : (mark : ℕ) (text rest : List ℕ) → is_blank mark ≡ false → IsOnlyBehind text rest → past mark rest ≡ None → (r : List ℕ) → MarkFront mark text r → ⊥
+pub no-mark : (mark : ℕ) (text rest : List ℕ) → is_lws_byte mark ≡ false → IsOnlyBehind text rest → past mark rest ≡ None → (r : List ℕ) → MarkFront mark text r → ⊥
 no-mark mark text rest solid behind missing r front =
     let parts = mark-parts mark text r solid front in
     none-some parts.0 (sym missing ∙ ap (past mark) (sym (behind.1 (mark ∷ parts.0) parts.1)) ∙ past-cons mark parts.0)
 
 -- with it there is one
-pub one-mark : (mark : ℕ) (text rest inner r : List ℕ) → is_blank mark ≡ false → IsOnlyBehind text rest → past mark rest ≡ Some inner → IsOnlyBehind inner r → MarkFront mark text r × ((other : List ℕ) → MarkFront mark text other → other ≡ r)
+pub one-mark : (mark : ℕ) (text rest inner r : List ℕ) → is_lws_byte mark ≡ false → IsOnlyBehind text rest → past mark rest ≡ Some inner → IsOnlyBehind inner r → MarkFront mark text r × ((other : List ℕ) → MarkFront mark text other → other ≡ r)
 one-mark mark text rest inner r solid behind found inside = (
   parts-mark mark text inner r (subst (Behind text) (past-some mark rest inner found) behind.0) inside.0,
   (λ other front.

@@ -2,7 +2,7 @@
 use Rattle.std.proofs.Common.{◌≡◌, ℕ, ◌<◌, ◌≤◌, ◌⊎◌, Bool, true, false, List, [], ◌∷◌, ◌++◌, Some, None, length, refl, sym, ap, ◌∙◌, subst, inl, inr, arith}
 use Rattle.std.proofs.lemmas.Bool.{both_ways}
 use Rattle.std.proofs.lemmas.List.{append_assoc, length-append}
-use Rattle.sip_message.specs.Unfold.{is_blank}
+use Rattle.sip_standard.specs.Field.{is_lws_byte}
 use Rattle.sip_message.specs.Params.{comma, Mark}
 use Rattle.sip_message.specs.inner.Fronts.{Stops, Behind, TokenFront, MarkFront}
 use Rattle.sip_message.specs.inner.ElementFronts.{EndsElement}
@@ -14,11 +14,11 @@ use Rattle.sip_message.proofs.lemmas.via.Elements.{no_mark-nil}
 use Rattle.sip_message.proofs.lemmas.front.OneWay.{AtMostOne, read-one, one-led}
 
 -- without the mark there is no part
-pub led-none : (mark : ℕ) (Part : List ℕ → List ℕ × List ℕ → Type 0) (text : List ℕ) → is_blank mark ≡ false → ((t : List ℕ) → AtMostOne (Part t)) → NotRead (MarkFront mark text) → ReadAs (LedFront mark Part text) (None, text)
+pub led-none : (mark : ℕ) (Part : List ℕ → List ℕ × List ℕ → Type 0) (text : List ℕ) → is_lws_byte mark ≡ false → ((t : List ℕ) → AtMostOne (Part t)) → NotRead (MarkFront mark text) → ReadAs (LedFront mark Part text) (None, text)
 led-none mark Part text solid one none = read-one (LedFront mark Part text) (None, text) (one-led mark Part text solid one) (none, refl)
 
 -- with it there is the part after it
-pub led-some : (mark : ℕ) (Part : List ℕ → List ℕ × List ℕ → Type 0) (text inner part rest : List ℕ) → is_blank mark ≡ false → ((t : List ℕ) → AtMostOne (Part t)) → ReadAs (MarkFront mark text) inner → Part inner (part, rest) → ReadAs (LedFront mark Part text) (Some part, rest)
+pub led-some : (mark : ℕ) (Part : List ℕ → List ℕ × List ℕ → Type 0) (text inner part rest : List ℕ) → is_lws_byte mark ≡ false → ((t : List ℕ) → AtMostOne (Part t)) → ReadAs (MarkFront mark text) inner → Part inner (part, rest) → ReadAs (LedFront mark Part text) (Some part, rest)
 led-some mark Part text inner part rest solid one found is =
     read-one (LedFront mark Part text) (Some part, rest) (one-led mark Part text solid one) (inner, found.0, is)
 
@@ -33,17 +33,17 @@ abbrev pub Next : (ℕ → Bool) → List ℕ → Type 0
 Next these text = (text ≡ []) ⊎ ((b : ℕ) × (inner : List ℕ) × (these b ≡ true) × Behind text (b ∷ inner))
 
 -- where neither these nor blanks pass, a run stops there
-pub next-stops : (these test : ℕ → Bool) (text : List ℕ) → ((b : ℕ) → is_blank b ≡ true → test b ≡ false) → ((b : ℕ) → these b ≡ true → test b ≡ false) → Next these text → Stops test text
+pub next-stops : (these test : ℕ → Bool) (text : List ℕ) → ((b : ℕ) → is_lws_byte b ≡ true → test b ≡ false) → ((b : ℕ) → these b ≡ true → test b ≡ false) → Next these text → Stops test text
 next-stops these test text blank other (inl none) = subst (Stops test) (sym none) tt
 next-stops these test text blank other (inr (b, inner, is, (stops, (u, v, sws, v_is, whole)))) =
     subst (Stops test) (sym (whole ∙ ap (λ x. u ++ x) v_is)) (at u (each-sws u sws))
   where
-    at : (t : List ℕ) → All is_blank t → Stops test (t ++ (b ∷ inner))
+    at : (t : List ℕ) → All is_lws_byte t → Stops test (t ++ (b ∷ inner))
     at [] all = other b is
     at (c ∷ t) all = blank c all.0
 
 -- no other mark stands there
-pub next-other : (these : ℕ → Bool) (mark : ℕ) (text : List ℕ) → is_blank mark ≡ false → these mark ≡ false → Next these text → NotRead (MarkFront mark text)
+pub next-other : (these : ℕ → Bool) (mark : ℕ) (text : List ℕ) → is_lws_byte mark ≡ false → these mark ≡ false → Next these text → NotRead (MarkFront mark text)
 next-other these mark text solid fails (inl none) rest is = no_mark-nil mark rest (subst (λ t. MarkFront mark t rest) none is)
 next-other these mark text solid fails (inr (b, inner, pass, behind)) rest is =
     let parts = mark-parts mark text rest solid is in
@@ -52,7 +52,7 @@ next-other these mark text solid fails (inr (b, inner, pass, behind)) rest is =
     both_ways (these mark) fails (ap these bytes ∙ pass)
 
 -- a mark's byte stands after blanks
-pub mark-behind : (mark : ℕ) (m z : List ℕ) → is_blank mark ≡ false → Mark mark m → (inner : List ℕ) × Behind (m ++ z) (mark ∷ inner)
+pub mark-behind : (mark : ℕ) (m z : List ℕ) → is_lws_byte mark ≡ false → Mark mark m → (inner : List ℕ) × Behind (m ++ z) (mark ∷ inner)
 mark-behind mark m z solid (s, t, sws, (byte, after, byte_is, after_is, t_is), m_is) =
     (after ++ z, (stops-byte mark (after ++ z) solid, (s, mark ∷ (after ++ z), sws, refl, whole)))
   where
@@ -60,7 +60,7 @@ mark-behind mark m z solid (s, t, sws, (byte, after, byte_is, after_is, t_is), m
     whole = ap (λ x. x ++ z) (m_is ∙ ap (λ x. s ++ x) (t_is ∙ ap (λ x. x ++ after) byte_is)) ∙ append_assoc s (mark ∷ after) z
 
 -- a mark is what may come next
-pub mark-next : (these : ℕ → Bool) (mark : ℕ) (m z : List ℕ) → is_blank mark ≡ false → these mark ≡ true → Mark mark m → Next these (m ++ z)
+pub mark-next : (these : ℕ → Bool) (mark : ℕ) (m z : List ℕ) → is_lws_byte mark ≡ false → these mark ≡ true → Mark mark m → Next these (m ++ z)
 mark-next these mark m z solid pass is = let behind = mark-behind mark m z solid is in inr (mark, behind.0, pass, behind.1)
 
 -- an element ends where these follow, if a comma is of them
@@ -71,7 +71,7 @@ ends-next these text pass (inr (next, mark)) =
     inr (comma, parts.0, pass, parts.1)
 
 -- what is after a mark is shorter
-pub mark-shorter : (mark : ℕ) (text rest : List ℕ) → is_blank mark ≡ false → MarkFront mark text rest → length rest < length text
+pub mark-shorter : (mark : ℕ) (text rest : List ℕ) → is_lws_byte mark ≡ false → MarkFront mark text rest → length rest < length text
 mark-shorter mark text rest solid is =
     let parts = mark-parts mark text rest solid is in
     let outer = parts.1.1 in

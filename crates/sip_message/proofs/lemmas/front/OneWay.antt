@@ -23,7 +23,7 @@ use Rattle.sip_text.proofs.strings.BlanksLemmas.{blanks-lws}
 use Rattle.sip_text.proofs.strings.QuotedLemmas.{item-step}
 use Rattle.sip_text.proofs.hosts.V6Lemmas.{v6-is}
 use Rattle.sip_text.proofs.hosts.HostLemmas.{only-v6, only-v4, only-name, no-host}
-use Rattle.sip_message.specs.Unfold.{is_blank}
+use Rattle.sip_standard.specs.Field.{is_lws_byte}
 use Rattle.sip_message.specs.inner.Fronts.{Behind, TokenFront, MarkFront, BlanksFront, Seq, both}
 use Rattle.sip_message.specs.inner.ParamFronts.{is_bare_byte, BareFront, QuotedFront, BracketFront, ReferenceFront, ValueFront, LedFront}
 use Rattle.sip_message.proofs.lemmas.text.Cuts.{All, same_front, same_by_end}
@@ -55,7 +55,7 @@ one-token text (t, r) (u, s) one other =
     ap (λ x. (x, r)) same.0 ∙ ap (λ x. (u, x)) same.1
 
 -- a mark
-pub one-mark : (mark : ℕ) (text : List ℕ) → is_blank mark ≡ false → AtMostOne (MarkFront mark text)
+pub one-mark : (mark : ℕ) (text : List ℕ) → is_lws_byte mark ≡ false → AtMostOne (MarkFront mark text)
 one-mark mark text solid r s one other =
     let a = mark-parts mark text r solid one in
     let b = mark-parts mark text s solid other in
@@ -68,7 +68,7 @@ pub one-blanks : (text : List ℕ) → AtMostOne (BlanksFront text)
 one-blanks text r s one other = same-blanks text r s one other
 
 -- [ mark part ]
-pub one-led : (mark : ℕ) (Part : List ℕ → List ℕ × List ℕ → Type 0) (text : List ℕ) → is_blank mark ≡ false → ((t : List ℕ) → AtMostOne (Part t)) → AtMostOne (LedFront mark Part text)
+pub one-led : (mark : ℕ) (Part : List ℕ → List ℕ × List ℕ → Type 0) (text : List ℕ) → is_lws_byte mark ≡ false → ((t : List ℕ) → AtMostOne (Part t)) → AtMostOne (LedFront mark Part text)
 one-led mark Part text solid one (None, r) (None, s) a b = ap (λ x. (None, x)) (a.1 ∙ sym b.1)
 one-led mark Part text solid one (None, r) (Some w, s) a b = absurd (a.0 b.0 b.1)
 one-led mark Part text solid one (Some v, r) (None, s) a b = absurd (b.0 a.0 a.1)

@@ -14,8 +14,8 @@ use Rattle.sip_standard.specs.StartLine.{StartLine, request}
 use Rattle.sip_message.specs.Via.{ViaParts, ViasText}
 use Rattle.sip_message.specs.Values.{CSeqText}
 use Rattle.sip_message.specs.Field.{Field}
-use Rattle.sip_standard.specs.Body.{length_in}
-use Rattle.sip_message.specs.Message.{found, content_length, is_stream, IsStream, MethodFits, HasLength, IsEnough, cut_body}
+use Rattle.sip_standard.specs.Body.{length_in, cut_body}
+use Rattle.sip_message.specs.Message.{found, content_length, is_stream, IsStream, MethodFits, HasLength, IsEnough}
 use Rattle.sip_standard.specs.Outcome.{gives, stops, passes, stopped}
 use Rattle.sip_standard.specs.Faults.{fault_in_line, fault_in_body}
 use Rattle.sip_message.specs.inner.Faults.{BodyOf}

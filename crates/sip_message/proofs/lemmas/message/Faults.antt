@@ -6,7 +6,8 @@ use Rattle.sip_standard.specs.Outcome.{gives, passes}
 use Rattle.sip_standard.specs.StartLine.{StartLine}
 use Rattle.sip_message.specs.StartLine.{StartText}
 use Rattle.sip_message.specs.Field.{Field, Row, NameText, ValueText, FieldsText}
-use Rattle.sip_message.specs.Message.{Message, IsFirstFound, MethodFits, HasLength, IsNoMore, MessageFits, MessageText, message_of, Spells, content_length, cut_body, found}
+use Rattle.sip_message.specs.Message.{Message, IsFirstFound, MethodFits, HasLength, IsNoMore, MessageFits, MessageText, message_of, Spells, content_length, found}
+use Rattle.sip_standard.specs.Body.{cut_body}
 use Rattle.sip_standard.specs.Field.{FirstOf, OneOf}
 use Rattle.sip_standard.specs.Lines.{CutSays}
 use Rattle.sip_message.specs.inner.Faults.{HasName, IsValue, FieldOf, FieldsOf, NamesOf, BodyOf, LinesOf, HeadOf, ReadOf}

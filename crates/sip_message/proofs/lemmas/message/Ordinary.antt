@@ -7,14 +7,15 @@ use Rattle.sip_message.specs.declared.name.Known.TheVariants as known_name
 use Rattle.sip_message.specs.declared.start_line.StartLine.{StartLine as Code}
 use Rattle.sip_message.specs.declared.values.CSeq.{CSeq}
 use Rattle.sip_message.specs.declared.via.Via.{Via}
-use Rattle.sip_message.specs.Elements.{Element}
+use Rattle.sip_message.specs.Elements.{Element, values}
 use Rattle.sip_message.specs.Field.{Field}
 use Rattle.sip_message.specs.Message.{found, IsNotTwice}
 use Rattle.sip_standard.specs.Outcome.{gives, passes}
 use Rattle.sip_standard.specs.Field.{OneOf}
 use Rattle.sip_message.specs.inner.Faults.{BodyOf}
-use Rattle.sip_message.specs.Reading.{IsValueOf, CSeqValue}
+use Rattle.sip_message.specs.Reading.{CSeqValue}
 use Rattle.sip_standard.specs.StartLine.{StartLine}
+use Rattle.sip_standard.specs.Says.{IsFirstOf}
 use Rattle.sip_message.specs.ValueParts.{start_parts, cseq_parts}
 use Rattle.sip_message.specs.ViaParts.{element}
 use Rattle.sip_message.specs.inner.Asked.{OnceSays, Itself, AskedOf}
@@ -45,8 +46,8 @@ not-twice k fields None none = omega (arith, ap length none)
 not-twice k fields (Some x) (one, is, says) = omega (arith, ap length is)
 
 -- a value of a name
-value-is : (k : Known) (fields : List Field) (text : List ℕ) (one : ℕ × List ℕ) → found k fields ≡ one ∷ [] → text ≡ one.1 → IsValueOf k fields text
-value-is k fields text one is same = subst (IsValueOf k fields) (sym same) (first-value k fields one ([], is))
+value-is : (k : Known) (fields : List Field) (text : List ℕ) (one : ℕ × List ℕ) → found k fields ≡ one ∷ [] → text ≡ one.1 → IsFirstOf (values k fields) text
+value-is k fields text one is same = subst (IsFirstOf (values k fields)) (sym same) (first-value k fields one ([], is))
 
 pub ordinary-whole : {bytes rest body : List ℕ} {fields : List Field} (start : Code) (a : Asked) (via : Via) (from to call_id : Bor (List ℕ)) (cseq : CSeq) → IsOrdinary bytes (start_parts start) fields rest → AskedOf fields a
     → a.via ≡ Some via → a.from ≡ Some from → a.to ≡ Some to → a.call_id ≡ Some call_id → a.cseq ≡ Some cseq → HasBody start via cseq (option_copied a.content_length) rest body

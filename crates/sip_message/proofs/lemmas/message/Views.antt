@@ -6,16 +6,16 @@ use Rattle.sip_message.specs.declared.name.Known.{Known}
 use Rattle.sip_message.specs.declared.name.Known.TheVariants as known_name
 use Rattle.sip_message.specs.Field.{Field}
 use Rattle.sip_standard.specs.Outcome.{Outcome, gives}
+use Rattle.sip_standard.specs.Says.{IsFirstOf}
 use Rattle.sip_message.specs.Message.{Message, MessageText}
 use Rattle.sip_message.specs.Only.{IsOnly, ExactlyOne, the}
 use Rattle.sip_message.specs.Elements.{Element, values, AreElements}
 use Rattle.sip_message.specs.inner.ElementFronts.{ViaFront}
-use Rattle.sip_message.specs.Reading.{IsValueOf, AddressValue, CSeqValue, Reading, Parts, HasParts, Keeps}
+use Rattle.sip_message.specs.Reading.{AddressValue, CSeqValue, Reading, Parts, HasParts, Keeps}
 use Rattle.sip_message.specs.inner.Codes.{parts_code}
 use Rattle.sip_message.specs.inner.Kept.{KeepsRead}
 use Rattle.sip_message.specs.Reads.{Reads}
-use Rattle.sip_message.proofs.lemmas.message.Faults.{text-read}
-use Rattle.sip_message.proofs.lemmas.message.Faults.{one-read}
+use Rattle.sip_message.proofs.lemmas.message.Faults.{text-read, one-read}
 use Rattle.sip_message.proofs.lemmas.via.Elements.{first-front, One-is}
 
 -- what must be read is read
@@ -28,7 +28,7 @@ pub read-is : {A X : Type 0} (R : List ℕ → X → Type 0) (parts : A → X) (
 read-is R parts text {x = x} r a some read is = sym ((subst (IsOnlyValue R parts text) some read).1 x is)
 
 -- a name has one first value
-pub same-value : (known : Known) (fields : List Field) {a b : List ℕ} → IsValueOf known fields a → IsValueOf known fields b → a ≡ b
+pub same-value : (known : Known) (fields : List Field) {a b : List ℕ} → IsFirstOf (values known fields) a → IsFirstOf (values known fields) b → a ≡ b
 same-value known fields {a = a} {b = b} one other =
     let same : ◌≡◌ {A = List (List ℕ)} (a ∷ one.0) (b ∷ other.0) = sym one.1 ∙ other.1 in
     cc

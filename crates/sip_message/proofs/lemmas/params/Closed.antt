@@ -8,7 +8,8 @@ use Rattle.sip_standard.specs.Profile.{Token, Lws, Blanks, Sws, Hexseq, Ipv6, Br
 use Rattle.sip_text.specs.Bytes.{space, semicolon, equals, dquote, colon, is_token_byte, Byte}
 use Rattle.sip_text.specs.inner.Pieces.{Qdtext, QuotedPair, Hex4, Hexpart}
 use Rattle.sip_text.proofs.texts.ManyLemmas.{many-nil, many-cons}
-use Rattle.sip_message.specs.Unfold.{is_blank, OpensSolid, EndsSolid}
+use Rattle.sip_message.specs.Unfold.{OpensSolid, EndsSolid}
+use Rattle.sip_standard.specs.Field.{is_lws_byte}
 use Rattle.sip_standard.specs.Via.{GenValue}
 use Rattle.sip_message.specs.Params.{Mark, ParamText, ParamsText, ParamsPart, BehindBlanks}
 use Rattle.sip_message.proofs.lemmas.text.Cuts.{All}
@@ -231,9 +232,9 @@ TailSet Ok text =
     (part : List ℕ) × (ps : List (List ℕ × Option (List ℕ))) × ParamsPart part ps × AllOk Ok ps × BehindBlanks part text
 
 -- blanks before what begins solid are none
-no_blanks : (u v : List ℕ) → All is_blank u → OpensSolid (u ++ v) → u ≡ []
+no_blanks : (u v : List ℕ) → All is_lws_byte u → OpensSolid (u ++ v) → u ≡ []
 no_blanks [] v all opens = refl
-no_blanks (b ∷ u) v all opens = absurd (both_ways (is_blank b) opens all.0)
+no_blanks (b ∷ u) v all opens = absurd (both_ways (is_lws_byte b) opens all.0)
 
 -- the blanks are those of the first mark
 pub tail-set : (Ok : List ℕ → Option (List ℕ) → Type 0) (text : List ℕ) → TailSet Ok text → ParamsSet Ok text

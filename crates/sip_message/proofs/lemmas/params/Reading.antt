@@ -8,7 +8,8 @@ use Rattle.sip_standard.specs.Profile.{Token, Ipv6}
 use Rattle.sip_text.specs.Bytes.{semicolon, equals, dquote, left_bracket, right_bracket, is_token_byte}
 use Rattle.sip_text.specs.inner.Cut.{past}
 use Rattle.sip_text.proofs.cuts.CutLemmas.{past-some}
-use Rattle.sip_message.specs.Unfold.{is_blank, OpensSolid}
+use Rattle.sip_message.specs.Unfold.{OpensSolid}
+use Rattle.sip_standard.specs.Field.{is_lws_byte}
 use Rattle.sip_standard.specs.Via.{GenValue}
 use Rattle.sip_message.specs.Params.{comma, Mark, ParamText, ParamsText, ParamsPart, BehindBlanks}
 use Rattle.sip_message.specs.inner.Fronts.{StopsBlank, TokenFront, MarkFront, both}
@@ -86,20 +87,20 @@ separator-bare b is = elim (or_cases (nat_eq b semicolon) (nat_eq b comma) is) [
   | inr same ↦ subst (λ x. is_bare_byte x ≡ false) (sym (eqb-true b comma same)) refl
 ]
 
-blank-bare : (b : ℕ) → is_blank b ≡ true → is_bare_byte b ≡ false
+blank-bare : (b : ℕ) → is_lws_byte b ≡ true → is_bare_byte b ≡ false
 blank-bare = blank_is (λ b. is_bare_byte b ≡ false) refl refl refl refl
 
 -- no blank run begins a value
 bare-stops : (v rest : List ℕ) → (Token or Ipv6) v → StopsBlank (v ++ rest)
 bare-stops v rest kind = at v (some-bare v kind) (each-bare v kind)
   where
-    solid : (b : ℕ) (x : Bool) → is_blank b ≡ x → is_bare_byte b ≡ true → is_blank b ≡ false
+    solid : (b : ℕ) (x : Bool) → is_lws_byte b ≡ x → is_bare_byte b ≡ true → is_lws_byte b ≡ false
     solid b false is bare = is
     solid b true is bare = absurd (both_ways (is_bare_byte b) (blank-bare b is) bare)
 
     at : (u : List ℕ) → (u ≡ [] → ⊥) → All is_bare_byte u → StopsBlank (u ++ rest)
     at [] some all = absurd (some refl)
-    at (b ∷ u) some all = stops-byte b (u ++ rest) (solid b (is_blank b) refl all.0)
+    at (b ∷ u) some all = stops-byte b (u ++ rest) (solid b (is_lws_byte b) refl all.0)
 
 value-stops : (v rest : List ℕ) → GenValue v → StopsBlank (v ++ rest)
 value-stops v rest (inl token) = bare-stops v rest (inl token)
@@ -222,11 +223,11 @@ params-open b text (p ∷ ps) (opens, (m, t, (s, c, sws, (byte, after, byte_is, 
     flat : b ∷ text ≡ s ++ (semicolon ∷ (after ++ t))
     flat = whole ∙ ap (λ x. x ++ t) (m_is ∙ ap (λ x. s ++ x) (c_is ∙ ap (λ x. x ++ after) byte_is)) ∙ append_assoc s (semicolon ∷ after) t
 
-    at : (u : List ℕ) → All is_blank u → b ∷ text ≡ u ++ (semicolon ∷ (after ++ t)) → b ≡ semicolon
+    at : (u : List ℕ) → All is_lws_byte u → b ∷ text ≡ u ++ (semicolon ∷ (after ++ t)) → b ≡ semicolon
     at [] all same = cc
     at (a ∷ u) all same =
         let first : b ≡ a = cc in
-        absurd (both_ways (is_blank b) opens (ap is_blank first ∙ all.0))
+        absurd (both_ways (is_lws_byte b) opens (ap is_lws_byte first ∙ all.0))
 
 -- without a semicolon only the empty text is parameters
 pub params-closed : (text : List ℕ) (ps : List Param) → past semicolon text ≡ None → ParamsPart text ps → text ≡ []
@@ -271,11 +272,11 @@ behind-params (b ∷ part) (p ∷ ps) q (opens, (m, t, (s, c, sws, mark, m_is), 
     flat : b ∷ part ≡ s ++ (c ++ t)
     flat = whole ∙ ap (λ x. x ++ t) m_is ∙ append_assoc s c t
 
-    empty : (u : List ℕ) → All is_blank u → b ∷ part ≡ u ++ (c ++ t) → u ≡ []
+    empty : (u : List ℕ) → All is_lws_byte u → b ∷ part ≡ u ++ (c ++ t) → u ≡ []
     empty [] all same = refl
     empty (a ∷ u) all same =
         let first : b ≡ a = cc in
-        absurd (both_ways (is_blank b) opens (ap is_blank first ∙ all.0))
+        absurd (both_ways (is_lws_byte b) opens (ap is_lws_byte first ∙ all.0))
 
     none : s ≡ []
     none = empty s (each-sws s sws) flat

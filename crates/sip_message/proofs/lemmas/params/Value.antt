@@ -12,7 +12,7 @@ use Rattle.sip_text.specs.Host.{HostParts, HostText, name, v4, v6}
 use Rattle.sip_text.specs.inner.Cut.{past, before, behind}
 use Rattle.sip_text.proofs.cuts.CutLemmas.{past-some, cut-whole, lacks-before, behind-led}
 use Rattle.sip_text.proofs.texts.ManyLemmas.{front-rest}
-use Rattle.sip_message.specs.Unfold.{is_blank}
+use Rattle.sip_standard.specs.Field.{is_lws_byte}
 use Rattle.sip_message.specs.inner.Fronts.{Stops, TokenFront}
 use Rattle.sip_message.specs.inner.ParamFronts.{is_bare_byte, PastRun, BareFront, QuotedFront, BracketFront, ReferenceFront, ValueFront}
 use Rattle.sip_message.proofs.lemmas.text.Cuts.{All, all_both, same_front}
@@ -221,7 +221,7 @@ one-quoted_string text inner n found ((u, v, (blanks, q, sws, quoted, u_is), who
     none [] is same = refl
     none (c ∷ b) is same =
         let first : dquote ≡ c = cc in
-        absurd (both_ways (is_blank dquote) refl (subst (λ x. is_blank x ≡ true) (sym first) (each-sws (c ∷ b) is).0))
+        absurd (both_ways (is_lws_byte dquote) refl (subst (λ x. is_lws_byte x ≡ true) (sym first) (each-sws (c ∷ b) is).0))
 
 -- a value of one of the three kinds is the only one
 pub value-quoted : (text value rest : List ℕ) → ReadAs (QuotedFront text) (value, rest) → ReadAs (ValueFront text) (value, rest)

@@ -13,19 +13,19 @@ use Rattle.sip_text.specs.Bytes.{Byte}
 use Rattle.sip_message.specs.declared.name.Known.{Known}
 use Rattle.sip_message.specs.declared.name.Known.TheVariants as known_name
 use Rattle.sip_standard.specs.declared.fault.Reason.TheVariants as reason
-use Rattle.sip_message.specs.Unfold.{is_blank, OpensSolid, EndsSolid}
+use Rattle.sip_message.specs.Unfold.{OpensSolid, EndsSolid}
+use Rattle.sip_standard.specs.Field.{is_lws_byte, full_name, RowSays, SaidField, all, IsTrimmed, FieldSays, FieldsSay, FirstOf, NoSecond, OneOf, NamesSay}
 use Rattle.sip_message.specs.Lines.{HasNoBareEnd}
 use Rattle.sip_standard.specs.StartLine.{StartLine, request, status, StartSays}
 use Rattle.sip_message.specs.StartLine.{StartText}
 use Rattle.sip_message.specs.Name.{FieldName, name_of, is_name_of}
 use Rattle.sip_message.specs.Field.{Field, Row}
 use Rattle.sip_message.specs.Elements.{Element, ElementsText}
-use Rattle.sip_standard.specs.Body.{length_in, MethodSays, StreamSays, BodySays}
+use Rattle.sip_standard.specs.Body.{length_in, cut_body, MethodSays, StreamSays, BodySays}
 use Rattle.sip_message.specs.Message.{Message, found, found_from, is_stream, IsStream, MethodFits, HasLength, IsEnough, IsNoMore, content_length}
 use Rattle.sip_standard.specs.Outcome.{Outcome, Gives, Demand, Holds, Then}
 use Rattle.sip_standard.specs.Faults.{fault_in_head, fault_in_line, fault_in_body}
 use Rattle.sip_message.specs.inner.Faults.{HasName, IsValue, FieldOf, FieldsOf, NamesOf, BodyOf, LinesOf, ReadOf}
-use Rattle.sip_standard.specs.Field.{full_name, RowSays, SaidField, all, is_lws_byte, IsTrimmed, FieldSays, FieldsSay, FirstOf, NoSecond, OneOf, NamesSay}
 use Rattle.sip_standard.specs.Lines.{CutSays}
 use Rattle.sip_standard.specs.Says.{LinesTell, BytesTell}
 use Rattle.sip_message.specs.SaidOf.{said_via}
@@ -40,30 +40,30 @@ opens-trimmed [] opens (u, v, (b, blank, u_is), any, whole) = absurd (omega (ari
 opens-trimmed (c ∷ t) opens (u, v, (b, blank, u_is), any, whole) =
     let same : c ∷ t ≡ b ∷ v = whole ∙ ap (λ z. z ++ v) u_is in
     let first : c ≡ b = cc in
-    both_ways (is_blank c) opens (subst (λ x. is_blank x ≡ true) (sym first) blank)
+    both_ways (is_lws_byte c) opens (subst (λ x. is_lws_byte x ≡ true) (sym first) blank)
 
 trimmed-opens : (t : List ℕ) → ¬ ((One is_lws_byte then (λ behind. ⊤)) t) → OpensSolid t
 trimmed-opens [] none = tt
-trimmed-opens (c ∷ t) none = at (is_blank c) refl
+trimmed-opens (c ∷ t) none = at (is_lws_byte c) refl
   where
-    at : (b : Bool) → is_blank c ≡ b → is_blank c ≡ false
+    at : (b : Bool) → is_lws_byte c ≡ b → is_lws_byte c ≡ false
     at true is = absurd (none (c ∷ [], t, (c, is, refl), tt, refl))
     at false is = is
 
-last-solid : (u : List ℕ) (b : ℕ) → EndsSolid (u ++ b ∷ []) → is_blank b ≡ false
+last-solid : (u : List ℕ) (b : ℕ) → EndsSolid (u ++ b ∷ []) → is_lws_byte b ≡ false
 last-solid [] b ends = ends
 last-solid (c ∷ []) b ends = ends
 last-solid (c ∷ d ∷ u) b ends = last-solid (d ∷ u) b ends
 
 ends-trimmed : (t : List ℕ) → EndsSolid t → ¬ (((λ before. ⊤) then One is_lws_byte) t)
 ends-trimmed t ends (u, v, any, (b, blank, v_is), whole) =
-    both_ways (is_blank b) (last-solid u b (subst EndsSolid (whole ∙ ap (λ z. u ++ z) v_is) ends)) blank
+    both_ways (is_lws_byte b) (last-solid u b (subst EndsSolid (whole ∙ ap (λ z. u ++ z) v_is) ends)) blank
 
 trimmed-ends : (t : List ℕ) → ¬ (((λ before. ⊤) then One is_lws_byte) t) → EndsSolid t
 trimmed-ends [] none = tt
-trimmed-ends (c ∷ []) none = at (is_blank c) refl
+trimmed-ends (c ∷ []) none = at (is_lws_byte c) refl
   where
-    at : (b : Bool) → is_blank c ≡ b → is_blank c ≡ false
+    at : (b : Bool) → is_lws_byte c ≡ b → is_lws_byte c ≡ false
     at true is = absurd (none ([], c ∷ [], tt, (c, is, refl), refl))
     at false is = is
 trimmed-ends (c ∷ d ∷ t) none =
@@ -72,7 +72,7 @@ trimmed-ends (c ∷ d ∷ t) none =
 -- a field, and what it says
 abbrev pub IsField : ℕ → Field → SaidField → Type 0
 IsField n f g =
-    (token : List ℕ) × (f.name ≡ name_of token) × (g.name ≡ full_name (folded token)) × (g.line ≡ n) × (g.value ≡ f.value)
+    (f.name ≡ name_of g.spelled) × (g.name ≡ full_name (folded g.spelled)) × (g.line ≡ n) × (g.value ≡ f.value)
 
 abbrev pub AreFields : ℕ → List Field → List SaidField → Type 0
 AreFields n [] [] = ⊤
@@ -118,7 +118,7 @@ same-field : (n : ℕ) (line : List ℕ) → Same (IsField n) (FieldOf n line) (
 same-field n line =
     same-then IsSame (IsField n) _ _ (same-named n line) (λ x y same.
     same-then Equal (IsField n) _ _ (same-value n x y same) (λ v w v_is.
-    same-gives (IsField n) _ _ (y.0, same.0, refl, refl, sym v_is)))
+    same-gives (IsField n) _ _ (same.0, refl, refl, sym v_is)))
 
 same-fields : (n : ℕ) (lines : List (List ℕ)) → Same (AreFields n) (FieldsOf n lines) (FieldsSay n lines)
 same-fields n [] = same-gives (AreFields n) [] [] tt
@@ -132,8 +132,8 @@ pub all-found : (k : Known) (key : String) → ((token : List ℕ) → is_name_o
 all-found k key same n [] [] are = refl
 all-found k key same n [] (g ∷ gs) are = absurd are
 all-found k key same n (f ∷ fs) [] are = absurd are
-all-found k key same n (f ∷ fs) (g ∷ gs) ((token, f_is, g_is, line_is, value_is), are) =
-    at (is_name_of k f.name) (bytes_eq g.name (codes key)) (ap (is_name_of k) f_is ∙ same token ∙ sym (ap (λ x. bytes_eq x (codes key)) g_is)) (all-found k key same (n + 1) fs gs are)
+all-found k key same n (f ∷ fs) (g ∷ gs) ((f_is, g_is, line_is, value_is), are) =
+    at (is_name_of k f.name) (bytes_eq g.name (codes key)) (ap (is_name_of k) f_is ∙ same g.spelled ∙ sym (ap (λ x. bytes_eq x (codes key)) g_is)) (all-found k key same (n + 1) fs gs are)
   where
     pair : ◌≡◌ {A = ℕ × List ℕ} (n, f.value) (g.line, g.value)
     pair = λ i. (sym line_is i, sym value_is i)
@@ -202,28 +202,25 @@ said-method (request m u) cseq (n, says) = (n, said-cseq cseq n m says)
 said-method (status code why) cseq any = tt
 
 -- the method and the body
-abbrev Beside : List ℕ → ⊤ → Type 0
-Beside x y = ⊤
-
-same-body : (start : StartLine) (cseq : ℕ × List ℕ) (via : List ℕ) (len : Option ℕ) (rest : List ℕ) → Same Beside (BodyOf start cseq via len rest) (BodySays start cseq via len rest)
+same-body : (start : StartLine) (cseq : ℕ × List ℕ) (via : List ℕ) (len : Option ℕ) (rest : List ℕ) → Same Equal (BodyOf start cseq via len rest) (BodySays start cseq via len rest)
 same-body start cseq via len rest =
-    same-next Beside _ _ (same-holds (MethodFits start cseq.1) (MethodSays start cseq.1) _ (method-said start cseq.1) (said-method start cseq.1)) (λ _.
-    same-next Beside _ _ (same-holds (HasLength via len) (StreamSays via → is_some len ≡ true) _ (λ has stream. has (said-stream via stream)) (λ has stream. has (stream-said via stream))) (λ _.
-    same-next Beside _ _ (same-self (Holds (IsEnough len rest) (fault_in_body reason.ShortBody))) (λ _.
-    same-next Beside _ _ (same-holds (IsNoMore via len rest) (StreamSays via → IfSome len (λ n. length rest ≤ n)) _ (λ few stream. few (said-stream via stream)) (λ few stream. few (stream-said via stream))) (λ _.
-    same-gives Beside _ _ tt))))
+    same-next Equal _ _ (same-holds (MethodFits start cseq.1) (MethodSays start cseq.1) _ (method-said start cseq.1) (said-method start cseq.1)) (λ _.
+    same-next Equal _ _ (same-holds (HasLength via len) (StreamSays via → is_some len ≡ true) _ (λ has stream. has (said-stream via stream)) (λ has stream. has (stream-said via stream))) (λ _.
+    same-next Equal _ _ (same-self (Holds (IsEnough len rest) (fault_in_body reason.ShortBody))) (λ _.
+    same-next Equal _ _ (same-holds (IsNoMore via len rest) (StreamSays via → IfSome len (λ n. length rest ≤ n)) _ (λ few stream. few (said-stream via stream)) (λ few stream. few (stream-said via stream))) (λ _.
+    same-gives Equal (cut_body len rest) (cut_body len rest) refl))))
 
--- a message as it is read, and its start line and fields as they are said
-abbrev pub IsTold : Message → StartLine × List SaidField → Type 0
-IsTold m told = (m.start ≡ told.0) × AreFields 1 m.fields told.1
+-- a message as it is read, and its start line, fields and body as they are said
+abbrev pub IsTold : Message → StartLine × List SaidField × List ℕ → Type 0
+IsTold m told = (m.start ≡ told.0) × AreFields 1 m.fields told.1 × (m.body ≡ told.2)
 
 same-told : (rest first : List ℕ) (others : List (List ℕ)) → Same IsTold (LinesOf rest first others) (LinesTell rest first others)
 same-told rest first others =
     same-next IsTold _ _ (same-demand Equal (StartText first) (StartSays first) (fault_in_line 0 reason.StartLine) (λ s text. (s, start-said first s text, refl)) (λ s says. (s, said-start first s says, refl))) (λ start.
     same-then (AreFields 1) IsTold _ _ (same-fields 1 others) (λ fs gs are.
     same-next IsTold _ _ (same-names fs gs are) (λ names.
-    same-then Beside IsTold _ _ (subst (λ x. Same Beside (BodyOf start names.1 names.0.1 (content_length fs) rest) (BodySays start names.1 names.0.1 (length_in x) rest)) (all-found known_name.ContentLength "content-length" named-content-length 1 fs gs are) (same-body start names.1 names.0.1 (content_length fs) rest)) (λ body y any.
-    same-gives IsTold _ _ (refl, are)))))
+    same-then Equal IsTold _ _ (subst (λ x. Same Equal (BodyOf start names.1 names.0.1 (content_length fs) rest) (BodySays start names.1 names.0.1 (length_in x) rest)) (all-found known_name.ContentLength "content-length" named-content-length 1 fs gs are) (same-body start names.1 names.0.1 (content_length fs) rest)) (λ body y same.
+    same-gives IsTold _ _ (refl, are, same)))))
 
 -- bytes tell the start line and the fields of the message that they are read as, or its fault
 pub same-read : (bytes : List ℕ) → Same IsTold (ReadOf bytes) (BytesTell bytes)

@@ -16,7 +16,7 @@ use Rattle.sip_message.specs.Message.{Message, MessageText, message_of, Spells}
 use Rattle.sip_message.specs.Only.{IsOnly}
 use Rattle.sip_standard.specs.Outcome.{Outcome, gives, stops, passes, stopped}
 use Rattle.sip_message.specs.inner.Faults.{ReadOf}
-use Rattle.sip_message.specs.Reading.{Reading, Parts, HasParts, IsValueOf, AddressValue}
+use Rattle.sip_message.specs.Reading.{Reading, Parts, HasParts, AddressValue}
 use Rattle.sip_message.specs.Reads.{Reads}
 use Rattle.sip_standard.specs.Via.{SaidVia}
 use Rattle.sip_standard.specs.Field.{full_name, SaidField, said_values}
@@ -38,12 +38,6 @@ use Rattle.sip_message.proofs.lemmas.says.Bytes.{AreFields, IsTold, all-found, s
 values-said : (k : Known) (key : String) → ((token : List ℕ) → is_name_of k (name_of token) ≡ bytes_eq (full_name (folded token)) (codes key)) → (fs : List Field) (gs : List SaidField) → AreFields 1 fs gs → values k fs ≡ said_values key gs
 values-said k key same fs gs are = found-values 1 k fs ∙ ap (map (λ found. found.1)) (all-found k key same 1 fs gs are)
 
-first-of : (k : Known) (key : String) (fs : List Field) (gs : List SaidField) (text : List ℕ) → values k fs ≡ said_values key gs → IsValueOf k fs text → IsFirstOf (said_values key gs) text
-first-of k key fs gs text same (more, first) = (more, sym same ∙ first)
-
-value-of : (k : Known) (key : String) (fs : List Field) (gs : List SaidField) (text : List ℕ) → values k fs ≡ said_values key gs → IsFirstOf (said_values key gs) text → IsValueOf k fs text
-value-of k key fs gs text same (more, first) = (more, same ∙ first)
-
 one-first : (vs : List (List ℕ)) (a b : List ℕ) → IsFirstOf vs a → IsFirstOf vs b → a ≡ b
 one-first vs a b (more, first) (later, other) = let same : a ∷ more ≡ b ∷ later = sym first ∙ other in cc
 
@@ -51,8 +45,8 @@ whole-of : (a : List ℕ × AddressParts) (text : List ℕ) → AddressValue tex
 whole-of (whole, a) text (address, same) = sym same
 
 -- the parts of fields are what they say
-parts-tell : (m : Message) (start : StartLine) (gs : List SaidField) (p : Parts) → IsTold m (start, gs) → HasParts m.fields p → FieldsTell start gs (said_of (record { message = m; parts = p }))
-parts-tell m start gs p (start_is, are) parts =
+parts-tell : (m : Message) (start : StartLine) (gs : List SaidField) (body : List ℕ) (p : Parts) → IsTold m (start, gs, body) → HasParts m.fields p → FieldsTell start gs (said_of (record { message = m; parts = p }))
+parts-tell m start gs body p (start_is, are, body_is) parts =
     let via = values-said known_name.Via "via" named-via m.fields gs are in
     let from = values-said known_name.From "from" named-from m.fields gs are in
     let to = values-said known_name.To "to" named-to m.fields gs are in
@@ -62,17 +56,17 @@ parts-tell m start gs p (start_is, are) parts =
     record {
       start_is = start_is;
       vias = subst (λ vs. ViasTell vs (map said_via (p.via ∷ p.others))) via (are-said (values known_name.Via m.fields) (p.via ∷ p.others) parts.vias);
-      from = subst (IsFirstOf (said_values "from" gs)) (whole-of p.from parts.from.0 parts.from.2) (first-of known_name.From "from" m.fields gs parts.from.0 from parts.from.1);
-      to = subst (IsFirstOf (said_values "to" gs)) (whole-of p.to parts.to.0 parts.to.2) (first-of known_name.To "to" m.fields gs parts.to.0 to parts.to.1);
-      call_id = first-of known_name.CallId "call-id" m.fields gs p.call_id call_id parts.call_id;
-      cseq = (parts.cseq.0, first-of known_name.CSeq "cseq" m.fields gs parts.cseq.0 cseq parts.cseq.1, value-said parts.cseq.0 p.cseq parts.cseq.2);
+      from = subst (IsFirstOf (said_values "from" gs)) (whole-of p.from parts.from.0 parts.from.2) (subst (λ vs. IsFirstOf vs parts.from.0) from parts.from.1);
+      to = subst (IsFirstOf (said_values "to" gs)) (whole-of p.to parts.to.0 parts.to.2) (subst (λ vs. IsFirstOf vs parts.to.0) to parts.to.1);
+      call_id = subst (λ vs. IsFirstOf vs p.call_id) call_id parts.call_id;
+      cseq = (parts.cseq.0, subst (λ vs. IsFirstOf vs parts.cseq.0) cseq parts.cseq.1, value-said parts.cseq.0 p.cseq parts.cseq.2);
       route_is = ap (join_with_byte comma) route;
     }
 
 -- what fields say are the parts that they have
-tell-parts : (m : Message) (start : StartLine) (gs : List SaidField) (p : Parts) (s : Said) → IsTold m (start, gs) → HasParts m.fields p → FieldsTell start gs s
+tell-parts : (m : Message) (start : StartLine) (gs : List SaidField) (body : List ℕ) (p : Parts) (s : Said) → IsTold m (start, gs, body) → HasParts m.fields p → FieldsTell start gs s
     → (q : Parts) × HasParts m.fields q × (s ≡ said_of (record { message = m; parts = q }))
-tell-parts m start gs p s (start_is, are) parts tells = at es.0 es.1 es.2
+tell-parts m start gs body p s (start_is, are, body_is) parts tells = at es.0 es.1 es.2
   where
     es : (es : List Element) × AreElements (values known_name.Via m.fields) es × (s.via ∷ s.others ≡ map said_via es)
     es = said-are (values known_name.Via m.fields) (s.via ∷ s.others) (subst (λ vs. ViasTell vs (s.via ∷ s.others)) (sym (values-said known_name.Via "via" named-via m.fields gs are)) tells.vias)
@@ -83,7 +77,7 @@ tell-parts m start gs p s (start_is, are) parts tells = at es.0 es.1 es.2
         let all_vias : ◌≡◌ {A = List SaidVia} (s.via ∷ s.others) (said_via e ∷ map said_via es) = vias in
         let via : s.via ≡ said_via e = cc in
         let others : s.others ≡ map said_via es = cc in
-        let told = parts-tell m start gs p (start_is, are) parts in
+        let told = parts-tell m start gs body p (start_is, are, body_is) parts in
         let from : s.from ≡ p.from.0 = one-first (said_values "from" gs) s.from p.from.0 tells.from told.from in
         let to : s.to ≡ p.to.0 = one-first (said_values "to" gs) s.to p.to.0 tells.to told.to in
         let start_same : s.start ≡ m.start = tells.start_is ∙ sym start_is in
@@ -94,8 +88,8 @@ tell-parts m start gs p s (start_is, are) parts tells = at es.0 es.1 es.2
             vias = elements;
             from = parts.from;
             to = parts.to;
-            call_id = value-of known_name.CallId "call-id" m.fields gs s.call_id (values-said known_name.CallId "call-id" named-call-id m.fields gs are) tells.call_id;
-            cseq = (tells.cseq.0, value-of known_name.CSeq "cseq" m.fields gs tells.cseq.0 (values-said known_name.CSeq "cseq" named-cseq m.fields gs are) tells.cseq.1, said-value tells.cseq.0 s.cseq tells.cseq.2);
+            call_id = subst (λ vs. IsFirstOf vs s.call_id) (sym (values-said known_name.CallId "call-id" named-call-id m.fields gs are)) tells.call_id;
+            cseq = (tells.cseq.0, subst (λ vs. IsFirstOf vs tells.cseq.0) (sym (values-said known_name.CSeq "cseq" named-cseq m.fields gs are)) tells.cseq.1, said-value tells.cseq.0 s.cseq tells.cseq.2);
           },
           (λ i. record { start = start_same i; via = via i; others = others i; from = from i; to = to i; call_id = s.call_id; cseq = s.cseq; route = route i }),
         )
@@ -104,8 +98,8 @@ tell-parts m start gs p s (start_is, are) parts tells = at es.0 es.1 es.2
 pub text-says : (bytes : List ℕ) (r : Reading) → MessageText bytes r.message → HasParts r.message.fields r.parts → Says bytes (gives (said_of r))
 text-says bytes r text parts = let told = (same-read bytes).to (gives r.message) (text-read bytes r.message text) in at told.0 told.1 told.2
   where
-    at : (b : Outcome (StartLine × List SaidField)) → BytesTell bytes b → Alike IsTold (gives r.message) b → Says bytes (gives (said_of r))
-    at (gives y) tells is_told = passes y tells (said_of r, parts-tell r.message y.0 y.1 r.parts is_told parts, refl)
+    at : (b : Outcome (StartLine × List SaidField × List ℕ)) → BytesTell bytes b → Alike IsTold (gives r.message) b → Says bytes (gives (said_of r))
+    at (gives y) tells is_told = passes y tells (said_of r, parts-tell r.message y.0 y.1 y.2 r.parts is_told parts, refl)
     at (stops f) tells is_told = absurd is_told
 
 -- so they are read as that message
@@ -122,7 +116,7 @@ says-reads bytes s (passes y tells (t, fields, is)) = let read = (same-read byte
     at (gives m) read is_told =
         let text = read-text bytes m read in
         let parts = has-parts bytes m text in
-        let q = tell-parts m y.0 y.1 parts.0 s is_told parts.1 (subst (FieldsTell y.0 y.1) (sym (given is)) fields) in (
+        let q = tell-parts m y.0 y.1 y.2 parts.0 s is_told parts.1 (subst (FieldsTell y.0 y.1) (sym (given is)) fields) in (
           record { message = m; parts = q.0 },
           text-reads bytes (record { message = m; parts = q.0 }) text (record { is = q.1; only = λ other others. parts-one m.fields other q.0 others q.1 }),
           q.2,
@@ -132,7 +126,7 @@ says-reads bytes s (passes y tells (t, fields, is)) = let read = (same-read byte
 pub fault-says : (bytes : List ℕ) (f : Fault) → ReadOf bytes (stops f) → Says bytes (stops f)
 fault-says bytes f read = let told = (same-read bytes).to (stops f) read in at told.0 told.1 told.2
   where
-    at : (b : Outcome (StartLine × List SaidField)) → BytesTell bytes b → Alike IsTold (stops f) b → Says bytes (stops f)
+    at : (b : Outcome (StartLine × List SaidField × List ℕ)) → BytesTell bytes b → Alike IsTold (stops f) b → Says bytes (stops f)
     at (gives y) tells is_told = absurd is_told
     at (stops g) tells same = stopped g tells (ap (λ z. stops z) same)
 

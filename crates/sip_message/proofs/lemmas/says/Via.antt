@@ -12,7 +12,8 @@ use Rattle.sip_text.specs.Case.{SameText}
 use Rattle.sip_text.specs.Host.{host_text}
 use Rattle.sip_standard.specs.Profile as profile
 use Rattle.sip_text.proofs.hosts.ProfileLemmas.{host-parts, parts-host}
-use Rattle.sip_message.specs.Unfold.{is_blank, OpensSolid}
+use Rattle.sip_message.specs.Unfold.{OpensSolid}
+use Rattle.sip_standard.specs.Field.{is_lws_byte}
 use Rattle.sip_message.specs.Params.{ParamText, ParamsText, ParamsPart, BehindBlanks}
 use Rattle.sip_message.specs.Via.{ViaParts, IsBranch, ColonPort, ViaText, MoreVias, ViasText}
 use Rattle.sip_message.specs.Elements.{Element, MoreElements, ElementsText, AreElements}
@@ -27,9 +28,9 @@ abbrev Params : Type 0
 Params = List (List ℕ × Option (List ℕ))
 
 -- blanks before what begins solid are none
-no-blanks : (u v : List ℕ) → All is_blank u → OpensSolid (u ++ v) → u ≡ []
+no-blanks : (u v : List ℕ) → All is_lws_byte u → OpensSolid (u ++ v) → u ≡ []
 no-blanks [] v all opens = refl
-no-blanks (b ∷ u) v all opens = absurd (both_ways (is_blank b) opens all.0)
+no-blanks (b ∷ u) v all opens = absurd (both_ways (is_lws_byte b) opens all.0)
 
 -- the blanks before the parameters are those of the first mark
 tail-params : (text part : List ℕ) (ps : Params) → ParamsPart part ps → BehindBlanks part text → ParamsText text ps

@@ -7,22 +7,24 @@ use Rattle.std.proofs.lemmas.List.{append_assoc, append-nil}
 use Rattle.sip_standard.specs.Text.{◌then◌, ◌or◌, Many, Exactly}
 use Rattle.sip_text.specs.Bytes.{space}
 use Rattle.sip_text.proofs.texts.ManyLemmas.{many-nil, many-cons}
-use Rattle.sip_message.specs.Unfold.{is_blank, is_end_byte, OpensSolid, EndsSolid, unfolded_run, unfolded_from, unfolded}
+use Rattle.sip_message.specs.Unfold.{OpensSolid, EndsSolid}
+use Rattle.sip_standard.specs.Field.{is_lws_byte}
+use Rattle.sip_standard.specs.Canonical.{is_end_byte, unfolded_run, unfolded_from, unfolded}
 use Rattle.sip_message.proofs.lemmas.text.Cuts.{Cuts, first_longer, same_length, second_longer, two_cuts, All, all_left, all_right, all_both}
 use Rattle.sip_message.proofs.lemmas.text.Each.{Each, is_solid}
 use Rattle.sip_message.proofs.lemmas.field.OneWay.{ends_blank}
 
 -- a longest run of blanks may become one SP
 abbrev pub Closed : (List ℕ → Type 0) → Type 0
-Closed P = (u v : List ℕ) (b : ℕ) (w : List ℕ) → EndsSolid u → OpensSolid v → All is_blank (b ∷ w) → P (u ++ ((b ∷ w) ++ v)) → P (u ++ space ∷ v)
+Closed P = (u v : List ℕ) (b : ℕ) (w : List ℕ) → EndsSolid u → OpensSolid v → All is_lws_byte (b ∷ w) → P (u ++ ((b ∷ w) ++ v)) → P (u ++ space ∷ v)
 
 -- a byte is not both
-pub not_both : (b : ℕ) → is_solid b ≡ true → is_blank b ≡ true → ⊥
+pub not_both : (b : ℕ) → is_solid b ≡ true → is_lws_byte b ≡ true → ⊥
 not_both b solid blank = both_ways true (sym solid ∙ ap not blank) refl
 
 -- a solid byte is no blank
-pub solid_is : (b : ℕ) → is_solid b ≡ true → is_blank b ≡ false
-solid_is b solid = at (is_blank b) solid
+pub solid_is : (b : ℕ) → is_solid b ≡ true → is_lws_byte b ≡ false
+solid_is b solid = at (is_lws_byte b) solid
   where
     at : (x : Bool) → not x ≡ true → x ≡ false
     at false is = refl
@@ -34,21 +36,21 @@ closed-solid P each u v b w ends opens blanks is =
     absurd (not_both b (all_right is_solid u ((b ∷ w) ++ v) (each _ is)).0 blanks.0)
 
 -- a text of blanks that is solid at its ends is empty
-blank_ends : (u : List ℕ) → EndsSolid u → All is_blank u → u ≡ []
+blank_ends : (u : List ℕ) → EndsSolid u → All is_lws_byte u → u ≡ []
 blank_ends [] ends all = refl
 blank_ends (b ∷ u) ends all = absurd (ends_blank [] b u ends all)
 
 -- blanks that open solid are none
-pub blank_opens : (v : List ℕ) → OpensSolid v → All is_blank v → v ≡ []
+pub blank_opens : (v : List ℕ) → OpensSolid v → All is_lws_byte v → v ≡ []
 blank_opens [] opens all = refl
-blank_opens (b ∷ v) opens all = absurd (both_ways (is_blank b) opens all.0)
+blank_opens (b ∷ v) opens all = absurd (both_ways (is_lws_byte b) opens all.0)
 
 -- blank runs, if one SP is such a run
-pub closed-blank : (P : List ℕ → Type 0) → Each is_blank P → P (space ∷ []) → Closed P
+pub closed-blank : (P : List ℕ → Type 0) → Each is_lws_byte P → P (space ∷ []) → Closed P
 closed-blank P each one u v b w ends opens blanks is =
     let all = each _ is in
-    let front = blank_ends u ends (all_left is_blank u ((b ∷ w) ++ v) all) in
-    let back = blank_opens v opens (all_right is_blank (b ∷ w) v (all_right is_blank u ((b ∷ w) ++ v) all)) in
+    let front = blank_ends u ends (all_left is_lws_byte u ((b ∷ w) ++ v) all) in
+    let back = blank_opens v opens (all_right is_lws_byte (b ∷ w) v (all_right is_lws_byte u ((b ∷ w) ++ v) all)) in
     subst P (ap (λ t. space ∷ t) (sym back) ∙ ap (λ t. t ++ space ∷ v) (sym front)) one
 
 -- P / Q
@@ -80,10 +82,10 @@ closed-then P Q seam left right u v b w ends opens blanks (p, q, is_p, is_q, who
       ap (λ t. u ++ space ∷ t) rest ∙ sym (append_assoc u (space ∷ []) q),
     )
     inner c z p_is (first_longer d y run q_begins) =
-        let both : All is_blank ((c ∷ z) ++ d ∷ y) = subst (All is_blank) run blanks in
+        let both : All is_lws_byte ((c ∷ z) ++ d ∷ y) = subst (All is_lws_byte) run blanks in
         elim (seam p q is_p is_q) [
-          | inl solid ↦ absurd (ends_blank u c z (subst EndsSolid p_is solid) (all_left is_blank (c ∷ z) (d ∷ y) both))
-          | inr solid ↦ absurd (both_ways (is_blank d) (subst OpensSolid q_begins solid) (all_right is_blank (c ∷ z) (d ∷ y) both).0)
+          | inl solid ↦ absurd (ends_blank u c z (subst EndsSolid p_is solid) (all_left is_lws_byte (c ∷ z) (d ∷ y) both))
+          | inr solid ↦ absurd (both_ways (is_lws_byte d) (subst OpensSolid q_begins solid) (all_right is_lws_byte (c ∷ z) (d ∷ y) both).0)
         ]
     inner c z p_is (second_longer d y run rest) = (
       u ++ space ∷ (d ∷ y),
@@ -132,7 +134,7 @@ closed-many P ends closed u v b w u_ends opens blanks many =
     (subst (Times P many.0) (sym many.2) (many-times P many.0 many.1)))
 
 -- a run in a text of a closed set, unfolded
-unfolds-run : (P : List ℕ → Type 0) → Closed P → (u run v : List ℕ) → EndsSolid u → All is_blank run → OpensSolid v → P (u ++ (run ++ v)) → P (u ++ (unfolded_run run ++ v))
+unfolds-run : (P : List ℕ → Type 0) → Closed P → (u run v : List ℕ) → EndsSolid u → All is_lws_byte run → OpensSolid v → P (u ++ (run ++ v)) → P (u ++ (unfolded_run run ++ v))
 unfolds-run P closed u [] v ends blanks opens is = is
 unfolds-run P closed u (b ∷ w) v ends blanks opens is = at (list_any is_end_byte (b ∷ w)) refl
   where
@@ -141,25 +143,25 @@ unfolds-run P closed u (b ∷ w) v ends blanks opens is = at (list_any is_end_by
     at false folds = is
 
 -- what ends with a solid byte
-ends-byte : (u : List ℕ) (b : ℕ) → is_blank b ≡ false → EndsSolid (u ++ b ∷ [])
+ends-byte : (u : List ℕ) (b : ℕ) → is_lws_byte b ≡ false → EndsSolid (u ++ b ∷ [])
 ends-byte [] b solid = solid
 ends-byte (a ∷ []) b solid = solid
 ends-byte (a ∷ c ∷ u) b solid = ends-byte (c ∷ u) b solid
 
 -- a text of a closed set, unfolded after its front
-unfolds-from : (P : List ℕ → Type 0) → Closed P → (text u run : List ℕ) → EndsSolid u → All is_blank run → P (u ++ (run ++ text)) → P (u ++ unfolded_from run text)
+unfolds-from : (P : List ℕ → Type 0) → Closed P → (text u run : List ℕ) → EndsSolid u → All is_lws_byte run → P (u ++ (run ++ text)) → P (u ++ unfolded_from run text)
 unfolds-from P closed [] u run ends blanks is =
     subst P (ap (λ t. u ++ t) (append-nil (unfolded_run run))) (unfolds-run P closed u run [] ends blanks tt is)
-unfolds-from P closed (b ∷ text) u run ends blanks is = at (unfolds-from P closed text) (is_blank b) refl
+unfolds-from P closed (b ∷ text) u run ends blanks is = at (unfolds-from P closed text) (is_lws_byte b) refl
   where
     shape : (t : List ℕ) → u ++ (unfolded_run run ++ b ∷ t) ≡ (u ++ (unfolded_run run ++ b ∷ [])) ++ t
     shape t =
         ap (λ x. u ++ x) (sym (append_assoc (unfolded_run run) (b ∷ []) t))
         ∙ sym (append_assoc u (unfolded_run run ++ b ∷ []) t)
 
-    at : ((x r : List ℕ) → EndsSolid x → All is_blank r → P (x ++ (r ++ text)) → P (x ++ unfolded_from r text)) → (blank : Bool) → is_blank b ≡ blank → P (u ++ cond blank (unfolded_from (run ++ b ∷ []) text) (unfolded_run run ++ b ∷ unfolded_from [] text))
+    at : ((x r : List ℕ) → EndsSolid x → All is_lws_byte r → P (x ++ (r ++ text)) → P (x ++ unfolded_from r text)) → (blank : Bool) → is_lws_byte b ≡ blank → P (u ++ cond blank (unfolded_from (run ++ b ∷ []) text) (unfolded_run run ++ b ∷ unfolded_from [] text))
     at later true blank =
-        later u (run ++ b ∷ []) ends (all_both is_blank run (b ∷ []) blanks (blank, tt))
+        later u (run ++ b ∷ []) ends (all_both is_lws_byte run (b ∷ []) blanks (blank, tt))
         (subst P (ap (λ t. u ++ t) (sym (append_assoc run (b ∷ []) text))) is)
     at later false solid =
         subst P (sym (shape (unfolded_from [] text)))

@@ -5,7 +5,7 @@ use Rattle.std.proofs.lemmas.Bool.{both_ways, eqb-true}
 use Rattle.sip_standard.specs.Text.{One, Exactly, ◌then◌, ◌or◌, Optional, Many, OneOrMore, Between}
 use Rattle.sip_standard.specs.Profile.{Lws, Blanks, Sws}
 use Rattle.sip_text.specs.Bytes.{space, tab, carriage_return, line_feed, crlf, is_wsp}
-use Rattle.sip_message.specs.Unfold.{is_blank}
+use Rattle.sip_standard.specs.Field.{is_lws_byte}
 use Rattle.sip_message.proofs.lemmas.text.Cuts.{All, all_both}
 
 -- each text of the set passes the test throughout
@@ -62,7 +62,7 @@ or_case true b is = inl refl
 or_case false b is = inr is
 
 -- a byte of a blank run is one of four
-pub blank_is : (P : ℕ → Type 0) → P space → P tab → P carriage_return → P line_feed → (b : ℕ) → is_blank b ≡ true → P b
+pub blank_is : (P : ℕ → Type 0) → P space → P tab → P carriage_return → P line_feed → (b : ℕ) → is_lws_byte b ≡ true → P b
 blank_is P sp ht cr lf b is =
     elim (or_case (is_wsp b) _ is) [
       | inl wsp ↦ elim (or_case (nat_eq b space) _ wsp) [
@@ -77,31 +77,31 @@ blank_is P sp ht cr lf b is =
 
 -- a byte of no blank run
 abbrev pub is_solid : ℕ → Bool
-is_solid byte = not (is_blank byte)
+is_solid byte = not (is_lws_byte byte)
 
 -- a class without the four has solid bytes alone
 pub solid_class : (class : ℕ → Bool) → class space ≡ false → class tab ≡ false → class carriage_return ≡ false → class line_feed ≡ false → (b : ℕ) → class b ≡ true → is_solid b ≡ true
-solid_class class sp ht cr lf b is = at (is_blank b) refl
+solid_class class sp ht cr lf b is = at (is_lws_byte b) refl
   where
-    at : (blank : Bool) → is_blank b ≡ blank → not blank ≡ true
+    at : (blank : Bool) → is_lws_byte b ≡ blank → not blank ≡ true
     at false blank = refl
     at true blank = absurd (both_ways (class b) (blank_is (λ c. class c ≡ false) sp ht cr lf b blank) is)
 
 -- a WSP is a byte of a blank run
-pub wsp-blank : (b : ℕ) → is_wsp b ≡ true → is_blank b ≡ true
+pub wsp-blank : (b : ℕ) → is_wsp b ≡ true → is_lws_byte b ≡ true
 wsp-blank b is = or_left (is_wsp b) _ is
 
 -- blank runs
-pub each-lws : Each is_blank Lws
+pub each-lws : Each is_lws_byte Lws
 each-lws =
-    each-then is_blank _ _
-    (each-optional is_blank _ (each-then is_blank _ _ (each-many is_blank _ (each-one is_blank is_wsp wsp-blank)) (each-exactly is_blank crlf (refl, (refl, tt)))))
-    (each-some is_blank _ (each-one is_blank is_wsp wsp-blank))
+    each-then is_lws_byte _ _
+    (each-optional is_lws_byte _ (each-then is_lws_byte _ _ (each-many is_lws_byte _ (each-one is_lws_byte is_wsp wsp-blank)) (each-exactly is_lws_byte crlf (refl, (refl, tt)))))
+    (each-some is_lws_byte _ (each-one is_lws_byte is_wsp wsp-blank))
 
 -- blanks are blanks
-pub each-blanks : Each is_blank Blanks
-each-blanks = each-some is_blank Lws each-lws
+pub each-blanks : Each is_lws_byte Blanks
+each-blanks = each-some is_lws_byte Lws each-lws
 
 -- so are blanks that may be none
-pub each-sws : Each is_blank Sws
-each-sws = each-optional is_blank Blanks each-blanks
+pub each-sws : Each is_lws_byte Sws
+each-sws = each-optional is_lws_byte Blanks each-blanks

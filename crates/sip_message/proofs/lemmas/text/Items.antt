@@ -9,7 +9,8 @@ use Rattle.sip_text.specs.Bytes.{space, backslash, is_wsp}
 use Rattle.sip_text.specs.inner.Class.{is_quoted_byte}
 use Rattle.sip_text.specs.inner.Pieces.{Qdtext, QuotedPair}
 use Rattle.sip_text.proofs.texts.ManyLemmas.{many-nil, many-cons}
-use Rattle.sip_message.specs.Unfold.{is_blank, OpensSolid, EndsSolid}
+use Rattle.sip_message.specs.Unfold.{OpensSolid, EndsSolid}
+use Rattle.sip_standard.specs.Field.{is_lws_byte}
 use Rattle.sip_message.specs.Values.{is_value_byte, OtherText}
 use Rattle.sip_message.proofs.lemmas.text.Cuts.{Cuts, first_longer, same_length, second_longer, two_cuts, All, all_left, all_right}
 use Rattle.sip_message.proofs.lemmas.text.Each.{each-lws, is_solid, solid_class}
@@ -21,60 +22,60 @@ pub record IsItem (P : List ℕ → Type 0) (text : List ℕ) : Type 0 where
   pub front : List ℕ
   pub back : List ℕ
   pub solid : All is_solid front
-  pub blank : All is_blank back
+  pub blank : All is_lws_byte back
   pub joins : (b : ℕ) (w : List ℕ) → back ≡ b ∷ w → P (front ++ space ∷ [])
   pub whole : text ≡ front ++ back
 
 -- an item that begins with a blank is blanks
-item_blanks : (P : List ℕ → Type 0) (b : ℕ) (u : List ℕ) → is_blank b ≡ true → IsItem P (b ∷ u) → All is_blank (b ∷ u)
+item_blanks : (P : List ℕ → Type 0) (b : ℕ) (u : List ℕ) → is_lws_byte b ≡ true → IsItem P (b ∷ u) → All is_lws_byte (b ∷ u)
 item_blanks P b u blank item = at item.front item.solid item.whole
   where
-    at : (front : List ℕ) → All is_solid front → b ∷ u ≡ front ++ item.back → All is_blank (b ∷ u)
-    at [] solid whole = subst (All is_blank) (sym whole) item.blank
+    at : (front : List ℕ) → All is_solid front → b ∷ u ≡ front ++ item.back → All is_lws_byte (b ∷ u)
+    at [] solid whole = subst (All is_lws_byte) (sym whole) item.blank
     at (c ∷ front) solid whole =
         let head : b ≡ c = cc in
-        absurd (not_both c solid.0 (subst (λ x. is_blank x ≡ true) head blank))
+        absurd (not_both c solid.0 (subst (λ x. is_lws_byte x ≡ true) head blank))
 
 -- blanks at the front of items are items, and so is what follows them
-skip : (P : List ℕ → Type 0) → ((u : List ℕ) → P u → IsItem P u) → (us : List (List ℕ)) (w v : List ℕ) → AllByRecursion P us → All is_blank w → OpensSolid v → concat us ≡ w ++ v → Many P v
+skip : (P : List ℕ → Type 0) → ((u : List ℕ) → P u → IsItem P u) → (us : List (List ℕ)) (w v : List ℕ) → AllByRecursion P us → All is_lws_byte w → OpensSolid v → concat us ≡ w ++ v → Many P v
 skip P item us [] v all blanks opens is = (us, all, sym is)
 skip P item [] (b ∷ w) v all blanks opens is = absurd (omega (arith, ap length is))
 skip P item ([] ∷ us) (b ∷ w) v all blanks opens is = skip P item us (b ∷ w) v all.1 blanks opens is
 skip P item ((a ∷ p) ∷ us) (b ∷ w) v all blanks opens is =
     at (λ d y y_blanks y_is. skip P item us (d ∷ y) v all.1 y_blanks opens y_is) (two_cuts (a ∷ p) (concat us) (b ∷ w) v is)
   where
-    at : ((d : ℕ) (y : List ℕ) → All is_blank (d ∷ y) → concat us ≡ (d ∷ y) ++ v → Many P v) → Cuts (a ∷ p) (concat us) (b ∷ w) v → Many P v
+    at : ((d : ℕ) (y : List ℕ) → All is_lws_byte (d ∷ y) → concat us ≡ (d ∷ y) ++ v → Many P v) → Cuts (a ∷ p) (concat us) (b ∷ w) v → Many P v
     at later (same_length front rest) = (us, all.1, sym rest)
     at later (first_longer d y longer v_is) =
         let head : a ≡ b = cc in
-        let each = item_blanks P a p (subst (λ x. is_blank x ≡ true) (sym head) blanks.0) (item (a ∷ p) all.0) in
-        absurd (both_ways (is_blank d) (subst OpensSolid v_is opens) (all_right is_blank (b ∷ w) (d ∷ y) (subst (All is_blank) longer each)).0)
+        let each = item_blanks P a p (subst (λ x. is_lws_byte x ≡ true) (sym head) blanks.0) (item (a ∷ p) all.0) in
+        absurd (both_ways (is_lws_byte d) (subst OpensSolid v_is opens) (all_right is_lws_byte (b ∷ w) (d ∷ y) (subst (All is_lws_byte) longer each)).0)
     at later (second_longer d y longer us_is) =
-        later d y (all_right is_blank (a ∷ p) (d ∷ y) (subst (All is_blank) longer blanks)) us_is
+        later d y (all_right is_lws_byte (a ∷ p) (d ∷ y) (subst (All is_lws_byte) longer blanks)) us_is
 
 -- where a run begins within an item, its solid bytes end there
-item_cut : (P : List ℕ → Type 0) (p u : List ℕ) (c : ℕ) (z : List ℕ) → EndsSolid u → is_blank c ≡ true → p ≡ u ++ c ∷ z → IsItem P p → P (u ++ space ∷ []) × All is_blank (c ∷ z)
+item_cut : (P : List ℕ → Type 0) (p u : List ℕ) (c : ℕ) (z : List ℕ) → EndsSolid u → is_lws_byte c ≡ true → p ≡ u ++ c ∷ z → IsItem P p → P (u ++ space ∷ []) × All is_lws_byte (c ∷ z)
 item_cut P p u c z ends blank p_is item = at (two_cuts item.front item.back u (c ∷ z) (sym item.whole ∙ p_is))
   where
-    at : Cuts item.front item.back u (c ∷ z) → P (u ++ space ∷ []) × All is_blank (c ∷ z)
+    at : Cuts item.front item.back u (c ∷ z) → P (u ++ space ∷ []) × All is_lws_byte (c ∷ z)
     at (same_length front back) =
-        (subst (λ t. P (t ++ space ∷ [])) front (item.joins c z back), subst (All is_blank) back item.blank)
+        (subst (λ t. P (t ++ space ∷ [])) front (item.joins c z back), subst (All is_lws_byte) back item.blank)
     at (first_longer d y longer is) =
         let heads : c ≡ d = cc in
-        absurd (not_both d (all_right is_solid u (d ∷ y) (subst (All is_solid) longer item.solid)).0 (subst (λ x. is_blank x ≡ true) heads blank))
+        absurd (not_both d (all_right is_solid u (d ∷ y) (subst (All is_solid) longer item.solid)).0 (subst (λ x. is_lws_byte x ≡ true) heads blank))
     at (second_longer d y longer is) =
-        absurd (ends_blank item.front d y (subst EndsSolid longer ends) (all_left is_blank (d ∷ y) (c ∷ z) (subst (All is_blank) is item.blank)))
+        absurd (ends_blank item.front d y (subst EndsSolid longer ends) (all_left is_lws_byte (d ∷ y) (c ∷ z) (subst (All is_lws_byte) is item.blank)))
 
 -- what follows the blanks of an item in a run
-behind_run : (P : List ℕ → Type 0) → ((u : List ℕ) → P u → IsItem P u) → (us : List (List ℕ)) (v : List ℕ) (b : ℕ) (w : List ℕ) (c : ℕ) (z : List ℕ) → OpensSolid v → All is_blank (b ∷ w) → AllByRecursion P us → All is_blank (c ∷ z) → Cuts (b ∷ w) v (c ∷ z) (concat us) → Many P v
+behind_run : (P : List ℕ → Type 0) → ((u : List ℕ) → P u → IsItem P u) → (us : List (List ℕ)) (v : List ℕ) (b : ℕ) (w : List ℕ) (c : ℕ) (z : List ℕ) → OpensSolid v → All is_lws_byte (b ∷ w) → AllByRecursion P us → All is_lws_byte (c ∷ z) → Cuts (b ∷ w) v (c ∷ z) (concat us) → Many P v
 behind_run P item us v b w c z opens blanks all run (same_length front back) = (us, all, back)
 behind_run P item us v b w c z opens blanks all run (first_longer d y longer is) =
-    skip P item us (d ∷ y) v all (all_right is_blank (c ∷ z) (d ∷ y) (subst (All is_blank) longer blanks)) opens is
+    skip P item us (d ∷ y) v all (all_right is_lws_byte (c ∷ z) (d ∷ y) (subst (All is_lws_byte) longer blanks)) opens is
 behind_run P item us v b w c z opens blanks all run (second_longer d y longer is) =
-    absurd (both_ways (is_blank d) (subst OpensSolid is opens) (all_right is_blank (b ∷ w) (d ∷ y) (subst (All is_blank) longer run)).0)
+    absurd (both_ways (is_lws_byte d) (subst OpensSolid is opens) (all_right is_lws_byte (b ∷ w) (d ∷ y) (subst (All is_lws_byte) longer run)).0)
 
 -- a run in items
-items_run : (P : List ℕ → Type 0) → ((u : List ℕ) → P u → IsItem P u) → (us : List (List ℕ)) (x v : List ℕ) (b : ℕ) (w : List ℕ) → EndsSolid x → OpensSolid v → All is_blank (b ∷ w) → AllByRecursion P us → concat us ≡ x ++ ((b ∷ w) ++ v) → Many P (x ++ space ∷ v)
+items_run : (P : List ℕ → Type 0) → ((u : List ℕ) → P u → IsItem P u) → (us : List (List ℕ)) (x v : List ℕ) (b : ℕ) (w : List ℕ) → EndsSolid x → OpensSolid v → All is_lws_byte (b ∷ w) → AllByRecursion P us → concat us ≡ x ++ ((b ∷ w) ++ v) → Many P (x ++ space ∷ v)
 items_run P item [] x v b w ends opens blanks all is = absurd (omega (arith, ap length is, length-append x ((b ∷ w) ++ v)))
 items_run P item (p ∷ us) x v b w ends opens blanks all is =
     at (λ y y_ends y_is. items_run P item us y v b w y_ends opens blanks all.1 y_is) (two_cuts p (concat us) x ((b ∷ w) ++ v) is)
@@ -87,7 +88,7 @@ items_run P item (p ∷ us) x v b w ends opens blanks all is =
         (many-cons P p ((c ∷ z) ++ space ∷ v) all.0 (later (c ∷ z) (ends-right p c z (subst EndsSolid longer ends)) back))
     at later (first_longer c z longer back) =
         let heads : b ≡ c = cc in
-        let cut = item_cut P p x c z ends (subst (λ t. is_blank t ≡ true) heads blanks.0) longer (item p all.0) in
+        let cut = item_cut P p x c z ends (subst (λ t. is_lws_byte t ≡ true) heads blanks.0) longer (item p all.0) in
         subst (Many P) (append_assoc x (space ∷ []) v)
         (many-cons P (x ++ space ∷ []) v cut.0 (behind_run P item us v b w c z opens blanks all.1 cut.1 (two_cuts (b ∷ w) v (c ∷ z) (concat us) back)))
 
@@ -114,12 +115,12 @@ item-one P class solid u one = item-solid P u (subst (All is_solid) (sym one.2) 
 
 -- a quoted pair is an item: its blank, if it has one, may be any
 item-pair : (P : List ℕ → Type 0) → P (backslash ∷ space ∷ []) → (u : List ℕ) → QuotedPair u → IsItem P u
-item-pair P one u (p, q, is_p, (b, escaped, q_is), whole) = at (is_blank b) refl
+item-pair P one u (p, q, is_p, (b, escaped, q_is), whole) = at (is_lws_byte b) refl
   where
     text : u ≡ backslash ∷ b ∷ []
     text = whole ∙ ap (λ t. t ++ q) is_p ∙ ap (λ t. backslash ∷ t) q_is
 
-    at : (blank : Bool) → is_blank b ≡ blank → IsItem P u
+    at : (blank : Bool) → is_lws_byte b ≡ blank → IsItem P u
     at true blank = record { front = backslash ∷ []; back = b ∷ []; solid = (refl, tt); blank = (blank, tt); joins = λ c w is. one; whole = text }
     at false blank = item-solid P u (subst (All is_solid) (sym text) (refl, (ap not blank, tt)))
 

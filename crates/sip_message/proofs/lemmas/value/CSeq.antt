@@ -6,7 +6,7 @@ use Rattle.sip_standard.specs.Text.{Exactly, ◌then◌}
 use Rattle.sip_standard.specs.Profile.{Blanks, Token}
 use Rattle.sip_text.specs.Parts.{IsLongestFront}
 use Rattle.std.proofs.lemmas.List.{append-nil, take-append-drop, length-take-le}
-use Rattle.sip_message.specs.Unfold.{is_blank}
+use Rattle.sip_standard.specs.Field.{is_lws_byte}
 use Rattle.sip_message.specs.Values.{Digits, CSeqText}
 use Rattle.sip_message.specs.inner.Fronts.{Stops, StopsBlank, Behind, BlanksFront}
 use Rattle.sip_message.specs.Reading.{CSeqValue}
@@ -22,7 +22,7 @@ use Rattle.sip_message.proofs.lemmas.front.Prefix.{prefix-at, all-some}
 each-digits : Each is_ascii_digit Digits
 each-digits = each-then is_ascii_digit _ _ (each-one is_ascii_digit is_ascii_digit (λ b is. is)) (each-many is_ascii_digit _ (each-one is_ascii_digit is_ascii_digit (λ b is. is)))
 
-blank-digit : (b : ℕ) → is_blank b ≡ true → is_ascii_digit b ≡ false
+blank-digit : (b : ℕ) → is_lws_byte b ≡ true → is_ascii_digit b ≡ false
 blank-digit = blank_is (λ b. is_ascii_digit b ≡ false) refl refl refl refl
 
 fails_stops : (u : List ℕ) → Fails is_ascii_digit u → Stops is_ascii_digit u

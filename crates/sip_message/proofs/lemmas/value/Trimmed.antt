@@ -11,7 +11,8 @@ use Rattle.sip_text.specs.Parts.{IsLongestFront, IsOnlyValue}
 use Rattle.sip_text.specs.inner.Blanks.{Blank}
 use Rattle.sip_text.proofs.texts.ManyLemmas.{many-nil, many-one, many-append, front-whole}
 use Rattle.sip_text.proofs.strings.BlanksLemmas.{units-blanks, blanks-units}
-use Rattle.sip_message.specs.Unfold.{is_blank, OpensSolid, EndsSolid}
+use Rattle.sip_message.specs.Unfold.{OpensSolid, EndsSolid}
+use Rattle.sip_standard.specs.Field.{is_lws_byte}
 use Rattle.sip_message.specs.Field.{ValueText}
 use Rattle.sip_message.specs.inner.ValueFronts.{is_solid}
 use Rattle.sip_message.proofs.lemmas.text.Cuts.{All, Stops, all_both, all_right, same_front}
@@ -57,7 +58,7 @@ all-from test (b ∷ text) zero each =
 all-from test (b ∷ text) (suc n) each = all-from test text n (λ k low high. each (suc k) (omega (arith, low)) (omega (arith, high)))
 
 -- a text up to a solid byte ends solid
-ends-take : (text : List ℕ) (n : ℕ) → n ≤ length text → ((k : ℕ) → n ≡ suc k → is_blank (get_or text k 0) ≡ false) → EndsSolid (take n text)
+ends-take : (text : List ℕ) (n : ℕ) → n ≤ length text → ((k : ℕ) → n ≡ suc k → is_lws_byte (get_or text k 0) ≡ false) → EndsSolid (take n text)
 ends-take text zero within solid = tt
 ends-take [] (suc n) within solid = absurd (omega (arith, within))
 ends-take (b ∷ text) (suc zero) within solid = solid zero refl
@@ -65,36 +66,36 @@ ends-take (b ∷ []) (suc (suc n)) within solid = absurd (omega (arith, within))
 ends-take (b ∷ c ∷ text) (suc (suc n)) within solid =
     ends-take (c ∷ text) (suc n) (omega (arith, within)) (λ k is. solid (suc k) (ap suc is))
 
-stops-opens : (u : List ℕ) → Stops is_blank u → OpensSolid u
+stops-opens : (u : List ℕ) → Stops is_lws_byte u → OpensSolid u
 stops-opens [] stops = tt
 stops-opens (b ∷ u) stops = stops
 
-opens-take : (u : List ℕ) (n : ℕ) → Stops is_blank u → OpensSolid (take n u)
+opens-take : (u : List ℕ) (n : ℕ) → Stops is_lws_byte u → OpensSolid (take n u)
 opens-take u zero stops = tt
 opens-take [] (suc n) stops = tt
 opens-take (b ∷ u) (suc n) stops = stops
 
 -- a text in three: blank bytes, what neither begins nor ends with one, and blank bytes
 pub record IsTrimmed (text front value back : List ℕ) : Type 0 where
-  pub blanks : All is_blank front
-  pub stops : Stops is_blank (value ++ back)
+  pub blanks : All is_lws_byte front
+  pub stops : Stops is_lws_byte (value ++ back)
   pub opens : OpensSolid value
   pub ends : EndsSolid value
-  pub spaces : All is_blank back
+  pub spaces : All is_lws_byte back
   pub whole : text ≡ front ++ (value ++ back)
 
 -- as the reader cuts it
-pub trimmed : (text rest : List ℕ) (n e : ℕ) → n ≡ prefix_len is_blank text → rest ≡ drop n text → e ≤ length rest → ((k : ℕ) → e ≤ k → k < length rest → is_blank (get_or rest k 0) ≡ true) → (0 < e → is_blank (get_or rest (e - 1) 0) ≡ false) → IsTrimmed text (take n text) (take e rest) (drop e rest)
+pub trimmed : (text rest : List ℕ) (n e : ℕ) → n ≡ prefix_len is_lws_byte text → rest ≡ drop n text → e ≤ length rest → ((k : ℕ) → e ≤ k → k < length rest → is_lws_byte (get_or rest k 0) ≡ true) → (0 < e → is_lws_byte (get_or rest (e - 1) 0) ≡ false) → IsTrimmed text (take n text) (take e rest) (drop e rest)
 trimmed text rest n e n_is rest_is within blank solid =
-    let cut = prefix-at is_blank text n n_is in
-    let stops : Stops is_blank rest = subst (Stops is_blank) (sym rest_is) cut.1 in
+    let cut = prefix-at is_lws_byte text n n_is in
+    let stops : Stops is_lws_byte rest = subst (Stops is_lws_byte) (sym rest_is) cut.1 in
     let again : take e rest ++ drop e rest ≡ rest = take-append-drop e rest in
     record {
       blanks = cut.0;
-      stops = subst (Stops is_blank) (sym again) stops;
+      stops = subst (Stops is_lws_byte) (sym again) stops;
       opens = opens-take rest e stops;
-      ends = ends-take rest e within (λ k is. subst (λ i. is_blank (get_or rest i 0) ≡ false) (omega (arith, is)) (solid (omega (arith, is))));
-      spaces = all-from is_blank rest e blank;
+      ends = ends-take rest e within (λ k is. subst (λ i. is_lws_byte (get_or rest i 0) ≡ false) (omega (arith, is)) (solid (omega (arith, is))));
+      spaces = all-from is_lws_byte rest e blank;
       whole = sym (take-append-drop n text) ∙ ap (λ t. take n text ++ t) (sym rest_is ∙ sym again);
     }
 
@@ -116,8 +117,8 @@ value-trimmed text front value back w is of = at w of.opens of.ends (of.whole.4 
     at : (v : List ℕ) → OpensSolid v → EndsSolid v → text ≡ a ++ (v ++ b) → Sws front × Sws back
     at [] opens ends whole =
         let same : front ++ (value ++ back) ≡ a ++ b = sym is.whole ∙ whole in
-        let all : All is_blank (front ++ (value ++ back)) = subst (All is_blank) (sym same) (all_both is_blank a b (each-sws a of.whole.2) (each-sws b of.whole.3.3)) in
-        let none : value ++ back ≡ [] = blank_opens (value ++ back) (stops-opens (value ++ back) is.stops) (all_right is_blank front (value ++ back) all) in
+        let all : All is_lws_byte (front ++ (value ++ back)) = subst (All is_lws_byte) (sym same) (all_both is_lws_byte a b (each-sws a of.whole.2) (each-sws b of.whole.3.3)) in
+        let none : value ++ back ≡ [] = blank_opens (value ++ back) (stops-opens (value ++ back) is.stops) (all_right is_lws_byte front (value ++ back) all) in
         let no_back : back ≡ [] = length-none back (right value back none) in (
           subst Sws (sym same ∙ ap (λ t. front ++ t) none ∙ append-nil front) (sws-append a b of.whole.2 of.whole.3.3),
           inl no_back,
@@ -127,7 +128,7 @@ value-trimmed text front value back w is of = at w of.opens of.ends (of.whole.4 
         right [] v e = ap length e
         right (c ∷ u) v e = absurd (omega (arith, ap length e))
     at (c ∷ v) opens ends whole =
-        let cut = same_front is_blank front (value ++ back) a ((c ∷ v) ++ b) is.blanks (each-sws a of.whole.2) is.stops opens (sym is.whole ∙ whole) in
+        let cut = same_front is_lws_byte front (value ++ back) a ((c ∷ v) ++ b) is.blanks (each-sws a of.whole.2) is.stops opens (sym is.whole ∙ whole) in
         let values : value ≡ c ∷ v = same_solid value back (c ∷ v) b is.ends ends is.spaces (each-sws b of.whole.3.3) cut.1 in
         let backs : back ≡ b = append_cancel_left (c ∷ v) back b (ap (λ t. t ++ back) (sym values) ∙ cut.1) in
         (subst Sws (sym cut.0) of.whole.2, subst Sws (sym backs) of.whole.3.3)
@@ -138,7 +139,7 @@ read-decides R parts text None b none is = (λ yes_b. absurd (both_ways b is yes
 read-decides R parts text (Some a) b only is = (λ _. (parts a, only.0), λ _. is)
 
 -- a last byte that is solid
-ends-solid : (b : ℕ) (u : List ℕ) → is_blank (get_or (b ∷ u) (length u) 0) ≡ false → EndsSolid (b ∷ u)
+ends-solid : (b : ℕ) (u : List ℕ) → is_lws_byte (get_or (b ∷ u) (length u) 0) ≡ false → EndsSolid (b ∷ u)
 ends-solid b [] solid = solid
 ends-solid b (c ∷ u) solid = ends-solid c u solid
 
@@ -147,12 +148,12 @@ pub one-space : (value : List ℕ) → is_solid value ≡ true → ValueText (sp
 one-space [] solid = absurd (both_ways false refl solid)
 one-space (b ∷ value) solid =
     let last : ℕ = length (b ∷ value) - 1 in
-    let both = and_parts (nat_lt 0 (length (b ∷ value)) && not (is_blank b)) (not (is_blank (get_or (b ∷ value) last 0))) solid in
-    let opens : is_blank b ≡ false = not-true (is_blank b) (and_parts (nat_lt 0 (length (b ∷ value))) (not (is_blank b)) (both.0)).1 in
+    let both = and_parts (nat_lt 0 (length (b ∷ value)) && not (is_lws_byte b)) (not (is_lws_byte (get_or (b ∷ value) last 0))) solid in
+    let opens : is_lws_byte b ≡ false = not-true (is_lws_byte b) (and_parts (nat_lt 0 (length (b ∷ value))) (not (is_lws_byte b)) (both.0)).1 in
     let end : last ≡ length value = omega arith in
     record {
       opens = opens;
-      ends = ends-solid b value (subst (λ i. is_blank (get_or (b ∷ value) i 0) ≡ false) end (not-true _ (both.1)));
+      ends = ends-solid b value (subst (λ i. is_lws_byte (get_or (b ∷ value) i 0) ≡ false) end (not-true _ (both.1)));
       whole = (
         space ∷ [],
         b ∷ value,

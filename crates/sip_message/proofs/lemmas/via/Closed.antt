@@ -15,7 +15,8 @@ use Rattle.sip_text.specs.Case.{SameText}
 use Rattle.sip_text.specs.Host.{HostParts, HostText, host_text, name, v4, v6}
 use Rattle.sip_text.specs.inner.Pieces.{DecimalGroup}
 use Rattle.sip_text.proofs.texts.ManyLemmas.{many-nil, many-cons}
-use Rattle.sip_message.specs.Unfold.{OpensSolid, EndsSolid, unfolded}
+use Rattle.sip_message.specs.Unfold.{OpensSolid, EndsSolid}
+use Rattle.sip_standard.specs.Canonical.{unfolded}
 use Rattle.sip_message.specs.Params.{slash, comma, Mark}
 use Rattle.sip_message.specs.Via.{ViaParts, IsBranch, ColonPort, ViaText, MoreVias}
 use Rattle.sip_message.specs.Message.{TopTransport}

@@ -5,7 +5,7 @@ use Rattle.std.proofs.lemmas.List.{append_assoc, length-append}
 use Rattle.sip_standard.specs.Text.{One, Exactly, ◌then◌, Many, OneOrMore}
 use Rattle.sip_standard.specs.Profile.{Token, Blanks, Sws}
 use Rattle.sip_text.specs.Bytes.{is_token_byte}
-use Rattle.sip_message.specs.Unfold.{is_blank}
+use Rattle.sip_standard.specs.Field.{is_lws_byte}
 use Rattle.sip_message.specs.Params.{slash, Mark}
 use Rattle.sip_message.specs.Message.{TopTransport}
 use Rattle.sip_message.proofs.lemmas.text.Cuts.{same_front, Stops, All}
@@ -43,7 +43,7 @@ same_step test P Q R S u v w x ps rs qs ss one other same =
 
 -- a byte of a mark
 abbrev is_mark_byte : ℕ → ℕ → Bool
-is_mark_byte mark b = is_blank b || nat_eq b mark
+is_mark_byte mark b = is_lws_byte b || nat_eq b mark
 
 -- a class that fails
 fail-class : (test class : ℕ → Bool) → ((b : ℕ) → class b ≡ true → test b ≡ false) → AllFail test (OneOrMore (One class))
@@ -61,11 +61,11 @@ some-blanks u b none =
     absurd (omega (arith, ap length none, ap length b.4, length-append b.0 b.1, ap length b.2.4, length-append b.2.0 b.2.1, ap length b.2.3.4, length-append b.2.3.0 b.2.3.1, ap length b.2.3.2.2))
 
 -- blanks, where blanks fail
-pub fail-blanks : (test : ℕ → Bool) → ((b : ℕ) → is_blank b ≡ true → test b ≡ false) → AllFail test Blanks
-fail-blanks test fail u blanks = fails-class test is_blank u fail (some-blanks u blanks) (each-blanks u blanks)
+pub fail-blanks : (test : ℕ → Bool) → ((b : ℕ) → is_lws_byte b ≡ true → test b ≡ false) → AllFail test Blanks
+fail-blanks test fail u blanks = fails-class test is_lws_byte u fail (some-blanks u blanks) (each-blanks u blanks)
 
 -- a mark, where blanks and its byte fail
-pub fail-mark : (test : ℕ → Bool) (mark : ℕ) → ((b : ℕ) → is_blank b ≡ true → test b ≡ false) → test mark ≡ false → AllFail test (Mark mark)
+pub fail-mark : (test : ℕ → Bool) (mark : ℕ) → ((b : ℕ) → is_lws_byte b ≡ true → test b ≡ false) → test mark ≡ false → AllFail test (Mark mark)
 fail-mark test mark fail at_mark u (sws, v, inl none, (m, w, m_is, w_sws, v_is), u_is) =
     subst (Fails test) (sym (u_is ∙ ap (λ t. t ++ v) none ∙ v_is ∙ ap (λ t. t ++ w) m_is)) at_mark
 fail-mark test mark fail at_mark u (sws, v, inr blanks, rest, u_is) =
@@ -75,13 +75,13 @@ fail-mark test mark fail at_mark u (sws, v, inr blanks, rest, u_is) =
 each-mark : (mark : ℕ) → nat_eq mark mark ≡ true → Each (is_mark_byte mark) (Mark mark)
 each-mark mark is =
     each-then (is_mark_byte mark) _ _ blanks
-    (each-then (is_mark_byte mark) _ _ (λ u byte. subst (All (is_mark_byte mark)) (sym byte) (or_right (is_blank mark) _ is, tt)) blanks)
+    (each-then (is_mark_byte mark) _ _ (λ u byte. subst (All (is_mark_byte mark)) (sym byte) (or_right (is_lws_byte mark) _ is, tt)) blanks)
   where
     or_right : (a b : Bool) → b ≡ true → (a || b) ≡ true
     or_right true b e = refl
     or_right false b e = e
 
-    wider : (u : List ℕ) → All is_blank u → All (is_mark_byte mark) u
+    wider : (u : List ℕ) → All is_lws_byte u → All (is_mark_byte mark) u
     wider [] all = tt
     wider (b ∷ u) all = (ap (λ x. x || nat_eq b mark) all.0, wider u all.1)
 
@@ -90,9 +90,9 @@ each-mark mark is =
 
 -- no byte of a token is one of a mark
 token-mark : (mark : ℕ) → is_token_byte mark ≡ false → (b : ℕ) → is_token_byte b ≡ true → is_mark_byte mark b ≡ false
-token-mark mark is b token = at (is_blank b) (nat_eq b mark) refl refl
+token-mark mark is b token = at (is_lws_byte b) (nat_eq b mark) refl refl
   where
-    at : (blank same : Bool) → is_blank b ≡ blank → nat_eq b mark ≡ same → (blank || same) ≡ false
+    at : (blank same : Bool) → is_lws_byte b ≡ blank → nat_eq b mark ≡ same → (blank || same) ≡ false
     at true same blank_is same_is = absurd (both_ways (is_token_byte b) (blank-token b blank_is) token)
     at false true blank_is same_is = absurd (both_ways (is_token_byte b) (ap is_token_byte (eqb-true b mark same_is) ∙ is) token)
     at false false blank_is same_is = refl

@@ -1,4 +1,4 @@
-use Rattle.sip_states.specs.KeyMachine.{transaction_of}
+use Rattle.sip_standard.specs.KeyMachine.{transaction_of}
 use Rattle.sip_states.proofs.keyed.QuietLemmas.{restarts_once}
 use Rattle.sip_states.proofs.laws.a_second_restart_changes_nothing.Goals as goal
 

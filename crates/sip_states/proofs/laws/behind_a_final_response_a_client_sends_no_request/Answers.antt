@@ -1,7 +1,8 @@
 use Rattle.std.specs.Prelude.{◌∷◌, ◌++◌, true, false}
-use Rattle.sip_key.specs.declared.role.Role.TheVariants.{Client}
+use Rattle.sip_standard.specs.declared.role.Role.TheVariants.{Client}
 use Rattle.sip_standard.specs.declared.rules.Rules.TheVariants.{R6026}
-use Rattle.sip_states.specs.KeyMachine.{machine_of, transaction_of, coded_holds}
+use Rattle.sip_standard.specs.KeyMachine.{machine_of, transaction_of}
+use Rattle.sip_states.specs.KeySets.{coded_holds}
 use Rattle.sip_states.proofs.runs.StandsLemmas.{behind-after}
 use Rattle.sip_states.proofs.runs.ClientLaws.{invite_behind_final, plain_behind_final}
 use Rattle.sip_states.proofs.laws.behind_a_final_response_a_client_sends_no_request.Goals as goal

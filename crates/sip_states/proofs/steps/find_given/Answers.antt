@@ -1,6 +1,6 @@
 use Rattle.std.proofs.Common.{◌≡◌, ◌∙◌, ◌++◌, ◌∷◌, [], ◌+◌, All, ap, append_assoc, arith, length, length-append, refl, subst, sym, take, take_all, true≢false}
 use Rattle.std.proofs.lemmas.List.Elements.{All-nil, All-take}
-use Rattle.sip_machine.specs.MachineEvent.{event_in}
+use Rattle.sip_machine.specs.NumberedEvent.{event_in}
 use Rattle.sip_machine.specs.Texts.{Keeps}
 use Rattle.sip_machine.specs.Rules.{Covers, Knows, StandFor}
 use Rattle.sip_machine.specs.Owing.{at_rest}

@@ -2,7 +2,7 @@ use Rattle.std.proofs.Common.{◌≡◌, ◌∙◌, arith, get_or, length, sym, 
 use Rattle.std.proofs.lemmas.Bool.{OnTrue_at, OnTrue_from}
 use Rattle.std.proofs.lemmas.List.Elements.{All-get_or}
 use Rattle.std.proofs.lemmas.Result.{IfOk-weaker}
-use Rattle.sip_machine.specs.MachineEvent.{event_in}
+use Rattle.sip_machine.specs.NumberedEvent.{event_in}
 use Rattle.sip_machine.specs.Rules.{Knows}
 use Rattle.sip_states.proofs.sets.Following.{Follows}
 use Rattle.sip_states.proofs.sets.Stepping.{gives_alone, only}

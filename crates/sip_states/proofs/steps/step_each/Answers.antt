@@ -1,6 +1,6 @@
 use Rattle.std.specs.Prelude.{take}
 use Rattle.std.proofs.lemmas.Result.{on_ok_weaker}
-use Rattle.sip_machine.specs.MachineEvent.{event_in}
+use Rattle.sip_machine.specs.NumberedEvent.{event_in}
 use Rattle.sip_machine.specs.Rules.{FromSome}
 use Rattle.sip_machine.proofs.pools.CoversLemmas.{HasFound}
 use Rattle.sip_states.specs.inner.Ways.{GivesFrom}

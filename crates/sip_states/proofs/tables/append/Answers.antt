@@ -1,6 +1,6 @@
 use Rattle.std.proofs.Common.{◌∙◌}
 use Rattle.indexmap.proofs.CallerLemmas.{insert_entry-new}
-use Rattle.sip_key.specs.Key.{same_key}
+use Rattle.sip_standard.specs.Key.{same_key}
 use Rattle.sip_states.proofs.keyed.TablesLemmas.{lookup-absent}
 use Rattle.sip_states.proofs.tables.append.Goals as goal
 

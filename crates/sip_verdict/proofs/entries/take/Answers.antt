@@ -5,6 +5,8 @@ use Rattle.sip_verdict.specs.inner.Concerned.{each}
 use Rattle.sip_verdict.specs.inner.TablesTracking.{MayHear}
 use Rattle.sip_verdict.proofs.judges.StandingLemmas.{grown_may, few_keys, may_hear, may_next, same_some}
 use Rattle.sip_verdict.proofs.tables.TablesTouching.{touches_may}
+use Rattle.sip_verdict.proofs.verdicts.MessageUnique.{observes_one}
+use Rattle.sip_verdict.proofs.surveys.Histories.{silent_histories, restart_histories, heard_histories, message_says, touched_low}
 use Rattle.sip_verdict.proofs.surveys.Taken.{unheard_taken, fault_taken, restart_taken, heard_taken, watched_touched}
 use Rattle.sip_verdict.proofs.entries.take.Goals as goal
 
@@ -28,6 +30,40 @@ pass_each-requires-in-Heard-clause-watched g c =
     let grown = c.in_ok-grow-in-Heard.ensures.deaf in
     watched_touched (each c.in-Heard.concerned) (each c.in_ok-concerned-in-Heard.concerned) c.args.standing.now.tables c.touch_each.new.tables c.args.troubled.now c.grow.new.self grown.0
     c.in_ok-concerned-in-Heard.ensures.touched c.requires.may.passes.long c.requires.watched grown.1 grown.2 (c.in_ok-grow-in-Heard.ensures.long ∙ c.len.ensures)
+
+pub note_each-requires : goal.note_each-requires
+note_each-requires g c =
+    touched_low (each c.in-Heard.concerned) (each c.in_ok-concerned-in-Heard.concerned) c.args.standing.now.tables c.touch_each.new.tables c.in_ok-concerned-in-Heard.ensures.touched
+
+pub returns-in_ok-pass_each-in-Unheard-clause-histories : goal.returns-in_ok-pass_each-in-Unheard-clause-histories
+returns-in_ok-pass_each-in-Unheard-clause-histories g c = λ es e told keys counts seen.
+    let (f, f_seen, (fine, at, none)) = (rw c.in-Unheard.is at c.in_ok-told.ensures.observed) es in
+    silent_histories c.args.standing.now.tables.times es e c.args.histories.now (ap (λ o. o.keys) (observes_one es (item c.args.entry.now) e f seen f_seen) ∙ none) told
+
+pub returns-in_ok-pass_each-in-Fault-clause-histories : goal.returns-in_ok-pass_each-in-Fault-clause-histories
+returns-in_ok-pass_each-in-Fault-clause-histories g c = λ es e told keys counts seen.
+    let (f, f_seen, is) = (rw c.in-Fault.is at c.in_ok-told.ensures.observed) es in
+    silent_histories c.args.standing.now.tables.times es e c.args.histories.now (ap (λ o. o.keys) (observes_one es (item c.args.entry.now) e f seen f_seen ∙ is)) told
+
+pub returns-in_ok-pass_each-in-Restart-clause-histories : goal.returns-in_ok-pass_each-in-Restart-clause-histories
+returns-in_ok-pass_each-in-Restart-clause-histories g c = λ es e told keys counts seen.
+    let b = c.args.histories.now in
+    let number = c.args.entry.now.number in
+    let (f, f_seen, is) = (rw c.in-Restart.is at c.in_ok-told.ensures.observed) es in
+    restart_histories c.args.standing.now.tables.times es e b (record { each = b.each; restart = number }) number
+    (ap (λ o. o.keys) (observes_one es (item c.args.entry.now) e f seen f_seen ∙ is)) counts refl refl told
+
+pub returns-in_ok-pass_each-in-Heard-clause-histories : goal.returns-in_ok-pass_each-in-Heard-clause-histories
+returns-in_ok-pass_each-in-Heard-clause-histories g c = λ es e told t_keys counts seen.
+    let s = c.args.standing.now in
+    let entry = c.args.entry.now in
+    let kept = rw c.in-Heard.is at c.in_ok-told.ensures.kept in
+    let noted = c.in_ok-note_each-in-Heard.ensures in
+    let (f, f_seen, f_is) = (rw c.in-Heard.is at c.in_ok-told.ensures.observed) es in
+    let is = observes_one es (item entry) e f seen f_seen ∙ f_is in
+    heard_histories s.tables.times es e c.args.histories.now c.note_each.new.self entry.number entry.bytes.items s.tables c.touch_each.new.tables (each c.in-Heard.concerned) (each c.in_ok-concerned-in-Heard.concerned)
+    told t_keys c.requires.may.passes.long counts c.in_ok-concerned-in-Heard.ensures.touched c.known-in-Heard.ensures.unique noted.noted c.note_each.ensures.restart (ap (λ o. o.keys) is)
+    (message_says es (item entry) e kept.0 seen) (ap (λ o. o.event.text) is ∙ kept.3)
 
 pub returns-in_ok-pass_each-in-Unheard-clause-may : goal.returns-in_ok-pass_each-in-Unheard-clause-may
 returns-in_ok-pass_each-in-Unheard-clause-may g c =

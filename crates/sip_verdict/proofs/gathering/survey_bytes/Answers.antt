@@ -2,7 +2,7 @@ use Rattle.std.proofs.Common.{◌≡◌, Some, None, false, [], sym, subst, rule
 use Rattle.std.proofs.lemmas.Result.{IfOk-weaker}
 use Rattle.sip_log.specs.Reading as log
 use Rattle.sip_log.specs.Reading.{Place, beside_source}
-use Rattle.sip_verdict.specs.declared.log_reason.LogReason.TheVariants.{Header}
+use Rattle.sip_standard.specs.declared.log_reason.LogReason.TheVariants.{Header}
 use Rattle.sip_verdict.specs.declared.survey_end.SurveyEnd.TheVariants.{LogFault}
 use Rattle.sip_verdict.specs.SurveyOf.{IsSurveyOf}
 use Rattle.sip_verdict.specs.inner.SurveyingLogs.{SurveysRead}

@@ -1,7 +1,7 @@
 use Rattle.std.proofs.Common.{◌∙◌, IfSome, refl, sym, subst, arith}
 use Rattle.sip_log.specs.Reading as log
 use Rattle.sip_log.specs.Reading.{beside_source}
-use Rattle.sip_verdict.specs.VerdictOf.{IsVerdictOf}
+use Rattle.sip_standard.specs.VerdictOf.{IsVerdictOf}
 use Rattle.sip_verdict.proofs.judges.JudgeLemmas.{read_on, read_ends, read_stops, read_trouble}
 use Rattle.sip_verdict.proofs.judges.StandingLemmas.{same_some}
 use Rattle.sip_verdict.proofs.judging.judge_entries.Goals as goal

@@ -1,8 +1,8 @@
 use Rattle.std.proofs.Common.{[], inl, inr, refl, sym, ap, ◌∙◌}
 use Rattle.sip_message.specs.SaidOf.{said_of}
 use Rattle.sip_log.specs.Told.{item}
-use Rattle.sip_verdict.specs.MessageReading.{silent_observation}
-use Rattle.sip_verdict.specs.VerdictOf.{keys_in}
+use Rattle.sip_standard.specs.Observation.{silent_observation}
+use Rattle.sip_standard.specs.VerdictOf.{keys_in}
 use Rattle.sip_verdict.specs.inner.Concerned.{each}
 use Rattle.sip_verdict.proofs.judges.ObservingLemmas.{going, going_on, observes, observes_silent, silent_observed, silent_heard, silent_kept, observes_fault, observes_no_cookie, keyless_observation, observes_none, observes_heard, concerns_some, each_some, event_fits, going_says, event_kept}
 use Rattle.sip_verdict.proofs.observing.observe.Goals as goal

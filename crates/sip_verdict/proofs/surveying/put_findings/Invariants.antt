@@ -1,13 +1,12 @@
-use Rattle.std.proofs.Common.{◌≡◌, flat_map, take}
+use Rattle.std.proofs.Common.{◌≡◌, List, ℕ, take}
 use Rattle.std.specs.Io.KnownBytes.{Appends}
-use Rattle.sip_verdict.specs.SurveyText.{finding_text}
-use Rattle.sip_verdict.specs.inner.SurveyingLogs.{AreCounted}
+use Rattle.sip_verdict.specs.inner.SurveyingLogs.{AreCounted, AreLinesBy}
 use Rattle.sip_verdict.proofs.surveying.put_findings.Given as goal
 
 abbrev pub invariant-loop-finding : goal.invariant-loop-finding
 invariant-loop-finding g l =
     record {
-      text : Appends (g.W.Sink.written l.fn.writer) (g.W.Sink.written l.writer) (flat_map finding_text (take l.finding-index l.found));
+      text : (text : List ℕ) × Appends (g.W.Sink.written l.fn.writer) (g.W.Sink.written l.writer) text × AreLinesBy l.survey (take l.finding-index l.found) text;
       counted : AreCounted (take l.finding-index l.found) l.fn.counts l.counts;
       fine : g.W.Sink.has_failed l.writer ≡ g.W.Sink.has_failed l.fn.writer;
     }

@@ -2,7 +2,7 @@ use Rattle.std.proofs.Common.{◌≡◌, ◌∙◌, [], subst, rules}
 use Rattle.std.specs.Option.{option_copied}
 use Rattle.sip_log.specs.Reading as log
 use Rattle.sip_log.specs.Reading.{Place, beside_source}
-use Rattle.sip_verdict.specs.declared.log_reason.LogReason.TheVariants.{Header}
+use Rattle.sip_standard.specs.declared.log_reason.LogReason.TheVariants.{Header}
 use Rattle.sip_verdict.specs.declared.survey_end.SurveyEnd.TheVariants.{LogFault}
 use Rattle.sip_verdict.specs.inner.SurveyingLogs.{SurveysRead}
 use Rattle.sip_verdict.proofs.surveys.Writing.{all_told, as_told, still_fine, summed, surveys_header, surveys_none}

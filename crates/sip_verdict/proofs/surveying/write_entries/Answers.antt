@@ -6,7 +6,8 @@ use Rattle.sip_log.specs.Reading.{beside_source}
 use Rattle.sip_verdict.specs.declared.finding.Finding.{Finding}
 use Rattle.sip_verdict.specs.declared.survey_end.SurveyEnd.TheVariants.{LogFault}
 use Rattle.sip_verdict.specs.SurveyText.{end_text}
-use Rattle.sip_verdict.proofs.surveys.Writing.{told_none, told_more, summed, surveys_on, surveys_end, surveys_stop}
+use Rattle.sip_verdict.specs.inner.SurveyingLogs.{AreLinesBy}
+use Rattle.sip_verdict.proofs.surveys.Writing.{told_none, told_nothing, told_more, summed, surveys_on, surveys_end, surveys_stop}
 use Rattle.sip_verdict.proofs.judges.StandingLemmas.{same_some}
 use Rattle.sip_verdict.proofs.surveying.write_entries.Goals as goal
 
@@ -16,7 +17,13 @@ loop-found-init g c = record {
   written = refl;
   at = c.requires.at;
   counts_are = sym c.requires.first;
-  told = ([], told_none c.none-counts.result (g.W.Sink.written c.args.writer.now) c.none-counts.ensures.0 c.none-counts.ensures.1, λ start reads. reads);
+  told = (
+    [],
+    [],
+    told_none c.none-counts.result (g.W.Sink.written c.args.writer.now) c.none-counts.ensures.0 c.none-counts.ensures.1,
+    λ start reads.
+        told_nothing (option_copied c.args.part) c.args.survey.now start (beside_source c.args.progress.now (g.R.Source.left c.args.reader.now) (g.R.Source.has_failed c.args.reader.now)) reads,
+  );
 }
 
 pub loop-found-preserved : goal.loop-found-preserved
@@ -44,12 +51,15 @@ loop-found-preserved g c =
       counts_are = sym (taken.newest.0 ∙ c.in_ok-cut_to-in-Entry.ensures.number);
       told = (
         told.0 ++ items,
-        told_more told.0 items l.counts c.in_ok-counts-in-Entry.counts (g.W.Sink.written c.args.writer.now) (g.W.Sink.written l.writer) (g.W.Sink.written c.put_findings.new.writer) told.1
-            (search rules) (search rules),
+        told.1 ++ put.text.0,
+        told_more told.0 items told.1 put.text.0 l.counts c.in_ok-counts-in-Entry.counts (g.W.Sink.written c.args.writer.now) (g.W.Sink.written l.writer) (g.W.Sink.written c.put_findings.new.writer) told.2
+            (search rules) put.text.1,
         λ start reads.
-            let read = told.2 start reads in
+            let so = told.3 start reads in
+            let read = so.read in
             let more = (rw c.in-Entry.is at c.in_ok-entry.ensures.gives) start l.survey.tables.times read.items read.read in
-            surveys_on part start old l.survey told.0 read c.in-Entry.entry c.cut_to.new.entry new more c.in_ok-cut_to-in-Entry.ensures.cut c.entry.new.self taken.times items (rw c.clear.ensures.items at taken.found),
+            surveys_on part start old l.survey told.0 told.1 so c.in-Entry.entry c.cut_to.new.entry new more c.in_ok-cut_to-in-Entry.ensures.cut c.entry.new.self taken.times items
+            (rw c.clear.ensures.items at taken.found) put.text.0 (subst (λ fs. AreLinesBy c.entry.new.self fs put.text.0) lines put.text.2),
       );
     }
 
@@ -63,10 +73,11 @@ returns-in-End-clause-surveyed g c =
     let mid = g.W.Sink.written l.writer in
     let after = g.W.Sink.written c.finish.new.writer in
     summed c.finish.result l.counts c.unwrap.result c.finish.ensures.sums c.finish.ensures.text (λ summary end findings undecided last start reads.
-    let read = told.2 start reads in
+    let so = told.3 start reads in
+    let read = so.read in
     let logs = (rw c.in-End.is at c.in_ok-entry.ensures.gives) start l.survey.tables.times read.items read.read in
     let is = same_some _ _ (sym c.unwrap.ensures ∙ c.end.ensures.clean read.es read.follows) in
-    surveys_end part start old l.survey told.0 read l.counts summary before mid after told.1 findings undecided (end ∙ is) (subst (λ e. Appends mid after (end_text e l.counts.findings)) is last) logs)
+    surveys_end part start old l.survey told.0 told.1 so l.counts summary before mid after told.2 findings undecided (end ∙ is) (subst (λ e. Appends mid after (end_text e l.counts.findings)) is last) logs)
 
 pub returns-in-Fault-clause-surveyed : goal.returns-in-Fault-clause-surveyed
 returns-in-Fault-clause-surveyed g c =
@@ -78,6 +89,7 @@ returns-in-Fault-clause-surveyed g c =
     let mid = g.W.Sink.written l.writer in
     let after = g.W.Sink.written c.finish-in-Fault.new.writer in
     summed c.finish-in-Fault.result l.counts (LogFault (l.count + 1) c.in-Fault.reason) c.finish-in-Fault.ensures.sums c.finish-in-Fault.ensures.text (λ summary end findings undecided last start reads.
-    let read = told.2 start reads in
-    surveys_stop part start old l.survey told.0 read l.counts summary before mid after told.1 findings undecided l.count c.in-Fault.reason l.invariant.counts_are end last
+    let so = told.3 start reads in
+    let read = so.read in
+    surveys_stop part start old l.survey told.0 told.1 so l.counts summary before mid after told.2 findings undecided l.count c.in-Fault.reason l.invariant.counts_are end last
     ((rw c.in-Fault.is at c.in_ok-entry.ensures.gives) start l.survey.tables.times read.items read.read))

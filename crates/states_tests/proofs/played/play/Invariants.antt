@@ -1,7 +1,7 @@
 use Rattle.std.proofs.Common.{◌≤◌, All}
 use Rattle.sip_machine.specs.Rules.{Knows}
 use Rattle.sip_machine.specs.Owing.{owing_names}
-use Rattle.sip_machine.specs.InviteServer.{invite_server_names}
+use Rattle.sip_machine.specs.inner.InviteServer.{invite_server_names}
 use Rattle.states_tests.proofs.played.play.Given as goal
 
 abbrev pub invariant-loop-entry : goal.invariant-loop-entry

@@ -1,6 +1,6 @@
 use Rattle.std.proofs.Common.{◌++◌, ◌-◌, [], length, refl, append-nil, ap, sym, ◌∙◌, arith}
 use Rattle.sip_standard.specs.Case.{folded}
-use Rattle.sip_key.specs.declared.role.Role.TheVariants.{Client}
+use Rattle.sip_standard.specs.declared.role.Role.TheVariants.{Client}
 use Rattle.sip_key.proofs.KeyLemmas.{LaidOut, built}
 use Rattle.sip_key.proofs.key.Key.client.Goals as goal
 use Rattle.sip_key.proofs.key.Key.client.Goals.{In_ok-extend_from_slice}

@@ -2,8 +2,8 @@ use Rattle.std.proofs.Common.{◌≡◌, ◌+◌, ◌++◌, ◌∷◌, ◌-◌, 
 use Rattle.sip_standard.specs.Case.{folded}
 use Rattle.sip_text.specs.Bytes.{colon}
 use Rattle.std.proofs.lemmas.List.{length-append}
-use Rattle.sip_key.specs.SentBy.{port_number, sent_by}
-use Rattle.sip_key.specs.declared.role.Role.TheVariants.{Server}
+use Rattle.sip_standard.specs.SentBy.{port_number, sent_by}
+use Rattle.sip_standard.specs.declared.role.Role.TheVariants.{Server}
 use Rattle.sip_key.proofs.KeyLemmas.{LaidOut, built}
 use Rattle.sip_key.proofs.key.Key.server.Goals as goal
 use Rattle.sip_key.proofs.key.Key.server.Goals.{In_ok-extend_from_slice}

@@ -1,8 +1,7 @@
 use Rattle.std.specs.Prelude.{◌≡◌, ◌<◌, None, length, set}
 use Rattle.std.proofs.Common.{refl, sym, ◌∙◌, ap, subst}
-use Rattle.sip_ledger.specs.Ledgers.{row_of}
+use Rattle.sip_ledger.specs.Ledgers.{row_of, rows_of}
 use Rattle.sip_ledger.specs.Debts.{paid_by}
-use Rattle.sip_ledger.specs.Ledgers.{rows_of}
 use Rattle.sip_machine.specs.Owes.{owed_in}
 use Rattle.sip_machine.specs.inner.Dues.{rows_in, AreDues}
 use Rattle.sip_machine.proofs.debts.DueLemmas.{owed-none, set-none, AreDues-set, between-row, paid-row, between-paid}

@@ -1,6 +1,6 @@
 use Rattle.std.proofs.Common.{◌∙◌, ap, get_or}
 use Rattle.std.proofs.lemmas.Result.{IfOk-weaker}
-use Rattle.sip_key.specs.Solid.{solid}
+use Rattle.sip_standard.specs.Solid.{solid}
 use Rattle.sip_machine.specs.Owes.{owed_in}
 use Rattle.sip_machine.specs.Texts.{text_of}
 use Rattle.sip_machine.specs.inner.Acks.{HasTo, PaysDebt}

@@ -2,12 +2,12 @@ use Rattle.std.proofs.Common.{sym, ◌∙◌, true≢false}
 use Rattle.std.proofs.lemmas.List.Elements.{All-nil}
 use Rattle.std.proofs.lemmas.Result.{IfOk-weaker}
 use Rattle.sip_machine.specs.Texts.{Keeps}
-use Rattle.sip_machine.specs.MachineEvent.{event_in}
+use Rattle.sip_machine.specs.NumberedEvent.{event_in}
 use Rattle.sip_machine.specs.Owing.{turn_seen, turn_names, TurnInRange}
-use Rattle.sip_machine.specs.InviteClient as client
-use Rattle.sip_machine.specs.InviteClient.{invite_client_seen, invite_client_names, InviteClientInRange}
-use Rattle.sip_machine.specs.InviteClient3261 as client_3261
-use Rattle.sip_machine.specs.InviteClient3261.Laws.{IsEndedBy}
+use Rattle.sip_standard.specs.InviteClient as client
+use Rattle.sip_machine.specs.inner.InviteClient.{invite_client_seen, invite_client_names, InviteClientInRange}
+use Rattle.sip_standard.specs.InviteClient3261 as client_3261
+use Rattle.sip_machine.specs.inner.InviteClient3261.Laws.{IsEndedBy}
 use Rattle.sip_machine.proofs.rules.Rows3261.{ended_row, other_row, AnswersOne-same}
 use Rattle.sip_machine.proofs.invite_client_3261.InviteClient3261Phases.receives.Goals as goal
 

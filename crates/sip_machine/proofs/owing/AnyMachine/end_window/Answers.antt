@@ -1,6 +1,6 @@
 use Rattle.std.specs.Prelude.{◌<◌, []}
 use Rattle.std.proofs.Common.{◌∙◌, ap, sym, subst}
-use Rattle.sip_machine.specs.Figure.{window_of}
+use Rattle.sip_machine.specs.FigureRules.{window_of}
 use Rattle.sip_machine.specs.Owing.{at_rest, owing_seen, OwingInRange}
 use Rattle.sip_machine.proofs.pools.PoolLemmas.{in-phases, in-rows, state-here}
 use Rattle.sip_machine.proofs.owing.AnyMachine.end_window.Goals as goal

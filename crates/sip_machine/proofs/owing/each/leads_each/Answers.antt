@@ -1,7 +1,7 @@
 use Rattle.std.specs.Prelude.{All, take}
 use Rattle.std.proofs.Common.{sym, subst, arith}
 use Rattle.sip_ledger.specs.Ledgers.{from_to}
-use Rattle.sip_machine.specs.MachineEvent.{event_in}
+use Rattle.sip_machine.specs.NumberedEvent.{event_in}
 use Rattle.sip_machine.specs.Owing.{owing_seen, owing_names, OwingInRange}
 use Rattle.sip_machine.specs.Rules.{Covers, FromSome, Knows}
 use Rattle.sip_machine.specs.inner.Effects.{LeadsFrom}

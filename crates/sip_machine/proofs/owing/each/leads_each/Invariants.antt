@@ -1,5 +1,5 @@
 use Rattle.std.specs.Prelude.{◌≤◌, ◌-◌, take}
-use Rattle.sip_machine.specs.MachineEvent.{event_in}
+use Rattle.sip_machine.specs.NumberedEvent.{event_in}
 use Rattle.sip_machine.specs.Owing.{owing_seen, owing_names, OwingInRange}
 use Rattle.sip_machine.specs.inner.Effects.{LeadsFrom}
 use Rattle.sip_machine.proofs.pools.CoversLemmas.{HasFound}

@@ -5,7 +5,7 @@ use Rattle.std.proofs.lemmas.List.Elements.{All-weaker}
 use Rattle.sip_ledger.specs.Debts.{is_timely}
 use Rattle.sip_ledger.specs.Ledgers.{from_to}
 use Rattle.sip_machine.specs.Texts.{Keeps}
-use Rattle.sip_machine.specs.MachineEvent.{event_in}
+use Rattle.sip_machine.specs.NumberedEvent.{event_in}
 use Rattle.sip_machine.specs.Owes.{owes_names}
 use Rattle.sip_machine.specs.Owing.{at_rest, owing_seen, owing_names, OwingInRange}
 use Rattle.sip_machine.specs.Rules.{Knows}

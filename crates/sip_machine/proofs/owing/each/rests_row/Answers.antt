@@ -2,11 +2,11 @@ use Rattle.std.specs.Prelude.{◌≡◌, ◌<◌, ◌++◌, [], get_or, option_t
 use Rattle.std.specs.Option.{option_map}
 use Rattle.std.proofs.Common.{sym, subst, append-nil}
 use Rattle.std.proofs.lemmas.Result.{on_ok_weaker}
-use Rattle.sip_machine.specs.MachineEvent.{event_in}
+use Rattle.sip_machine.specs.NumberedEvent.{event_in}
 use Rattle.sip_machine.specs.Owing.{at_rest, owing_seen, owing_names, OwingInRange}
 use Rattle.sip_machine.specs.Rules.{Knows}
 use Rattle.sip_machine.specs.Limits.{IsWithin}
-use Rattle.sip_machine.specs.Figure.{until_of}
+use Rattle.sip_machine.specs.FigureRules.{until_of}
 use Rattle.sip_machine.specs.inner.Single.{AnswersOne}
 use Rattle.sip_machine.specs.inner.Effects.{Rests, RestsFrom, rests_at, unexpired_at}
 use Rattle.sip_machine.proofs.pools.PoolLemmas.{in-phases, in-rows, state-here}

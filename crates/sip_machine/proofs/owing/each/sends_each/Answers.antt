@@ -1,11 +1,10 @@
 use Rattle.std.specs.Prelude.{◌≡◌, All, take}
 use Rattle.std.proofs.Common.{sym, subst, arith}
 use Rattle.sip_ledger.specs.Ledgers.{from_to}
-use Rattle.sip_machine.specs.MachineEvent.{event_in}
-use Rattle.sip_machine.specs.Owing.{owing_seen, owing_names, OwingInRange}
+use Rattle.sip_machine.specs.NumberedEvent.{event_in}
+use Rattle.sip_machine.specs.Owing.{owing_seen, owing_names, OwingInRange, CodeOwing}
 use Rattle.sip_machine.specs.Rules.{Covers, FromSome, Knows}
-use Rattle.sip_machine.specs.Figure.{TakeOf}
-use Rattle.sip_machine.specs.Owing.{CodeOwing}
+use Rattle.sip_machine.specs.FigureRules.{TakeOf}
 use Rattle.sip_machine.proofs.pools.CoversLemmas.{HasFound, found-none, found-more, slice-all, slice-old, take-slice, before-more}
 use Rattle.sip_machine.proofs.owing.each.sends_each.Goals as goal
 

@@ -2,9 +2,9 @@ use Rattle.std.specs.Prelude.{◌++◌, ◌⊎◌, All}
 use Rattle.std.proofs.Common.{sym, ◌∙◌, ap, subst, append_assoc}
 use Rattle.std.proofs.lemmas.Result.{on_ok_weaker}
 use Rattle.sip_ledger.specs.Ledgers.{from_to}
-use Rattle.sip_machine.specs.MachineEvent.{event_in}
+use Rattle.sip_machine.specs.NumberedEvent.{event_in}
 use Rattle.sip_machine.specs.Rules.{Covers, FromSome, Knows}
-use Rattle.sip_machine.specs.Figure.{TakeOf}
+use Rattle.sip_machine.specs.FigureRules.{TakeOf}
 use Rattle.sip_machine.specs.Owing.{owing_seen, owing_names, OwingInRange}
 use Rattle.sip_machine.specs.inner.Effects.{LeadsFrom, RestsFrom}
 use Rattle.sip_machine.proofs.pools.CoversLemmas.{HasFound, FromSome-same, FromSome-either, Covers-same, Covers-both, slice-old, before-more}

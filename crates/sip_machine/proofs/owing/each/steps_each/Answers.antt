@@ -1,9 +1,9 @@
 use Rattle.std.specs.Prelude.{◌≡◌, ◌<◌, ◌+◌, ◌∷◌, [], get_or, length, take}
 use Rattle.std.proofs.Common.{◌∙◌, ap, subst, arith}
 use Rattle.std.proofs.lemmas.List.{get_or_append_left, take_more}
-use Rattle.sip_machine.specs.MachineEvent.{event_in}
+use Rattle.sip_machine.specs.NumberedEvent.{event_in}
 use Rattle.sip_machine.specs.Rules.{Knows, StandFor}
-use Rattle.sip_machine.specs.Figure.{TakeOf}
+use Rattle.sip_machine.specs.FigureRules.{TakeOf}
 use Rattle.sip_machine.specs.Owing.{CodeOwing, owing_seen, owing_names, OwingInRange}
 use Rattle.sip_machine.proofs.pools.CoversLemmas.{HasFound, found-none, found-more, Covers-alone, Covers-stood, slice-at}
 use Rattle.sip_machine.proofs.pools.PoolLemmas.{some-at}

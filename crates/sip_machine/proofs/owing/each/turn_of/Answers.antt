@@ -1,5 +1,5 @@
 use Rattle.std.proofs.lemmas.Result.{IfOk-weaker}
-use Rattle.sip_machine.specs.MachineEvent.{event_in}
+use Rattle.sip_machine.specs.NumberedEvent.{event_in}
 use Rattle.sip_machine.proofs.steps.OwingEachLemmas.{leads-received, leads-sent}
 use Rattle.sip_machine.proofs.owing.each.turn_of.Goals as goal
 

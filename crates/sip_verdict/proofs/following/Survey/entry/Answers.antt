@@ -3,7 +3,7 @@ use Rattle.std.proofs.lemmas.List.{length_push}
 use Rattle.sip_log.specs.Told.{item}
 use Rattle.sip_verdict.specs.Judging.{MayComeNext}
 use Rattle.sip_verdict.specs.SurveyOf.{AreFoundAt}
-use Rattle.sip_verdict.specs.Surveys.{AreSurveyed}
+use Rattle.sip_verdict.specs.Surveys.{AreHistories, AreSurveyed}
 use Rattle.sip_verdict.proofs.sweeps.FollowedLemmas.{observed_moment}
 use Rattle.sip_verdict.proofs.judges.JudgeLemmas.{may_take_next}
 use Rattle.sip_verdict.proofs.following.Survey.entry.Goals as goal
@@ -33,6 +33,8 @@ returns-in-Ok-clause-found g c = λ es surveys.
         number = comes.next ∙ ap (λ n. n + 1) surveys.number ∙ sym (length_push es seen);
         moment = sym (observed_moment es (item e) seen observed);
         follows = follows;
+        histories = c.in-Ok.ensures.histories es seen (subst (λ j. AreHistories es j.histories) (sym is) surveys.histories)
+            (ap (λ j. j.tables.keys) is ∙ surveys.follows.tracks.keys) (comes.next ∙ ap (λ n. n + 1) surveys.number) observed;
       },
     )
 

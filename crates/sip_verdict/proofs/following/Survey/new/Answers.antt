@@ -1,5 +1,6 @@
 use Rattle.std.proofs.Common.{refl}
 use Rattle.sip_verdict.proofs.surveys.Kept.{surveyed_begun}
+use Rattle.sip_verdict.proofs.surveys.Histories.{none_yet}
 use Rattle.sip_verdict.proofs.following.Survey.new.Goals as goal
 
 pub returns-clause-stands : goal.returns-clause-stands
@@ -8,4 +9,5 @@ returns-clause-stands g c = record {
   number = refl;
   moment = refl;
   follows = surveyed_begun c.args.params c.new.result.book c.new.result.tables c.new-2.result.deaf.items c.new.ensures.book c.new.ensures.tables c.new-2.ensures.deaf;
+  histories = none_yet c.new-3.result c.new-3.ensures.each c.new-3.ensures.restart;
 }

@@ -1,7 +1,7 @@
 use Rattle.std.proofs.Common.{◌≡◌, ◌+◌, ◌∙◌, IfSome, length, refl, sym, ap, subst, arith}
 use Rattle.sip_log.specs.Reading as log
 use Rattle.sip_log.specs.Reading.{beside_source}
-use Rattle.sip_verdict.specs.declared.verdict.Verdict.TheVariants.{Legal, LogFault}
+use Rattle.sip_standard.specs.declared.verdict.Verdict.TheVariants.{Legal, LogFault}
 use Rattle.sip_verdict.specs.declared.listing.Listing.TheVariants.{Stopped}
 use Rattle.sip_verdict.specs.ListingOf.{IsListingOf}
 use Rattle.sip_verdict.specs.inner.TablesTracking.{transactions_of, MayTake}

@@ -1,0 +1,26 @@
+use Rattle.std.specs.Prelude.{ℕ, ◌/◌, ◌%◌, List, [], ◌∷◌, ◌++◌, length, drop, replicate, slice_range}
+use Rattle.sip_standard.specs.declared.role.Role.{Role}
+use Rattle.sip_standard.specs.declared.role.Role.TheVariants.{Client, Server}
+use Rattle.sip_standard.specs.Key.{KeyParts}
+
+-- the parts of a key whose text has its branch, its sent-by and its method between these places
+abbrev pub parts_at : Role → List ℕ → (branch_start branch_end sent_by_end : ℕ) → KeyParts
+parts_at role text branch_start branch_end sent_by_end =
+    record { role = role; branch = slice_range text branch_start branch_end; sent_by = slice_range text branch_end sent_by_end; method = drop sent_by_end text }
+
+-- a length in bytes: 64 as often as it goes, and what is left, which ends it
+unfoldable pub length_bytes : ℕ → List ℕ
+length_bytes count = replicate (count / 64) 64 ++ count % 64 ∷ []
+
+-- the side as a byte
+abbrev pub role_byte : Role → ℕ
+role_byte Client = 0
+role_byte Server = 1
+
+-- what stands before the texts of a key: its side, and how long its branch and its method are
+abbrev pub key_head : Role → (branch method : ℕ) → List ℕ
+key_head role branch method = role_byte role ∷ (length_bytes branch ++ length_bytes method)
+
+-- a key as one text
+abbrev pub key_text : KeyParts → List ℕ
+key_text k = key_head k.role (length k.branch) (length k.method) ++ ((k.branch ++ k.sent_by) ++ k.method)

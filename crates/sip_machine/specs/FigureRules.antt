@@ -1,0 +1,60 @@
+use Rattle.std.specs.Prelude.{◌≡◌, ◌≢◌, ◌≤◌, ◌⊎◌, ℕ, Option, Some, None, List, [], ◌∷◌, ◌++◌, All}
+use Rattle.sip_standard.specs.declared.kind.Kind.{Kind}
+use Rattle.sip_standard.specs.Times.{Times}
+use Rattle.sip_machine.specs.Limits.{IsWithin}
+use Rattle.sip_standard.specs.MachineEvent.{MachineEvent}
+use Rattle.sip_standard.specs.Debts.{Owed}
+use Rattle.sip_machine.specs.Deadlines.{unexpired, must_deadlines, earliest, unless_owed}
+use Rattle.sip_machine.specs.Rules.{Rules}
+use Rattle.sip_standard.specs.Figure.{Change, drops, Figure, Owing, changed, quiet, Steps}
+
+-- The figure as rules, which are the same (sip_states, laws.rt).
+
+-- where a row leads
+abbrev pub After : Type 0 → Type 0
+After X = X × Change
+
+-- where a row leads from a phase with its debts
+abbrev pub led_to : {X : Type 0} → Times → ℕ → List Owed → After X → Owing X
+led_to p t owes after = record { phase = after.0; owes = changed p t after.1 owes }
+
+-- the close of a window, if it has one
+abbrev pub closes_of : Option (ℕ × Option ℕ) → List ℕ
+closes_of None = []
+closes_of (Some (from, None)) = []
+closes_of (Some (from, Some to)) = to ∷ []
+
+-- until when its timers let a phase last
+abbrev pub closes_at : {X : Type 0} → Figure X → Times → X → List ℕ
+closes_at f p x = closes_of (f.window p x) ++ f.sends_by p x
+
+-- when a state may end: not while something has to be sent
+abbrev pub window_of : {X : Type 0} → Figure X → Times → Owing X → Option (ℕ × Option ℕ)
+window_of f p x = unless_owed x.owes (f.window p x.phase)
+
+-- how long a state may be waited in: until the first of its timers, and the first deadline of what has to be sent
+abbrev pub until_of : {X : Type 0} → Figure X → Times → Owing X → Option ℕ
+until_of f p x = earliest (closes_at f p x.phase ++ must_deadlines x.owes)
+
+-- a visible step of a state that has lasted until then
+abbrev pub TakeOf : {X : Type 0} → Figure X → Times → Owing X → MachineEvent → Owing X → Type 0
+TakeOf f p x e y =
+    IsWithin e.moment (until_of f p x) × Steps f p e.action e (record { phase = x.phase; owes = unexpired e.moment x.owes }) y
+
+-- the machine of the figure
+abbrev pub rules_of : {X : Type 0} → Figure X → Times → Rules (Owing X)
+rules_of f p = record { first = quiet f.idle; ended = quiet f.ended; Take = TakeOf f p; window = window_of f p; until = until_of f p }
+
+-- what a figure keeps: the idle and the ended phase have no timer; a row leads to a phase whose timers are not past; one that drops the debts, or
+-- that a send has which may leave the state as it is, leads to another phase; and such a send pays nothing
+pub record IsFigure {X : Type 0} (f : Figure X) : Type 0 where
+  pub idle_has_no_end : (p : Times) → f.window p f.idle ≡ None
+  pub idle_stays : (p : Times) → closes_at f p f.idle ≡ []
+  pub ended_has_no_end : (p : Times) → f.window p f.ended ≡ None
+  pub ended_stays : (p : Times) → closes_at f p f.ended ≡ []
+  pub received_waits : (p : Times) (x : X) (k : Kind) (e : MachineEvent) (y : After X) → All (λ m. e.moment ≤ m) (closes_at f p x) →
+      f.Receives p x k e y → All (λ m. e.moment ≤ m) (closes_at f p y.0)
+  pub sent_waits : (p : Times) (x : X) (k : Kind) (e : MachineEvent) (y : After X) → All (λ m. e.moment ≤ m) (closes_at f p x) →
+      f.Sends p x k e y → All (λ m. e.moment ≤ m) (closes_at f p y.0)
+  pub sent_leaves : (p : Times) (x : X) (k : Kind) (e : MachineEvent) (y : After X) → f.Sends p x k e y → (y.1 ≡ drops) ⊎ f.Stays x k → y.0 ≢ x
+  pub stays_unpaid : (x : X) (k : Kind) (e : MachineEvent) (message : List ℕ) → f.Stays x k → ¬ (f.Satisfies x k e message)

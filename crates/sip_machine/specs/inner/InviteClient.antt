@@ -1,0 +1,60 @@
+use Rattle.std.specs.Prelude.{◌≤◌, ℕ, Some, List, [], ◌∷◌, codes, ⊤}
+use Rattle.sip_machine.specs.declared.invite_client.InviteClientPhase.{InviteClientPhase as CodePhase}
+use Rattle.sip_machine.specs.declared.invite_client.InviteClientPhase.TheVariants as code
+use Rattle.sip_standard.specs.Times.{last_moment}
+use Rattle.sip_machine.specs.Texts.{Texts, text_of}
+use Rattle.sip_machine.specs.inner.Waiting.{waiting_seen, WaitingInRange, waiting_fields}
+use Rattle.sip_machine.specs.Told.{Told, Flag, Number, Message}
+use Rattle.sip_machine.specs.inner.Coded.{Coded}
+use Rattle.sip_standard.specs.InviteClient.{InviteClientPhase, Idle, Ended, Calling, Proceeding, Accepted, Completed}
+pub mod Laws
+
+-- The phases of the code, whose messages are numbers of a book.
+
+-- the phase that a phase of the code stands for
+abbrev pub invite_client_seen : Texts → CodePhase → InviteClientPhase
+invite_client_seen texts code.Idle = Idle
+invite_client_seen texts (code.Calling w) = Calling (waiting_seen texts w)
+invite_client_seen texts (code.Proceeding reliable request cancel) = Proceeding reliable (text_of texts request) cancel
+invite_client_seen texts (code.Accepted set) = Accepted set
+invite_client_seen texts (code.Completed reliable request set) = Completed reliable (text_of texts request) set
+invite_client_seen texts code.Ended = Ended
+
+-- the numbers of the messages that it names
+abbrev pub invite_client_names : CodePhase → List ℕ
+invite_client_names (code.Calling w) = w.request ∷ []
+invite_client_names (code.Proceeding reliable request cancel) = request ∷ []
+invite_client_names (code.Completed reliable request set) = request ∷ []
+invite_client_names x = []
+
+-- its moments are within the limits, and its interval is below 2^50, so that no sum wraps
+abbrev pub InviteClientInRange : CodePhase → Type 0
+InviteClientInRange (code.Calling w) = WaitingInRange w
+InviteClientInRange (code.Proceeding reliable request (Some first)) = first ≤ last_moment
+InviteClientInRange (code.Accepted set) = set ≤ last_moment
+InviteClientInRange (code.Completed reliable request set) = set ≤ last_moment
+InviteClientInRange x = ⊤
+
+-- a phase in words, as a listing tells it
+abbrev pub invite_client_told : InviteClientPhase → Told (List ℕ)
+invite_client_told Idle = record { name = codes "idle"; fields = [] }
+invite_client_told (Calling w) = record { name = codes "calling"; fields = waiting_fields w.reliable w.request w.start w.set w.interval }
+invite_client_told (Proceeding reliable request cancel) =
+    record { name = codes "proceeding"; fields = Flag (codes "reliable") reliable ∷ Message (codes "request") (Some request) ∷ Number (codes "cancel") cancel ∷ [] }
+invite_client_told (Accepted set) = record { name = codes "accepted"; fields = Number (codes "set") (Some set) ∷ [] }
+invite_client_told (Completed reliable request set) =
+    record { name = codes "completed"; fields = Flag (codes "reliable") reliable ∷ Message (codes "request") (Some request) ∷ Number (codes "set") (Some set) ∷ [] }
+invite_client_told Ended = record { name = codes "ended"; fields = [] }
+
+-- how the code has it
+abbrev pub invite_client_coded : Coded InviteClientPhase
+invite_client_coded =
+    record {
+      Code = CodePhase;
+      seen = invite_client_seen;
+      names = invite_client_names;
+      InRange = InviteClientInRange;
+      idle = code.Idle;
+      ended = code.Ended;
+      told = invite_client_told;
+    }

@@ -1,0 +1,132 @@
+use Rattle.std.specs.Prelude.{◌≡◌, ◌≤◌, ◌*◌, ℕ, Bool, true, false, None, Some, [], ◌++◌, All, if◌then◌else◌}
+use Rattle.std.proofs.Common.{refl, ap, inl, inr, arith}
+use Rattle.std.proofs.lemmas.Bool.Decides.{nat_tests}
+use Rattle.std.proofs.lemmas.List.Elements.{All-nil}
+use Rattle.sip_standard.specs.declared.kind.Method.TheVariants.{Invite, Ack, Cancel}
+use Rattle.sip_standard.specs.declared.kind.Kind.TheVariants.{Request, Response}
+use Rattle.sip_machine.specs.declared.invite_client.InviteClientPhase.{InviteClientPhase as CodePhase}
+use Rattle.sip_machine.specs.declared.invite_client.InviteClientPhase.TheVariants as code
+use Rattle.sip_machine.specs.contracts.invite_client.InviteClientPhasePartialEq.TheImpl as derived
+use Rattle.sip_standard.specs.Times.{Times}
+use Rattle.sip_standard.specs.Window.{open_at, close_at, window_at}
+use Rattle.sip_machine.specs.FigureRules.{IsFigure, closes_of}
+use Rattle.sip_standard.specs.InviteClient.{Idle, Calling, Proceeding, Completed, Receives, Sends, invite_client}
+use Rattle.sip_machine.specs.inner.InviteClient.{invite_client_seen, invite_client_names, invite_client_coded, invite_client_told}
+use Rattle.sip_machine.specs.inner.Coded.{IsCoded, AreApart, StandByNames, TellNames, SameWindow, SameCloses, LeadOn, LeadAway}
+use Rattle.sip_machine.specs.inner.FigureLaws.{keeps_them}
+use Rattle.sip_machine.specs.inner.MessageLaws.{option_exact, message_apart}
+use Rattle.sip_machine.specs.inner.WaitingLaws.{waiting_exact, waiting_apart, waiting_by_names, timer_starts, repeat_starts, patience_lasts}
+
+-- Laws of the INVITE client's phases.
+
+-- equal phases of the code are the same one
+pub invite_client_exact : (x y : CodePhase) → derived.ghosts.eq x y ≡ true → x ≡ y
+invite_client_exact code.Idle code.Idle e = refl
+invite_client_exact (code.Calling w) (code.Calling w') e = ap code.Calling (waiting_exact w w' e)
+invite_client_exact (code.Proceeding reliable request cancel) (code.Proceeding reliable' request' cancel') e =
+    let same_cancel : cancel ≡ cancel' = option_exact cancel cancel' (grind (arith, nat_tests)) in grind (arith, nat_tests)
+invite_client_exact (code.Accepted set) (code.Accepted set') e = ap code.Accepted (grind (arith, nat_tests))
+invite_client_exact (code.Completed reliable request set) (code.Completed reliable' request' set') e = grind (arith, nat_tests)
+invite_client_exact code.Ended code.Ended e = refl
+invite_client_exact x y e = cc
+
+-- phases that stand for the same beside one book are the same
+pub invite_client_apart : AreApart invite_client_seen invite_client_names
+invite_client_apart texts code.Idle code.Idle book x_known y_known e = refl
+invite_client_apart texts (code.Calling w) (code.Calling w') book x_known y_known e = ap code.Calling (waiting_apart texts w w' book x_known y_known cc)
+invite_client_apart texts (code.Proceeding reliable request cancel) (code.Proceeding reliable' request' cancel') book x_known y_known e =
+    let same = message_apart texts request request' book x_known y_known cc in cc
+invite_client_apart texts (code.Accepted set) (code.Accepted set') book x_known y_known e = cc
+invite_client_apart texts (code.Completed reliable request set) (code.Completed reliable' request' set') book x_known y_known e =
+    let same = message_apart texts request request' book x_known y_known cc in cc
+invite_client_apart texts code.Ended code.Ended book x_known y_known e = refl
+invite_client_apart texts x y book x_known y_known e = cc
+
+-- a phase stands for the same beside books that agree on what it names
+pub invite_client_by_names : StandByNames invite_client_seen invite_client_names
+invite_client_by_names a b (code.Calling w) agree = ap Calling (waiting_by_names a b w agree)
+invite_client_by_names a b (code.Proceeding reliable request cancel) agree = ap (λ text. Proceeding reliable text cancel) (agree request (0, omega arith, refl))
+invite_client_by_names a b (code.Completed reliable request set) agree = ap (λ text. Completed reliable text set) (agree request (0, omega arith, refl))
+invite_client_by_names a b x agree = refl
+
+-- its timers do not depend on the book
+pub invite_client_window_same : SameWindow invite_client invite_client_seen
+invite_client_window_same a b p (code.Proceeding reliable request None) = refl
+invite_client_window_same a b p x = refl
+
+pub invite_client_closes_same : SameCloses invite_client invite_client_seen
+invite_client_closes_same a b p code.Idle = refl
+invite_client_closes_same a b p x = refl
+
+-- timer D, where it has to fire, is not past as it starts
+pub timer_d_starts : (p : Times) (reliable : Bool) (t : ℕ) → All (λ m. t ≤ m) (closes_of (if reliable then window_at p t 0 else Some (open_at p t 32000, None)) ++ [])
+timer_d_starts p true t = timer_starts p t 0
+timer_d_starts p false t = All-nil (λ m. t ≤ m)
+
+-- a row leads to a phase whose timers are not past
+received : LeadOn invite_client Receives
+received p (Calling w) (Response code) e y running (inl provisional) = rw provisional.1 (All-nil (λ m. e.moment ≤ m))
+received p (Calling w) (Response code) e y running (inr (inl success)) = rw success.1 (timer_starts p e.moment (64 * p.t1))
+received p (Calling w) (Response code) e y running (inr (inr unsuccessful)) = rw unsuccessful.1 (timer_d_starts p w.reliable e.moment)
+received p (Proceeding reliable request cancel) (Response code) e y running (inl success) = rw success.1 (timer_starts p e.moment (64 * p.t1))
+received p (Proceeding reliable request cancel) (Response code) e y running (inr unsuccessful) = rw unsuccessful.1 (timer_d_starts p reliable e.moment)
+received p (Completed reliable request set) (Response code) e y running h = rw h.1 running
+received p x k e y running h = absurd h
+
+sent : LeadOn invite_client Sends
+sent p Idle (Request Invite) e y running h = rw h (repeat_starts p e.moment (close_at p e.moment (64 * p.t1)) p.t1 e.reliable (omega arith))
+sent p Idle (Request Ack) e y running h = rw h running
+sent p (Calling w) (Request Invite) e y running h =
+    rw h.1 (repeat_starts p e.moment (close_at p w.start (64 * p.t1)) (2 * w.interval) w.reliable (patience_lasts p w e.moment (64 * p.t1) running))
+sent p (Calling w) (Request Cancel) e y running h = absurd h
+sent p (Proceeding reliable request None) (Request Cancel) e y running h = rw h running
+sent p x (Request Cancel) e y running h = rw h running
+sent p x k e y running h = absurd h
+
+-- a row that is sent does not drop the debts
+leaves : LeadAway invite_client
+leaves p Idle (Request Invite) e y h (inl drop) = absurd (keeps_them h drop)
+leaves p Idle (Request Ack) e y h (inl drop) = absurd (keeps_them h drop)
+leaves p (Calling w) (Request Invite) e y h (inl drop) = absurd (keeps_them h.1 drop)
+leaves p (Calling w) (Request Cancel) e y h (inl drop) = absurd h
+leaves p (Proceeding reliable request None) (Request Cancel) e y h (inl drop) = absurd (keeps_them h drop)
+leaves p x (Request Cancel) e y h (inl drop) = absurd (keeps_them h drop)
+leaves p x k e y h (inl drop) = absurd h
+leaves p x k e y h (inr stays) = absurd stays
+
+pub invite_client_is_figure : IsFigure invite_client
+invite_client_is_figure =
+    record {
+      idle_has_no_end = λ p. refl;
+      idle_stays = λ p. refl;
+      ended_has_no_end = λ p. refl;
+      ended_stays = λ p. refl;
+      received_waits = received;
+      sent_waits = sent;
+      sent_leaves = leaves;
+      stays_unpaid = λ x k e message stays. absurd stays;
+    }
+
+-- what a phase names is what its words tell
+invite_client_named : TellNames invite_client_seen invite_client_names invite_client_told
+invite_client_named texts code.Idle = refl
+invite_client_named texts x = refl
+
+-- the code has it as it is
+pub invite_client_is_coded : IsCoded invite_client invite_client_coded
+invite_client_is_coded =
+    record {
+      is_figure = invite_client_is_figure;
+      apart = invite_client_apart;
+      by_names = invite_client_by_names;
+      window_same = invite_client_window_same;
+      closes_same = invite_client_closes_same;
+      named = invite_client_named;
+      idle_is = λ texts. refl;
+      ended_is = λ texts. refl;
+      ended_decided = inr (λ same. cc);
+      idle_fits = (refl, tt);
+      ended_fits = (refl, tt);
+      idle_silent = refl;
+      ended_silent = refl;
+    }

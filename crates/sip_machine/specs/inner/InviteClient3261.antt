@@ -1,0 +1,8 @@
+use Rattle.sip_standard.specs.InviteClient.{InviteClientPhase}
+use Rattle.sip_machine.specs.inner.InviteClient.{invite_client_coded}
+use Rattle.sip_machine.specs.inner.Coded.{Coded}
+pub mod Laws
+
+-- how the code has it: as InviteClient
+abbrev pub invite_client_3261_coded : Coded InviteClientPhase
+invite_client_3261_coded = invite_client_coded

@@ -1,0 +1,61 @@
+use Rattle.std.specs.Prelude.{◌≤◌, ◌<◌, ◌^◌, ℕ, Some, List, [], ◌∷◌, codes, ⊤}
+use Rattle.std.specs.Option.{option_map}
+use Rattle.sip_machine.specs.declared.invite_server.InviteServerPhase.{InviteServerPhase as CodePhase}
+use Rattle.sip_machine.specs.declared.invite_server.InviteServerPhase.TheVariants as code
+use Rattle.sip_standard.specs.Times.{last_moment}
+use Rattle.sip_machine.specs.Texts.{Texts, text_of}
+use Rattle.sip_machine.specs.Told.{Told, Flag, Number, Message}
+use Rattle.sip_machine.specs.inner.Coded.{Coded}
+use Rattle.sip_standard.specs.InviteServer.{InviteServerPhase, Idle, Proceeding, Accepted, Completed, Confirmed}
+pub mod Laws
+
+-- The phases of the code, whose messages are numbers of a book.
+
+-- the phase that a phase of the code stands for
+abbrev pub invite_server_seen : Texts → CodePhase → InviteServerPhase
+invite_server_seen texts code.Idle = Idle
+invite_server_seen texts (code.Proceeding reliable set last) = Proceeding reliable set (option_map (text_of texts) last)
+invite_server_seen texts (code.Accepted set) = Accepted set
+invite_server_seen texts (code.Completed reliable final set repeat interval) = Completed reliable (text_of texts final) set repeat interval
+invite_server_seen texts (code.Confirmed reliable set) = Confirmed reliable set
+
+-- the numbers of the messages that it names
+abbrev pub invite_server_names : CodePhase → List ℕ
+invite_server_names (code.Proceeding reliable set (Some last)) = last ∷ []
+invite_server_names (code.Completed reliable final set repeat interval) = final ∷ []
+invite_server_names x = []
+
+-- its moments are within the limits, and its interval is below 2^50, so that no sum wraps
+abbrev pub InviteServerInRange : CodePhase → Type 0
+InviteServerInRange code.Idle = ⊤
+InviteServerInRange (code.Proceeding reliable set last) = set ≤ last_moment
+InviteServerInRange (code.Accepted set) = set ≤ last_moment
+InviteServerInRange (code.Completed reliable final set repeat interval) = (set ≤ last_moment) × (repeat ≤ last_moment) × (interval < 2 ^ 50)
+InviteServerInRange (code.Confirmed reliable set) = set ≤ last_moment
+
+-- a phase in words, as a listing tells it
+abbrev pub invite_server_told : InviteServerPhase → Told (List ℕ)
+invite_server_told Idle = record { name = codes "idle"; fields = [] }
+invite_server_told (Proceeding reliable set last) =
+    record { name = codes "proceeding"; fields = Flag (codes "reliable") reliable ∷ Number (codes "set") (Some set) ∷ Message (codes "last") last ∷ [] }
+invite_server_told (Accepted set) = record { name = codes "accepted"; fields = Number (codes "set") (Some set) ∷ [] }
+invite_server_told (Completed reliable final set repeat interval) =
+    record {
+      name = codes "completed";
+      fields = Flag (codes "reliable") reliable ∷ Message (codes "final") (Some final) ∷ Number (codes "set") (Some set)
+          ∷ Number (codes "repeat") (Some repeat) ∷ Number (codes "interval") (Some interval) ∷ [];
+    }
+invite_server_told (Confirmed reliable set) = record { name = codes "confirmed"; fields = Flag (codes "reliable") reliable ∷ Number (codes "set") (Some set) ∷ [] }
+
+-- how the code has it
+abbrev pub invite_server_coded : Coded InviteServerPhase
+invite_server_coded =
+    record {
+      Code = CodePhase;
+      seen = invite_server_seen;
+      names = invite_server_names;
+      InRange = InviteServerInRange;
+      idle = code.Idle;
+      ended = code.Idle;
+      told = invite_server_told;
+    }

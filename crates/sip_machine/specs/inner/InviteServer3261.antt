@@ -1,0 +1,48 @@
+use Rattle.std.specs.Prelude.{◌++◌, ℕ, false, List, [], ◌∷◌, if◌then◌else◌, codes, ⊤}
+use Rattle.sip_machine.specs.declared.invite_server_3261.InviteServer3261Phase.{InviteServer3261Phase as CodePhase}
+use Rattle.sip_machine.specs.declared.invite_server_3261.InviteServer3261Phase.TheVariants as code
+use Rattle.sip_machine.specs.declared.invite_server.InviteServerPhase.TheVariants as code_phase
+use Rattle.sip_machine.specs.Texts.{Texts}
+use Rattle.sip_standard.specs.InviteServer.{Idle}
+use Rattle.sip_machine.specs.inner.InviteServer.{invite_server_seen, invite_server_names, InviteServerInRange, invite_server_told}
+use Rattle.sip_machine.specs.Told.{Told, Flag}
+use Rattle.sip_machine.specs.inner.Coded.{Coded}
+use Rattle.sip_standard.specs.InviteServer3261.{In, InviteServer3261Phase, Passed, remembers}
+pub mod Laws
+
+-- The phases of the code, whose messages are numbers of a book.
+
+-- the phase that a phase of the code stands for
+abbrev pub invite_server_3261_seen : Texts → CodePhase → InviteServer3261Phase
+invite_server_3261_seen texts code.Passed = Passed
+invite_server_3261_seen texts (code.In phase again) = In (invite_server_seen texts phase) again
+
+-- the numbers of the messages that it names
+abbrev pub invite_server_3261_names : CodePhase → List ℕ
+invite_server_3261_names code.Passed = []
+invite_server_3261_names (code.In phase again) = invite_server_names phase
+
+-- its moments are within the limits, and its interval is below 2^50, so that no sum wraps
+abbrev pub InviteServer3261InRange : CodePhase → Type 0
+InviteServer3261InRange code.Passed = ⊤
+InviteServer3261InRange (code.In phase again) = InviteServerInRange phase
+
+-- a phase in words, as a listing tells it: whether the INVITE came again stands after the rest, where it matters
+abbrev pub invite_server_3261_told : InviteServer3261Phase → Told (List ℕ)
+invite_server_3261_told Passed = record { name = codes "passed"; fields = [] }
+invite_server_3261_told (In x again) =
+    let told = invite_server_told x in
+    if remembers x then record { name = told.name; fields = told.fields ++ Flag (codes "again") again ∷ [] } else told
+
+-- how the code has it
+abbrev pub invite_server_3261_coded : Coded InviteServer3261Phase
+invite_server_3261_coded =
+    record {
+      Code = CodePhase;
+      seen = invite_server_3261_seen;
+      names = invite_server_3261_names;
+      InRange = InviteServer3261InRange;
+      idle = code.In code_phase.Idle false;
+      ended = code.In code_phase.Idle false;
+      told = invite_server_3261_told;
+    }

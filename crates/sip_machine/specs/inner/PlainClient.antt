@@ -1,0 +1,54 @@
+use Rattle.std.specs.Prelude.{◌≤◌, ℕ, List, [], ◌∷◌, Some, codes, ⊤}
+use Rattle.sip_machine.specs.declared.plain_client.PlainClientPhase.{PlainClientPhase as CodePhase}
+use Rattle.sip_machine.specs.declared.plain_client.PlainClientPhase.TheVariants as code
+use Rattle.sip_standard.specs.Times.{last_moment}
+use Rattle.sip_machine.specs.Texts.{Texts}
+use Rattle.sip_machine.specs.inner.Waiting.{waiting_seen, WaitingInRange, waiting_fields}
+use Rattle.sip_machine.specs.Told.{Told, Flag, Number}
+use Rattle.sip_machine.specs.inner.Coded.{Coded}
+use Rattle.sip_standard.specs.PlainClient.{PlainClientPhase, Idle, Ended, Trying, Proceeding, Completed}
+pub mod Laws
+
+-- The phases of the code, whose messages are numbers of a book.
+
+-- the phase that a phase of the code stands for
+abbrev pub plain_client_seen : Texts → CodePhase → PlainClientPhase
+plain_client_seen texts code.Idle = Idle
+plain_client_seen texts (code.Trying w) = Trying (waiting_seen texts w)
+plain_client_seen texts (code.Proceeding w) = Proceeding (waiting_seen texts w)
+plain_client_seen texts (code.Completed reliable set) = Completed reliable set
+plain_client_seen texts code.Ended = Ended
+
+-- the numbers of the messages that it names
+abbrev pub plain_client_names : CodePhase → List ℕ
+plain_client_names (code.Trying w) = w.request ∷ []
+plain_client_names (code.Proceeding w) = w.request ∷ []
+plain_client_names x = []
+
+-- its moments are within the limits, and its interval is below 2^50, so that no sum wraps
+abbrev pub PlainClientInRange : CodePhase → Type 0
+PlainClientInRange (code.Trying w) = WaitingInRange w
+PlainClientInRange (code.Proceeding w) = WaitingInRange w
+PlainClientInRange (code.Completed reliable set) = set ≤ last_moment
+PlainClientInRange x = ⊤
+
+-- a phase in words, as a listing tells it
+abbrev pub plain_client_told : PlainClientPhase → Told (List ℕ)
+plain_client_told Idle = record { name = codes "idle"; fields = [] }
+plain_client_told (Trying w) = record { name = codes "trying"; fields = waiting_fields w.reliable w.request w.start w.set w.interval }
+plain_client_told (Proceeding w) = record { name = codes "proceeding"; fields = waiting_fields w.reliable w.request w.start w.set w.interval }
+plain_client_told (Completed reliable set) = record { name = codes "completed"; fields = Flag (codes "reliable") reliable ∷ Number (codes "set") (Some set) ∷ [] }
+plain_client_told Ended = record { name = codes "ended"; fields = [] }
+
+-- how the code has it
+abbrev pub plain_client_coded : Coded PlainClientPhase
+plain_client_coded =
+    record {
+      Code = CodePhase;
+      seen = plain_client_seen;
+      names = plain_client_names;
+      InRange = PlainClientInRange;
+      idle = code.Idle;
+      ended = code.Ended;
+      told = plain_client_told;
+    }

@@ -1,0 +1,109 @@
+use Rattle.std.specs.Prelude.{◌≡◌, ◌*◌, true, min, if◌then◌else◌}
+use Rattle.std.proofs.Common.{refl, ap, inl, inr, arith}
+use Rattle.std.proofs.lemmas.Bool.Decides.{nat_tests}
+use Rattle.sip_standard.specs.declared.kind.Kind.TheVariants.{Request, Response}
+use Rattle.sip_machine.specs.declared.plain_client.PlainClientPhase.{PlainClientPhase as CodePhase}
+use Rattle.sip_machine.specs.declared.plain_client.PlainClientPhase.TheVariants as code
+use Rattle.sip_machine.specs.contracts.plain_client.PlainClientPhasePartialEq.TheImpl as derived
+use Rattle.sip_standard.specs.Window.{close_at}
+use Rattle.sip_machine.specs.FigureRules.{IsFigure}
+use Rattle.sip_standard.specs.PlainClient.{Idle, Trying, Proceeding, Receives, Sends, plain_client}
+use Rattle.sip_machine.specs.inner.PlainClient.{plain_client_seen, plain_client_names, plain_client_coded, plain_client_told}
+use Rattle.sip_machine.specs.inner.Coded.{IsCoded, AreApart, StandByNames, TellNames, SameWindow, SameCloses, LeadOn, LeadAway}
+use Rattle.sip_machine.specs.inner.FigureLaws.{keeps_them}
+use Rattle.sip_machine.specs.inner.WaitingLaws.{waiting_exact, waiting_apart, waiting_by_names, timer_starts, repeat_starts, patience_lasts}
+
+-- Laws of the non-INVITE client's phases.
+
+-- equal phases of the code are the same one
+pub plain_client_exact : (x y : CodePhase) → derived.ghosts.eq x y ≡ true → x ≡ y
+plain_client_exact code.Idle code.Idle e = refl
+plain_client_exact (code.Trying w) (code.Trying w') e = ap code.Trying (waiting_exact w w' e)
+plain_client_exact (code.Proceeding w) (code.Proceeding w') e = ap code.Proceeding (waiting_exact w w' e)
+plain_client_exact (code.Completed reliable set) (code.Completed reliable' set') e = grind (arith, nat_tests)
+plain_client_exact code.Ended code.Ended e = refl
+plain_client_exact x y e = cc
+
+-- phases that stand for the same beside one book are the same
+pub plain_client_apart : AreApart plain_client_seen plain_client_names
+plain_client_apart texts code.Idle code.Idle book x_known y_known e = refl
+plain_client_apart texts (code.Trying w) (code.Trying w') book x_known y_known e = ap code.Trying (waiting_apart texts w w' book x_known y_known cc)
+plain_client_apart texts (code.Proceeding w) (code.Proceeding w') book x_known y_known e = ap code.Proceeding (waiting_apart texts w w' book x_known y_known cc)
+plain_client_apart texts (code.Completed reliable set) (code.Completed reliable' set') book x_known y_known e = cc
+plain_client_apart texts code.Ended code.Ended book x_known y_known e = refl
+plain_client_apart texts x y book x_known y_known e = cc
+
+-- a phase stands for the same beside books that agree on what it names
+pub plain_client_by_names : StandByNames plain_client_seen plain_client_names
+plain_client_by_names a b (code.Trying w) agree = ap Trying (waiting_by_names a b w agree)
+plain_client_by_names a b (code.Proceeding w) agree = ap Proceeding (waiting_by_names a b w agree)
+plain_client_by_names a b x agree = refl
+
+-- its timers do not depend on the book
+pub plain_client_window_same : SameWindow plain_client plain_client_seen
+plain_client_window_same a b p code.Idle = refl
+plain_client_window_same a b p x = refl
+
+pub plain_client_closes_same : SameCloses plain_client plain_client_seen
+plain_client_closes_same a b p code.Idle = refl
+plain_client_closes_same a b p x = refl
+
+-- a row leads to a phase whose timers are not past
+received : LeadOn plain_client Receives
+received p (Trying w) (Response code) e y running h =
+    elim h [ inl provisional ↦ rw provisional.1 running | inr final ↦ rw final.1 (timer_starts p e.moment (if w.reliable then 0 else p.t4)) ]
+received p (Proceeding w) (Response code) e y running h = rw h.1 (timer_starts p e.moment (if w.reliable then 0 else p.t4))
+received p x k e y running h = absurd h
+
+sent : LeadOn plain_client Sends
+sent p Idle (Request method) e y running h = rw h (repeat_starts p e.moment (close_at p e.moment (64 * p.t1)) p.t1 e.reliable (omega arith))
+sent p (Trying w) (Request method) e y running h =
+    rw h.1 (repeat_starts p e.moment (close_at p w.start (64 * p.t1)) (min (2 * w.interval) p.t2) w.reliable (patience_lasts p w e.moment (64 * p.t1) running))
+sent p (Proceeding w) (Request method) e y running h =
+    rw h.1 (repeat_starts p e.moment (close_at p w.start (64 * p.t1)) p.t2 w.reliable (patience_lasts p w e.moment (64 * p.t1) running))
+sent p x k e y running h = absurd h
+
+-- a row that is sent does not drop the debts
+leaves : LeadAway plain_client
+leaves p Idle (Request method) e y h (inl drop) = absurd (keeps_them h drop)
+leaves p (Trying w) (Request method) e y h (inl drop) = absurd (keeps_them h.1 drop)
+leaves p (Proceeding w) (Request method) e y h (inl drop) = absurd (keeps_them h.1 drop)
+leaves p x k e y h (inl drop) = absurd h
+leaves p x k e y h (inr stays) = absurd stays
+
+pub plain_client_is_figure : IsFigure plain_client
+plain_client_is_figure =
+    record {
+      idle_has_no_end = λ p. refl;
+      idle_stays = λ p. refl;
+      ended_has_no_end = λ p. refl;
+      ended_stays = λ p. refl;
+      received_waits = received;
+      sent_waits = sent;
+      sent_leaves = leaves;
+      stays_unpaid = λ x k e message stays. absurd stays;
+    }
+
+-- what a phase names is what its words tell
+plain_client_named : TellNames plain_client_seen plain_client_names plain_client_told
+plain_client_named texts code.Idle = refl
+plain_client_named texts x = refl
+
+-- the code has it as it is
+pub plain_client_is_coded : IsCoded plain_client plain_client_coded
+plain_client_is_coded =
+    record {
+      is_figure = plain_client_is_figure;
+      apart = plain_client_apart;
+      by_names = plain_client_by_names;
+      window_same = plain_client_window_same;
+      closes_same = plain_client_closes_same;
+      named = plain_client_named;
+      idle_is = λ texts. refl;
+      ended_is = λ texts. refl;
+      ended_decided = inr (λ same. cc);
+      idle_fits = (refl, tt);
+      ended_fits = (refl, tt);
+      idle_silent = refl;
+      ended_silent = refl;
+    }

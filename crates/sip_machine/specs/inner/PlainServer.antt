@@ -1,0 +1,50 @@
+use Rattle.std.specs.Prelude.{◌≤◌, ℕ, List, [], ◌∷◌, Some, codes, ⊤}
+use Rattle.sip_machine.specs.declared.plain_server.PlainServerPhase.{PlainServerPhase as CodePhase}
+use Rattle.sip_machine.specs.declared.plain_server.PlainServerPhase.TheVariants as code
+use Rattle.sip_standard.specs.Times.{last_moment}
+use Rattle.sip_machine.specs.Texts.{Texts, text_of}
+use Rattle.sip_machine.specs.Told.{Told, Flag, Number, Message}
+use Rattle.sip_machine.specs.inner.Coded.{Coded}
+use Rattle.sip_standard.specs.PlainServer.{PlainServerPhase, Idle, Trying, Proceeding, Completed}
+pub mod Laws
+
+-- The phases of the code, whose messages are numbers of a book.
+
+-- the phase that a phase of the code stands for
+abbrev pub plain_server_seen : Texts → CodePhase → PlainServerPhase
+plain_server_seen texts code.Idle = Idle
+plain_server_seen texts (code.Trying reliable) = Trying reliable
+plain_server_seen texts (code.Proceeding reliable last) = Proceeding reliable (text_of texts last)
+plain_server_seen texts (code.Completed reliable final set) = Completed reliable (text_of texts final) set
+
+-- the numbers of the messages that it names
+abbrev pub plain_server_names : CodePhase → List ℕ
+plain_server_names (code.Proceeding reliable last) = last ∷ []
+plain_server_names (code.Completed reliable final set) = final ∷ []
+plain_server_names x = []
+
+-- its moments are within the limits, so that no sum wraps
+abbrev pub PlainServerInRange : CodePhase → Type 0
+PlainServerInRange (code.Completed reliable final set) = set ≤ last_moment
+PlainServerInRange x = ⊤
+
+-- a phase in words, as a listing tells it
+abbrev pub plain_server_told : PlainServerPhase → Told (List ℕ)
+plain_server_told Idle = record { name = codes "idle"; fields = [] }
+plain_server_told (Trying reliable) = record { name = codes "trying"; fields = Flag (codes "reliable") reliable ∷ [] }
+plain_server_told (Proceeding reliable last) = record { name = codes "proceeding"; fields = Flag (codes "reliable") reliable ∷ Message (codes "last") (Some last) ∷ [] }
+plain_server_told (Completed reliable final set) =
+    record { name = codes "completed"; fields = Flag (codes "reliable") reliable ∷ Message (codes "final") (Some final) ∷ Number (codes "set") (Some set) ∷ [] }
+
+-- how the code has it
+abbrev pub plain_server_coded : Coded PlainServerPhase
+plain_server_coded =
+    record {
+      Code = CodePhase;
+      seen = plain_server_seen;
+      names = plain_server_names;
+      InRange = PlainServerInRange;
+      idle = code.Idle;
+      ended = code.Idle;
+      told = plain_server_told;
+    }

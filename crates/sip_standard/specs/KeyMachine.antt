@@ -1,0 +1,40 @@
+-- The machine of each key (RFC 3261 section 17), and its figure: the list of machines.
+use Rattle.std.specs.Prelude.{Bool, true, false, codes, bytes_eq}
+use Rattle.sip_standard.specs.declared.role.Role.{Role}
+use Rattle.sip_standard.specs.declared.role.Role.TheVariants.{Client, Server}
+use Rattle.sip_standard.specs.Key.{KeyParts}
+use Rattle.sip_standard.specs.declared.rules.Rules.{Rules as BuiltBy}
+use Rattle.sip_standard.specs.declared.rules.Rules.TheVariants.{R3261, R6026}
+use Rattle.sip_standard.specs.Transaction.{Transaction}
+use Rattle.sip_standard.specs.InviteClient.{InviteClientPhase, invite_client}
+use Rattle.sip_standard.specs.PlainClient.{PlainClientPhase, plain_client}
+use Rattle.sip_standard.specs.InviteServer.{InviteServerPhase, invite_server}
+use Rattle.sip_standard.specs.InviteClient3261.{invite_client_3261}
+use Rattle.sip_standard.specs.InviteServer3261.{InviteServer3261Phase, invite_server_3261}
+use Rattle.sip_standard.specs.PlainServer.{PlainServerPhase, plain_server}
+
+-- the machines of section 17, those for INVITE with and without the accepted states of RFC 6026
+pub data MachineKind : Type 0 where
+  OfInviteClient OfPlainClient OfInviteServer OfPlainServer OfInviteClient3261 OfInviteServer3261 : MachineKind
+
+-- the machine of a role by these rules, for the method INVITE or any other
+abbrev pub machine_of : BuiltBy → Role → Bool → MachineKind
+machine_of R6026 Client true = OfInviteClient
+machine_of R3261 Client true = OfInviteClient3261
+machine_of rules Client false = OfPlainClient
+machine_of R6026 Server true = OfInviteServer
+machine_of R3261 Server true = OfInviteServer3261
+machine_of rules Server false = OfPlainServer
+
+-- the machine of a key
+abbrev pub machine_of_key : BuiltBy → KeyParts → MachineKind
+machine_of_key rules key = machine_of rules key.role (bytes_eq key.method (codes "INVITE"))
+
+-- the figure of each machine
+abbrev pub transaction_of : MachineKind → Transaction
+transaction_of OfInviteClient = record { Phase = InviteClientPhase; figure = invite_client }
+transaction_of OfPlainClient = record { Phase = PlainClientPhase; figure = plain_client }
+transaction_of OfInviteServer = record { Phase = InviteServerPhase; figure = invite_server }
+transaction_of OfPlainServer = record { Phase = PlainServerPhase; figure = plain_server }
+transaction_of OfInviteClient3261 = record { Phase = InviteClientPhase; figure = invite_client_3261 }
+transaction_of OfInviteServer3261 = record { Phase = InviteServer3261Phase; figure = invite_server_3261 }

@@ -1,0 +1,19 @@
+-- What is written of a log is the survey that is asked for, with its status.
+use Rattle.std.proofs.Common.{◌≡◌, ℕ, List, Option, Some, None, IfSome, subst}
+use Rattle.std.specs.Io.KnownBytes.{Appends}
+use Rattle.sip_part.specs.Part.{PartOf}
+use Rattle.sip_verdict.specs.declared.finding.Finding.{Finding}
+use Rattle.sip_verdict.specs.declared.summary.Summary.{Summary}
+use Rattle.sip_verdict.specs.SurveyText.{SumsUp}
+use Rattle.sip_survey_program.specs.Answers.{IsSurveyFor, IsSurveyed}
+use Rattle.sip_survey_program.specs.Status.{status_of}
+
+pub answered : (part : Option PartOf) (left input before after : Option (List ℕ)) (s : Summary) (status : ℕ) → left ≡ input
+    → IfSome left (λ bytes. (found : List Finding) × (text : List ℕ) × IsSurveyFor part bytes found s.end text × SumsUp found s × Appends before after text)
+    → ((found : List Finding) → SumsUp found s → status ≡ status_of found s.end) → IsSurveyed part input before after status
+answered part left input before after s status same written counts = subst (λ log. IsSurveyed part log before after status) same (by left written)
+  where
+    by : (log : Option (List ℕ)) → IfSome log (λ bytes. (found : List Finding) × (text : List ℕ) × IsSurveyFor part bytes found s.end text × SumsUp found s × Appends before after text)
+        → IsSurveyed part log before after status
+    by None none = tt
+    by (Some bytes) (found, text, told, sums, appends) = (found, s.end, text, told, appends, counts found sums)

@@ -1,0 +1,21 @@
+use Rattle.std.proofs.Common.{◌≡◌, ◌-◌, ◌∙◌, Some, slice_get, sym, ap, subst, refl, rules}
+use Rattle.sip_verdict.specs.SurveyText.{IsFirstOf, IsLastOf}
+use Rattle.sip_verdict.specs.Surveys.{AreHistories}
+use Rattle.sip_verdict.proofs.surveys.Histories.{IfSome-at, history_at}
+use Rattle.sip_verdict.proofs.following.Survey.transaction.Goals as goal
+
+pub returns : goal.returns
+returns g c = λ es surveys low.
+    let s = c.self.inside in
+    let is = c.self.view_is in
+    let n = c.args.number - 1 in
+    let key = c.in_ok-key.key.now in
+    let h = c.in_ok-history.history.now in
+    let keys = ap (λ j. j.tables.keys) is ∙ surveys.follows.tracks.keys in
+    let told = subst (λ j. AreHistories es j.histories) (sym is) surveys.histories in
+    let at : slice_get s.standing.tables.keys n ≡ Some key = search rules in
+    let here : slice_get s.histories.each.items n ≡ Some h = history_at _ _ _ _ _ c.get.ensures.lookup c.deref.ensures.value c.in_ok-history.was in
+    let there = ap (λ ks. slice_get ks n) (sym keys) ∙ at in
+    let one = told.each n key h there here in
+    IfSome-at _ _ key there
+    (refl, subst (IsFirstOf es key h.first) (sym c.as_slice.ensures.value) one.first, subst (IsLastOf es key) (sym c.max.ensures) one.last)

@@ -4,7 +4,7 @@ ghost use Rattle.sip_machine.specs.Texts.{Texts};
 ghost use Rattle.sip_machine.specs.InviteClient.{invite_client_seen};
 ghost use Rattle.sip_machine.specs.InviteClient3261.Laws.{IsEndedBy};
 
-use crate::book::Book;
+use crate::beside::Beside;
 use crate::dues::Dues;
 use crate::event::{Event, Kind, is_success};
 use crate::invite_client::{InviteClient, InviteClientPhase};
@@ -83,7 +83,7 @@ impl Phases for InviteClient3261 {
     fn receives(
         &self,
         alloc: Global,
-        book: &Book,
+        book: &Beside<'_, '_>,
         phase: &InviteClientPhase,
         event: &Event,
     ) -> Result<Option<Turn<InviteClientPhase>>, AllocError> {
@@ -99,7 +99,7 @@ impl Phases for InviteClient3261 {
     fn sends(
         &self,
         alloc: Global,
-        book: &Book,
+        book: &Beside<'_, '_>,
         phase: &InviteClientPhase,
         event: &Event,
     ) -> Result<Option<Turn<InviteClientPhase>>, AllocError> {
@@ -109,7 +109,7 @@ impl Phases for InviteClient3261 {
     fn paid(
         &self,
         alloc: Global,
-        book: &Book,
+        book: &Beside<'_, '_>,
         phase: &InviteClientPhase,
         event: &Event,
         dues: &mut Dues,

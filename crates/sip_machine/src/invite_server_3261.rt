@@ -14,7 +14,7 @@ ghost use Rattle.sip_machine.specs.InviteServer3261.{Passed, Receives, Sends, re
 ghost use Rattle.sip_machine.specs.InviteServer3261.Laws.{turn_within};
 ghost use Rattle.sip_machine.specs.inner.Single.{AnswersOne};
 
-use crate::book::Book;
+use crate::beside::Beside;
 use crate::dues::Dues;
 use crate::event::{Event, Kind, Method, is_success};
 use crate::invite_server::{InviteServer, InviteServerPhase};
@@ -114,7 +114,7 @@ impl Phases for InviteServer3261 {
     fn receives(
         &self,
         alloc: Global,
-        book: &Book,
+        book: &Beside<'_, '_>,
         phase: &InviteServer3261Phase,
         event: &Event,
     ) -> Result<Option<Turn<InviteServer3261Phase>>, AllocError> {
@@ -130,7 +130,7 @@ impl Phases for InviteServer3261 {
     fn sends(
         &self,
         alloc: Global,
-        book: &Book,
+        book: &Beside<'_, '_>,
         phase: &InviteServer3261Phase,
         event: &Event,
     ) -> Result<Option<Turn<InviteServer3261Phase>>, AllocError> {
@@ -152,7 +152,7 @@ impl Phases for InviteServer3261 {
     fn paid(
         &self,
         _alloc: Global,
-        book: &Book,
+        book: &Beside<'_, '_>,
         _phase: &InviteServer3261Phase,
         event: &Event,
         dues: &mut Dues,
@@ -169,7 +169,12 @@ impl Phases for InviteServer3261 {
         }
     }
 
-    fn pays(&self, book: &Book, _phase: &InviteServer3261Phase, event: &Event) -> Option<u32> {
+    fn pays(
+        &self,
+        book: &Beside<'_, '_>,
+        _phase: &InviteServer3261Phase,
+        event: &Event,
+    ) -> Option<u32> {
         match event.kind() {
             Kind::Request(_) => None,
             Kind::Response(code) => {

@@ -2,7 +2,7 @@
 ghost use Rattle.std.specs.Prelude.{◌≡◌};
 
 use self::PlainClientPhase::{Completed, Ended, Idle, Proceeding, Trying};
-use crate::book::Book;
+use crate::beside::Beside;
 use crate::dues::Dues;
 use crate::event::{Event, Kind, is_final, is_provisional};
 use crate::phases::{Change, Phase, Phases, Turn};
@@ -100,7 +100,7 @@ impl Phases for PlainClient {
     fn receives(
         &self,
         _alloc: Global,
-        _book: &Book,
+        _book: &Beside<'_, '_>,
         phase: &PlainClientPhase,
         event: &Event,
     ) -> Result<Option<Turn<PlainClientPhase>>, AllocError> {
@@ -122,7 +122,7 @@ impl Phases for PlainClient {
     fn sends(
         &self,
         _alloc: Global,
-        book: &Book,
+        book: &Beside<'_, '_>,
         phase: &PlainClientPhase,
         event: &Event,
     ) -> Result<Option<Turn<PlainClientPhase>>, AllocError> {
@@ -157,7 +157,7 @@ impl Phases for PlainClient {
     fn paid(
         &self,
         _alloc: Global,
-        _book: &Book,
+        _book: &Beside<'_, '_>,
         _phase: &PlainClientPhase,
         _event: &Event,
         _dues: &mut Dues,

@@ -27,13 +27,16 @@ const REQUEST: u32 = 4;
 
 const LAST: u32 = 5;
 
-/// Each message by its number: three that are owed, their request, and one that is sent after them.
-const MESSAGES: [Numbered; 5] = [
+const FINAL: u32 = 6;
+
+/// Each message by its number: three that are owed, their request, one that is sent after them, and a final response.
+const MESSAGES: [Numbered; 6] = [
     (1, Start::Response(181), None),
     (2, Start::Response(182), None),
     (3, Start::Response(183), None),
     (REQUEST, Start::Request("OPTIONS"), None),
     (LAST, Start::Response(180), None),
+    (FINAL, Start::Response(200), None),
 ];
 
 fn server() -> Result<PlainServer, Fail> {
@@ -309,6 +312,81 @@ fn states_come_and_go(rt: HostRuntime) -> Result<(), Fail> {
     Ok(())
 }
 
+/// What a state owes stays, whether or not those before it owe anything.
+#[test]
+fn what_a_later_state_owes_stays(rt: HostRuntime) -> Result<(), Fail> {
+    let mut pool = pool_of(rt.alloc(), &[&[], &[1]])?;
+    pool.tidy();
+    owe(&rt, &pool, &[1])
+}
+
+/// Ten states, of which each second one is idle.
+fn by_turns(alloc: Global) -> Result<Pool<PlainServerPhase>, Fail> {
+    let server = server()?;
+    let book = book_of(alloc, &MESSAGES, "OPTIONS", "UDP")?;
+    let mut pool = Pool::new(alloc);
+    for _ in 0..5 {
+        pool.push(PlainServerPhase::Idle)?;
+        push_owing(alloc, &server, &book, &mut pool, &[])?;
+    }
+    Ok(pool)
+}
+
+/// States that are the same are told to be, also where others stand between them.
+#[test]
+fn states_by_turns_are_two(rt: HostRuntime) -> Result<(), Fail> {
+    let pool = by_turns(rt.alloc())?;
+    first_ones_follow(&rt, &pool, 0, 2)
+}
+
+/// A state that may send a 181 until 60 and must send a 200 until 105.
+fn push_past<M: Machine>(
+    alloc: Global,
+    machine: &M,
+    book: &Book,
+    pool: &mut Pool<M::Phase>,
+) -> Result<(), Fail>
+    requires known { All (Knows M.names book.now) pool.old }
+    requires in_range { All M.in_range pool.old }
+    ensures known { OnOk result (All (Knows M.names book.now) pool.new) }
+    ensures in_range { OnOk result (All M.in_range pool.new) }
+{
+    push_owing(alloc, machine, book, pool, &[1])?;
+    let last = event_of(alloc, book, 20, Action::Sent, FINAL)?;
+    take(machine, book, pool, &last)?;
+    let again = event_of(alloc, book, 55, Action::Received, REQUEST)?;
+    take(machine, book, pool, &again)
+}
+
+/// Lets all states take the event at once, and keeps them before those that it gives.
+fn all_take<M: Machine>(
+    alloc: Global,
+    machine: &M,
+    book: &Book,
+    pool: &mut Pool<M::Phase>,
+    moment: u64,
+) -> Result<(), Fail>
+    requires known { All (Knows M.names book.now) pool.old }
+    requires in_range { All M.in_range pool.old }
+{
+    let event = event_of(alloc, book, moment, Action::Sent, FINAL)?;
+    let count = pool.len();
+    machine.successors_each(book, pool, count, &event)?;
+    Ok(())
+}
+
+/// The 200 at 70 leads to a state that owes nothing. The one before it owes what it did, past or not.
+#[test]
+fn states_that_take_an_event_stay_as_they_are(rt: HostRuntime) -> Result<(), Fail> {
+    let server = server()?;
+    let book = book_of(rt.alloc(), &MESSAGES, "OPTIONS", "UDP")?;
+    let mut pool = Pool::new(rt.alloc());
+    push_past(rt.alloc(), &server, &book, &mut pool)?;
+    all_take(rt.alloc(), &server, &book, &mut pool, 70)?;
+    assert!(rt; pool.len() == 2);
+    owe(&rt, &pool, &[1, FINAL])
+}
+
 /// Lets the first state take the event. Where memory is refused, the states may take it again.
 fn first_takes<M: Machine>(
     machine: &M,
@@ -388,4 +466,40 @@ fn a_pool_goes_on_after_a_refused_growth(rt: HostRuntime) -> Result<(), Fail> {
     )?;
     let event = event_of(rt.alloc(), &book, 20, Action::Sent, 1)?;
     goes_on(&rt, &server, &book, &mut pool, &event)
+}
+
+/// That the first of two states is asked again and owes one debt more in a third, or, where memory is refused, that all is as before and
+/// that it is asked then.
+fn gains_again<M: Machine>(
+    rt: &(impl Abort + AllocGlobal),
+    machine: &M,
+    book: &Book,
+    pool: &mut Pool<M::Phase>,
+    event: &Event,
+) -> Result<(), Fail>
+    requires fits { FitsBook book.now event.now }
+    requires known { All (Knows M.names book.now) pool.old }
+    requires in_range { All M.in_range pool.old }
+{
+    let before = states_of(rt.alloc(), pool)?;
+    assert!(rt; pool.len() == 2);
+    let Err(error) = first_takes(machine, book, pool, event) else {
+        return owe(rt, pool, &[1, 2, 3, 1, 1, 2, 3, 1, LAST]);
+    };
+    are_as_before(rt, pool, &before)?;
+    assert!(rt; pool.len() == 2);
+    first_takes(machine, book, pool, event)?;
+    owe(rt, pool, &[1, 2, 3, 1, 1, 2, 3, 1, LAST])?;
+    Err(error.into())
+}
+
+/// Two states, of which one owes four messages and comes to owe another one, which has no room yet.
+#[test]
+fn a_debt_comes_after_a_refused_growth(rt: HostRuntime) -> Result<(), Fail> {
+    let server = server()?;
+    let book = book_of(rt.alloc(), &MESSAGES, "OPTIONS", "UDP")?;
+    let mut pool = Pool::new(rt.alloc());
+    push_each(rt.alloc(), &server, &book, &mut pool, &[&[1, 2, 3, 1], &[]])?;
+    let event = event_of(rt.alloc(), &book, 20, Action::Received, REQUEST)?;
+    gains_again(&rt, &server, &book, &mut pool, &event)
 }

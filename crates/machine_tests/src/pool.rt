@@ -312,14 +312,6 @@ fn states_come_and_go(rt: HostRuntime) -> Result<(), Fail> {
     Ok(())
 }
 
-/// What a state owes stays, whether or not those before it owe anything.
-#[test]
-fn what_a_later_state_owes_stays(rt: HostRuntime) -> Result<(), Fail> {
-    let mut pool = pool_of(rt.alloc(), &[&[], &[1]])?;
-    pool.tidy();
-    owe(&rt, &pool, &[1])
-}
-
 /// Ten states, of which each second one is idle.
 fn by_turns(alloc: Global) -> Result<Pool<PlainServerPhase>, Fail> {
     let server = server()?;

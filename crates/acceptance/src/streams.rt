@@ -104,7 +104,7 @@ pub(crate) fn verdict_by_entries(
 }
 
 /// The log of so many OPTIONS, each with a branch of its own: one every ten seconds, each answered ten milliseconds later.
-fn answered(alloc: Global, count: u64) -> Result<String, Fail>
+pub(crate) fn answered(alloc: Global, count: u64) -> Result<String, Fail>
     requires { count ≤ 1000 }
 {
     let mut log = header(alloc, "tolerance 50")?;
@@ -384,15 +384,25 @@ fn takes_none_from_before(
     Ok(())
 }
 
+/// So it is of an entry of the log of these words.
+fn takes_none_of(
+    rt: &(impl Abort + AllocGlobal),
+    stream: &mut Stream<'_>,
+    words: &str,
+) -> Result<(), Fail> {
+    let log = log_of(rt.alloc(), words)?;
+    let mut other = Stream::open(rt.alloc(), log.as_str().as_bytes())?;
+    let taken = takes_none_from_before(rt, stream, &mut other);
+    other.end();
+    taken
+}
+
 #[test]
 fn takes_no_entry_from_before(rt: HostRuntime) -> Result<(), Fail> {
     let log = log_of(rt.alloc(), "M 5,5")?;
-    let earlier = log_of(rt.alloc(), "M 3,4")?;
     let mut stream = Stream::open(rt.alloc(), log.as_str().as_bytes())?;
-    let mut other = Stream::open(rt.alloc(), earlier.as_str().as_bytes())?;
-    let taken = takes_none_from_before(&rt, &mut stream, &mut other);
+    let taken = takes_none_of(&rt, &mut stream, "M 3,4");
     stream.end();
-    other.end();
     taken
 }
 

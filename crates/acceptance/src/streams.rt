@@ -194,13 +194,7 @@ fn ended(alloc: Global) -> Result<String, Fail> {
         push_own(alloc, &mut log, ("R", "OPTIONS", None), 0, branch)?;
         push_own(alloc, &mut log, ("S", "OPTIONS", Some("200")), 0, branch)?;
     }
-    push_own(
-        alloc,
-        &mut log,
-        ("R", "OPTIONS", Some("200")),
-        100_000,
-        32,
-    )?;
+    push_own(alloc, &mut log, ("R", "OPTIONS", Some("200")), 100_000, 32)?;
     Ok(log)
 }
 
@@ -311,10 +305,7 @@ fn note_due(
 }
 
 /// What is due after each entry of a log that ends with a breach.
-fn due_after_each(
-    rt: &(impl Abort + AllocGlobal),
-    log: &str,
-) -> Result<Vec<Option<u64>>, Fail> {
+fn due_after_each(rt: &(impl Abort + AllocGlobal), log: &str) -> Result<Vec<Option<u64>>, Fail> {
     let mut stream = Stream::open(rt.alloc(), log.as_bytes())?;
     let mut due = Vec::new(rt.alloc());
     let noted = note_due(rt, &mut stream, &mut due);

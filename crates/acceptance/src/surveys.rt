@@ -184,7 +184,11 @@ fn a_survey_keeps_few_messages_of_many(rt: HostRuntime) -> Result<(), Fail> {
     let failed = takes_all(&rt, &mut surveyed, &mut found);
     let kept = surveyed.survey.kept();
     surveyed.end();
-    holds(&rt, failed?.is_none() && found.is_empty(), "nothing is found");
+    holds(
+        &rt,
+        failed?.is_none() && found.is_empty(),
+        "nothing is found",
+    );
     holds(&rt, kept == 6, "kept at the end");
     Ok(())
 }

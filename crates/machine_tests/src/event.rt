@@ -101,6 +101,10 @@ fn tells_a_restart(rt: HostRuntime) -> Result<(), Fail> {
     let told = (restart.moment(), restart.action(), restart.number());
     holds(&rt, told == (700, Action::Restart, 0), "the restart");
     let kind = (restart.kind(), restart.reliable());
-    holds(&rt, kind == (Kind::Request(Method::Other), false), "its kind");
+    holds(
+        &rt,
+        kind == (Kind::Request(Method::Other), false),
+        "its kind",
+    );
     Ok(())
 }

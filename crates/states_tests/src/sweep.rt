@@ -206,7 +206,12 @@ fn stay_marked(rt: &(impl Abort + AllocGlobal), tables: &Folded) -> Result<(), F
     let mut numbers = Vec::new(rt.alloc());
     tables.named(&mut numbers)?;
     is(rt, numbers.as_slice(), [2, 4].as_slice(), "the names");
-    is(rt, tables.to_restart()?.len(), 4, "those that take the next");
+    is(
+        rt,
+        tables.to_restart()?.len(),
+        4,
+        "those that take the next",
+    );
     Ok(())
 }
 

@@ -339,13 +339,13 @@ fn has_branch(judge: &Judge<Hasher>, transaction: u32, want: Option<&[u8]>) -> b
 /// A judge names each transaction by its key, and no other one.
 fn names(rt: &impl Abort, judge: &Judge<Hasher>) {
     holds(rt, has_branch(judge, 0, None), "no transaction");
-    holds(rt, has_branch(judge, 1, Some(b"z9hG4bKa")), "the first");
-    holds(rt, has_branch(judge, 2, Some(b"z9hG4bKb")), "the second");
-    holds(rt, has_branch(judge, 3, Some(b"z9hG4bKc")), "the last");
+    holds(rt, has_branch(judge, 1, Some(b"z9hg4bka")), "the first");
+    holds(rt, has_branch(judge, 2, Some(b"z9hg4bkb")), "the second");
+    holds(rt, has_branch(judge, 3, Some(b"z9hg4bkc")), "the last");
     holds(rt, has_branch(judge, 4, None), "one more");
 }
 
-/// Transactions are numbered from 1 on, in the order of their first entries.
+/// Transactions are numbered from 1 on, in the order of their first entries. A key has its branch in small letters.
 #[test]
 fn names_transactions_by_their_keys(rt: HostRuntime) -> Result<(), Fail> {
     let log = log_of(

@@ -6,6 +6,8 @@ mod devices;
 #[cfg(test)]
 mod formats;
 #[cfg(test)]
+mod references;
+#[cfg(test)]
 mod retries;
 #[cfg(test)]
 mod tests;

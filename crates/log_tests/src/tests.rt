@@ -465,3 +465,27 @@ fn a_sink_that_fails(rt: HostRuntime) -> Result<(), Fail> {
     }
     Ok(())
 }
+
+/// The times that a progress tells, if it does.
+fn times_of(progress: &Progress) -> Option<[u64; 5]> {
+    let params = progress.params()?;
+    Some([
+        params.t1(),
+        params.t2(),
+        params.t4(),
+        params.early(),
+        params.late(),
+    ])
+}
+
+/// What a progress tells of the times before a header was read, after it, and at the end of the log.
+#[test]
+fn tells_the_times_of_the_header(rt: HostRuntime) -> Result<(), Fail> {
+    is(&rt, times_of(&Progress::new(rt.alloc())), None);
+    let mut bytes = HEADER;
+    let (_, mut progress) = Progress::open(rt.alloc(), &mut bytes)?;
+    is(&rt, times_of(&progress), Some([500, 4_000, 5_000, 50, 50]));
+    assert!(rt; progress.next(&mut bytes)?.is_none());
+    is(&rt, times_of(&progress), Some([500, 4_000, 5_000, 50, 50]));
+    Ok(())
+}

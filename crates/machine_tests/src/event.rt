@@ -93,3 +93,18 @@ fn tells_messages(rt: HostRuntime) -> Result<(), Fail> {
     }
     Ok(())
 }
+
+/// A restart has no message: its number is 0, and it is a request of no method that machines tell apart.
+#[test]
+fn tells_a_restart(rt: HostRuntime) -> Result<(), Fail> {
+    let restart = Event::restart(700);
+    let told = (restart.moment(), restart.action(), restart.number());
+    holds(&rt, told == (700, Action::Restart, 0), "the restart");
+    let kind = (restart.kind(), restart.reliable());
+    holds(
+        &rt,
+        kind == (Kind::Request(Method::Other), false),
+        "its kind",
+    );
+    Ok(())
+}

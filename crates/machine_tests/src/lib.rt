@@ -2,6 +2,8 @@
 #![tactic(auto)]
 
 #[cfg(test)]
+mod acks;
+#[cfg(test)]
 mod event;
 #[cfg(test)]
 mod invite_client;

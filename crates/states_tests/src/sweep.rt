@@ -200,3 +200,26 @@ fn sets_wait_after_a_refused_growth(rt: HostRuntime) -> Result<(), Fail> {
     }
     Ok(())
 }
+
+/// All four take the next restart too, and what they name is still named.
+fn stay_marked(rt: &(impl Abort + AllocGlobal), tables: &Folded) -> Result<(), Fail> {
+    let mut numbers = Vec::new(rt.alloc());
+    tables.named(&mut numbers)?;
+    is(rt, numbers.as_slice(), [2, 4].as_slice(), "the names");
+    is(
+        rt,
+        tables.to_restart()?.len(),
+        4,
+        "those that take the next",
+    );
+    Ok(())
+}
+
+/// Servers that have begun and not ended are not quiet, whether or not they can stand so for ever.
+#[test]
+fn busy_sets_take_the_next_restart(rt: HostRuntime) -> Result<(), Fail> {
+    let mut tables = empty(rt.alloc())?;
+    serve_all(rt.alloc(), &mut tables)?;
+    tables.restarted();
+    stay_marked(&rt, &tables)
+}

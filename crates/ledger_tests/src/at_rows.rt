@@ -97,6 +97,11 @@ pub(crate) fn owes_nothing(rt: &impl Abort, ledger: &Ledger, row: usize) -> bool
     ledger.owes_nothing(row)
 }
 
+pub(crate) fn is_timely(rt: &impl Abort, ledger: &Ledger, row: usize, moment: u64) -> bool {
+    assert!(rt; row < ledger.len());
+    ledger.is_timely(row, moment)
+}
+
 pub(crate) fn earliest_must(rt: &impl Abort, ledger: &Ledger, row: usize) -> Option<u64> {
     assert!(rt; row < ledger.len());
     ledger.earliest_must(row)

@@ -141,6 +141,23 @@ fn equal_neighbours_are_one_run(rt: HostRuntime) -> Result<(), Fail> {
     has_names(&rt, &ledger, &[1, 1, 1, 2, 1])
 }
 
+/// What is paid is named no more, wherever it stood.
+#[test]
+fn names_are_of_what_is_owed(rt: HostRuntime) -> Result<(), Fail> {
+    let mut ledger = of_one(&rt, &[must(1, 10), must(2, 10), must(3, 10)])?;
+    assert!(rt; at_rows::pay(&rt, &mut ledger, 0, 1, 10));
+    has_names(&rt, &ledger, &[2, 3])
+}
+
+/// What must be sent until a moment is not past at it.
+#[test]
+fn a_row_is_timely_until_its_deadline(rt: HostRuntime) -> Result<(), Fail> {
+    let ledger = of_one(&rt, &[must(1, 10), may(2, 5)])?;
+    assert!(rt; at_rows::is_timely(&rt, &ledger, 0, 10));
+    assert!(rt; !at_rows::is_timely(&rt, &ledger, 0, 11));
+    Ok(())
+}
+
 /// A second row comes to owe what the first one does once it has paid.
 fn come_to_be_the_same(rt: &impl Abort, ledger: &mut Ledger) -> Result<(), AllocError> {
     ledger.push()?;
@@ -191,4 +208,68 @@ fn entries_that_no_row_owes_go(rt: HostRuntime) -> Result<(), Fail> {
     let mut ledger = of_one(&rt, &[])?;
     pays_seventy(&rt, &mut ledger)?;
     pays_the_rest(&rt, &mut ledger)
+}
+
+/// Two rows, of which the first owes seventy messages and the second nothing.
+fn of_seventy(rt: &(impl Abort + AllocGlobal)) -> Result<Ledger, Fail> {
+    let mut ledger = of_one(rt, &[])?;
+    ledger.push()?;
+    for number in 0..70 {
+        at_rows::gain(rt, &mut ledger, 0, may(number, 10))?;
+    }
+    Ok(ledger)
+}
+
+/// The first row pays the first 64 of its seventy messages, and owes the others.
+fn pays_a_word(rt: &(impl Abort + AllocGlobal), ledger: &mut Ledger) -> Result<(), Fail> {
+    for number in 0..64 {
+        is_in(rt, at_rows::pay(rt, ledger, 0, number, 0), true, &number);
+    }
+    ledger.tidy();
+    let left = [64, 65, 66, 67, 68, 69].map(|number| may(number, 10));
+    owes(rt, ledger, 0, &left)?;
+    owes(rt, ledger, 1, &[])
+}
+
+/// A word's entries go once no row owes one of them, and no others.
+#[test]
+fn entries_of_a_word_go(rt: HostRuntime) -> Result<(), Fail> {
+    pays_a_word(&rt, &mut of_seventy(&rt)?)
+}
+
+/// What may be sent until a moment is owed at it, and not after it.
+#[test]
+fn rows_of_two_words_expire(rt: HostRuntime) -> Result<(), Fail> {
+    let mut ledger = of_seventy(&rt)?;
+    at_rows::expire(&rt, &mut ledger, 0, 10);
+    is(&rt, debts(&rt, &ledger, 0)?.len(), 70);
+    at_rows::expire(&rt, &mut ledger, 0, 11);
+    owes(&rt, &mut ledger, 0, &[])
+}
+
+/// Three rows over a list of entries of which the last is equal to the first: one row owes it once, one after others, and one twice.
+fn of_equal_entries(rt: &(impl Abort + AllocGlobal)) -> Result<Ledger, Fail> {
+    let mut ledger = of_one(rt, &[must(1, 10)])?;
+    ledger.push()?;
+    for number in [1, 2, 3, 1] {
+        at_rows::gain(rt, &mut ledger, 1, must(number, 10))?;
+    }
+    ledger.push()?;
+    at_rows::gain(rt, &mut ledger, 2, must(1, 10))?;
+    at_rows::gain(rt, &mut ledger, 2, must(1, 10))?;
+    Ok(ledger)
+}
+
+/// Rows that pay at once come to owe the same as one that owed no more.
+fn pay_at_once(rt: &(impl Abort + AllocGlobal), ledger: &mut Ledger) -> Result<(), Fail> {
+    ledger.pay_each(1, 1, 0);
+    owes(rt, ledger, 1, &[must(2, 10), must(3, 10), must(1, 10)])?;
+    owes(rt, ledger, 2, &[must(1, 10)])?;
+    assert!(rt; at_rows::same(rt, ledger, 0, 2));
+    Ok(())
+}
+
+#[test]
+fn rows_of_equal_entries_pay_at_once(rt: HostRuntime) -> Result<(), Fail> {
+    pay_at_once(&rt, &mut of_equal_entries(&rt)?)
 }

@@ -104,7 +104,7 @@ pub(crate) fn verdict_by_entries(
 }
 
 /// The log of so many OPTIONS, each with a branch of its own: one every ten seconds, each answered ten milliseconds later.
-fn answered(alloc: Global, count: u64) -> Result<String, Fail>
+pub(crate) fn answered(alloc: Global, count: u64) -> Result<String, Fail>
     requires { count ≤ 1000 }
 {
     let mut log = header(alloc, "tolerance 50")?;
@@ -187,6 +187,28 @@ fn forgets_after_restarts(rt: HostRuntime) -> Result<(), Fail> {
     keeps_few(&rt, log.as_str(), &places)
 }
 
+/// The log of 32 OPTIONS that are answered at once, and of a response 100 seconds later.
+fn ended(alloc: Global) -> Result<String, Fail> {
+    let mut log = header(alloc, "tolerance 50")?;
+    for branch in 0..32 {
+        push_own(alloc, &mut log, ("R", "OPTIONS", None), 0, branch)?;
+        push_own(alloc, &mut log, ("S", "OPTIONS", Some("200")), 0, branch)?;
+    }
+    push_own(alloc, &mut log, ("R", "OPTIONS", Some("200")), 100_000, 32)?;
+    Ok(log)
+}
+
+/// A server has ended 32 seconds after its response, which is not needed then. The last entry is the 65th message, so that a sweep comes
+/// after it, and nothing names that response.
+#[test]
+fn forgets_what_ended_servers_sent(rt: HostRuntime) -> Result<(), Fail> {
+    let log = ended(rt.alloc())?;
+    let (kept, verdict) = kept_after_each(&rt, log.as_str())?;
+    says(&rt, verdict, legal(65, 33), "at the end");
+    holds(&rt, kept.last() == Some(&0), "kept at the end");
+    Ok(())
+}
+
 /// The log of 200 INVITEs at moment 0, each with a branch of its own.
 fn waiting(alloc: Global) -> Result<String, Fail> {
     let mut log = header(alloc, "tolerance 50")?;
@@ -266,6 +288,115 @@ fn tells_a_verdict_again(rt: HostRuntime) -> Result<(), Fail> {
     Ok(())
 }
 
+/// Takes entries until there is a verdict, and appends what is due after each.
+fn note_due(
+    rt: &impl Abort,
+    stream: &mut Stream<'_>,
+    due: &mut Vec<Option<u64>>,
+) -> Result<(), Fail> {
+    for _ in 0..=1_000_000 {
+        let has_no_verdict = goes_on(rt, stream)?;
+        due.push(stream.judge.next_due())?;
+        if !has_no_verdict {
+            break;
+        }
+    }
+    Ok(())
+}
+
+/// What is due after each entry of a log that ends with a breach.
+fn due_after_each(rt: &(impl Abort + AllocGlobal), log: &str) -> Result<Vec<Option<u64>>, Fail> {
+    let mut stream = Stream::open(rt.alloc(), log.as_bytes())?;
+    let mut due = Vec::new(rt.alloc());
+    let noted = note_due(rt, &mut stream, &mut due);
+    stream.end();
+    noted?;
+    Ok(due)
+}
+
+/// A request is to be sent again by 550 ms after its moment, until its response has come. The earliest of these moments is due, and after
+/// a verdict none.
+#[test]
+fn tells_what_is_due(rt: HostRuntime) -> Result<(), Fail> {
+    let log = log_of(
+        rt.alloc(),
+        "S 0 OPTIONS 1; S 100 OPTIONS 2; R 150 OPTIONS 1 200; R 160 OPTIONS 2 200; S 200 OPTIONS 3; S 300 OPTIONS 3",
+    )?;
+    let due = due_after_each(&rt, log.as_str())?;
+    let wants = [Some(550), Some(550), Some(650), None, Some(750), None];
+    holds(&rt, due.as_slice() == wants.as_slice(), "due");
+    Ok(())
+}
+
+/// The key of a transaction has this branch, or there is no such transaction.
+fn has_branch(judge: &Judge<Hasher>, transaction: u32, want: Option<&[u8]>) -> bool {
+    match judge.key(transaction) {
+        Some(key) => Some(key.branch()) == want,
+        None => want.is_none(),
+    }
+}
+
+/// A judge names each transaction by its key, and no other one.
+fn names(rt: &impl Abort, judge: &Judge<Hasher>) {
+    holds(rt, has_branch(judge, 0, None), "no transaction");
+    holds(rt, has_branch(judge, 1, Some(b"z9hg4bka")), "the first");
+    holds(rt, has_branch(judge, 2, Some(b"z9hg4bkb")), "the second");
+    holds(rt, has_branch(judge, 3, Some(b"z9hg4bkc")), "the last");
+    holds(rt, has_branch(judge, 4, None), "one more");
+}
+
+/// Transactions are numbered from 1 on, in the order of their first entries. A key has its branch in small letters.
+#[test]
+fn names_transactions_by_their_keys(rt: HostRuntime) -> Result<(), Fail> {
+    let log = log_of(
+        rt.alloc(),
+        "S 0 OPTIONS a; R 0 OPTIONS b; S 10 OPTIONS c; S 10 OPTIONS b 200",
+    )?;
+    let mut stream = Stream::open(rt.alloc(), log.as_str().as_bytes())?;
+    let said = says_of_each(&rt, &mut stream, &[None, None, None, None]);
+    names(&rt, &stream.judge);
+    stream.end();
+    said
+}
+
+/// After an entry at 5, the second entry of another log is not the next one, since it is at 4; and that of its own log is.
+fn takes_none_from_before(
+    rt: &impl Abort,
+    stream: &mut Stream<'_>,
+    other: &mut Stream<'_>,
+) -> Result<(), Fail> {
+    says_of_each(rt, stream, &[None])?;
+    says_of_each(rt, other, &[None])?;
+    let early = other.next()?.ok_or("no entry")?;
+    let next = stream.next()?.ok_or("no entry")?;
+    holds(rt, !stream.judge.may_take(&early), "at 4");
+    holds(rt, stream.judge.may_take(&next), "at 5");
+    holds(rt, other.judge.may_take(&early), "at 4 after 3");
+    Ok(())
+}
+
+/// So it is of an entry of the log of these words.
+fn takes_none_of(
+    rt: &(impl Abort + AllocGlobal),
+    stream: &mut Stream<'_>,
+    words: &str,
+) -> Result<(), Fail> {
+    let log = log_of(rt.alloc(), words)?;
+    let mut other = Stream::open(rt.alloc(), log.as_str().as_bytes())?;
+    let taken = takes_none_from_before(rt, stream, &mut other);
+    other.end();
+    taken
+}
+
+#[test]
+fn takes_no_entry_from_before(rt: HostRuntime) -> Result<(), Fail> {
+    let log = log_of(rt.alloc(), "M 5,5")?;
+    let mut stream = Stream::open(rt.alloc(), log.as_str().as_bytes())?;
+    let taken = takes_none_of(&rt, &mut stream, "M 3,4");
+    stream.end();
+    taken
+}
+
 /// A judge that fails at an entry wants memory, and says that it failed from then on.
 fn takes_or_fails(
     rt: &impl Abort,
@@ -273,6 +404,7 @@ fn takes_or_fails(
     entry: &Entry,
 ) -> Result<(), StepError> {
     let Err(error) = take(rt, judge, entry) else {
+        holds(rt, !judge.may_take(entry), "an entry that was taken");
         return Ok(());
     };
     holds(rt, error == StepError::Memory, "want of memory");
@@ -287,19 +419,24 @@ fn takes_or_fails(
     Err(error)
 }
 
-/// Takes so many entries, or as many as there are, until the judge fails. The answer is its error.
+/// Takes so many entries, or as many as there are, until the judge fails. The answer is its error. Any entry may be given to it then, also
+/// one that it took before.
 fn takes_until_it_fails(
     rt: &impl Abort,
     stream: &mut Stream<'_>,
     count: usize,
 ) -> Result<Option<StepError>, Fail> {
+    let mut before = None;
     for _ in 0..count {
         let Some(entry) = stream.next()? else {
             break;
         };
         if let Err(error) = takes_or_fails(rt, &mut stream.judge, &entry) {
+            let any = before.as_ref().unwrap_or(&entry);
+            holds(rt, stream.judge.may_take(any), "an entry that was taken");
             return Ok(Some(error));
         }
+        before = Some(entry);
     }
     Ok(None)
 }

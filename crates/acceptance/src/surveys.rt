@@ -2,6 +2,7 @@
 mod rows;
 
 use crate::notation::log_of;
+use crate::streams::answered;
 use crate::wants::{holds, reads};
 use sip_log::{Entry, FromRead, LogError, Progress, ToWrite};
 use sip_verdict::{
@@ -171,6 +172,25 @@ fn takes_all(
         }
     }
     Ok(None)
+}
+
+/// A request is needed until its response has come. The first sweep comes after entry 65 and leaves one request, and five messages come
+/// after it.
+#[test]
+fn a_survey_keeps_few_messages_of_many(rt: HostRuntime) -> Result<(), Fail> {
+    let log = answered(rt.alloc(), 35)?;
+    let mut surveyed = Surveyed::open(rt.alloc(), log.as_str().as_bytes())?;
+    let mut found = Vec::new(rt.alloc());
+    let failed = takes_all(&rt, &mut surveyed, &mut found);
+    let kept = surveyed.survey.kept();
+    surveyed.end();
+    holds(
+        &rt,
+        failed?.is_none() && found.is_empty(),
+        "nothing is found",
+    );
+    holds(&rt, kept == 6, "kept at the end");
+    Ok(())
 }
 
 /// `tests/growths` refuses each growth in turn. A survey that failed has no end, and one that did not has found three things.

@@ -2,7 +2,8 @@
 use super::Row;
 
 /// Each worked by hand: T1 is 500, so that a request that is sent over UDP has to be sent again after 450 to 550 milliseconds.
-pub(crate) const FOUND: [Row; 12] = [
+pub(crate) const FOUND: [Row; 13] = [
+    ("tolerance 10001; M 0", "log fault 0 20 Header\n"),
     ("", "end entries 0 transactions 0 findings 0\n"),
     (
         "S 0 OPTIONS a; S 0 OPTIONS b; S 100 OPTIONS c; R 200 OPTIONS b 200; M 600; S 600 OPTIONS c; M 1700",

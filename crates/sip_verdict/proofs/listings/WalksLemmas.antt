@@ -25,7 +25,7 @@ use Rattle.sip_verdict.specs.MessageReading.{key_machines, message_reading}
 use Rattle.sip_verdict.specs.inner.Tracking.{Tracks, IsJudged}
 use Rattle.sip_verdict.specs.inner.TablesTracking.{key_keeping, transactions_of, TablesTrack}
 use Rattle.sip_verdict.specs.inner.Numbering.{AreNumbered, StaysNumbered, IsListedEntry}
-use Rattle.sip_verdict.specs.inner.Walking.{HasRead, Walks, WalksOn, IsBehind, listed_behind}
+use Rattle.sip_verdict.specs.inner.Walking.{HasRead, Walks, WalksOn, IsBehind, listed_after}
 use Rattle.sip_verdict.specs.Reading.{IsVerdictBy, AreObserved}
 use Rattle.sip_verdict.proofs.sweeps.FollowedLemmas.{observed_moment}
 use Rattle.sip_verdict.proofs.judges.JudgingLemmas.{observed-push, judged_ends, judged_trouble}
@@ -67,7 +67,7 @@ trouble_low m es e (Undecided entry transaction) count many is = omega (arith, i
 trouble_low m es e (FaultOfLog entry reason) count many is = absurd is
 
 -- what is listed of a later entry where this verdict comes before it
-pub listed_before : (start : Option (List ℕ)) (entry count : ℕ) (v : Verdict) → count < entry → IfSome start (λ input. IsVerdictOf input v) → IsBehind count v → IfSome start (λ input. IsListingOf input entry (listed_behind v))
+pub listed_before : (start : Option (List ℕ)) (entry count : ℕ) (v : Verdict) → count < entry → IfSome start (λ input. IsVerdictOf input v) → IsBehind count v → IfSome start (λ input. IsListingOf input entry (listed_after v))
 listed_before start entry count (Legal whole transactions) low is behind =
     IfSome-map start (λ input. IsVerdictOf input (Legal whole transactions)) (λ input. IsListingOf input entry NoEntry) (λ input verdict. inr (whole, transactions, verdict-by input (Legal whole transactions) verdict, omega (arith, behind, low))) is
 listed_before start entry count (Malformed at fault) low is behind =

@@ -18,7 +18,7 @@ use Rattle.sip_standard.specs.declared.verdict.Verdict.TheVariants.{Legal, Malfo
 use Rattle.sip_standard.specs.Observation.{Observation}
 use Rattle.sip_verdict.specs.Listing.{trouble_of}
 use Rattle.sip_verdict.specs.MessageReading.{message_reading}
-use Rattle.sip_standard.specs.VerdictOf.{keys_in, HasTrouble, IsVerdictBehind, IsVerdictOf}
+use Rattle.sip_standard.specs.VerdictOf.{keys_in, HasTrouble, IsVerdictAfter, IsVerdictOf}
 use Rattle.sip_verdict.specs.SurveyOf.{AreFoundAt, IsSurveyAfter}
 use Rattle.sip_verdict.specs.Surveys.{Surveying, SurveysFor}
 use Rattle.sip_verdict.specs.SurveyParts.{IsPartLog}
@@ -154,7 +154,7 @@ none-some : (n : ℕ) → None ≡ Some n → ⊥
 none-some n same = cc
 
 -- the verdict of entries is of none before the first
-counted : (p : Times) (es : List (Observation KeyParts)) (items : List Item) (close : LogEnd) (v : Verdict) → IsVerdictBehind p es items close v → trouble_of v ≡ Some 0 → ⊥
+counted : (p : Times) (es : List (Observation KeyParts)) (items : List Item) (close : LogEnd) (v : Verdict) → IsVerdictAfter p es items close v → trouble_of v ≡ Some 0 → ⊥
 counted p es [] Clean v is none = none-some 0 (sym (ap trouble_of is) ∙ none)
 counted p es [] (Stops fault) v is none = let same = same_some (length es + 1) 0 (sym (ap trouble_of is) ∙ none) in omega (arith, same)
 counted p es (item ∷ items) close v (e, sees, inl trouble) none = trouble-counted p es e v trouble none

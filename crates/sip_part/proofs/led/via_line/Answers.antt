@@ -23,8 +23,7 @@ lines-preserved c =
     let first = c.in_ok-end.ensures in
     let end = c.in_ok-end.end in
     let left = drop (end + 1) rest in
-    let opens = sym (ap opens_via (take_rest rest (end + 1))) ∙ sym c.opens_via.ensures ∙ c.if-opens_via.false in
-    (
+    let opens = sym (ap opens_via (take_rest rest (end + 1))) ∙ sym c.opens_via.ensures ∙ c.if-opens_via.false in (
       c.lines.invariant.0 ∙ next_line end rest first.0.high first.0.before first.1 ∙ ap (λ is. if is then Some left else via_line left) opens ∙ ap via_line (sym (take_rest rest (end + 1))),
       omega (arith, ap length (take_rest rest (end + 1)), length-drop (end + 1) rest, c.lines.invariant.1),
     )

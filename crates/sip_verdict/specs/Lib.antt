@@ -7,6 +7,7 @@ pub mod MessageReading
 pub mod Named
 pub mod Reading
 pub mod Showing
+pub mod Seen
 pub mod SurveyLaws
 pub mod SurveyOf
 pub mod SurveyParts

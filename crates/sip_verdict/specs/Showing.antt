@@ -2,9 +2,8 @@ use Rattle.std.specs.Prelude.{◌≡◌, ◌+◌, ◌⊎◌, ◌++◌, [], ◌�
 use Rattle.sip_standard.specs.Times.{Times}
 use Rattle.sip_standard.specs.declared.action.Action.{Action}
 use Rattle.sip_standard.specs.declared.action.Action.TheVariants.{Sent, Received, Failed, Mark, Restart}
-use Rattle.sip_standard.specs.LogSays.{line_feed, LogEnd, Clean, Stops}
+use Rattle.sip_standard.specs.LogSays.{line_feed, LogEnd, Clean, Stops, LogSays, LacksHeader}
 use Rattle.sip_standard.specs.LogEntry.{entry_says, Item}
-use Rattle.sip_log.specs.Log.{Faulty, Readable, IsLogOf}
 use Rattle.sip_standard.specs.declared.fault.Fault.{Fault}
 use Rattle.sip_standard.specs.Outcome.{stops}
 use Rattle.sip_standard.specs.Says.{Says}
@@ -54,7 +53,7 @@ pub record ShowsEntries (input text : List ℕ) (shown : Shown) : Type 0 where
   pub items : List Item
   pub rest : List Item
   pub end : LogEnd
-  pub log : IsLogOf input (Readable times (items ++ rest) end)
+  pub log : LogSays input times (items ++ rest) end
   pub front : List ℕ
   pub entries : AreShown 0 items front
   pub ends : EndsAs (length items) rest end shown
@@ -63,4 +62,4 @@ pub record ShowsEntries (input text : List ℕ) (shown : Shown) : Type 0 where
 -- what is shown of an input, and how it ends
 abbrev pub IsShownOf : List ℕ → List ℕ → Shown → Type 0
 IsShownOf input text shown =
-    (IsLogOf input Faulty × (shown ≡ LogFault 0 reasons.Header) × (text ≡ last_text shown ++ line_feed ∷ [])) ⊎ ShowsEntries input text shown
+    (LacksHeader input × (shown ≡ LogFault 0 reasons.Header) × (text ≡ last_text shown ++ line_feed ∷ [])) ⊎ ShowsEntries input text shown

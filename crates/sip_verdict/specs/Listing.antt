@@ -1,18 +1,15 @@
 -- The words of a listing: the numbers of messages, and the entries of verdicts.
-use Rattle.std.specs.Prelude.{◌+◌, ◌&&◌, ℕ, Bool, true, false, Option, Some, None, List, [], ◌∷◌, if◌then◌else◌, bytes_eq}
+use Rattle.std.specs.Prelude.{◌+◌, ◌&&◌, ℕ, Bool, Option, Some, None, List, [], ◌∷◌, if◌then◌else◌, bytes_eq}
+use Rattle.std.specs.Option.{is_some}
 use Rattle.sip_standard.specs.declared.action.Action.{Action}
-use Rattle.sip_standard.specs.declared.action.Action.TheVariants.{Sent, Received, Failed, Mark, Restart}
 use Rattle.sip_standard.specs.LogEntry.{Item}
+use Rattle.sip_standard.specs.Observation.{direction_of}
 use Rattle.sip_standard.specs.declared.verdict.Verdict.{Verdict}
 use Rattle.sip_standard.specs.declared.verdict.Verdict.TheVariants.{Legal, Malformed, Breach, Undecided, LogFault}
 
--- whether the entry has a message
+-- whether the entry has a message, which went some way
 abbrev pub has_message : Action → Bool
-has_message Sent = true
-has_message Received = true
-has_message Failed = true
-has_message Mark = false
-has_message Restart = false
+has_message action = is_some (direction_of action)
 
 -- the number, counted on from this one, of the first entry whose message has these bytes; 0 if there is none
 abbrev pub entry_from : ℕ → List Item → List ℕ → ℕ

@@ -1,7 +1,7 @@
-use Rattle.std.specs.Prelude.{◌≡◌, ◌+◌, ◌⊎◌, ◌++◌, [], ◌∷◌, ℕ, true, List, length, codes, decimal}
+use Rattle.std.specs.Prelude.{◌≡◌, ◌+◌, ◌⊎◌, ◌++◌, [], ◌∷◌, ℕ, true, MatchOption, List, length, codes, decimal}
 use Rattle.sip_standard.specs.Times.{Times}
 use Rattle.sip_standard.specs.declared.action.Action.{Action}
-use Rattle.sip_standard.specs.declared.action.Action.TheVariants.{Sent, Received, Failed, Mark, Restart}
+use Rattle.sip_standard.specs.Observation.{direction_of}
 use Rattle.sip_standard.specs.LogSays.{line_feed, LogEnd, Clean, Stops, LogSays, LacksHeader}
 use Rattle.sip_standard.specs.LogEntry.{entry_says, Item}
 use Rattle.sip_standard.specs.declared.fault.Fault.{Fault}
@@ -19,11 +19,7 @@ use Rattle.sip_standard.specs.declared.verdict.Verdict.TheVariants as verdicts
 
 -- what stands for an entry's message: its canonical form, and nothing where it has none
 abbrev pub IsCanonOf : Action → List ℕ → List ℕ → Type 0
-IsCanonOf Sent bytes text = IsCanonical bytes text
-IsCanonOf Received bytes text = IsCanonical bytes text
-IsCanonOf Failed bytes text = IsCanonical bytes text
-IsCanonOf Mark bytes text = text ≡ []
-IsCanonOf Restart bytes text = text ≡ []
+IsCanonOf action bytes text = MatchOption (direction_of action) (text ≡ []) (λ direction. IsCanonical bytes text)
 
 -- an entry with this number: the number, SP, and its spelling with the canonical form in place of its message
 abbrev pub shown_entry : ℕ → Item → List ℕ → List ℕ

@@ -6,6 +6,7 @@ pub mod ListingOf
 pub mod MessageReading
 pub mod Named
 pub mod Reading
+pub mod Seen
 pub mod SurveyLaws
 pub mod SurveyOf
 pub mod SurveyParts

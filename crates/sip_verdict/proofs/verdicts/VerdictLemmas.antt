@@ -16,7 +16,8 @@ use Rattle.sip_states.proofs.runs.StandsLemmas.{stands-runs, behind-after}
 use Rattle.sip_standard.specs.Observation.{Observation}
 use Rattle.sip_verdict.specs.Keyed.{HasRun, newest_moment}
 use Rattle.sip_verdict.specs.Verdicts.{IsFirst, IsTooWide, IsTrouble}
-use Rattle.sip_verdict.specs.Reading.{Judges, IsVerdictBy}
+use Rattle.sip_verdict.specs.Reading.{AreObserved, Judges, IsVerdictBy}
+use Rattle.sip_verdict.specs.Seen.{AreSeen}
 use Rattle.sip_verdict.specs.MessageReading.{key_machines, message_reading}
 use Rattle.sip_standard.specs.VerdictOf.{events_for, RunsOver, IsWideAt, IsFirstKey, HasTrouble, IsVerdictAfter, IsVerdictOf}
 
@@ -92,8 +93,15 @@ module _ (p : Times) (front : List (Observation KeyParts)) (e : Observation KeyP
       (at, formed, All-weaker (RunsOver p (front ++ e ∷ [])) (λ key. HasRun (key_machines p) key (front ++ e ∷ [])) (over-run p (front ++ e ∷ [])) _ runs, key-first _ _ at-wide wide-at _ transaction first)
   trouble-has (LogFault entry reason) is = is
 
+-- what is observed of entries
+pub observed-seen : (before : List (Observation KeyParts)) (items : List Item) (es : List (Observation KeyParts)) → AreObserved message_reading before items es → AreSeen before items es
+observed-seen before [] [] observed = tt
+observed-seen before [] (e ∷ es) observed = observed
+observed-seen before (item ∷ items) [] observed = observed
+observed-seen before (item ∷ items) (e ∷ es) (sees, more) = (sees, observed-seen (before ++ e ∷ []) items es more)
+
 -- the entries that are left
-behind-verdict : (p : Times) (es : List (Observation KeyParts)) (items : List Item) (end : LogEnd) (v : Verdict) → Judges message_reading p es items end v → IsVerdictAfter p es items end v
+pub behind-verdict : (p : Times) (es : List (Observation KeyParts)) (items : List Item) (end : LogEnd) (v : Verdict) → Judges message_reading p es items end v → IsVerdictAfter p es items end v
 behind-verdict p es [] Clean v is = is
 behind-verdict p es [] (Stops fault) v is = is
 behind-verdict p es (item ∷ items) end v (e, sees, inl trouble) = (e, sees, inl (has-trouble p es e v trouble))

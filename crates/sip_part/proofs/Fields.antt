@@ -14,7 +14,7 @@ use Rattle.sip_standard.specs.Outcome.{gives, passes, stopped}
 use Rattle.sip_standard.specs.Via.{SaidVia, ViasSay}
 use Rattle.sip_standard.specs.Field.{SaidField, FieldSays, FieldsSay, full_name, said_values}
 use Rattle.sip_standard.specs.Says.{Said, ViasTell, FieldsTell, LinesTell, BytesTell, Says}
-use Rattle.sip_part.specs.Led.{branch_in, from_mark, opens_via, via_line, via_branch, branch_at, led_branch}
+use Rattle.sip_part.specs.Led.{branch_in, from_stop, opens_via, via_line, via_branch, branch_at, led_branch}
 use Rattle.sip_part.proofs.Tokens.{token_run, same_run}
 use Rattle.sip_part.proofs.Lines.{Unit, Folded, Passed, line_from, pass_line}
 use Rattle.sip_part.proofs.Plain.{NoToken, Open, Opens, wsp_opens, open_no_token, not_colon, starts_is, value_found}
@@ -48,13 +48,13 @@ colon_front w x y many same = by (wsp_open w many)
 pub record Spelled (word field b : List ℕ) : Type 0 where
   pub rest : List ℕ
   pub is : field ≡ word ++ (58 ∷ rest)
-  pub found : branch_in (from_mark rest) ≡ Some b
+  pub found : branch_in (from_stop rest) ≡ Some b
 
 via_spelled : (field b : List ℕ) → via_branch field ≡ Some b → Spelled (codes "Via") field b ⊎ Spelled (codes "v") field b
 via_spelled field b found = by (starts_with nat_eq field (codes "Via:")) (starts_with nat_eq field (codes "v:")) refl refl found
   where
     by : (s o : Bool) → starts_with nat_eq field (codes "Via:") ≡ s → starts_with nat_eq field (codes "v:") ≡ o
-        → (if s then branch_in (from_mark (drop 4 field)) else if o then branch_in (from_mark (drop 2 field)) else None) ≡ Some b → Spelled (codes "Via") field b ⊎ Spelled (codes "v") field b
+        → (if s then branch_in (from_stop (drop 4 field)) else if o then branch_in (from_stop (drop 2 field)) else None) ≡ Some b → Spelled (codes "Via") field b ⊎ Spelled (codes "v") field b
     by true o is other f = inl (record { rest = drop 4 field; is = starts_is field (codes "Via:") is; found = f })
     by false true is other f = inr (record { rest = drop 2 field; is = starts_is field (codes "v:") other; found = f })
     by false false is other f = absurd (cc)
@@ -75,7 +75,7 @@ word_found number word line rest b f token full (passes named (n, r, (is_token, 
     record {
       named = ap (λ g. g.name) field ∙ ap (λ t. full_name (folded t)) (n_is ∙ same.0) ∙ full;
       first = λ via vias says.
-          value_found v value rest b (subst (Sws then Exactly value then Sws) (sym v_is) whole) (ap (λ t. branch_in (from_mark t)) after ∙ spelled.found) via vias
+          value_found v value rest b (subst (Sws then Exactly value then Sws) (sym v_is) whole) (ap (λ t. branch_in (from_stop t)) after ∙ spelled.found) via vias
           (subst (ViasSay (via ∷ vias)) (ap (λ g. g.value) field) says);
     }
 word_found number word line rest b f token full (passes named is (stopped fault stops_at e)) spelled = absurd (cc)

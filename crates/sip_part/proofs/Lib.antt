@@ -1,6 +1,6 @@
 pub mod Fields
 mod Lines
-mod Marks
 mod Plain
+mod Stops
 pub mod Told
 mod Tokens

@@ -18,8 +18,8 @@ use Rattle.sip_text.proofs.texts.LacksLemmas.{Lacks, AllLack, lacks-append, lack
 use Rattle.sip_text.proofs.uris.UriHostLemmas.{IsForeign, lack-host}
 use Rattle.sip_text.proofs.hosts.ProfileLemmas.{host-parts}
 use Rattle.sip_standard.specs.Via.{SaidVia, GenValue, PortSays, ParamSays, ViaSays, ViasSay, first_some}
-use Rattle.sip_part.specs.Led.{branch_in, from_mark, is_end, opens_other, token_at}
-use Rattle.sip_part.proofs.Marks.{no_mark}
+use Rattle.sip_part.specs.Led.{branch_in, from_stop, is_end, opens_other, token_at}
+use Rattle.sip_part.proofs.Stops.{no_stop}
 use Rattle.sip_part.proofs.Tokens.{token_none, token_run, token_whole, same_run}
 
 -- Blanks.
@@ -137,9 +137,9 @@ record Search (find : List ℕ → Option (List ℕ)) (b : List ℕ) : Type 0 wh
 among : (b : List ℕ) → Search branch_in b
 among b = record { pass = λ u rest. passed u rest b; at_semicolon = λ t. refl; at_comma = λ t. refl; at_cr = λ t. refl }
 
--- the search from the first mark on is one
+-- the search from the first comma, semicolon or CR on is one
 abbrev branch_from : List ℕ → Option (List ℕ)
-branch_from text = branch_in (from_mark text)
+branch_from text = branch_in (from_stop text)
 
 passed_from : (u rest : List ℕ) (b : List ℕ) → Lacks semicolon u → branch_from (u ++ rest) ≡ Some b → branch_from rest ≡ Some b
 passed_from [] rest b lacks found = found
@@ -148,7 +148,7 @@ passed_from (x ∷ u) rest b (other, lacks) found = passed_from u rest b lacks (
     by : (comma cr : Bool) → nat_eq x 44 ≡ comma → nat_eq x 13 ≡ cr → branch_from (u ++ rest) ≡ Some b
     by true cr one two = let e : None ≡ Some b = ap (λ y. branch_from (y ∷ (u ++ rest))) (sym (eqb-true x 44 one)) ∙ found in absurd (cc)
     by false true one two = let e : None ≡ Some b = ap (λ y. branch_from (y ∷ (u ++ rest))) (sym (eqb-true x 13 two)) ∙ found in absurd (cc)
-    by false false one two = sym (ap (λ mark. branch_in (if mark then x ∷ (u ++ rest) else from_mark (u ++ rest))) (no_mark x one other two)) ∙ found
+    by false false one two = sym (ap (λ here. branch_in (if here then x ∷ (u ++ rest) else from_stop (u ++ rest))) (no_stop x one other two)) ∙ found
 
 from_first : (b : List ℕ) → Search branch_from b
 from_first b = record { pass = λ u rest. passed_from u rest b; at_semicolon = λ t. refl; at_comma = λ t. refl; at_cr = λ t. refl }
@@ -356,7 +356,7 @@ lack-port-says None u is = subst (Lacks semicolon) (sym is) tt
 lack-port-says (Some port) u (m, v, mark, (fits, same), whole) =
     subst (Lacks semicolon) (sym whole) (lacks-append semicolon m v (lack-colon m mark) (lack-between semicolon 1 5 _ (lack-one semicolon is_ascii_digit refl) v fits.0))
 
--- the search from the first mark on goes on after the first of two texts
+-- it goes on after the first of two texts
 step_from : (u v text tail : List ℕ) (b : List ℕ) → Lacks semicolon u → text ≡ u ++ v → branch_from (text ++ tail) ≡ Some b → branch_from (v ++ tail) ≡ Some b
 step_from u v text tail b lacks whole found = passed_from u (v ++ tail) b lacks (subst (λ t. branch_from t ≡ Some b) (ap (λ t. t ++ tail) whole ∙ append_assoc u v tail) found)
 
@@ -403,7 +403,7 @@ line_ends : (find : List ℕ → Option (List ℕ)) (s rest b : List ℕ) → Se
 line_ends find s rest b search sws found = let e : None ≡ Some b = sym (search.at_cr rest) ∙ search.pass s (13 ∷ rest) (lack-sws s sws) found in absurd (cc)
 
 -- The branch that is found in the rest of a field's line is that of the first element of its value.
-pub value_found : (text value rest b : List ℕ) → (Sws then Exactly value then Sws) text → branch_in (from_mark (text ++ (13 ∷ rest))) ≡ Some b → (via : SaidVia) (vias : List SaidVia) → ViasSay (via ∷ vias) value
+pub value_found : (text value rest b : List ℕ) → (Sws then Exactly value then Sws) text → branch_in (from_stop (text ++ (13 ∷ rest))) ≡ Some b → (via : SaidVia) (vias : List SaidVia) → ViasSay (via ∷ vias) value
     → via.branch ≡ Some b
 value_found text value rest b (s1, r, sws1, (val, s2, val_is, sws2, r_is), whole) found via vias says =
     let at = step_from s1 r text (13 ∷ rest) b (lack-sws s1 sws1) whole found in

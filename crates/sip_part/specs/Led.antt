@@ -36,15 +36,15 @@ branch_in (byte ∷ text) =
     else branch_in text
 
 -- what stands from the first comma, semicolon or CR on
-abbrev pub from_mark : List ℕ → List ℕ
-from_mark [] = []
-from_mark (byte ∷ text) = if is_among ",;\r" byte then byte ∷ text else from_mark text
+abbrev pub from_stop : List ℕ → List ℕ
+from_stop [] = []
+from_stop (byte ∷ text) = if is_among ",;\r" byte then byte ∷ text else from_stop text
 
 -- the plain branch of a field that is spelled "Via:" or "v:"
 abbrev pub via_branch : List ℕ → Option (List ℕ)
 via_branch field =
-    if starts_with nat_eq field (codes "Via:") then branch_in (from_mark (drop 4 field))
-    else if starts_with nat_eq field (codes "v:") then branch_in (from_mark (drop 2 field)) else None
+    if starts_with nat_eq field (codes "Via:") then branch_in (from_stop (drop 4 field))
+    else if starts_with nat_eq field (codes "v:") then branch_in (from_stop (drop 2 field)) else None
 
 -- that of the field that stands there, if one does
 abbrev pub branch_at : Option (List ℕ) → Option (List ℕ)

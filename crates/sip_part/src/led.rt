@@ -1,6 +1,6 @@
 //! The branch that stands plainly in the first Via of a message.
 ghost use Rattle.std.specs.Prelude.{◌≡◌, option_copied};
-ghost use Rattle.sip_part.specs.Led.{branch_in, from_mark, is_end, led_branch, opens_other, opens_via, token_at, via_line};
+ghost use Rattle.sip_part.specs.Led.{branch_in, from_stop, is_end, led_branch, opens_other, opens_via, token_at, via_line};
 
 use memchr::{memchr, memchr3};
 use sip_text::token_len;
@@ -12,10 +12,10 @@ pub fn led_branch(text: &[u8]) -> Option<&[u8]>
 {
     let line = via_line(text)?;
     if line.starts_with(b"Via:") {
-        return branch_from_mark(&line[4..]);
+        return branch_from_stop(&line[4..]);
     }
     if line.starts_with(b"v:") {
-        return branch_from_mark(&line[2..]);
+        return branch_from_stop(&line[2..]);
     }
     None
 }
@@ -45,8 +45,8 @@ fn opens_via(line: &[u8]) -> bool
 }
 
 /// The branch among the parameters of the Via whose value the text begins with. A comma, a semicolon or a CR ends what stands before them.
-fn branch_from_mark(text: &[u8]) -> Option<&[u8]>
-    ensures { option_copied result ≡ branch_in (from_mark text.now) }
+fn branch_from_stop(text: &[u8]) -> Option<&[u8]>
+    ensures { option_copied result ≡ branch_in (from_stop text.now) }
 {
     let at = memchr3(b',', b';', b'\r', text)?;
     branch_in(&text[at..])

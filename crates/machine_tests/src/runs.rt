@@ -161,7 +161,7 @@ fn step_together<M: Machine>(
     let before = states_of(alloc, pool)?;
     let count = pool.len();
     machine.successors_each(book, pool, count, event)?;
-    stay(alloc, pool, &before)?;
+    stay(alloc, pool, before.as_slice())?;
     let given = pool.first_ones(count)?;
     pool.keep(&given);
     Ok(())

@@ -9,7 +9,7 @@ use Rattle.sip_standard.specs.declared.verdict.Verdict.{Verdict}
 use Rattle.sip_standard.specs.declared.verdict.Verdict.TheVariants.{Malformed, Breach, Undecided, LogFault}
 use Rattle.sip_standard.specs.declared.log_reason.LogReason.{LogReason}
 use Rattle.sip_standard.specs.Observation.{Observation}
-use Rattle.sip_standard.specs.VerdictOf.{Sees, HasTrouble, IsVerdictBehind, IsVerdictOf}
+use Rattle.sip_standard.specs.VerdictOf.{Sees, HasTrouble, IsVerdictAfter, IsVerdictOf}
 use Rattle.consequences.specs.Front.{GoWell, IsFirstInTrouble, IsFirstFault, IsFirstBreach, IsFirstWide, CannotBeRead}
 
 abbrev Entries : Type 0
@@ -22,7 +22,7 @@ pub record Ends (p : Times) (es : Entries) (items : List Item) (end : LogEnd) (v
   pub rest : List Item
   pub whole : items ≡ before ++ rest
   pub well : GoWell p es before front
-  pub last : ((rest ≡ []) × IsVerdictBehind p (es ++ front) [] end v)
+  pub last : ((rest ≡ []) × IsVerdictAfter p (es ++ front) [] end v)
       ⊎ ((item : Item) × (after : List Item) × (e : Observation KeyParts) × (rest ≡ item ∷ after) × Sees (es ++ front) item e × HasTrouble p (es ++ front) e v)
 
 append-none : (es : Entries) → es ++ [] ≡ es
@@ -34,9 +34,9 @@ append-nothing [] = refl
 append-nothing (item ∷ items) = ap (λ xs. item ∷ xs) (append-nothing items)
 
 -- a verdict after entries in no trouble is one of these
-ends : (p : Times) (es : Entries) (items : List Item) (end : LogEnd) (v : Verdict) → IsVerdictBehind p es items end v → Ends p es items end v
+ends : (p : Times) (es : Entries) (items : List Item) (end : LogEnd) (v : Verdict) → IsVerdictAfter p es items end v → Ends p es items end v
 ends p es [] end v is =
-    record { before = []; front = []; rest = []; whole = refl; well = tt; last = inl (refl, subst (λ fs. IsVerdictBehind p fs [] end v) (sym (append-none es)) is) }
+    record { before = []; front = []; rest = []; whole = refl; well = tt; last = inl (refl, subst (λ fs. IsVerdictAfter p fs [] end v) (sym (append-none es)) is) }
 ends p es (item ∷ items) end v (e, sees, inl trouble) =
     record {
       before = [];
@@ -55,7 +55,7 @@ ends p es (item ∷ items) end v (e, sees, inr (formed, runs, narrow, more)) =
       rest = later.rest;
       whole = ap (λ xs. item ∷ xs) later.whole;
       well = (sees, (formed, runs, narrow), later.well);
-      last = subst (λ fs. ((later.rest ≡ []) × IsVerdictBehind p fs [] end v)
+      last = subst (λ fs. ((later.rest ≡ []) × IsVerdictAfter p fs [] end v)
           ⊎ ((next : Item) × (after : List Item) × (f : Observation KeyParts) × (later.rest ≡ next ∷ after) × Sees fs next f × HasTrouble p fs f v)) same later.last;
     }
 
@@ -80,11 +80,11 @@ module _ (input : List ℕ) where
   first_fault number fault (inl (lacks, is)) = absurd cc
   first_fault number fault (inr (p, items, end, says, is)) = by (ends p [] items end (Malformed number fault) is)
     where
-      by_end : (end : LogEnd) (front : Entries) → ¬ (IsVerdictBehind p front [] end (Malformed number fault))
+      by_end : (end : LogEnd) (front : Entries) → ¬ (IsVerdictAfter p front [] end (Malformed number fault))
       by_end Clean front is = cc
       by_end (Stops f) front is = cc
 
-      with_last : (found : Ends p [] items end (Malformed number fault)) → ((found.rest ≡ []) × IsVerdictBehind p found.front [] end (Malformed number fault))
+      with_last : (found : Ends p [] items end (Malformed number fault)) → ((found.rest ≡ []) × IsVerdictAfter p found.front [] end (Malformed number fault))
           ⊎ ((item : Item) × (after : List Item) × (e : Observation KeyParts) × (found.rest ≡ item ∷ after) × Sees found.front item e × HasTrouble p found.front e (Malformed number fault))
           → IsFirstFault input number fault
       with_last found (inl (none, is)) = absurd (by_end end found.front is)
@@ -98,11 +98,11 @@ module _ (input : List ℕ) where
   first_breach number transaction (inl (lacks, is)) = absurd cc
   first_breach number transaction (inr (p, items, end, says, is)) = by (ends p [] items end (Breach number transaction) is)
     where
-      by_end : (end : LogEnd) (front : Entries) → ¬ (IsVerdictBehind p front [] end (Breach number transaction))
+      by_end : (end : LogEnd) (front : Entries) → ¬ (IsVerdictAfter p front [] end (Breach number transaction))
       by_end Clean front is = cc
       by_end (Stops f) front is = cc
 
-      with_last : (found : Ends p [] items end (Breach number transaction)) → ((found.rest ≡ []) × IsVerdictBehind p found.front [] end (Breach number transaction))
+      with_last : (found : Ends p [] items end (Breach number transaction)) → ((found.rest ≡ []) × IsVerdictAfter p found.front [] end (Breach number transaction))
           ⊎ ((item : Item) × (after : List Item) × (e : Observation KeyParts) × (found.rest ≡ item ∷ after) × Sees found.front item e × HasTrouble p found.front e (Breach number transaction))
           → IsFirstBreach input number transaction
       with_last found (inl (none, is)) = absurd (by_end end found.front is)
@@ -116,11 +116,11 @@ module _ (input : List ℕ) where
   first_wide number transaction (inl (lacks, is)) = absurd cc
   first_wide number transaction (inr (p, items, end, says, is)) = by (ends p [] items end (Undecided number transaction) is)
     where
-      by_end : (end : LogEnd) (front : Entries) → ¬ (IsVerdictBehind p front [] end (Undecided number transaction))
+      by_end : (end : LogEnd) (front : Entries) → ¬ (IsVerdictAfter p front [] end (Undecided number transaction))
       by_end Clean front is = cc
       by_end (Stops f) front is = cc
 
-      with_last : (found : Ends p [] items end (Undecided number transaction)) → ((found.rest ≡ []) × IsVerdictBehind p found.front [] end (Undecided number transaction))
+      with_last : (found : Ends p [] items end (Undecided number transaction)) → ((found.rest ≡ []) × IsVerdictAfter p found.front [] end (Undecided number transaction))
           ⊎ ((item : Item) × (after : List Item) × (e : Observation KeyParts) × (found.rest ≡ item ∷ after) × Sees found.front item e × HasTrouble p found.front e (Undecided number transaction))
           → IsFirstWide input number transaction
       with_last found (inl (none, is)) = absurd (by_end end found.front is)
@@ -135,13 +135,13 @@ module _ (input : List ℕ) where
   cannot_be_read number reason (inr (p, items, end, says, is)) = by (ends p [] items end (LogFault number reason) is)
     where
       at_end : (end : LogEnd) → LogSays input p items end → (found : Ends p [] items end (LogFault number reason)) → found.rest ≡ []
-          → IsVerdictBehind p found.front [] end (LogFault number reason) → CannotBeRead input number reason
+          → IsVerdictAfter p found.front [] end (LogFault number reason) → CannotBeRead input number reason
       at_end Clean says found none is = absurd cc
       at_end (Stops fault) says found none is =
           let same : items ≡ found.before = found.whole ∙ ap (λ xs. found.before ++ xs) none ∙ append-nothing found.before in
           inr (p, found.before, found.front, fault, subst (λ xs. LogSays input p xs (Stops fault)) same says, found.well, cc, cc)
 
-      with_last : (found : Ends p [] items end (LogFault number reason)) → ((found.rest ≡ []) × IsVerdictBehind p found.front [] end (LogFault number reason))
+      with_last : (found : Ends p [] items end (LogFault number reason)) → ((found.rest ≡ []) × IsVerdictAfter p found.front [] end (LogFault number reason))
           ⊎ ((item : Item) × (after : List Item) × (e : Observation KeyParts) × (found.rest ≡ item ∷ after) × Sees found.front item e × HasTrouble p found.front e (LogFault number reason))
           → CannotBeRead input number reason
       with_last found (inl (none, is)) = at_end end says found none is

@@ -11,7 +11,7 @@ ghost use Rattle.sip_standard.specs.Window.{open_at, close_at};
 ghost use Rattle.sip_standard.specs.MachineEvent.{MachineEvent};
 ghost use Rattle.sip_standard.specs.Kind.{IsFinal, IsSuccess, IsUnsuccessful};
 ghost use Rattle.sip_standard.specs.Times.{Times};
-ghost use Rattle.sip_standard.specs.Stands.{Stands, StandsBehind};
+ghost use Rattle.sip_standard.specs.Stands.{Stands, StandsAfter};
 ghost use Rattle.consequences.specs.Acknowledged.{Acknowledges};
 ghost use Rattle.consequences.specs.Events.{SendsRequest, GetsResponse, IsAnyCode, IsRefused, IsRestart};
 ghost use Rattle.consequences.specs.Machines.{figure_of, StateOf};
@@ -23,7 +23,7 @@ ghost use Rattle.consequences.specs.Repeats.{IsSpaced, invites_of};
 pub fn a_cancel_waits_for_a_response()
     ensures { (p : Times) (rules : Rules) (before after : List MachineEvent) (invite e : MachineEvent) (y : StateOf rules Client true) →
         All (λ f. ¬ (SendsRequest Invite f)) before → SendsRequest Invite invite → SendsRequest Cancel e →
-        StandsBehind (figure_of rules Client true) p (before ++ invite ∷ after) e y →
+        StandsAfter (figure_of rules Client true) p (before ++ invite ∷ after) e y →
         Any (GetsResponse IsAnyCode) after ⊎ Any (λ f. IsRefused f ⊎ IsRestart f) after ⊎ (open_at p invite.moment (64 * p.t1) ≤ e.moment) }
 {}
 
@@ -34,7 +34,7 @@ pub fn an_unanswered_invite_ends_by_timer_b()
         Stands (figure_of rules Client true) p (before ++ invite ∷ after) m y → close_at p invite.moment (64 * p.t1) < m → y ≡ quiet (figure_of rules Client true).ended }
     ensures silent { (p : Times) (rules : Rules) (before after : List MachineEvent) (invite e : MachineEvent) (y : StateOf rules Client true) →
         SendsRequest Invite invite → All (λ f. ¬ (GetsResponse IsAnyCode f)) after → e.action ≡ Sent →
-        StandsBehind (figure_of rules Client true) p (before ++ invite ∷ after) e y → close_at p invite.moment (64 * p.t1) < e.moment → e.kind ≡ Request Cancel }
+        StandsAfter (figure_of rules Client true) p (before ++ invite ∷ after) e y → close_at p invite.moment (64 * p.t1) < e.moment → e.kind ≡ Request Cancel }
 {}
 
 /// The first final response to an INVITE, if it is a 300 to 699 and comes before timer B may fire, is acknowledged as late as an element may be, by an ACK

@@ -10,7 +10,7 @@ ghost use Rattle.sip_standard.specs.Window.{close_at};
 ghost use Rattle.sip_standard.specs.MachineEvent.{MachineEvent};
 ghost use Rattle.sip_standard.specs.Kind.{IsProvisional, IsFinal, IsSuccess, IsUnsuccessful};
 ghost use Rattle.sip_standard.specs.Times.{Times};
-ghost use Rattle.sip_standard.specs.Stands.{Stands, StandsBehind};
+ghost use Rattle.sip_standard.specs.Stands.{Stands, StandsAfter};
 ghost use Rattle.consequences.specs.Events.{IsOfOneKind, GetsRequest, IsResponse, SendsResponse, IsAnyCode, IsRestart};
 ghost use Rattle.consequences.specs.Machines.{figure_of, StateOf};
 ghost use Rattle.consequences.specs.Servers.{BeginNoneAnew};
@@ -30,7 +30,7 @@ pub fn an_invite_is_answered_within_200_ms()
 pub fn after_an_unsuccessful_response_that_one_alone_is_sent()
     ensures { (p : Times) (rules : Rules) (before after : List MachineEvent) (final e : MachineEvent) (y : StateOf rules Server true) →
         All (λ f. ¬ (SendsResponse IsFinal f)) before → IsOfOneKind before final → SendsResponse IsUnsuccessful final →
-        BeginNoneAnew p final after → e.action ≡ Sent → StandsBehind (figure_of rules Server true) p (before ++ final ∷ after) e y →
+        BeginNoneAnew p final after → e.action ≡ Sent → StandsAfter (figure_of rules Server true) p (before ++ final ∷ after) e y →
         (e.text ≡ final.text) ⊎ ((e.moment ≤ close_at p final.moment 0) × Any (λ f. SendsResponse IsProvisional f × (f.text ≡ e.text)) before) }
 {}
 
@@ -40,10 +40,10 @@ pub fn after_an_unsuccessful_response_that_one_alone_is_sent()
 pub fn after_a_success_successes_alone_are_sent()
     ensures corrected { (p : Times) (before after : List MachineEvent) (final e : MachineEvent) (y : StateOf R6026 Server true) →
         All (λ f. ¬ (SendsResponse IsFinal f)) before → IsOfOneKind before final → SendsResponse IsSuccess final →
-        BeginNoneAnew p final after → e.action ≡ Sent → StandsBehind (figure_of R6026 Server true) p (before ++ final ∷ after) e y →
+        BeginNoneAnew p final after → e.action ≡ Sent → StandsAfter (figure_of R6026 Server true) p (before ++ final ∷ after) e y →
         IsResponse IsSuccess e ⊎ ((e.moment ≤ close_at p final.moment 0) × Any (λ f. SendsResponse IsProvisional f × (f.text ≡ e.text)) before) }
     ensures without { (p : Times) (before after : List MachineEvent) (final e : MachineEvent) (y : StateOf R3261 Server true) →
         All (λ f. ¬ (SendsResponse IsFinal f)) before → IsOfOneKind before final → SendsResponse IsSuccess final →
-        All (λ f. ¬ (GetsRequest Invite f)) after → e.action ≡ Sent → StandsBehind (figure_of R3261 Server true) p (before ++ final ∷ after) e y →
+        All (λ f. ¬ (GetsRequest Invite f)) after → e.action ≡ Sent → StandsAfter (figure_of R3261 Server true) p (before ++ final ∷ after) e y →
         IsResponse IsSuccess e }
 {}

@@ -8,7 +8,7 @@ ghost use Rattle.sip_standard.specs.Window.{close_at};
 ghost use Rattle.sip_standard.specs.MachineEvent.{MachineEvent};
 ghost use Rattle.sip_standard.specs.Kind.{IsFinal};
 ghost use Rattle.sip_standard.specs.Times.{Times};
-ghost use Rattle.sip_standard.specs.Stands.{Stands, StandsBehind};
+ghost use Rattle.sip_standard.specs.Stands.{Stands, StandsAfter};
 ghost use Rattle.consequences.specs.Events.{SendsAnyRequest, GetsResponse};
 ghost use Rattle.consequences.specs.Machines.{figure_of, StateOf};
 ghost use Rattle.consequences.specs.Repeats.{IsSpaced, requests_of};
@@ -21,7 +21,7 @@ pub fn an_unanswered_request_ends_by_timer_f()
         Stands (figure_of rules Client false) p (before ++ request ∷ after) m y → close_at p request.moment (64 * p.t1) < m → y ≡ quiet (figure_of rules Client false).ended }
     ensures silent { (p : Times) (rules : Rules) (before after : List MachineEvent) (request e : MachineEvent) (y : StateOf rules Client false) →
         SendsAnyRequest request → e.action ≡ Sent →
-        StandsBehind (figure_of rules Client false) p (before ++ request ∷ after) e y → e.moment ≤ close_at p request.moment (64 * p.t1) }
+        StandsAfter (figure_of rules Client false) p (before ++ request ∷ after) e y → e.moment ≤ close_at p request.moment (64 * p.t1) }
 {}
 
 /// A request and its repeats lie no closer than T1, 2*T1, 4*T1 and so on, with T2 as the cap, the tolerance aside (timer E, section 17.1.2.2).

@@ -389,3 +389,39 @@ fn a_pool_goes_on_after_a_refused_growth(rt: HostRuntime) -> Result<(), Fail> {
     let event = event_of(rt.alloc(), &book, 20, Action::Sent, 1)?;
     goes_on(&rt, &server, &book, &mut pool, &event)
 }
+
+/// That the first of two states is asked again and owes one debt more in a third, or, where memory is refused, that all is as before and
+/// that it is asked then.
+fn gains_again<M: Machine>(
+    rt: &(impl Abort + AllocGlobal),
+    machine: &M,
+    book: &Book,
+    pool: &mut Pool<M::Phase>,
+    event: &Event,
+) -> Result<(), Fail>
+    requires fits { FitsBook book.now event.now }
+    requires known { All (Knows M.names book.now) pool.old }
+    requires in_range { All M.in_range pool.old }
+{
+    let before = states_of(rt.alloc(), pool)?;
+    assert!(rt; pool.len() == 2);
+    let Err(error) = first_takes(machine, book, pool, event) else {
+        return owe(rt, pool, &[1, 2, 3, 1, 1, 2, 3, 1, LAST]);
+    };
+    are_as_before(rt, pool, &before)?;
+    assert!(rt; pool.len() == 2);
+    first_takes(machine, book, pool, event)?;
+    owe(rt, pool, &[1, 2, 3, 1, 1, 2, 3, 1, LAST])?;
+    Err(error.into())
+}
+
+/// Two states, of which one owes four messages and comes to owe another one, which has no room yet.
+#[test]
+fn a_debt_comes_after_a_refused_growth(rt: HostRuntime) -> Result<(), Fail> {
+    let server = server()?;
+    let book = book_of(rt.alloc(), &MESSAGES, "OPTIONS", "UDP")?;
+    let mut pool = Pool::new(rt.alloc());
+    push_each(rt.alloc(), &server, &book, &mut pool, &[&[1, 2, 3, 1], &[]])?;
+    let event = event_of(rt.alloc(), &book, 20, Action::Received, REQUEST)?;
+    gains_again(&rt, &server, &book, &mut pool, &event)
+}

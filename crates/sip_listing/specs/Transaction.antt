@@ -2,15 +2,22 @@ use Rattle.std.specs.Prelude.{◌++◌, ℕ, List, All, codes, decimal, length, 
 use Rattle.sip_standard.specs.declared.role.Role.{Role}
 use Rattle.sip_standard.specs.declared.role.Role.TheVariants.{Client, Server}
 use Rattle.sip_standard.specs.Key.{KeyParts}
-use Rattle.sip_machine.specs.Texts.{Texts}
+use Rattle.sip_standard.specs.Figure.{Owing}
+use Rattle.sip_standard.specs.KeyMachine.{MachineKind, OfInviteClient, OfPlainClient, OfInviteServer, OfPlainServer, OfInviteClient3261, OfInviteServer3261, transaction_of}
 use Rattle.sip_standard.specs.Times.{Times}
+use Rattle.sip_machine.specs.Texts.{Texts}
+use Rattle.sip_machine.specs.Told.{Told, told_by}
+use Rattle.sip_machine.specs.inner.InviteClient.{invite_client_told}
+use Rattle.sip_machine.specs.inner.PlainClient.{plain_client_told}
+use Rattle.sip_machine.specs.inner.InviteServer.{invite_server_told}
+use Rattle.sip_machine.specs.inner.PlainServer.{plain_server_told}
+use Rattle.sip_machine.specs.inner.InviteServer3261.{invite_server_3261_told}
 use Rattle.sip_states.specs.Held.{Held}
-use Rattle.sip_standard.specs.KeyMachine.{MachineKind}
-use Rattle.sip_states.specs.KeySets.{coded_of, PhaseOf, StateOf, by_machine}
+use Rattle.sip_states.specs.KeySets.{StateOf, by_machine}
 use Rattle.sip_states.specs.declared.any_set.AnySet.{AnySet}
 use Rattle.sip_states.specs.AnySet.{meaning_of, OfSet}
-use Rattle.sip_listing.specs.Fields.{Tells}
-use Rattle.sip_listing.specs.State.{owing_text}
+use Rattle.sip_listing.specs.Fields.{owes_fields, Tells}
+use Rattle.sip_listing.specs.State.{phase_text}
 use Rattle.sip_listing.specs.Lines.{AreInOrder, indented}
 
 -- A transaction in a listing: its number, its key in words, and its states.
@@ -33,9 +40,18 @@ transaction_line number key count =
 abbrev pub transaction_text : ℕ → KeyParts → List (List ℕ) → List ℕ
 transaction_text number key lines = transaction_line number key (length lines) ++ indented lines
 
--- the text of a state of a machine, whose messages are told by these numbers
-abbrev pub state_text : (machine : MachineKind) → (List ℕ → ℕ) → PhaseOf machine → List ℕ
-state_text machine number x = owing_text (coded_of machine).told number x
+-- the words of the phases of each machine
+abbrev pub words_of : (machine : MachineKind) → (transaction_of machine).Phase → Told (List ℕ)
+words_of OfInviteClient = invite_client_told
+words_of OfPlainClient = plain_client_told
+words_of OfInviteServer = invite_server_told
+words_of OfPlainServer = plain_server_told
+words_of OfInviteClient3261 = invite_client_told
+words_of OfInviteServer3261 = invite_server_3261_told
+
+-- the text of a state of a machine: that of its phase, and what is owed, whose messages are told by these numbers
+abbrev pub state_text : (machine : MachineKind) → (List ℕ → ℕ) → Owing (transaction_of machine).Phase → List ℕ
+state_text machine number x = phase_text (told_by number (words_of machine x.phase)) ++ owes_fields number x.owes
 
 -- What the code lists, whose messages are numbers of a book.
 

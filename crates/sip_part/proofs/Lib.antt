@@ -1,6 +1,6 @@
 pub mod Fields
 mod Lines
 mod Plain
-mod StartLines
+mod Stops
 pub mod Told
 mod Tokens

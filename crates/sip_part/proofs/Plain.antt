@@ -1,4 +1,4 @@
--- A branch that stands plainly in the first field of a message is that of its top Via.
+-- A branch that stands plainly in the first Via of a message is that of its top Via.
 use Rattle.std.proofs.Common.{◌≡◌, ◌∙◌, ◌⊎◌, inl, inr, ◌+◌, ◌||◌, ℕ, List, [], ◌∷◌, ◌++◌, Bool, Option, Some, None, take, drop, length, if◌then◌else◌, cond, nat_eq, true, false, refl, sym, ap, subst, append_assoc, arith}
 use Rattle.std.proofs.lemmas.Bool.{eqb-true}
 use Rattle.std.specs.Prelude.{codes, nat_lt}
@@ -18,7 +18,8 @@ use Rattle.sip_text.proofs.texts.LacksLemmas.{Lacks, AllLack, lacks-append, lack
 use Rattle.sip_text.proofs.uris.UriHostLemmas.{IsForeign, lack-host}
 use Rattle.sip_text.proofs.hosts.ProfileLemmas.{host-parts}
 use Rattle.sip_standard.specs.Via.{SaidVia, GenValue, PortSays, ParamSays, ViaSays, ViasSay, first_some}
-use Rattle.sip_part.specs.Led.{branch_in, is_end, opens_other, token_at}
+use Rattle.sip_part.specs.Led.{branch_in, from_stop, is_end, opens_other, token_at}
+use Rattle.sip_part.proofs.Stops.{no_stop}
 use Rattle.sip_part.proofs.Tokens.{token_none, token_run, token_whole, same_run}
 
 -- Blanks.
@@ -125,6 +126,32 @@ passed (x ∷ u) rest b (other, lacks) found = passed u rest b lacks (on_without
 -- so the search goes on after the first of two texts
 step : (u v text tail : List ℕ) (b : List ℕ) → Lacks semicolon u → text ≡ u ++ v → branch_in (text ++ tail) ≡ Some b → branch_in (v ++ tail) ≡ Some b
 step u v text tail b lacks whole found = passed u (v ++ tail) b lacks (subst (λ t. branch_in t ≡ Some b) (ap (λ t. t ++ tail) whole ∙ append_assoc u v tail) found)
+
+-- A search for a branch: it passes over a text without a semicolon, or ends in it, and it ends at a comma and at a CR.
+record Search (find : List ℕ → Option (List ℕ)) (b : List ℕ) : Type 0 where
+  pass : (u rest : List ℕ) → Lacks semicolon u → find (u ++ rest) ≡ Some b → find rest ≡ Some b
+  at_semicolon : (t : List ℕ) → find (59 ∷ t) ≡ branch_in (59 ∷ t)
+  at_comma : (t : List ℕ) → find (44 ∷ t) ≡ None
+  at_cr : (t : List ℕ) → find (13 ∷ t) ≡ None
+
+among : (b : List ℕ) → Search branch_in b
+among b = record { pass = λ u rest. passed u rest b; at_semicolon = λ t. refl; at_comma = λ t. refl; at_cr = λ t. refl }
+
+-- the search from the first comma, semicolon or CR on is one
+abbrev branch_from : List ℕ → Option (List ℕ)
+branch_from text = branch_in (from_stop text)
+
+passed_from : (u rest : List ℕ) (b : List ℕ) → Lacks semicolon u → branch_from (u ++ rest) ≡ Some b → branch_from rest ≡ Some b
+passed_from [] rest b lacks found = found
+passed_from (x ∷ u) rest b (other, lacks) found = passed_from u rest b lacks (by (nat_eq x 44) (nat_eq x 13) refl refl)
+  where
+    by : (comma cr : Bool) → nat_eq x 44 ≡ comma → nat_eq x 13 ≡ cr → branch_from (u ++ rest) ≡ Some b
+    by true cr one two = let e : None ≡ Some b = ap (λ y. branch_from (y ∷ (u ++ rest))) (sym (eqb-true x 44 one)) ∙ found in absurd (cc)
+    by false true one two = let e : None ≡ Some b = ap (λ y. branch_from (y ∷ (u ++ rest))) (sym (eqb-true x 13 two)) ∙ found in absurd (cc)
+    by false false one two = sym (ap (λ here. branch_in (if here then x ∷ (u ++ rest) else from_stop (u ++ rest))) (no_stop x one other two)) ∙ found
+
+from_first : (b : List ℕ) → Search branch_from b
+from_first b = record { pass = λ u rest. passed_from u rest b; at_semicolon = λ t. refl; at_comma = λ t. refl; at_cr = λ t. refl }
 
 -- A mark, with the blanks at its sides.
 
@@ -310,16 +337,17 @@ first_more : (p : Option (List ℕ)) (ps : List (Option (List ℕ))) (b : List �
 first_more p ps b X (inl is) on = ap (λ q. first_some (q ∷ ps)) is
 first_more p ps b X (inr (is, x)) on = ap (λ q. first_some (q ∷ ps)) is ∙ on x
 
-params_found : (params : List (Option (List ℕ))) (text tail b : List ℕ) → NoToken tail → (branch_in tail ≡ Some b → ⊥) → Params params text → branch_in (text ++ tail) ≡ Some b → first_some params ≡ Some b
-params_found [] text tail b ends none is found = absurd (none (subst (λ t. branch_in (t ++ tail) ≡ Some b) is found))
-params_found (p ∷ ps) text tail b ends none (u, v, (m, param, mark, says, u_is), more, whole) found =
+params_found : (find : List ℕ → Option (List ℕ)) (params : List (Option (List ℕ))) (text tail b : List ℕ) → Search find b → NoToken tail → (find tail ≡ Some b → ⊥) → (branch_in tail ≡ Some b → ⊥) → Params params text
+    → find (text ++ tail) ≡ Some b → first_some params ≡ Some b
+params_found find [] text tail b search ends none never is found = absurd (none (subst (λ t. find (t ++ tail) ≡ Some b) is found))
+params_found find (p ∷ ps) text tail b search ends none never (u, v, (m, param, mark, says, u_is), more, whole) found =
     let l = mark_led ";" 59 m refl mark in
     let rest = v ++ tail in
     let flat : text ++ tail ≡ l.before ++ (59 ∷ (l.after ++ (param ++ rest))) =
     ap (λ t. t ++ tail) (whole ∙ ap (λ t. t ++ v) u_is) ∙ append_assoc (m ++ param) v tail ∙ append_assoc m param rest ∙ led_rest 59 m (param ++ rest) l in
-    let at = passed l.before (59 ∷ (l.after ++ (param ++ rest))) b (lack-sws l.before l.blanks) (subst (λ t. branch_in t ≡ Some b) flat found) in
-    let seen = seen_after l.after (param ++ rest) b l.more (param_seen (l.after ++ (param ++ rest)) b at) in
-    first_more p ps b (branch_in rest ≡ Some b) (param_step p param rest b says (params_no_token ps v tail more ends) seen) (λ f. params_found ps v tail b ends none more f)
+    let at = search.pass l.before (59 ∷ (l.after ++ (param ++ rest))) (lack-sws l.before l.blanks) (subst (λ t. find t ≡ Some b) flat found) in
+    let seen = seen_after l.after (param ++ rest) b l.more (param_seen (l.after ++ (param ++ rest)) b (sym (search.at_semicolon (l.after ++ (param ++ rest))) ∙ at)) in
+    first_more p ps b (branch_in rest ≡ Some b) (param_step p param rest b says (params_no_token ps v tail more ends) seen) (λ f. params_found branch_in ps v tail b (among b) ends never never more f)
 
 -- An element of Via, and those after it.
 
@@ -328,18 +356,22 @@ lack-port-says None u is = subst (Lacks semicolon) (sym is) tt
 lack-port-says (Some port) u (m, v, mark, (fits, same), whole) =
     subst (Lacks semicolon) (sym whole) (lacks-append semicolon m v (lack-colon m mark) (lack-between semicolon 1 5 _ (lack-one semicolon is_ascii_digit refl) v fits.0))
 
-via_found : (via : SaidVia) (text tail b : List ℕ) → NoToken tail → (branch_in tail ≡ Some b → ⊥) → ViaSays via text → branch_in (text ++ tail) ≡ Some b → via.branch ≡ Some b
-via_found via text tail b ends none
+-- it goes on after the first of two texts
+step_from : (u v text tail : List ℕ) (b : List ℕ) → Lacks semicolon u → text ≡ u ++ v → branch_from (text ++ tail) ≡ Some b → branch_from (v ++ tail) ≡ Some b
+step_from u v text tail b lacks whole found = passed_from u (v ++ tail) b lacks (subst (λ t. branch_from t ≡ Some b) (ap (λ t. t ++ tail) whole ∙ append_assoc u v tail) found)
+
+via_found : (via : SaidVia) (text tail b : List ℕ) → NoToken tail → (branch_from tail ≡ Some b → ⊥) → (branch_in tail ≡ Some b → ⊥) → ViaSays via text → branch_from (text ++ tail) ≡ Some b → via.branch ≡ Some b
+via_found via text tail b ends none never
     (params, is, same, (t1, r1, one, (t2, r2, two, (t3, r3, three, (t4, r4, four, (t5, r5, five, (t6, r6, six, (t7, r7, seven, (t8, r8, eight, each, e8), e7), e6), e5), e4), e3), e2), e1)) found =
-    is ∙ params_found params r8 tail b ends none each
-    (step t8 r8 r7 tail b (lack-port-says via.port t8 eight) e8
-    (step t7 r7 r6 tail b (lack-a-host t7 seven.0) e7
-    (step t6 r6 r5 tail b (lack-blanks t6 six) e6
-    (step t5 r5 r4 tail b (lack-token t5 five.0) e5
-    (step t4 r4 r3 tail b (lack-slash t4 four) e4
-    (step t3 r3 r2 tail b (lack-token t3 three) e3
-    (step t2 r2 r1 tail b (lack-slash t2 two) e2
-    (step t1 r1 text tail b (lack-token t1 one) e1 found))))))))
+    is ∙ params_found branch_from params r8 tail b (from_first b) ends none never each
+    (step_from t8 r8 r7 tail b (lack-port-says via.port t8 eight) e8
+    (step_from t7 r7 r6 tail b (lack-a-host t7 seven.0) e7
+    (step_from t6 r6 r5 tail b (lack-blanks t6 six) e6
+    (step_from t5 r5 r4 tail b (lack-token t5 five.0) e5
+    (step_from t4 r4 r3 tail b (lack-slash t4 four) e4
+    (step_from t3 r3 r2 tail b (lack-token t3 three) e3
+    (step_from t2 r2 r1 tail b (lack-slash t2 two) e2
+    (step_from t1 r1 text tail b (lack-token t1 one) e1 found))))))))
 
 abbrev More : List SaidVia → List ℕ → Type 0
 More vias = EachSays (λ v. Mark "," then ViaSays v) vias
@@ -350,26 +382,31 @@ more_no_token (via ∷ vias) text tail (u, v, (m, x, mark, says, u_is), more, wh
     let flat : text ++ tail ≡ m ++ (x ++ (v ++ tail)) = ap (λ t. t ++ tail) (whole ∙ ap (λ t. t ++ v) u_is) ∙ append_assoc (m ++ x) v tail ∙ append_assoc m x (v ++ tail) in
     subst NoToken (sym flat) (led_no_token 44 m (x ++ (v ++ tail)) refl (mark_led "," 44 m refl mark))
 
--- the search ends before a second element
-more_ends : (vias : List SaidVia) (text tail b : List ℕ) → More vias text → (branch_in tail ≡ Some b → ⊥) → branch_in (text ++ tail) ≡ Some b → ⊥
-more_ends [] text tail b is none found = none (subst (λ t. branch_in (t ++ tail) ≡ Some b) is found)
-more_ends (via ∷ vias) text tail b (u, v, (m, x, mark, says, u_is), more, whole) none found =
+-- a search ends before a second element
+more_ends : (find : List ℕ → Option (List ℕ)) (vias : List SaidVia) (text tail b : List ℕ) → Search find b → More vias text → (find tail ≡ Some b → ⊥) → find (text ++ tail) ≡ Some b → ⊥
+more_ends find [] text tail b search is none found = none (subst (λ t. find (t ++ tail) ≡ Some b) is found)
+more_ends find (via ∷ vias) text tail b search (u, v, (m, x, mark, says, u_is), more, whole) none found =
     let l = mark_led "," 44 m refl mark in
     let flat : text ++ tail ≡ l.before ++ (44 ∷ (l.after ++ (x ++ (v ++ tail)))) =
     ap (λ t. t ++ tail) (whole ∙ ap (λ t. t ++ v) u_is) ∙ append_assoc (m ++ x) v tail ∙ append_assoc m x (v ++ tail) ∙ led_rest 44 m (x ++ (v ++ tail)) l in
-    let at : None ≡ Some b = passed l.before (44 ∷ (l.after ++ (x ++ (v ++ tail)))) b (lack-sws l.before l.blanks) (subst (λ t. branch_in t ≡ Some b) flat found) in
-    absurd (cc)
+    let at = search.pass l.before (44 ∷ (l.after ++ (x ++ (v ++ tail)))) (lack-sws l.before l.blanks) (subst (λ t. find t ≡ Some b) flat found) in
+    let e : None ≡ Some b = sym (search.at_comma (l.after ++ (x ++ (v ++ tail)))) ∙ at in absurd (cc)
 
-vias_found : (via : SaidVia) (vias : List SaidVia) (text tail b : List ℕ) → NoToken tail → (branch_in tail ≡ Some b → ⊥) → ViasSay (via ∷ vias) text → branch_in (text ++ tail) ≡ Some b → via.branch ≡ Some b
-vias_found via vias text tail b ends none (u, v, says, more, whole) found =
-    via_found via u (v ++ tail) b (more_no_token vias v tail more ends) (more_ends vias v tail b more none) says
-    (subst (λ t. branch_in t ≡ Some b) (ap (λ t. t ++ tail) whole ∙ append_assoc u v tail) found)
+vias_found : (via : SaidVia) (vias : List SaidVia) (text tail b : List ℕ) → NoToken tail → (branch_from tail ≡ Some b → ⊥) → (branch_in tail ≡ Some b → ⊥) → ViasSay (via ∷ vias) text
+    → branch_from (text ++ tail) ≡ Some b → via.branch ≡ Some b
+vias_found via vias text tail b ends none never (u, v, says, more, whole) found =
+    via_found via u (v ++ tail) b (more_no_token vias v tail more ends) (more_ends branch_from vias v tail b (from_first b) more none) (more_ends branch_in vias v tail b (among b) more never) says
+    (subst (λ t. branch_from t ≡ Some b) (ap (λ t. t ++ tail) whole ∙ append_assoc u v tail) found)
+
+-- a search ends after the blanks at the end of a line
+line_ends : (find : List ℕ → Option (List ℕ)) (s rest b : List ℕ) → Search find b → Sws s → find (s ++ (13 ∷ rest)) ≡ Some b → ⊥
+line_ends find s rest b search sws found = let e : None ≡ Some b = sym (search.at_cr rest) ∙ search.pass s (13 ∷ rest) (lack-sws s sws) found in absurd (cc)
 
 -- The branch that is found in the rest of a field's line is that of the first element of its value.
-pub value_found : (text value rest b : List ℕ) → (Sws then Exactly value then Sws) text → branch_in (text ++ (13 ∷ rest)) ≡ Some b → (via : SaidVia) (vias : List SaidVia) → ViasSay (via ∷ vias) value
+pub value_found : (text value rest b : List ℕ) → (Sws then Exactly value then Sws) text → branch_in (from_stop (text ++ (13 ∷ rest))) ≡ Some b → (via : SaidVia) (vias : List SaidVia) → ViasSay (via ∷ vias) value
     → via.branch ≡ Some b
 value_found text value rest b (s1, r, sws1, (val, s2, val_is, sws2, r_is), whole) found via vias says =
-    let at = step s1 r text (13 ∷ rest) b (lack-sws s1 sws1) whole found in
+    let at = step_from s1 r text (13 ∷ rest) b (lack-sws s1 sws1) whole found in
     let flat : r ++ (13 ∷ rest) ≡ value ++ (s2 ++ (13 ∷ rest)) = ap (λ t. t ++ (13 ∷ rest)) (r_is ∙ ap (λ t. t ++ s2) val_is) ∙ append_assoc value s2 (13 ∷ rest) in
     vias_found via vias value (s2 ++ (13 ∷ rest)) b (sws_no_token s2 (13 ∷ rest) sws2 refl)
-    (λ f. let e : None ≡ Some b = passed s2 (13 ∷ rest) b (lack-sws s2 sws2) f in absurd (cc)) says (subst (λ t. branch_in t ≡ Some b) flat at)
+    (line_ends branch_from s2 rest b (from_first b) sws2) (line_ends branch_in s2 rest b (among b) sws2) says (subst (λ t. branch_from t ≡ Some b) flat at)

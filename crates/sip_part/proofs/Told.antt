@@ -1,39 +1,48 @@
 -- The branch by which a message falls into its part.
-use Rattle.std.proofs.Common.{◌≡◌, ◌∙◌, ℕ, List, Option, Some, None, MatchOption, refl, sym, ap}
+use Rattle.std.proofs.Common.{◌≡◌, ◌∙◌, ℕ, Bool, true, false, List, [], Some, None, refl, sym, ap}
+use Rattle.std.specs.Bool.{Decides}
+use Rattle.std.specs.Prelude.{bytes_eq}
+use Rattle.std.proofs.lemmas.Slice.Eq.{bytes_eq-Decides}
+use Rattle.sip_standard.specs.declared.fault.Fault.{Fault}
 use Rattle.sip_standard.specs.Case.{folded}
-use Rattle.sip_standard.specs.Outcome.{gives}
+use Rattle.sip_standard.specs.Outcome.{gives, stops}
 use Rattle.sip_standard.specs.Says.{Said, Says}
-use Rattle.sip_message.proofs.lemmas.says.Reading.{says-reads, says-no_fault, said-is}
+use Rattle.sip_message.specs.Reading.{Reading}
+use Rattle.sip_message.specs.Reads.{Reads}
+use Rattle.sip_message.specs.SaidOf.{said_of}
+use Rattle.sip_message.proofs.lemmas.message.Total.{reading-or-fault}
+use Rattle.sip_message.proofs.lemmas.says.Reading.{says-no_fault, said-is}
 use Rattle.sip_part.specs.Led.{led_branch}
-use Rattle.sip_part.specs.Part.{FindsBranch, reads, is_faulty, TellsBranch, compared}
+use Rattle.sip_part.specs.Part.{TellsBranch, compared}
 use Rattle.sip_part.proofs.Fields.{led_found}
-
--- the reader of whole messages finds its branch
-finds : (text : List ℕ) (s : Said) (branch : List ℕ) → Says text (gives s) → FindsBranch text branch → branch ≡ compared s.via.branch
-finds text s branch says (reads t other is) =
-    let read = says-reads text s says in
-    is ∙ ap (λ x. compared x.via.branch) (said-is text read.0 t read.1 other ∙ sym read.2)
-finds text s branch says (is_faulty fault has is) = absurd (says-no_fault text s fault says has)
-
-by_led : (text : List ℕ) (s : Said) (branch : List ℕ) → Says text (gives s) → (led : Option (List ℕ)) → led_branch text ≡ led → MatchOption led (FindsBranch text branch) (λ plain. branch ≡ folded plain)
-    → branch ≡ compared s.via.branch
-by_led text s branch says None same told = finds text s branch says told
-by_led text s branch says (Some plain) same told = told ∙ sym (ap compared (led_found text plain s says same))
 
 -- what is told of a message that is read is the branch of its top Via
 pub told_branch : (text : List ℕ) (s : Said) (branch : List ℕ) → Says text (gives s) → TellsBranch text branch → branch ≡ compared s.via.branch
-told_branch text s branch says told = by_led text s branch says (led_branch text) refl told
+told_branch text s branch says tells = tells.0 s says
 
--- the reader of whole messages finds one branch
-finds_one : (text a b : List ℕ) → FindsBranch text a → FindsBranch text b → a ≡ b
-finds_one text a b (reads s says is) other = is ∙ sym (finds text s b says other)
-finds_one text a b (is_faulty fault has is) (reads s says same) = absurd (says-no_fault text s fault says has)
-finds_one text a b (is_faulty fault has is) (is_faulty other has2 same) = is ∙ sym same
+-- a branch that stands plainly is told
+pub plain_told : (text plain : List ℕ) → led_branch text ≡ Some plain → TellsBranch text (folded plain)
+plain_told text plain led = ((λ s says. sym (ap compared (led_found text plain s says led))), (λ fault has. sym (ap compared led)))
 
-one_by : (text a b : List ℕ) (led : Option (List ℕ)) → MatchOption led (FindsBranch text a) (λ plain. a ≡ folded plain) → MatchOption led (FindsBranch text b) (λ plain. b ≡ folded plain) → a ≡ b
-one_by text a b None one other = finds_one text a b one other
-one_by text a b (Some plain) one other = one ∙ sym other
+-- and so is that of what is read, and of a fault where none does that there is none
+pub read_told : (text : List ℕ) (r : Reading) → Reads text r → TellsBranch text (compared ((said_of r).via.branch))
+read_told text r reads = (
+  (λ s says. sym (ap (λ x. compared x.via.branch) (said-is text r s reads says))),
+  (λ fault has. absurd (says-no_fault text (said_of r) fault reads.says has)),
+)
+
+pub fault_told : (text : List ℕ) (fault : Fault) → led_branch text ≡ None → Says text (stops fault) → TellsBranch text []
+fault_told text fault none has = ((λ s says. absurd (says-no_fault text s fault says has)), (λ other also. sym (ap compared none)))
 
 -- one branch is told of a message
 pub one_told : (text a b : List ℕ) → TellsBranch text a → TellsBranch text b → a ≡ b
-one_told text a b one other = one_by text a b (led_branch text) one other
+one_told text a b one other = by (bytes_eq a b) (bytes_eq-Decides a b)
+  where
+    differ : Decides false (a ≡ b) → a ≡ b → ⊥
+    differ decides same = let e : false ≡ true = decides.1 same in absurd (cc)
+
+    by : (same : Bool) → Decides same (a ≡ b) → a ≡ b
+    by true decides = decides.0 refl
+    by false decides =
+        absurd (reading-or-fault text (λ r reads. differ decides (one.0 (said_of r) reads.says ∙ sym (other.0 (said_of r) reads.says)))
+        (λ fault has. differ decides (one.1 fault has ∙ sym (other.1 fault has))))

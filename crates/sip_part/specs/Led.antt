@@ -1,13 +1,18 @@
--- The branch that stands plainly in the first field of a message.
+-- The branch that stands plainly in the first Via of a message.
 use Rattle.std.specs.Prelude.{ℕ, ◌==◌, Bool, false, nat_eq, List, [], ◌∷◌, Option, None, Some, take, drop, codes, if◌then◌else◌}
 use Rattle.std.specs.List.{prefix_len, starts_with}
 use Rattle.sip_standard.specs.Chars.{is_among}
 use Rattle.sip_text.specs.Bytes.{line_feed, semicolon, is_token_byte}
 
--- what stands after the first LF, if there is one
-abbrev pub after_line : List ℕ → Option (List ℕ)
-after_line [] = None
-after_line (byte ∷ text) = if byte == line_feed then Some text else after_line text
+-- the line begins as a Via does, in full or compact
+abbrev pub opens_via : List ℕ → Bool
+opens_via [] = false
+opens_via (byte ∷ text) = is_among "vV" byte
+
+-- what stands from the first line on that begins so after another one, if there is one
+abbrev pub via_line : List ℕ → Option (List ℕ)
+via_line [] = None
+via_line (byte ∷ text) = if byte == line_feed then (if opens_via text then Some text else via_line text) else via_line text
 
 -- the longest token that the text begins with, if it begins with one
 abbrev pub token_at : List ℕ → Option (List ℕ)
@@ -30,17 +35,22 @@ branch_in (byte ∷ text) =
     else if byte == semicolon then (if starts_with nat_eq text (codes "branch=") then token_at (drop 7 text) else if opens_other text then None else branch_in text)
     else branch_in text
 
+-- what stands from the first comma, semicolon or CR on
+abbrev pub from_stop : List ℕ → List ℕ
+from_stop [] = []
+from_stop (byte ∷ text) = if is_among ",;\r" byte then byte ∷ text else from_stop text
+
 -- the plain branch of a field that is spelled "Via:" or "v:"
 abbrev pub via_branch : List ℕ → Option (List ℕ)
 via_branch field =
-    if starts_with nat_eq field (codes "Via:") then branch_in (drop 4 field)
-    else if starts_with nat_eq field (codes "v:") then branch_in (drop 2 field) else None
+    if starts_with nat_eq field (codes "Via:") then branch_in (from_stop (drop 4 field))
+    else if starts_with nat_eq field (codes "v:") then branch_in (from_stop (drop 2 field)) else None
 
--- the plain branch of the first field, which stands after the start line
-abbrev pub first_branch : Option (List ℕ) → Option (List ℕ)
-first_branch None = None
-first_branch (Some fields) = via_branch fields
+-- that of the field that stands there, if one does
+abbrev pub branch_at : Option (List ℕ) → Option (List ℕ)
+branch_at None = None
+branch_at (Some field) = via_branch field
 
 -- the plain branch of a message
 abbrev pub led_branch : List ℕ → Option (List ℕ)
-led_branch text = first_branch (after_line text)
+led_branch text = branch_at (via_line text)

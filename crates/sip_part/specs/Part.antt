@@ -1,5 +1,5 @@
 -- The part of a log that is cut by branch into which a message falls.
-use Rattle.std.specs.Prelude.{◌≡◌, ℕ, ◌+◌, ◌*◌, ◌%◌, ◌^◌, ◌==◌, Bool, List, [], Option, None, Some, MatchOption, fold, bit_xor}
+use Rattle.std.specs.Prelude.{◌≡◌, ℕ, ◌+◌, ◌*◌, ◌%◌, ◌^◌, ◌==◌, Bool, List, [], Option, None, Some, fold, bit_xor}
 use Rattle.sip_standard.specs.Case.{folded}
 use Rattle.sip_standard.specs.declared.fault.Fault.{Fault}
 use Rattle.sip_standard.specs.Outcome.{gives, stops}
@@ -24,11 +24,8 @@ abbrev pub compared : Option (List ℕ) → List ℕ
 compared None = []
 compared (Some branch) = folded branch
 
--- what the reader of whole messages finds: the branch of the top Via, and nothing in a message with a fault
-pub data FindsBranch (text branch : List ℕ) : Type 0 where
-  reads : (s : Said) → Says text (gives s) → branch ≡ compared s.via.branch → FindsBranch text branch
-  is_faulty : (fault : Fault) → Says text (stops fault) → branch ≡ [] → FindsBranch text branch
-
--- the branch by which a message falls into its part: the one that stands plainly in its first field, and else what the reader of whole messages finds
+-- the branch by which a message falls into its part: that of its top Via, or of a message with a fault the one that stands plainly in it
 abbrev pub TellsBranch : List ℕ → List ℕ → Type 0
-TellsBranch text branch = MatchOption (led_branch text) (FindsBranch text branch) (λ plain. branch ≡ folded plain)
+TellsBranch text branch =
+    ((s : Said) → Says text (gives s) → branch ≡ compared s.via.branch)
+    × ((fault : Fault) → Says text (stops fault) → branch ≡ compared (led_branch text))

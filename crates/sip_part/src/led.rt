@@ -1,31 +1,55 @@
-//! The branch that stands plainly in the first field of a message.
+//! The branch that stands plainly in the first Via of a message.
 ghost use Rattle.std.specs.Prelude.{◌≡◌, option_copied};
-ghost use Rattle.sip_part.specs.Led.{after_line, branch_in, is_end, led_branch, opens_other, token_at};
+ghost use Rattle.sip_part.specs.Led.{branch_in, from_stop, is_end, led_branch, opens_other, opens_via, token_at, via_line};
 
-use memchr::memchr;
+use memchr::{memchr, memchr3};
 use sip_text::token_len;
 
-/// The branch of the top Via, where the first field is spelled `Via:` or `v:` and the branch stands plainly in it. What is not so plain may
-/// still have one.
+/// The branch of the top Via, where this is spelled `Via:` or `v:` and the branch stands plainly in it. What is not so plain may still
+/// have one.
 pub fn led_branch(text: &[u8]) -> Option<&[u8]>
     ensures { option_copied result ≡ led_branch text.now }
 {
-    let field = after_line(text)?;
-    if field.starts_with(b"Via:") {
-        return branch_in(&field[4..]);
+    let line = via_line(text)?;
+    if line.starts_with(b"Via:") {
+        return branch_from_stop(&line[4..]);
     }
-    if field.starts_with(b"v:") {
-        return branch_in(&field[2..]);
+    if line.starts_with(b"v:") {
+        return branch_from_stop(&line[2..]);
     }
     None
 }
 
-/// What stands after the first line, if it ends.
-fn after_line(text: &[u8]) -> Option<&[u8]>
-    ensures { option_copied result ≡ after_line text.now }
+/// The first line after another one that begins as a Via does, with all that stands after it.
+fn via_line(text: &[u8]) -> Option<&[u8]>
+    ensures { option_copied result ≡ via_line text.now }
 {
-    let end = memchr(b'\n', text)?;
-    Some(&text[end + 1..])
+    let mut rest = text;
+    'lines: loop {
+        let end = memchr(b'\n', rest)?;
+        rest = &rest[end + 1..];
+        if opens_via(rest) {
+            return Some(rest);
+        }
+    }
+}
+
+/// Whether a line begins as a Via does.
+fn opens_via(line: &[u8]) -> bool
+    ensures { result ≡ opens_via line.now }
+{
+    match line {
+        [first, ..] => matches!(*first, b'v' | b'V'),
+        [] => false,
+    }
+}
+
+/// The branch among the parameters of the Via whose value the text begins with. A comma, a semicolon or a CR ends what stands before them.
+fn branch_from_stop(text: &[u8]) -> Option<&[u8]>
+    ensures { option_copied result ≡ branch_in (from_stop text.now) }
+{
+    let at = memchr3(b',', b';', b'\r', text)?;
+    branch_in(&text[at..])
 }
 
 /// The branch among the parameters of a Via that stand in the text.

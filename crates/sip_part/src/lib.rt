@@ -7,6 +7,7 @@ mod part;
 
 pub use laws::{
     a_branch_falls_into_one_part, a_message_falls_by_its_branch, a_message_falls_by_one_branch,
+    a_plain_branch_is_that_of_the_top_via,
 };
 pub use led::led_branch;
 pub use part::Part;

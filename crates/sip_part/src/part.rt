@@ -1,9 +1,8 @@
 //! The parts of a log that is cut by branch.
-ghost use Rattle.std.specs.Prelude.{◌≡◌, ◌≤◌, ◌<◌, MatchOption, IfOk, List, ℕ, option_copied};
+ghost use Rattle.std.specs.Prelude.{◌≡◌, ◌≤◌, ◌<◌, MatchOption, IfOk, List, ℕ, None, option_copied};
 ghost use Rattle.sip_standard.specs.Case.{folded};
-ghost use Rattle.sip_standard.specs.Outcome.{gives};
-ghost use Rattle.sip_standard.specs.Says.{Said, Says};
-ghost use Rattle.sip_part.specs.Part.{FindsBranch, PartOf, TellsBranch, compared, falls_into, fnv1a};
+ghost use Rattle.sip_part.specs.Led.{led_branch};
+ghost use Rattle.sip_part.specs.Part.{PartOf, TellsBranch, compared, falls_into, fnv1a};
 
 use crate::led::led_branch;
 use sip_message::{Message, ReadError};
@@ -48,7 +47,7 @@ impl Part {
     }
 
     /// Whether a message falls into the part, by the branch of its top Via. One with a fault does by the branch that stands plainly in
-    /// its first field, or as one without a branch.
+    /// the first line that begins as a Via does, or as one without a branch.
     pub fn has_message(&self, alloc: Global, bytes: &[u8]) -> Result<bool, AllocError>
         ensures { IfOk result (λ falls. (branch : List ℕ) × TellsBranch bytes.now branch × (falls ≡ falls_into self.now branch)) }
     {
@@ -58,9 +57,10 @@ impl Part {
         }
     }
 
-    /// Whether a message that is read whole falls into the part.
+    /// Whether a message in which no branch stands plainly falls into the part. It is read whole.
     fn has_read(&self, alloc: Global, bytes: &[u8]) -> Result<bool, AllocError>
-        ensures { IfOk result (λ falls. (branch : List ℕ) × FindsBranch bytes.now branch × (falls ≡ falls_into self.now branch)) }
+        requires { led_branch bytes.now ≡ None }
+        ensures { IfOk result (λ falls. (branch : List ℕ) × TellsBranch bytes.now branch × (falls ≡ falls_into self.now branch)) }
     {
         match Message::read(alloc, bytes) {
             Ok(message) => Ok(self.has_compared(message.top_via().branch)),

@@ -15,5 +15,5 @@ pub data Stands {X : Type 0} (f : Figure X) (p : Times) : List MachineEvent → 
   takes : (events : List MachineEvent) (e : MachineEvent) (x y : Owing X) → Stands f p events e.moment x → Takes f p x e y → Stands f p (events ++ e ∷ []) e.moment y
 
 -- y is where e leads from where a run over these events stands at its moment
-abbrev pub StandsBehind : {X : Type 0} → Figure X → Times → List MachineEvent → MachineEvent → Owing X → Type 0
-StandsBehind {X} f p events e y = (x : Owing X) × Stands f p events e.moment x × Takes f p x e y
+abbrev pub StandsAfter : {X : Type 0} → Figure X → Times → List MachineEvent → MachineEvent → Owing X → Type 0
+StandsAfter {X} f p events e y = (x : Owing X) × Stands f p events e.moment x × Takes f p x e y

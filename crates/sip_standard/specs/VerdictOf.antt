@@ -6,7 +6,7 @@ use Rattle.sip_standard.specs.Times.{Times}
 use Rattle.sip_standard.specs.MachineEvent.{MachineEvent}
 use Rattle.sip_standard.specs.Figure.{Owing}
 use Rattle.sip_standard.specs.KeyMachine.{machine_of_key, transaction_of}
-use Rattle.sip_standard.specs.Stands.{Stands, StandsBehind}
+use Rattle.sip_standard.specs.Stands.{Stands, StandsAfter}
 use Rattle.sip_standard.specs.LogEntry.{Item}
 use Rattle.sip_standard.specs.LogSays.{LogEnd, Clean, Stops, LogSays, LacksHeader}
 use Rattle.sip_standard.specs.declared.verdict.Verdict.{Verdict}
@@ -39,7 +39,7 @@ IsWideAt p front e key =
     let key_machine = transaction_of (machine_of_key p.rules key) in
     (list_any (same_key key) e.keys ≡ true)
     × ((many : List (Owing key_machine.Phase)) × AllPairs (λ x y. x ≢ y) many × (1024 < length many)
-    × All (StandsBehind key_machine.figure p (events_for key front) e.event) many)
+    × All (StandsAfter key_machine.figure p (events_for key front) e.event) many)
 
 -- the number, from 1, of the first key of which P holds
 abbrev pub IsFirstKey : (KeyParts → Type 0) → List KeyParts → ℕ → Type 0
@@ -59,17 +59,17 @@ HasTrouble p front e v = ⊥
 
 -- the verdict of the entries that are left and of how they end, after others in no trouble: that the log is legal, or that the next entry
 -- cannot be read; or that of the next entry, if it is in trouble, and if it is not, that of what is left after it
-abbrev pub IsVerdictBehind : Times → List (Observation KeyParts) → List Item → LogEnd → Verdict → Type 0
-IsVerdictBehind p es [] Clean v = v ≡ Legal (length es) (length (keys_in es))
-IsVerdictBehind p es [] (Stops fault) v = v ≡ LogFault (length es + 1) fault
-IsVerdictBehind p es (item ∷ items) end v =
+abbrev pub IsVerdictAfter : Times → List (Observation KeyParts) → List Item → LogEnd → Verdict → Type 0
+IsVerdictAfter p es [] Clean v = v ≡ Legal (length es) (length (keys_in es))
+IsVerdictAfter p es [] (Stops fault) v = v ≡ LogFault (length es + 1) fault
+IsVerdictAfter p es (item ∷ items) end v =
     (e : Observation KeyParts) × Sees es item e
     × (HasTrouble p es e v
     ⊎ ((e.fault ≡ None) × All (RunsOver p (es ++ e ∷ [])) (keys_in (es ++ e ∷ [])) × All (λ key. ¬ (IsWideAt p es e key)) (keys_in (es ++ e ∷ []))
-    × IsVerdictBehind p (es ++ e ∷ []) items end v))
+    × IsVerdictAfter p (es ++ e ∷ []) items end v))
 
 -- the verdict of an input, its messages being those of RFC 3261: that of its header, or of its entries
 abbrev pub IsVerdictOf : List ℕ → Verdict → Type 0
 IsVerdictOf input v =
     (LacksHeader input × (v ≡ LogFault 0 Header))
-    ⊎ ((p : Times) × (items : List Item) × (end : LogEnd) × LogSays input p items end × IsVerdictBehind p [] items end v)
+    ⊎ ((p : Times) × (items : List Item) × (end : LogEnd) × LogSays input p items end × IsVerdictAfter p [] items end v)

@@ -26,6 +26,7 @@ pub mod PartFaults
 pub mod PartLogs
 pub mod Parts
 pub mod Passing
+pub mod Remembered
 pub mod Sound
 pub mod Swept
 pub mod Taking

@@ -66,10 +66,10 @@ CanAnswer (Told v) answer = answer ≡ Ok (Some v)
 CanAnswer Failed answer = answer ≡ Err errors.Failed
 
 -- how far it is after an answer
-abbrev pub stage_behind : Result (Option Verdict) StepError → Stage
-stage_behind (Ok None) = Open
-stage_behind (Ok (Some v)) = Told v
-stage_behind (Err e) = Failed
+abbrev pub stage_after : Result (Option Verdict) StepError → Stage
+stage_after (Ok None) = Open
+stage_after (Ok (Some v)) = Told v
+stage_after (Err e) = Failed
 
 -- the verdict with which a judge ends that took so many entries, of so many transactions: what it told, or that they are legal; none after a failure
 abbrev pub last_verdict : ℕ → ℕ → Stage → Option Verdict

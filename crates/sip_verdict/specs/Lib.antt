@@ -1,3 +1,4 @@
+pub mod Forgetting
 pub mod Judging
 pub mod Keyed
 pub mod LegalLog
@@ -6,7 +7,7 @@ pub mod ListingOf
 pub mod MessageReading
 pub mod Named
 pub mod Reading
-pub mod Showing
+pub mod Seen
 pub mod SurveyLaws
 pub mod SurveyOf
 pub mod SurveyParts

@@ -1,17 +1,60 @@
--- The listing of an entry of a log of SIP messages.
-use Rattle.std.specs.Prelude.{ℕ, List}
-use Rattle.sip_standard.specs.Key.{KeyParts}
+-- The listing of an entry of a log: the states of the transactions that the entry concerns, RFC 3261 section 17.
+use Rattle.std.specs.Prelude.{◌≡◌, ◌≤◌, ◌<◌, ◌⊎◌, ℕ, true, IsSomeAnd, List, [], ◌∷◌, ◌++◌, codes, string_bytes}
+use Rattle.sip_standard.specs.Key.{KeyParts, same_key}
 use Rattle.sip_standard.specs.Times.{Times}
-use Rattle.sip_standard.specs.KeyMachine.{machine_of_key}
+use Rattle.sip_standard.specs.KeyMachine.{machine_of_key, transaction_of}
+use Rattle.sip_standard.specs.Stands.{StandsAfter}
+use Rattle.sip_standard.specs.LogEntry.{Item}
+use Rattle.sip_standard.specs.LogSays.{LogEnd, Clean, LogSays}
+use Rattle.sip_standard.specs.declared.verdict.Verdict.TheVariants.{Legal}
+use Rattle.sip_standard.specs.Observation.{Observation}
+use Rattle.sip_standard.specs.VerdictOf.{keys_in, events_for, IsFirstKey, IsVerdictAfter, IsVerdictOf}
+use Rattle.sip_listing.specs.Lines.{AreLinesOf}
 use Rattle.sip_listing.specs.Transaction.{transaction_text, state_text}
 use Rattle.sip_verdict.specs.declared.listing.Listing.{Listing}
-use Rattle.sip_verdict.specs.MessageReading.{key_machines, message_reading}
-use Rattle.sip_verdict.specs.Listing.{Words, IsListingBy}
+use Rattle.sip_verdict.specs.declared.listing.Listing.TheVariants.{Text, Stopped, NoEntry}
+use Rattle.sip_verdict.specs.Seen.{AreSeen}
+use Rattle.sip_verdict.specs.Listing.{first_entry, trouble_of}
 
--- keys are told by their role and method, and states by their machine, RFC 3261 section 17
-abbrev pub key_words : (p : Times) → Words KeyParts (key_machines p)
-key_words p = record { transaction = transaction_text; state = λ key number x. state_text (machine_of_key p.rules key) number x }
+-- the text of a transaction that the entry after these concerns: its lines are of exactly the states in which a run can stand whose last step is the
+-- entry's, whose messages have these numbers
+pub record IsKeyText (p : Times) (number : List ℕ → ℕ) (front : List (Observation KeyParts)) (e : Observation KeyParts) (key : KeyParts) (text : List ℕ) : Type 0 where
+  pub place : ℕ
+  pub placed : IsFirstKey (λ k. same_key key k ≡ true) (keys_in (front ++ e ∷ [])) place
+  pub lines : List (List ℕ)
+  pub states : AreLinesOf (state_text (machine_of_key p.rules key) number) (StandsAfter (transaction_of (machine_of_key p.rules key)).figure p (events_for key front) e.event) lines
+  pub whole : text ≡ transaction_text place key lines
 
--- the listing of an entry of an input
+-- the texts of the transactions with these keys, one after another
+abbrev pub AreKeyTexts : Times → (List ℕ → ℕ) → List (Observation KeyParts) → Observation KeyParts → List KeyParts → List ℕ → Type 0
+AreKeyTexts p number front e [] text = text ≡ []
+AreKeyTexts p number front e (key ∷ keys) text =
+    (first : List ℕ) × (more : List ℕ) × IsKeyText p number front e key first × AreKeyTexts p number front e keys more × (text ≡ first ++ more)
+
+-- the text of the entry after these: its transactions, or that it concerns none
+abbrev pub IsEntryText : Times → (List ℕ → ℕ) → List (Observation KeyParts) → Observation KeyParts → List KeyParts → List ℕ → Type 0
+IsEntryText p number front e [] text = text ≡ codes "no transaction\n"
+IsEntryText p number front e (key ∷ keys) text = AreKeyTexts p number front e (key ∷ keys) text
+
+-- the text of the entry with this number, up to which the log is legal; a message is told by the number of the first entry of the whole log with its bytes
+pub record IsTextAt (input : List ℕ) (entry : ℕ) (text : List ℕ) : Type 0 where
+  pub times : Times
+  pub items : List Item
+  pub rest : List Item
+  pub end : LogEnd
+  pub log : LogSays input times (items ++ rest) end
+  pub transactions : ℕ
+  pub legal : IsVerdictAfter times [] items Clean (Legal entry transactions)
+  pub front : List (Observation KeyParts)
+  pub e : Observation KeyParts
+  pub seen : AreSeen [] items (front ++ e ∷ [])
+  pub told : IsEntryText times (first_entry (items ++ rest)) front e e.keys text
+
+-- the listing of an entry of an input: its text, unless that entry or one before it is in trouble, which is the verdict; or that the log has no such
+-- entry: one with a header has no entry 0, and a legal one none after its last
 abbrev pub IsListingOf : List ℕ → ℕ → Listing → Type 0
-IsListingOf input entry listing = IsListingBy message_reading key_words input entry listing
+IsListingOf input entry (Text text) = IsTextAt input entry (string_bytes text)
+IsListingOf input entry (Stopped v) = IsVerdictOf input v × IsSomeAnd (trouble_of v) (λ k. k ≤ entry)
+IsListingOf input entry NoEntry =
+    ((entry ≡ 0) × ((times : Times) × (items : List Item) × (end : LogEnd) × LogSays input times items end))
+    ⊎ ((entries : ℕ) × (transactions : ℕ) × IsVerdictOf input (Legal entries transactions) × (entries < entry))

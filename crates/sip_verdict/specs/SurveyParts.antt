@@ -11,8 +11,7 @@ use Rattle.sip_standard.specs.declared.log_reason.LogReason.TheVariants.{Header}
 use Rattle.sip_standard.specs.Observation.{direction_of, Observation}
 use Rattle.sip_verdict.specs.SurveyOf.{IsSurveyAfter}
 use Rattle.sip_standard.specs.Key.{KeyParts}
-use Rattle.sip_verdict.specs.MessageReading.{message_reading}
-use Rattle.sip_verdict.specs.Reading.{AreObserved}
+use Rattle.sip_verdict.specs.Seen.{AreSeen}
 use Rattle.sip_verdict.specs.SurveyText.{IsSurveyText}
 use Rattle.sip_verdict.specs.declared.survey_end.SurveyEnd.TheVariants as ended
 
@@ -38,7 +37,7 @@ IsPartSurveyOf part input found end =
 abbrev pub ArePartEntriesOf : PartOf → List ℕ → List (Observation KeyParts) → Type 0
 ArePartEntriesOf part input es =
     (LacksHeader input × (es ≡ []))
-    ⊎ ((p : Times) × (items : List Item) × (close : LogEnd) × (cuts : List Item) × LogSays input p items close × IsPartLog part items cuts × AreObserved message_reading [] cuts es)
+    ⊎ ((p : Times) × (items : List Item) × (close : LogEnd) × (cuts : List Item) × LogSays input p items close × IsPartLog part items cuts × AreSeen [] cuts es)
 
 -- the survey of a part of an input, and its text
 abbrev pub IsPartToldOf : PartOf → List ℕ → List Finding → SurveyEnd → List ℕ → Type 0

@@ -16,8 +16,7 @@ use Rattle.sip_standard.specs.Says.{Said, Says}
 use Rattle.sip_standard.specs.LogEntry.{Item}
 use Rattle.sip_listing.specs.Transaction.{key_text}
 use Rattle.sip_standard.specs.Observation.{Observation}
-use Rattle.sip_verdict.specs.MessageReading.{message_reading}
-use Rattle.sip_verdict.specs.Reading.{AreObserved}
+use Rattle.sip_verdict.specs.Seen.{AreSeen}
 use Rattle.sip_standard.specs.VerdictOf.{keys_in}
 use Rattle.sip_standard.specs.declared.verdict.Verdict.TheVariants as verdicts
 
@@ -83,7 +82,7 @@ IsSurveyText es found end text = (lines : List ℕ) × IsTextOf es found lines �
 abbrev pub AreEntriesOf : List ℕ → List (Observation KeyParts) → Type 0
 AreEntriesOf input es =
     (LacksHeader input × (es ≡ []))
-    ⊎ ((p : Times) × (items : List Item) × (close : LogEnd) × LogSays input p items close × AreObserved message_reading [] items es)
+    ⊎ ((p : Times) × (items : List Item) × (close : LogEnd) × LogSays input p items close × AreSeen [] items es)
 
 -- the survey of an input, and its text
 abbrev pub IsToldOf : List ℕ → List Finding → SurveyEnd → List ℕ → Type 0

@@ -6,6 +6,7 @@ mod concerned;
 mod entries;
 mod finding;
 mod following;
+mod forgetting_laws;
 mod gathering;
 mod histories;
 mod judging;
@@ -17,9 +18,8 @@ mod passing;
 mod reading;
 mod releasing;
 mod rendering;
-mod show_error;
 mod showing;
-mod shown;
+mod siptrace;
 mod stage;
 mod standing;
 mod step_error;
@@ -36,6 +36,10 @@ mod walking;
 
 pub use finding::Finding;
 pub use following::Survey;
+pub use forgetting_laws::{
+    nothing_is_lost_of_what_is_idle_again, what_is_forgotten_is_judged_as_new,
+    what_is_kept_is_judged_on,
+};
 pub use gathering::survey_bytes;
 pub use judging::{judge, judge_bytes};
 pub use laws::{
@@ -45,11 +49,10 @@ pub use laws::{
 };
 pub use listing::{Listing, states_at};
 pub use rendering::{end_line, finding_line, render};
-pub use show_error::ShowError;
 pub use showing::show;
-pub use shown::Shown;
 pub use sip_part::Part;
-pub use sip_standard::{Fault, JudgeError, LogReason, Reason, Unit, Verdict};
+pub use sip_standard::{Fault, JudgeError, LogReason, Reason, ShowError, Shown, Unit, Verdict};
+pub use siptrace::Siptrace;
 pub use step_error::StepError;
 pub use stream::Judge;
 pub use summary::Summary;

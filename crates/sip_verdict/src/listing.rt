@@ -1,7 +1,7 @@
 //! The states of the transactions that an entry of a log concerns.
 ghost use Rattle.std.specs.Prelude.{◌≡◌, true, false, IfSome, IfOk, OnOk, IsErrOf};
 ghost use Rattle.sip_verdict.specs.ListingOf.{IsListingOf};
-ghost use Rattle.sip_verdict.specs.inner.Walking.{listed_behind};
+ghost use Rattle.sip_verdict.specs.inner.Walking.{listed_after};
 
 use crate::walking::Walk;
 use sip_log::Source;
@@ -22,8 +22,8 @@ pub enum Listing {
 
 impl Listing {
     /// What is listed of an entry that comes after this verdict.
-    pub(crate) fn behind(verdict: Verdict) -> Listing
-        ensures { result ≡ listed_behind verdict }
+    pub(crate) fn after(verdict: Verdict) -> Listing
+        ensures { result ≡ listed_after verdict }
     {
         match verdict {
             Verdict::Legal { .. } => Listing::NoEntry,

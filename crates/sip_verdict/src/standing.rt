@@ -14,7 +14,6 @@ ghost use Rattle.sip_verdict.specs.Named.{AreMany, IsNamed, key_messages};
 ghost use Rattle.sip_verdict.specs.MessageReading.{key_machines, message_reading, ConcernsNone};
 ghost use Rattle.sip_verdict.specs.Listing.{first_entry};
 ghost use Rattle.sip_verdict.specs.Reading.{AreObserved};
-ghost use Rattle.sip_verdict.specs.ListingOf.{key_words};
 ghost use Rattle.sip_verdict.specs.inner.Concerned.{each, is_all, listed, up_to};
 ghost use Rattle.sip_verdict.specs.inner.Numbering.{AreNumbered, StaysNumbered, IsListedEntry, Appends, IsTextOf};
 ghost use Rattle.sip_verdict.specs.Surveys.{IsStillNamed};
@@ -187,7 +186,7 @@ impl<H: BuildHasher> Standing<H> {
             → AreNumbered items self.old.book → AreObserved message_reading [] items es → length items ≡ length es → entry.now.number ≡ length es + 1
             → newest_moment es ≤ entry.now.moment
             → (e : Observation KeyParts) × message_reading.Observes es (item entry.now) e
-            × IsListedEntry (key_machines self.old.tables.times) (key_words self.old.tables.times) (first_entry ((items ++ item entry.now ∷ []) ++ more)) es e listing) }
+            × IsListedEntry self.old.tables.times (first_entry ((items ++ item entry.now ∷ []) ++ more)) es e listing) }
     {
         let taken = self.take(alloc, entry)?;
         match taken.verdict {

@@ -9,7 +9,7 @@ ghost use Rattle.sip_standard.specs.Observation.{Observation};
 ghost use Rattle.sip_verdict.specs.Keyed.{keys_of};
 ghost use Rattle.sip_verdict.specs.MessageReading.{key_machines, message_reading, ConcernsNone};
 ghost use Rattle.sip_verdict.specs.Named.{AreFew, key_messages};
-ghost use Rattle.sip_verdict.specs.Judging.{StandsFor, CanWaitUntil, MayComeNext, IsNext, CanAnswer, stage_behind, last_verdict};
+ghost use Rattle.sip_verdict.specs.Judging.{StandsFor, CanWaitUntil, MayComeNext, IsNext, CanAnswer, stage_after, last_verdict};
 
 use crate::stage::Stage;
 use crate::standing::Standing;
@@ -98,7 +98,7 @@ impl<H: BuildHasher + Drop> Judge<H> {
         ensures judged { IfOk result (λ verdict. (es : List (Observation KeyParts)) → StandsFor self.old es
             → (e : Observation KeyParts) × message_reading.Observes es (item entry.now) e × IsNext self.new es e verdict) }
         ensures answers { CanAnswer self.old.stage result }
-        ensures stage { self.new.stage ≡ stage_behind result }
+        ensures stage { self.new.stage ≡ stage_after result }
         ensures newest { IfOk result (λ verdict. IfNone verdict ((self.new.number ≡ entry.now.number) × (self.new.moment ≡ entry.now.moment))) }
         ensures keyless { OnOk result (ConcernsNone (item entry.now) → All (Contains self.old.texts) self.new.texts) }
         ensures times { OnOk result (self.new.tables.times ≡ self.old.tables.times) }

@@ -72,7 +72,7 @@ impl<H: BuildHasher + Drop> Walk<H> {
         }
         for earlier in 1..entry {
             if let Some(verdict) = self.step(reader)? {
-                return Ok(Listing::behind(verdict));
+                return Ok(Listing::after(verdict));
             }
         }
         self.list(reader)

@@ -12,7 +12,7 @@ use Rattle.sip_machine.specs.FigureRules.{IsFigure, closes_of, closes_at, rules_
 use Rattle.sip_machine.specs.inner.DebtLaws.{All-front, All-back}
 use Rattle.sip_machine.specs.inner.OwesLaws.{IsWithin-owed}
 use Rattle.sip_machine.specs.inner.FigureLaws.{rules_lawful}
-use Rattle.sip_standard.specs.Stands.{Stands, begins, waits, ends, takes, StandsBehind}
+use Rattle.sip_standard.specs.Stands.{Stands, begins, waits, ends, takes, StandsAfter}
 use Rattle.sip_states.specs.Runs.{Step, Hides, Takes, Goes, taken, RuledRun, AfterRun}
 use Rattle.sip_states.proofs.sets.Waiting.{IsWithin-none, Wait-stay}
 use Rattle.sip_states.proofs.runs.RunLemmas.{taken-append, Goes-push, Run-wait, After-run}
@@ -124,7 +124,7 @@ module _ {X : Type 0} (f : Figure X) (is : IsFigure f) (p : Times) where
   stands-runs events m y = (stands-run events m y, run-stands events m y)
 
   -- where an event leads from there, it does by the rules
-  pub behind-after : (events : List MachineEvent) (e : MachineEvent) (y : Owing X) → StandsBehind f p events e y ↔ AfterRun (rules_of f p) events e y
+  pub behind-after : (events : List MachineEvent) (e : MachineEvent) (y : Owing X) → StandsAfter f p events e y ↔ AfterRun (rules_of f p) events e y
   behind-after events e y = (
     λ behind.
         let (x, stands, led) = behind in

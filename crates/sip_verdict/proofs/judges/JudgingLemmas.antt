@@ -24,7 +24,7 @@ module _ {K : Type 0} (r : EntryReading K) where
       (a.0, observed-push (before ++ f ∷ []) xs es x e a.1 (subst (λ fs. r.Observes fs x e) (sym (append_assoc before (f ∷ []) es)) s))
 
   -- after entries in no trouble, the verdict of what is left is that of all
-  judges_front : (p : Times) (end : LogEnd) (v : Verdict) (before : List (Observation K)) (items rest : List Item) (es : List (Observation K)) → AreObserved r before items es → IsGood (r.machines p) (before ++ es) →
+  pub judges_front : (p : Times) (end : LogEnd) (v : Verdict) (before : List (Observation K)) (items rest : List Item) (es : List (Observation K)) → AreObserved r before items es → IsGood (r.machines p) (before ++ es) →
       Judges r p (before ++ es) rest end v → Judges r p before (items ++ rest) end v
   judges_front p end v before [] rest [] observed good left = subst (λ fs. Judges r p fs rest end v) (append-nil before) left
   judges_front p end v before [] rest (e ∷ es) observed good left = elim observed [ ]

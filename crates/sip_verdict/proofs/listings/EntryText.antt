@@ -6,7 +6,7 @@ use Rattle.sip_standard.specs.declared.action.Action.{Action}
 use Rattle.sip_standard.specs.declared.action.Action.TheVariants.{Sent, Received, Failed, Mark, Restart}
 use Rattle.sip_standard.specs.declared.rules.Rules.TheVariants.{R6026}
 use Rattle.sip_verdict.specs.Reading.{AreObserved}
-use Rattle.sip_standard.specs.VerdictOf.{keys_in}
+use Rattle.sip_standard.specs.VerdictOf.{keys_in, events_for, IsFirstKey}
 use Rattle.std.proofs.lemmas.List.{append-nil}
 use Rattle.std.proofs.lemmas.List.Elements.{All-nil, All-cons, All-head, All-tail, All-push, Contains-get_or}
 use Rattle.std.proofs.lemmas.Option.{slice_get_within, get_or_from_slice_get}
@@ -21,11 +21,9 @@ use Rattle.sip_states.specs.Tables.{Tabled}
 use Rattle.sip_listing.specs.Transaction.{transaction_text}
 use Rattle.sip_standard.specs.LogEntry.{Item}
 use Rattle.sip_standard.specs.Observation.{Observation, direction_of, silent_observation, ObservesMessage, has_fault, has_no_cookie, is_heard}
-use Rattle.sip_verdict.specs.Keyed.{with_key, concerns, events_of}
-use Rattle.sip_verdict.specs.Verdicts.{IsFirst}
+use Rattle.sip_verdict.specs.Keyed.{with_key, concerns}
 use Rattle.sip_verdict.specs.MessageReading.{key_machines, message_reading}
-use Rattle.sip_verdict.specs.Listing.{IsKeyText, AreKeyTexts, IsEntryText}
-use Rattle.sip_verdict.specs.ListingOf.{key_words}
+use Rattle.sip_verdict.specs.ListingOf.{IsKeyText, AreKeyTexts, IsEntryText}
 use Rattle.sip_verdict.specs.inner.Tracking.{IsJudged, IsStanding}
 use Rattle.sip_verdict.specs.inner.TablesTracking.{key_keeping, transactions_of, HaveNumbers}
 use Rattle.sip_verdict.specs.inner.Numbering.{Appends, AppendsEach, IsTextOf}
@@ -89,36 +87,27 @@ pub observed_ascii : (items : List Item) (before : List (Observation KeyParts)) 
 observed_ascii items before i e seen observes = entry_ascii before i e (keys_ascii_behind [] items before (All-nil (λ k. IsAscii k.method)) seen) observes
 
 -- Among keys that differ, the one at a place is the first that is the same.
-first_place : (keys : List KeyParts) → AllPairs (λ a b. a ≢ b) keys → (n : ℕ) (key : KeyParts) → slice_get keys n ≡ Some key → IsFirst (λ k. same_key key k ≡ true) keys (n + 1)
+first_place : (keys : List KeyParts) → AllPairs (λ a b. a ≢ b) keys → (n : ℕ) (key : KeyParts) → slice_get keys n ≡ Some key → IsFirstKey (λ k. same_key key k ≡ true) keys (n + 1)
 first_place [] apart n key at = absurd cc
-first_place (u ∷ us) apart zero key at = record {
-  before = [];
-  key = u;
-  rest = us;
-  is = refl;
-  holds = (same_key-decides key u).1 (let e : u ≡ key = cc in sym e);
-  earlier = All-nil (λ k. same_key key k ≡ true → ⊥);
-  counts = refl;
-}
+first_place (u ∷ us) apart zero key at = ([], u, us, refl, (same_key-decides key u).1 (let e : u ≡ key = cc in sym e), All-nil (λ k. same_key key k ≡ true → ⊥), refl)
 first_place (u ∷ us) apart (suc n) key at =
-    let f = first_place us (λ m k d low within. apart (suc m) (suc k) d (omega arith) (omega arith)) n key at in
-    record {
-      before = u ∷ f.before;
-      key = f.key;
-      rest = f.rest;
-      is = ap (λ z. u ∷ z) f.is;
-      holds = f.holds;
-      earlier = All-cons (λ k. same_key key k ≡ true → ⊥) u f.before
-          (λ same. apart zero (suc n) key (omega arith) (let low = slice_get_within us n key at in omega arith) (sym ((same_key-decides key u).0 same) ∙ sym (get_or_from_slice_get us n key key at))) f.earlier;
-      counts = (let c = f.counts in omega (arith, c));
-    }
+    let (before, first, rest, is, holds, earlier, counts) = first_place us (λ m k d low within. apart (suc m) (suc k) d (omega arith) (omega arith)) n key at in (
+      u ∷ before,
+      first,
+      rest,
+      ap (λ z. u ∷ z) is,
+      holds,
+      All-cons (λ k. same_key key k ≡ true → ⊥) u before
+          (λ same. apart zero (suc n) key (omega arith) (let low = slice_get_within us n key at in omega arith) (sym ((same_key-decides key u).0 same) ∙ sym (get_or_from_slice_get us n key key at))) earlier,
+      omega (arith, counts),
+    )
 
 module _ (number : List ℕ → ℕ) (texts : Texts) (tells : TellsBook number texts) (p : Times) (es : List (Observation KeyParts)) (e : Observation KeyParts) (t : Tabled)
     (known : All (IsKnownSet texts) t.sets) (long : length t.sets ≡ length t.keys) (apart : AllPairs (λ a b. a ≢ b) t.keys)
     (judged : IsJudged (key_machines p) (key_keeping texts p) es e (transactions_of t) None) where
   -- a transaction that was appended
   key_text : (key : KeyParts) (n : ℕ) (old new : List ℕ) → concerns (key_machines p) key e ≡ true → IsAscii key.method → 0 < n → slice_get t.keys (n - 1) ≡ Some key → Appends t n old new
-      → (text : List ℕ) × IsKeyText (key_machines p) (key_words p) number es e key text × (new ≡ old ++ text)
+      → (text : List ℕ) × IsKeyText p number es e key text × (new ≡ old ++ text)
   key_text key n old new concerned ascii low at (k, set, lines, key_at, set_at, lists, is) =
       let same : k ≡ key = (let both : Some k ≡ Some key = sym key_at ∙ at in cc) in
       let count : (n - 1) + 1 ≡ n = omega (arith, low) in
@@ -126,10 +115,10 @@ module _ (number : List ℕ → ℕ) (texts : Texts) (tells : TellsBook number t
         transaction_text n key lines,
         record {
           place = n;
-          placed = subst (λ ks. IsFirst (λ k. same_key key k ≡ true) ks n) (sym (keys_are t long) ∙ judged.0.keys)
-              (subst (IsFirst (λ k. same_key key k ≡ true) t.keys) count (first_place t.keys apart (n - 1) key at));
+          placed = subst (λ ks. IsFirstKey (λ k. same_key key k ≡ true) ks n) (sym (keys_are t long) ∙ judged.0.keys)
+              (subst (IsFirstKey (λ k. same_key key k ≡ true) t.keys) count (first_place t.keys apart (n - 1) key at));
           lines = lines;
-          states = standing_lines number texts p (machine_of_key p.rules key) (events_of (key_machines p) key es) e.event set lines (stands concerned)
+          states = standing_lines number texts p (machine_of_key p.rules key) (events_for key es) e.event set lines (stands concerned)
               (told_set number texts tells set (All-place (IsKnownSet texts) t.sets (n - 1) set set_at known)) lists;
           whole = refl;
         },
@@ -138,7 +127,7 @@ module _ (number : List ℕ → ℕ) (texts : Texts) (tells : TellsBook number t
 
   -- and others after it
   key_texts : (ks : List KeyParts) (ns : List ℕ) (old new : List ℕ) → All (λ k. (concerns (key_machines p) k e ≡ true) × IsAscii k.method) ks → HaveNumbers t.keys ns ks → AppendsEach t ns old new
-      → (text : List ℕ) × AreKeyTexts (key_machines p) (key_words p) number es e ks text × (new ≡ old ++ text)
+      → (text : List ℕ) × AreKeyTexts p number es e ks text × (new ≡ old ++ text)
   key_texts [] [] old new good have same = ([], refl, same ∙ sym (append-nil old))
   key_texts [] (n ∷ ns) old new good have more = absurd have
   key_texts (k ∷ ks) [] old new good have more = absurd have
@@ -150,13 +139,13 @@ module _ (number : List ℕ → ℕ) (texts : Texts) (tells : TellsBook number t
 
   -- the text of the entry
   texts_of : (ks : List KeyParts) (ns : List ℕ) (text : List ℕ) → All (λ k. (concerns (key_machines p) k e ≡ true) × IsAscii k.method) ks → HaveNumbers t.keys ns ks → IsTextOf t ns text
-      → IsEntryText (key_machines p) (key_words p) number es e ks text
+      → IsEntryText p number es e ks text
   texts_of [] [] text good have is = is
   texts_of [] (n ∷ ns) text good have is = absurd have
   texts_of (k ∷ ks) [] text good have is = absurd have
   texts_of (k ∷ ks) (n ∷ ns) text good have is =
       let all = key_texts (k ∷ ks) (n ∷ ns) [] text good have is in
-      subst (AreKeyTexts (key_machines p) (key_words p) number es e (k ∷ ks)) (sym all.2) all.1
+      subst (AreKeyTexts p number es e (k ∷ ks)) (sym all.2) all.1
 
-  pub entry_text : (ns : List ℕ) (text : List ℕ) → All (λ k. IsAscii k.method) e.keys → HaveNumbers t.keys ns e.keys → IsTextOf t ns text → IsEntryText (key_machines p) (key_words p) number es e e.keys text
+  pub entry_text : (ns : List ℕ) (text : List ℕ) → All (λ k. IsAscii k.method) e.keys → HaveNumbers t.keys ns e.keys → IsTextOf t ns text → IsEntryText p number es e e.keys text
   entry_text ns text ascii have is = texts_of e.keys ns text (λ i d low. (contains-among (key_machines p) (keys_exact p) _ e.keys (Contains-get_or e.keys i d low), ascii i d low)) have is

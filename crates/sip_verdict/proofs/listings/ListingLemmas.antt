@@ -1,13 +1,15 @@
 -- From the states that the code holds to the lines of a listing.
-use Rattle.std.proofs.Common.{◌≡◌, ℕ, List, [], ◌∷◌, All, map, refl, sym, ap, subst}
+use Rattle.std.proofs.Common.{◌≡◌, ◌↔◌, ℕ, List, [], ◌∷◌, All, map, refl, sym, ap, subst}
 use Rattle.std.proofs.lemmas.List.Elements.{All-weaker}
 use Rattle.sip_standard.specs.Times.{Times}
 use Rattle.sip_machine.specs.Texts.{Texts, Keeps, text_of}
 use Rattle.sip_standard.specs.MachineEvent.{MachineEvent}
 use Rattle.sip_machine.specs.Rules.{Knows, StandFor}
 use Rattle.sip_states.specs.Runs.{AfterRun}
-use Rattle.sip_standard.specs.KeyMachine.{MachineKind}
-use Rattle.sip_states.specs.KeySets.{key_rules, of_machine}
+use Rattle.sip_standard.specs.KeyMachine.{MachineKind, transaction_of}
+use Rattle.sip_standard.specs.Stands.{StandsAfter}
+use Rattle.sip_states.proofs.runs.StandsLemmas.{behind-after}
+use Rattle.sip_states.specs.KeySets.{coded_holds, key_rules, of_machine}
 use Rattle.sip_states.specs.Meaning.{IsKnown}
 use Rattle.sip_states.specs.AnySet.{meaning_of, IsKnownSet}
 use Rattle.sip_states.specs.declared.any_set.AnySet.{AnySet}
@@ -49,9 +51,20 @@ stood_lines names InRange seen texts text P xs lines stand in_order = record {
   in_order = subst (λ ts. AreInOrder ts lines) (sym (map-after text (seen texts) xs)) in_order;
 }
 
+-- lines of the states of which P holds are those of the states of which Q does, where these are the same
+lines_alike : {X : Type 0} (text : X → List ℕ) (P Q : X → Type 0) (lines : List (List ℕ)) → ((x : X) → P x ↔ Q x) → AreLinesOf text P lines → AreLinesOf text Q lines
+lines_alike text P Q lines same are = record {
+  states = are.states;
+  members = λ x. (λ among. (same x).0 ((are.members x).0 among), λ holds. (are.members x).1 ((same x).1 holds));
+  distinct = are.distinct;
+  in_order = are.in_order;
+}
+
 -- the lines that list a set are those of exactly the states where it stands
 pub standing_lines : (number : List ℕ → ℕ) (texts : Texts) (p : Times) (machine : MachineKind) (events : List MachineEvent) (e : MachineEvent) (set : AnySet) (lines : List (List ℕ))
-    → StandsOf texts p machine events e set → TellsSet number texts set → Lists set lines → AreLinesOf (state_text machine number) (AfterRun (key_rules p machine) events e) lines
+    → StandsOf texts p machine events e set → TellsSet number texts set → Lists set lines → AreLinesOf (state_text machine number) (StandsAfter (transaction_of machine).figure p events e) lines
 standing_lines number texts p machine events e set lines (s, is, stand) told lists =
     let listed = of_machine (λ kind held. AreLinesOfHeld number texts kind held lines) machine s (subst (λ x. AreLinesOfSet number texts x lines) is (lists number texts told)) in
-    stood_lines _ _ _ texts (state_text machine number) _ s.states lines stand listed
+    let behind = behind-after (transaction_of machine).figure (coded_holds machine).is_figure p events e in
+    lines_alike (state_text machine number) (AfterRun (key_rules p machine) events e) (StandsAfter (transaction_of machine).figure p events e) lines (λ y. ((behind y).1, (behind y).0))
+    (stood_lines _ _ _ texts (state_text machine number) _ s.states lines stand listed)

@@ -1,6 +1,6 @@
 -- What a step of a walk adds to the entries that were judged.
 use Rattle.std.proofs.Common.{◌≡◌, inl, inr, ◌<◌, ◌≤◌, ◌+◌, ◌∙◌, ℕ, Option, Some, None, IsSomeAnd, IfSome, IfNone, List, [], ◌∷◌, ◌++◌, length, refl, sym, ap, subst, arith}
-use Rattle.std.proofs.lemmas.List.{length-map, length_push}
+use Rattle.std.proofs.lemmas.List.{append-nil, length-map, length_push}
 use Rattle.sip_standard.specs.Key.{KeyParts}
 use Rattle.sip_standard.specs.Times.{Times}
 use Rattle.sip_machine.specs.Texts.{Texts}
@@ -17,19 +17,19 @@ use Rattle.sip_verdict.specs.declared.listing.Listing.{Listing}
 use Rattle.sip_verdict.specs.declared.listing.Listing.TheVariants.{Text, Stopped, NoEntry}
 use Rattle.sip_standard.specs.Observation.{Observation}
 use Rattle.sip_verdict.specs.Keyed.{Machines, keys_of, newest_moment}
-use Rattle.sip_verdict.specs.Verdicts.{IsTrouble}
-use Rattle.sip_standard.specs.VerdictOf.{IsVerdictOf}
+use Rattle.sip_verdict.specs.Verdicts.{IsGood, IsTrouble}
+use Rattle.sip_standard.specs.VerdictOf.{keys_in, IsVerdictAfter, IsVerdictOf}
 use Rattle.sip_verdict.specs.Listing.{first_entry, trouble_of}
-use Rattle.sip_verdict.specs.ListingOf.{key_words, IsListingOf}
+use Rattle.sip_verdict.specs.ListingOf.{IsListingOf}
 use Rattle.sip_verdict.specs.MessageReading.{key_machines, message_reading}
 use Rattle.sip_verdict.specs.inner.Tracking.{Tracks, IsJudged}
 use Rattle.sip_verdict.specs.inner.TablesTracking.{key_keeping, transactions_of, TablesTrack}
 use Rattle.sip_verdict.specs.inner.Numbering.{AreNumbered, StaysNumbered, IsListedEntry}
-use Rattle.sip_verdict.specs.inner.Walking.{HasRead, Walks, WalksOn, IsBehind, listed_behind}
-use Rattle.sip_verdict.specs.Reading.{IsVerdictBy, AreObserved}
+use Rattle.sip_verdict.specs.inner.Walking.{HasRead, Walks, WalksOn, IsBehind, listed_after}
+use Rattle.sip_verdict.specs.Reading.{Judges, IsVerdictBy, AreObserved}
 use Rattle.sip_verdict.proofs.sweeps.FollowedLemmas.{observed_moment}
-use Rattle.sip_verdict.proofs.judges.JudgingLemmas.{observed-push, judged_ends, judged_trouble}
-use Rattle.sip_verdict.proofs.verdicts.VerdictLemmas.{verdict-by}
+use Rattle.sip_verdict.proofs.judges.JudgingLemmas.{observed-push, judges_front, judged_ends, judged_trouble}
+use Rattle.sip_verdict.proofs.verdicts.VerdictLemmas.{observed-seen, behind-verdict, by-verdict}
 use Rattle.sip_verdict.proofs.judges.JudgeLemmas.{verdict_of}
 use Rattle.sip_verdict.proofs.listings.NumberingLemmas.{numbered_start}
 use Rattle.sip_verdict.proofs.tables.TrackingLemmas.{tracks_none}
@@ -66,18 +66,26 @@ trouble_low m es e (Breach entry transaction) count many is = omega (arith, is.0
 trouble_low m es e (Undecided entry transaction) count many is = omega (arith, is.0, many)
 trouble_low m es e (FaultOfLog entry reason) count many is = absurd is
 
+-- entries of which none is in trouble are a legal log
+legal_until : (p : Times) (items : List Item) (es : List (Observation KeyParts)) (count : ℕ) → AreObserved message_reading [] items es → IsGood (key_machines p) es → count ≡ length es
+    → IsVerdictAfter p [] items Clean (Legal count (length (keys_in es)))
+legal_until p items es count observed good counts =
+    let v : Verdict = Legal count (length (keys_in es)) in
+    behind-verdict p [] items Clean v
+    (subst (λ all. Judges message_reading p [] all Clean v) (append-nil items) (judges_front message_reading p Clean v [] items [] es observed good (ap (λ n. Legal n (length (keys_in es))) counts)))
+
 -- what is listed of a later entry where this verdict comes before it
-pub listed_before : (start : Option (List ℕ)) (entry count : ℕ) (v : Verdict) → count < entry → IfSome start (λ input. IsVerdictOf input v) → IsBehind count v → IfSome start (λ input. IsListingOf input entry (listed_behind v))
+pub listed_before : (start : Option (List ℕ)) (entry count : ℕ) (v : Verdict) → count < entry → IfSome start (λ input. IsVerdictOf input v) → IsBehind count v → IfSome start (λ input. IsListingOf input entry (listed_after v))
 listed_before start entry count (Legal whole transactions) low is behind =
-    IfSome-map start (λ input. IsVerdictOf input (Legal whole transactions)) (λ input. IsListingOf input entry NoEntry) (λ input verdict. inr (whole, transactions, verdict-by input (Legal whole transactions) verdict, omega (arith, behind, low))) is
+    IfSome-map start (λ input. IsVerdictOf input (Legal whole transactions)) (λ input. IsListingOf input entry NoEntry) (λ input verdict. inr (whole, transactions, verdict, omega (arith, behind, low))) is
 listed_before start entry count (Malformed at fault) low is behind =
-    IfSome-map start (λ input. IsVerdictOf input (Malformed at fault)) (λ input. IsListingOf input entry (Stopped (Malformed at fault))) (λ input verdict. (verdict-by input (Malformed at fault) verdict, omega (arith, behind, low))) is
+    IfSome-map start (λ input. IsVerdictOf input (Malformed at fault)) (λ input. IsListingOf input entry (Stopped (Malformed at fault))) (λ input verdict. (verdict, omega (arith, behind, low))) is
 listed_before start entry count (Breach at transaction) low is behind =
-    IfSome-map start (λ input. IsVerdictOf input (Breach at transaction)) (λ input. IsListingOf input entry (Stopped (Breach at transaction))) (λ input verdict. (verdict-by input (Breach at transaction) verdict, omega (arith, behind, low))) is
+    IfSome-map start (λ input. IsVerdictOf input (Breach at transaction)) (λ input. IsListingOf input entry (Stopped (Breach at transaction))) (λ input verdict. (verdict, omega (arith, behind, low))) is
 listed_before start entry count (Undecided at transaction) low is behind =
-    IfSome-map start (λ input. IsVerdictOf input (Undecided at transaction)) (λ input. IsListingOf input entry (Stopped (Undecided at transaction))) (λ input verdict. (verdict-by input (Undecided at transaction) verdict, omega (arith, behind, low))) is
+    IfSome-map start (λ input. IsVerdictOf input (Undecided at transaction)) (λ input. IsListingOf input entry (Stopped (Undecided at transaction))) (λ input verdict. (verdict, omega (arith, behind, low))) is
 listed_before start entry count (FaultOfLog at reason) low is behind =
-    IfSome-map start (λ input. IsVerdictOf input (FaultOfLog at reason)) (λ input. IsListingOf input entry (Stopped (FaultOfLog at reason))) (λ input verdict. (verdict-by input (FaultOfLog at reason) verdict, omega (arith, behind, low))) is
+    IfSome-map start (λ input. IsVerdictOf input (FaultOfLog at reason)) (λ input. IsListingOf input entry (Stopped (FaultOfLog at reason))) (λ input verdict. (verdict, omega (arith, behind, low))) is
 
 module _ (start : Option (List ℕ)) (now : log.ReaderState) (texts : Texts) (t : Tabled) (walks : Walks start now texts t) where
   -- so many entries were judged
@@ -145,31 +153,30 @@ module _ (start : Option (List ℕ)) (now : log.ReaderState) (texts : Texts) (t 
         → ((es : List (Observation KeyParts)) (items more : List Item) → TablesTrack texts es t → AreNumbered items texts → AreObserved message_reading [] items es → length items ≡ length es → e.number ≡ length es + 1
         → newest_moment es ≤ e.moment
         → (seen : Observation KeyParts) × message_reading.Observes es (item e) seen
-        × IsListedEntry (key_machines t.times) (key_words t.times) (first_entry ((items ++ item e ∷ []) ++ more)) es seen listing)
+        × IsListedEntry t.times (first_entry ((items ++ item e ∷ []) ++ more)) es seen listing)
         → IfSome start (λ input. IsListingOf input (count + 1) listing)
     walks_listed NoEntry says = absurd (says walks.judged.es walks.judged.items [] walks.judged.follows walks.numbered walks.judged.observed walks.judged.long number_is in_order).2
     walks_listed (Stopped v) says =
         let j = walks.judged in
         let h = says j.es j.items [] j.follows walks.numbered j.observed j.long number_is in_order in
-        IfSome-map start (λ input. IsVerdictBy message_reading input v) (λ input. IsListingOf input (count + 1) (Stopped v)) (λ input verdict. (verdict, trouble_low (key_machines t.times) j.es h.0 v count (counts ∙ judged_count) h.2))
+        IfSome-map start (λ input. IsVerdictBy message_reading input v) (λ input. IsListingOf input (count + 1) (Stopped v)) (λ input verdict. (by-verdict input v verdict, trouble_low (key_machines t.times) j.es h.0 v count (counts ∙ judged_count) h.2))
         (judged_trouble message_reading t.times _ start now j j.follows.good (item e) new read h.0 h.1 v h.2)
     walks_listed (Text text) says =
         let j = walks.judged in
         IfSome-map start (λ input. (more : List Item) × (end : LogEnd) × LogSays input t.times ((j.items ++ item e ∷ []) ++ more) end) (λ input. IsListingOf input (count + 1) (Text text)) (λ input l.
         let h = says j.es j.items l.0 j.follows walks.numbered j.observed j.long number_is in_order in
+        let observed = observed-push message_reading [] j.items j.es (item e) h.0 j.observed h.1 in
         record {
           times = t.times;
-          front = j.es;
-          e = h.0;
+          items = j.items ++ item e ∷ [];
           rest = l.0;
           end = l.1;
-          begins = record {
-            items = j.items ++ item e ∷ [];
-            log = l.2;
-            observed = observed-push message_reading [] j.items j.es (item e) h.0 j.observed h.1;
-            good = h.2.0;
-          };
-          number = ap (λ n. n + 1) (counts ∙ judged_count);
+          log = l.2;
+          transactions = length (keys_in (j.es ++ h.0 ∷ []));
+          legal = legal_until t.times (j.items ++ item e ∷ []) (j.es ++ h.0 ∷ []) (count + 1) observed h.2.0 (ap (λ n. n + 1) (counts ∙ judged_count) ∙ sym (length_push j.es h.0));
+          front = j.es;
+          e = h.0;
+          seen = observed-seen [] (j.items ++ item e ∷ []) (j.es ++ h.0 ∷ []) observed;
           told = h.2.1;
         })
         (read_log start t.times (j.items ++ item e ∷ []) new read)

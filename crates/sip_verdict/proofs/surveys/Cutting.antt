@@ -9,7 +9,7 @@ use Rattle.sip_standard.specs.Key.{KeyParts, same_key}
 use Rattle.sip_key.specs.inner.KeyLaws.{same_key-decides}
 use Rattle.sip_standard.specs.Times.{Times}
 use Rattle.sip_standard.specs.MachineEvent.{MachineEvent}
-use Rattle.sip_standard.specs.Stands.{Stands, StandsBehind}
+use Rattle.sip_standard.specs.Stands.{Stands, StandsAfter}
 use Rattle.sip_standard.specs.KeyMachine.{machine_of_key, transaction_of}
 use Rattle.sip_standard.specs.Observation.{Observation}
 use Rattle.sip_verdict.specs.Keyed.{with_key, newest_moment}
@@ -141,7 +141,7 @@ module _ (chosen : KeyParts → Bool) where
                 wide.1.0,
                 wide.1.1,
                 wide.1.2,
-                subst (λ event. All (StandsBehind f p (events_for key cs) event) wide.1.0) (sym (event_cut e c here any)) (subst (λ events. All (StandsBehind f p events e.event) wide.1.0) (sym same) wide.1.3),
+                subst (λ event. All (StandsAfter f p (events_for key cs) event) wide.1.0) (sym (event_cut e c here any)) (subst (λ events. All (StandsAfter f p events e.event) wide.1.0) (sym same) wide.1.3),
               ),
             ),
             λ wide. (
@@ -150,7 +150,7 @@ module _ (chosen : KeyParts → Bool) where
                 wide.1.0,
                 wide.1.1,
                 wide.1.2,
-                subst (λ event. All (StandsBehind f p (events_for key es) event) wide.1.0) (event_cut e c here wide.0) (subst (λ events. All (StandsBehind f p events c.event) wide.1.0) same wide.1.3),
+                subst (λ event. All (StandsAfter f p (events_for key es) event) wide.1.0) (event_cut e c here wide.0) (subst (λ events. All (StandsAfter f p events c.event) wide.1.0) same wide.1.3),
               ),
             ),
           )

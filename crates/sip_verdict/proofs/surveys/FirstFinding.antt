@@ -12,7 +12,7 @@ use Rattle.sip_verdict.specs.declared.survey_end.SurveyEnd.{SurveyEnd}
 use Rattle.sip_standard.specs.declared.verdict.Verdict.{Verdict}
 use Rattle.sip_standard.specs.declared.verdict.Verdict.TheVariants as verdicts
 use Rattle.sip_standard.specs.Observation.{Observation}
-use Rattle.sip_standard.specs.VerdictOf.{keys_in, RunsOver, IsWideAt, IsFirstKey, HasTrouble, IsVerdictBehind, IsVerdictOf}
+use Rattle.sip_standard.specs.VerdictOf.{keys_in, RunsOver, IsWideAt, IsFirstKey, HasTrouble, IsVerdictAfter, IsVerdictOf}
 use Rattle.sip_verdict.specs.SurveyOf.{Breaks, Widens, HoldsOf, Precedes, AreFoundAt, IsSurveyAfter, IsSurveyOf, verdict_of, verdict_in}
 use Rattle.sip_verdict.proofs.verdicts.Unique.{All-middle}
 use Rattle.sip_verdict.proofs.keys.Splitting.{split_compare}
@@ -109,7 +109,7 @@ module _ (p : Times) (es : List (Observation KeyParts)) (e : Observation KeyPart
 
 -- the verdict of entries is in their survey
 verdict_after : (p : Times) (es : List (Observation KeyParts)) (items : List Item) (close : LogEnd) (v : Verdict) (found : List Finding) (end : SurveyEnd) → AllSound p es →
-    IsVerdictBehind p es items close v → IsSurveyAfter p es items close found end → v ≡ verdict_in found end
+    IsVerdictAfter p es items close v → IsSurveyAfter p es items close found end → v ≡ verdict_in found end
 verdict_after p es [] Clean v found end sound a b = a ∙ sym (ap₂ verdict_in b.0 b.1)
 verdict_after p es [] (Stops fault) v found end sound a b = a ∙ sym (ap₂ verdict_in b.0 b.1)
 verdict_after p es (item ∷ items) close v found end sound (e, sees, inl trouble) (f, here, later, saw, is, at, more) =

@@ -4,7 +4,7 @@ use Rattle.std.proofs.lemmas.List.Elements.{All-weaker}
 use Rattle.sip_standard.specs.Key.{KeyParts}
 use Rattle.sip_standard.specs.Times.{Times}
 use Rattle.sip_standard.specs.Figure.{Owing}
-use Rattle.sip_standard.specs.Stands.{Stands, StandsBehind}
+use Rattle.sip_standard.specs.Stands.{Stands, StandsAfter}
 use Rattle.sip_standard.specs.KeyMachine.{machine_of_key, transaction_of}
 use Rattle.sip_standard.specs.Observation.{Observation}
 use Rattle.sip_verdict.specs.Keyed.{newest_moment}
@@ -85,12 +85,12 @@ module _ (p : Times) (key : KeyParts) (old : List (Observation KeyParts)) (again
       let f = (transaction_of (machine_of_key p.rules key)).figure in
       let late = last_late front e [] order in
       let new = stands_new front (order_front front (e ∷ []) order) e.event.moment late in
-      let into : (y : Owing (transaction_of (machine_of_key p.rules key)).Phase) → StandsBehind f p (events_for key (old ++ front)) e.event y → StandsBehind f p (events_for key front) e.event y =
+      let into : (y : Owing (transaction_of (machine_of_key p.rules key)).Phase) → StandsAfter f p (events_for key (old ++ front)) e.event y → StandsAfter f p (events_for key front) e.event y =
       λ y behind. (behind.0, (new behind.0).0 behind.1, behind.2) in
-      let from : (y : Owing (transaction_of (machine_of_key p.rules key)).Phase) → StandsBehind f p (events_for key front) e.event y → StandsBehind f p (events_for key (old ++ front)) e.event y =
+      let from : (y : Owing (transaction_of (machine_of_key p.rules key)).Phase) → StandsAfter f p (events_for key front) e.event y → StandsAfter f p (events_for key (old ++ front)) e.event y =
       λ y behind. (behind.0, (new behind.0).1 behind.1, behind.2) in (
-        λ wide. (wide.0, (wide.1.0, wide.1.1, wide.1.2, All-weaker (StandsBehind f p (events_for key (old ++ front)) e.event) (StandsBehind f p (events_for key front) e.event) into wide.1.0 wide.1.3)),
-        λ wide. (wide.0, (wide.1.0, wide.1.1, wide.1.2, All-weaker (StandsBehind f p (events_for key front) e.event) (StandsBehind f p (events_for key (old ++ front)) e.event) from wide.1.0 wide.1.3)),
+        λ wide. (wide.0, (wide.1.0, wide.1.1, wide.1.2, All-weaker (StandsAfter f p (events_for key (old ++ front)) e.event) (StandsAfter f p (events_for key front) e.event) into wide.1.0 wide.1.3)),
+        λ wide. (wide.0, (wide.1.0, wide.1.1, wide.1.2, All-weaker (StandsAfter f p (events_for key front) e.event) (StandsAfter f p (events_for key (old ++ front)) e.event) from wide.1.0 wide.1.3)),
       )
 
   module _ (sound : IsSound p old key) where

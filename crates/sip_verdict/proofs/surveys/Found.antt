@@ -21,10 +21,6 @@ same_fault : (entry : ℕ) (fault : Option Fault) → fault_found entry fault �
 same_fault entry None = refl
 same_fault entry (Some fault) = refl
 
--- what is known where nothing is in hand any more depends only on which are in trouble
-pub watched_same : (waits : List ℕ) (t : Tabled) (b c : Troubled) → c.deaf.items ≡ b.deaf.items → AreWatched waits t b → AreWatched waits t c
-watched_same waits t b c same h = record { long = ap length same ∙ h.long; recorded = h.recorded; silent = λ n is. h.silent n (ap (λ ds. slice_get ds n) (sym same) ∙ is) }
-
 -- all that is found at the entry was appended, and the tables follow it
 pub found_here : (texts : Texts) (p : Times) (es : List (Observation KeyParts)) (i : Item) (moment entry : ℕ) (fault : Option Fault) (t : Tabled) (b c : Troubled) (old mid new : List Finding)
     → IsOrdered es → newest_moment es ≤ moment → entry ≡ length es + 1 → length t.sets ≡ length t.keys → length b.deaf.items ≡ length t.keys → t.times ≡ p → c.deaf.items ≡ b.deaf.items

@@ -18,13 +18,15 @@ use Rattle.sip_standard.specs.declared.verdict.Verdict.TheVariants.{Legal, Malfo
 use Rattle.sip_standard.specs.Observation.{Observation}
 use Rattle.sip_verdict.specs.Listing.{trouble_of}
 use Rattle.sip_verdict.specs.MessageReading.{message_reading}
-use Rattle.sip_standard.specs.VerdictOf.{keys_in, HasTrouble, IsVerdictBehind, IsVerdictOf}
+use Rattle.sip_standard.specs.VerdictOf.{keys_in, HasTrouble, IsVerdictAfter, IsVerdictOf}
 use Rattle.sip_verdict.specs.SurveyOf.{AreFoundAt, IsSurveyAfter}
 use Rattle.sip_verdict.specs.Surveys.{Surveying, SurveysFor}
 use Rattle.sip_verdict.specs.SurveyParts.{IsPartLog}
 use Rattle.sip_verdict.specs.inner.SurveyingLogs.{AreTaken, IsSurveyIn, IsTaken, SurveysRead, IsToldIn}
 use Rattle.sip_verdict.specs.inner.Walking.{HasRead}
 use Rattle.sip_verdict.proofs.judges.StandingLemmas.{same_some}
+use Rattle.sip_verdict.proofs.judges.JudgingLemmas.{observed-push}
+use Rattle.sip_verdict.proofs.verdicts.VerdictLemmas.{observed-seen}
 use Rattle.sip_verdict.specs.SurveyText.{IsSurveyText, end_text}
 use Rattle.sip_verdict.specs.Reading.{AreObserved}
 use Rattle.sip_log.specs.Reading as log
@@ -36,15 +38,6 @@ taken_push part [] [] item taken are one = (one, tt)
 taken_push part [] (x ∷ takens) item taken are one = absurd are
 taken_push part (i ∷ items) [] item taken are one = absurd are
 taken_push part (i ∷ items) (x ∷ takens) item taken (first, are) one = (first, taken_push part items takens item taken are one)
-
--- and seen so
-pub seen_push : (before : List (Observation KeyParts)) (items : List Item) (es : List (Observation KeyParts)) (item : Item) (e : Observation KeyParts) → AreObserved message_reading before items es
-    → message_reading.Observes (before ++ es) item e → AreObserved message_reading before (items ++ item ∷ []) (es ++ e ∷ [])
-seen_push before [] [] item e are one = (subst (λ xs. message_reading.Observes xs item e) (append-nil before) one, tt)
-seen_push before [] (o ∷ es) item e are one = absurd are
-seen_push before (i ∷ items) [] item e are one = absurd are
-seen_push before (i ∷ items) (o ∷ es) item e (first, are) one =
-    (first, seen_push (before ++ o ∷ []) items es item e are (subst (λ xs. message_reading.Observes xs item e) (sym (append_assoc before (o ∷ []) es)) one))
 
 -- the whole log is taken as it is
 taken_whole : (items takens : List Item) → AreTaken None items takens → takens ≡ items
@@ -71,8 +64,8 @@ survey_in (Some part) input p items takens close found end log are whole = inr (
 pub entries_in : (part : Option PartOf) (input : List ℕ) (p : Times) (items takens : List Item) (es : List (Observation KeyParts)) (close : LogEnd) (found : List Finding) (end : SurveyEnd) (text : List ℕ)
     → LogSays input p items close → AreTaken part items takens → AreObserved message_reading [] takens es → IsSurveyIn part input found end → IsSurveyText es found end text → IsToldIn part input found end text
 entries_in None input p items takens es close found end text log are seen survey told =
-    (survey, (es, inr (p, items, close, log, subst (λ is. AreObserved message_reading [] is es) (taken_whole items takens are) seen), told))
-entries_in (Some part) input p items takens es close found end text log are seen survey told = (survey, (es, inr (p, items, close, takens, log, taken_part part items takens are, seen), told))
+    (survey, (es, inr (p, items, close, log, observed-seen [] items es (subst (λ is. AreObserved message_reading [] is es) (taken_whole items takens are) seen)), told))
+entries_in (Some part) input p items takens es close found end text log are seen survey told = (survey, (es, inr (p, items, close, takens, log, taken_part part items takens are, observed-seen [] takens es seen), told))
 
 pub told_without : (part : Option PartOf) (input : List ℕ) (end : SurveyEnd) → LacksHeader input → end ≡ ended.LogFault 0 Header → IsToldIn part input [] end (end_text end 0)
 told_without None input end lacks same = (inl (lacks, refl, same), ([], inl (lacks, refl), ([], refl, refl)))
@@ -95,7 +88,7 @@ module _ (part : Option PartOf) (start : Option (List ℕ)) (now : log.ReaderSta
         taken = read.taken ++ item cut ∷ [];
         es = read.es ++ seen ∷ [];
         are_taken = taken_push part read.items read.taken (item e) (item cut) read.are_taken is_taken;
-        seen = seen_push [] read.taken read.es (item cut) seen read.seen observed;
+        seen = observed-push message_reading [] read.taken read.es (item cut) seen read.seen observed;
         follows = stands;
         read = subst (λ t. HasRead start t (read.items ++ item e ∷ []) new) (sym times) more;
         front = λ rest close later end left.
@@ -154,7 +147,7 @@ none-some : (n : ℕ) → None ≡ Some n → ⊥
 none-some n same = cc
 
 -- the verdict of entries is of none before the first
-counted : (p : Times) (es : List (Observation KeyParts)) (items : List Item) (close : LogEnd) (v : Verdict) → IsVerdictBehind p es items close v → trouble_of v ≡ Some 0 → ⊥
+counted : (p : Times) (es : List (Observation KeyParts)) (items : List Item) (close : LogEnd) (v : Verdict) → IsVerdictAfter p es items close v → trouble_of v ≡ Some 0 → ⊥
 counted p es [] Clean v is none = none-some 0 (sym (ap trouble_of is) ∙ none)
 counted p es [] (Stops fault) v is none = let same = same_some (length es + 1) 0 (sym (ap trouble_of is) ∙ none) in omega (arith, same)
 counted p es (item ∷ items) close v (e, sees, inl trouble) none = trouble-counted p es e v trouble none

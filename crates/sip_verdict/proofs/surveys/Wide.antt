@@ -3,7 +3,7 @@ use Rattle.std.proofs.Common.{◌<◌, ℕ, List, [], ◌∷◌, ◌++◌, All, 
 use Rattle.std.proofs.lemmas.List.Elements.{All-head}
 use Rattle.sip_standard.specs.Key.{KeyParts}
 use Rattle.sip_standard.specs.Times.{Times}
-use Rattle.sip_standard.specs.Stands.{Stands, takes, StandsBehind}
+use Rattle.sip_standard.specs.Stands.{Stands, takes, StandsAfter}
 use Rattle.sip_standard.specs.KeyMachine.{machine_of_key, transaction_of}
 use Rattle.sip_standard.specs.Observation.{Observation}
 use Rattle.sip_verdict.specs.MessageReading.{key_machines}
@@ -19,7 +19,7 @@ first_of_many P n (x ∷ xs) long all = (x, All-head P x xs all)
 pub wide_runs : (p : Times) (es : List (Observation KeyParts)) (e : Observation KeyParts) (key : KeyParts) → IsWideAt p es e key → RunsOver p (es ++ e ∷ []) key
 wide_runs p es e key (concerned, (many, apart, long, all)) =
     let f = (transaction_of (machine_of_key p.rules key)).figure in
-    let one = first_of_many (StandsBehind f p (events_for key es) e.event) 1024 many long all in (
+    let one = first_of_many (StandsAfter f p (events_for key es) e.event) 1024 many long all in (
       one.0,
       subst (λ m. Stands f p (events_for key (es ++ e ∷ [])) m one.0) (sym (newest_moment-push es e))
           (subst (λ events. Stands f p events e.event.moment one.0) (sym (events_of-concerned (key_machines p) key es e concerned))

@@ -11,14 +11,15 @@ use Rattle.sip_standard.specs.declared.verdict.Verdict.TheVariants.{Legal, Malfo
 use Rattle.sip_standard.specs.KeyMachine.{machine_of_key, transaction_of}
 use Rattle.sip_states.specs.KeySets.{coded_holds, key_rules}
 use Rattle.sip_states.specs.Runs.{AfterRun}
-use Rattle.sip_standard.specs.Stands.{StandsBehind}
+use Rattle.sip_standard.specs.Stands.{StandsAfter}
 use Rattle.sip_states.proofs.runs.StandsLemmas.{stands-runs, behind-after}
 use Rattle.sip_standard.specs.Observation.{Observation}
 use Rattle.sip_verdict.specs.Keyed.{HasRun, newest_moment}
 use Rattle.sip_verdict.specs.Verdicts.{IsFirst, IsTooWide, IsTrouble}
-use Rattle.sip_verdict.specs.Reading.{Judges, IsVerdictBy}
+use Rattle.sip_verdict.specs.Reading.{AreObserved, Judges, IsVerdictBy}
+use Rattle.sip_verdict.specs.Seen.{AreSeen}
 use Rattle.sip_verdict.specs.MessageReading.{key_machines, message_reading}
-use Rattle.sip_standard.specs.VerdictOf.{events_for, RunsOver, IsWideAt, IsFirstKey, HasTrouble, IsVerdictBehind, IsVerdictOf}
+use Rattle.sip_standard.specs.VerdictOf.{events_for, RunsOver, IsWideAt, IsFirstKey, HasTrouble, IsVerdictAfter, IsVerdictOf}
 
 -- the first key of which a fact holds
 first-key : (P Q : KeyParts → Type 0) → ((k : KeyParts) → P k → Q k) → ((k : KeyParts) → Q k → P k) → (keys : List KeyParts) (n : ℕ) → IsFirst P keys n → IsFirstKey Q keys n
@@ -43,7 +44,7 @@ over-run p es key (y, stands) =
 module _ (p : Times) (front : List (Observation KeyParts)) (e : Observation KeyParts) where
   -- what stands after the entry
   behind : (key : KeyParts) (y : Owing (transaction_of (machine_of_key p.rules key)).Phase) →
-      StandsBehind (transaction_of (machine_of_key p.rules key)).figure p (events_for key front) e.event y ↔ AfterRun (key_rules p (machine_of_key p.rules key)) (events_for key front) e.event y
+      StandsAfter (transaction_of (machine_of_key p.rules key)).figure p (events_for key front) e.event y ↔ AfterRun (key_rules p (machine_of_key p.rules key)) (events_for key front) e.event y
   behind key y = let machine = machine_of_key p.rules key in behind-after (transaction_of machine).figure (coded_holds machine).is_figure p (events_for key front) e.event y
 
   -- a key that is too wide
@@ -54,14 +55,14 @@ module _ (p : Times) (front : List (Observation KeyParts)) (e : Observation KeyP
       is.wide.many,
       is.wide.distinct,
       is.wide.wide,
-      All-weaker (AfterRun (key_rules p (machine_of_key p.rules key)) (events_for key front) e.event) (StandsBehind (transaction_of (machine_of_key p.rules key)).figure p (events_for key front) e.event)
+      All-weaker (AfterRun (key_rules p (machine_of_key p.rules key)) (events_for key front) e.event) (StandsAfter (transaction_of (machine_of_key p.rules key)).figure p (events_for key front) e.event)
           (λ y after. (behind key y).1 after) is.wide.many is.wide.each,
     ),
   )
 
   pub at-wide : (key : KeyParts) → IsWideAt p front e key → IsTooWide (key_machines p) front e key
   at-wide key (concerned, (many, distinct, wide, each)) =
-      let after = All-weaker (StandsBehind (transaction_of (machine_of_key p.rules key)).figure p (events_for key front) e.event) (AfterRun (key_rules p (machine_of_key p.rules key)) (events_for key front) e.event)
+      let after = All-weaker (StandsAfter (transaction_of (machine_of_key p.rules key)).figure p (events_for key front) e.event) (AfterRun (key_rules p (machine_of_key p.rules key)) (events_for key front) e.event)
       (λ y stands. (behind key y).0 stands) many each in
       record { concerned = concerned; wide = record { many = many; distinct = distinct; wide = wide; each = after } }
 
@@ -92,8 +93,15 @@ module _ (p : Times) (front : List (Observation KeyParts)) (e : Observation KeyP
       (at, formed, All-weaker (RunsOver p (front ++ e ∷ [])) (λ key. HasRun (key_machines p) key (front ++ e ∷ [])) (over-run p (front ++ e ∷ [])) _ runs, key-first _ _ at-wide wide-at _ transaction first)
   trouble-has (LogFault entry reason) is = is
 
+-- what is observed of entries
+pub observed-seen : (before : List (Observation KeyParts)) (items : List Item) (es : List (Observation KeyParts)) → AreObserved message_reading before items es → AreSeen before items es
+observed-seen before [] [] observed = tt
+observed-seen before [] (e ∷ es) observed = observed
+observed-seen before (item ∷ items) [] observed = observed
+observed-seen before (item ∷ items) (e ∷ es) (sees, more) = (sees, observed-seen (before ++ e ∷ []) items es more)
+
 -- the entries that are left
-behind-verdict : (p : Times) (es : List (Observation KeyParts)) (items : List Item) (end : LogEnd) (v : Verdict) → Judges message_reading p es items end v → IsVerdictBehind p es items end v
+pub behind-verdict : (p : Times) (es : List (Observation KeyParts)) (items : List Item) (end : LogEnd) (v : Verdict) → Judges message_reading p es items end v → IsVerdictAfter p es items end v
 behind-verdict p es [] Clean v is = is
 behind-verdict p es [] (Stops fault) v is = is
 behind-verdict p es (item ∷ items) end v (e, sees, inl trouble) = (e, sees, inl (has-trouble p es e v trouble))
@@ -108,7 +116,7 @@ behind-verdict p es (item ∷ items) end v (e, sees, inr (fine, more)) = (
   ),
 )
 
-verdict-behind : (p : Times) (es : List (Observation KeyParts)) (items : List Item) (end : LogEnd) (v : Verdict) → IsVerdictBehind p es items end v → Judges message_reading p es items end v
+verdict-behind : (p : Times) (es : List (Observation KeyParts)) (items : List Item) (end : LogEnd) (v : Verdict) → IsVerdictAfter p es items end v → Judges message_reading p es items end v
 verdict-behind p es [] Clean v is = is
 verdict-behind p es [] (Stops fault) v is = is
 verdict-behind p es (item ∷ items) end v (e, sees, inl trouble) = (e, sees, inl (trouble-has p es e v trouble))

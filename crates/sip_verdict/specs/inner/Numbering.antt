@@ -1,6 +1,7 @@
 -- The book of a log's messages, and what is listed of one entry.
 use Rattle.std.specs.Prelude.{◌≡◌, ◌<◌, ◌+◌, ◌-◌, ◌++◌, ◌∷◌, [], ℕ, Some, List, All, IsAscii, codes, length, slice_get, string_bytes}
 use Rattle.sip_standard.specs.Key.{KeyParts}
+use Rattle.sip_standard.specs.Times.{Times}
 use Rattle.sip_machine.specs.Texts.{Texts, Keeps, text_of}
 use Rattle.sip_states.specs.Tables.{Tabled}
 use Rattle.sip_states.specs.declared.any_set.AnySet.{AnySet}
@@ -9,10 +10,10 @@ use Rattle.sip_listing.specs.Transaction.{transaction_text, Lists}
 use Rattle.sip_verdict.specs.declared.listing.Listing.{Listing}
 use Rattle.sip_verdict.specs.declared.listing.Listing.TheVariants.{Text, Stopped, NoEntry}
 use Rattle.sip_standard.specs.Observation.{Observation}
-use Rattle.sip_verdict.specs.Keyed.{Machines}
-use Rattle.sip_verdict.specs.MessageReading.{ConcernsNone}
+use Rattle.sip_verdict.specs.MessageReading.{key_machines, ConcernsNone}
 use Rattle.sip_verdict.specs.Verdicts.{IsGood, IsTrouble}
-use Rattle.sip_verdict.specs.Listing.{Words, first_entry, IsEntryText}
+use Rattle.sip_verdict.specs.Listing.{first_entry}
+use Rattle.sip_verdict.specs.ListingOf.{IsEntryText}
 
 -- the book keeps the messages of these entries that concern a key, each under the number of the first that has it
 pub record AreNumbered (items : List Item) (texts : Texts) : Type 0 where
@@ -41,7 +42,7 @@ IsTextOf t [] text = text ≡ codes "no transaction\n"
 IsTextOf t (n ∷ ns) text = AppendsEach t (n ∷ ns) [] text
 
 -- what is listed of the entry after these: its text if it is in no trouble, else its verdict
-abbrev pub IsListedEntry : {K : Type 0} (m : Machines K) → Words K m → (List ℕ → ℕ) → List (Observation K) → Observation K → Listing → Type 0
-IsListedEntry m w number es e (Text text) = IsGood m (es ++ e ∷ []) × IsEntryText m w number es e e.keys (string_bytes text)
-IsListedEntry m w number es e (Stopped v) = IsTrouble m es e v
-IsListedEntry m w number es e NoEntry = ⊥
+abbrev pub IsListedEntry : Times → (List ℕ → ℕ) → List (Observation KeyParts) → Observation KeyParts → Listing → Type 0
+IsListedEntry p number es e (Text text) = IsGood (key_machines p) (es ++ e ∷ []) × IsEntryText p number es e e.keys (string_bytes text)
+IsListedEntry p number es e (Stopped v) = IsTrouble (key_machines p) es e v
+IsListedEntry p number es e NoEntry = ⊥

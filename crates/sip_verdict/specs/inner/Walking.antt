@@ -83,9 +83,9 @@ WalksOn start count now texts t None = Walks start now texts t
 WalksOn start count now texts t (Some v) = IfSome start (λ input. IsVerdictOf input v) × IsBehind count v
 
 -- what is listed of an entry that the verdict comes before: the verdict, or that the log has no such entry if it is legal
-abbrev pub listed_behind : Verdict → Listing
-listed_behind (Legal whole transactions) = NoEntry
-listed_behind (Malformed entry fault) = Stopped (Malformed entry fault)
-listed_behind (Breach entry transaction) = Stopped (Breach entry transaction)
-listed_behind (Undecided entry transaction) = Stopped (Undecided entry transaction)
-listed_behind (FaultOfLog entry reason) = Stopped (FaultOfLog entry reason)
+abbrev pub listed_after : Verdict → Listing
+listed_after (Legal whole transactions) = NoEntry
+listed_after (Malformed entry fault) = Stopped (Malformed entry fault)
+listed_after (Breach entry transaction) = Stopped (Breach entry transaction)
+listed_after (Undecided entry transaction) = Stopped (Undecided entry transaction)
+listed_after (FaultOfLog entry reason) = Stopped (FaultOfLog entry reason)

@@ -9,7 +9,7 @@ use Rattle.sip_standard.specs.MachineEvent.{MachineEvent}
 use Rattle.sip_standard.specs.Times.{Times}
 use Rattle.sip_standard.specs.InviteClient as corrected
 use Rattle.sip_standard.specs.InviteClient3261 as without
-use Rattle.sip_standard.specs.Stands.{StandsBehind}
+use Rattle.sip_standard.specs.Stands.{StandsAfter}
 use Rattle.consequences.specs.Events.{SendsRequest, GetsResponse, IsAnyCode, IsRefused, IsRestart}
 use Rattle.consequences.specs.Machines.{figure_of, StateOf}
 use Rattle.consequences.proofs.lemmas.client.InviteClients.{receives_6026, receives_3261}
@@ -17,7 +17,7 @@ use Rattle.consequences.proofs.lemmas.client.Unanswered.{cancel-waits}
 use Rattle.consequences.proofs.invite_client.a_cancel_waits_for_a_response.Goals as goal
 
 by : (p : Times) (rules : Rules) (before after : List MachineEvent) (invite e : MachineEvent) (y : StateOf rules Client true) →
-    All (λ f. ¬ (SendsRequest Invite f)) before → SendsRequest Invite invite → SendsRequest Cancel e → StandsBehind (figure_of rules Client true) p (before ++ invite ∷ after) e y →
+    All (λ f. ¬ (SendsRequest Invite f)) before → SendsRequest Invite invite → SendsRequest Cancel e → StandsAfter (figure_of rules Client true) p (before ++ invite ∷ after) e y →
     Any (GetsResponse IsAnyCode) after ⊎ Any (λ f. IsRefused f ⊎ IsRestart f) after ⊎ (open_at p invite.moment (64 * p.t1) ≤ e.moment)
 by p R6026 before after invite e y none sent cancels stands = cancel-waits corrected.Receives receives_6026 p invite before after e y none sent cancels stands
 by p R3261 before after invite e y none sent cancels stands = cancel-waits without.Receives receives_3261 p invite before after e y none sent cancels stands

@@ -12,7 +12,7 @@ use Rattle.sip_standard.specs.Times.{Times}
 use Rattle.sip_standard.specs.InviteClient as corrected
 use Rattle.sip_standard.specs.InviteClient3261 as without
 use Rattle.sip_standard.specs.KeyMachine.{OfInviteClient, OfInviteClient3261}
-use Rattle.sip_standard.specs.Stands.{Stands, StandsBehind}
+use Rattle.sip_standard.specs.Stands.{Stands, StandsAfter}
 use Rattle.consequences.specs.Events.{SendsRequest, GetsResponse, IsAnyCode}
 use Rattle.consequences.specs.Machines.{figure_of, StateOf}
 use Rattle.consequences.proofs.lemmas.client.InviteClients.{receives_6026, receives_3261}
@@ -29,7 +29,7 @@ over p R3261 before after invite m y sent unanswered stands late =
     over-by-timer-b without.Receives receives_3261 p (what_stands_lasts OfInviteClient3261 p) before after invite m y sent unanswered stands late
 
 silent : (p : Times) (rules : Rules) (before after : List MachineEvent) (invite e : MachineEvent) (y : StateOf rules Client true) →
-    SendsRequest Invite invite → All (λ f. ¬ (GetsResponse IsAnyCode f)) after → e.action ≡ Sent → StandsBehind (figure_of rules Client true) p (before ++ invite ∷ after) e y →
+    SendsRequest Invite invite → All (λ f. ¬ (GetsResponse IsAnyCode f)) after → e.action ≡ Sent → StandsAfter (figure_of rules Client true) p (before ++ invite ∷ after) e y →
     close_at p invite.moment (64 * p.t1) < e.moment → e.kind ≡ Request Cancel
 silent p R6026 before after invite e y sent unanswered is_sent stands late =
     silent-after-timer-b corrected.Receives receives_6026 p (what_stands_lasts OfInviteClient p) before after invite e y sent unanswered is_sent stands late

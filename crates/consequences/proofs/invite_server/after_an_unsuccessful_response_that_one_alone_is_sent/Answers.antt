@@ -14,7 +14,7 @@ use Rattle.sip_standard.specs.InviteServer.{InviteServerPhase, Proceeding, invit
 use Rattle.sip_standard.specs.InviteServer as corrected
 use Rattle.sip_standard.specs.InviteServer3261.{InviteServer3261Phase, invite_server_3261}
 use Rattle.sip_standard.specs.InviteServer3261 as without
-use Rattle.sip_standard.specs.Stands.{StandsBehind}
+use Rattle.sip_standard.specs.Stands.{StandsAfter}
 use Rattle.consequences.specs.Events.{IsResponse, SendsResponse}
 use Rattle.consequences.specs.Machines.{figure_of, StateOf}
 use Rattle.consequences.specs.Servers.{BeginNoneAnew}
@@ -53,7 +53,7 @@ module _ (p : Times) (before after : List MachineEvent) (final e : MachineEvent)
       by (inr (reliable, set, last, here, success)) = absurd (one-code final sends.1 success)
 
   by : (rules : Rules) (y : StateOf rules Server true) → All (λ f. ¬ (SendsResponse IsFinal f)) before → All (λ f. f.text ≡ final.text → f.kind ≡ final.kind) before → BeginNoneAnew p final after → e.action ≡ Sent →
-      StandsBehind (figure_of rules Server true) p (before ++ final ∷ after) e y → IsAllowed
+      StandsAfter (figure_of rules Server true) p (before ++ final ∷ after) e y → IsAllowed
   by R6026 y first one_kind anew sent stands =
       only (sent-after-final invite_server p (λ x. x) (is-server-6026 p) before final is_final one_kind (λ x y h. (y, h, refl)) after e y first anew sent stands)
   by R3261 y first one_kind anew sent stands =

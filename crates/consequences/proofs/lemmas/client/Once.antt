@@ -11,7 +11,7 @@ use Rattle.sip_standard.specs.MachineEvent.{MachineEvent}
 use Rattle.sip_standard.specs.Figure.{Figure, Change, keeps, Owing, quiet, Emits, Fails, Steps, Takes}
 use Rattle.sip_standard.specs.InviteClient as invite
 use Rattle.sip_standard.specs.PlainClient as plain
-use Rattle.sip_standard.specs.Stands.{Stands, StandsBehind}
+use Rattle.sip_standard.specs.Stands.{Stands, StandsAfter}
 use Rattle.consequences.specs.Events.{IsRestart}
 use Rattle.consequences.proofs.lemmas.server.Asleep.{nothing-to-pay}
 use Rattle.consequences.proofs.lemmas.client.InviteClients.{Row, Receiving, client, IsDone, Answers, IsReceiving, pays-nothing, sends-idle, sends-calling, sends-proceeding, sends-accepted, sends-completed, sends-ended}
@@ -100,7 +100,7 @@ module _ {X : Type 0} (f : Figure X) (p : Times) (HasAsked : X → Type 0) (IsRe
           (cut f p found.to request.moment between restart after m y found.goes)
 
   pub restart-silences : (before between after : List MachineEvent) (request restart e : MachineEvent) (y : Owing X) → request.action ≡ Sent → IsRequest request.kind → IsRestart restart →
-      e.action ≡ Sent → StandsBehind f p (before ++ request ∷ (between ++ restart ∷ after)) e y → MaySend e.kind
+      e.action ≡ Sent → StandsAfter f p (before ++ request ∷ (between ++ restart ∷ after)) e y → MaySend e.kind
   restart-silences before between after request restart e y sent asks restarts is_sent (x, stands, take) =
       let over = restart-ends before between after request restart e.moment x sent asks restarts stands in
       (over-emits e y (step-of f p Sent e (quiet f.ended) y is_sent (subst (λ z. Takes f p z e y) over take))).0

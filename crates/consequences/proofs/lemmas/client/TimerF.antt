@@ -12,7 +12,7 @@ use Rattle.sip_standard.specs.Kind.{IsFinal}
 use Rattle.sip_standard.specs.Debts.{Owed}
 use Rattle.sip_standard.specs.Figure.{Change, Owing, quiet, Emits, Steps, Takes, Lasts}
 use Rattle.sip_standard.specs.PlainClient.{PlainClientPhase, Idle, Ended, Trying, Proceeding, Completed, Receives, Sends, plain_client}
-use Rattle.sip_standard.specs.Stands.{Stands, StandsBehind}
+use Rattle.sip_standard.specs.Stands.{Stands, StandsAfter}
 use Rattle.consequences.specs.Events.{SendsAnyRequest, GetsResponse}
 use Rattle.consequences.proofs.lemmas.run.Lists.{any-last, any-earlier, any-none}
 use Rattle.consequences.proofs.lemmas.run.Running.{IsKept, left_at, step-of, stands-run, Cut, cut, run-keeps}
@@ -187,7 +187,7 @@ module _ (p : Times) where
         by (inr (silent, inl ended)) = ended
         by (inr (silent, inr came)) = absurd (any-none (GetsResponse IsFinal) after unanswered came)
 
-    pub silent-after-timer-f : (e : MachineEvent) (y : Owing PlainClientPhase) → e.action ≡ Sent → StandsBehind plain_client p (before ++ request ∷ after) e y → e.moment ≤ close_at p request.moment (64 * p.t1)
+    pub silent-after-timer-f : (e : MachineEvent) (y : Owing PlainClientPhase) → e.action ≡ Sent → StandsAfter plain_client p (before ++ request ∷ after) e y → e.moment ≤ close_at p request.moment (64 * p.t1)
     silent-after-timer-f e y sent (x, stands, take) = by (asked e.moment x stands)
       where
         by : Asks request.moment after e.moment x → e.moment ≤ close_at p request.moment (64 * p.t1)

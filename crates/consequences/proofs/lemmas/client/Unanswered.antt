@@ -14,7 +14,7 @@ use Rattle.sip_standard.specs.Kind.{IsProvisional, IsSuccess, IsUnsuccessful}
 use Rattle.sip_standard.specs.Debts.{Owed}
 use Rattle.sip_standard.specs.Figure.{Figure, keeps, gains, Owing, quiet, Emits, Fails, Steps, Takes, Lasts, MayEnd}
 use Rattle.sip_standard.specs.InviteClient.{InviteClientPhase, Idle, Ended, Calling, Proceeding, Accepted, Completed, Sends, ends_refused}
-use Rattle.sip_standard.specs.Stands.{Stands, StandsBehind}
+use Rattle.sip_standard.specs.Stands.{Stands, StandsAfter}
 use Rattle.consequences.specs.Events.{SendsRequest, GetsResponse, IsAnyCode, IsRefused, IsRestart}
 use Rattle.consequences.proofs.lemmas.run.Lists.{any-last, any-earlier, any-none, All-front, All-last}
 use Rattle.consequences.proofs.lemmas.client.Once.{IsInvited, invites-once, over-emits, over-steps}
@@ -173,7 +173,7 @@ module _ (R : Receiving) (is : IsReceiving R) (p : Times) where
 
     -- section 9.1
     pub cancel-waits : (before after : List MachineEvent) (e : MachineEvent) (y : Owing InviteClientPhase) → All (λ g. ¬ (SendsRequest Invite g)) before → SendsRequest Invite invite →
-        SendsRequest Cancel e → StandsBehind f p (before ++ invite ∷ after) e y → Over after e.moment
+        SendsRequest Cancel e → StandsAfter f p (before ++ invite ∷ after) e y → Over after e.moment
     cancel-waits before after e y none sent cancels (x, stands, take) = by-cut (cut f p (quiet Idle) 0 before invite after e.moment x (stands-run f p (before ++ invite ∷ after) e.moment x stands))
       where
         no-invite : ¬ (Request Cancel ≡ Request Invite)
@@ -361,7 +361,7 @@ module _ (R : Receiving) (is : IsReceiving R) (p : Times) where
             by (run-keeps f p (Waits invite.moment) (waits-kept invite.moment) after found.to invite.moment m y (inl calls) found.goes)
 
     pub silent-after-timer-b : (before after : List MachineEvent) (invite e : MachineEvent) (y : Owing InviteClientPhase) → SendsRequest Invite invite →
-        All (λ g. ¬ (GetsResponse IsAnyCode g)) after → e.action ≡ Sent → StandsBehind f p (before ++ invite ∷ after) e y → close_at p invite.moment (64 * p.t1) < e.moment → e.kind ≡ Request Cancel
+        All (λ g. ¬ (GetsResponse IsAnyCode g)) after → e.action ≡ Sent → StandsAfter f p (before ++ invite ∷ after) e y → close_at p invite.moment (64 * p.t1) < e.moment → e.kind ≡ Request Cancel
     silent-after-timer-b before after invite e y sent unanswered is_sent (x, stands, take) late =
         let ended = over-by-timer-b before after invite e.moment x sent unanswered stands late in
         (over-emits f p IsInvited (λ k. k ≡ Request Invite) (λ k. k ≡ Request Cancel) (invites-once R is p) e y (step-of f p Sent e (quiet Ended) y is_sent (subst (λ z. Takes f p z e y) ended take))).0

@@ -15,7 +15,7 @@ use Rattle.sip_standard.specs.Debts.{Owed, softened, IsWithoutFirst}
 use Rattle.sip_standard.specs.Figure.{Figure, Change, Owing, changed, quiet, Emits, Fails, Steps, Takes, Lasts, MayEnd}
 use Rattle.sip_standard.specs.InviteServer.{InviteServerPhase, Idle, Proceeding, Accepted, Completed, Confirmed}
 use Rattle.sip_standard.specs.InviteServer as corrected
-use Rattle.sip_standard.specs.Stands.{StandsBehind}
+use Rattle.sip_standard.specs.Stands.{StandsAfter}
 use Rattle.consequences.specs.Events.{GetsRequest, IsResponse, SendsResponse, IsRestart}
 use Rattle.consequences.specs.Servers.{BeginNoneAnew}
 use Rattle.consequences.proofs.lemmas.server.Asleep.{nothing-to-pay}
@@ -373,7 +373,7 @@ module _ {X : Type 0} (f : Figure X) (p : Times) (held : InviteServerPhase → X
 
         -- what is sent after it
         pub sent-after-final : (after : List MachineEvent) (e : MachineEvent) (y : Owing X) → All (λ g. ¬ (SendsResponse IsFinal g)) before → BeginNoneAnew p final after → e.action ≡ Sent
-            → StandsBehind f p (before ++ final ∷ after) e y → IsAllowed e
+            → StandsAfter f p (before ++ final ∷ after) e y → IsAllowed e
         sent-after-final after e y first anew sent (x, stands, take) =
             by-cut (cut f p (quiet f.idle) 0 before final after e.moment x (stands-run f p (before ++ final ∷ after) e.moment x stands))
           where

@@ -12,7 +12,7 @@ use Rattle.sip_standard.specs.Debts.{Owed}
 use Rattle.sip_standard.specs.Figure.{Figure, Change, drops, Owing, quiet, Emits, Fails, Steps, Takes}
 use Rattle.sip_standard.specs.InviteServer.{InviteServerPhase, Idle, Proceeding}
 use Rattle.sip_standard.specs.InviteServer3261.{InviteServer3261Phase, Passed, In, Receives, Sends, invite_server_3261}
-use Rattle.sip_standard.specs.Stands.{StandsBehind}
+use Rattle.sip_standard.specs.Stands.{StandsAfter}
 use Rattle.consequences.specs.Events.{GetsRequest, IsResponse, SendsResponse}
 use Rattle.consequences.proofs.lemmas.server.Asleep.{IsInvite, nothing-to-pay, without-asleep, asleep-emits, asleep-steps}
 use Rattle.consequences.proofs.lemmas.server.InviteServers.{first_in, is-server-3261}
@@ -108,7 +108,7 @@ module _ (p : Times) where
             (step-of f p Failed final (record { phase = first_in phase; owes = owes }) y refused (subst (λ w. Takes f p w final y) same take))
 
     pub successes-alone : (after : List MachineEvent) (e : MachineEvent) (y : Owing InviteServer3261Phase) → All (λ g. ¬ (SendsResponse IsFinal g)) before → All (λ g. ¬ (GetsRequest Invite g)) after
-        → e.action ≡ Sent → StandsBehind f p (before ++ final ∷ after) e y → IsResponse IsSuccess e
+        → e.action ≡ Sent → StandsAfter f p (before ++ final ∷ after) e y → IsResponse IsSuccess e
     successes-alone after e y first none sent (x, stands, take) =
         by-cut (cut f p (quiet f.idle) 0 before final after e.moment x (stands-run f p (before ++ final ∷ after) e.moment x stands))
       where

@@ -10,7 +10,7 @@ use Rattle.sip_standard.specs.Times.{Times}
 use Rattle.sip_standard.specs.InviteClient as corrected
 use Rattle.sip_standard.specs.InviteClient3261 as without
 use Rattle.sip_standard.specs.PlainClient.{plain_client}
-use Rattle.sip_standard.specs.Stands.{StandsBehind}
+use Rattle.sip_standard.specs.Stands.{StandsAfter}
 use Rattle.consequences.specs.Events.{SendsRequest, IsRestart}
 use Rattle.consequences.specs.Machines.{figure_of, StateOf}
 use Rattle.consequences.proofs.lemmas.client.InviteClients.{client, receives_6026, receives_3261}
@@ -19,7 +19,7 @@ use Rattle.consequences.proofs.restarts.after_a_restart_a_client_sends_no_more.G
 
 invited : (p : Times) (rules : Rules) (before between after : List MachineEvent) (invite restart e : MachineEvent) (y : StateOf rules Client true) →
     SendsRequest Invite invite → IsRestart restart → e.action ≡ Sent →
-    StandsBehind (figure_of rules Client true) p (before ++ invite ∷ (between ++ restart ∷ after)) e y → e.kind ≡ Request Cancel
+    StandsAfter (figure_of rules Client true) p (before ++ invite ∷ (between ++ restart ∷ after)) e y → e.kind ≡ Request Cancel
 invited p R6026 before between after invite restart e y sends restarts sent stands =
     restart-silences (client corrected.Receives) p IsInvited (λ k. k ≡ Request Invite) (λ k. k ≡ Request Cancel) (invites-once corrected.Receives receives_6026 p)
     before between after invite restart e y sends.0 sends.1 restarts sent stands

@@ -14,7 +14,7 @@ use Rattle.sip_standard.specs.Times.{Times}
 use Rattle.sip_standard.specs.InviteServer.{invite_server}
 use Rattle.sip_standard.specs.InviteServer3261.{invite_server_3261}
 use Rattle.sip_standard.specs.PlainServer.{plain_server}
-use Rattle.sip_standard.specs.Stands.{StandsBehind}
+use Rattle.sip_standard.specs.Stands.{StandsAfter}
 use Rattle.consequences.specs.Events.{GetsAnyRequest, IsRestart}
 use Rattle.consequences.specs.Machines.{figure_of, StateOf}
 use Rattle.consequences.proofs.lemmas.server.Asleep.{IsAsleep, IsInvite, IsAnyRequest, corrected-asleep, without-asleep, plain-asleep, asleep-emits, sleeps-on, restart-sleeps}
@@ -23,7 +23,7 @@ use Rattle.consequences.proofs.restarts.after_a_restart_a_server_sends_when_it_i
 
 module _ {X : Type 0} (f : Figure X) (p : Times) (Wakes : Kind → Type 0) (asleep : IsAsleep f p Wakes) (is_request : (k : Kind) → Wakes k → (method : Method) × (k ≡ Request method)) where
   silent : (before after : List MachineEvent) (restart e : MachineEvent) (y : Owing X) → IsRestart restart → All (λ g. ¬ (GetsAnyRequest g)) after → e.action ≡ Sent →
-      ¬ (StandsBehind f p (before ++ restart ∷ after) e y)
+      ¬ (StandsAfter f p (before ++ restart ∷ after) e y)
   silent before after restart e y restarts none sent (x, stands, take) =
       let found = cut f p (quiet f.idle) 0 before restart after e.moment x (stands-run f p (before ++ restart ∷ after) e.moment x stands) in
       let asked : (g : MachineEvent) → ¬ (GetsAnyRequest g) → ¬ ((g.action ≡ Received) × Wakes g.kind) =
@@ -33,7 +33,7 @@ module _ {X : Type 0} (f : Figure X) (p : Times) (Wakes : Kind → Type 0) (asle
       asleep-emits f p Wakes asleep e y (step-of f p Sent e (quiet f.idle) y sent (subst (λ z. Takes f p z e y) slept take))
 
 by : (p : Times) (rules : Rules) (invite : Bool) (before after : List MachineEvent) (restart e : MachineEvent) (y : StateOf rules Server invite) →
-    IsRestart restart → All (λ f. ¬ (GetsAnyRequest f)) after → e.action ≡ Sent → ¬ (StandsBehind (figure_of rules Server invite) p (before ++ restart ∷ after) e y)
+    IsRestart restart → All (λ f. ¬ (GetsAnyRequest f)) after → e.action ≡ Sent → ¬ (StandsAfter (figure_of rules Server invite) p (before ++ restart ∷ after) e y)
 by p R6026 true before after restart e y restarts none sent stands = silent invite_server p IsInvite (corrected-asleep p) (λ k is. (Invite, is)) before after restart e y restarts none sent stands
 by p R3261 true before after restart e y restarts none sent stands = silent invite_server_3261 p IsInvite (without-asleep p) (λ k is. (Invite, is)) before after restart e y restarts none sent stands
 by p rules false before after restart e y restarts none sent stands = silent plain_server p IsAnyRequest (plain-asleep p) (λ k is. is) before after restart e y restarts none sent stands

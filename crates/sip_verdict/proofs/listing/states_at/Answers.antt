@@ -4,7 +4,6 @@ use Rattle.sip_log.proofs.answers.ReadingLemmas.{IfSome-map}
 use Rattle.sip_verdict.specs.declared.listing.Listing.TheVariants.{Stopped}
 use Rattle.sip_standard.specs.VerdictOf.{IsVerdictOf}
 use Rattle.sip_verdict.specs.ListingOf.{IsListingOf}
-use Rattle.sip_verdict.proofs.verdicts.VerdictLemmas.{verdict-by}
 use Rattle.sip_verdict.proofs.listing.states_at.Goals as goal
 
 pub returns-in-Err-clause-listing : goal.returns-in-Err-clause-listing
@@ -12,7 +11,7 @@ returns-in-Err-clause-listing g c =
     let v = c.in-Err.verdict in
     let fault = rw c.in-Err.is at c.in_ok-walk.ensures.fault in
     IfSome-map (g.R.Source.left c.args.reader.now) (λ input. IsVerdictOf input v) (λ input. IsListingOf input c.args.entry (Stopped v))
-    (λ input is. (verdict-by input v is, subst (λ o. IsSomeAnd o (λ k. k ≤ c.args.entry)) (sym fault.1) (omega arith))) fault.0
+    (λ input is. (is, subst (λ o. IsSomeAnd o (λ k. k ≤ c.args.entry)) (sym fault.1) (omega arith))) fault.0
 
 pub returns-in-Ok-clause-listing : goal.returns-in-Ok-clause-listing
 returns-in-Ok-clause-listing g c =

@@ -16,7 +16,7 @@ pub returns-in-Some-clause-listing : goal.returns-in-Some-clause-listing
 returns-in-Some-clause-listing g c start walks =
     let l = c.loop-earlier in
     let stops = (rw c.in-Some.is at c.in_ok-verdict.ensures.walks) start (l.invariant.walks start walks) in
-    subst (λ listing. IfSome start (λ input. IsListingOf input c.args.entry listing)) (sym c.behind.ensures)
+    subst (λ listing. IfSome start (λ input. IsListingOf input c.args.entry listing)) (sym c.after.ensures)
     (listed_before start c.args.entry l.self.count c.in-Some.verdict (omega (arith, c.loop-earlier-test.true, l.invariant.counts)) stops.0 stops.1)
 
 pub loop-earlier-preserved : goal.loop-earlier-preserved

@@ -21,6 +21,7 @@ PAGES = {
     "LogSays": ["LOG.md", "MACHINES.md"],
     "Stands": ["MACHINES.md", "VERDICT.md"],
     "Showing": ["VERDICT.md", "LOG.md"],
+    "ListingOf": ["VERDICT.md"],
 }
 BEGIN, BEGIN_LAWS = "<!-- tests/trusted --write writes from here -->\n", "<!-- tests/trusted --write writes the laws from here -->\n"
 END = "<!-- to here -->\n"

@@ -47,3 +47,10 @@ pub mod Observation
 pub mod VerdictOf
 pub mod Rendering
 pub mod Showing
+pub mod Told
+pub mod PhaseWords
+pub mod StateText
+pub mod StateLines
+pub mod TransactionText
+pub mod Seen
+pub mod ListingOf

@@ -54,3 +54,8 @@ pub mod StateLines
 pub mod TransactionText
 pub mod Seen
 pub mod ListingOf
+pub mod Asked
+pub mod Failures
+pub mod Status
+pub mod Sent
+pub mod Answers

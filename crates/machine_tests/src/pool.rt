@@ -8,7 +8,7 @@ use crate::runs::{State, are_same, indices, states_of};
 use crate::times::params;
 use crate::wants::holds;
 use sip_machine::{
-    Action, Book, Debt, Event, Machine, Phase, PlainServer, PlainServerPhase, Pool, Run,
+    Action, Beside, Book, Debt, Event, Machine, Phase, PlainServer, PlainServerPhase, Pool, Run,
 };
 use std::alloc::{AllocError, Global};
 use std::process::Abort;
@@ -57,7 +57,7 @@ fn take<M: Machine>(
     if count == 0 {
         return Err("no state".into());
     }
-    machine.successors(book, pool, count - 1, event)?;
+    machine.successors(&Beside::of(book, None), pool, count - 1, event)?;
     if pool.len() > count {
         pool.copy(count, count - 1);
         pool.truncate(count);
@@ -323,7 +323,7 @@ fn first_takes<M: Machine>(
     ensures known { OnErr result (All (Knows M.names book.now) pool.new) }
     ensures in_range { OnErr result (All M.in_range pool.new) }
 {
-    machine.successors(book, pool, 0, event)?;
+    machine.successors(&Beside::of(book, None), pool, 0, event)?;
     Ok(())
 }
 

@@ -5,7 +5,7 @@ ghost use Rattle.sip_machine.specs.Rules.{Knows};
 ghost use Rattle.sip_machine.specs.Texts.{Texts};
 
 use crate::messages::event_of;
-use sip_machine::{Action, Book, Event, Machine, Phase, Pool, Run};
+use sip_machine::{Action, Beside, Book, Event, Machine, Phase, Pool, Run};
 use std::alloc::Global;
 use std::test::Fail;
 
@@ -158,7 +158,7 @@ fn step_together<M: Machine>(
     ensures in_range { OnOk result (All M.in_range pool.new) }
 {
     let count = pool.len();
-    machine.successors_each(book, pool, count, event)?;
+    machine.successors_each(&Beside::of(book, None), pool, count, event)?;
     let given = pool.first_ones(count)?;
     pool.keep(&given);
     Ok(())
@@ -180,7 +180,7 @@ pub(crate) fn step<M: Machine>(
 {
     let count = pool.len();
     for at in 0..count {
-        machine.successors(book, pool, at, event)?;
+        machine.successors(&Beside::of(book, None), pool, at, event)?;
     }
     let given = indices(alloc, count, pool.len())?;
     pool.keep(&given);
@@ -209,7 +209,7 @@ fn run_alone<M: Machine>(
     let mut pool = first_pool(alloc, machine)?;
     for &(moment, action, number) in entries {
         let event = event_of(alloc, book, moment, action, number)?;
-        if !machine.step(book, &mut pool, &event)? {
+        if !machine.step(&Beside::of(book, None), &mut pool, &event)? {
             return Ok(None);
         }
     }

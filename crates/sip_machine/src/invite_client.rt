@@ -4,7 +4,7 @@ ghost use Rattle.std.specs.Prelude.{◌≡◌};
 mod acks;
 
 use self::InviteClientPhase::{Accepted, Calling, Completed, Ended, Idle, Proceeding};
-use crate::book::Book;
+use crate::beside::Beside;
 use crate::dues::Dues;
 use crate::event::{Event, is_provisional, is_success, is_unsuccessful};
 use crate::invite_client::acks::first_acked;
@@ -121,7 +121,7 @@ impl Phases for InviteClient {
     fn receives(
         &self,
         _alloc: Global,
-        _book: &Book,
+        _book: &Beside<'_, '_>,
         phase: &InviteClientPhase,
         event: &Event,
     ) -> Result<Option<Turn<InviteClientPhase>>, AllocError> {
@@ -170,7 +170,7 @@ impl Phases for InviteClient {
     fn sends(
         &self,
         _alloc: Global,
-        book: &Book,
+        book: &Beside<'_, '_>,
         phase: &InviteClientPhase,
         event: &Event,
     ) -> Result<Option<Turn<InviteClientPhase>>, AllocError> {
@@ -222,7 +222,7 @@ impl Phases for InviteClient {
     fn paid(
         &self,
         alloc: Global,
-        book: &Book,
+        book: &Beside<'_, '_>,
         phase: &InviteClientPhase,
         event: &Event,
         dues: &mut Dues,

@@ -4,7 +4,7 @@ ghost use Rattle.sip_machine.specs.Texts.{Texts};
 ghost use Rattle.sip_machine.specs.inner.InviteClient.{invite_client_seen};
 ghost use Rattle.sip_machine.specs.inner.InviteClient3261.Laws.{IsEndedBy};
 
-use crate::book::Book;
+use crate::beside::Beside;
 use crate::dues::Dues;
 use crate::event::{Event, is_success};
 use crate::invite_client::{InviteClient, InviteClientPhase};
@@ -85,7 +85,7 @@ impl Phases for InviteClient3261 {
     fn receives(
         &self,
         alloc: Global,
-        book: &Book,
+        book: &Beside<'_, '_>,
         phase: &InviteClientPhase,
         event: &Event,
     ) -> Result<Option<Turn<InviteClientPhase>>, AllocError> {
@@ -101,7 +101,7 @@ impl Phases for InviteClient3261 {
     fn sends(
         &self,
         alloc: Global,
-        book: &Book,
+        book: &Beside<'_, '_>,
         phase: &InviteClientPhase,
         event: &Event,
     ) -> Result<Option<Turn<InviteClientPhase>>, AllocError> {
@@ -111,7 +111,7 @@ impl Phases for InviteClient3261 {
     fn paid(
         &self,
         alloc: Global,
-        book: &Book,
+        book: &Beside<'_, '_>,
         phase: &InviteClientPhase,
         event: &Event,
         dues: &mut Dues,

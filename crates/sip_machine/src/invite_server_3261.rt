@@ -16,7 +16,7 @@ ghost use Rattle.sip_machine.specs.inner.InviteServer3261.{invite_server_3261_se
 ghost use Rattle.sip_machine.specs.inner.InviteServer3261.Laws.{turn_within};
 ghost use Rattle.sip_machine.specs.inner.Single.{AnswersOne};
 
-use crate::book::Book;
+use crate::beside::Beside;
 use crate::dues::Dues;
 use crate::event::{Event, is_success};
 use crate::invite_server::{InviteServer, InviteServerPhase};
@@ -118,7 +118,7 @@ impl Phases for InviteServer3261 {
     fn receives(
         &self,
         alloc: Global,
-        book: &Book,
+        book: &Beside<'_, '_>,
         phase: &InviteServer3261Phase,
         event: &Event,
     ) -> Result<Option<Turn<InviteServer3261Phase>>, AllocError> {
@@ -134,7 +134,7 @@ impl Phases for InviteServer3261 {
     fn sends(
         &self,
         alloc: Global,
-        book: &Book,
+        book: &Beside<'_, '_>,
         phase: &InviteServer3261Phase,
         event: &Event,
     ) -> Result<Option<Turn<InviteServer3261Phase>>, AllocError> {
@@ -156,7 +156,7 @@ impl Phases for InviteServer3261 {
     fn paid(
         &self,
         _alloc: Global,
-        book: &Book,
+        book: &Beside<'_, '_>,
         _phase: &InviteServer3261Phase,
         event: &Event,
         dues: &mut Dues,
@@ -173,7 +173,12 @@ impl Phases for InviteServer3261 {
         }
     }
 
-    fn pays(&self, book: &Book, _phase: &InviteServer3261Phase, event: &Event) -> Option<u32> {
+    fn pays(
+        &self,
+        book: &Beside<'_, '_>,
+        _phase: &InviteServer3261Phase,
+        event: &Event,
+    ) -> Option<u32> {
         match event.kind() {
             Kind::Request(_) => None,
             Kind::Response(code) => {

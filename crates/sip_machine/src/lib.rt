@@ -1,6 +1,7 @@
 //! Machines of SIP transactions (RFC 3261 section 17): what they may send and receive, and when.
 #![tactic(auto)]
 
+mod beside;
 mod book;
 mod dues;
 mod effects;
@@ -27,6 +28,7 @@ mod told;
 mod tos;
 mod waiting;
 
+pub use beside::{Beside, Heard};
 pub use book::Book;
 pub use dues::Dues;
 pub use event::Event;

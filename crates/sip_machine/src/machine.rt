@@ -8,7 +8,7 @@ ghost use Rattle.sip_machine.specs.Rules.{Rules, Covers, FromSome, IsLawful, Kno
 ghost use Rattle.sip_machine.specs.Naming.{AppendsAll};
 ghost use Rattle.sip_machine.specs.Owing.{CodeOwing, at_rest};
 
-use crate::book::Book;
+use crate::beside::Beside;
 use crate::event::Event;
 use crate::phases::Phase;
 use crate::pool::Pool;
@@ -58,7 +58,7 @@ pub trait Machine: Drop {
     /// Puts each state after the others, once, that the event gives from the one at the index. On an error all is as before.
     fn successors(
         &self,
-        book: &Book,
+        book: &Beside<'_, '_>,
         pool: &mut Pool<Self::Phase>,
         at: usize,
         event: &Event,
@@ -76,7 +76,7 @@ pub trait Machine: Drop {
     /// error some may have been put after the others.
     fn successors_each(
         &self,
-        book: &Book,
+        book: &Beside<'_, '_>,
         pool: &mut Pool<Self::Phase>,
         count: usize,
         event: &Event,
@@ -94,7 +94,7 @@ pub trait Machine: Drop {
     /// an error, all is as before.
     fn step(
         &self,
-        book: &Book,
+        book: &Beside<'_, '_>,
         pool: &mut Pool<Self::Phase>,
         event: &Event,
     ) -> Result<bool, AllocError>

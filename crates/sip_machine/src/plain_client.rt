@@ -2,7 +2,7 @@
 ghost use Rattle.std.specs.Prelude.{◌≡◌};
 
 use self::PlainClientPhase::{Completed, Ended, Idle, Proceeding, Trying};
-use crate::book::Book;
+use crate::beside::Beside;
 use crate::dues::Dues;
 use crate::event::{Event, is_final, is_provisional};
 use crate::phases::{Change, Phase, Phases, Turn};
@@ -102,7 +102,7 @@ impl Phases for PlainClient {
     fn receives(
         &self,
         _alloc: Global,
-        _book: &Book,
+        _book: &Beside<'_, '_>,
         phase: &PlainClientPhase,
         event: &Event,
     ) -> Result<Option<Turn<PlainClientPhase>>, AllocError> {
@@ -124,7 +124,7 @@ impl Phases for PlainClient {
     fn sends(
         &self,
         _alloc: Global,
-        book: &Book,
+        book: &Beside<'_, '_>,
         phase: &PlainClientPhase,
         event: &Event,
     ) -> Result<Option<Turn<PlainClientPhase>>, AllocError> {
@@ -159,7 +159,7 @@ impl Phases for PlainClient {
     fn paid(
         &self,
         _alloc: Global,
-        _book: &Book,
+        _book: &Beside<'_, '_>,
         _phase: &PlainClientPhase,
         _event: &Event,
         _dues: &mut Dues,

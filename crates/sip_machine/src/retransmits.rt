@@ -5,14 +5,14 @@ ghost use Rattle.sip_machine.specs.Texts.{Keeps, text_of};
 ghost use Rattle.sip_machine.specs.NumberedEvent.{KeepsMessage, event_in};
 ghost use Rattle.sip_standard.specs.Retransmits.{Retransmits};
 
-use crate::book::Book;
+use crate::beside::Beside;
 use crate::event::Event;
 use sip_times::Params;
 
 /// Whether the event is the message again, as its timer fires, which was set at this moment for this interval, in milliseconds.
 pub(crate) fn retransmits(
     params: &Params,
-    book: &Book,
+    book: &Beside<'_, '_>,
     reliable: bool,
     message: u32,
     set: u64,

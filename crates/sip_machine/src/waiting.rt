@@ -7,7 +7,7 @@ ghost use Rattle.sip_machine.specs.Deadlines.{earliest};
 ghost use Rattle.sip_machine.specs.inner.Waiting.{waiting_closes, waiting_fields, waiting_seen, WaitingInRange};
 ghost use Rattle.sip_machine.specs.Told.{field_of_code};
 
-use crate::book::Book;
+use crate::beside::Beside;
 use crate::event::Event;
 use crate::limit::earlier;
 use crate::retransmits::retransmits;
@@ -33,7 +33,7 @@ pub struct Waiting {
 
 impl Waiting {
     /// Whether the event is the request again, as timer A or E fires.
-    pub(crate) fn repeats(&self, params: &Params, book: &Book, event: &Event) -> bool
+    pub(crate) fn repeats(&self, params: &Params, book: &Beside<'_, '_>, event: &Event) -> bool
         requires fits { KeepsMessage book.now event.now }
         requires known { Keeps book.now self.now.request }
         requires in_range { WaitingInRange self.now }

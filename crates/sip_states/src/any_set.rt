@@ -9,7 +9,7 @@ use crate::state_set::{StateSet, TakeError};
 use crate::told::{ToldState, told_states};
 use sip_key::{Key, Role};
 use sip_machine::{
-    Book, Event, InviteClient, InviteClient3261, InviteServer, InviteServer3261, Params,
+    Beside, Event, InviteClient, InviteClient3261, InviteServer, InviteServer3261, Params,
     PlainClient, PlainServer, Rules,
 };
 use std::alloc::{AllocError, Global};
@@ -86,7 +86,7 @@ impl AnySet {
 
     /// Takes the event. On an error the set is as before.
     #[tactic(auto, using(crate::proofs::keyed::AnyLemmas::has_taken))]
-    pub fn take(&mut self, book: &Book, event: &Event) -> Result<(), TakeError>
+    pub fn take(&mut self, book: &Beside<'_, '_>, event: &Event) -> Result<(), TakeError>
         requires order { moment_of self.old ≤ event.now.moment }
         requires fits { FitsBook book.now event.now }
         requires known { IsKnownSet book.now self.old }

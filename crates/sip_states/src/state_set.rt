@@ -13,7 +13,7 @@ ghost use Rattle.sip_states.specs.inner.Ways.{GivesAfter};
 
 use crate::ends::{advance_states, last_of_all};
 use crate::steps::{find_given, step_alone};
-use sip_machine::{Book, Event, Machine, Pool};
+use sip_machine::{Beside, Event, Machine, Pool};
 use std::alloc::{AllocError, Global};
 use std::marker::Model;
 use thiserror::Error;
@@ -95,7 +95,7 @@ impl<M: Machine> StateSet<M> {
 
     /// Takes the event: the states are those that it gives from one in which one can stand at its
     /// moment. On an error the set is as before.
-    pub fn take(&mut self, book: &Book, event: &Event) -> Result<(), TakeError>
+    pub fn take(&mut self, book: &Beside<'_, '_>, event: &Event) -> Result<(), TakeError>
         requires order { self.old.moment ≤ event.now.moment }
         requires fits { FitsBook book.now event.now }
         requires known { All (Knows M.names book.now) self.old.states }
@@ -119,7 +119,7 @@ impl<M: Machine> StateSet<M> {
     /// Lets the only state take the event where it stands, and tells whether it did. If it did not, or on an error, the set is
     /// as before.
     #[inline(always)]
-    fn take_alone(&mut self, book: &Book, event: &Event) -> Result<bool, AllocError>
+    fn take_alone(&mut self, book: &Beside<'_, '_>, event: &Event) -> Result<bool, AllocError>
         requires order { self.old.moment ≤ event.now.moment }
         requires fits { FitsBook book.now event.now }
         requires known { All (Knows M.names book.now) self.old.states }
@@ -140,7 +140,7 @@ impl<M: Machine> StateSet<M> {
 
     /// Lets each state take the event.
     #[inline(never)]
-    fn take_each(&mut self, book: &Book, event: &Event) -> Result<(), TakeError>
+    fn take_each(&mut self, book: &Beside<'_, '_>, event: &Event) -> Result<(), TakeError>
         requires order { self.old.moment ≤ event.now.moment }
         requires fits { FitsBook book.now event.now }
         requires known { All (Knows M.names book.now) self.old.states }
@@ -230,7 +230,7 @@ impl<M: Machine> StateSet<M> {
 /// stand there still.
 fn given_rows<M: Machine>(
     machine: &M,
-    book: &Book,
+    book: &Beside<'_, '_>,
     states: &mut Pool<M::Phase>,
     from: u64,
     event: &Event,

@@ -7,7 +7,7 @@ ghost use Rattle.sip_machine.specs.Rules.{Covers, Knows, StandFor};
 ghost use Rattle.sip_states.specs.inner.Ways.{GivesAfter, GivesFrom};
 
 use crate::ends::some_can_end;
-use sip_machine::{Book, Event, Machine, Pool};
+use sip_machine::{Beside, Event, Machine, Pool};
 use std::alloc::AllocError;
 
 /// Lets the only state take the event where it stands, after standing in it at `from`, and tells whether it did: not where
@@ -15,7 +15,7 @@ use std::alloc::AllocError;
 #[inline(always)]
 pub(crate) fn step_alone<M: Machine>(
     machine: &M,
-    book: &Book,
+    book: &Beside<'_, '_>,
     pool: &mut Pool<M::Phase>,
     from: u64,
     event: &Event,
@@ -41,7 +41,7 @@ pub(crate) fn step_alone<M: Machine>(
 /// On an error some may have been put after the others.
 pub(crate) fn find_given<M: Machine>(
     machine: &M,
-    book: &Book,
+    book: &Beside<'_, '_>,
     pool: &mut Pool<M::Phase>,
     from: u64,
     event: &Event,
@@ -71,7 +71,7 @@ pub(crate) fn find_given<M: Machine>(
 /// moment. On an error some may have been put after the others.
 fn step_each<M: Machine>(
     machine: &M,
-    book: &Book,
+    book: &Beside<'_, '_>,
     pool: &mut Pool<M::Phase>,
     count: usize,
     event: &Event,

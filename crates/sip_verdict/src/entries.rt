@@ -11,20 +11,22 @@ ghost use Rattle.sip_verdict.specs.MessageReading.{message_reading, ConcernsNone
 ghost use Rattle.sip_standard.specs.VerdictOf.{keys_in};
 ghost use Rattle.sip_verdict.specs.SurveyOf.{AreFoundAt};
 ghost use Rattle.sip_verdict.specs.Surveys.{AreHistories, AreSurveyed};
+ghost use Rattle.sip_verdict.specs.inner.Observing.{IsRead};
 ghost use Rattle.sip_verdict.specs.inner.TablesTracking.{is_among, MayTake};
 ghost use Rattle.sip_verdict.specs.inner.Surveying.{ArePassing, AreWatched, IsFresh, TablesSurvey, fault_listing};
 
 use crate::concerned::Concerned;
 use crate::finding::Finding;
 use crate::histories::Histories;
-use crate::observing::{Told, observe};
+use crate::observing::{Read, Told, direction_of, observe};
 use crate::passing::Hearing;
 use crate::releasing::pass_each;
 use crate::standing::{Standing, touch_each};
 use crate::sweeping::SPARE;
 use crate::troubled::Troubled;
 use sip_log::Entry;
-use sip_machine::Event;
+use sip_machine::{Beside, Event, Heard};
+use sip_message::{Message, ReadError};
 use sip_standard::Fault;
 use std::alloc::{AllocError, Global};
 use std::hash::BuildHasher;
@@ -54,27 +56,66 @@ fn take<H: BuildHasher>(
         × (standing.new.tables.keys ≡ keys_in (es ++ e ∷ []))
         × ArePassing standing.new.book standing.old.tables.times es e (is_among []) standing.new.tables troubled.new) }
 {
-    let told = observe(alloc, &mut standing.book, entry)?;
+    let Some(direction) = direction_of(entry.action) else {
+        return take_read(alloc, standing, troubled, histories, entry, Read::Nothing);
+    };
+    match Message::read(alloc, entry.bytes.as_slice()) {
+        Ok(message) => {
+            let message = &message;
+            let read = Read::Message { direction, message };
+            take_read(alloc, standing, troubled, histories, entry, read)
+        }
+        Err(ReadError::Fault(fault)) => {
+            take_read(
+                alloc,
+                standing,
+                troubled,
+                histories,
+                entry,
+                Read::Fault(fault),
+            )
+        }
+        Err(ReadError::Memory) => Err(AllocError),
+    }
+}
+
+/// The same, where this is read of the entry.
+fn take_read<H: BuildHasher>(
+    alloc: Global,
+    standing: &mut Standing<H>,
+    troubled: &mut Troubled,
+    histories: &mut Histories,
+    entry: &Entry,
+    read: Read<'_, '_>,
+) -> Result<Option<Fault>, AllocError>
+    requires limit { entry.now.moment ≤ last_moment }
+    requires count { entry.now.number ≤ most_entries }
+    requires may { MayTake standing.old.book standing.old.tables entry.now.number entry.now.moment }
+    requires watched { AreWatched [] standing.old.tables troubled.old }
+    requires read { IsRead entry.now read }
+    ensures times { OnOk result (standing.new.tables.times ≡ standing.old.tables.times) }
+    ensures may { OnOk result (MayTake standing.new.book standing.new.tables (entry.now.number + 1) entry.now.moment) }
+    ensures watched { OnOk result (AreWatched [] standing.new.tables troubled.new) }
+    ensures keyless { OnOk result (ConcernsNone (item entry.now) → standing.new.book ≡ standing.old.book) }
+    ensures histories { OnOk result ((es : List (Observation KeyParts)) (e : Observation KeyParts) → AreHistories es histories.old → standing.old.tables.keys ≡ keys_in es
+        → entry.now.number ≡ length es + 1 → message_reading.Observes es (item entry.now) e → AreHistories (es ++ e ∷ []) histories.new) }
+    ensures taken { IfOk result (λ fault. (es : List (Observation KeyParts)) → IsFresh troubled.old → TablesSurvey standing.old.book es standing.old.tables troubled.old.deaf.items
+        → newest_moment es ≤ entry.now.moment
+        → (e : Observation KeyParts) × message_reading.Observes es (item entry.now) e × (e.fault ≡ fault) × (e.event.moment ≡ entry.now.moment)
+        × (standing.new.tables.keys ≡ keys_in (es ++ e ∷ []))
+        × ArePassing standing.new.book standing.old.tables.times es e (is_among []) standing.new.tables troubled.new) }
+{
+    let told = observe(alloc, &mut standing.book, entry, read)?;
     standing.book.known();
     match told {
         Told::Unheard => {
-            pass_each(
-                &mut standing.tables,
-                troubled,
-                &standing.book,
-                entry.moment,
-                None,
-            )?;
+            let book = Beside::of(&standing.book, None);
+            pass_each(&mut standing.tables, troubled, &book, entry.moment, None)?;
             Ok(None)
         }
         Told::Fault(fault) => {
-            pass_each(
-                &mut standing.tables,
-                troubled,
-                &standing.book,
-                entry.moment,
-                None,
-            )?;
+            let book = Beside::of(&standing.book, None);
+            pass_each(&mut standing.tables, troubled, &book, entry.moment, None)?;
             Ok(Some(fault))
         }
         Told::Restart => {
@@ -83,25 +124,35 @@ fn take<H: BuildHasher>(
             let event = Event::restart(entry.moment);
             let concerned = Concerned::All;
             let hearing = Hearing { event, concerned };
+            let book = Beside::of(&standing.book, None);
             pass_each(
                 &mut standing.tables,
                 troubled,
-                &standing.book,
+                &book,
                 entry.moment,
                 Some(&hearing),
             )?;
             Ok(None)
         }
-        Told::Heard { event, concerned } => {
+        Told::Heard {
+            event,
+            concerned,
+            message,
+        } => {
             let concerned = touch_each(&mut standing.tables, concerned)?;
             troubled.grow(standing.tables.len())?;
             histories.note_each(alloc, concerned, entry)?;
             standing.tables.known();
             let hearing = Hearing { event, concerned };
+            let heard = Heard {
+                number: event.number(),
+                message,
+            };
+            let book = Beside::of(&standing.book, Some(heard));
             pass_each(
                 &mut standing.tables,
                 troubled,
-                &standing.book,
+                &book,
                 entry.moment,
                 Some(&hearing),
             )?;

@@ -1,35 +1,52 @@
 //! What an entry of a log says to the judge.
-ghost use Rattle.std.specs.Prelude.{◌≤◌, ◌<◌, ◌≡◌, ℕ, List, IfOk, OnErr};
+ghost use Rattle.std.specs.Prelude.{◌≤◌, ◌<◌, ◌≡◌, ℕ, Some, List, IfOk, OnErr};
 ghost use Rattle.sip_standard.specs.Times.{last_moment};
 ghost use Rattle.sip_machine.specs.Texts.{Keeps};
 ghost use Rattle.sip_standard.specs.Key.{KeyParts};
+ghost use Rattle.sip_message.specs.Reads.{Reads};
 ghost use Rattle.sip_message.specs.SaidOf.{said_of};
 ghost use Rattle.sip_log.specs.Told.{item};
 ghost use Rattle.sip_standard.specs.Observation.{Observation, direction_of};
 ghost use Rattle.sip_verdict.specs.MessageReading.{message_reading};
-ghost use Rattle.sip_verdict.specs.inner.Observing.{AreKeysOf, IsObserved, IsKept, IsHeard, silent_told};
+ghost use Rattle.sip_verdict.specs.inner.Observing.{AreKeysOf, IsObserved, IsKept, IsHeard, IsRead, silent_told};
 
 use crate::concerned::Concerned;
 use sip_key::{Direction, Key, KeyError, cancelled_key, key_of};
 use sip_log::Entry;
 use sip_machine::{Action, Book, Event};
-use sip_message::{Message, ReadError};
+use sip_message::Message;
 use sip_standard::{Fault, Reason, Unit};
 use std::alloc::{AllocError, Global};
 
+/// What is read of an entry.
+#[derive(Clone, Copy)]
+pub(crate) enum Read<'a, 'b> {
+    /// Nothing, as it has no message.
+    Nothing,
+    /// This fault of its message.
+    Fault(Fault),
+    /// Its message, which went this way.
+    Message {
+        direction: Direction,
+        message: &'a Message<'b>,
+    },
+}
+
 /// What an entry says to the judge.
 #[derive(Drop)]
-pub(crate) enum Told {
+pub(crate) enum Told<'a, 'b> {
     /// Nothing that a transaction hears: a mark, or a message that concerns none and is not kept. Its moment was reached.
     Unheard,
     /// The message has this fault.
     Fault(Fault),
     /// A restart of the element, which concerns every transaction so far.
     Restart,
-    /// The event of a message that is kept in the book, and the keys of the transactions that it concerns, one at least.
+    /// The event of a message that is kept in the book, the keys of the transactions that it concerns, one at least, and the
+    /// message.
     Heard {
         event: Event,
         concerned: Concerned<Key>,
+        message: &'a Message<'b>,
     },
 }
 
@@ -69,7 +86,7 @@ fn keys_of(
 }
 
 /// What an entry without a message says.
-fn told_without_message(action: Action) -> Told
+fn told_without_message<'a, 'b>(action: Action) -> Told<'a, 'b>
     ensures { result ≡ silent_told action }
 {
     match action {
@@ -78,25 +95,51 @@ fn told_without_message(action: Action) -> Told
     }
 }
 
-/// Reads the message of an entry, and keeps it in the book if it concerns a transaction. The book is as before on an error.
-pub(crate) fn observe(alloc: Global, book: &mut Book, entry: &Entry) -> Result<Told, AllocError>
+/// What an entry says of which this is read. Its message is kept in the book if it concerns a transaction. The book is as before on
+/// an error.
+pub(crate) fn observe<'a, 'b>(
+    alloc: Global,
+    book: &mut Book,
+    entry: &Entry,
+    read: Read<'a, 'b>,
+) -> Result<Told<'a, 'b>, AllocError>
     requires limit { entry.now.moment ≤ last_moment }
     requires numbered { (n : ℕ) → Keeps book.old n → n < entry.now.number }
+    requires read { IsRead entry.now read }
     ensures observed { IfOk result (λ told. (es : List (Observation KeyParts)) → (e : Observation KeyParts) × message_reading.Observes es (item entry.now) e
         × IsObserved book.new es (item entry.now) told e) }
     ensures heard { IfOk result (IsHeard book.new entry.now.moment) }
     ensures kept { IfOk result (IsKept book.old book.new entry.now) }
     ensures err { OnErr result (book.new ≡ book.old) }
 {
-    let Some(direction) = direction_of(entry.action) else {
-        return Ok(told_without_message(entry.action));
-    };
-    let message = match Message::read(alloc, entry.bytes.as_slice()) {
-        Ok(message) => message,
-        Err(ReadError::Fault(fault)) => return Ok(Told::Fault(fault)),
-        Err(ReadError::Memory) => return Err(AllocError),
-    };
-    let concerned = match keys_of(alloc, &message, direction) {
+    match read {
+        Read::Nothing => Ok(told_without_message(entry.action)),
+        Read::Fault(fault) => Ok(Told::Fault(fault)),
+        Read::Message { direction, message } => {
+            observe_message(alloc, book, entry, direction, message)
+        }
+    }
+}
+
+/// The same for an entry whose message went this way.
+fn observe_message<'a, 'b>(
+    alloc: Global,
+    book: &mut Book,
+    entry: &Entry,
+    direction: Direction,
+    message: &'a Message<'b>,
+) -> Result<Told<'a, 'b>, AllocError>
+    requires limit { entry.now.moment ≤ last_moment }
+    requires numbered { (n : ℕ) → Keeps book.old n → n < entry.now.number }
+    requires goes { direction_of entry.now.action ≡ Some direction }
+    requires reads { Reads entry.now.bytes.items message.now }
+    ensures observed { IfOk result (λ told. (es : List (Observation KeyParts)) → (e : Observation KeyParts) × message_reading.Observes es (item entry.now) e
+        × IsObserved book.new es (item entry.now) told e) }
+    ensures heard { IfOk result (IsHeard book.new entry.now.moment) }
+    ensures kept { IfOk result (IsKept book.old book.new entry.now) }
+    ensures err { OnErr result (book.new ≡ book.old) }
+{
+    let concerned = match keys_of(alloc, message, direction) {
         Ok(concerned) => concerned,
         Err(KeyError::NoCookie) => return Ok(Told::Fault(NO_COOKIE)),
         Err(KeyError::Memory) => return Err(AllocError),
@@ -105,7 +148,11 @@ pub(crate) fn observe(alloc: Global, book: &mut Book, entry: &Entry) -> Result<T
         return Ok(Told::Unheard);
     }
     let number = book.add(entry.number, entry.bytes.as_slice())?;
-    book.keep_to(number, &message);
-    let event = Event::of(entry.moment, entry.action, number, &message);
-    Ok(Told::Heard { event, concerned })
+    book.keep_to(number, message);
+    let event = Event::of(entry.moment, entry.action, number, message);
+    Ok(Told::Heard {
+        event,
+        concerned,
+        message,
+    })
 }

@@ -18,7 +18,7 @@ ghost use Rattle.sip_verdict.specs.inner.Tracking.{IsReady, IsOutcome, overdue_o
 ghost use Rattle.sip_verdict.specs.inner.TablesTracking.{LeadsOf, StandsOf, key_keeping, transactions_of, hearers, AreTold, MayPass, MayHear, AreHearers, AreOnRecord, AreOnRecordIf, HearsOne, HearsEach};
 
 use crate::concerned::Concerned;
-use sip_machine::{Book, Event};
+use sip_machine::{Beside, Event};
 use sip_states::{AnySet, Tables, TakeError};
 use std::alloc::AllocError;
 use std::hash::BuildHasher;
@@ -61,7 +61,11 @@ impl Outcome {
 }
 
 /// Lets the set take the event of its key.
-pub(crate) fn hear(set: &mut AnySet, book: &Book, event: &Event) -> Result<Fate, AllocError>
+pub(crate) fn hear(
+    set: &mut AnySet,
+    book: &Beside<'_, '_>,
+    event: &Event,
+) -> Result<Fate, AllocError>
     requires order { moment_of set.old ≤ event.now.moment }
     requires fits { FitsBook book.now event.now }
     requires known { IsKnownSet book.now set.old }
@@ -82,7 +86,7 @@ pub(crate) fn hear(set: &mut AnySet, book: &Book, event: &Event) -> Result<Fate,
 /// Lets the transaction with this number hear the event, and puts on record until when it can wait then.
 fn hear_one<H: BuildHasher>(
     tables: &mut Tables<H>,
-    book: &Book,
+    book: &Beside<'_, '_>,
     number: u32,
     event: &Event,
 ) -> Result<Outcome, AllocError>
@@ -107,7 +111,7 @@ fn hear_one<H: BuildHasher>(
 /// Lets the transactions with these numbers hear the event, and adds what is left of them to what is left of others.
 fn hear_all<H: BuildHasher>(
     tables: &mut Tables<H>,
-    book: &Book,
+    book: &Beside<'_, '_>,
     numbers: &[u32],
     event: &Event,
     others: Outcome,
@@ -130,7 +134,7 @@ fn hear_all<H: BuildHasher>(
 /// Lets every transaction pass a restart of the element. Those that are quiet do not change, and are not visited.
 fn restart<H: BuildHasher>(
     tables: &mut Tables<H>,
-    book: &Book,
+    book: &Beside<'_, '_>,
     event: &Event,
     others: Outcome,
 ) -> Result<Outcome, AllocError>
@@ -150,7 +154,7 @@ fn restart<H: BuildHasher>(
 /// Lets each transaction that the event concerns hear it, and adds what is left of them to what is left of others.
 fn hear_each<H: BuildHasher>(
     tables: &mut Tables<H>,
-    book: &Book,
+    book: &Beside<'_, '_>,
     hearing: &Hearing,
     others: Outcome,
 ) -> Result<Outcome, AllocError>
@@ -186,7 +190,7 @@ fn overdue<H: BuildHasher>(tables: &Tables<H>, moment: u64) -> Outcome
 /// Lets every transaction pass the entry: those that it concerns hear the event, and the others wait.
 pub(crate) fn pass_all<H: BuildHasher>(
     tables: &mut Tables<H>,
-    book: &Book,
+    book: &Beside<'_, '_>,
     moment: u64,
     hearing: Option<&Hearing>,
 ) -> Result<Outcome, AllocError>

@@ -15,7 +15,7 @@ ghost use Rattle.sip_verdict.specs.inner.Surveying.{AreConcerned, ArePassing, Ar
 use crate::concerned::Concerned;
 use crate::passing::{Fate, Hearing, hear};
 use crate::troubled::Troubled;
-use sip_machine::{Book, Event};
+use sip_machine::{Beside, Event};
 use sip_states::Tables;
 use std::alloc::AllocError;
 use std::hash::BuildHasher;
@@ -24,7 +24,7 @@ use std::hash::BuildHasher;
 fn hear_or_release<H: BuildHasher>(
     tables: &mut Tables<H>,
     troubled: &mut Troubled,
-    book: &Book,
+    book: &Beside<'_, '_>,
     number: u32,
     event: &Event,
 ) -> Result<(), AllocError>
@@ -61,7 +61,7 @@ fn hear_or_release<H: BuildHasher>(
 fn hear_numbers<H: BuildHasher>(
     tables: &mut Tables<H>,
     troubled: &mut Troubled,
-    book: &Book,
+    book: &Beside<'_, '_>,
     numbers: &[u32],
     event: &Event,
 ) -> Result<(), AllocError>
@@ -85,7 +85,7 @@ fn hear_numbers<H: BuildHasher>(
 fn restart<H: BuildHasher>(
     tables: &mut Tables<H>,
     troubled: &mut Troubled,
-    book: &Book,
+    book: &Beside<'_, '_>,
     event: &Event,
 ) -> Result<(), AllocError>
     requires long { length troubled.old.deaf.items ≡ length tables.old.keys }
@@ -108,7 +108,7 @@ fn restart<H: BuildHasher>(
 fn hear_each<H: BuildHasher>(
     tables: &mut Tables<H>,
     troubled: &mut Troubled,
-    book: &Book,
+    book: &Beside<'_, '_>,
     hearing: &Hearing,
 ) -> Result<(), AllocError>
     requires hear { MayHear book.now tables.old hearing.now.event.moment hearing.now }
@@ -160,7 +160,7 @@ fn release_overdue<H: BuildHasher>(
 pub(crate) fn pass_each<H: BuildHasher>(
     tables: &mut Tables<H>,
     troubled: &mut Troubled,
-    book: &Book,
+    book: &Beside<'_, '_>,
     moment: u64,
     hearing: Option<&Hearing>,
 ) -> Result<(), AllocError>

@@ -3,7 +3,8 @@ ghost use Rattle.std.specs.Prelude.{◌≡◌, ◌≢◌, ◌≤◌, ◌<◌, �
 ghost use Rattle.std.specs.Option.{ForSome, option_copied};
 ghost use Rattle.sip_standard.specs.Key.{KeyParts};
 ghost use Rattle.sip_standard.specs.Times.{last_moment};
-ghost use Rattle.sip_machine.specs.Texts.{Keeps};
+ghost use Rattle.sip_machine.specs.Texts.{Keeps, text_of};
+ghost use Rattle.sip_message.specs.Reads.{Reads};
 ghost use Rattle.sip_states.specs.Tables.{HasNumber, IsGiven, due_of, most_keys};
 ghost use Rattle.sip_standard.specs.LogSays.{most_entries};
 ghost use Rattle.sip_standard.specs.LogEntry.{Item};
@@ -18,18 +19,20 @@ ghost use Rattle.sip_verdict.specs.ListingOf.{key_words};
 ghost use Rattle.sip_verdict.specs.inner.Concerned.{each, is_all, listed, up_to};
 ghost use Rattle.sip_verdict.specs.inner.Numbering.{AreNumbered, StaysNumbered, IsListedEntry, Appends, IsTextOf};
 ghost use Rattle.sip_verdict.specs.Surveys.{IsStillNamed};
+ghost use Rattle.sip_verdict.specs.inner.Observing.{IsRead};
 ghost use Rattle.sip_verdict.specs.inner.Surveying.{TablesSurvey};
 ghost use Rattle.sip_verdict.specs.inner.Tracking.{IsJudged};
 ghost use Rattle.sip_verdict.specs.inner.TablesTracking.{key_keeping, transactions_of, TablesTrack, TablesTrackBefore, AreTold, TouchesEach, HaveNumbers, hearers, MayPass, MayHear, AreOnRecord, AllAreOnRecord, MayTake};
 
 use crate::concerned::Concerned;
 use crate::listing::Listing;
-use crate::observing::{Told, observe};
+use crate::observing::{Read, Told, direction_of, observe};
 use crate::passing::{Hearing, Outcome, pass_all};
 use sip_key::Key;
 use sip_listing::push_transaction;
 use sip_log::Entry;
-use sip_machine::{Book, Event, Params};
+use sip_machine::{Beside, Book, Event, Heard, Params};
+use sip_message::{Message, ReadError};
 use sip_standard::Verdict;
 use sip_states::Tables;
 use std::alloc::{AllocError, Global};
@@ -123,15 +126,17 @@ impl<H: BuildHasher> Standing<H> {
         Ok(())
     }
 
-    /// Lets every transaction pass the entry, with the verdict if one is in trouble.
+    /// Lets every transaction pass the entry, whose message is the one that was heard, with the verdict if one is in trouble.
     fn pass(
         &mut self,
         number: u32,
         moment: u64,
         hearing: Option<&Hearing>,
+        heard: Option<Heard<'_, '_>>,
     ) -> Result<Option<Verdict>, AllocError>
         requires may { MayPass self.old.book self.old.tables moment }
         requires hear { ForSome hearing (λ h. MayHear self.old.book self.old.tables moment h.now) }
+        requires heard { ForSome heard (λ h. Reads (text_of self.old.book h.number) h.message.now) }
         requires recorded { AreOnRecord (hearers (option_copied hearing)) self.old.tables }
         ensures times { OnOk result (self.new.tables.times ≡ self.old.tables.times) }
         ensures keys { OnOk result (self.new.tables.keys ≡ self.old.tables.keys) }
@@ -143,7 +148,8 @@ impl<H: BuildHasher> Standing<H> {
             → TablesTrackBefore self.old.book es e self.old.tables → number ≡ length es + 1
             → IsJudged (key_machines self.old.tables.times) (key_keeping self.new.book self.old.tables.times) es e (transactions_of self.new.tables) verdict) }
     {
-        let outcome = pass_all(&mut self.tables, &self.book, moment, hearing)?;
+        let book = Beside::of(&self.book, heard);
+        let outcome = pass_all(&mut self.tables, &book, moment, hearing)?;
         Ok(match outcome {
             Outcome::Fine => None,
             Outcome::NoRun(transaction) => Some(Verdict::Breach {
@@ -212,11 +218,46 @@ impl<H: BuildHasher> Standing<H> {
             × IsJudged (key_machines self.old.tables.times) (key_keeping self.new.book self.old.tables.times) es e (transactions_of self.new.tables) taken.verdict
             × HaveNumbers self.new.tables.keys (listed (length self.new.tables.keys) taken.concerned) e.keys) }
     {
-        let told = observe(alloc, &mut self.book, entry)?;
+        let Some(direction) = direction_of(entry.action) else {
+            return self.take_read(alloc, entry, Read::Nothing);
+        };
+        match Message::read(alloc, entry.bytes.as_slice()) {
+            Ok(message) => {
+                let message = &message;
+                self.take_read(alloc, entry, Read::Message { direction, message })
+            }
+            Err(ReadError::Fault(fault)) => self.take_read(alloc, entry, Read::Fault(fault)),
+            Err(ReadError::Memory) => Err(AllocError),
+        }
+    }
+
+    /// The same, where this is read of the entry.
+    fn take_read(
+        &mut self,
+        alloc: Global,
+        entry: &Entry,
+        read: Read<'_, '_>,
+    ) -> Result<Taken, AllocError>
+        requires limit { entry.now.moment ≤ last_moment }
+        requires count { entry.now.number ≤ most_entries }
+        requires may { MayTake self.old.book self.old.tables entry.now.number entry.now.moment }
+        requires read { IsRead entry.now read }
+        ensures times { OnOk result (self.new.tables.times ≡ self.old.tables.times) }
+        ensures may { IfOk result (λ taken. IfNone taken.verdict (MayTake self.new.book self.new.tables (entry.now.number + 1) entry.now.moment)) }
+        ensures numbered { IfOk result (λ taken. IfNone taken.verdict (StaysNumbered (item entry.now) entry.now.number self.old.book self.new.book)) }
+        ensures given { IfOk result (λ taken. All (IsGiven self.new.tables) (each taken.concerned)) }
+        ensures keyless { OnOk result (ConcernsNone (item entry.now) → self.new.book ≡ self.old.book) }
+        ensures judged { IfOk result (λ taken. (es : List (Observation KeyParts)) → TablesTrack self.old.book es self.old.tables
+            → entry.now.number ≡ length es + 1 → newest_moment es ≤ entry.now.moment
+            → (e : Observation KeyParts) × message_reading.Observes es (item entry.now) e
+            × IsJudged (key_machines self.old.tables.times) (key_keeping self.new.book self.old.tables.times) es e (transactions_of self.new.tables) taken.verdict
+            × HaveNumbers self.new.tables.keys (listed (length self.new.tables.keys) taken.concerned) e.keys) }
+    {
+        let told = observe(alloc, &mut self.book, entry, read)?;
         self.book.known();
         match told {
             Told::Unheard => {
-                let verdict = self.pass(entry.number, entry.moment, None)?;
+                let verdict = self.pass(entry.number, entry.moment, None, None)?;
                 Ok(Taken {
                     verdict,
                     concerned: Concerned::None,
@@ -234,14 +275,22 @@ impl<H: BuildHasher> Standing<H> {
                 let event = Event::restart(entry.moment);
                 let concerned = Concerned::All;
                 let hearing = Hearing { event, concerned };
-                let verdict = self.pass(entry.number, entry.moment, Some(&hearing))?;
+                let verdict = self.pass(entry.number, entry.moment, Some(&hearing), None)?;
                 Ok(Taken { verdict, concerned })
             }
-            Told::Heard { event, concerned } => {
+            Told::Heard {
+                event,
+                concerned,
+                message,
+            } => {
                 let concerned = touch_each(&mut self.tables, concerned)?;
                 self.tables.known();
                 let hearing = Hearing { event, concerned };
-                let verdict = self.pass(entry.number, entry.moment, Some(&hearing))?;
+                let heard = Heard {
+                    number: event.number(),
+                    message,
+                };
+                let verdict = self.pass(entry.number, entry.moment, Some(&hearing), Some(heard))?;
                 Ok(Taken { verdict, concerned })
             }
         }

@@ -5,7 +5,7 @@ ghost use Rattle.sip_machine.specs.Texts.{Keeps};
 ghost use Rattle.sip_machine.specs.Owing.{owing_names};
 ghost use Rattle.sip_machine.specs.inner.InviteServer.{invite_server_names};
 
-use sip_machine::{Action, Book, Event, InviteServer, Params};
+use sip_machine::{Action, Beside, Book, Event, InviteServer, Params};
 use sip_message::Message;
 use sip_states::{StateSet, TakeError};
 use std::alloc::{AllocError, Global};
@@ -119,7 +119,7 @@ pub(crate) fn take(
     };
     let message = Message::read(alloc, bytes)?;
     let event = Event::of(moment, action, number, &message);
-    Ok(set.take(book, &event))
+    Ok(set.take(&Beside::of(book, None), &event))
 }
 
 /// Lets the set take the entries, and gives the moment of the last one.

@@ -8,7 +8,7 @@ ghost use Rattle.sip_machine.specs.Texts.{Keeps};
 ghost use Rattle.sip_standard.specs.Times.{last_moment};
 
 use crate::wants::{holds, is};
-use sip_machine::{Action, Book, Event, Params, PlainClient};
+use sip_machine::{Action, Beside, Book, Event, Params, PlainClient};
 use sip_message::Message;
 use sip_states::{StateSet, TakeError};
 use std::alloc::Global;
@@ -41,7 +41,7 @@ fn take(set: &mut StateSet<PlainClient>, book: &Book, event: &Event) -> Result<(
     ensures order { set.new.moment ≤ event.now.moment }
     ensures known { All (Knows (owing_names plain_client_names) book.now) set.new.states }
 {
-    set.take(book, event)
+    set.take(&Beside::of(book, None), event)
 }
 
 /// The set takes the request with this number, as it is sent at the moment.

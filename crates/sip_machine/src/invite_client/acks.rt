@@ -1,14 +1,15 @@
-//! Which response an ACK is for: the INVITE and the ACK of the `Book` are read anew, and tell all but the response,
-//! which is told by its To alone.
-ghost use Rattle.std.specs.Prelude.{◌≡◌, ◌≢◌, ◌<◌, ◌≤◌, [], IfOk, All, length};
+//! Which response an ACK is for: the INVITE is read anew, and with the ACK tells all but the response, which is told by its
+//! To alone.
+ghost use Rattle.std.specs.Prelude.{◌≡◌, ◌≢◌, ◌<◌, ◌≤◌, [], ℕ, List, IfOk, All, length};
+ghost use Rattle.sip_message.specs.Reads.{Reads};
 ghost use Rattle.sip_ledger.specs.Runs.{debts_in};
 ghost use Rattle.sip_machine.specs.Owes.{owed_in, owes_names};
 ghost use Rattle.sip_machine.specs.Texts.{Keeps, text_of};
-ghost use Rattle.sip_machine.specs.inner.Acks.{HasTo, PaysDebt};
+ghost use Rattle.sip_machine.specs.inner.Acks.{HasTo, IsAckedBy, PaysDebt};
 ghost use Rattle.sip_machine.specs.inner.Paying.{FindsFirst};
 ghost use Rattle.sip_machine.specs.inner.Tos.{HoldsBetween};
 
-use crate::book::Book;
+use crate::beside::Beside;
 use crate::dues::Dues;
 use crate::event::Event;
 use crate::hashed::Hashed;
@@ -16,13 +17,14 @@ use crate::paying::payable;
 use crate::tos::Holder::{self, Nobody, One, Unknown};
 use sip_key::{is_ack_for, solid_of};
 use sip_ledger::Run;
+use sip_message::Message;
 use std::alloc::{AllocError, Global};
 
 /// The message of the first debt of the row that is a response to the INVITE that the event's message is the ACK for
 /// (RFC 3261, section 17.1.1.3), and whose deadline has not passed; None if there is none.
 pub(crate) fn first_acked(
     alloc: Global,
-    book: &Book,
+    book: &Beside<'_, '_>,
     request: u32,
     event: &Event,
     dues: &mut Dues,
@@ -38,25 +40,55 @@ pub(crate) fn first_acked(
     if dues.owes_nothing(row) {
         return Ok(None);
     }
-    let Some(ack) = book.message(alloc, event.number())? else {
-        return Ok(None);
-    };
     let Some(invite) = book.message(alloc, request)? else {
         return Ok(None);
     };
-    if !is_ack_for(&ack, &invite) {
+    let Some(to) = to_acked(alloc, book, event.number(), &invite)? else {
+        return Ok(None);
+    };
+    first_with_to(alloc, book, &to, event.moment(), dues, row)
+}
+
+/// The To of the responses that the message with this number is the ACK for, if it is one for responses to the INVITE. It is
+/// read anew where it was not read already.
+fn to_acked(
+    alloc: Global,
+    book: &Beside<'_, '_>,
+    number: u32,
+    invite: &Message<'_>,
+) -> Result<Option<Hashed>, AllocError>
+    requires { Keeps book.now number }
+    ensures { IfOk result (λ to. (request : List ℕ) → Reads request invite.now → IsAckedBy (text_of book.now number) request to) }
+{
+    if let Some(ack) = book.read(number) {
+        return to_of_ack(alloc, ack, invite);
+    }
+    match book.message(alloc, number)? {
+        Some(ack) => to_of_ack(alloc, &ack, invite),
+        None => Ok(None),
+    }
+}
+
+/// The To of the ACK, from which the blanks were taken, if it is one for responses to the INVITE.
+fn to_of_ack(
+    alloc: Global,
+    ack: &Message<'_>,
+    invite: &Message<'_>,
+) -> Result<Option<Hashed>, AllocError>
+    ensures { IfOk result (λ to. (text request : List ℕ) → Reads text ack.now → Reads request invite.now → IsAckedBy text request to) }
+{
+    if !is_ack_for(ack, invite) {
         return Ok(None);
     }
     let to = solid_of(alloc, ack.to().whole)?;
-    let to = Hashed::of(to);
-    first_with_to(alloc, book, &to, event.moment(), dues, row)
+    Ok(Some(Hashed::of(to)))
 }
 
 /// The message of the first debt of the row that has this To, from which the blanks were taken, and whose deadline has not
 /// passed.
 fn first_with_to(
     alloc: Global,
-    book: &Book,
+    book: &Beside<'_, '_>,
     to: &Hashed,
     moment: u64,
     dues: &mut Dues,
@@ -86,7 +118,7 @@ const FEW: u32 = 8;
 /// there are many.
 fn holder(
     alloc: Global,
-    book: &Book,
+    book: &Beside<'_, '_>,
     to: &Hashed,
     low: u32,
     high: u32,
@@ -107,7 +139,7 @@ fn holder(
 /// The same for the debts of these runs, by a look at each in their order, in which their messages mostly came.
 fn first_of_runs(
     alloc: Global,
-    book: &Book,
+    book: &Beside<'_, '_>,
     to: &Hashed,
     runs: &[Run],
     moment: u64,

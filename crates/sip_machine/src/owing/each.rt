@@ -13,7 +13,7 @@ ghost use Rattle.sip_machine.specs.Owing.{CodeOwing, owing_seen, owing_names, Ow
 ghost use Rattle.sip_machine.specs.inner.Single.{AnswersOne};
 ghost use Rattle.sip_machine.specs.inner.Effects.{Leads, LeadsFrom, RestsFrom, led_by, unexpired_at};
 
-use crate::book::Book;
+use crate::beside::Beside;
 use crate::event::Event;
 use crate::limit::is_past;
 use crate::machine::Machine;
@@ -27,7 +27,7 @@ use std::alloc::{AllocError, Global};
 /// after the others.
 pub(crate) fn receives_each<M: Phases>(
     machine: &M,
-    book: &Book,
+    book: &Beside<'_, '_>,
     pool: &mut Pool<M::Phase>,
     count: usize,
     event: &Event,
@@ -48,7 +48,7 @@ pub(crate) fn receives_each<M: Phases>(
 /// The same of a message that is sent.
 pub(crate) fn sends_each<M: Phases>(
     machine: &M,
-    book: &Book,
+    book: &Beside<'_, '_>,
     pool: &mut Pool<M::Phase>,
     count: usize,
     event: &Event,
@@ -75,7 +75,7 @@ pub(crate) fn sends_each<M: Phases>(
 /// The same from states of one phase.
 fn sends_run<M: Phases>(
     machine: &M,
-    book: &Book,
+    book: &Beside<'_, '_>,
     pool: &mut Pool<M::Phase>,
     from: usize,
     to: usize,
@@ -100,7 +100,7 @@ fn sends_run<M: Phases>(
 /// The same of any event, one by one.
 pub(crate) fn steps_each<M: Phases>(
     machine: &M,
-    book: &Book,
+    book: &Beside<'_, '_>,
     pool: &mut Pool<M::Phase>,
     count: usize,
     event: &Event,
@@ -123,7 +123,7 @@ pub(crate) fn steps_each<M: Phases>(
 /// Puts after the states those to which the rows of the event lead from the first ones, as many.
 fn leads_each<M: Phases>(
     machine: &M,
-    book: &Book,
+    book: &Beside<'_, '_>,
     pool: &mut Pool<M::Phase>,
     count: usize,
     event: &Event,
@@ -149,7 +149,7 @@ fn leads_each<M: Phases>(
 /// The same from states of one phase.
 fn leads_run<M: Phases>(
     machine: &M,
-    book: &Book,
+    book: &Beside<'_, '_>,
     pool: &mut Pool<M::Phase>,
     from: usize,
     to: usize,
@@ -181,7 +181,7 @@ fn leads_run<M: Phases>(
 fn turn_of<M: Phases>(
     alloc: Global,
     machine: &M,
-    book: &Book,
+    book: &Beside<'_, '_>,
     phase: &M::Phase,
     event: &Event,
 ) -> Result<Option<Turn<M::Phase>>, AllocError>
@@ -213,7 +213,7 @@ fn turn_of<M: Phases>(
 /// Puts after the states those to which a message that is sent leads from states of one phase, and that leaves the phase as it is.
 fn rests_run<M: Phases>(
     machine: &M,
-    book: &Book,
+    book: &Beside<'_, '_>,
     pool: &mut Pool<M::Phase>,
     from: usize,
     to: usize,
@@ -246,7 +246,7 @@ fn rests_run<M: Phases>(
 /// The same, one by one.
 fn rests_rows<M: Phases>(
     machine: &M,
-    book: &Book,
+    book: &Beside<'_, '_>,
     pool: &mut Pool<M::Phase>,
     from: usize,
     to: usize,
@@ -271,7 +271,7 @@ fn rests_rows<M: Phases>(
 /// The same from one state.
 fn rests_row<M: Phases>(
     machine: &M,
-    book: &Book,
+    book: &Beside<'_, '_>,
     pool: &mut Pool<M::Phase>,
     at: usize,
     event: &Event,

@@ -25,7 +25,7 @@ use Rattle.sip_standard.specs.LogEntry.{Item}
 use Rattle.sip_verdict.specs.declared.concerned.Concerned.{Concerned}
 use Rattle.sip_verdict.specs.declared.concerned.Concerned.TheVariants as concerned
 use Rattle.sip_verdict.specs.declared.observing.Told.{Told}
-use Rattle.sip_verdict.specs.declared.observing.Told.TheVariants.{Unheard, Heard}
+use Rattle.sip_verdict.specs.declared.observing.Told.TheVariants.{Unheard}
 use Rattle.sip_verdict.specs.declared.observing.Told.TheVariants as told
 use Rattle.sip_standard.specs.declared.verdict.Verdict.{Verdict}
 use Rattle.sip_standard.specs.Observation.{Observation}
@@ -212,7 +212,7 @@ module _ (verdict : Option Verdict) (old mid last : Texts) (number : ℕ) (bytes
   -- a message that is heard
   pub heard_judged : (event : NumberedEvent) (concerned : Concerned KeyParts) (numbers : Concerned ℕ) (t u v : Tabled) → length t.sets ≡ length t.keys → TouchesEach (each concerned) (each numbers) t u
       → AllPairs (λ a b. a ≢ b) u.keys → v.keys ≡ u.keys → event.moment ≡ moment → is_all numbers ≡ false
-      → Tells (Heard event concerned)
+      → ((es : List (Observation KeyParts)) → (e : Observation KeyParts) × message_reading.Observes es i e × (e ≡ record { fault = None; event = event_in mid event; keys = each concerned }))
       → ((es : List (Observation KeyParts)) (e : Observation KeyParts) → e.fault ≡ None → newest_moment es ≤ moment
       → AreTold mid u.keys moment (Some (record { event = event; concerned = numbers })) e → TablesTrackBefore mid es e u → count ≡ length es + 1
       → IsJudged (key_machines u.times) (key_keeping last u.times) es e (transactions_of v) verdict)

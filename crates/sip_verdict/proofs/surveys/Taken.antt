@@ -137,7 +137,8 @@ module _ (old mid : Texts) (number : ℕ) (bytes : List ℕ) (grown : IsGrown ol
   -- a message that is heard
   pub heard_taken : (event : NumberedEvent) (concerned : Concerned KeyParts) (numbers : Concerned ℕ) (t w u : Tabled) (b d c : Troubled) (more : List Bool) → length b.deaf.items ≡ length t.keys → length t.sets ≡ length t.keys → IsFresh b
       → d.deaf.items ≡ b.deaf.items ++ more → All (λ x. x ≡ false) more → d.broken.items ≡ b.broken.items → d.wide.items ≡ b.wide.items
-      → TouchesEach (each concerned) (each numbers) t w → AllPairs (λ x y. x ≢ y) w.keys → u.keys ≡ w.keys → event.moment ≡ moment → is_all numbers ≡ false → Tells (told.Heard event concerned)
+      → TouchesEach (each concerned) (each numbers) t w → AllPairs (λ x y. x ≢ y) w.keys → u.keys ≡ w.keys → event.moment ≡ moment → is_all numbers ≡ false
+      → ((es : List (Observation KeyParts)) → (e : Observation KeyParts) × message_reading.Observes es i e × (e ≡ record { fault = None; event = event_in mid event; keys = each concerned }))
       → Passes mid moment (Some (record { event = event; concerned = numbers })) w d u c → (es : List (Observation KeyParts)) → TablesSurvey old es t b.deaf.items → newest_moment es ≤ moment
       → IsTaken mid t.times es i moment None u c
   heard_taken event concerned numbers t w u b d c more long sets fresh deaf false_all broken wide touched apart keys now some tells passes es tracks late =

@@ -1,7 +1,8 @@
-use Rattle.std.specs.Prelude.{◌≡◌, ◌≢◌, ◌⊎◌, ◌++◌, ◌∷◌, [], ℕ, true, false, List, None, AllPairs, Result, Ok, Err, ⊤}
+use Rattle.std.specs.Prelude.{◌≡◌, ◌≢◌, ◌⊎◌, ◌++◌, ◌∷◌, [], ℕ, true, false, List, None, Some, AllPairs, Result, Ok, Err, ⊤}
 use Rattle.sip_machine.specs.Texts.{Texts, Keeps, text_of}
 use Rattle.sip_machine.specs.NumberedEvent.{event_in, FitsBook}
-use Rattle.sip_standard.specs.Says.{Said}
+use Rattle.sip_standard.specs.Outcome.{stops}
+use Rattle.sip_standard.specs.Says.{Said, Says}
 use Rattle.sip_standard.specs.Key.{KeyParts}
 use Rattle.sip_standard.specs.Concerns.{Concerns, lacks_cookie}
 use Rattle.sip_standard.specs.declared.role.Direction.{Direction}
@@ -13,9 +14,12 @@ use Rattle.sip_log.specs.Told.{item}
 use Rattle.sip_standard.specs.declared.action.Action.{Action}
 use Rattle.sip_standard.specs.declared.action.Action.TheVariants as action
 use Rattle.sip_verdict.specs.declared.concerned.Concerned.{Concerned}
+use Rattle.sip_message.specs.Reads.{Reads}
+use Rattle.sip_verdict.specs.declared.observing.Read.{Read}
+use Rattle.sip_verdict.specs.declared.observing.Read.TheVariants as read
 use Rattle.sip_verdict.specs.declared.observing.Told.{Told}
 use Rattle.sip_verdict.specs.declared.observing.Told.TheVariants.{Unheard, Fault, Restart, Heard}
-use Rattle.sip_standard.specs.Observation.{Observation, fault_observation, silent_observation}
+use Rattle.sip_standard.specs.Observation.{Observation, fault_observation, silent_observation, direction_of}
 use Rattle.sip_standard.specs.VerdictOf.{keys_in}
 use Rattle.sip_verdict.specs.Listing.{has_message}
 use Rattle.sip_verdict.specs.MessageReading.{ConcernsNone}
@@ -28,6 +32,12 @@ abbrev pub AreKeysOf : Said → Direction → Result (Concerned KeyParts) KeyErr
 AreKeysOf s direction (Ok concerned) = (lacks_cookie s direction ≡ false) × Concerns s direction (each concerned) × AllPairs (λ a b. a ≢ b) (each concerned) × (is_all concerned ≡ false)
 AreKeysOf s direction (Err error.NoCookie) = lacks_cookie s direction ≡ true
 AreKeysOf s direction (Err error.Memory) = ⊤
+
+-- this is read of an entry: nothing where it has no message, else its message or the fault of it
+abbrev pub IsRead : Entry → Read → Type 0
+IsRead entry read.Nothing = direction_of entry.action ≡ None
+IsRead entry (read.Fault fault) = (direction : Direction) × (direction_of entry.action ≡ Some direction) × Says entry.bytes.items (stops fault)
+IsRead entry (read.Message direction message) = (direction_of entry.action ≡ Some direction) × Reads entry.bytes.items message.now
 
 -- a mark tells its moment and concerns no key
 abbrev pub mark_observation : ℕ → Observation KeyParts
@@ -47,21 +57,22 @@ abbrev pub IsObserved : Texts → List (Observation KeyParts) → Item → Told 
 IsObserved texts es i Unheard e = (e.fault ≡ None) × (e.event.moment ≡ i.moment) × (e.keys ≡ [])
 IsObserved texts es i (Fault fault) e = e ≡ fault_observation i fault
 IsObserved texts es i Restart e = e ≡ restart_observation i.moment (keys_in es)
-IsObserved texts es i (Heard event concerned) e = e ≡ record { fault = None; event = event_in texts event; keys = each concerned }
+IsObserved texts es i (Heard event concerned message) e = e ≡ record { fault = None; event = event_in texts event; keys = each concerned }
 
--- an event that is told is of this moment, the book keeps its message, and its keys differ
+-- an event that is told is of this moment, the book keeps its message, which is read so, and its keys differ
 abbrev pub IsHeard : Texts → ℕ → Told → Type 0
 IsHeard texts moment Unheard = ⊤
 IsHeard texts moment (Fault fault) = ⊤
 IsHeard texts moment Restart = ⊤
-IsHeard texts moment (Heard event concerned) =
+IsHeard texts moment (Heard event concerned message) =
     FitsBook texts event × (event.moment ≡ moment) × AllPairs (λ a b. a ≢ b) (each concerned) × (is_all concerned ≡ false)
+    × Reads (text_of texts event.number) message.now
 
 -- the book keeps the entry's message if it is heard, which concerns some key, under the event's number, and nothing else is kept or lost
 abbrev pub IsKept : Texts → Texts → Entry → Told → Type 0
 IsKept old new entry Unheard = new ≡ old
 IsKept old new entry (Fault fault) = new ≡ old
 IsKept old new entry Restart = (new ≡ old) × ConcernsNone (item entry)
-IsKept old new entry (Heard event concerned) =
+IsKept old new entry (Heard event concerned message) =
     (has_message entry.action ≡ true) × ¬ ConcernsNone (item entry) × Keeps new event.number × (text_of new event.number ≡ entry.bytes.items)
     × ((new ≡ old) ⊎ (new ≡ old ++ (entry.number, entry.bytes.items) ∷ []))

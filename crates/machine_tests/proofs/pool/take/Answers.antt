@@ -7,7 +7,7 @@ use Rattle.machine_tests.proofs.pool.take.Goals as goal
 pub returns-then-len-count-clause-known : goal.returns-then-len-count-clause-known
 returns-then-len-count-clause-known g c =
     let first = g.M.Machine.first c.args.machine.now in
-    let ok = c.in_ok-successors.ensures.ok first in
+    let ok = (rw c.of.ensures at c.in_ok-successors.ensures.ok) first in
     let count = c.len-count.result in
     let given = c.successors.new.pool in
     let low : count < length given = omega (arith, c.if-len-count.true, c.len.ensures) in
@@ -17,7 +17,7 @@ returns-then-len-count-clause-known g c =
 pub returns-then-len-count-clause-in_range : goal.returns-then-len-count-clause-in_range
 returns-then-len-count-clause-in_range g c =
     let first = g.M.Machine.first c.args.machine.now in
-    let ok = c.in_ok-successors.ensures.ok first in
+    let ok = (rw c.of.ensures at c.in_ok-successors.ensures.ok) first in
     let count = c.len-count.result in
     let given = c.successors.new.pool in
     let low : count < length given = omega (arith, c.if-len-count.true, c.len.ensures) in
@@ -26,10 +26,10 @@ returns-then-len-count-clause-in_range g c =
 
 pub returns-else-len-count-clause-known : goal.returns-else-len-count-clause-known
 returns-else-len-count-clause-known g c =
-    let ok = c.in_ok-successors.ensures.ok (g.M.Machine.first c.args.machine.now) in
+    let ok = (rw c.of.ensures at c.in_ok-successors.ensures.ok) (g.M.Machine.first c.args.machine.now) in
     rw ok.1 (All-append (Knows g.M.Machine.names c.args.book.now) c.args.pool.now ok.0 c.requires.known ok.2.known)
 
 pub returns-else-len-count-clause-in_range : goal.returns-else-len-count-clause-in_range
 returns-else-len-count-clause-in_range g c =
-    let ok = c.in_ok-successors.ensures.ok (g.M.Machine.first c.args.machine.now) in
+    let ok = (rw c.of.ensures at c.in_ok-successors.ensures.ok) (g.M.Machine.first c.args.machine.now) in
     rw ok.1 (All-append g.M.Machine.in_range c.args.pool.now ok.0 c.requires.in_range ok.2.in_range)

@@ -5,5 +5,5 @@ pub loop-moment-preserved : goal.loop-moment-preserved
 loop-moment-preserved g c =
     let first = g.M.Machine.first c.args.machine.now in
     let told = c.if-not-branch.false in
-    let one = OnTrue_at told (c.in_ok-step.ensures.one first) in
+    let one = OnTrue_at told ((rw c.of.ensures at c.in_ok-step.ensures.one) first) in
     record { alone = OnTrue_at told c.in_ok-step.ensures.alone; known = one.known; in_range = one.in_range }

@@ -6,7 +6,7 @@ use Rattle.machine_tests.proofs.runs.step.Goals as goal
 
 pub loop-at-preserved : goal.loop-at-preserved
 loop-at-preserved g c =
-    let ok = c.in_ok-successors.ensures.ok (g.M.Machine.first c.args.machine.now) in
+    let ok = (rw c.of.ensures at c.in_ok-successors.ensures.ok) (g.M.Machine.first c.args.machine.now) in
     let before = c.loop-at.pool in
     let is = c.loop-at.invariant in
     rw ok.1

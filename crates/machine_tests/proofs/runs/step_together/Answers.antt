@@ -6,7 +6,7 @@ use Rattle.machine_tests.proofs.Picked.{behind_picked}
 use Rattle.machine_tests.proofs.runs.step_together.Goals as goal
 
 pub successors_each-requires-clause-known : goal.successors_each-requires-clause-known
-successors_each-requires-clause-known g c = All-take (Knows g.M.Machine.names c.args.book.now) c.len-count.result c.args.pool.now c.requires.known
+successors_each-requires-clause-known g c = rw c.of.ensures (All-take (Knows g.M.Machine.names c.args.book.now) c.len-count.result c.args.pool.now c.requires.known)
 
 pub successors_each-requires-clause-in_range : goal.successors_each-requires-clause-in_range
 successors_each-requires-clause-in_range g c = All-take g.M.Machine.in_range c.len-count.result c.args.pool.now c.requires.in_range
@@ -14,7 +14,7 @@ successors_each-requires-clause-in_range g c = All-take g.M.Machine.in_range c.l
 pub returns-clause-known : goal.returns-clause-known
 returns-clause-known g c =
     let first = g.M.Machine.first c.args.machine.now in
-    let (added, is, covers) = c.in_ok-successors_each.ensures.gives in
+    let (added, is, covers) = (rw c.of.ensures at c.in_ok-successors_each.ensures.gives) in
     rw (c.keep.ensures first, c.deref.ensures.value)
     (behind_picked (Knows g.M.Machine.names c.args.book.now) c.args.pool.now added c.successors_each.new.pool first c.in_ok-given.given.items is
     (rw c.len-count.ensures at c.in_ok-given.ensures.within) covers.known)
@@ -22,7 +22,7 @@ returns-clause-known g c =
 pub returns-clause-in_range : goal.returns-clause-in_range
 returns-clause-in_range g c =
     let first = g.M.Machine.first c.args.machine.now in
-    let (added, is, covers) = c.in_ok-successors_each.ensures.gives in
+    let (added, is, covers) = (rw c.of.ensures at c.in_ok-successors_each.ensures.gives) in
     rw (c.keep.ensures first, c.deref.ensures.value)
     (behind_picked g.M.Machine.in_range c.args.pool.now added c.successors_each.new.pool first c.in_ok-given.given.items is
     (rw c.len-count.ensures at c.in_ok-given.ensures.within) covers.in_range)

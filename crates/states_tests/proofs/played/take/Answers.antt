@@ -6,7 +6,7 @@ use Rattle.states_tests.proofs.played.take.Goals as goal
 pub returns-clause-known : goal.returns-clause-known
 returns-clause-known c =
     known-after (owing_names invite_server_names) (OwingInRange InviteServerInRange) (owing_seen invite_server_seen) c.args.book.now _ c.args.set.now c.take.new.self c.take.result
-    c.take.ensures.states c.take.ensures.err c.requires.known
+    (rw c.of.ensures at c.take.ensures.states) c.take.ensures.err c.requires.known
 
 pub returns-clause-order : goal.returns-clause-order
 returns-clause-order c =

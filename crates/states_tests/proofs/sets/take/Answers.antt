@@ -6,4 +6,4 @@ use Rattle.states_tests.proofs.sets.take.Goals as goal
 pub returns-clause-known : goal.returns-clause-known
 returns-clause-known c =
     known-after (owing_names plain_client_names) (OwingInRange PlainClientInRange) (owing_seen plain_client_seen) c.args.book.now _ c.args.set.now c.take.new.self c.take.result
-    c.take.ensures.states c.take.ensures.err c.requires.known
+    (rw c.of.ensures at c.take.ensures.states) c.take.ensures.err c.requires.known

@@ -1,0 +1,147 @@
+use Rattle.std.proofs.Common.{None, ap, inl, refl, ◌∙◌, subst, arith}
+use Rattle.sip_machine.specs.Texts.{Keeps, text_of}
+use Rattle.sip_machine.specs.declared.beside.Heard.{Heard}
+use Rattle.sip_message.specs.Reads.{Reads}
+use Rattle.sip_log.specs.Told.{item}
+use Rattle.sip_verdict.specs.inner.Concerned.{each}
+use Rattle.sip_verdict.specs.inner.TablesTracking.{MayHear}
+use Rattle.sip_verdict.proofs.judges.StandingLemmas.{grown_may, few_keys, may_hear, may_next, same_some}
+use Rattle.sip_verdict.proofs.tables.TablesTouching.{touches_may, touches_times}
+use Rattle.sip_verdict.proofs.verdicts.MessageUnique.{observes_one}
+use Rattle.sip_verdict.proofs.surveys.Histories.{silent_histories, restart_histories, heard_histories, message_says, touched_low}
+use Rattle.sip_verdict.proofs.surveys.Taken.{unheard_taken, fault_taken, restart_taken, heard_taken, watched_touched}
+use Rattle.sip_verdict.proofs.entries.take_read.Goals as goal
+
+pub pass_each-requires-in-Heard-clause-may : goal.pass_each-requires-in-Heard-clause-may
+pass_each-requires-in-Heard-clause-may g c =
+    let s = c.args.standing.now in
+    let e = c.args.entry.now in
+    rw c.of-book-in-Heard.ensures
+    (touches_may c.observe.new.book e.moment (each c.in-Heard.concerned) (each c.in_ok-concerned-in-Heard.concerned) s.tables c.touch_each.new.tables
+    (grown_may s.book c.observe.new.book e.number e.bytes.items (rw c.in-Heard.is at c.in_ok-told.ensures.kept).4 s.tables e.moment c.requires.may.passes) c.in_ok-concerned-in-Heard.ensures.touched)
+
+pub pass_each-requires-in-Heard-clause-hear : goal.pass_each-requires-in-Heard-clause-hear
+pass_each-requires-in-Heard-clause-hear g c =
+    let e = c.args.entry.now in
+    let is_heard = rw c.in-Heard.is at c.in_ok-told.ensures.heard in
+    rw c.of-book-in-Heard.ensures
+    (λ h is. subst (MayHear c.observe.new.book c.touch_each.new.tables e.moment) (ap (λ b. b.now) (same_some _ h is))
+    (may_hear c.observe.new.book e.moment c.in-Heard.event c.in-Heard.concerned c.in_ok-concerned-in-Heard.concerned c.args.standing.now.tables c.touch_each.new.tables c.in_ok-concerned-in-Heard.ensures.touched
+    is_heard.0 is_heard.1 is_heard.2 (c.in_ok-concerned-in-Heard.ensures.same ∙ is_heard.3)))
+
+pub of-book-requires-in-Heard : goal.of-book-requires-in-Heard
+of-book-requires-in-Heard g c =
+    let is_heard = rw c.in-Heard.is at c.in_ok-told.ensures.heard in
+    λ h is. subst (λ (x : Heard). Reads (text_of c.observe.new.book x.number) x.message.now) (same_some _ h is) (rw c.number.ensures is_heard.4)
+
+pub pass_each-requires-in-Heard-clause-watched : goal.pass_each-requires-in-Heard-clause-watched
+pass_each-requires-in-Heard-clause-watched g c =
+    let grown = c.in_ok-grow-in-Heard.ensures.deaf in
+    watched_touched (each c.in-Heard.concerned) (each c.in_ok-concerned-in-Heard.concerned) c.args.standing.now.tables c.touch_each.new.tables c.args.troubled.now c.grow.new.self grown.0
+    c.in_ok-concerned-in-Heard.ensures.touched c.requires.may.passes.long c.requires.watched grown.1 grown.2 (c.in_ok-grow-in-Heard.ensures.long ∙ c.len.ensures)
+
+pub note_each-requires : goal.note_each-requires
+note_each-requires g c =
+    touched_low (each c.in-Heard.concerned) (each c.in_ok-concerned-in-Heard.concerned) c.args.standing.now.tables c.touch_each.new.tables c.in_ok-concerned-in-Heard.ensures.touched
+
+pub returns-in_ok-pass_each-in-Unheard-clause-histories : goal.returns-in_ok-pass_each-in-Unheard-clause-histories
+returns-in_ok-pass_each-in-Unheard-clause-histories g c = λ es e told keys counts seen.
+    let (f, f_seen, (fine, at, none)) = (rw c.in-Unheard.is at c.in_ok-told.ensures.observed) es in
+    silent_histories c.args.standing.now.tables.times es e c.args.histories.now (ap (λ o. o.keys) (observes_one es (item c.args.entry.now) e f seen f_seen) ∙ none) told
+
+pub returns-in_ok-pass_each-in-Fault-clause-histories : goal.returns-in_ok-pass_each-in-Fault-clause-histories
+returns-in_ok-pass_each-in-Fault-clause-histories g c = λ es e told keys counts seen.
+    let (f, f_seen, is) = (rw c.in-Fault.is at c.in_ok-told.ensures.observed) es in
+    silent_histories c.args.standing.now.tables.times es e c.args.histories.now (ap (λ o. o.keys) (observes_one es (item c.args.entry.now) e f seen f_seen ∙ is)) told
+
+pub returns-in_ok-pass_each-in-Restart-clause-histories : goal.returns-in_ok-pass_each-in-Restart-clause-histories
+returns-in_ok-pass_each-in-Restart-clause-histories g c = λ es e told keys counts seen.
+    let b = c.args.histories.now in
+    let number = c.args.entry.now.number in
+    let (f, f_seen, is) = (rw c.in-Restart.is at c.in_ok-told.ensures.observed) es in
+    restart_histories c.args.standing.now.tables.times es e b (record { each = b.each; restart = number }) number
+    (ap (λ o. o.keys) (observes_one es (item c.args.entry.now) e f seen f_seen ∙ is)) counts refl refl told
+
+pub returns-in_ok-pass_each-in-Heard-clause-times : goal.returns-in_ok-pass_each-in-Heard-clause-times
+returns-in_ok-pass_each-in-Heard-clause-times g c =
+    (rw c.of-book-in-Heard.ensures at c.in_ok-pass_each-in-Heard.ensures).times
+    ∙ touches_times (each c.in-Heard.concerned) (each c.in_ok-concerned-in-Heard.concerned) c.args.standing.now.tables c.touch_each.new.tables c.in_ok-concerned-in-Heard.ensures.touched
+
+pub returns-in_ok-pass_each-in-Heard-clause-histories : goal.returns-in_ok-pass_each-in-Heard-clause-histories
+returns-in_ok-pass_each-in-Heard-clause-histories g c = λ es e told t_keys counts seen.
+    let s = c.args.standing.now in
+    let entry = c.args.entry.now in
+    let kept = rw c.in-Heard.is at c.in_ok-told.ensures.kept in
+    let noted = c.in_ok-note_each-in-Heard.ensures in
+    let (f, f_seen, f_is) = (rw c.in-Heard.is at c.in_ok-told.ensures.observed) es in
+    let is = observes_one es (item entry) e f seen f_seen ∙ f_is in
+    heard_histories s.tables.times es e c.args.histories.now c.note_each.new.self entry.number entry.bytes.items s.tables c.touch_each.new.tables (each c.in-Heard.concerned) (each c.in_ok-concerned-in-Heard.concerned)
+    told t_keys c.requires.may.passes.long counts c.in_ok-concerned-in-Heard.ensures.touched c.known-in-Heard.ensures.unique noted.noted c.note_each.ensures.restart (ap (λ o. o.keys) is)
+    (message_says es (item entry) e kept.0 seen) (ap (λ o. o.event.text) is ∙ kept.3)
+
+pub returns-in_ok-pass_each-in-Unheard-clause-may : goal.returns-in_ok-pass_each-in-Unheard-clause-may
+returns-in_ok-pass_each-in-Unheard-clause-may g c =
+    let s = c.args.standing.now in
+    let e = c.args.entry.now in
+    let passed = (rw c.of-book.ensures at c.in_ok-pass_each-in-Unheard.ensures) in
+    may_next None s.book c.observe.new.book c.observe.new.book s.tables s.tables c.pass_each.new.tables e.number e.moment e.bytes.items c.requires.may
+    (inl (rw c.in-Unheard.is at c.in_ok-told.ensures.kept)) (omega arith) passed.keys refl passed.may passed.watched.recorded
+
+pub returns-in_ok-pass_each-in-Unheard-clause-taken : goal.returns-in_ok-pass_each-in-Unheard-clause-taken
+returns-in_ok-pass_each-in-Unheard-clause-taken g c = λ es fresh tracks late.
+    let s = c.args.standing.now in
+    let e = c.args.entry.now in
+    unheard_taken s.book c.observe.new.book e.number e.bytes.items (inl (rw c.in-Unheard.is at c.in_ok-told.ensures.kept)) (item e) e.moment refl s.tables c.pass_each.new.tables c.args.troubled.now c.pass_each.new.troubled
+    c.requires.watched.long c.requires.may.passes.long fresh (rw c.of-book.ensures at c.in_ok-pass_each-in-Unheard.ensures).keys (rw c.in-Unheard.is at c.in_ok-told.ensures.observed) (rw c.of-book.ensures at c.in_ok-pass_each-in-Unheard.ensures).passed es tracks late
+
+pub returns-in_ok-pass_each-in-Fault-clause-may : goal.returns-in_ok-pass_each-in-Fault-clause-may
+returns-in_ok-pass_each-in-Fault-clause-may g c =
+    let s = c.args.standing.now in
+    let e = c.args.entry.now in
+    let passed = (rw c.of-book-in-Fault.ensures at c.in_ok-pass_each-in-Fault.ensures) in
+    may_next None s.book c.observe.new.book c.observe.new.book s.tables s.tables c.pass_each-in-Fault.new.tables e.number e.moment e.bytes.items c.requires.may
+    (inl (rw c.in-Fault.is at c.in_ok-told.ensures.kept)) (omega arith) passed.keys refl passed.may passed.watched.recorded
+
+pub returns-in_ok-pass_each-in-Fault-clause-taken : goal.returns-in_ok-pass_each-in-Fault-clause-taken
+returns-in_ok-pass_each-in-Fault-clause-taken g c = λ es fresh tracks late.
+    let s = c.args.standing.now in
+    let e = c.args.entry.now in
+    fault_taken s.book c.observe.new.book e.number e.bytes.items (inl (rw c.in-Fault.is at c.in_ok-told.ensures.kept)) (item e) e.moment refl s.tables c.pass_each-in-Fault.new.tables c.args.troubled.now c.pass_each-in-Fault.new.troubled
+    c.requires.watched.long c.requires.may.passes.long fresh (rw c.of-book-in-Fault.ensures at c.in_ok-pass_each-in-Fault.ensures).keys c.in-Fault.fault (rw c.in-Fault.is at c.in_ok-told.ensures.observed) (rw c.of-book-in-Fault.ensures at c.in_ok-pass_each-in-Fault.ensures).passed es tracks late
+
+pub returns-in_ok-pass_each-in-Restart-clause-may : goal.returns-in_ok-pass_each-in-Restart-clause-may
+returns-in_ok-pass_each-in-Restart-clause-may g c =
+    let s = c.args.standing.now in
+    let e = c.args.entry.now in
+    let passed = (rw c.of-book-in-Restart.ensures at c.in_ok-pass_each-in-Restart.ensures) in
+    may_next None s.book c.observe.new.book c.observe.new.book s.tables s.tables c.pass_each-in-Restart.new.tables e.number e.moment e.bytes.items c.requires.may
+    (inl (rw c.in-Restart.is at c.in_ok-told.ensures.kept).0) (omega arith) passed.keys refl passed.may passed.watched.recorded
+
+pub returns-in_ok-pass_each-in-Restart-clause-taken : goal.returns-in_ok-pass_each-in-Restart-clause-taken
+returns-in_ok-pass_each-in-Restart-clause-taken g c = λ es fresh tracks late.
+    let s = c.args.standing.now in
+    let e = c.args.entry.now in
+    let same = (rw c.in-Restart.is at c.in_ok-told.ensures.kept).0 in
+    restart_taken s.book c.observe.new.book e.number e.bytes.items (inl same) (item e) e.moment refl s.tables c.pass_each-in-Restart.new.tables c.args.troubled.now c.pass_each-in-Restart.new.troubled
+    c.requires.watched.long c.requires.may.passes.long fresh (rw c.of-book-in-Restart.ensures at c.in_ok-pass_each-in-Restart.ensures).keys c.restart-event.result c.restart-event.ensures (λ n keeps. c.requires.may.some n (subst (λ b. Keeps b n) same keeps)) (rw c.in-Restart.is at c.in_ok-told.ensures.observed) (rw c.of-book-in-Restart.ensures at c.in_ok-pass_each-in-Restart.ensures).passed es tracks late
+
+pub returns-in_ok-pass_each-in-Heard-clause-may : goal.returns-in_ok-pass_each-in-Heard-clause-may
+returns-in_ok-pass_each-in-Heard-clause-may g c =
+    let s = c.args.standing.now in
+    let e = c.args.entry.now in
+    let passed = (rw c.of-book-in-Heard.ensures at c.in_ok-pass_each-in-Heard.ensures) in
+    may_next None s.book c.observe.new.book c.observe.new.book s.tables c.touch_each.new.tables c.pass_each-in-Heard.new.tables e.number e.moment e.bytes.items c.requires.may
+    (rw c.in-Heard.is at c.in_ok-told.ensures.kept).4
+    (few_keys c.in-Heard.concerned (each c.in_ok-concerned-in-Heard.concerned) s.tables c.touch_each.new.tables c.in_ok-concerned-in-Heard.ensures.touched)
+    passed.keys refl passed.may passed.watched.recorded
+
+pub returns-in_ok-pass_each-in-Heard-clause-taken : goal.returns-in_ok-pass_each-in-Heard-clause-taken
+returns-in_ok-pass_each-in-Heard-clause-taken g c = λ es fresh tracks late.
+    let s = c.args.standing.now in
+    let e = c.args.entry.now in
+    let grown = c.in_ok-grow-in-Heard.ensures in
+    let is_heard = rw c.in-Heard.is at c.in_ok-told.ensures.heard in
+    heard_taken s.book c.observe.new.book e.number e.bytes.items (rw c.in-Heard.is at c.in_ok-told.ensures.kept).4 (item e) e.moment refl c.in-Heard.event c.in-Heard.concerned c.in_ok-concerned-in-Heard.concerned
+    s.tables c.touch_each.new.tables c.pass_each-in-Heard.new.tables c.args.troubled.now c.grow.new.self c.pass_each-in-Heard.new.troubled grown.deaf.0
+    c.requires.watched.long c.requires.may.passes.long fresh grown.deaf.1 grown.deaf.2 grown.broken grown.wide c.in_ok-concerned-in-Heard.ensures.touched c.known-in-Heard.ensures.unique
+    (rw c.of-book-in-Heard.ensures at c.in_ok-pass_each-in-Heard.ensures).keys is_heard.1 (c.in_ok-concerned-in-Heard.ensures.same ∙ is_heard.3) (rw c.in-Heard.is at c.in_ok-told.ensures.observed) (rw c.of-book-in-Heard.ensures at c.in_ok-pass_each-in-Heard.ensures).passed es tracks late

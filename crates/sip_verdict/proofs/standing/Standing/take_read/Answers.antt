@@ -1,0 +1,159 @@
+use Rattle.std.proofs.Common.{[], ◌∙◌, ap, inl, length, refl, arith, subst, sym}
+use Rattle.sip_machine.specs.Texts.{Keeps, text_of}
+use Rattle.sip_machine.specs.declared.beside.Heard.{Heard}
+use Rattle.sip_message.specs.Reads.{Reads}
+use Rattle.sip_log.specs.Told.{item}
+use Rattle.sip_verdict.specs.MessageReading.{message_reading}
+use Rattle.sip_verdict.specs.inner.Numbering.{StaysNumbered}
+use Rattle.sip_verdict.specs.inner.TablesTracking.{HaveNumbers, MayHear}
+use Rattle.sip_verdict.specs.inner.Concerned.{each}
+use Rattle.sip_verdict.proofs.listings.NumberingLemmas.{numbered_none, numbered_heard, unless_trouble}
+use Rattle.sip_verdict.proofs.judges.StandingLemmas.{listed_each, grown_may, may_restart, restart_judged, touched_recorded, few_keys, are_given, may_hear, same_some, may_next, unheard_judged, heard_judged}
+use Rattle.sip_verdict.proofs.tables.TablesTouching.{touches_may, have_numbers}
+use Rattle.sip_verdict.proofs.standing.Standing.take_read.Goals as goal
+use Rattle.sip_standard.specs.Observation.{fault_observation}
+
+pub pass-requires-in-Restart-clause-may : goal.pass-requires-in-Restart-clause-may
+pass-requires-in-Restart-clause-may g c =
+    let s = c.args.self.now in
+    let e = c.args.entry.now in
+    grown_may s.book c.observe.new.book e.number e.bytes.items (inl (rw c.in-Restart.is at c.in_ok-told.ensures.kept).0) s.tables e.moment c.requires.may.passes
+
+pub pass-requires-in-Restart-clause-hear : goal.pass-requires-in-Restart-clause-hear
+pass-requires-in-Restart-clause-hear g c =
+    let e = c.args.entry.now in
+    λ h is. subst (MayHear c.observe.new.book c.args.self.now.tables e.moment) (ap (λ b. b.now) (same_some _ h is))
+    (may_restart c.observe.new.book e.moment c.restart-event.result c.args.self.now.tables c.restart-event.ensures c.requires.limit)
+
+pub pass-requires-in-Restart-clause-recorded : goal.pass-requires-in-Restart-clause-recorded
+pass-requires-in-Restart-clause-recorded g c = c.requires.may.recorded
+
+pub returns-in_ok-verdict-in-Restart-clause-may : goal.returns-in_ok-verdict-in-Restart-clause-may
+returns-in_ok-verdict-in-Restart-clause-may g c =
+    let s = c.args.self.now in
+    let e = c.args.entry.now in
+    let passed = c.in_ok-verdict-in-Restart in
+    may_next passed.verdict s.book c.observe.new.book c.pass-in-Restart.new.self.book s.tables s.tables c.pass-in-Restart.new.self.tables e.number e.moment e.bytes.items c.requires.may
+    (inl (rw c.in-Restart.is at c.in_ok-told.ensures.kept).0) (omega arith) passed.ensures.keys passed.ensures.book passed.ensures.may passed.ensures.recorded
+
+pub returns-in_ok-verdict-in-Restart-clause-numbered : goal.returns-in_ok-verdict-in-Restart-clause-numbered
+returns-in_ok-verdict-in-Restart-clause-numbered g c =
+    let s = c.args.self.now in
+    let e = c.args.entry.now in
+    let kept = rw c.in-Restart.is at c.in_ok-told.ensures.kept in
+    let new = c.pass-in-Restart.new.self.book in
+    unless_trouble (StaysNumbered (item e) e.number s.book new) c.in_ok-verdict-in-Restart.verdict
+    (numbered_none (item e) e.number s.book new kept.1 (c.in_ok-verdict-in-Restart.ensures.book ∙ kept.0))
+
+pub returns-in_ok-verdict-in-Restart-clause-judged : goal.returns-in_ok-verdict-in-Restart-clause-judged
+returns-in_ok-verdict-in-Restart-clause-judged g c =
+    let s = c.args.self.now in
+    let e = c.args.entry.now in
+    let same = (rw c.in-Restart.is at c.in_ok-told.ensures.kept).0 in
+    restart_judged c.in_ok-verdict-in-Restart.verdict s.book c.observe.new.book c.pass-in-Restart.new.self.book e.number e.bytes.items (inl same) (item e) e.moment e.number
+    c.restart-event.result s.tables c.pass-in-Restart.new.self.tables c.requires.may.passes.long c.known-in-Restart.ensures.unique c.in_ok-verdict-in-Restart.ensures.keys c.restart-event.ensures
+    (λ n keeps. c.requires.may.some n (subst (λ b. Keeps b n) same keeps)) refl (rw c.in-Restart.is at c.in_ok-told.ensures.observed) c.in_ok-verdict-in-Restart.ensures.judged
+
+pub pass-requires-in-Heard-clause-may : goal.pass-requires-in-Heard-clause-may
+pass-requires-in-Heard-clause-may g c =
+    let s = c.args.self.now in
+    let e = c.args.entry.now in
+    touches_may c.observe.new.book e.moment (each c.in-Heard.concerned) (each c.in_ok-concerned-in-Heard.concerned) s.tables c.touch_each.new.tables
+    (grown_may s.book c.observe.new.book e.number e.bytes.items (rw c.in-Heard.is at c.in_ok-told.ensures.kept).4 s.tables e.moment c.requires.may.passes) c.in_ok-concerned-in-Heard.ensures.touched
+
+pub pass-requires-in-Heard-clause-hear : goal.pass-requires-in-Heard-clause-hear
+pass-requires-in-Heard-clause-hear g c =
+    let e = c.args.entry.now in
+    let is_heard = rw c.in-Heard.is at c.in_ok-told.ensures.heard in
+    λ h is. subst (MayHear c.observe.new.book c.touch_each.new.tables e.moment) (ap (λ b. b.now) (same_some _ h is))
+    (may_hear c.observe.new.book e.moment c.in-Heard.event c.in-Heard.concerned c.in_ok-concerned-in-Heard.concerned c.args.self.now.tables c.touch_each.new.tables c.in_ok-concerned-in-Heard.ensures.touched
+    is_heard.0 is_heard.1 is_heard.2 (c.in_ok-concerned-in-Heard.ensures.same ∙ is_heard.3))
+
+pub pass-requires-in-Heard-clause-heard : goal.pass-requires-in-Heard-clause-heard
+pass-requires-in-Heard-clause-heard g c =
+    let is_heard = rw c.in-Heard.is at c.in_ok-told.ensures.heard in
+    λ h is. subst (λ (x : Heard). Reads (text_of c.observe.new.book x.number) x.message.now) (same_some _ h is) (rw c.number.ensures is_heard.4)
+
+pub pass-requires-in-Heard-clause-recorded : goal.pass-requires-in-Heard-clause-recorded
+pass-requires-in-Heard-clause-recorded g c =
+    touched_recorded (each c.in-Heard.concerned) (each c.in_ok-concerned-in-Heard.concerned) c.args.self.now.tables c.touch_each.new.tables c.in_ok-concerned-in-Heard.ensures.touched
+    c.requires.may.passes.long c.requires.may.recorded
+
+pub returns-in_ok-verdict-in-Unheard-clause-may : goal.returns-in_ok-verdict-in-Unheard-clause-may
+returns-in_ok-verdict-in-Unheard-clause-may g c =
+    let s = c.args.self.now in
+    let e = c.args.entry.now in
+    let passed = c.in_ok-verdict-in-Unheard in
+    may_next passed.verdict s.book c.observe.new.book c.pass.new.self.book s.tables s.tables c.pass.new.self.tables e.number e.moment e.bytes.items c.requires.may
+    (inl (rw c.in-Unheard.is at c.in_ok-told.ensures.kept)) (omega arith) passed.ensures.keys passed.ensures.book passed.ensures.may passed.ensures.recorded
+
+pub returns-in_ok-verdict-in-Unheard-clause-numbered : goal.returns-in_ok-verdict-in-Unheard-clause-numbered
+returns-in_ok-verdict-in-Unheard-clause-numbered g c =
+    let s = c.args.self.now in
+    let e = c.args.entry.now in
+    let kept = rw c.in-Unheard.is at c.in_ok-told.ensures.kept in
+    let told = (rw c.in-Unheard.is at c.in_ok-told.ensures.observed) [] in
+    let new = c.pass.new.self.book in
+    unless_trouble (StaysNumbered (item e) e.number s.book new) c.in_ok-verdict-in-Unheard.verdict
+    (numbered_none (item e) e.number s.book new (told.0, told.1, told.2.2) (c.in_ok-verdict-in-Unheard.ensures.book ∙ kept))
+
+pub returns-in_ok-verdict-in-Unheard-clause-judged : goal.returns-in_ok-verdict-in-Unheard-clause-judged
+returns-in_ok-verdict-in-Unheard-clause-judged g c =
+    let s = c.args.self.now in
+    let e = c.args.entry.now in
+    unheard_judged c.in_ok-verdict-in-Unheard.verdict s.book c.observe.new.book c.pass.new.self.book e.number e.bytes.items (inl (rw c.in-Unheard.is at c.in_ok-told.ensures.kept)) (item e) e.moment e.number
+    s.tables c.pass.new.self.tables refl (rw c.in-Unheard.is at c.in_ok-told.ensures.observed) c.in_ok-verdict-in-Unheard.ensures.judged
+
+pub returns-in-Fault-clause-judged : goal.returns-in-Fault-clause-judged
+returns-in-Fault-clause-judged g c = λ es tracks counts newest.
+    let (e, seen, is) = (rw c.in-Fault.is at c.in_ok-told.ensures.observed) es in (
+      fault_observation (item c.args.entry.now) c.in-Fault.fault,
+      subst (message_reading.Observes es (item c.args.entry.now)) is seen,
+      (counts, refl),
+      tt,
+    )
+
+pub returns-in_ok-verdict-in-Heard-clause-may : goal.returns-in_ok-verdict-in-Heard-clause-may
+returns-in_ok-verdict-in-Heard-clause-may g c =
+    let s = c.args.self.now in
+    let e = c.args.entry.now in
+    let passed = c.in_ok-verdict-in-Heard in
+    may_next passed.verdict s.book c.observe.new.book c.pass-in-Heard.new.self.book s.tables c.touch_each.new.tables c.pass-in-Heard.new.self.tables e.number e.moment e.bytes.items c.requires.may
+    (rw c.in-Heard.is at c.in_ok-told.ensures.kept).4
+    (few_keys c.in-Heard.concerned (each c.in_ok-concerned-in-Heard.concerned) s.tables c.touch_each.new.tables c.in_ok-concerned-in-Heard.ensures.touched)
+    passed.ensures.keys passed.ensures.book passed.ensures.may passed.ensures.recorded
+
+pub returns-in_ok-verdict-in-Heard-clause-numbered : goal.returns-in_ok-verdict-in-Heard-clause-numbered
+returns-in_ok-verdict-in-Heard-clause-numbered g c =
+    let s = c.args.self.now in
+    let e = c.args.entry.now in
+    let mid = c.observe.new.book in
+    let kept = rw c.in-Heard.is at c.in_ok-told.ensures.kept in
+    let new = c.pass-in-Heard.new.self.book in
+    unless_trouble (StaysNumbered (item e) e.number s.book new) c.in_ok-verdict-in-Heard.verdict
+    (subst (StaysNumbered (item e) e.number s.book) (sym c.in_ok-verdict-in-Heard.ensures.book)
+    (numbered_heard (item e) e.number c.in-Heard.event.number s.book mid kept.0 kept.1 kept.2 kept.3 c.requires.may.numbered c.known.ensures kept.4))
+
+pub returns-in_ok-verdict-in-Heard-clause-given : goal.returns-in_ok-verdict-in-Heard-clause-given
+returns-in_ok-verdict-in-Heard-clause-given g c =
+    let keys = each c.in-Heard.concerned in
+    let numbers = each c.in_ok-concerned-in-Heard.concerned in
+    are_given c.pass-in-Heard.new.self.tables numbers keys
+    (subst (λ all. HaveNumbers all numbers keys) (sym c.in_ok-verdict-in-Heard.ensures.keys)
+    (have_numbers keys numbers c.args.self.now.tables c.touch_each.new.tables c.in_ok-concerned-in-Heard.ensures.touched))
+
+pub returns-in_ok-verdict-in-Heard-clause-judged : goal.returns-in_ok-verdict-in-Heard-clause-judged
+returns-in_ok-verdict-in-Heard-clause-judged g c = λ es tracks counts newest.
+    let s = c.args.self.now in
+    let e = c.args.entry.now in
+    let new = c.pass-in-Heard.new.self in
+    let some = c.in_ok-concerned-in-Heard.ensures.same ∙ (rw c.in-Heard.is at c.in_ok-told.ensures.heard).3 in
+    let h = heard_judged c.in_ok-verdict-in-Heard.verdict s.book c.observe.new.book new.book e.number e.bytes.items (rw c.in-Heard.is at c.in_ok-told.ensures.kept).4 (item e) e.moment e.number
+    c.in-Heard.event c.in-Heard.concerned c.in_ok-concerned-in-Heard.concerned s.tables c.touch_each.new.tables new.tables
+    c.requires.may.passes.long c.in_ok-concerned-in-Heard.ensures.touched c.known-in-Heard.ensures.unique c.in_ok-verdict-in-Heard.ensures.keys (rw c.in-Heard.is at c.in_ok-told.ensures.heard).1
+    some (rw c.in-Heard.is at c.in_ok-told.ensures.observed) c.in_ok-verdict-in-Heard.ensures.judged es tracks counts newest in (
+      h.0,
+      h.1,
+      h.2,
+      subst (λ ns. HaveNumbers new.tables.keys ns h.0.keys) (sym (listed_each (length new.tables.keys) c.in_ok-concerned-in-Heard.concerned some)) h.3,
+    )

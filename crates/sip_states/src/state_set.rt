@@ -1,10 +1,11 @@
 //! The states in which the runs of a machine can stand at a moment.
-ghost use Rattle.std.specs.Prelude.{◌≡◌, ◌≢◌, ◌↔◌, ◌+◌, ◌⊎◌, [], ◌∷◌, ◌<◌, ◌≤◌, OnOk, OnErr, All, AllPairs, Contains, IfOk, IsErrOf, IsTrue, flat_map, length, map, take};
+ghost use Rattle.std.specs.Prelude.{◌≡◌, ◌≢◌, ◌↔◌, ◌+◌, ◌⊎◌, [], ◌∷◌, ◌<◌, ◌≤◌, OnOk, OnErr, All, AllPairs, Contains, IfOk, IsErrOf, IsTrue, false, flat_map, length, map, take};
 ghost use Rattle.std.specs.Bool.{OnTrue, OnFalse};
+ghost use Rattle.std.specs.List.{HoldsAt};
 ghost use Rattle.sip_machine.specs.Texts.{Texts, IsBook};
 ghost use Rattle.sip_machine.specs.NumberedEvent.{FitsBook, event_in};
 ghost use Rattle.sip_machine.specs.Naming.{AppendsAll};
-ghost use Rattle.sip_machine.specs.Owing.{CodeOwing};
+ghost use Rattle.sip_machine.specs.Owing.{CodeOwing, owing_names};
 ghost use Rattle.sip_machine.specs.Rules.{Knows, StandFor};
 ghost use Rattle.sip_machine.specs.Pools.{picked};
 ghost use Rattle.sip_states.specs.Held.{IsKept};
@@ -13,13 +14,16 @@ ghost use Rattle.sip_states.specs.inner.Ways.{GivesAfter};
 
 use crate::ends::{advance_states, last_of_all};
 use crate::steps::{find_given, step_alone};
-use sip_machine::{Beside, Event, Machine, Pool};
+use sip_machine::{Beside, Event, Machine, Phases, Pool};
 use std::alloc::{AllocError, Global};
 use std::marker::Model;
 use thiserror::Error;
 
 /// How many states are followed after an event.
 const WIDEST: usize = 1_024;
+
+/// Of so many states each is asked what it names.
+const FEW: usize = 4;
 
 /// Why an event is not taken.
 #[derive(Clone, Copy, Debug, PartialEq, Eq, Error)]
@@ -224,6 +228,32 @@ impl<M: Machine> StateSet<M> {
     {
         &self.states
     }
+}
+
+impl<M: Phases> StateSet<M> {
+    /// Whether a state may name the message with this number. Where there are many states, or one owes something, they may.
+    pub(crate) fn may_name(&self, number: u32) -> bool
+        ensures { (result ≡ false) → ¬ Contains (flat_map (owing_names M.names) self.now.states) number }
+    {
+        if self.states.len() > FEW {
+            return true;
+        }
+        for at in 0..self.states.len() {
+            if state_may_name(&self.machine, &self.states, at, number) {
+                return true;
+            }
+        }
+        false
+    }
+}
+
+/// The same of the state at the index.
+fn state_may_name<M: Phases>(machine: &M, states: &Pool<M::Phase>, at: usize, number: u32) -> bool
+    requires { at < length states.now }
+    ensures { HoldsAt (λ x. (result ≡ false) → ¬ Contains (owing_names M.names x) number) states.now at }
+{
+    let phase = states.phase(at);
+    !states.is_at_rest(at, phase) || machine.message(&phase) == Some(number)
 }
 
 /// Finds the states that the event gives, after the others, and tells where the first of each stand. On an error they may

@@ -1,4 +1,4 @@
-use Rattle.std.specs.Prelude.{◌≡◌, ◌<◌, ◌≤◌, ◌+◌, ℕ, Bool, List, [], All, AllPairs, Contains, map, length, take, slice_index_or}
+use Rattle.std.specs.Prelude.{◌≡◌, ◌<◌, ◌≤◌, ◌+◌, ◌-◌, ℕ, Bool, true, false, List, [], All, AllPairs, Contains, map, length, take, slice_index_or}
 use Rattle.std.specs.declared.cmp.Ordering.{Ordering}
 use Rattle.std.specs.declared.cmp.Ordering.TheVariants.{Less, Greater}
 use Rattle.std.specs.Ordering.{nat_cmp, ordering_then, is_le}
@@ -16,6 +16,16 @@ use Rattle.sip_machine.specs.declared.book.Gap.{Gap}
 -- what the kept messages are
 abbrev pub texts_of : List Kept → Texts
 texts_of kept = map (λ k. (k.number, k.bytes.items)) kept
+
+-- how many of the newest messages have no place in the order
+abbrev pub unplaced : Bool → ℕ
+unplaced false = 0
+unplaced true = 1
+
+-- the messages that have one: all, or all but the newest
+abbrev pub ordered : Bool → Texts → Texts
+ordered false texts = texts
+ordered true texts = take (length texts - 1) texts
 
 -- the hash of these bytes, by the first 256 of them
 abbrev pub hash_of : List ℕ → ℕ

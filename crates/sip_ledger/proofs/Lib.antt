@@ -19,3 +19,9 @@ pub mod GainLemmas
 pub mod KeepLemmas
 pub mod PayEachLemmas
 pub mod ExpireEachLemmas
+pub mod StrikeLemmas
+pub mod AccountLemmas
+pub mod WithoutLemmas
+pub mod GainedLemmas
+pub mod FindLemmas
+pub mod ExpiringLemmas

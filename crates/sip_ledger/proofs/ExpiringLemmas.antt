@@ -1,5 +1,5 @@
 -- An account of which what is past goes, place by place.
-use Rattle.std.proofs.Common.{◌≡◌, ◌≢◌, ℕ, ◌+◌, ◌<◌, ◌≤◌, ◌==◌, ◌&&◌, ◌||◌, Bool, true, false, not, List, [], ◌∷◌, length, get_or, filter, refl, sym, ap, ap₂, ◌∙◌, subst, inl, inr, arith}
+use Rattle.std.proofs.Common.{◌≡◌, ◌≢◌, ℕ, ◌+◌, ◌<◌, ◌≤◌, ◌==◌, ◌&&◌, ◌||◌, Bool, true, false, not, List, [], ◌∷◌, length, take, get_or, filter, refl, sym, ap, ap₂, ◌∙◌, subst, inl, inr, arith}
 use Rattle.std.specs.Prelude.{nat_le, nat_lt}
 use Rattle.std.proofs.Math.Bool.{and-false, or-false}
 use Rattle.std.proofs.lemmas.Bool.{cases_eq, cases_lt}
@@ -11,7 +11,7 @@ use Rattle.sip_ledger.specs.declared.accounts.gains.Gains.{Gains}
 use Rattle.sip_ledger.specs.declared.accounts.strikes.Strike.{Strike}
 use Rattle.sip_ledger.specs.Debts.{counts_at}
 use Rattle.sip_ledger.specs.Rows.{debts_from}
-use Rattle.sip_ledger.specs.inner.Accounts.{AreGains, IsAccount, IsWithout, account_debts, entry_at, must_at, owes_at}
+use Rattle.sip_ledger.specs.inner.Accounts.{AreGains, IsAccount, IsExpiredTo, IsWithout, account_debts, entry_at, must_at, owes_at}
 use Rattle.sip_ledger.proofs.ListedLemmas.{listed-counting, listed-same, no_entry}
 use Rattle.sip_ledger.proofs.AccountLemmas.{past-end, soft-must}
 use Rattle.sip_ledger.proofs.WithoutLemmas.{before-start, le-no, le-yes}
@@ -19,11 +19,6 @@ use Rattle.sip_ledger.proofs.WithoutLemmas.{before-start, le-no, le-yes}
 -- what counts still at t of what is owed at a place
 abbrev counting : ℕ → List Entry → (ℕ → Bool) → (ℕ → Bool) → ℕ → Bool
 counting t entries m o k = o k && (m k || nat_le t (entry_at entries k).deadline)
-
--- what is past has gone up to a place
-pub record IsExpiredTo (t : ℕ) (entries : List Entry) (m o o' : ℕ → Bool) (place : ℕ) : Type 0 where
-  pub gone : (k : ℕ) → k < place → o' k ≡ (o k && (m k || nat_le t (entry_at entries k).deadline))
-  pub later : (k : ℕ) → place ≤ k → o' k ≡ o k
 
 unowed : (t : ℕ) (entries : List Entry) (m o o' : ℕ → Bool) (k : ℕ) → o' k ≡ o k → o k ≡ false → o' k ≡ counting t entries m o k
 unowed t entries m o o' k same none = same ∙ none ∙ sym (ap (λ b. b && (m k || nat_le t (entry_at entries k).deadline)) none)
@@ -129,3 +124,10 @@ expired-rising gains old new a b t place soft gained rises early is =
     or-true : (b : Bool) → (b || true) ≡ true
     or-true true = refl
     or-true false = refl
+
+-- an account of which what is past has gone up to a place
+pub record IsExpiring (gains : Gains) (old new : List Strike) (a b : Account) (t place : ℕ) : Type 0 where
+  pub kept : take (length old) new ≡ old
+  pub account : IsAccount gains new b
+  pub soft : b.soft ≡ a.soft
+  pub gone : IsExpiredTo t gains.entries.items (must_at gains a) (owes_at gains.entries.items old a) (owes_at gains.entries.items new b) place

@@ -5,8 +5,8 @@ use Rattle.std.specs.List.{sum_by}
 use Rattle.std.proofs.lemmas.Bool.{cases_eq, cases_lt, eq-eqb, ne_eqb}
 use Rattle.std.proofs.lemmas.Bool.Decides.{nat_tests}
 use Rattle.std.proofs.lemmas.List.{get_or_push, length-append}
-use Rattle.std.proofs.lemmas.List.Sums.{sum_by-append}
-use Rattle.std.proofs.Math.Nat.{add-zero, mod-add-mod}
+use Rattle.std.proofs.lemmas.List.Sums.{sum_by_push}
+use Rattle.std.proofs.Math.Nat.{mod-add-mod}
 use Rattle.sip_ledger.specs.declared.debt.Debt.{Debt}
 use Rattle.sip_ledger.specs.declared.debt.Entry.{Entry}
 use Rattle.sip_ledger.specs.declared.accounts.account.Account.{Account}
@@ -25,7 +25,7 @@ use Rattle.sip_ledger.proofs.WithoutLemmas.{before-start, le-no, le-yes, lt-yes,
 pub print-more : (debts : List Debt) (debt : Debt) → debts_print (debts ++ debt ∷ []) ≡ (debts_print debts + worth_of debt.message debt.deadline) % 2 ^ 64
 unfolding debts_print
 print-more debts debt =
-    ap (λ n. n % 2 ^ 64) (sum_by-append (λ debt. worth_of debt.message debt.deadline) debts (debt ∷ []) ∙ ap (λ n. sum_by (λ debt. worth_of debt.message debt.deadline) debts + n) (add-zero (worth_of debt.message debt.deadline)))
+    ap (λ n. n % 2 ^ 64) (sum_by_push (λ debt. worth_of debt.message debt.deadline) debts debt)
     ∙ sym (mod-add-mod (sum_by (λ debt. worth_of debt.message debt.deadline) debts) (2 ^ 64) (worth_of debt.message debt.deadline))
 
 -- the debts of an account that owes what was gained at one place more, after all that it owes

@@ -25,3 +25,4 @@ pub mod WithoutLemmas
 pub mod GainedLemmas
 pub mod FindLemmas
 pub mod ExpiringLemmas
+pub mod ToldLemmas

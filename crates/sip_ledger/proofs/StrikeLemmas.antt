@@ -3,9 +3,9 @@ use Rattle.std.proofs.Common.{◌≡◌, ◌≢◌, ℕ, zero, suc, ◌+◌, ◌
 use Rattle.std.specs.Prelude.{nat_le, nat_lt}
 use Rattle.std.specs.List.{list_any}
 use Rattle.std.proofs.Math.Bool.{or-false, or_assoc, or_comm}
-use Rattle.std.proofs.lemmas.Bool.{cases_eq, cases_lt}
+use Rattle.std.proofs.lemmas.Bool.{cases_eq, cases_lt, ne_eqb}
 use Rattle.std.proofs.lemmas.Bool.Decides.{nat_tests}
-use Rattle.std.proofs.lemmas.List.Folds.{list_any-append}
+use Rattle.std.proofs.lemmas.List.Folds.{list_any-append, list_any_at}
 use Rattle.std.proofs.lemmas.List.Elements.{filter-append}
 use Rattle.std.proofs.Math.Seq.{take-append_seam, drop-append_seam, take-length}
 use Rattle.std.proofs.lemmas.List.{append_assoc, drop_all, drop-append-le, get_or_default, length-append, length-take, length-take-le, take_more}
@@ -13,26 +13,26 @@ use Rattle.sip_ledger.specs.declared.debt.Entry.{Entry}
 use Rattle.sip_ledger.specs.declared.accounts.account.Account.{Account}
 use Rattle.sip_ledger.specs.declared.accounts.strikes.Strike.{Strike}
 use Rattle.sip_ledger.specs.Ledgers.{from_to}
-use Rattle.sip_ledger.specs.inner.Accounts.{IsStruckAt, IsWritten, Lengthens, Reaches, entry_at, is_struck, strikes_of, strikes_out}
+use Rattle.sip_ledger.specs.inner.Accounts.{IsStruckAt, IsWritten, Lengthens, Reaches, entry_at, is_struck, strikes_of, is_out}
 
 -- the strikes that end after the start
 abbrev pub ending : ℕ → List Strike → List Strike
 ending start strikes = filter (λ s. nat_lt start s.to) strikes
 
 -- a strike that ends at the start or before it strikes nothing from there on
-strike-past : (m k start : ℕ) (s : Strike) → start ≤ k → nat_lt start s.to ≡ false → strikes_out m k s ≡ false
+strike-past : (m k start : ℕ) (s : Strike) → start ≤ k → nat_lt start s.to ≡ false → is_out m k s ≡ false
 strike-past m k start s above past = grind (arith, nat_tests)
 
-any-ending : (m k start : ℕ) (xs : List Strike) → start ≤ k → list_any (strikes_out m k) (ending start xs) ≡ list_any (strikes_out m k) xs
+any-ending : (m k start : ℕ) (xs : List Strike) → start ≤ k → list_any (is_out m k) (ending start xs) ≡ list_any (is_out m k) xs
 any-ending m k start [] above = refl
 any-ending m k start (s ∷ xs) above = by (any-ending m k start xs above) (nat_lt start s.to) refl
   where
-    by : list_any (strikes_out m k) (ending start xs) ≡ list_any (strikes_out m k) xs → (b : Bool) → nat_lt start s.to ≡ b →
-        list_any (strikes_out m k) (cond (nat_lt start s.to) (s ∷ ending start xs) (ending start xs)) ≡ (strikes_out m k s || list_any (strikes_out m k) xs)
-    by rest true is = ap (λ b. list_any (strikes_out m k) (cond b (s ∷ ending start xs) (ending start xs))) is ∙ ap (λ b. strikes_out m k s || b) rest
+    by : list_any (is_out m k) (ending start xs) ≡ list_any (is_out m k) xs → (b : Bool) → nat_lt start s.to ≡ b →
+        list_any (is_out m k) (cond (nat_lt start s.to) (s ∷ ending start xs) (ending start xs)) ≡ (is_out m k s || list_any (is_out m k) xs)
+    by rest true is = ap (λ b. list_any (is_out m k) (cond b (s ∷ ending start xs) (ending start xs))) is ∙ ap (λ b. is_out m k s || b) rest
     by rest false is =
-        ap (λ b. list_any (strikes_out m k) (cond b (s ∷ ending start xs) (ending start xs))) is ∙ rest
-        ∙ sym (ap (λ b. b || list_any (strikes_out m k) xs) (strike-past m k start s above is))
+        ap (λ b. list_any (is_out m k) (cond b (s ∷ ending start xs) (ending start xs))) is ∙ rest
+        ∙ sym (ap (λ b. b || list_any (is_out m k) xs) (strike-past m k start s above is))
 
 -- where none passes, none of some of them does
 none-ending : (p : Strike → Bool) (start : ℕ) (xs : List Strike) → list_any p xs ≡ false → list_any p (ending start xs) ≡ false
@@ -89,17 +89,17 @@ lengthened entries place k old at s within reaches =
     let mp = (entry_at entries place).message in
     let was = get_or old at s in
     let longer : Strike = record { message = was.message; from = was.from; to = place + 1 } in
-    any-set (strikes_out m k) (k == place) old at longer within
+    any-set (is_out m k) (k == place) old at longer within
     (longer-out m mp was.message was.from was.to place k reaches.message reaches.from reaches.to (λ above below. reaches.between k above below)
     (λ is. ap (λ n. (entry_at entries n).message) is)
-    ∙ ap (λ w. strikes_out m k w || k == place) (get_or_default old at s longer within))
+    ∙ ap (λ w. is_out m k w || k == place) (get_or_default old at s longer within))
 
 pub lengthened-bound : (entries : List Entry) (place m k : ℕ) (old : List Strike) (at : ℕ) (s : Strike) → place < k → is_struck old m k ≡ false →
     is_struck (set old at (record { message = (get_or old at s).message; from = (get_or old at s).from; to = place + 1 })) m k ≡ false
 unfolding is_struck
 lengthened-bound entries place m k old at s past none =
     let was = get_or old at s in
-    none-set (strikes_out m k) old at (record { message = was.message; from = was.from; to = place + 1 }) (past-out m was.message was.from place k past) none
+    none-set (is_out m k) old at (record { message = was.message; from = was.from; to = place + 1 }) (past-out m was.message was.from place k past) none
 
 pub added : (entries : List Entry) (place k : ℕ) (old : List Strike) →
     is_struck (old ++ (record { message = (entry_at entries place).message; from = place; to = place + 1 }) ∷ []) (entry_at entries k).message k
@@ -109,16 +109,16 @@ added entries place k old =
     let m = (entry_at entries k).message in
     let mp = (entry_at entries place).message in
     let s : Strike = record { message = mp; from = place; to = place + 1 } in
-    list_any-append (strikes_out m k) old (s ∷ [])
-    ∙ ap (λ b. list_any (strikes_out m k) old || b) (or-false (strikes_out m k s) ∙ one-out m mp place k (λ is. ap (λ n. (entry_at entries n).message) is))
+    list_any-append (is_out m k) old (s ∷ [])
+    ∙ ap (λ b. list_any (is_out m k) old || b) (or-false (is_out m k s) ∙ one-out m mp place k (λ is. ap (λ n. (entry_at entries n).message) is))
 
 pub added-bound : (m mp place k : ℕ) (old : List Strike) → place < k → is_struck old m k ≡ false →
     is_struck (old ++ (record { message = mp; from = place; to = place + 1 }) ∷ []) m k ≡ false
 unfolding is_struck
 added-bound m mp place k old past none =
     let s : Strike = record { message = mp; from = place; to = place + 1 } in
-    list_any-append (strikes_out m k) old (s ∷ [])
-    ∙ ap₂ (λ a b. a || b) none (or-false (strikes_out m k s) ∙ past-out m mp place place k past)
+    list_any-append (is_out m k) old (s ∷ [])
+    ∙ ap₂ (λ a b. a || b) none (or-false (is_out m k s) ∙ past-out m mp place place k past)
 
 pub struck-ending : (m k start : ℕ) (xs : List Strike) → start ≤ k → is_struck (ending start xs) m k ≡ is_struck xs m k
 unfolding is_struck
@@ -126,7 +126,7 @@ struck-ending m k start xs above = any-ending m k start xs above
 
 pub bound-ending : (m k start : ℕ) (xs : List Strike) → is_struck xs m k ≡ false → is_struck (ending start xs) m k ≡ false
 unfolding is_struck
-bound-ending m k start xs none = none-ending (strikes_out m k) start xs none
+bound-ending m k start xs none = none-ending (is_out m k) start xs none
 
 -- strikes one after another, of which one after the first ones changes
 set-behind : (xs ys : List Strike) (i j : ℕ) (v : Strike) → j ≡ length xs + i → set (xs ++ ys) j v ≡ xs ++ set ys i v
@@ -223,3 +223,44 @@ pub ending-more : (xs : List Strike) (first at start : ℕ) (d : Strike) → fir
     ending start (from_to first (at + 1) xs) ≡ ending start (from_to first at xs) ++ ending start (get_or xs at d ∷ [])
 ending-more xs first at start d order within =
     ap (ending start) (from_to-more xs first at d order within) ∙ filter-append (λ s. nat_lt start s.to) (from_to first at xs) (get_or xs at d ∷ [])
+
+-- strikes looked at one by one
+pub none-struck : (m k : ℕ) → is_struck [] m k ≡ false
+unfolding is_struck
+none-struck m k = refl
+
+pub struck-more : (xs : List Strike) (i m k : ℕ) (s : Strike) → i < length xs → is_struck (take i xs) m k ≡ false → is_out m k (get_or xs i s) ≡ false →
+    is_struck (take (i + 1) xs) m k ≡ false
+unfolding is_struck
+struck-more xs i m k s within none not =
+    ap (list_any (is_out m k)) (take_more xs i s within)
+    ∙ list_any-append (is_out m k) (take i xs) (get_or xs i s ∷ [])
+    ∙ ap₂ (λ a b. a || b) none (or-false (is_out m k (get_or xs i s)) ∙ not)
+
+out-yes : (m from to sm k : ℕ) → sm ≡ m → from ≤ k → k < to → (sm == m && (nat_le from k && nat_lt k to)) ≡ true
+out-yes m from to sm k is low high = grind (arith, nat_tests)
+
+pub struck-by : (xs : List Strike) (i m k : ℕ) (s : Strike) → i < length xs → (get_or xs i s).message ≡ m → (get_or xs i s).from ≤ k → k < (get_or xs i s).to → is_struck xs m k ≡ true
+unfolding is_struck
+struck-by xs i m k s within is low high =
+    let was = get_or xs i s in
+    list_any_at (is_out m k) xs i s within (out-yes m was.from was.to was.message k is low high)
+
+out-low : (m sm from to k : ℕ) → (sm == m && (nat_le from k && nat_lt k to)) ≡ true → from ≤ k
+out-low m sm from to k is = grind (arith, nat_tests)
+
+out-high : (m sm from to k : ℕ) → (sm == m && (nat_le from k && nat_lt k to)) ≡ true → k < to
+out-high m sm from to k is = grind (arith, nat_tests)
+
+out-is : (m sm from to k : ℕ) → (sm == m && (nat_le from k && nat_lt k to)) ≡ true → sm ≡ m
+out-is m sm from to k is = grind (arith, nat_tests)
+
+-- a place that a strike strikes, and those up to its end
+pub out-struck : (xs : List Strike) (i m k : ℕ) (s : Strike) → i < length xs → is_out m k (get_or xs i s) ≡ true →
+    (k < (get_or xs i s).to) × ((j : ℕ) → k ≤ j → j < (get_or xs i s).to → is_struck xs m j ≡ true)
+out-struck xs i m k s within out =
+    let was = get_or xs i s in
+    let low = out-low m was.message was.from was.to k out in (
+      out-high m was.message was.from was.to k out,
+      λ j above below. struck-by xs i m j s within (out-is m was.message was.from was.to k out) (omega (arith, low, above)) below,
+    )

@@ -4,7 +4,7 @@ use Rattle.std.specs.Prelude.{nat_le, nat_lt}
 use Rattle.std.specs.List.{sum_by}
 use Rattle.std.proofs.lemmas.Bool.{cases_eq, cases_lt, eq-eqb, ne_eqb, true≢false}
 use Rattle.std.proofs.lemmas.Bool.Decides.{nat_tests}
-use Rattle.std.proofs.lemmas.List.Sums.{sum_by-append}
+use Rattle.std.proofs.lemmas.List.Sums.{sum_by-append, sum_by-cons}
 use Rattle.std.proofs.lemmas.Nat.{mod_below}
 use Rattle.std.proofs.Math.Nat.{add-mod_right, mod-add-mod, mod-eq_of_lt}
 use Rattle.sip_ledger.specs.declared.debt.Debt.{Debt}
@@ -52,7 +52,8 @@ cut-print debt old new cut w is =
     ∙ ap (λ n. n % 2 ^ 64)
     (ap₂ (λ a b. a + b) (ap worths cut.rest ∙ sum_by-append (λ debt. worth_of debt.message debt.deadline) cut.before cut.after) is
     ∙ turned (worths cut.before) (worths cut.after) (worth_of debt.message debt.deadline)
-    ∙ sym (ap worths cut.whole ∙ sum_by-append (λ debt. worth_of debt.message debt.deadline) cut.before (debt ∷ cut.after)))
+    ∙ sym (ap worths cut.whole ∙ sum_by-append (λ debt. worth_of debt.message debt.deadline) cut.before (debt ∷ cut.after)
+    ∙ ap (λ n. worths cut.before + n) (sum_by-cons (λ debt. worth_of debt.message debt.deadline) debt cut.after)))
   where
     turned : (a b c : ℕ) → a + b + c ≡ a + (c + b)
     turned a b c = omega arith
@@ -190,3 +191,74 @@ without-account gains old new a b place w is owed without soft order end first l
 
     cut : IsCut debt (account_debts gains old a) (account_debts gains new b)
     cut = cut-at gains.entries.items (owes_at gains.entries.items old a) (must_at gains a) (owes_at gains.entries.items new b) (must_at gains b) place inside owed without must
+
+pub owed-from : (entries : List Entry) (strikes : List Strike) (a : Account) (k : ℕ) → owes_at entries strikes a k ≡ true → a.start ≤ k
+owed-from entries strikes a k is = elim (cases_lt k a.start) [
+    | inl early ↦ absurd (true≢false (sym is ∙ before-start entries strikes a k early))
+    | inr from ↦ from
+  ]
+
+pub worth-fits : (m d : ℕ) → worth_of m d < 2 ^ 64
+unfolding worth_of
+worth-fits m d = mod_below _ (2 ^ 64) (lit< tt)
+
+-- without its first debt
+pub without-first : (gains : Gains) (strikes : List Strike) (a : Account) (place w next print : ℕ) → IsAccount gains strikes a → owes_at gains.entries.items strikes a place ≡ true →
+    place ≡ a.start → w ≡ worth_of (entry_at gains.entries.items place).message (entry_at gains.entries.items place).deadline → print ≡ (a.print + (2 ^ 64 - w)) % 2 ^ 64 →
+    (place + 1 ≤ next) × (next ≤ a.end) → ((k : ℕ) → place + 1 ≤ k → k < next → owes_at gains.entries.items strikes a k ≡ false) →
+    (next < a.end → owes_at gains.entries.items strikes a next ≡ true) →
+    IsAccount gains strikes (record a { start = next; print = print }) ×
+    IsWithout place (owes_at gains.entries.items strikes a) (owes_at gains.entries.items strikes (record a { start = next; print = print }))
+without-first gains strikes a place w next print is owed here worth printed order none begins =
+    let b : Account = record a { start = next; print = print } in
+    let entries = gains.entries.items in
+    let low = order.0 in
+    let high = order.1 in
+    let without : IsWithout place (owes_at entries strikes a) (owes_at entries strikes b) =
+    later-start entries strikes a b place (sym here) (omega (arith, low)) refl refl refl (λ k above below. none k (omega (arith, above)) below) in
+    let other : next ≢ place = omega (arith, low) in (
+      without-account gains strikes strikes a b place w is owed without refl high (omega arith) is.first is.last (λ m k past. is.bound m k past)
+          (λ some. without.others next other ∙ begins some) worth printed (subst (λ n. n < 2 ^ 64) (sym worth) (worth-fits (entry_at entries place).message (entry_at entries place).deadline)),
+      without,
+    )
+
+-- without its last debt
+pub without-last : (gains : Gains) (strikes : List Strike) (a : Account) (place w print : ℕ) → IsAccount gains strikes a → owes_at gains.entries.items strikes a place ≡ true →
+    place ≢ a.start → place + 1 ≡ a.end → w ≡ worth_of (entry_at gains.entries.items place).message (entry_at gains.entries.items place).deadline →
+    print ≡ (a.print + (2 ^ 64 - w)) % 2 ^ 64 →
+    IsAccount gains strikes (record a { end = place; print = print }) ×
+    IsWithout place (owes_at gains.entries.items strikes a) (owes_at gains.entries.items strikes (record a { end = place; print = print }))
+without-last gains strikes a place w print is owed later last worth printed =
+    let b : Account = record a { end = place; print = print } in
+    let entries = gains.entries.items in
+    let from = owed-from entries strikes a place owed in
+    let without : IsWithout place (owes_at entries strikes a) (owes_at entries strikes b) = earlier-end entries strikes a b place last refl refl refl refl in
+    let other : a.start ≢ place = λ same. later (sym same) in (
+      without-account gains strikes strikes a b place w is owed without refl from (omega (arith, last)) is.first is.last (λ m k past. is.bound m k past)
+          (λ some. without.others a.start other ∙ is.begins (omega (arith, some, last))) worth printed
+          (subst (λ n. n < 2 ^ 64) (sym worth) (worth-fits (entry_at entries place).message (entry_at entries place).deadline)),
+      without,
+    )
+
+-- without a debt between others
+pub without-middle : (gains : Gains) (old new : List Strike) (a b : Account) (place w print : ℕ) → IsAccount gains old a → owes_at gains.entries.items old a place ≡ true →
+    place ≢ a.start → IsStruckAt gains.entries.items place old new a b → w ≡ worth_of (entry_at gains.entries.items place).message (entry_at gains.entries.items place).deadline →
+    print ≡ (a.print + (2 ^ 64 - w)) % 2 ^ 64 →
+    IsAccount gains new (record b { print = print }) ×
+    IsWithout place (owes_at gains.entries.items old a) (owes_at gains.entries.items new (record b { print = print }))
+without-middle gains old new a b place w print is owed later struck worth printed =
+    let c : Account = record b { print = print } in
+    let entries = gains.entries.items in
+    let from = owed-from entries old a place owed in
+    let start = struck.start in
+    let end = struck.end in
+    let order = is.order in
+    let inside : place < length entries = omega (arith, owed-within entries old a place owed, is.end) in
+    let without : IsWithout place (owes_at entries old a) (owes_at entries new c) = struck-without entries old new a b c place struck is.end inside from refl refl refl refl in
+    let other : a.start ≢ place = λ same. later (sym same) in (
+      without-account gains old new a c place w is owed without struck.soft (omega (arith, start, end, order)) (omega (arith, end)) struck.first struck.last
+          (λ m k past. struck.bound m k past (is.bound m k past))
+          (λ some. ap (owes_at entries new c) start ∙ without.others a.start other ∙ is.begins (omega (arith, some, start, end))) worth printed
+          (subst (λ n. n < 2 ^ 64) (sym worth) (worth-fits (entry_at entries place).message (entry_at entries place).deadline)),
+      without,
+    )

@@ -23,6 +23,12 @@ pub record AreGains (gains : Gains) : Type 0 where
   pub musts : (k : ℕ) → holds gains.musts 0 k ≡ true → k < length gains.entries.items
   pub rises : gains.rises ≡ true → AreRising gains.entries.items
 
+-- the place stands under the debt's message, and among those of what must be sent if it must; no other place moves
+pub record IsNoted (place : ℕ) (debt : Debt) (named must_be named' must_be' : List (ℕ × ℕ)) : Type 0 where
+  pub messages : (m k : ℕ) → holds named' m k ≡ cond (m == debt.message && k == place) true (holds named m k)
+  pub must : holds must_be' 0 place ≡ debt.must
+  pub musts : (k : ℕ) → k ≢ place → holds must_be' 0 k ≡ holds must_be 0 k
+
 -- one more gain
 pub record IsGain (debt : Debt) (old new : Gains) : Type 0 where
   pub entries : new.entries.items ≡ old.entries.items ++ (record { message = debt.message; deadline = debt.deadline }) ∷ []
@@ -30,12 +36,12 @@ pub record IsGain (debt : Debt) (old new : Gains) : Type 0 where
   pub musts : (k : ℕ) → k ≢ length old.entries.items → holds new.musts 0 k ≡ holds old.musts 0 k
 
 -- whether the strike says that a gain of this message at place k is not owed
-abbrev pub strikes_out : ℕ → ℕ → Strike → Bool
-strikes_out message k strike = strike.message == message && (nat_le strike.from k && nat_lt k strike.to)
+abbrev pub is_out : ℕ → ℕ → Strike → Bool
+is_out message k strike = strike.message == message && (nat_le strike.from k && nat_lt k strike.to)
 
 -- whether one of the strikes does
 unfoldable pub is_struck : List Strike → ℕ → ℕ → Bool
-is_struck strikes message k = list_any (strikes_out message k) strikes
+is_struck strikes message k = list_any (is_out message k) strikes
 
 -- the strikes of an account
 abbrev pub strikes_of : List Strike → Account → List Strike
@@ -149,3 +155,8 @@ pub record IsNextGain (gains : Gains) (strikes : List Strike) (account : Account
 pub record KeepsAccounts (old new : Gains) : Type 0 where
   pub each : (strikes : List Strike) (accounts : List Account) → All (IsAccount old strikes) accounts →
       All (IsAccount new strikes) accounts × (accounts_debts new strikes accounts ≡ accounts_debts old strikes accounts)
+
+-- what is past has gone up to a place
+pub record IsExpiredTo (t : ℕ) (entries : List Entry) (m o o' : ℕ → Bool) (place : ℕ) : Type 0 where
+  pub gone : (k : ℕ) → k < place → o' k ≡ (o k && (m k || nat_le t (entry_at entries k).deadline))
+  pub later : (k : ℕ) → place ≤ k → o' k ≡ o k

@@ -1,8 +1,8 @@
 //! What one row owes of what was gained.
-ghost use Rattle.std.specs.Prelude.{◌≡◌, ◌≢◌, ◌↔◌, ◌<◌, ◌≤◌, ◌*◌, ◌%◌, ◌^◌, ◌++◌, ◌∷◌, [], ℕ, true, false, List, Some, IfOk, IfSome, IfNone, IsTrue, OnOk, OnErr, bit_xor, filter, length, option_to_list, take};
+ghost use Rattle.std.specs.Prelude.{◌≡◌, ◌≢◌, ◌↔◌, ◌<◌, ◌≤◌, ◌*◌, ◌%◌, ◌^◌, ◌++◌, ◌∷◌, [], ℕ, ◌+◌, Bool, true, false, Some, IfOk, IfSome, IfNone, IsTrue, OnOk, OnErr, bit_xor, filter, length, option_to_list, take};
 ghost use Rattle.sip_ledger.specs.Debts.{counts_at, debt_deadlines, earliest};
 ghost use Rattle.sip_ledger.specs.Accounts.{worth_of};
-ghost use Rattle.sip_ledger.specs.inner.Accounts.{AreGains, IsAccount, IsFirstPayable, IsNextGain, IsPassedTo, IsWithout, KeepsAccounts, account_debts, must_at, owes_at, pays_at};
+ghost use Rattle.sip_ledger.specs.inner.Accounts.{AreGains, IsAccount, IsExpiredTo, IsFirstPayable, IsNextGain, IsPassedTo, IsWithout, KeepsAccounts, account_debts, must_at, owes_at, pays_at, strikes_of};
 
 use crate::accounts::gains::Gains;
 use crate::accounts::strikes::{Strike, put, struck_to};
@@ -33,24 +33,38 @@ pub(crate) const EMPTY: Account = Account {
     print: 0,
 };
 
+/// The account's strikes.
+fn own(strikes: &[Strike], account: Account) -> &[Strike]
+    requires first { account.first ≤ account.last }
+    requires last { account.last ≤ length strikes.now }
+    ensures { result.now ≡ strikes_of strikes.now account }
+{
+    &strikes[account.first..account.last]
+}
+
 /// Whether the account owes what was gained at the place.
-pub(crate) fn owes(gains: &Gains, strikes: &[Strike], account: Account, place: usize) -> bool
+fn owes(gains: &Gains, strikes: &[Strike], account: Account, place: usize) -> bool
     requires within { account.end ≤ length gains.now.entries.items }
-    requires order { account.first ≤ account.last }
+    requires first { account.first ≤ account.last }
     requires last { account.last ≤ length strikes.now }
     ensures { result ≡ owes_at gains.now.entries.items strikes.now account place }
 {
-    if place < account.start || account.end <= place {
+    if place < account.start {
         return false;
     }
-    let message = gains.entries[place].message;
-    struck_to(&strikes[account.first..account.last], message, place).is_none()
+    if account.end <= place {
+        return false;
+    }
+    match struck_to(own(strikes, account), gains.entry(place).message, place) {
+        Some(_) => false,
+        None => true,
+    }
 }
 
 /// The first place from this one on at which the account owes something, or its end.
 fn next(gains: &Gains, strikes: &[Strike], account: Account, from: usize) -> usize
     requires within { account.end ≤ length gains.now.entries.items }
-    requires order { account.first ≤ account.last }
+    requires first { account.first ≤ account.last }
     requires last { account.last ≤ length strikes.now }
     requires from { from ≤ account.end }
     ensures within { (from ≤ result) × (result ≤ account.end) }
@@ -94,7 +108,8 @@ pub(crate) fn without(
     ensures owed { IfOk result (λ new. IsWithout place (owes_at gains.now.entries.items strikes.old.items account) (owes_at gains.now.entries.items strikes.new.items new)) }
     ensures soft { IfOk result (λ new. new.soft ≡ account.soft) }
 {
-    let entry = gains.entries[place];
+    let rest = account.end - place;
+    let entry = gains.entry(place);
     let print = account
         .print
         .wrapping_sub(worth(entry.message, entry.deadline));
@@ -106,7 +121,7 @@ pub(crate) fn without(
             ..account
         });
     }
-    if place + 1 == account.end {
+    if rest == 1 {
         return Ok(Account {
             end: place,
             print,
@@ -130,7 +145,7 @@ pub(crate) fn find(
     ensures found { IfSome result (IsFirstPayable gains.now.entries.items (owes_at gains.now.entries.items strikes.now account) message moment) }
     ensures none { IfNone result ((k : ℕ) → owes_at gains.now.entries.items strikes.now account k ≡ true → pays_at gains.now.entries.items message moment k ≡ false) }
 {
-    let own = &strikes[account.first..account.last];
+    let own = own(strikes, account);
     let mut from = account.start;
     while let Some(place) = gains.next(message, from) {
         if account.end <= place {
@@ -138,8 +153,12 @@ pub(crate) fn find(
         }
         match struck_to(own, message, place) {
             Some(to) => from = to,
-            None if gains.entries[place].deadline < moment => from = place + 1,
-            None => return Some(place),
+            None => {
+                if moment <= gains.entry(place).deadline {
+                    return Some(place);
+                }
+                from = place + 1;
+            }
         }
     }
     None
@@ -149,7 +168,40 @@ pub(crate) fn find(
 fn must(gains: &Gains, account: Account, place: usize) -> bool
     ensures { result ≡ must_at gains.now account place }
 {
-    account.soft <= place && gains.musts.has(0, place as u64)
+    if place < account.soft {
+        return false;
+    }
+    gains.musts.has(0, place as u64)
+}
+
+/// The account without what was gained at the place, if it owes and may send that and its deadline is below the moment.
+fn expired_at(
+    gains: &Gains,
+    strikes: &mut Vec<Strike>,
+    account: Account,
+    place: usize,
+    moment: u64,
+) -> Result<Account, AllocError>
+    requires gained { AreGains gains.now }
+    requires account { IsAccount gains.now strikes.old.items account }
+    requires place { place < account.end }
+    ensures kept { take (length strikes.old.items) strikes.new.items ≡ strikes.old.items }
+    ensures account { IfOk result (IsAccount gains.now strikes.new.items) }
+    ensures soft { IfOk result (λ new. new.soft ≡ account.soft) }
+    ensures gone { IfOk result (λ new. (o : ℕ → Bool) →
+        IsExpiredTo moment gains.now.entries.items (must_at gains.now account) o (owes_at gains.now.entries.items strikes.old.items account) place →
+        IsExpiredTo moment gains.now.entries.items (must_at gains.now account) o (owes_at gains.now.entries.items strikes.new.items new) (place + 1)) }
+{
+    if moment <= gains.entry(place).deadline {
+        return Ok(account);
+    }
+    if must(gains, account, place) {
+        return Ok(account);
+    }
+    if !owes(gains, strikes, account, place) {
+        return Ok(account);
+    }
+    without(gains, strikes, account, place)
 }
 
 /// The account without what it may send and whose deadline is below the moment. On an error what is left of the others' strikes is
@@ -166,19 +218,16 @@ pub(crate) fn expired(
     ensures account { IfOk result (IsAccount gains.now strikes.new.items) }
     ensures debts { IfOk result (λ new. account_debts gains.now strikes.new.items new ≡ filter (counts_at moment) (account_debts gains.now strikes.old.items account)) }
 {
-    let mut account = account;
+    let mut left = account;
     let mut place = account.start;
-    while place < account.end {
-        if moment <= gains.entries[place].deadline {
-            if gains.rises {
-                return Ok(account);
-            }
-        } else if owes(gains, strikes, account, place) && !must(gains, account, place) {
-            account = without(gains, strikes, account, place)?;
+    while place < left.end {
+        if gains.rises && moment <= gains.entry(place).deadline {
+            return Ok(left);
         }
+        left = expired_at(gains, strikes, left, place, moment)?;
         place += 1;
     }
-    Ok(account)
+    Ok(left)
 }
 
 /// A place at which the account can gain the debt: the last one, or a new one. On an error the accounts owe what they owed.
@@ -207,16 +256,25 @@ fn last_for(gains: &Gains, strikes: &[Strike], account: Account, debt: Debt) -> 
     requires account { IsAccount gains.now strikes.now account }
     ensures { IfSome result (IsNextGain gains.now strikes.now account debt) }
 {
-    let last = gains.entries.len().checked_sub(1)?;
-    let entry = gains.entries[last];
-    let own = &strikes[account.first..account.last];
-    let is = entry.message == debt.message
-        && entry.deadline == debt.deadline
-        && gains.musts.has(0, last as u64) == debt.must
-        && account.end <= last
-        && account.soft <= last
-        && struck_to(own, debt.message, last).is_none();
-    if is { Some(last) } else { None }
+    let count = gains.entries.len();
+    if count == 0 {
+        return None;
+    }
+    let last = count - 1;
+    let entry = gains.entry(last);
+    if entry.message != debt.message || entry.deadline != debt.deadline {
+        return None;
+    }
+    if gains.musts.has(0, last as u64) != debt.must {
+        return None;
+    }
+    if last < account.end || last < account.soft {
+        return None;
+    }
+    match struck_to(own(strikes, account), debt.message, last) {
+        Some(_) => None,
+        None => Some(last),
+    }
 }
 
 /// The account with what was gained at the places from its end up to this one struck.
@@ -287,7 +345,7 @@ pub(crate) fn earliest_must(gains: &Gains, strikes: &[Strike], account: Account)
             return least;
         }
         if owes(gains, strikes, account, place) {
-            least = Some(earlier(gains.entries[place].deadline, least));
+            least = Some(earlier(gains.entry(place).deadline, least));
             if gains.rises {
                 return least;
             }
@@ -319,7 +377,7 @@ pub(crate) fn same(gains: &Gains, strikes: &[Strike], one: Account, other: Accou
     let mut at = one.start;
     let mut beside = other.start;
     while at < one.end && beside < other.end {
-        if gains.entries[at] != gains.entries[beside]
+        if gains.entry(at) != gains.entry(beside)
             || must(gains, one, at) != must(gains, other, beside)
         {
             return false;
@@ -343,7 +401,7 @@ pub(crate) fn debts(
     let mut debts = Vec::new(alloc);
     let mut place = account.start;
     while place < account.end {
-        let entry = gains.entries[place];
+        let entry = gains.entry(place);
         debts.push(Debt {
             message: entry.message,
             deadline: entry.deadline,

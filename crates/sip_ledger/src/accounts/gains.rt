@@ -1,7 +1,8 @@
 //! What the rows gained: one list for all.
-ghost use Rattle.std.specs.Prelude.{◌≡◌, ◌≢◌, ◌<◌, ◌≤◌, ◌&&◌, ℕ, [], IfSome, IfNone, OnOk, OnErr, length, true, false};
-ghost use Rattle.sip_ledger.specs.inner.Accounts.{AreGains, IsGain, entry_at};
+ghost use Rattle.std.specs.Prelude.{◌≡◌, ◌≢◌, ◌<◌, ◌≤◌, ◌++◌, ◌∷◌, ℕ, [], IfSome, IfNone, OnOk, OnErr, length, true, false};
+ghost use Rattle.sip_ledger.specs.inner.Accounts.{AreGains, IsGain, IsNoted, entry_at};
 ghost use Rattle.sip_ledger.specs.inner.Indexes.{holds};
+ghost use Rattle.sip_ledger.specs.inner.Places.{AreRising};
 
 use crate::debt::{Debt, Entry};
 use crate::index::Index;
@@ -34,6 +35,14 @@ impl Gains {
         }
     }
 
+    /// The gain at the place.
+    pub(crate) fn entry(&self, place: usize) -> Entry
+        requires { place < length self.now.entries.items }
+        ensures { result ≡ entry_at self.now.entries.items place }
+    {
+        self.entries[place]
+    }
+
     /// Puts a gain after the others. On an error they are as before.
     pub(crate) fn push(&mut self, debt: Debt) -> Result<(), AllocError>
         requires { AreGains self.old }
@@ -41,29 +50,17 @@ impl Gains {
         ensures ok { OnOk result (IsGain debt self.old self.new) }
         ensures err { OnErr result ((self.new.entries.items ≡ self.old.entries.items) × (self.new.musts ≡ self.old.musts)) }
     {
-        let place = self.entries.len();
-        let rises = self.rises && self.is_last_until(debt.deadline);
-        self.entries.reserve(1)?;
-        let key = u64::from(debt.message);
-        self.messages.put(key, place as u64)?;
-        if debt.must && self.musts.put(0, place as u64).is_err() {
-            self.messages.take(key, place as u64);
-            return Err(AllocError);
-        }
-        self.rises = rises;
-        self.entries.push_reserved(Entry {
+        let entry = Entry {
             message: debt.message,
             deadline: debt.deadline,
-        });
+        };
+        let place = self.entries.len() as u64;
+        let rises = rise(&self.entries, self.rises, entry);
+        self.entries.reserve(1)?;
+        note(&mut self.messages, &mut self.musts, place, debt)?;
+        self.rises = rises;
+        self.entries.push_reserved(entry);
         Ok(())
-    }
-
-    /// Whether the deadline of the last gain is not above this one.
-    fn is_last_until(&self, deadline: u64) -> bool {
-        match self.entries.last() {
-            Some(entry) => entry.deadline <= deadline,
-            None => true,
-        }
     }
 
     /// The first place of the message from this one on.
@@ -93,4 +90,37 @@ impl Gains {
             None => None,
         }
     }
+}
+
+/// Puts the place of a gain under its message, and among those of what must be sent if it must. On an error it stands nowhere.
+fn note(
+    messages: &mut Index,
+    musts: &mut Index,
+    place: u64,
+    debt: Debt,
+) -> Result<(), AllocError>
+    requires message { (m : ℕ) → holds messages.old m place ≡ false }
+    requires must { holds musts.old 0 place ≡ false }
+    ensures ok { OnOk result (IsNoted place debt messages.old musts.old messages.new musts.new) }
+    ensures err { OnErr result (((m k : ℕ) → holds messages.new m k ≡ holds messages.old m k) × (musts.new ≡ musts.old)) }
+{
+    let key = u64::from(debt.message);
+    messages.put(key, place)?;
+    if !debt.must {
+        return Ok(());
+    }
+    if let Err(refused) = musts.put(0, place) {
+        messages.take(key, place);
+        return Err(refused);
+    }
+    Ok(())
+}
+
+/// Whether deadlines never fall, with one gain more.
+fn rise(entries: &[Entry], rises: bool, entry: Entry) -> bool
+    requires { rises ≡ true → AreRising entries.now }
+    ensures { result ≡ true → AreRising (entries.now ++ entry ∷ []) }
+{
+    let count = entries.len();
+    count == 0 || (rises && entries[count - 1].deadline <= entry.deadline)
 }

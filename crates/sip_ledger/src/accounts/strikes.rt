@@ -2,7 +2,7 @@
 ghost use Rattle.std.specs.Prelude.{◌≡◌, ◌<◌, ◌≤◌, ◌++◌, ℕ, true, false, IfOk, IfSome, IfNone, OnOk, OnErr, filter, length, take, nat_lt};
 ghost use Rattle.std.specs.Bool.{OnTrue, OnFalse};
 ghost use Rattle.sip_ledger.specs.Ledgers.{from_to};
-ghost use Rattle.sip_ledger.specs.inner.Accounts.{AreGains, IsStruckAt, IsWritten, Lengthens, Reaches, is_struck};
+ghost use Rattle.sip_ledger.specs.inner.Accounts.{AreGains, IsStruckAt, IsWritten, Lengthens, Reaches, is_out, is_struck};
 
 use crate::accounts::account::Account;
 use crate::accounts::gains::Gains;
@@ -22,11 +22,18 @@ pub(crate) fn struck_to(strikes: &[Strike], message: u32, place: usize) -> Optio
     ensures none { IfNone result (is_struck strikes.now message place ≡ false) }
 {
     for strike in strikes {
-        if strike.message == message && strike.from <= place && place < strike.to {
+        if strikes_out(*strike, message, place) {
             return Some(strike.to);
         }
     }
     None
+}
+
+/// Whether the strike says that what was gained of the message at the place is not owed.
+fn strikes_out(strike: Strike, message: u32, place: usize) -> bool
+    ensures { result ≡ is_out message place strike }
+{
+    strike.message == message && strike.from <= place && place < strike.to
 }
 
 /// Writes the strikes from one up to another after all others, but for those that end at a place or before it. On an error some of them
@@ -74,7 +81,7 @@ fn reaches(gains: &Gains, strike: Strike, place: usize) -> bool
     requires within { place < length gains.now.entries.items }
     ensures { OnTrue result (Reaches gains.now.entries.items place strike) }
 {
-    if strike.message != gains.entries[place].message || place < strike.from {
+    if strike.message != gains.entry(place).message || place < strike.from {
         return false;
     }
     match gains.next(strike.message, strike.to) {
@@ -128,7 +135,7 @@ fn write(
     copy_some(strikes, account.first, account.last, account.start)?;
     if !lengthen(gains, strikes, first, place) {
         strikes.push(Strike {
-            message: gains.entries[place].message,
+            message: gains.entry(place).message,
             from: place,
             to: place + 1,
         })?;

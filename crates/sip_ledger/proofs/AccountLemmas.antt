@@ -112,6 +112,10 @@ kept-strikes old new a kept last = ap (drop a.first) (sym (take-take a.last (len
 kept-longer : (old new : List Strike) → take (length old) new ≡ old → length old ≤ length new
 kept-longer old new kept = omega (arith, ap length kept, length-take (length old) new)
 
+pub kept-twice : (a b c : List Strike) → take (length a) b ≡ a → take (length b) c ≡ b → take (length a) c ≡ a
+kept-twice a b c one two =
+    sym (take-take (length a) (length b) c (kept-longer a b one)) ∙ ap (take (length a)) two ∙ one
+
 pub kept-owes : (entries : List Entry) (old new : List Strike) (a : Account) (k : ℕ) → take (length old) new ≡ old → a.last ≤ length old →
     owes_at entries new a k ≡ owes_at entries old a k
 unfolding owes_at

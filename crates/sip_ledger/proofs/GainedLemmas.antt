@@ -2,6 +2,7 @@
 use Rattle.std.proofs.Common.{◌≡◌, ◌≢◌, ℕ, zero, suc, ◌+◌, ◌<◌, ◌≤◌, ◌%◌, ◌^◌, ◌==◌, ◌&&◌, ◌||◌, Bool, true, false, not, List, [], ◌∷◌, ◌++◌, length, take, drop, get_or, refl, sym, ap, ap₂, ◌∙◌, subst, inl, inr, arith}
 use Rattle.std.specs.Prelude.{All, nat_le, nat_lt}
 use Rattle.std.specs.List.{sum_by}
+use Rattle.std.proofs.Math.Bool.{or-false}
 use Rattle.std.proofs.lemmas.Bool.{cases_eq, cases_lt, eq-eqb, ne_eqb}
 use Rattle.std.proofs.lemmas.Bool.Decides.{nat_tests}
 use Rattle.std.proofs.lemmas.List.{get_or_push, length-append}
@@ -111,6 +112,46 @@ no-more : (x y : Bool) → (x && (y && not true)) ≡ false
 no-more true true = refl
 no-more true false = refl
 no-more false y = refl
+
+ends : (w e : Bool) → ((w || (e && false)) || true) ≡ (w || (true && true))
+ends true e = refl
+ends false true = refl
+ends false false = refl
+
+-- one more place is passed
+pub passed-more : (entries : List Entry) (at : ℕ) (old one new : List Strike) (a p q : Account) → IsPassedTo entries at old one a p → IsStruckAt entries at one new p q → a.end ≤ at →
+    at < length entries → IsPassedTo entries (at + 1) old new a q
+passed-more entries at old one new a p q was now low inside =
+    let same = was.start in
+    record {
+      start = now.start ∙ was.start;
+      end = now.end ∙ was.end;
+      soft = now.soft ∙ was.soft;
+      print = now.print ∙ was.print;
+      first = now.first;
+      last = now.last;
+      struck = λ k from below.
+          now.struck k (omega (arith, from, same)) below
+          ∙ ap (λ b. b || k == at) (was.struck k from below)
+          ∙ joined k (is_struck (strikes_of old a) (entry_at entries k).message k);
+      bound = λ m k past none. now.bound m k past (was.bound m k past none);
+    }
+  where
+    joined : (k : ℕ) (w : Bool) → ((w || (nat_le a.end k && nat_lt k at)) || k == at) ≡ (w || (nat_le a.end k && nat_lt k (at + 1)))
+    joined k w = elim (cases_eq k at) [
+      | inl here ↦
+          ap₂ (λ x y. (w || (nat_le a.end k && x)) || y) (lt-no k at (omega (arith, here))) (eq-eqb k at here)
+          ∙ ends w (nat_le a.end k)
+          ∙ sym (ap₂ (λ x y. w || (x && y)) (le-yes a.end k (omega (arith, low, here))) (lt-yes k (at + 1) (omega (arith, here))))
+      | inr other ↦ elim (cases_lt k at) [
+        | inl early ↦
+            ap₂ (λ x y. (w || (nat_le a.end k && x)) || y) (lt-yes k at early) (ne_eqb k at other) ∙ or-false (w || (nat_le a.end k && true))
+            ∙ sym (ap (λ x. w || (nat_le a.end k && x)) (lt-yes k (at + 1) (omega (arith, early))))
+        | inr late ↦
+            ap₂ (λ x y. (w || (nat_le a.end k && x)) || y) (lt-no k at late) (ne_eqb k at other) ∙ or-false (w || (nat_le a.end k && false))
+            ∙ sym (ap (λ x. w || (nat_le a.end k && x)) (lt-no k (at + 1) (omega (arith, late, other))))
+      ]
+    ]
 
 -- the other places of an account that passed what was gained before the place
 passed-others : (entries : List Entry) (old new : List Strike) (a p b : Account) (place k : ℕ) → IsPassedTo entries place old new a p → a.end ≤ length entries → a.end ≤ place →

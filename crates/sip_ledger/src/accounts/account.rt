@@ -2,6 +2,7 @@
 ghost use Rattle.std.specs.Prelude.{◌≡◌, ◌≢◌, ◌↔◌, ◌<◌, ◌≤◌, ◌*◌, ◌%◌, ◌^◌, ◌++◌, ◌∷◌, [], ℕ, ◌+◌, Bool, true, false, Some, IfOk, IfSome, IfNone, IsTrue, OnOk, OnErr, bit_xor, filter, length, option_to_list, take};
 ghost use Rattle.sip_ledger.specs.Debts.{counts_at, debt_deadlines, earliest};
 ghost use Rattle.sip_ledger.specs.Accounts.{worth_of};
+ghost use Rattle.sip_ledger.specs.declared.accounts.account.Account.{Account};
 ghost use Rattle.sip_ledger.specs.inner.Accounts.{AreGains, IsAccount, IsExpiredTo, IsFirstPayable, IsNextGain, IsPassedTo, IsWithout, KeepsAccounts, account_debts, must_at, owes_at, pays_at, strikes_of};
 
 use crate::accounts::gains::Gains;
@@ -188,9 +189,9 @@ fn expired_at(
     ensures kept { take (length strikes.old.items) strikes.new.items ≡ strikes.old.items }
     ensures account { IfOk result (IsAccount gains.now strikes.new.items) }
     ensures soft { IfOk result (λ new. new.soft ≡ account.soft) }
-    ensures gone { IfOk result (λ new. (o : ℕ → Bool) →
-        IsExpiredTo moment gains.now.entries.items (must_at gains.now account) o (owes_at gains.now.entries.items strikes.old.items account) place →
-        IsExpiredTo moment gains.now.entries.items (must_at gains.now account) o (owes_at gains.now.entries.items strikes.new.items new) (place + 1)) }
+    ensures gone { IfOk result (λ new. (a : Account) (o : ℕ → Bool) → account.soft ≡ a.soft →
+        IsExpiredTo moment gains.now.entries.items (must_at gains.now a) o (owes_at gains.now.entries.items strikes.old.items account) place →
+        IsExpiredTo moment gains.now.entries.items (must_at gains.now a) o (owes_at gains.now.entries.items strikes.new.items new) (place + 1)) }
 {
     if moment <= gains.entry(place).deadline {
         return Ok(account);
@@ -201,7 +202,8 @@ fn expired_at(
     if !owes(gains, strikes, account, place) {
         return Ok(account);
     }
-    without(gains, strikes, account, place)
+    let left = without(gains, strikes, account, place)?;
+    Ok(left)
 }
 
 /// The account without what it may send and whose deadline is below the moment. On an error what is left of the others' strikes is
@@ -285,6 +287,7 @@ fn pass_to(
     place: usize,
 ) -> Result<Account, AllocError>
     requires gained { AreGains gains.now }
+    requires end { account.end ≤ place }
     requires within { place ≤ length gains.now.entries.items }
     requires first { account.first ≤ account.last }
     requires last { account.last ≤ length strikes.old.items }

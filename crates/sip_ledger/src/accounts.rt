@@ -8,6 +8,8 @@ ghost use Rattle.sip_ledger.specs.Runs.{AreRuns};
 
 mod account;
 mod gains;
+#[cfg(test)]
+mod played;
 mod strikes;
 
 use crate::accounts::account::{

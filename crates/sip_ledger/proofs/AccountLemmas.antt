@@ -221,9 +221,9 @@ past-end entries strikes a k past =
 
 pub owed-within : (entries : List Entry) (strikes : List Strike) (a : Account) (k : ℕ) → owes_at entries strikes a k ≡ true → k < a.end
 owed-within entries strikes a k is = elim (cases_lt k a.end) [
-    | inl below ↦ below
-    | inr past ↦ absurd (true≢false (sym is ∙ past-end entries strikes a k past))
-  ]
+  | inl below ↦ below
+  | inr past ↦ absurd (true≢false (sym is ∙ past-end entries strikes a k past))
+]
 
 pub grown-debts_of : (old new : Gains) (debt : Debt) (strikes : List Strike) (a : Account) → IsGain debt old new → a.end ≤ length old.entries.items →
     account_debts new strikes a ≡ account_debts old strikes a

@@ -56,26 +56,26 @@ NonePays entries owes message t to = (k : ℕ) → k < to → owes k ≡ true �
 pub none-pays_to : (entries : List Entry) (owes : ℕ → Bool) (message t from at : ℕ) → NonePays entries owes message t from →
     ((k : ℕ) → from ≤ k → k < at → (entry_at entries k).message ≢ message) → NonePays entries owes message t at
 none-pays_to entries owes message t from at before others k early owed = elim (cases_lt k from) [
-    | inl first ↦ before k first owed
-    | inr behind ↦ unnamed-unpaid entries message t k (others k behind early)
-  ]
+  | inl first ↦ before k first owed
+  | inr behind ↦ unnamed-unpaid entries message t k (others k behind early)
+]
 
 pub none-pays_struck : (entries : List Entry) (strikes : List Strike) (a : Account) (message t at to : ℕ) → NonePays entries (owes_at entries strikes a) message t at →
     ((k : ℕ) → at ≤ k → k < to → is_struck (strikes_of strikes a) message k ≡ true) → NonePays entries (owes_at entries strikes a) message t to
 none-pays_struck entries strikes a message t at to before struck k early owed = elim (cases_lt k at) [
-    | inl first ↦ before k first owed
-    | inr behind ↦ elim (cases_eq (entry_at entries k).message message) [
-      | inl is ↦ absurd (true≢false (sym owed ∙ struck-unowed entries strikes a k (ap (λ m. is_struck (strikes_of strikes a) m k) is ∙ struck k behind early)))
-      | inr other ↦ unnamed-unpaid entries message t k other
-    ]
+  | inl first ↦ before k first owed
+  | inr behind ↦ elim (cases_eq (entry_at entries k).message message) [
+    | inl is ↦ absurd (true≢false (sym owed ∙ struck-unowed entries strikes a k (ap (λ m. is_struck (strikes_of strikes a) m k) is ∙ struck k behind early)))
+    | inr other ↦ unnamed-unpaid entries message t k other
   ]
+]
 
 pub none-pays_late : (entries : List Entry) (owes : ℕ → Bool) (message t at : ℕ) → NonePays entries owes message t at → (entry_at entries at).deadline < t →
     NonePays entries owes message t (at + 1)
 none-pays_late entries owes message t at before late k early owed = elim (cases_eq k at) [
-    | inl here ↦ ap (pays_at entries message t) here ∙ late-unpaid entries message t at late
-    | inr other ↦ before k (omega (arith, early, other)) owed
-  ]
+  | inl here ↦ ap (pays_at entries message t) here ∙ late-unpaid entries message t at late
+  | inr other ↦ before k (omega (arith, early, other)) owed
+]
 
 -- the place that is found is the first that is owed and pays
 pub owed-here : (entries : List Entry) (strikes : List Strike) (a : Account) (at : ℕ) → a.start ≤ at → at < a.end →

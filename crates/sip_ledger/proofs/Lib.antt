@@ -26,3 +26,4 @@ pub mod GainedLemmas
 pub mod FindLemmas
 pub mod ExpiringLemmas
 pub mod ToldLemmas
+pub mod SeenLemmas

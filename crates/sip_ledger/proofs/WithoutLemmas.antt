@@ -194,9 +194,9 @@ without-account gains old new a b place w is owed without soft order end first l
 
 pub owed-from : (entries : List Entry) (strikes : List Strike) (a : Account) (k : ℕ) → owes_at entries strikes a k ≡ true → a.start ≤ k
 owed-from entries strikes a k is = elim (cases_lt k a.start) [
-    | inl early ↦ absurd (true≢false (sym is ∙ before-start entries strikes a k early))
-    | inr from ↦ from
-  ]
+  | inl early ↦ absurd (true≢false (sym is ∙ before-start entries strikes a k early))
+  | inr from ↦ from
+]
 
 pub worth-fits : (m d : ℕ) → worth_of m d < 2 ^ 64
 unfolding worth_of

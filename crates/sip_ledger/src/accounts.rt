@@ -61,13 +61,6 @@ impl Accounts {
         self.rows.len()
     }
 
-    /// Whether there are no rows.
-    pub fn is_empty(&self) -> bool
-        ensures { IsTrue result ↔ (self.now ≡ []) }
-    {
-        self.rows.is_empty()
-    }
-
     /// Puts a row that owes nothing after the others. On an error all is as before.
     pub fn push(&mut self) -> Result<(), AllocError>
         ensures ok { OnOk result (self.new ≡ self.old ++ [] ∷ []) }
@@ -214,12 +207,7 @@ impl Accounts {
     }
 
     /// Puts the number of each message that the row owes after the others, once for each debt.
-    pub fn names(
-        &self,
-        alloc: Global,
-        row: usize,
-        numbers: &mut Vec<u32>,
-    ) -> Result<(), AllocError>
+    pub fn names(&self, alloc: Global, row: usize, numbers: &mut Vec<u32>) -> Result<(), AllocError>
         requires { row < length self.now }
         ensures { OnOk result (numbers.new.items ≡ numbers.old.items ++ map (λ debt. debt.message) (owed_in self.now row)) }
     {

@@ -2,8 +2,9 @@
 ghost use Rattle.std.specs.Prelude.{◌≡◌, ◌≢◌, ◌↔◌, ◌<◌, ◌≤◌, ◌*◌, ◌%◌, ◌^◌, ◌++◌, ◌∷◌, [], ℕ, ◌+◌, Bool, true, false, Some, IfOk, IfSome, IfNone, IsTrue, OnOk, OnErr, bit_xor, filter, length, option_to_list, take};
 ghost use Rattle.sip_ledger.specs.Debts.{counts_at, debt_deadlines, earliest};
 ghost use Rattle.sip_ledger.specs.Accounts.{worth_of};
+ghost use Rattle.sip_ledger.specs.Rows.{debt_of};
 ghost use Rattle.sip_ledger.specs.declared.accounts.account.Account.{Account};
-ghost use Rattle.sip_ledger.specs.inner.Accounts.{AreGains, IsAccount, IsExpiredTo, IsFirstPayable, IsNextGain, IsPassedTo, IsWithout, KeepsAccounts, account_debts, must_at, owes_at, pays_at, strikes_of};
+ghost use Rattle.sip_ledger.specs.inner.Accounts.{AreGains, IsAccount, IsExpiredTo, IsFirstPayable, IsNextGain, IsPassedTo, IsWithout, KeepsAccounts, account_debts, entry_at, must_at, owes_at, pays_at, strikes_of};
 
 use crate::accounts::gains::Gains;
 use crate::accounts::strikes::{Strike, put, struck_to};
@@ -316,7 +317,9 @@ pub(crate) fn gained(
     ensures account { IfOk result (IsAccount gains.now strikes.new.items) }
     ensures debts { IfOk result (λ new. account_debts gains.now strikes.new.items new ≡ account_debts gains.now strikes.old.items account ++ debt ∷ []) }
 {
-    let print = account.print.wrapping_add(worth(debt.message, debt.deadline));
+    let print = account
+        .print
+        .wrapping_add(worth(debt.message, debt.deadline));
     if account.start == account.end {
         return Ok(Account {
             start: place,
@@ -368,6 +371,19 @@ fn earlier(moment: u64, other: Option<u64>) -> u64
     }
 }
 
+/// What the account owes at a place, as far as it owes something there.
+fn debt_for(gains: &Gains, account: Account, place: usize) -> Debt
+    requires { place < length gains.now.entries.items }
+    ensures { result ≡ debt_of (entry_at gains.now.entries.items place) (must_at gains.now account place) }
+{
+    let entry = gains.entry(place);
+    Debt {
+        message: entry.message,
+        deadline: entry.deadline,
+        must: must(gains, account, place),
+    }
+}
+
 /// Whether two accounts owe the same.
 pub(crate) fn same(gains: &Gains, strikes: &[Strike], one: Account, other: Account) -> bool
     requires one { IsAccount gains.now strikes.now one }
@@ -380,9 +396,7 @@ pub(crate) fn same(gains: &Gains, strikes: &[Strike], one: Account, other: Accou
     let mut at = one.start;
     let mut beside = other.start;
     while at < one.end && beside < other.end {
-        if gains.entry(at) != gains.entry(beside)
-            || must(gains, one, at) != must(gains, other, beside)
-        {
+        if debt_for(gains, one, at) != debt_for(gains, other, beside) {
             return false;
         }
         at = next(gains, strikes, one, at + 1);
@@ -404,12 +418,7 @@ pub(crate) fn debts(
     let mut debts = Vec::new(alloc);
     let mut place = account.start;
     while place < account.end {
-        let entry = gains.entry(place);
-        debts.push(Debt {
-            message: entry.message,
-            deadline: entry.deadline,
-            must: must(gains, account, place),
-        })?;
+        debts.push(debt_for(gains, account, place))?;
         place = next(gains, strikes, account, place + 1);
     }
     Ok(debts)

@@ -93,12 +93,7 @@ impl Gains {
 }
 
 /// Puts the place of a gain under its message, and among those of what must be sent if it must. On an error it stands nowhere.
-fn note(
-    messages: &mut Index,
-    musts: &mut Index,
-    place: u64,
-    debt: Debt,
-) -> Result<(), AllocError>
+fn note(messages: &mut Index, musts: &mut Index, place: u64, debt: Debt) -> Result<(), AllocError>
     requires message { (m : ℕ) → holds messages.old m place ≡ false }
     requires must { holds musts.old 0 place ≡ false }
     ensures ok { OnOk result (IsNoted place debt messages.old musts.old messages.new musts.new) }

@@ -17,7 +17,11 @@ impl Chance {
     }
 }
 
-fn agree(rt: &(impl Abort + AllocGlobal), ledger: &Accounts, lists: &[Vec<Debt>]) -> Result<(), Fail> {
+fn agree(
+    rt: &(impl Abort + AllocGlobal),
+    ledger: &Accounts,
+    lists: &[Vec<Debt>],
+) -> Result<(), Fail> {
     assert!(rt; ledger.len() == lists.len());
     for row in 0..lists.len() {
         let list = &lists[row];
@@ -83,7 +87,10 @@ fn play(rt: &(impl Abort + AllocGlobal), seed: u64, steps: u64, rises: bool) -> 
                 let first = lists[row]
                     .iter()
                     .position(|debt| debt.message == message && moment <= debt.deadline);
-                assert!(rt; ledger.can_pay(row, message, moment) == first.is_some(), "can");
+                assert!(rt;
+                    ledger.can_pay(row, message, moment) == first.is_some(),
+                    "can"
+                );
                 ledger.pay(row, message, moment)?;
                 if let Some(first) = first {
                     lists[row].remove(first);

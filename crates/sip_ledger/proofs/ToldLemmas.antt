@@ -1,7 +1,7 @@
 -- What an account owes, told place by place: all of it, beside that of another one, and the least deadline of what must be sent.
-use Rattle.std.proofs.Common.{◌≡◌, ◌≢◌, ℕ, ◌+◌, ◌<◌, ◌≤◌, ◌&&◌, Bool, true, false, cond, List, [], ◌∷◌, ◌++◌, length, take, drop, get_or, map, refl, sym, ap, ap₂, ◌∙◌, subst, inl, inr, ◌⊎◌, arith, append-nil}
-use Rattle.std.specs.Prelude.{All, Option, Some, None, ◌↔◌, nat_le, nat_lt, option_to_list}
-use Rattle.std.proofs.lemmas.Bool.{cases_eq, cases_lt, true≢false}
+use Rattle.std.proofs.Common.{◌≡◌, ◌≢◌, ℕ, ◌+◌, ◌<◌, ◌≤◌, ◌==◌, ◌&&◌, Bool, true, false, cond, List, [], ◌∷◌, ◌++◌, length, take, drop, get_or, map, refl, sym, ap, ap₂, ◌∙◌, subst, inl, inr, ◌⊎◌, arith, append-nil}
+use Rattle.std.specs.Prelude.{All, IsTrue, Option, Some, None, ◌↔◌, nat_le, nat_lt, option_to_list}
+use Rattle.std.proofs.lemmas.Bool.{cases_eq, cases_lt, eq-eqb, eqb-true, true≢false}
 use Rattle.std.proofs.lemmas.Bool.Decides.{nat_tests}
 use Rattle.std.proofs.lemmas.List.{get_or-drop, get_or_default, length-drop, length-take-le, map-append}
 use Rattle.std.proofs.lemmas.List.Elements.{All-map}
@@ -191,6 +191,27 @@ pub at-shorter : (gains : Gains) (strikes : List Strike) (one other : Account) (
 at-shorter gains strikes one other at beside is_other are past inside same =
     cons≢nil (debt_of (entry_at gains.entries.items beside) (must_at gains other beside)) (back (owes_at gains.entries.items strikes other) (must_at gains other) gains.entries.items (beside + 1))
     (sym (back-here gains strikes other beside is_other inside (are.owed_beside inside)) ∙ sym (are.left.to same) ∙ back-end gains strikes one at past)
+
+-- what the code asks at the end
+pub end-same : (gains : Gains) (strikes : List Strike) (one other : Account) (at beside : ℕ) → IsAccount gains strikes one → IsAccount gains strikes other →
+    AreAt gains strikes one other at beside → at ≡ one.end → IsTrue (beside == other.end) ↔ (account_debts gains strikes one ≡ account_debts gains strikes other)
+end-same gains strikes one other at beside is is_other are here = (
+  λ same. at-end gains strikes one other at beside is is_other are (omega (arith, here)) (let there = eqb-true beside other.end same in omega (arith, there)),
+  λ same. elim (cases_eq beside other.end) [
+    | inl there ↦ eq-eqb beside other.end there
+    | inr short ↦
+        let end = are.end_beside in
+        absurd (at-shorter gains strikes one other at beside is_other are (omega (arith, here)) (omega (arith, short, end)) same)
+  ],
+)
+
+pub end-other : (gains : Gains) (strikes : List Strike) (one other : Account) (at beside : ℕ) → IsAccount gains strikes one →
+    AreAt gains strikes one other at beside → at ≢ one.end → other.end ≤ beside → IsTrue (at == one.end) ↔ (account_debts gains strikes one ≡ account_debts gains strikes other)
+end-other gains strikes one other at beside is are short past =
+    let end = are.end in (
+      λ here. absurd (short (eqb-true at one.end here)),
+      λ same. absurd (at-longer gains strikes one other at beside is are (omega (arith, short, end)) past same),
+    )
 
 -- what must be sent of what is owed
 abbrev pub due : (ℕ → Bool) → (ℕ → Bool) → ℕ → Bool

@@ -94,9 +94,9 @@ impl Accounts {
         ensures { self.new ≡ map (owed_in self.old) rows.now }
     {
         for to in 0..rows.len() {
-            self.rows[to] = self.rows[rows[to]];
+            self.copy(rows[to], to);
         }
-        self.rows.truncate(rows.len());
+        self.truncate(rows.len());
     }
 
     /// Lets the row owe what another one does, and nothing else.

@@ -27,3 +27,4 @@ pub mod FindLemmas
 pub mod ExpiringLemmas
 pub mod ToldLemmas
 pub mod SeenLemmas
+pub mod MovedLemmas

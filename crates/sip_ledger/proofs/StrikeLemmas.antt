@@ -264,3 +264,7 @@ out-struck xs i m k s within out =
       out-high m was.message was.from was.to k out,
       λ j above below. struck-by xs i m j s within (out-is m was.message was.from was.to k out) (omega (arith, low, above)) below,
     )
+
+-- a strike strikes nothing at its end or after it
+pub struck-by_end : (m k sm from to : ℕ) → to ≤ k → (sm == m && (nat_le from k && nat_lt k to)) ≡ false
+struck-by_end m k sm from to past = grind (arith, nat_tests)

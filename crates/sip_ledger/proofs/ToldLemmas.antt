@@ -1,6 +1,7 @@
 -- What an account owes, told place by place: all of it, beside that of another one, and the least deadline of what must be sent.
-use Rattle.std.proofs.Common.{◌≡◌, ◌≢◌, ℕ, ◌+◌, ◌<◌, ◌≤◌, ◌==◌, ◌&&◌, Bool, true, false, cond, List, [], ◌∷◌, ◌++◌, length, take, drop, get_or, map, refl, sym, ap, ap₂, ◌∙◌, subst, inl, inr, ◌⊎◌, arith, append-nil}
+use Rattle.std.proofs.Common.{◌≡◌, ◌≢◌, ℕ, ◌+◌, ◌<◌, ◌≤◌, ◌==◌, ◌&&◌, Bool, true, false, cond, not, List, [], ◌∷◌, ◌++◌, length, take, drop, get_or, map, refl, sym, ap, ap₂, ◌∙◌, subst, inl, inr, ◌⊎◌, arith, append-nil}
 use Rattle.std.specs.Prelude.{All, IsTrue, Option, Some, None, ◌↔◌, nat_le, nat_lt, option_to_list}
+use Rattle.std.specs.Bool.{OnTrue}
 use Rattle.std.proofs.lemmas.Bool.{cases_eq, cases_lt, eq-eqb, eqb-true, true≢false}
 use Rattle.std.proofs.lemmas.Bool.Decides.{nat_tests}
 use Rattle.std.proofs.lemmas.List.{get_or-drop, get_or_default, length-drop, length-take-le, map-append}
@@ -12,12 +13,12 @@ use Rattle.sip_ledger.specs.declared.accounts.gains.Gains.{Gains}
 use Rattle.sip_ledger.specs.declared.accounts.strikes.Strike.{Strike}
 use Rattle.sip_ledger.specs.Debts.{debt_deadlines, earliest}
 use Rattle.sip_ledger.specs.Rows.{debt_of, debts_from, IsGap}
-use Rattle.sip_ledger.specs.inner.Accounts.{AreGains, IsAccount, account_debts, entry_at, must_at, owes_at}
+use Rattle.sip_ledger.specs.inner.Accounts.{AreGains, IsAccount, SharesRest, account_debts, entry_at, is_struck, must_at, owes_at, strikes_of}
 use Rattle.sip_ledger.specs.inner.Indexes.{holds}
 use Rattle.sip_ledger.specs.inner.Places.{AreRising}
-use Rattle.sip_ledger.proofs.ListedLemmas.{back, back-none, back-over, back-set, earliest-first, earliest-push, front, front-gap, front-next, listed-All, listed-must, listed-none, no_entry, parts}
-use Rattle.sip_ledger.proofs.AccountLemmas.{must-below, must-from, past-end}
-use Rattle.sip_ledger.proofs.WithoutLemmas.{before-start}
+use Rattle.sip_ledger.proofs.ListedLemmas.{back, back-none, back-over, back-same, back-set, earliest-first, earliest-push, front, front-gap, front-next, listed-All, listed-must, listed-none, no_entry, parts}
+use Rattle.sip_ledger.proofs.AccountLemmas.{must-below, must-from, past-end, soft-must}
+use Rattle.sip_ledger.proofs.WithoutLemmas.{before-start, le-yes}
 
 -- all of it: what was owed up to a place is told
 pub front-start : (entries : List Entry) (strikes : List Strike) (m : ℕ → Bool) (a : Account) → a.start ≤ length entries → front (owes_at entries strikes a) m entries a.start ≡ []
@@ -86,6 +87,8 @@ beside-longer one other left left' d are first same = none (sym first ∙ are.to
 pub record AreAt (gains : Gains) (strikes : List Strike) (one other : Account) (at beside : ℕ) : Type 0 where
   pub left : AreBeside (account_debts gains strikes one) (account_debts gains strikes other) (back (owes_at gains.entries.items strikes one) (must_at gains one) gains.entries.items at)
       (back (owes_at gains.entries.items strikes other) (must_at gains other) gains.entries.items beside)
+  pub low : one.start ≤ at
+  pub low_beside : other.start ≤ beside
   pub end : at ≤ one.end
   pub end_beside : beside ≤ other.end
   pub owed : at < one.end → owes_at gains.entries.items strikes one at ≡ true
@@ -106,6 +109,8 @@ at-start gains strikes one other is is_other =
     let second = start-debts gains strikes other is_other in
     record {
       left = record { to = λ same. sym first ∙ same ∙ second; from = λ same. first ∙ same ∙ sym second };
+      low = omega arith;
+      low_beside = omega arith;
       end = is.order;
       end_beside = is_other.order;
       owed = is.begins;
@@ -136,11 +141,17 @@ at-more gains strikes one other at beside next next_beside is is_other are insid
     let entries = gains.entries.items in
     let left' = back (owes_at entries strikes one) (must_at gains one) entries next in
     let right' = back (owes_at entries strikes other) (must_at gains other) entries next_beside in
+    let low = are.low in
+    let low_beside = are.low_beside in
+    let above = after.within.0 in
+    let above_beside = after_beside.within.0 in
     record {
       left = beside-more (account_debts gains strikes one) (account_debts gains strikes other) (back (owes_at entries strikes one) (must_at gains one) entries at)
           (back (owes_at entries strikes other) (must_at gains other) entries beside) left' right' (debt_of (entry_at entries at) (must_at gains one at)) are.left
           (after-more gains strikes one at next is inside (are.owed inside) after)
           (after-more gains strikes other beside next_beside is_other inside_beside (are.owed_beside inside_beside) after_beside ∙ ap (λ d. d ∷ right') (sym same));
+      low = omega (arith, low, above);
+      low_beside = omega (arith, low_beside, above_beside);
       end = after.within.1;
       end_beside = after_beside.within.1;
       owed = after.is;
@@ -178,6 +189,32 @@ at-end gains strikes one other at beside is is_other are past past_beside = are.
 
 cons≢nil : (d : Debt) (ds : List Debt) → d ∷ ds ≢ []
 cons≢nil d ds none = cc
+
+-- accounts at one place from which on they owe the same
+pub rest-same : (gains : Gains) (strikes : List Strike) (one other : Account) (at beside : ℕ) → AreAt gains strikes one other at beside → at ≡ beside →
+    SharesRest strikes one other at → account_debts gains strikes one ≡ account_debts gains strikes other
+rest-same gains strikes one other at beside are here shared =
+    let entries = gains.entries.items in
+    are.left.from (back-same (owes_at entries strikes one) (must_at gains one) (owes_at entries strikes other) (must_at gains other) entries at
+    (λ k above. (shared.owes entries k above, soft-must gains other one k shared.soft))
+    ∙ ap (back (owes_at entries strikes other) (must_at gains other) entries) here)
+
+-- accounts that end at one place, and of which no strike goes past this one
+pub shares-rest : (strikes : List Strike) (one other : Account) (place : ℕ) → one.end ≡ other.end → one.soft ≡ other.soft → one.start ≤ place → other.start ≤ place →
+    ((m k : ℕ) → place ≤ k → is_struck (strikes_of strikes one) m k ≡ false) → ((m k : ℕ) → place ≤ k → is_struck (strikes_of strikes other) m k ≡ false) →
+    SharesRest strikes one other place
+unfolding owes_at
+shares-rest strikes one other place end soft start start_other free free_other = record {
+  soft = soft;
+  owes = λ entries k above.
+      ap₂ (λ a b. a && (nat_lt k one.end && not b)) (le-yes one.start k (omega (arith, start, above))) (free (entry_at entries k).message k above)
+      ∙ ap (λ n. nat_lt k n && true) end
+      ∙ sym (ap₂ (λ a b. a && (nat_lt k other.end && not b)) (le-yes other.start k (omega (arith, start_other, above))) (free_other (entry_at entries k).message k above));
+}
+
+pub on-true : {P Q : Type 0} (b : Bool) → OnTrue b P → (P → Q) → OnTrue b Q
+on-true true p more = more p
+on-true false p more = p
 
 -- one of them has something left, and the other one has not
 pub at-longer : (gains : Gains) (strikes : List Strike) (one other : Account) (at beside : ℕ) → IsAccount gains strikes one → AreAt gains strikes one other at beside →

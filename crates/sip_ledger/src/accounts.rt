@@ -8,6 +8,7 @@ ghost use Rattle.sip_ledger.specs.Runs.{AreRuns};
 
 mod account;
 mod gains;
+mod moved;
 #[cfg(test)]
 mod played;
 mod strikes;
@@ -16,6 +17,7 @@ use crate::accounts::account::{
     Account, EMPTY, debts, earliest_must, expired, find, gained, place_for, same, without,
 };
 use crate::accounts::gains::Gains;
+use crate::accounts::moved::{held, move_all};
 use crate::accounts::strikes::Strike;
 use crate::debt::Debt;
 use crate::run::{Run, runs_of};
@@ -225,5 +227,18 @@ impl Accounts {
     {
         let debts = debts(alloc, &self.gains, &self.strikes, self.rows[row])?;
         runs_of(alloc, &debts)
+    }
+
+    /// Lets strikes that no row has any more go, where they are half of all. Where there is no memory for it all stays as it is.
+    pub fn tidy(&mut self, alloc: Global)
+        ensures { self.new ≡ self.old }
+    {
+        if self.strikes.len() / 2 <= held(&self.rows) {
+            return;
+        }
+        if let Ok(moved) = move_all(alloc, &self.strikes, &self.rows) {
+            self.strikes = moved.strikes;
+            self.rows = moved.rows;
+        }
     }
 }

@@ -1,4 +1,4 @@
-use Rattle.std.specs.Prelude.{◌≡◌, ◌≢◌, ◌==◌, ◌&&◌, ◌||◌, ◌<◌, ◌≤◌, ◌+◌, ℕ, Bool, true, false, not, cond, List, [], ◌∷◌, ◌++◌, All, drop, get_or, length, map, nat_le, nat_lt, set, take}
+use Rattle.std.specs.Prelude.{◌≡◌, ◌≢◌, ◌==◌, ◌&&◌, ◌||◌, ◌<◌, ◌≤◌, ◌+◌, ℕ, Bool, true, false, not, cond, List, [], ◌∷◌, ◌++◌, All, drop, filter, get_or, length, map, nat_le, nat_lt, set, take}
 use Rattle.std.specs.List.{list_any}
 use Rattle.sip_ledger.specs.declared.debt.Debt.{Debt}
 use Rattle.sip_ledger.specs.declared.debt.Entry.{Entry}
@@ -160,3 +160,29 @@ pub record KeepsAccounts (old new : Gains) : Type 0 where
 pub record IsExpiredTo (t : ℕ) (entries : List Entry) (m o o' : ℕ → Bool) (place : ℕ) : Type 0 where
   pub gone : (k : ℕ) → k < place → o' k ≡ (o k && (m k || nat_le t (entry_at entries k).deadline))
   pub later : (k : ℕ) → place ≤ k → o' k ≡ o k
+
+-- two accounts owe the same from a place on
+pub record SharesRest (strikes : List Strike) (one other : Account) (place : ℕ) : Type 0 where
+  pub soft : one.soft ≡ other.soft
+  pub owes : (entries : List Entry) (k : ℕ) → place ≤ k → owes_at entries strikes one k ≡ owes_at entries strikes other k
+
+-- the account's strikes stand among these
+pub record HasStrikes (strikes : List Strike) (a : Account) : Type 0 where
+  pub first : a.first ≤ a.last
+  pub last : a.last ≤ length strikes
+
+-- the account, with those of its strikes that end after its start written after others
+pub record IsMoved (strikes old new : List Strike) (a b : Account) : Type 0 where
+  pub kept : take (length old) new ≡ old
+  pub start : b.start ≡ a.start
+  pub end : b.end ≡ a.end
+  pub soft : b.soft ≡ a.soft
+  pub print : b.print ≡ a.print
+  pub first : b.first ≤ b.last
+  pub last : b.last ≤ length new
+  pub own : strikes_of new b ≡ filter (λ strike. nat_lt a.start strike.to) (strikes_of strikes a)
+
+-- accounts that owe over other strikes what those before them owe
+pub record AreMoved (gains : Gains) (strikes : List Strike) (rows : List Account) (strikes' : List Strike) (rows' : List Account) : Type 0 where
+  pub each : All (IsAccount gains strikes') rows'
+  pub debts : accounts_debts gains strikes' rows' ≡ accounts_debts gains strikes rows

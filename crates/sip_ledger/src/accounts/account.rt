@@ -1,13 +1,14 @@
 //! What one row owes of what was gained.
 ghost use Rattle.std.specs.Prelude.{◌≡◌, ◌≢◌, ◌↔◌, ◌<◌, ◌≤◌, ◌*◌, ◌%◌, ◌^◌, ◌++◌, ◌∷◌, [], ℕ, ◌+◌, Bool, true, false, Some, IfOk, IfSome, IfNone, IsTrue, OnOk, OnErr, bit_xor, filter, length, option_to_list, take};
+ghost use Rattle.std.specs.Bool.{OnTrue};
 ghost use Rattle.sip_ledger.specs.Debts.{counts_at, debt_deadlines, earliest};
 ghost use Rattle.sip_ledger.specs.Accounts.{worth_of};
 ghost use Rattle.sip_ledger.specs.Rows.{debt_of};
 ghost use Rattle.sip_ledger.specs.declared.accounts.account.Account.{Account};
-ghost use Rattle.sip_ledger.specs.inner.Accounts.{AreGains, IsAccount, IsExpiredTo, IsFirstPayable, IsNextGain, IsPassedTo, IsWithout, KeepsAccounts, account_debts, entry_at, must_at, owes_at, pays_at, strikes_of};
+ghost use Rattle.sip_ledger.specs.inner.Accounts.{AreGains, IsAccount, IsExpiredTo, IsFirstPayable, IsNextGain, IsPassedTo, IsWithout, KeepsAccounts, SharesRest, account_debts, entry_at, must_at, owes_at, pays_at, strikes_of};
 
 use crate::accounts::gains::Gains;
-use crate::accounts::strikes::{Strike, put, struck_to};
+use crate::accounts::strikes::{Strike, end_by, put, struck_to};
 use crate::debt::Debt;
 use std::alloc::{AllocError, Global};
 
@@ -36,7 +37,7 @@ pub(crate) const EMPTY: Account = Account {
 };
 
 /// The account's strikes.
-fn own(strikes: &[Strike], account: Account) -> &[Strike]
+pub(crate) fn own(strikes: &[Strike], account: Account) -> &[Strike]
     requires first { account.first ≤ account.last }
     requires last { account.last ≤ length strikes.now }
     ensures { result.now ≡ strikes_of strikes.now account }
@@ -233,7 +234,7 @@ pub(crate) fn expired(
     Ok(left)
 }
 
-/// A place at which the account can gain the debt: the last one, or a new one. On an error the accounts owe what they owed.
+/// A place at which the account can gain the debt: one of another account, or a new one. On an error the accounts owe what they owed.
 pub(crate) fn place_for(
     gains: &mut Gains,
     strikes: &[Strike],
@@ -246,37 +247,48 @@ pub(crate) fn place_for(
     ensures kept { KeepsAccounts gains.old gains.new }
     ensures next { IfOk result (IsNextGain gains.new strikes.now account debt) }
 {
-    if let Some(last) = last_for(gains, strikes, account, debt) {
-        return Ok(last);
+    if let Some(place) = shared_place(gains, strikes, account, debt) {
+        return Ok(place);
     }
     let place = gains.entries.len();
     gains.push(debt)?;
     Ok(place)
 }
 
-/// The last place, if the account can gain the debt there.
-fn last_for(gains: &Gains, strikes: &[Strike], account: Account, debt: Debt) -> Option<usize>
+/// The first place from the account's end on at which the debt was gained already, if the account can gain it there.
+fn shared_place(gains: &Gains, strikes: &[Strike], account: Account, debt: Debt) -> Option<usize>
+    requires gained { AreGains gains.now }
     requires account { IsAccount gains.now strikes.now account }
     ensures { IfSome result (IsNextGain gains.now strikes.now account debt) }
 {
-    let count = gains.entries.len();
-    if count == 0 {
-        return None;
+    let mut from = account.end.max(account.soft);
+    while let Some(place) = gains.next(debt.message, from) {
+        if takes(gains, strikes, account, debt, place) {
+            return Some(place);
+        }
+        from = place + 1;
     }
-    let last = count - 1;
-    let entry = gains.entry(last);
-    if entry.message != debt.message || entry.deadline != debt.deadline {
-        return None;
+    None
+}
+
+/// Whether the account, which ends before the place, can gain the debt there, where its message was gained.
+fn takes(gains: &Gains, strikes: &[Strike], account: Account, debt: Debt, place: usize) -> bool
+    requires account { IsAccount gains.now strikes.now account }
+    requires within { place < length gains.now.entries.items }
+    requires message { (entry_at gains.now.entries.items place).message ≡ debt.message }
+    requires end { account.end ≤ place }
+    requires soft { account.soft ≤ place }
+    ensures { OnTrue result (IsNextGain gains.now strikes.now account debt place) }
+{
+    if gains.entry(place).deadline != debt.deadline {
+        return false;
     }
-    if gains.musts.has(0, last as u64) != debt.must {
-        return None;
+    if gains.musts.has(0, place as u64) != debt.must {
+        return false;
     }
-    if last < account.end || last < account.soft {
-        return None;
-    }
-    match struck_to(own(strikes, account), debt.message, last) {
-        Some(_) => None,
-        None => Some(last),
+    match struck_to(own(strikes, account), debt.message, place) {
+        Some(_) => false,
+        None => true,
     }
 }
 
@@ -384,6 +396,22 @@ fn debt_for(gains: &Gains, account: Account, place: usize) -> Debt
     }
 }
 
+/// Whether the accounts are known to owe the same from the place on.
+fn shares_rest(strikes: &[Strike], one: Account, other: Account, place: usize) -> bool
+    requires first { one.first ≤ one.last }
+    requires last { one.last ≤ length strikes.now }
+    requires first_other { other.first ≤ other.last }
+    requires last_other { other.last ≤ length strikes.now }
+    requires start { one.start ≤ place }
+    requires start_other { other.start ≤ place }
+    ensures { OnTrue result (SharesRest strikes.now one other place) }
+{
+    if one.end != other.end || one.soft != other.soft {
+        return false;
+    }
+    end_by(own(strikes, one), place) && end_by(own(strikes, other), place)
+}
+
 /// Whether two accounts owe the same.
 pub(crate) fn same(gains: &Gains, strikes: &[Strike], one: Account, other: Account) -> bool
     requires one { IsAccount gains.now strikes.now one }
@@ -396,6 +424,9 @@ pub(crate) fn same(gains: &Gains, strikes: &[Strike], one: Account, other: Accou
     let mut at = one.start;
     let mut beside = other.start;
     while at < one.end && beside < other.end {
+        if at == beside && shares_rest(strikes, one, other, at) {
+            return true;
+        }
         if debt_for(gains, one, at) != debt_for(gains, other, beside) {
             return false;
         }

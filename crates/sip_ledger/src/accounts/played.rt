@@ -73,6 +73,7 @@ fn play(rt: &(impl Abort + AllocGlobal), seed: u64, steps: u64, rises: bool) -> 
                 }
             }
             1 => now += chance.below(3),
+            18 => ledger.tidy(rt.alloc()),
             2 | 3 => {
                 ledger.expire(row, moment)?;
                 lists[row].retain(|debt| debt.must || moment <= debt.deadline);

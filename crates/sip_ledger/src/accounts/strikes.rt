@@ -36,6 +36,18 @@ fn strikes_out(strike: Strike, message: u32, place: usize) -> bool
     strike.message == message && strike.from <= place && place < strike.to
 }
 
+/// Whether none of the strikes goes past the place.
+pub(crate) fn end_by(strikes: &[Strike], place: usize) -> bool
+    ensures { OnTrue result ((m k : ℕ) → place ≤ k → is_struck strikes.now m k ≡ false) }
+{
+    for strike in strikes {
+        if place < strike.to {
+            return false;
+        }
+    }
+    true
+}
+
 /// Writes the strikes from one up to another after all others, but for those that end at a place or before it. On an error some of them
 /// are there.
 fn copy_some(

@@ -1,5 +1,5 @@
-use Rattle.std.proofs.Common.{rules, ◌≡◌, ◌<◌, ◌≤◌, ◌∙◌, sym, arith}
-use Rattle.sip_ledger.proofs.ToldLemmas.{at-more, at-start, end-other, end-same}
+use Rattle.std.proofs.Common.{refl, rules, ◌≡◌, ◌<◌, ◌≤◌, ◌∙◌, sym, arith}
+use Rattle.sip_ledger.proofs.ToldLemmas.{at-more, at-start, end-other, end-same, rest-same}
 use Rattle.sip_ledger.proofs.accounts.account.same.Goals.{then-loop-at-test+else-beside-other, else-loop-at-test}
 use Rattle.sip_ledger.proofs.accounts.account.same.Goals as goal
 
@@ -14,6 +14,12 @@ loop-at-preserved c =
     at-more c.args.gains.now c.args.strikes.now c.args.one c.args.other c.loop-at.at c.loop-at.beside c.next-at.result c.next-beside.result c.requires.one c.requires.other c.loop-at.invariant
     c.loop-at-test.true c.if-beside-other.true (sym c.debt_for.ensures ∙ same ∙ c.debt_for-in-loop-at.ensures) (record { within = one.within; before = one.before; is = one.is })
     (record { within = other.within; before = other.before; is = other.is })
+
+pub returns-then-shares_rest : goal.returns-then-shares_rest
+returns-then-shares_rest c = (
+  λ _. rest-same c.args.gains.now c.args.strikes.now c.args.one c.args.other c.loop-at.at c.loop-at.beside c.loop-at.invariant c.if-at-beside.true c.if-shares_rest.ensures,
+  λ _. refl,
+)
 
 pub returns-then-at-one : goal.returns-then-at-one
 returns-then-at-one c =

@@ -9,8 +9,6 @@ ghost use Rattle.sip_ledger.specs.Runs.{AreRuns};
 mod account;
 mod gains;
 mod moved;
-#[cfg(test)]
-mod played;
 mod strikes;
 
 use crate::accounts::account::{

@@ -141,7 +141,10 @@ impl Played {
         assert!(rt; debts.as_slice() == list, "{row}");
         assert!(rt; row < self.accounts.len());
         assert!(rt; self.accounts.owes_nothing(row) == list.is_empty(), "{row}");
-        assert!(rt; self.accounts.earliest_must(row) == earliest_must(list), "{row}");
+        assert!(rt;
+            self.accounts.earliest_must(row) == earliest_must(list),
+            "{row}"
+        );
         let mut names = Vec::new(rt.alloc());
         self.accounts.names(rt.alloc(), row, &mut names)?;
         assert!(rt; names.len() == list.len());
@@ -237,12 +240,7 @@ fn change_rows(
 }
 
 /// So many steps from this number on. Deadlines rise, or do not.
-fn play(
-    rt: &(impl Abort + AllocGlobal),
-    seed: u64,
-    steps: u64,
-    rises: bool,
-) -> Result<(), Fail> {
+fn play(rt: &(impl Abort + AllocGlobal), seed: u64, steps: u64, rises: bool) -> Result<(), Fail> {
     let mut chance = Chance::new(seed);
     let mut played = Played::new(rt)?;
     let mut now: u64 = 0;

@@ -1,3 +1,4 @@
+pub mod Forgetting
 pub mod Judging
 pub mod Keyed
 pub mod LegalLog

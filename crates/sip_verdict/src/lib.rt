@@ -6,6 +6,8 @@ mod concerned;
 mod entries;
 mod finding;
 mod following;
+mod forgetting;
+mod forgetting_laws;
 mod gathering;
 mod histories;
 mod judging;
@@ -36,6 +38,10 @@ mod walking;
 
 pub use finding::Finding;
 pub use following::Survey;
+pub use forgetting_laws::{
+    nothing_is_lost_of_what_is_idle_again, what_is_forgotten_is_judged_as_new,
+    what_is_kept_is_judged_on,
+};
 pub use gathering::survey_bytes;
 pub use judging::{judge, judge_bytes};
 pub use laws::{

@@ -1,0 +1,5 @@
+use Rattle.sip_verdict.proofs.surveys.Remembered.{found_forgotten}
+use Rattle.sip_verdict.proofs.forgetting_laws.what_is_forgotten_is_judged_as_new.Goals as goal
+
+pub returns : goal.returns
+returns c p kept key old front e order not = found_forgotten kept key not p old front e order

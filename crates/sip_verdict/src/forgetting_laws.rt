@@ -1,0 +1,34 @@
+//! Laws of surveys that forget transactions. The functions do nothing: their contracts are the laws.
+ghost use Rattle.std.specs.Prelude.{◌≡◌, ◌↔◌, ◌≤◌, ◌++◌, ◌∷◌, [], Bool, true, false, List, AllPairs};
+ghost use Rattle.sip_standard.specs.Key.{KeyParts};
+ghost use Rattle.sip_standard.specs.KeyMachine.{machine_of_key};
+ghost use Rattle.sip_standard.specs.Observation.{Observation};
+ghost use Rattle.sip_standard.specs.Times.{Times};
+ghost use Rattle.sip_standard.specs.VerdictOf.{events_for};
+ghost use Rattle.sip_verdict.specs.Forgetting.{remembered};
+ghost use Rattle.sip_verdict.specs.Keyed.{newest_moment};
+ghost use Rattle.sip_verdict.specs.SurveyLaws.{IsIdleAgain};
+ghost use Rattle.sip_verdict.specs.SurveyOf.{IsSound, Breaks, Widens};
+
+/// A transaction that is kept is judged on: at each later entry it breaks, or is followed no further, exactly where it does if nothing is
+/// forgotten.
+pub fn what_is_kept_is_judged_on()
+    ensures { (p : Times) (kept : KeyParts → Bool) (key : KeyParts) (old front : List (Observation KeyParts)) (e : Observation KeyParts) → kept key ≡ true
+        → (Breaks p (remembered kept old ++ front) e key ↔ Breaks p (old ++ front) e key) × (Widens p (remembered kept old ++ front) e key ↔ Widens p (old ++ front) e key) }
+{}
+
+/// One that is forgotten is judged as a new one: at each later entry it breaks, or is followed no further, exactly where it does over the
+/// entries since then alone.
+pub fn what_is_forgotten_is_judged_as_new()
+    ensures { (p : Times) (kept : KeyParts → Bool) (key : KeyParts) (old front : List (Observation KeyParts)) (e : Observation KeyParts) → AllPairs (λ a b. a.event.moment ≤ b.event.moment) (old ++ (front ++ e ∷ []))
+        → kept key ≡ false
+        → (Breaks p (remembered kept old ++ front) e key ↔ Breaks p front e key) × (Widens p (remembered kept old ++ front) e key ↔ Widens p front e key) }
+{}
+
+/// So nothing is lost of one that is in no trouble and idle again, as a server is that has ended: at each later entry it breaks, or is
+/// followed no further, exactly where it does if nothing is forgotten.
+pub fn nothing_is_lost_of_what_is_idle_again()
+    ensures { (p : Times) (kept : KeyParts → Bool) (key : KeyParts) (old front : List (Observation KeyParts)) (e : Observation KeyParts) → AllPairs (λ a b. a.event.moment ≤ b.event.moment) (old ++ (front ++ e ∷ []))
+        → kept key ≡ false → IsIdleAgain (machine_of_key p.rules key) p (events_for key old) (newest_moment old) → IsSound p old key
+        → (Breaks p (remembered kept old ++ front) e key ↔ Breaks p (old ++ front) e key) × (Widens p (remembered kept old ++ front) e key ↔ Widens p (old ++ front) e key) }
+{}

@@ -139,13 +139,14 @@ fn run_together<M: Machine>(
     let mut pool = first_pool(alloc, machine)?;
     for &(moment, action, number) in entries {
         let event = event_of(alloc, book, moment, action, number)?;
-        step_together(machine, book, &mut pool, &event)?;
+        step_together(alloc, machine, book, &mut pool, &event)?;
     }
     Ok(pool)
 }
 
-/// Puts the states that the event gives in the place of those that take it, each once.
+/// Puts the states that the event gives in the place of those that take it, each once. Until then these stay as they are.
 fn step_together<M: Machine>(
+    alloc: Global,
     machine: &M,
     book: &Book,
     pool: &mut Pool<M::Phase>,
@@ -157,11 +158,23 @@ fn step_together<M: Machine>(
     ensures known { OnOk result (All (Knows M.names book.now) pool.new) }
     ensures in_range { OnOk result (All M.in_range pool.new) }
 {
+    let before = states_of(alloc, pool)?;
     let count = pool.len();
     machine.successors_each(book, pool, count, event)?;
+    stay(alloc, pool, before.as_slice())?;
     let given = pool.first_ones(count)?;
     pool.keep(&given);
     Ok(())
+}
+
+/// That the first states of the pool are these.
+fn stay<P: Phase>(alloc: Global, pool: &Pool<P>, before: &[State<P>]) -> Result<(), Fail> {
+    let states = states_of(alloc, pool)?;
+    if states.len() >= before.len() && are_same(&states[..before.len()], before) {
+        Ok(())
+    } else {
+        Err("what takes an event does not stay as it is".into())
+    }
 }
 
 /// Puts the states that the event gives in the place of those that take it.

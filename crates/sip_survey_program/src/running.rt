@@ -32,16 +32,11 @@ fn answer<S: System, W: Sink>(
     if let Log::File(path) = asked.log {
         system.open(path).map_err(read_failure)?;
     }
-    match &asked.part {
-        Some(part) => {
-            let summary = survey_part(alloc, system, writer, seed, part)?;
-            Ok(status_of(&summary))
-        }
-        None => {
-            let summary = survey(alloc, system, writer, seed)?;
-            Ok(status_of(&summary))
-        }
-    }
+    let summary = match &asked.part {
+        Some(part) => survey_part(alloc, system, writer, seed, part)?,
+        None => survey(alloc, system, writer, seed)?,
+    };
+    Ok(status_of(&summary))
 }
 
 /// Writes what the words of the system ask for, each line as soon as it is found. The answer is the status.

@@ -11,9 +11,8 @@ ghost use Rattle.sip_log.specs.inner.Line as log;
 
 use crate::line::{Head, read_head};
 use crate::log_error::LogError;
-use crate::source::Source;
 use crate::window::Window;
-use sip_standard::Format;
+use sip_standard::{Format, Source};
 use sip_times::Action;
 
 /// The most bytes of an entry's line with its line feed.

@@ -12,10 +12,9 @@ ghost use Rattle.sip_log.specs.inner.Window.{unread};
 
 use crate::log_error::LogError;
 use crate::number::number;
-use crate::source::Source;
 use crate::window::Window;
 use memchr::memchr;
-use sip_standard::Format;
+use sip_standard::{Format, Source};
 use sip_times::{Params, Rules};
 
 /// The bytes of line 1 with its line feed.

@@ -1,4 +1,4 @@
-//! Laws of the format and of its devices. The functions do nothing: their contracts are the laws.
+//! Laws of the format. The functions do nothing: their contracts are the laws.
 ghost use Rattle.std.specs.Prelude.{◌≡◌, ◌≢◌, ◌<◌, ◌≤◌, ◌++◌, ℕ, List, All, length, flat_map};
 ghost use Rattle.sip_standard.specs.Times.{Times, AreTimes};
 ghost use Rattle.sip_standard.specs.declared.action.Action.TheVariants.{Restart};
@@ -12,21 +12,6 @@ ghost use Rattle.sip_log.specs.Writing.{header_text};
 ghost use Rattle.sip_log.specs.Turn.{ComeInTurn};
 ghost use Rattle.sip_standard.specs.LogSays.{most_entries, LogEnd, Clean};
 ghost use Rattle.sip_log.specs.Log.{Log, Readable, IsLogOf};
-
-use crate::sink::Sink;
-use crate::source::Source;
-
-/// A source through a reference to it has left what it has left, and has failed if it has.
-pub fn a_source_through_a_reference_is_that_source<'a, S: Source>(source: &&'a mut S)
-    ensures left { ⟦<&'a mut S as Source>⟧.left source.now ≡ S.left source.now.now }
-    ensures failed { ⟦<&'a mut S as Source>⟧.has_failed source.now ≡ S.has_failed source.now.now }
-{}
-
-/// A sink through a reference to it has taken what it has taken, and has failed if it has.
-pub fn a_sink_through_a_reference_is_that_sink<'a, S: Sink>(sink: &&'a mut S)
-    ensures written { ⟦<&'a mut S as Sink>⟧.written sink.now ≡ S.written sink.now.now }
-    ensures failed { ⟦<&'a mut S as Sink>⟧.has_failed sink.now ≡ S.has_failed sink.now.now }
-{}
 
 /// Each input has a log.
 pub fn each_input_has_a_log()

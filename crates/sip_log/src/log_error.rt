@@ -2,7 +2,7 @@
 ghost use Rattle.std.specs.Prelude.{◌≡◌};
 ghost use Rattle.sip_log.specs.declared.log_error.LogError.TheVariants.{Io, Memory};
 
-use crate::broken::Broken;
+use sip_standard::Broken;
 use std::alloc::AllocError;
 use thiserror::Error;
 

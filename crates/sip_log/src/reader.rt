@@ -6,7 +6,7 @@ ghost use Rattle.sip_log.specs.Reading.{fresh, ReaderState, beside_source, Nexts
 use crate::entry::Entry;
 use crate::log_error::LogError;
 use crate::progress::Progress;
-use crate::source::Source;
+use sip_standard::Source;
 use sip_times::Params;
 use std::alloc::Global;
 use std::marker::Model;

@@ -8,7 +8,7 @@ ghost use Rattle.sip_log.specs.Told.{FailsAs, item};
 use crate::entry::Entry;
 use crate::log_error::LogError;
 use crate::progress::Progress;
-use crate::source::Source;
+use sip_standard::Source;
 use std::alloc::{AllocError, Global};
 
 /// All entries of a log that can be read to its end, or why it cannot. A long log takes as much memory as it has bytes.

@@ -5,9 +5,8 @@ ghost use Rattle.memchr.specs.Find.{IsFirstByte, is_byte};
 ghost use Rattle.sip_standard.specs.LogSays.{line_feed};
 ghost use Rattle.sip_log.specs.inner.Reads.{Reads};
 
-use crate::broken::Broken;
-use crate::source::Source;
 use memchr::memchr;
+use sip_standard::{Broken, Source};
 use std::alloc::{AllocError, Global};
 
 /// The bytes that a window has room for. The longest entry's message fits.

@@ -2,7 +2,7 @@
 ghost use Rattle.std.specs.Prelude.{◌≡◌};
 ghost use Rattle.sip_log.specs.declared.write_error.WriteError.TheVariants.{Io};
 
-use crate::broken::Broken;
+use sip_standard::Broken;
 use thiserror::Error;
 
 /// Why a header or an entry could not be written.

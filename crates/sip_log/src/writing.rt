@@ -8,11 +8,10 @@ ghost use Rattle.sip_log.specs.inner.Spelling.{line_text, length_text, letter};
 ghost use Rattle.sip_standard.specs.LogSays.{line_feed};
 ghost use Rattle.sip_standard.specs.declared.format.Format.TheVariants.{One, Two};
 
-use crate::broken::Broken;
 use crate::line::{is_within_limits, letter_of};
-use crate::sink::Sink;
 use crate::write_error::WriteError;
 use itoa::Buffer;
+use sip_standard::{Broken, Sink};
 use sip_times::{Action, Params, Rules};
 
 /// Writes the header of a log of format 1: the format, the times of the element, and its rules where they are those of

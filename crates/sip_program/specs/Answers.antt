@@ -5,10 +5,10 @@ use Rattle.sip_standard.specs.LogSays.{line_feed}
 use Rattle.sip_standard.specs.declared.verdict.Verdict.{Verdict}
 use Rattle.sip_verdict.specs.declared.listing.Listing.{Listing}
 use Rattle.sip_verdict.specs.declared.listing.Listing.TheVariants.{Text, Stopped, NoEntry}
-use Rattle.sip_verdict.specs.declared.shown.Shown.{Shown}
+use Rattle.sip_standard.specs.declared.shown.Shown.{Shown}
 use Rattle.sip_standard.specs.VerdictOf.{IsVerdictOf}
 use Rattle.sip_verdict.specs.ListingOf.{IsListingOf}
-use Rattle.sip_verdict.specs.Showing.{IsShownOf}
+use Rattle.sip_standard.specs.Showing.{IsShownOf}
 use Rattle.sip_standard.specs.Rendering.{rendered}
 use Rattle.sip_program.specs.declared.words.Asked.{Asked}
 use Rattle.sip_program.specs.declared.words.Asked.TheVariants.{Input, Check, Show, States}

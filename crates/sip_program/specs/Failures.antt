@@ -1,8 +1,8 @@
 use Rattle.std.specs.Prelude.{◌≡◌, ℕ, Bool, true, ⊤, List, codes}
 use Rattle.sip_standard.specs.declared.judge_error.JudgeError.{JudgeError}
 use Rattle.sip_standard.specs.declared.judge_error.JudgeError.TheVariants as judging
-use Rattle.sip_verdict.specs.declared.show_error.ShowError.{ShowError}
-use Rattle.sip_verdict.specs.declared.show_error.ShowError.TheVariants as showing
+use Rattle.sip_standard.specs.declared.show_error.ShowError.{ShowError}
+use Rattle.sip_standard.specs.declared.show_error.ShowError.TheVariants as showing
 use Rattle.sip_program.specs.declared.failure.Failure.{Failure}
 use Rattle.sip_program.specs.declared.failure.Failure.TheVariants.{Read, Write, Memory, Usage}
 

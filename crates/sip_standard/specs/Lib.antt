@@ -46,3 +46,4 @@ pub mod Stands
 pub mod Observation
 pub mod VerdictOf
 pub mod Rendering
+pub mod Showing

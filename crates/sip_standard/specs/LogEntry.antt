@@ -1,5 +1,5 @@
 -- The entries of a log: their limits, their order, and the one text of each.
-use Rattle.std.specs.Prelude.{◌≡◌, ◌≢◌, ◌≤◌, ◌++◌, ℕ, List, [], ◌∷◌, length, codes, decimal, ⊤}
+use Rattle.std.specs.Prelude.{◌≡◌, ◌≢◌, ◌≤◌, ◌++◌, ℕ, Bool, true, false, List, [], ◌∷◌, length, codes, decimal, ⊤}
 use Rattle.sip_standard.specs.Times.{last_moment}
 use Rattle.sip_standard.specs.declared.action.Action.{Action}
 use Rattle.sip_standard.specs.declared.action.Action.TheVariants.{Sent, Received, Failed, Mark, Restart}
@@ -15,6 +15,14 @@ pub record Item : Type 0 where
 -- a mark and a restart have no message
 abbrev pub HasMessage : Action → Type 0
 HasMessage action = (action ≢ Mark) × (action ≢ Restart)
+
+-- whether the entry has a message
+abbrev pub has_message : Action → Bool
+has_message Sent = true
+has_message Received = true
+has_message Failed = true
+has_message Mark = false
+has_message Restart = false
 
 -- moments are at most 9,999,999,999,999, and a message has 1 to 65,535 bytes
 abbrev pub IsWithinLimits : Action → ℕ → ℕ → Type 0

@@ -1,5 +1,5 @@
-//! Laws of the definitions. The functions do nothing: their contracts are the laws.
-ghost use Rattle.std.specs.Prelude.{◌≤◌, List, length, Contains};
+//! Laws of the definitions and of what is read from and written to. The functions do nothing: their contracts are the laws.
+ghost use Rattle.std.specs.Prelude.{◌≡◌, ◌≤◌, List, length, Contains};
 ghost use Rattle.sip_standard.specs.Key.{KeyParts};
 ghost use Rattle.sip_standard.specs.Times.{Times};
 ghost use Rattle.sip_standard.specs.Figure.{Owing};
@@ -7,6 +7,21 @@ ghost use Rattle.sip_standard.specs.KeyMachine.{machine_of_key, transaction_of};
 ghost use Rattle.sip_standard.specs.Stands.{StandsBehind};
 ghost use Rattle.sip_standard.specs.Observation.{Observation};
 ghost use Rattle.sip_standard.specs.VerdictOf.{events_for, IsWideAt};
+
+use crate::sink::Sink;
+use crate::source::Source;
+
+/// A source through a reference to it has left what it has left, and has failed if it has.
+pub fn a_source_through_a_reference_is_that_source<'a, S: Source>(source: &&'a mut S)
+    ensures left { ⟦<&'a mut S as Source>⟧.left source.now ≡ S.left source.now.now }
+    ensures failed { ⟦<&'a mut S as Source>⟧.has_failed source.now ≡ S.has_failed source.now.now }
+{}
+
+/// A sink through a reference to it has taken what it has taken, and has failed if it has.
+pub fn a_sink_through_a_reference_is_that_sink<'a, S: Sink>(sink: &&'a mut S)
+    ensures written { ⟦<&'a mut S as Sink>⟧.written sink.now ≡ S.written sink.now.now }
+    ensures failed { ⟦<&'a mut S as Sink>⟧.has_failed sink.now ≡ S.has_failed sink.now.now }
+{}
 
 /// A transaction that can stand in at most 1,024 states after an entry is not too wide there.
 pub fn few_states_are_not_too_wide()

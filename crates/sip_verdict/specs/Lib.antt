@@ -6,7 +6,6 @@ pub mod ListingOf
 pub mod MessageReading
 pub mod Named
 pub mod Reading
-pub mod Showing
 pub mod SurveyLaws
 pub mod SurveyOf
 pub mod SurveyParts

@@ -1,10 +1,8 @@
 -- The states of the transactions that an entry of a log concerns.
-use Rattle.std.specs.Prelude.{◌≡◌, ◌≤◌, ◌<◌, ◌+◌, ◌⊎◌, ◌&&◌, ℕ, Bool, true, false, Option, Some, None, IsSomeAnd, List, [], ◌∷◌, ◌++◌, if◌then◌else◌, length, codes, bytes_eq, string_bytes}
-use Rattle.sip_standard.specs.declared.action.Action.{Action}
-use Rattle.sip_standard.specs.declared.action.Action.TheVariants.{Sent, Received, Failed, Mark, Restart}
+use Rattle.std.specs.Prelude.{◌≡◌, ◌≤◌, ◌<◌, ◌+◌, ◌⊎◌, ◌&&◌, ℕ, true, Option, Some, None, IsSomeAnd, List, [], ◌∷◌, ◌++◌, if◌then◌else◌, length, codes, bytes_eq, string_bytes}
 use Rattle.sip_standard.specs.Times.{Times}
 use Rattle.sip_states.specs.Runs.{AfterRun}
-use Rattle.sip_standard.specs.LogEntry.{Item}
+use Rattle.sip_standard.specs.LogEntry.{Item, has_message}
 use Rattle.sip_standard.specs.LogSays.{LogEnd}
 use Rattle.sip_log.specs.Log.{Readable, IsLogOf}
 use Rattle.sip_listing.specs.Lines.{AreLinesOf}
@@ -16,14 +14,6 @@ use Rattle.sip_standard.specs.Observation.{Observation}
 use Rattle.sip_verdict.specs.Keyed.{Machines, keys_of, events_of}
 use Rattle.sip_verdict.specs.Verdicts.{IsFirst}
 use Rattle.sip_verdict.specs.Reading.{EntryReading, BeginsWell, IsVerdictBy}
-
--- whether the entry has a message
-abbrev pub has_message : Action → Bool
-has_message Sent = true
-has_message Received = true
-has_message Failed = true
-has_message Mark = false
-has_message Restart = false
 
 -- the number, counted on from this one, of the first entry whose message has these bytes; 0 if there is none
 abbrev pub entry_from : ℕ → List Item → List ℕ → ℕ

@@ -1,7 +1,7 @@
 //! The text of a verdict.
 ghost use Rattle.std.specs.Prelude.{◌≡◌, ◌++◌, IfOk, OnOk, codes, decimal, string_bytes};
 ghost use Rattle.sip_standard.specs.Rendering.{rendered, rendered_unit};
-ghost use Rattle.sip_verdict.specs.Showing.{last_text};
+ghost use Rattle.sip_standard.specs.Showing.{last_text};
 ghost use Rattle.sip_verdict.specs.SurveyText.{end_text};
 ghost use Rattle.sip_standard.specs.declared.verdict.Verdict.TheVariants.{Malformed, LogFault};
 ghost use Rattle.std.specs.Option.{option_copied};
@@ -9,12 +9,11 @@ ghost use Rattle.sip_listing.specs.Transaction.{role_text};
 ghost use Rattle.sip_verdict.specs.inner.SurveyingLogs.{line_with, words_of};
 
 use crate::finding::Finding;
-use crate::shown::Shown;
 use crate::survey_end::SurveyEnd;
 use crate::transaction::Transaction;
 use itoa::Buffer;
 use sip_key::Role;
-use sip_standard::{Fault, LogReason, Unit, Verdict};
+use sip_standard::{Fault, LogReason, Shown, Unit, Verdict};
 use std::alloc::{AllocError, Global};
 
 /// The text of a verdict, one line without its end: `legal entries E transactions T`, `malformed E UNIT NO REASON`,

@@ -4,19 +4,17 @@ ghost use Rattle.std.specs.Io.KnownBytes.{Appends};
 ghost use Rattle.sip_standard.specs.LogSays.{line_feed};
 ghost use Rattle.sip_log.specs.Told.{item};
 ghost use Rattle.sip_standard.specs.Canonical.{IsCanonical};
-ghost use Rattle.sip_verdict.specs.declared.show_error.ShowError.TheVariants.{Read, Write};
-ghost use Rattle.sip_verdict.specs.Showing.{IsCanonOf, last_text, IsShownOf};
+ghost use Rattle.sip_standard.specs.declared.show_error.ShowError.TheVariants.{Read, Write};
+ghost use Rattle.sip_standard.specs.Showing.{IsCanonOf, last_text, IsShownOf};
 ghost use Rattle.sip_verdict.specs.inner.Showing.{IsFaulty, HasNoForm, ShowsEntry};
 
 use crate::log_reason::reason_of;
 use crate::rendering::last_line;
-use crate::show_error::ShowError;
-use crate::shown::Shown;
 use itoa::Buffer;
 use sip_log::{Broken, Entry, Progress, Sink, Source, put_entry};
 use sip_machine::Action;
 use sip_message::{Message, ReadError, write};
-use sip_standard::Fault;
+use sip_standard::{Fault, ShowError, Shown};
 use std::alloc::Global;
 
 /// Writes each entry of the reader's log with its number, and with its message in the canonical form, and then a last line:

@@ -22,11 +22,10 @@ use Rattle.sip_machine.specs.Texts.{Texts, Keeps, text_of}
 use Rattle.sip_standard.specs.Times.{last_moment}
 use Rattle.sip_log.specs.declared.entry.Entry.{Entry}
 use Rattle.sip_log.specs.Told.{item}
-use Rattle.sip_standard.specs.LogEntry.{Item}
+use Rattle.sip_standard.specs.LogEntry.{Item, has_message}
 use Rattle.sip_verdict.specs.declared.concerned.Concerned.{Concerned}
 use Rattle.sip_verdict.specs.declared.concerned.Concerned.TheVariants as concerned
 use Rattle.sip_standard.specs.Observation.{Observation, direction_of, silent_observation, fault_observation, no_cookie, message_event, ObservesMessage, has_fault, has_no_cookie, is_heard}
-use Rattle.sip_verdict.specs.Listing.{has_message}
 use Rattle.sip_verdict.specs.MessageReading.{message_reading, ConcernsNone}
 use Rattle.sip_standard.specs.VerdictOf.{keys_in}
 use Rattle.sip_verdict.specs.inner.Concerned.{each, is_all}

@@ -7,7 +7,7 @@ use Rattle.sip_standard.specs.Times.{Times}
 use Rattle.sip_log.specs.declared.entry.Entry.{Entry}
 use Rattle.sip_log.specs.declared.log_error.LogError.{LogError}
 use Rattle.sip_standard.specs.LogSays.{line_feed, LogEnd, Clean, Stops, LogSays}
-use Rattle.sip_standard.specs.LogEntry.{Item}
+use Rattle.sip_standard.specs.LogEntry.{Item, has_message}
 use Rattle.sip_log.specs.Told.{FailsAs, item}
 use Rattle.sip_log.specs.Reading.{entries, Nexts}
 use Rattle.sip_log.proofs.answers.ReadingLemmas.{FailsAs-map, IfSome-map}
@@ -15,10 +15,9 @@ use Rattle.sip_log.proofs.answers.CallerLemmas.{Stands, StandsAt, StopsAt, Stand
 use Rattle.sip_standard.specs.declared.fault.Fault.{Fault}
 use Rattle.sip_standard.specs.Outcome.{stops}
 use Rattle.sip_standard.specs.Says.{Says}
-use Rattle.sip_verdict.specs.declared.shown.Shown.{Shown}
-use Rattle.sip_verdict.specs.declared.shown.Shown.TheVariants.{End, Malformed, LogFault as FaultOfLog}
-use Rattle.sip_verdict.specs.Listing.{has_message}
-use Rattle.sip_verdict.specs.Showing.{IsCanonOf, shown_entry, AreShown, last_text, EndsAs, IsShownOf}
+use Rattle.sip_standard.specs.declared.shown.Shown.{Shown}
+use Rattle.sip_standard.specs.declared.shown.Shown.TheVariants.{End, Malformed, LogFault as FaultOfLog}
+use Rattle.sip_standard.specs.Showing.{IsCanonOf, shown_entry, AreShown, last_text, EndsAs, IsShownOf}
 use Rattle.sip_log.specs.Reading as log
 
 -- one more entry is shown

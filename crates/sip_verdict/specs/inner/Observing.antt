@@ -8,7 +8,7 @@ use Rattle.sip_standard.specs.declared.role.Direction.{Direction}
 use Rattle.sip_key.specs.declared.concern.KeyError.{KeyError}
 use Rattle.sip_key.specs.declared.concern.KeyError.TheVariants as error
 use Rattle.sip_log.specs.declared.entry.Entry.{Entry}
-use Rattle.sip_standard.specs.LogEntry.{Item}
+use Rattle.sip_standard.specs.LogEntry.{Item, has_message}
 use Rattle.sip_log.specs.Told.{item}
 use Rattle.sip_standard.specs.declared.action.Action.{Action}
 use Rattle.sip_standard.specs.declared.action.Action.TheVariants as action
@@ -17,7 +17,6 @@ use Rattle.sip_verdict.specs.declared.observing.Told.{Told}
 use Rattle.sip_verdict.specs.declared.observing.Told.TheVariants.{Unheard, Fault, Restart, Heard}
 use Rattle.sip_standard.specs.Observation.{Observation, fault_observation, silent_observation}
 use Rattle.sip_standard.specs.VerdictOf.{keys_in}
-use Rattle.sip_verdict.specs.Listing.{has_message}
 use Rattle.sip_verdict.specs.MessageReading.{ConcernsNone}
 use Rattle.sip_verdict.specs.inner.Concerned.{each, is_all}
 

@@ -1,25 +1,17 @@
 use Rattle.std.specs.Prelude.{◌≡◌, ℕ, Bool, true, List, Option, Some, None, Result, Ok, Err, ⊤}
 use Rattle.std.specs.Io.KnownBytes.{Appends}
 use Rattle.sip_standard.specs.declared.action.Action.{Action}
-use Rattle.sip_standard.specs.LogEntry.{Item}
+use Rattle.sip_standard.specs.LogEntry.{Item, has_message}
 use Rattle.sip_standard.specs.declared.fault.Fault.{Fault}
 use Rattle.sip_message.specs.declared.fault.ReadError.{ReadError}
 use Rattle.sip_message.specs.declared.fault.ReadError.TheVariants as message
 use Rattle.sip_standard.specs.Outcome.{stops}
 use Rattle.sip_standard.specs.Says.{Says}
-use Rattle.sip_standard.specs.declared.judge_error.JudgeError.{JudgeError}
-use Rattle.sip_standard.specs.declared.judge_error.JudgeError.TheVariants as judging
-use Rattle.sip_verdict.specs.declared.show_error.ShowError.{ShowError}
-use Rattle.sip_verdict.specs.declared.show_error.ShowError.TheVariants.{Read, Write, Memory}
-use Rattle.sip_verdict.specs.Listing.{has_message}
-use Rattle.sip_verdict.specs.Showing.{IsCanonOf, shown_entry}
+use Rattle.sip_standard.specs.declared.show_error.ShowError.{ShowError}
+use Rattle.sip_standard.specs.declared.show_error.ShowError.TheVariants.{Read, Write, Memory}
+use Rattle.sip_standard.specs.Showing.{IsCanonOf, shown_entry}
 
 -- How a log is shown, piece by piece.
-
--- what a log that could not be read is told as
-abbrev pub unshown : JudgeError → ShowError
-unshown judging.Io = Read
-unshown judging.Memory = Memory
 
 -- why a message has no canonical form: its fault; of memory nothing is said
 abbrev pub IsFaulty : List ℕ → ReadError → Type 0

@@ -4,8 +4,8 @@ use Rattle.sip_standard.specs.LogSays.{line_feed}
 use Rattle.sip_log.specs.Reading as log
 use Rattle.sip_log.specs.Reading.{beside_source}
 use Rattle.sip_log.proofs.answers.CallerLemmas.{Opens-stands, Nexts-counted, Nexts-fine}
-use Rattle.sip_verdict.specs.declared.shown.Shown.TheVariants.{End, Malformed, LogFault}
-use Rattle.sip_verdict.specs.Showing.{last_text}
+use Rattle.sip_standard.specs.declared.shown.Shown.TheVariants.{End, Malformed, LogFault}
+use Rattle.sip_standard.specs.Showing.{last_text}
 use Rattle.sip_verdict.proofs.listings.WalkingLemmas.{told-fault}
 use Rattle.sip_verdict.proofs.shows.ShowingLemmas.{Answers, finished, showed_start, showed_end, showed_stops, showed_more, showed_fault}
 use Rattle.sip_verdict.proofs.showing.show.Goals as goal

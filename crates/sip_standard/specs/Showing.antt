@@ -1,22 +1,23 @@
+-- What is shown of an input: its entries, one after another, each with its message in the canonical form.
 use Rattle.std.specs.Prelude.{◌≡◌, ◌+◌, ◌⊎◌, ◌++◌, [], ◌∷◌, ℕ, true, List, length, codes, decimal}
 use Rattle.sip_standard.specs.Times.{Times}
 use Rattle.sip_standard.specs.declared.action.Action.{Action}
 use Rattle.sip_standard.specs.declared.action.Action.TheVariants.{Sent, Received, Failed, Mark, Restart}
-use Rattle.sip_standard.specs.LogSays.{line_feed, LogEnd, Clean, Stops}
-use Rattle.sip_standard.specs.LogEntry.{entry_says, Item}
-use Rattle.sip_log.specs.Log.{Faulty, Readable, IsLogOf}
+use Rattle.sip_standard.specs.LogSays.{line_feed, LogEnd, Clean, Stops, LogSays, LacksHeader}
+use Rattle.sip_standard.specs.LogEntry.{entry_says, Item, has_message}
 use Rattle.sip_standard.specs.declared.fault.Fault.{Fault}
 use Rattle.sip_standard.specs.Outcome.{stops}
 use Rattle.sip_standard.specs.Says.{Says}
-use Rattle.sip_verdict.specs.declared.shown.Shown.{Shown}
-use Rattle.sip_verdict.specs.declared.shown.Shown.TheVariants.{End, Malformed, LogFault}
-use Rattle.sip_verdict.specs.Listing.{has_message}
+use Rattle.sip_standard.specs.declared.shown.Shown.{Shown}
+use Rattle.sip_standard.specs.declared.shown.Shown.TheVariants.{End, Malformed, LogFault}
 use Rattle.sip_standard.specs.Rendering.{rendered}
 use Rattle.sip_standard.specs.Canonical.{IsCanonical}
 use Rattle.sip_standard.specs.declared.log_reason.LogReason.TheVariants as reasons
 use Rattle.sip_standard.specs.declared.verdict.Verdict.TheVariants as verdicts
-
--- What is shown of an input: its entries, one after another, each with its message in the canonical form.
+use Rattle.sip_standard.specs.declared.judge_error.JudgeError.{JudgeError}
+use Rattle.sip_standard.specs.declared.judge_error.JudgeError.TheVariants as judging
+use Rattle.sip_standard.specs.declared.show_error.ShowError.{ShowError}
+use Rattle.sip_standard.specs.declared.show_error.ShowError.TheVariants.{Read, Memory}
 
 -- what stands for an entry's message: its canonical form, and nothing where it has none
 abbrev pub IsCanonOf : Action → List ℕ → List ℕ → Type 0
@@ -54,7 +55,7 @@ pub record ShowsEntries (input text : List ℕ) (shown : Shown) : Type 0 where
   pub items : List Item
   pub rest : List Item
   pub end : LogEnd
-  pub log : IsLogOf input (Readable times (items ++ rest) end)
+  pub log : LogSays input times (items ++ rest) end
   pub front : List ℕ
   pub entries : AreShown 0 items front
   pub ends : EndsAs (length items) rest end shown
@@ -63,4 +64,9 @@ pub record ShowsEntries (input text : List ℕ) (shown : Shown) : Type 0 where
 -- what is shown of an input, and how it ends
 abbrev pub IsShownOf : List ℕ → List ℕ → Shown → Type 0
 IsShownOf input text shown =
-    (IsLogOf input Faulty × (shown ≡ LogFault 0 reasons.Header) × (text ≡ last_text shown ++ line_feed ∷ [])) ⊎ ShowsEntries input text shown
+    (LacksHeader input × (shown ≡ LogFault 0 reasons.Header) × (text ≡ last_text shown ++ line_feed ∷ [])) ⊎ ShowsEntries input text shown
+
+-- what a log that cannot be read, or a want of memory, is told as
+abbrev pub unshown : JudgeError → ShowError
+unshown judging.Io = Read
+unshown judging.Memory = Memory

@@ -1,5 +1,6 @@
 //! What was shown of a log.
-use sip_standard::{Fault, LogReason};
+use crate::fault::Fault;
+use crate::log_reason::LogReason;
 
 /// How a log that is shown ends. Entries are numbered from 1; a fault of the header is at entry 0.
 #[derive(Clone, Copy, Debug, PartialEq, Eq)]

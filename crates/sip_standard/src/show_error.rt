@@ -1,10 +1,10 @@
 //! Why a log could not be shown.
 ghost use Rattle.std.specs.Prelude.{◌≡◌};
-ghost use Rattle.sip_verdict.specs.declared.show_error.ShowError.TheVariants.{Write, Memory};
-ghost use Rattle.sip_verdict.specs.inner.Showing.{unshown};
+ghost use Rattle.sip_standard.specs.declared.show_error.ShowError.TheVariants.{Write, Memory};
+ghost use Rattle.sip_standard.specs.Showing.{unshown};
 
-use sip_log::Broken;
-use sip_standard::JudgeError;
+use crate::broken::Broken;
+use crate::judge_error::JudgeError;
 use std::alloc::AllocError;
 use thiserror::Error;
 

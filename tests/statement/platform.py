@@ -2,6 +2,8 @@
 
 import re
 
+from statement.files import code_of
+
 HEADING = "## What is left trusted of the programs themselves\n"
 # The files that have them, each with how its first such line begins. Their crates have no other file.
 FILES = {
@@ -35,10 +37,10 @@ def listed_lines(theorem):
     return listed
 
 
-def unlisted(repository, theorem):
+def unlisted(theorem):
     """The lines of the platform and of each `main` that the table does not list, and what it lists that is not there."""
     crates = {name.partition("/")[0] for name in FILES}
-    files = {str(file.path): file for file in repository.code if file.crate in crates}
+    files = {str(file.path): file for file in code_of(*crates)}
     for name in sorted({*files} ^ {*FILES}):
         yield f"crates/{name} is {'not listed' if name in files else 'listed, and is not there'}"
     listed = listed_lines(theorem)

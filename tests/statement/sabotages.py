@@ -9,7 +9,8 @@ HEAD = "use Rattle.sip_standard.specs.declared.kind.Kind.{Kind}\n"
 ABOVE_FINAL = "-- a final response, section 7.2: 2xx to 6xx\n"
 FINAL, END_OF_FINAL = "IsFinal code = (200 ≤ code) × ", "(code ≤ 699)\n\n-- a success"
 PLANTED = "abbrev pub planted : ℕ → Type 0\nplanted code = code ≤ 699\n\n"
-UNREAD = "neither a definition nor a clause"
+UNREAD, UNREAD_MARK = "neither a definition nor a clause", "a mark that is not read"
+IN_VERDICT, IN_FORMAT = "`sip_standard/src/verdict.rt`", "`sip_standard/src/format.rt`"
 
 
 def at(file, *changes):
@@ -41,46 +42,46 @@ def law(crate, old, new, wanted):
 
 
 DEFINITIONS = {
-    "a definition in an anonymous module": plant("module _ {X : Type 0} where\n  " + PLANTED.replace("\np", "\n  p")),
+    "a definition in an anonymous module": plant("module _ {X : Type 0} where\n  " + PLANTED.replace("\np", "\n  p"), wanted=UNREAD),
     "a module in an anonymous module": plant("module _ {X : Type 0} where\n  module _ {Y : Type 0} where\n    " + PLANTED.replace("\np", "\n    p"), wanted=UNREAD),
     "a clause below an empty line": (at(KIND, ("kind_of (status", "\nkind_of (status")), UNREAD),
-    "an indented line below an empty line": (at(KIND, ("method_named name =\n", "method_named name =\n\n")), "Kind.antt:12: a line of no definition"),
+    "an indented line below an empty line": (at(KIND, ("method_named name =\n", "method_named name =\n\n")), "Kind.antt:12: " + UNREAD),
     "a name between two strings with a quote inside": (
         at(PROFILE, ('Lit "\\"" then Many', 'Lit "\\"" then planted then Many'), ("-- domainlabel", "abbrev pub planted : List ℕ → Type 0\nplanted text = text ≡ []\n\n-- domainlabel")),
         "`planted`",
     ),
     "a name behind two hyphens in a string": plant(PLANTED, '(let x : String = "-- a" in planted code)'),
-    "mutual definitions": plant("abbrev mutual\n  pub planted : ℕ → Type 0\n  planted code = code ≤ 699\n\n", wanted="a mark that is not read"),
+    "mutual definitions": plant("abbrev mutual\n  pub planted : ℕ → Type 0\n  planted code = code ≤ 699\n\n", wanted=UNREAD),
     "a record that is opened": plant("open r use {limit as planted}\n\n", wanted=UNREAD),
     "a definition with a level": plant(PLANTED.replace(" : ℕ", " {ℓ} : {X : Type ℓ} → ℕ")),
-    "a definition with a level and no mark": plant(PLANTED.replace("abbrev pub planted : ℕ", "planted {ℓ} : {X : Type ℓ} → ℕ")),
-    "a signature over two lines": plant(PLANTED.replace(" : ℕ", "\n  : ℕ")),
+    "a definition with a level and no mark": plant(PLANTED.replace("abbrev pub planted : ℕ", "planted {ℓ} : {X : Type ℓ} → ℕ"), wanted=UNREAD),
+    "a signature over two lines": plant(PLANTED.replace(" : ℕ", "\n  : ℕ"), wanted=UNREAD),
     "a name of letters and marks": plant(PLANTED.replace("planted", "planted+more"), "planted+more code", "`planted+more`"),
-    "a name with two hyphens": plant(PLANTED.replace("planted", "planted--more"), "planted--more code", "-- within the name planted--more"),
+    "a name with two hyphens": plant(PLANTED.replace("planted", "planted--more"), "planted--more code", UNREAD_MARK),
     "an operator of another file": planted_elsewhere(
-        "(code upto 699)", "use Rattle.sip_machine.specs.Naming.{◌upto◌}\n", "`◌upto◌`", "infixr 50 ◌upto◌\nabbrev pub ◌upto◌ : ℕ → ℕ → Type 0\n(a upto b) = a ≤ b\n\n"),
-    "the fixity of an operator": (at(TEXT, ("infixr 30 ◌or◌\n", ""), ("-- P Q:", "infixr 60 ◌or◌\n-- P Q:")), "a fixity of ◌or◌, which does not follow"),
+        "(code upto 699)", "use Rattle.sip_machine.specs.Naming.{◌upto◌}\n", UNREAD, "infixr 50 ◌upto◌\nabbrev pub ◌upto◌ : ℕ → ℕ → Type 0\n(a upto b) = a ≤ b\n\n"),
+    "the fixity of an operator": (at(TEXT, ("infixr 30 ◌or◌\n", ""), ("-- P Q:", "infixr 60 ◌or◌\n-- P Q:")), UNREAD),
     "a helper below where": plant(PLANTED, "within code\n  where\n    within : ℕ → Type 0\n    within n = planted n"),
-    "a comment in braces": plant("{- a comment\nof two lines -}\n", "(code ≤ 699)", "a comment in braces"),
-    "a comment right behind a bracket": plant("", "(--)\n    code ≤ 699)", "a comment right after ("),
-    "an escaped name": plant(PLANTED, "«planted» code", "a name in «"),
+    "a comment in braces": plant("{- a comment\nof two lines -}\n", "(code ≤ 699)", UNREAD_MARK),
+    "a comment right behind a bracket": plant("", "(--)\n    code ≤ 699)", UNREAD_MARK),
+    "an escaped name": plant(PLANTED, "«planted» code", UNREAD_MARK),
     "a letter that looks like a space": plant("", "(code\u00a0≤ 699)", "a letter U+00A0"),
     "a letter that turns a comment round": plant("", "(code ≤ 699) -- a\u202eb", "a letter U+202E"),
-    "a name right behind a dot": plant(PLANTED, "(λ n.planted n) code", "a name right after the dot"),
+    "a name right behind a dot": plant(PLANTED, "(λ n.planted n) code"),
     "a set of rules": plant(PLANTED + "pub ruleset R = planted\n\n", wanted=UNREAD),
-    "a path without a use line": planted_elsewhere("Rattle.sip_machine.specs.Naming.planted code", "", "+ Not followed: `Rattle.sip_machine"),
-    "a path from the package on": planted_elsewhere("package.Rattle.sip_machine.specs.Naming.planted code", "", "+ Not followed: `Rattle.sip_standard"),
-    "a use line through another": planted_elsewhere("planted code", "use Rattle.sip_machine.specs.Naming as Q\nuse Q.{planted}\n", "a use line that is not read"),
-    "a path through a module": planted_elsewhere("Naming.planted code", "use Rattle.sip_machine.specs.Naming\n", "`sip_machine/specs/Naming.antt`"),
-    "a path through a folder": planted_elsewhere("Q.Naming.planted code", "use Rattle.sip_machine.specs as Q\n", "`sip_machine/specs/Naming.antt`"),
-    "a use line of a path in braces": planted_elsewhere("planted code", "use Rattle.sip_machine.specs.{Naming.planted}\n", "a use line that is not read"),
-    "a use line without braces": planted_elsewhere("planted code", "use Rattle.sip_machine.specs.Naming.planted\n", "`sip_machine/specs/Naming.antt`"),
-    "all names of a module": planted_elsewhere("planted code", "use Rattle.sip_machine.specs.Naming.*\n", "a use line that is not read"),
+    "a path without a use line": planted_elsewhere("Rattle.sip_machine.specs.Naming.planted code", "", "a path that is not read"),
+    "a path from the package on": planted_elsewhere("package.Rattle.sip_machine.specs.Naming.planted code", "", "a path that is not read"),
+    "a use line through another": planted_elsewhere("planted code", "use Rattle.sip_machine.specs.Naming as Q\nuse Q.{planted}\n", UNREAD),
+    "a path through a module": planted_elsewhere("Naming.planted code", "use Rattle.sip_machine.specs.Naming\n", UNREAD),
+    "a path through a folder": planted_elsewhere("Q.Naming.planted code", "use Rattle.sip_machine.specs as Q\n", UNREAD),
+    "a use line of a path in braces": planted_elsewhere("planted code", "use Rattle.sip_machine.specs.{Naming.planted}\n", UNREAD),
+    "a use line without braces": planted_elsewhere("planted code", "use Rattle.sip_machine.specs.Naming.planted\n", UNREAD),
+    "all names of a module": planted_elsewhere("planted code", "use Rattle.sip_machine.specs.Naming.*\n", UNREAD),
     "a name under that of another": (at(PLAIN_CLIENT, ("{IsProvisional, IsFinal}", "{IsProvisional, IsSuccess as IsFinal}")), "under the name IsFinal, which others have"),
     "a name handed on under that of another": (
         at(PLAIN_CLIENT, ("Kind.{IsProvisional, IsFinal}", "Kind.{IsProvisional}\nuse Rattle.sip_machine.specs.Texts.{IsFinal}"))
         + at(TEXTS, ("use Rattle.std", "pub use Rattle.sip_standard.specs.Kind.{IsSuccess as IsFinal}\nuse Rattle.std")),
-        "Texts.antt:1: Rattle.sip_standard.specs.Kind.IsSuccess under the name IsFinal",
+        UNREAD,
     ),
 }
 
@@ -90,37 +91,47 @@ VIEW = " {\n    ghost Value = { Verdict };\n\n    ghost view = { λ v. v };\n}\n
 TYPE = "/// What is planted.\npub struct Planted {\n    pub first: u8,\n}\n\n"
 TOP_OF_STAGE = "//! "
 TYPES = {
-    "an impl Model on a type": (at(VERDICT, (LAST, LAST + "\nimpl Model for Verdict" + VIEW)), "`impl Model for Verdict`"),
+    "an impl Model on a type": (at(VERDICT, (LAST, LAST + "\nimpl Model for Verdict" + VIEW)), IN_VERDICT),
     "an impl Model under the name From": (
-        at(VERDICT, (USE_FAULT, USE_FAULT + "\nuse std::marker::Model as From;"), (LAST, LAST + "\nimpl From for Verdict" + VIEW)), "`impl From for Verdict`"),
+        at(VERDICT, (USE_FAULT, USE_FAULT + "\nuse std::marker::Model as From;"), (LAST, LAST + "\nimpl From for Verdict" + VIEW)), IN_VERDICT),
     "an impl Model on another name of a type": (
-        at(VERDICT, (LAST, LAST + "\npub type Said = Verdict;\n\nimpl Model for Said" + VIEW)), "`impl Model for Verdict`"),
+        at(VERDICT, (LAST, LAST + "\npub type Said = Verdict;\n\nimpl Model for Said" + VIEW)), IN_VERDICT),
     "an impl Model in another file": (
-        at(FORMAT, (TOP_OF_STAGE, "use crate::verdict::Verdict as Spoken;\n\nimpl std::marker::Model for Spoken" + VIEW + "\n" + TOP_OF_STAGE)), "`impl Model for Verdict`"),
+        at(FORMAT, (TOP_OF_STAGE, "use crate::verdict::Verdict as Spoken;\n\nimpl std::marker::Model for Spoken" + VIEW + "\n" + TOP_OF_STAGE)), IN_FORMAT),
     "an impl in a module of a file": (
         at(VERDICT, (LAST, LAST + "\nmod inside {\n    impl Model for Verdict {\n        ghost Value = { Verdict };\n    }\n}\n")),
-        "an impl on Verdict that stands inside something",
+        IN_VERDICT,
     ),
     "a type by its path": (
         at(VERDICT, (FAULT, FAULT.replace(" }", ", planted: crate::format::Planted }"))) + at(FORMAT, (TOP_OF_STAGE, TYPE + TOP_OF_STAGE)), "`Planted`"),
     "a type in a module of a file": (
         at(VERDICT, (FAULT, FAULT.replace(" }", ", planted: crate::format::inside::Planted }"))) + at(FORMAT, (TOP_OF_STAGE, "pub mod inside {\n    pub struct Planted(u8);\n}\n\n" + TOP_OF_STAGE)),
-        "+ Not followed: `Rattle.sip_standard.format.inside.Planted`",
+        IN_FORMAT,
     ),
     "a type through use lines in braces": (
         at(VERDICT, (USE_FAULT, "use crate::{format::{Planted}};\n" + USE_FAULT), (FAULT, FAULT.replace(" }", ", planted: Planted }"))) + at(FORMAT, (TOP_OF_STAGE, TYPE + TOP_OF_STAGE)),
         "`Planted`",
     ),
-    "all types of a module": (at(VERDICT, (USE_FAULT, USE_FAULT + "\nuse crate::format::*;")), "a use line that is not read"),
-    "a comment of another form": (at(VERDICT, ("//! What is said", "/* a comment */\n//! What is said")), "a comment between /* and */"),
+    "all types of a module": (at(VERDICT, (USE_FAULT, USE_FAULT + "\nuse crate::format::*;")), "* is not followed"),
+    "a comment of another form": (at(VERDICT, ("//! What is said", "/* a comment */\n//! What is said")), IN_VERDICT),
     "a module from another file": (at(STANDARD_LIB, ("mod verdict;", '#[path = "format.rt"]\nmod verdict;')), "path is not followed"),
     "a type for some builds alone": (at(VERDICT, ("pub enum Verdict {", "#[cfg(any())]\npub enum Verdict {")), "cfg is not followed"),
     "a second judge": (at(STAGE, (TOP_OF_STAGE, "pub fn judge() -> bool\n    ensures { result ≡ true }\n{\n    true\n}\n\n" + TOP_OF_STAGE)), "not one function judge"),
     "a judge that is not handed on": (at(VERDICT_LIB, ("judging::{judge, judge_bytes}", "judging::{judge_bytes}")), "not one function judge"),
     "a macro in the contract": (
         at(JUDGING, ("IsVerdictOf input verdict)) }\n    ensures ok { OnOk result (R.has_failed reader.new ≡ false) }", "is_verdict!(input))) }\n    ensures ok { OnOk result (R.has_failed reader.new ≡ false) }")),
-        "no contract of judge that is read",
+        "judge has another contract",
     ),
+}
+
+SHOWING, JUDGES = "crates/sip_verdict/src/showing.rt", "crates/sip_standard/src/judges.rt"
+CONTRACTS = {
+    "a premise of show": (at(SHOWING, ("-> Result<Shown, ShowError>\n    ensures shown", "-> Result<Shown, ShowError>\n    requires { R.has_failed reader.old ≡ false }\n    ensures shown")), "show has another contract"),
+    "a clause of judge_bytes less": (at(JUDGING, ("    ensures io { IsErrOf result JudgeError.Io → ⊥ }\n", "")), "judge_bytes has another contract"),
+    "a clause of the trait less": (at(JUDGES, ("        ensures ok { OnOk result (R.has_failed reader.new ≡ false) }\n", "")), "judge has another contract"),
+    "a function of the trait that there is not": (at(JUDGES, ("    fn show<R", "    fn shows<R")), "not one function shows"),
+    "a definition that is gone": definition("Window", "-- the window of a timer that was set at s for d\nabbrev pub window_at : Times → ℕ → ℕ → Option (ℕ × Option ℕ)\nwindow_at p s d = Some (open_at p s d, Some (close_at p s d))\n", "", "- | `sip_standard/specs/Window.antt` | `open_at`, `close_at`, `window_at` |"),
+    "a definition that nothing needs": plant(PLANTED, "(code ≤ 699)", "nothing needs planted"),
 }
 
 UNTOLD = "is not told in words: "
@@ -200,4 +211,4 @@ LINES = {
         "crates/sipsurvey/src/main.rt: docs/THEOREM.md does not list ExitCode::from(status)"),
     "another platform": (at("crates/sip_platform/src/lib.rt", ("pub use platform::StdPlatform;", "pub use other::StdPlatform;")), "does not list pub use other::StdPlatform;"),
 }
-ALL = {**DEFINITIONS, **TYPES, **TABLES, **LAWS, **LINES}
+ALL = {**DEFINITIONS, **TYPES, **CONTRACTS, **TABLES, **LAWS, **LINES}

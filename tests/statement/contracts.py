@@ -1,21 +1,21 @@
-"""The contracts of the trait `Judges` of sip_standard against those of the functions, word for word."""
+"""The contracts of the traits `Judges` and `Program` of sip_standard against those of the functions, word for word."""
 
 import re
 
 from statement.files import TOP, code_of, text_of
 
-TRAIT = TOP / "crates/sip_standard/src/judges.rt"
-# The crate whose functions these are.
-CRATE = "sip_verdict"
+SOURCES = TOP / "crates/sip_standard/src"
+# Each trait with its file, and the crate whose functions these are.
+TRAITS = [("Judges", SOURCES / "judges.rt", "sip_verdict"), ("Program", SOURCES / "program.rt", "sip_program")]
 
 
 def in_one_line(text):
     return re.sub(r",? (?=\))|(?<=\() ", "", re.sub(r"\s+", " ", text)).strip()
 
 
-def contracts_asked():
-    """Each function of the trait, with its signature and clauses."""
-    return {found[1]: in_one_line(found[0].rstrip(";")) for found in re.finditer(r"^    fn (\w+)\b.*?;$", text_of(TRAIT), re.M | re.S)}
+def contracts_asked(path):
+    """Each function of the trait in this file, with its signature and clauses."""
+    return {found[1]: in_one_line(found[0].rstrip(";")) for found in re.finditer(r"^    fn (\w+)\b.*?;$", text_of(path), re.M | re.S)}
 
 
 def contract_of(files, name):
@@ -29,13 +29,14 @@ def contract_of(files, name):
 
 def differing():
     """Where a function has other words than the trait asks, and where there is not one."""
-    files = code_of(CRATE)
-    asked = contracts_asked()
-    for name, wanted in asked.items():
-        stands = contract_of(files, name)
-        if stands is None:
-            yield f"{CRATE}: not one function {name} that its lib.rt hands on"
-        elif stands != wanted:
-            yield f"{CRATE}: {name} has another contract than `Judges` asks: {stands}"
-    if not asked:
-        yield f"{TRAIT}: no contract is read"
+    for trait, path, crate in TRAITS:
+        files = code_of(crate)
+        asked = contracts_asked(path)
+        for name, wanted in asked.items():
+            stands = contract_of(files, name)
+            if stands is None:
+                yield f"{crate}: not one function {name} that its lib.rt hands on"
+            elif stands != wanted:
+                yield f"{crate}: {name} has another contract than `{trait}` asks: {stands}"
+        if not asked:
+            yield f"{path}: no contract is read"

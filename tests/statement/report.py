@@ -21,6 +21,8 @@ PAGES = {
     "LogSays": ["LOG.md", "MACHINES.md"],
     "Stands": ["MACHINES.md", "VERDICT.md"],
     "Showing": ["VERDICT.md", "LOG.md"],
+    "ListingOf": ["VERDICT.md"],
+    "Answers": ["VERDICT.md"],
 }
 BEGIN, BEGIN_LAWS = "<!-- tests/trusted --write writes from here -->\n", "<!-- tests/trusted --write writes the laws from here -->\n"
 END = "<!-- to here -->\n"
@@ -85,7 +87,7 @@ def main(arguments):
         PAGE.write_text(page)
         changes, of_laws = [], []
     told = {
-        "contracts that are not those of `Judges`": list(contracts.differing()),
+        "contracts that are not those of `Judges` and `Program`": list(contracts.differing()),
         "definitions that docs/standard does not name": list(untold(files)),
         "other rows in docs/standard": list(differing(text_of(STANDARD / "MACHINES.md"), {file.path.stem: file for file in files})),
         "files that docs/standard names and no crate has": sorted(set(unknown_files())),

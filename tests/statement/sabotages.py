@@ -125,9 +125,12 @@ TYPES = {
 }
 
 SHOWING, JUDGES = "crates/sip_verdict/src/showing.rt", "crates/sip_standard/src/judges.rt"
+LISTING, RUNNING = "crates/sip_verdict/src/listing.rt", "crates/sip_program/src/running.rt"
 CONTRACTS = {
     "a premise of show": (at(SHOWING, ("-> Result<Shown, ShowError>\n    ensures shown", "-> Result<Shown, ShowError>\n    requires { R.has_failed reader.old ≡ false }\n    ensures shown")), "show has another contract"),
     "a clause of judge_bytes less": (at(JUDGING, ("    ensures io { IsErrOf result JudgeError.Io → ⊥ }\n", "")), "judge_bytes has another contract"),
+    "a clause of states_at less": (at(LISTING, ("    ensures ok { OnOk result (R.has_failed reader.new ≡ false) }\n", "")), "states_at has another contract"),
+    "a clause of run less": (at(RUNNING, ("    ensures words { IsErrOf result Usage → IfSome (S.words system.old) (λ words. IsAskedBy words None) }\n", "")), "run has another contract"),
     "a clause of the trait less": (at(JUDGES, ("        ensures ok { OnOk result (R.has_failed reader.new ≡ false) }\n", "")), "judge has another contract"),
     "a function of the trait that there is not": (at(JUDGES, ("    fn show<R", "    fn shows<R")), "not one function shows"),
     "a definition that is gone": definition("Window", "-- the window of a timer that was set at s for d\nabbrev pub window_at : Times → ℕ → ℕ → Option (ℕ × Option ℕ)\nwindow_at p s d = Some (open_at p s d, Some (close_at p s d))\n", "", "- | `sip_standard/specs/Window.antt` | `open_at`, `close_at`, `window_at` |"),

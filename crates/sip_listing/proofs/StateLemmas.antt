@@ -5,7 +5,8 @@ use Rattle.std.proofs.lemmas.List.Elements.{All-head, All-tail}
 use Rattle.sip_machine.specs.Texts.{Texts, text_of}
 use Rattle.sip_machine.specs.Owes.{owes_names}
 use Rattle.sip_machine.specs.Owing.{CodeOwing, owing_seen, owing_names}
-use Rattle.sip_machine.specs.Told.{ToldField, Told, Flag, Number, Message, field_by, told_by, told_of, field_message, messages_told}
+use Rattle.sip_machine.specs.Told.{told_of, field_message, messages_told}
+use Rattle.sip_standard.specs.Told.{ToldField, Told, Flag, Number, Message, field_by, told_by}
 use Rattle.sip_machine.specs.inner.DebtLaws.{All-front, All-back}
 use Rattle.sip_standard.specs.KeyMachine.{MachineKind, OfInviteClient, OfPlainClient, OfInviteServer, OfPlainServer, OfInviteClient3261, OfInviteServer3261}
 use Rattle.sip_states.specs.KeySets.{coded_of, of_machine, to_machine}
@@ -14,10 +15,10 @@ use Rattle.sip_states.specs.declared.any_set.AnySet.{AnySet}
 use Rattle.sip_states.specs.declared.told.ToldState.{ToldState}
 use Rattle.sip_states.proofs.keyed.ByMachine.{some_machine, of_set}
 use Rattle.sip_standard.specs.Figure.{Owing}
-use Rattle.sip_listing.specs.Fields.{owes_fields, Tells}
-use Rattle.sip_listing.specs.State.{phase_text}
-use Rattle.sip_listing.specs.Lines.{AreInOrder}
-use Rattle.sip_listing.specs.Transaction.{words_of, TellsSet, AreLinesOfHeld, AreLinesOfSet, Lists}
+use Rattle.sip_standard.specs.StateText.{owes_fields, phase_text}
+use Rattle.sip_listing.specs.Lists.{Tells, TellsSet, AreLinesOfHeld, AreLinesOfSet, Lists}
+use Rattle.sip_standard.specs.StateLines.{AreInOrder}
+use Rattle.sip_standard.specs.PhaseWords.{words_of}
 use Rattle.sip_listing.specs.inner.FieldLaws.{debts_fields, debts_told, first_told, others_told}
 use Rattle.sip_listing.specs.inner.StateLine.{state_line}
 

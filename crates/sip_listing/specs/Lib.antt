@@ -1,5 +1,2 @@
-pub mod Fields
-pub mod State
-pub mod Lines
-pub mod Transaction
+pub mod Lists
 pub mod inner

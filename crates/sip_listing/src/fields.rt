@@ -1,6 +1,6 @@
 //! The words of which the text of a state is made.
 ghost use Rattle.std.specs.Prelude.{◌≡◌, ◌++◌, OnOk, flat_map, replicate, string_bytes};
-ghost use Rattle.sip_listing.specs.Fields.{field, field_text, number_field, optional_field, flag_field, owed_field};
+ghost use Rattle.sip_standard.specs.StateText.{field, told_text, number_field, optional_field, flag_field, owed_field};
 ghost use Rattle.sip_machine.specs.Told.{field_of_code};
 ghost use Rattle.sip_listing.specs.inner.FieldLaws.{debts_fields};
 
@@ -44,7 +44,7 @@ fn push_flag(line: &mut String, name: &str, value: bool) -> Result<(), AllocErro
 
 /// Appends a field of a phase.
 pub(crate) fn push_field(line: &mut String, told: Field) -> Result<(), AllocError>
-    ensures { OnOk result (string_bytes line.new ≡ string_bytes line.old ++ field_text (field_of_code told)) }
+    ensures { OnOk result (string_bytes line.new ≡ string_bytes line.old ++ told_text (field_of_code told)) }
 {
     match told {
         Field::Flag(name, is) => push_flag(line, name, is),

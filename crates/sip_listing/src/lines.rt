@@ -1,6 +1,6 @@
 //! The lines of states.
 ghost use Rattle.std.specs.Prelude.{◌≡◌, ◌++◌, IfOk, OnOk, map, string_bytes};
-ghost use Rattle.sip_listing.specs.Lines.{AreInOrder, indented};
+ghost use Rattle.sip_standard.specs.StateLines.{AreInOrder, indented};
 ghost use Rattle.sip_listing.specs.inner.StateLine.{state_line};
 
 use crate::state::push_state;

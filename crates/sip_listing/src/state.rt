@@ -1,7 +1,7 @@
 //! The text of a state: its phase, and what is owed.
 ghost use Rattle.std.specs.Prelude.{◌≡◌, ◌++◌, OnOk, string_bytes};
 ghost use Rattle.sip_machine.specs.Told.{told_of};
-ghost use Rattle.sip_listing.specs.State.{phase_text};
+ghost use Rattle.sip_standard.specs.StateText.{phase_text};
 ghost use Rattle.sip_listing.specs.inner.StateLine.{state_line};
 
 use crate::fields::{push_field, push_owes};

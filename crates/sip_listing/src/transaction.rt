@@ -1,6 +1,7 @@
 //! A transaction in a listing: its number, its key in words, and its states.
 ghost use Rattle.std.specs.Prelude.{◌≡◌, ◌++◌, List, ℕ, OnOk, IsAscii, decimal, string_bytes};
-ghost use Rattle.sip_listing.specs.Transaction.{key_text, role_text, transaction_line, transaction_text, Lists};
+ghost use Rattle.sip_standard.specs.TransactionText.{key_text, role_text, transaction_line, transaction_text};
+ghost use Rattle.sip_listing.specs.Lists.{Lists};
 
 use crate::lines::{lines_of, push_indented};
 use itoa::Buffer;

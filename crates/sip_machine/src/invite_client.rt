@@ -82,7 +82,8 @@ impl InviteClient {
 impl Phases for InviteClient {
     ghost use Rattle.sip_machine.specs.declared.invite_client.InviteClientPhase.TheVariants.{Idle, Ended};
     ghost use Rattle.sip_standard.specs.InviteClient.{InviteClientPhase as Seen, invite_client};
-    ghost use Rattle.sip_machine.specs.inner.InviteClient.{invite_client_told, invite_client_seen, invite_client_names, InviteClientInRange};
+    ghost use Rattle.sip_machine.specs.inner.InviteClient.{invite_client_seen, invite_client_names, InviteClientInRange};
+    ghost use Rattle.sip_standard.specs.PhaseWords.{invite_client_told};
     ghost use Rattle.sip_machine.specs.inner.Coded.{has_phases};
     ghost use Rattle.sip_machine.specs.inner.InviteClient.Laws.{invite_client_is_coded};
 

@@ -45,7 +45,8 @@ impl InviteClient3261 {
 impl Phases for InviteClient3261 {
     ghost use Rattle.sip_machine.specs.declared.invite_client.InviteClientPhase.TheVariants.{Idle, Ended};
     ghost use Rattle.sip_standard.specs.InviteClient.{InviteClientPhase as Seen};
-    ghost use Rattle.sip_machine.specs.inner.InviteClient.{invite_client_told, invite_client_seen, invite_client_names, InviteClientInRange};
+    ghost use Rattle.sip_machine.specs.inner.InviteClient.{invite_client_seen, invite_client_names, InviteClientInRange};
+    ghost use Rattle.sip_standard.specs.PhaseWords.{invite_client_told};
     ghost use Rattle.sip_standard.specs.InviteClient3261.{invite_client_3261};
     ghost use Rattle.sip_machine.specs.inner.Coded.{has_phases};
     ghost use Rattle.sip_machine.specs.inner.InviteClient3261.Laws.{invite_client_3261_is_coded};

@@ -79,7 +79,8 @@ impl Phases for InviteServer3261 {
     ghost use Rattle.sip_machine.specs.declared.invite_server.InviteServerPhase.TheVariants.{Idle};
     ghost use Rattle.sip_machine.specs.declared.invite_server_3261.InviteServer3261Phase.TheVariants.{In};
     ghost use Rattle.sip_standard.specs.InviteServer3261.{InviteServer3261Phase as Seen, invite_server_3261};
-    ghost use Rattle.sip_machine.specs.inner.InviteServer3261.{invite_server_3261_told, invite_server_3261_seen, invite_server_3261_names, InviteServer3261InRange};
+    ghost use Rattle.sip_machine.specs.inner.InviteServer3261.{invite_server_3261_seen, invite_server_3261_names, InviteServer3261InRange};
+    ghost use Rattle.sip_standard.specs.PhaseWords.{invite_server_3261_told};
     ghost use Rattle.sip_machine.specs.inner.Coded.{has_phases};
     ghost use Rattle.sip_machine.specs.inner.InviteServer3261.Laws.{invite_server_3261_is_coded};
 

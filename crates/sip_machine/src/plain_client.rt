@@ -63,7 +63,8 @@ impl PlainClient {
 impl Phases for PlainClient {
     ghost use Rattle.sip_machine.specs.declared.plain_client.PlainClientPhase.TheVariants.{Idle, Ended};
     ghost use Rattle.sip_standard.specs.PlainClient.{PlainClientPhase as Seen, plain_client};
-    ghost use Rattle.sip_machine.specs.inner.PlainClient.{plain_client_told, plain_client_seen, plain_client_names, PlainClientInRange};
+    ghost use Rattle.sip_machine.specs.inner.PlainClient.{plain_client_seen, plain_client_names, PlainClientInRange};
+    ghost use Rattle.sip_standard.specs.PhaseWords.{plain_client_told};
     ghost use Rattle.sip_machine.specs.inner.Coded.{has_phases};
     ghost use Rattle.sip_machine.specs.inner.PlainClient.Laws.{plain_client_is_coded};
 

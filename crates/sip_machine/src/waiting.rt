@@ -4,7 +4,8 @@ ghost use Rattle.sip_machine.specs.Texts.{Keeps, text_of};
 ghost use Rattle.sip_machine.specs.NumberedEvent.{KeepsMessage, event_in};
 ghost use Rattle.sip_standard.specs.Retransmits.{Retransmits};
 ghost use Rattle.sip_machine.specs.Deadlines.{earliest};
-ghost use Rattle.sip_machine.specs.inner.Waiting.{waiting_closes, waiting_fields, waiting_seen, WaitingInRange};
+ghost use Rattle.sip_machine.specs.inner.Waiting.{waiting_closes, waiting_seen, WaitingInRange};
+ghost use Rattle.sip_standard.specs.PhaseWords.{waiting_fields};
 ghost use Rattle.sip_machine.specs.Told.{field_of_code};
 
 use crate::book::Book;

@@ -1,9 +1,9 @@
 -- What stays an answer where the writer keeps its bytes.
 use Rattle.std.proofs.Common.{◌≡◌, ◌∙◌, ℕ, List, Option, None, Some, IfSome, subst}
 use Rattle.std.specs.Io.KnownBytes.{Appends, Keeps}
-use Rattle.sip_program.specs.declared.words.Asked.{Asked}
-use Rattle.sip_program.specs.declared.words.Asked.TheVariants.{Input, Check, Show, States}
-use Rattle.sip_program.specs.Answers.{IsJudged, IsShown, IsListed, IsAnswer, IsAnswerTo}
+use Rattle.sip_standard.specs.declared.asked.Asked.{Asked}
+use Rattle.sip_standard.specs.declared.asked.Asked.TheVariants.{Input, Check, Show, States}
+use Rattle.sip_standard.specs.Answers.{IsJudged, IsShown, IsListed, IsAnswer, IsAnswerTo}
 
 -- what was appended is appended still
 Appends-kept : (a b c : Option (List ℕ)) (bytes : List ℕ) → Appends a b bytes → Keeps b c → Appends a c bytes

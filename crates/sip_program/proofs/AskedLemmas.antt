@@ -4,9 +4,9 @@ use Rattle.std.specs.Prelude.{bytes_eq, decimal}
 use Rattle.std.proofs.lemmas.Bool.{both_ways}
 use Rattle.std.proofs.lemmas.List.{length-map}
 use Rattle.std.proofs.lemmas.Slice.Eq.{bytes_eq-Decides}
-use Rattle.sip_program.specs.declared.words.Asked.{Asked}
-use Rattle.sip_program.specs.declared.words.Asked.TheVariants.{Input, Check, Show, States}
-use Rattle.sip_program.specs.Asked.{words_for}
+use Rattle.sip_standard.specs.declared.asked.Asked.{Asked}
+use Rattle.sip_standard.specs.declared.asked.Asked.TheVariants.{Input, Check, Show, States}
+use Rattle.sip_standard.specs.Asked.{words_for}
 
 -- what a function tells of two words is what it tells of the first and of the second
 pub two-words : {X : Type 0} (f : X → List ℕ) (words : List X) (a b : X) (first second : List ℕ) →

@@ -1,11 +1,12 @@
 -- How the program ends: its status, and what it tells on the standard error.
 use Rattle.std.specs.Prelude.{◌≡◌, ℕ, Bool, true, false, List, [], Option, None, IfSome, Result, Ok, Err, ⊤}
 use Rattle.std.specs.Io.KnownBytes.{Appends}
-use Rattle.sip_program.specs.declared.failure.Failure.{Failure}
-use Rattle.sip_program.specs.declared.failure.Failure.TheVariants.{Read, Write, Memory, Usage}
-use Rattle.sip_program.specs.Answers.{IsAnswerTo}
-use Rattle.sip_program.specs.Asked.{IsAskedBy}
-use Rattle.sip_program.specs.Failures.{status_without, line_of}
+use Rattle.sip_standard.specs.declared.failure.Failure.{Failure}
+use Rattle.sip_standard.specs.declared.failure.Failure.TheVariants.{Read, Write, Memory, Usage}
+use Rattle.sip_standard.specs.Answers.{IsAnswerTo}
+use Rattle.sip_standard.specs.Asked.{IsAskedBy}
+use Rattle.sip_program.specs.Failures.{status_without}
+use Rattle.sip_standard.specs.Failures.{line_of}
 
 -- the status of an answer, or that of there being none
 abbrev pub status_at_end : Result ℕ Failure → ℕ

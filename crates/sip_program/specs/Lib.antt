@@ -1,7 +1,4 @@
-pub mod Answers
-pub mod Asked
 pub mod Ending
+pub mod EntryNumber
 pub mod Failures
 pub mod Reading
-pub mod Sent
-pub mod Status

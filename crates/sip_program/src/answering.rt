@@ -3,12 +3,12 @@ ghost use Rattle.std.specs.Prelude.{◌≡◌, ◌++◌, ◌∷◌, [], false, O
 ghost use Rattle.std.specs.Io.KnownBytes.{Appends};
 ghost use Rattle.sip_standard.specs.LogSays.{line_feed};
 ghost use Rattle.sip_standard.specs.Rendering.{rendered};
-ghost use Rattle.sip_program.specs.Answers.{IsJudged, IsShown, IsListed, listing_text};
+ghost use Rattle.sip_standard.specs.Answers.{IsJudged, IsShown, IsListed, listing_text};
 ghost use Rattle.sip_program.specs.Failures.{Blames};
 
-use crate::failure::Failure;
 use crate::status::{status_of, status_of_listing, status_of_shown};
 use sip_log::{Sink, Source};
+use sip_standard::Failure;
 use sip_verdict::{Listing, Verdict, judge, render, show, states_at};
 use std::alloc::Global;
 use std::hash::BuildHasher;

@@ -1,9 +1,10 @@
 //! What the words that the program is given ask for.
 ghost use Rattle.std.specs.Prelude.{map, string_bytes};
-ghost use Rattle.sip_program.specs.Asked.{IsAskedBy, IsNumberFor};
+ghost use Rattle.sip_standard.specs.Asked.{IsAskedBy};
+ghost use Rattle.sip_program.specs.EntryNumber.{IsNumberFor};
 
-use crate::words::Asked;
 use itoa::Buffer;
+use sip_standard::Asked;
 
 /// The number of the first entry of a log.
 const LEAST: u32 = 1;

@@ -3,8 +3,9 @@ ghost use Rattle.std.specs.Prelude.{◌≡◌, false};
 ghost use Rattle.std.specs.Io.KnownBytes.{Appends};
 ghost use Rattle.sip_program.specs.Ending.{status_at_end, told_at_end};
 
-use crate::failure::{Failure, status_without};
+use crate::failure::status_without;
 use sip_log::Sink;
+use sip_standard::Failure;
 
 /// Tells why there is no answer, if there is none. The result is the status that the program ends with, also where nothing can be told.
 pub fn end<E: Sink>(ended: Result<u8, Failure>, errors: &mut E) -> u8

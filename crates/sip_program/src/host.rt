@@ -3,8 +3,8 @@ ghost use Rattle.std.specs.Prelude.{◌≡◌, false, drop, option_map};
 ghost use Rattle.sip_program.specs.Reading.{left_of};
 
 use crate::platform::Platform;
-use crate::system::System;
 use sip_log::{Broken, FromRead, Source};
+use sip_standard::System;
 use std::io;
 use std::io::Read;
 

@@ -1,20 +1,18 @@
 //! What the program does.
 ghost use Rattle.std.specs.Prelude.{◌≡◌, None, false, true, IfSome, OnOk, IfOk, IfErr, IsErrOf};
-ghost use Rattle.sip_program.specs.Answers.{IsAnswer, IsAnswerTo, log_for};
-ghost use Rattle.sip_program.specs.Asked.{IsAskedBy};
+ghost use Rattle.sip_standard.specs.Answers.{IsAnswer, IsAnswerTo, log_for};
+ghost use Rattle.sip_standard.specs.Asked.{IsAskedBy};
 ghost use Rattle.sip_program.specs.Ending.{IsEnd};
 ghost use Rattle.sip_program.specs.Failures.{Blames};
-ghost use Rattle.sip_program.specs.Sent.{sent};
-ghost use Rattle.sip_program.specs.declared.failure.Failure.TheVariants.{Read, Usage, Write};
+ghost use Rattle.sip_standard.specs.Sent.{sent};
+ghost use Rattle.sip_standard.specs.declared.failure.Failure.TheVariants.{Read, Usage, Write};
 
 use crate::answering::{check, list_states, show_log};
 use crate::asking::asked;
 use crate::ending::end;
-use crate::failure::{Failure, read_failure};
-use crate::output::Output;
-use crate::system::System;
-use crate::words::Asked;
+use crate::failure::read_failure;
 use sip_log::{Sink, Source};
+use sip_standard::{Asked, Failure, Output, System};
 use std::alloc::Global;
 use std::io::Write;
 

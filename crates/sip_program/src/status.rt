@@ -1,6 +1,6 @@
 //! The status that the program ends with where it has its answer.
 ghost use Rattle.std.specs.Prelude.{◌≡◌};
-ghost use Rattle.sip_program.specs.Status.{status_of, status_of_shown, status_of_listing};
+ghost use Rattle.sip_standard.specs.Status.{status_of, status_of_shown, status_of_listing};
 
 use sip_verdict::{Listing, Shown, Verdict};
 

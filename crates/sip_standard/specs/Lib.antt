@@ -47,3 +47,15 @@ pub mod Observation
 pub mod VerdictOf
 pub mod Rendering
 pub mod Showing
+pub mod Told
+pub mod PhaseWords
+pub mod StateText
+pub mod StateLines
+pub mod TransactionText
+pub mod Seen
+pub mod ListingOf
+pub mod Asked
+pub mod Failures
+pub mod Status
+pub mod Sent
+pub mod Answers

@@ -1,11 +1,13 @@
-//! What is proved of `judge`, `judge_bytes` and `show`: their contracts, word for word, over this crate alone.
+//! What is proved of `judge`, `judge_bytes`, `show` and `states_at`: their contracts, word for word, over this crate alone.
 ghost use Rattle.std.specs.Prelude.{◌≡◌, ℕ, true, false, List, IfOk, OnOk, IfSome, IsErrOf};
 ghost use Rattle.std.specs.Io.KnownBytes.{Appends};
 ghost use Rattle.sip_standard.specs.VerdictOf.{IsVerdictOf};
 ghost use Rattle.sip_standard.specs.Showing.{IsShownOf};
+ghost use Rattle.sip_standard.specs.ListingOf.{IsListingOf};
 ghost use Rattle.sip_standard.specs.declared.show_error.ShowError.TheVariants.{Read, Write};
 
 use crate::judge_error::JudgeError;
+use crate::listing::Listing;
 use crate::show_error::ShowError;
 use crate::shown::Shown;
 use crate::sink::Sink;
@@ -14,7 +16,7 @@ use crate::verdict::Verdict;
 use std::alloc::Global;
 use std::hash::BuildHasher;
 
-/// What judges logs and shows them. `sip_verdict` does, by its functions of the same names.
+/// What judges logs, shows them and lists states. `sip_verdict` does, by its functions of the same names.
 pub trait Judges {
     /// The verdict on the log of the reader's bytes.
     fn judge<R: Source, H: BuildHasher + Drop>(
@@ -46,4 +48,16 @@ pub trait Judges {
         ensures fine { OnOk result ((R.has_failed reader.new ≡ R.has_failed reader.old) × (W.has_failed writer.new ≡ W.has_failed writer.old)) }
         ensures read { IsErrOf result Read → R.has_failed reader.new ≡ true }
         ensures write { IsErrOf result Write → W.has_failed writer.new ≡ true };
+
+    /// The states in which the transactions of an entry can stand after it.
+    fn states_at<R: Source, H: BuildHasher + Drop>(
+        alloc: Global,
+        reader: &mut R,
+        hasher: H,
+        entry: u32,
+    ) -> Result<Listing, JudgeError>
+        requires { R.has_failed reader.old ≡ false }
+        ensures listing { IfOk result (λ listing. IfSome (R.left reader.old) (λ input. IsListingOf input entry listing)) }
+        ensures ok { OnOk result (R.has_failed reader.new ≡ false) }
+        ensures io { IsErrOf result JudgeError.Io → R.has_failed reader.new ≡ true };
 }

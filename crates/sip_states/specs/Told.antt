@@ -3,7 +3,8 @@ use Rattle.std.specs.Prelude.{◌≡◌, ℕ, List, map}
 use Rattle.sip_ledger.specs.declared.debt.Debt.{Debt}
 use Rattle.sip_ledger.specs.Runs.{debts_in}
 use Rattle.sip_machine.specs.Texts.{Texts, text_of}
-use Rattle.sip_machine.specs.Told.{Told, told_by, told_of, messages_told}
+use Rattle.sip_machine.specs.Told.{told_of, messages_told}
+use Rattle.sip_standard.specs.Told.{Told, told_by}
 use Rattle.sip_machine.specs.Owing.{CodeOwing}
 use Rattle.sip_states.specs.KeySets.{coded_of, by_machine}
 use Rattle.sip_states.specs.declared.any_set.AnySet.{AnySet}

@@ -2,12 +2,9 @@ pub mod Forgetting
 pub mod Judging
 pub mod Keyed
 pub mod LegalLog
-pub mod Listing
-pub mod ListingOf
 pub mod MessageReading
 pub mod Named
 pub mod Reading
-pub mod Seen
 pub mod SurveyLaws
 pub mod SurveyOf
 pub mod SurveyParts

@@ -11,7 +11,7 @@ use Rattle.sip_standard.specs.declared.log_reason.LogReason.TheVariants.{Header}
 use Rattle.sip_standard.specs.Observation.{direction_of, Observation}
 use Rattle.sip_verdict.specs.SurveyOf.{IsSurveyAfter}
 use Rattle.sip_standard.specs.Key.{KeyParts}
-use Rattle.sip_verdict.specs.Seen.{AreSeen}
+use Rattle.sip_standard.specs.Seen.{AreSeen}
 use Rattle.sip_verdict.specs.SurveyText.{IsSurveyText}
 use Rattle.sip_verdict.specs.declared.survey_end.SurveyEnd.TheVariants as ended
 

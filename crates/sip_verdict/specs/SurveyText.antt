@@ -14,9 +14,9 @@ use Rattle.sip_standard.specs.Times.{Times}
 use Rattle.sip_standard.specs.Outcome.{gives}
 use Rattle.sip_standard.specs.Says.{Said, Says}
 use Rattle.sip_standard.specs.LogEntry.{Item}
-use Rattle.sip_listing.specs.Transaction.{key_text}
+use Rattle.sip_standard.specs.TransactionText.{key_text}
 use Rattle.sip_standard.specs.Observation.{Observation}
-use Rattle.sip_verdict.specs.Seen.{AreSeen}
+use Rattle.sip_standard.specs.Seen.{AreSeen}
 use Rattle.sip_standard.specs.VerdictOf.{keys_in}
 use Rattle.sip_standard.specs.declared.verdict.Verdict.TheVariants as verdicts
 

@@ -47,11 +47,13 @@ pub use laws::{
     a_log_of_format_1_has_its_verdict_in_format_2, a_run_over_entries_holds_one_over_fewer,
     a_verdict_is_that_by_the_reading_of_messages, an_input_has_a_verdict, an_input_has_one_verdict,
 };
-pub use listing::{Listing, states_at};
+pub use listing::states_at;
 pub use rendering::{end_line, finding_line, render};
 pub use showing::show;
 pub use sip_part::Part;
-pub use sip_standard::{Fault, JudgeError, LogReason, Reason, ShowError, Shown, Unit, Verdict};
+pub use sip_standard::{
+    Fault, JudgeError, Listing, LogReason, Reason, ShowError, Shown, Unit, Verdict,
+};
 pub use siptrace::Siptrace;
 pub use step_error::StepError;
 pub use stream::Judge;

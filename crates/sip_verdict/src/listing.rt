@@ -1,34 +1,21 @@
 //! The states of the transactions that an entry of a log concerns.
 ghost use Rattle.std.specs.Prelude.{◌≡◌, true, false, IfSome, IfOk, OnOk, IsErrOf};
-ghost use Rattle.sip_verdict.specs.ListingOf.{IsListingOf};
+ghost use Rattle.sip_standard.specs.ListingOf.{IsListingOf};
 ghost use Rattle.sip_verdict.specs.inner.Walking.{listed_after};
 
 use crate::walking::Walk;
 use sip_log::Source;
-use sip_standard::{JudgeError, Verdict};
+use sip_standard::{JudgeError, Listing, Verdict};
 use std::alloc::Global;
 use std::hash::BuildHasher;
 
-/// What is listed of an entry of a log.
-#[derive(Debug, Drop)]
-pub enum Listing {
-    /// For each transaction that the entry concerns a line, and a line for each of its states; or `no transaction`.
-    Text(String),
-    /// The entry, or one before it, is in trouble: this is the verdict.
-    Stopped(Verdict),
-    /// The log has no such entry.
-    NoEntry,
-}
-
-impl Listing {
-    /// What is listed of an entry that comes after this verdict.
-    pub(crate) fn after(verdict: Verdict) -> Listing
-        ensures { result ≡ listed_after verdict }
-    {
-        match verdict {
-            Verdict::Legal { .. } => Listing::NoEntry,
-            _ => Listing::Stopped(verdict),
-        }
+/// What is listed of an entry that comes after this verdict.
+pub(crate) fn listing_after(verdict: Verdict) -> Listing
+    ensures { result ≡ listed_after verdict }
+{
+    match verdict {
+        Verdict::Legal { .. } => Listing::NoEntry,
+        _ => Listing::Stopped(verdict),
     }
 }
 

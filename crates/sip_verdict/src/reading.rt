@@ -4,7 +4,7 @@ ghost use Rattle.sip_standard.specs.Times.{Times};
 ghost use Rattle.sip_log.specs.Reading.{entries, beside_source};
 ghost use Rattle.sip_standard.specs.LogEntry.{Item};
 ghost use Rattle.sip_standard.specs.VerdictOf.{IsVerdictOf};
-ghost use Rattle.sip_verdict.specs.Listing.{trouble_of};
+ghost use Rattle.sip_standard.specs.ListingOf.{trouble_of};
 ghost use Rattle.sip_verdict.specs.inner.Walking.{HasRead, WalkGives, MovesOn};
 
 use crate::log_reason::reason_of;

@@ -5,7 +5,7 @@ ghost use Rattle.sip_standard.specs.Showing.{last_text};
 ghost use Rattle.sip_verdict.specs.SurveyText.{end_text};
 ghost use Rattle.sip_standard.specs.declared.verdict.Verdict.TheVariants.{Malformed, LogFault};
 ghost use Rattle.std.specs.Option.{option_copied};
-ghost use Rattle.sip_listing.specs.Transaction.{role_text};
+ghost use Rattle.sip_standard.specs.TransactionText.{role_text};
 ghost use Rattle.sip_verdict.specs.inner.SurveyingLogs.{line_with, words_of};
 
 use crate::finding::Finding;

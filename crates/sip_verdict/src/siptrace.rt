@@ -1,11 +1,12 @@
 //! The functions of this crate as the standard asks for them.
 use crate::judging::{judge, judge_bytes};
+use crate::listing::states_at;
 use crate::showing::show;
-use sip_standard::{JudgeError, Judges, ShowError, Shown, Sink, Source, Verdict};
+use sip_standard::{JudgeError, Judges, Listing, ShowError, Shown, Sink, Source, Verdict};
 use std::alloc::Global;
 use std::hash::BuildHasher;
 
-/// Judges logs and shows them by the functions `judge`, `judge_bytes` and `show`: so each has the contract that stands in `sip_standard`.
+/// Judges logs, shows them and lists states by the functions `judge`, `judge_bytes`, `show` and `states_at`: so each has the contract that stands in `sip_standard`.
 #[derive(Clone, Copy, Debug)]
 pub struct Siptrace;
 
@@ -32,5 +33,14 @@ impl Judges for Siptrace {
         writer: &mut W,
     ) -> Result<Shown, ShowError> {
         show(alloc, reader, writer)
+    }
+
+    fn states_at<R: Source, H: BuildHasher + Drop>(
+        alloc: Global,
+        reader: &mut R,
+        hasher: H,
+        entry: u32,
+    ) -> Result<Listing, JudgeError> {
+        states_at(alloc, reader, hasher, entry)
     }
 }

@@ -4,15 +4,14 @@ ghost use Rattle.sip_standard.specs.LogSays.{most_entries};
 ghost use Rattle.sip_log.specs.Reading.{beside_source};
 ghost use Rattle.sip_standard.specs.declared.verdict.Verdict.TheVariants.{LogFault};
 ghost use Rattle.sip_standard.specs.VerdictOf.{IsVerdictOf};
-ghost use Rattle.sip_verdict.specs.Listing.{trouble_of};
-ghost use Rattle.sip_verdict.specs.ListingOf.{IsListingOf};
+ghost use Rattle.sip_standard.specs.ListingOf.{trouble_of, IsListingOf};
 ghost use Rattle.sip_verdict.specs.inner.Walking.{Walks, WalksOn, MayStep};
 
-use crate::listing::Listing;
+use crate::listing::listing_after;
 use crate::reading::{Next, read_header, read_next};
 use crate::standing::Standing;
 use sip_log::{Progress, Source};
-use sip_standard::{JudgeError, LogReason, Verdict};
+use sip_standard::{JudgeError, Listing, LogReason, Verdict};
 use std::alloc::Global;
 use std::hash::BuildHasher;
 
@@ -72,7 +71,7 @@ impl<H: BuildHasher + Drop> Walk<H> {
         }
         for earlier in 1..entry {
             if let Some(verdict) = self.step(reader)? {
-                return Ok(Listing::after(verdict));
+                return Ok(listing_after(verdict));
             }
         }
         self.list(reader)

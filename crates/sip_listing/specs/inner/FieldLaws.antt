@@ -5,7 +5,8 @@ use Rattle.std.proofs.lemmas.List.Elements.{All-head, All-tail}
 use Rattle.sip_ledger.specs.declared.debt.Debt.{Debt}
 use Rattle.sip_machine.specs.Texts.{Texts, text_of}
 use Rattle.sip_machine.specs.Owes.{owes_names, owes_seen}
-use Rattle.sip_listing.specs.Fields.{owed_field, owes_fields, Tells}
+use Rattle.sip_standard.specs.StateText.{owed_field, owes_fields}
+use Rattle.sip_listing.specs.Lists.{Tells}
 
 -- The words of what the code names by numbers of a book.
 

@@ -2,7 +2,7 @@ use Rattle.std.specs.Prelude.{◌++◌, ℕ, List}
 use Rattle.sip_machine.specs.Told.{told_of}
 use Rattle.sip_ledger.specs.Runs.{debts_in}
 use Rattle.sip_states.specs.declared.told.ToldState.{ToldState}
-use Rattle.sip_listing.specs.State.{phase_text}
+use Rattle.sip_standard.specs.StateText.{phase_text}
 use Rattle.sip_listing.specs.inner.FieldLaws.{debts_fields}
 
 -- the text of a state in words of the code, by its numbers

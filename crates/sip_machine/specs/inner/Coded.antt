@@ -4,7 +4,8 @@ use Rattle.sip_standard.specs.Times.{Times}
 use Rattle.sip_machine.specs.Texts.{Texts, IsBook, text_of}
 use Rattle.sip_standard.specs.MachineEvent.{MachineEvent}
 use Rattle.sip_machine.specs.Rules.{Knows}
-use Rattle.sip_machine.specs.Told.{Told, messages_told}
+use Rattle.sip_machine.specs.Told.{messages_told}
+use Rattle.sip_standard.specs.Told.{Told}
 use Rattle.sip_standard.specs.Figure.{Figure, drops}
 use Rattle.sip_machine.specs.FigureRules.{IsFigure, After, closes_at}
 use Rattle.sip_machine.specs.Owing.{CodeOwing}

@@ -1,12 +1,12 @@
-use Rattle.std.specs.Prelude.{◌≤◌, ℕ, Some, List, [], ◌∷◌, codes, ⊤}
+use Rattle.std.specs.Prelude.{◌≤◌, ℕ, Some, List, [], ◌∷◌, ⊤}
 use Rattle.sip_machine.specs.declared.invite_client.InviteClientPhase.{InviteClientPhase as CodePhase}
 use Rattle.sip_machine.specs.declared.invite_client.InviteClientPhase.TheVariants as code
 use Rattle.sip_standard.specs.Times.{last_moment}
 use Rattle.sip_machine.specs.Texts.{Texts, text_of}
-use Rattle.sip_machine.specs.inner.Waiting.{waiting_seen, WaitingInRange, waiting_fields}
-use Rattle.sip_machine.specs.Told.{Told, Flag, Number, Message}
+use Rattle.sip_machine.specs.inner.Waiting.{waiting_seen, WaitingInRange}
 use Rattle.sip_machine.specs.inner.Coded.{Coded}
 use Rattle.sip_standard.specs.InviteClient.{InviteClientPhase, Idle, Ended, Calling, Proceeding, Accepted, Completed}
+use Rattle.sip_standard.specs.PhaseWords.{invite_client_told}
 pub mod Laws
 
 -- The phases of the code, whose messages are numbers of a book.
@@ -34,17 +34,6 @@ InviteClientInRange (code.Proceeding reliable request (Some first)) = first ≤ 
 InviteClientInRange (code.Accepted set) = set ≤ last_moment
 InviteClientInRange (code.Completed reliable request set) = set ≤ last_moment
 InviteClientInRange x = ⊤
-
--- a phase in words, as a listing tells it
-abbrev pub invite_client_told : InviteClientPhase → Told (List ℕ)
-invite_client_told Idle = record { name = codes "idle"; fields = [] }
-invite_client_told (Calling w) = record { name = codes "calling"; fields = waiting_fields w.reliable w.request w.start w.set w.interval }
-invite_client_told (Proceeding reliable request cancel) =
-    record { name = codes "proceeding"; fields = Flag (codes "reliable") reliable ∷ Message (codes "request") (Some request) ∷ Number (codes "cancel") cancel ∷ [] }
-invite_client_told (Accepted set) = record { name = codes "accepted"; fields = Number (codes "set") (Some set) ∷ [] }
-invite_client_told (Completed reliable request set) =
-    record { name = codes "completed"; fields = Flag (codes "reliable") reliable ∷ Message (codes "request") (Some request) ∷ Number (codes "set") (Some set) ∷ [] }
-invite_client_told Ended = record { name = codes "ended"; fields = [] }
 
 -- how the code has it
 abbrev pub invite_client_coded : Coded InviteClientPhase

@@ -1,12 +1,12 @@
-use Rattle.std.specs.Prelude.{◌≤◌, ◌<◌, ◌^◌, ℕ, Some, List, [], ◌∷◌, codes, ⊤}
+use Rattle.std.specs.Prelude.{◌≤◌, ◌<◌, ◌^◌, ℕ, Some, List, [], ◌∷◌, ⊤}
 use Rattle.std.specs.Option.{option_map}
 use Rattle.sip_machine.specs.declared.invite_server.InviteServerPhase.{InviteServerPhase as CodePhase}
 use Rattle.sip_machine.specs.declared.invite_server.InviteServerPhase.TheVariants as code
 use Rattle.sip_standard.specs.Times.{last_moment}
 use Rattle.sip_machine.specs.Texts.{Texts, text_of}
-use Rattle.sip_machine.specs.Told.{Told, Flag, Number, Message}
 use Rattle.sip_machine.specs.inner.Coded.{Coded}
 use Rattle.sip_standard.specs.InviteServer.{InviteServerPhase, Idle, Proceeding, Accepted, Completed, Confirmed}
+use Rattle.sip_standard.specs.PhaseWords.{invite_server_told}
 pub mod Laws
 
 -- The phases of the code, whose messages are numbers of a book.
@@ -32,20 +32,6 @@ InviteServerInRange (code.Proceeding reliable set last) = set ≤ last_moment
 InviteServerInRange (code.Accepted set) = set ≤ last_moment
 InviteServerInRange (code.Completed reliable final set repeat interval) = (set ≤ last_moment) × (repeat ≤ last_moment) × (interval < 2 ^ 50)
 InviteServerInRange (code.Confirmed reliable set) = set ≤ last_moment
-
--- a phase in words, as a listing tells it
-abbrev pub invite_server_told : InviteServerPhase → Told (List ℕ)
-invite_server_told Idle = record { name = codes "idle"; fields = [] }
-invite_server_told (Proceeding reliable set last) =
-    record { name = codes "proceeding"; fields = Flag (codes "reliable") reliable ∷ Number (codes "set") (Some set) ∷ Message (codes "last") last ∷ [] }
-invite_server_told (Accepted set) = record { name = codes "accepted"; fields = Number (codes "set") (Some set) ∷ [] }
-invite_server_told (Completed reliable final set repeat interval) =
-    record {
-      name = codes "completed";
-      fields = Flag (codes "reliable") reliable ∷ Message (codes "final") (Some final) ∷ Number (codes "set") (Some set)
-          ∷ Number (codes "repeat") (Some repeat) ∷ Number (codes "interval") (Some interval) ∷ [];
-    }
-invite_server_told (Confirmed reliable set) = record { name = codes "confirmed"; fields = Flag (codes "reliable") reliable ∷ Number (codes "set") (Some set) ∷ [] }
 
 -- how the code has it
 abbrev pub invite_server_coded : Coded InviteServerPhase

@@ -1,13 +1,12 @@
-use Rattle.std.specs.Prelude.{◌++◌, ℕ, false, List, [], ◌∷◌, if◌then◌else◌, codes, ⊤}
+use Rattle.std.specs.Prelude.{ℕ, false, List, [], ⊤}
 use Rattle.sip_machine.specs.declared.invite_server_3261.InviteServer3261Phase.{InviteServer3261Phase as CodePhase}
 use Rattle.sip_machine.specs.declared.invite_server_3261.InviteServer3261Phase.TheVariants as code
 use Rattle.sip_machine.specs.declared.invite_server.InviteServerPhase.TheVariants as code_phase
 use Rattle.sip_machine.specs.Texts.{Texts}
-use Rattle.sip_standard.specs.InviteServer.{Idle}
-use Rattle.sip_machine.specs.inner.InviteServer.{invite_server_seen, invite_server_names, InviteServerInRange, invite_server_told}
-use Rattle.sip_machine.specs.Told.{Told, Flag}
+use Rattle.sip_machine.specs.inner.InviteServer.{invite_server_seen, invite_server_names, InviteServerInRange}
 use Rattle.sip_machine.specs.inner.Coded.{Coded}
-use Rattle.sip_standard.specs.InviteServer3261.{In, InviteServer3261Phase, Passed, remembers}
+use Rattle.sip_standard.specs.InviteServer3261.{In, InviteServer3261Phase, Passed}
+use Rattle.sip_standard.specs.PhaseWords.{invite_server_3261_told}
 pub mod Laws
 
 -- The phases of the code, whose messages are numbers of a book.
@@ -26,13 +25,6 @@ invite_server_3261_names (code.In phase again) = invite_server_names phase
 abbrev pub InviteServer3261InRange : CodePhase → Type 0
 InviteServer3261InRange code.Passed = ⊤
 InviteServer3261InRange (code.In phase again) = InviteServerInRange phase
-
--- a phase in words, as a listing tells it: whether the INVITE came again stands after the rest, where it matters
-abbrev pub invite_server_3261_told : InviteServer3261Phase → Told (List ℕ)
-invite_server_3261_told Passed = record { name = codes "passed"; fields = [] }
-invite_server_3261_told (In x again) =
-    let told = invite_server_told x in
-    if remembers x then record { name = told.name; fields = told.fields ++ Flag (codes "again") again ∷ [] } else told
 
 -- how the code has it
 abbrev pub invite_server_3261_coded : Coded InviteServer3261Phase

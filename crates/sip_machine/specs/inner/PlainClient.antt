@@ -1,12 +1,12 @@
-use Rattle.std.specs.Prelude.{◌≤◌, ℕ, List, [], ◌∷◌, Some, codes, ⊤}
+use Rattle.std.specs.Prelude.{◌≤◌, ℕ, List, [], ◌∷◌, ⊤}
 use Rattle.sip_machine.specs.declared.plain_client.PlainClientPhase.{PlainClientPhase as CodePhase}
 use Rattle.sip_machine.specs.declared.plain_client.PlainClientPhase.TheVariants as code
 use Rattle.sip_standard.specs.Times.{last_moment}
 use Rattle.sip_machine.specs.Texts.{Texts}
-use Rattle.sip_machine.specs.inner.Waiting.{waiting_seen, WaitingInRange, waiting_fields}
-use Rattle.sip_machine.specs.Told.{Told, Flag, Number}
+use Rattle.sip_machine.specs.inner.Waiting.{waiting_seen, WaitingInRange}
 use Rattle.sip_machine.specs.inner.Coded.{Coded}
 use Rattle.sip_standard.specs.PlainClient.{PlainClientPhase, Idle, Ended, Trying, Proceeding, Completed}
+use Rattle.sip_standard.specs.PhaseWords.{plain_client_told}
 pub mod Laws
 
 -- The phases of the code, whose messages are numbers of a book.
@@ -31,14 +31,6 @@ PlainClientInRange (code.Trying w) = WaitingInRange w
 PlainClientInRange (code.Proceeding w) = WaitingInRange w
 PlainClientInRange (code.Completed reliable set) = set ≤ last_moment
 PlainClientInRange x = ⊤
-
--- a phase in words, as a listing tells it
-abbrev pub plain_client_told : PlainClientPhase → Told (List ℕ)
-plain_client_told Idle = record { name = codes "idle"; fields = [] }
-plain_client_told (Trying w) = record { name = codes "trying"; fields = waiting_fields w.reliable w.request w.start w.set w.interval }
-plain_client_told (Proceeding w) = record { name = codes "proceeding"; fields = waiting_fields w.reliable w.request w.start w.set w.interval }
-plain_client_told (Completed reliable set) = record { name = codes "completed"; fields = Flag (codes "reliable") reliable ∷ Number (codes "set") (Some set) ∷ [] }
-plain_client_told Ended = record { name = codes "ended"; fields = [] }
 
 -- how the code has it
 abbrev pub plain_client_coded : Coded PlainClientPhase

@@ -1,11 +1,11 @@
-use Rattle.std.specs.Prelude.{◌≤◌, ℕ, List, [], ◌∷◌, Some, codes, ⊤}
+use Rattle.std.specs.Prelude.{◌≤◌, ℕ, List, [], ◌∷◌, ⊤}
 use Rattle.sip_machine.specs.declared.plain_server.PlainServerPhase.{PlainServerPhase as CodePhase}
 use Rattle.sip_machine.specs.declared.plain_server.PlainServerPhase.TheVariants as code
 use Rattle.sip_standard.specs.Times.{last_moment}
 use Rattle.sip_machine.specs.Texts.{Texts, text_of}
-use Rattle.sip_machine.specs.Told.{Told, Flag, Number, Message}
 use Rattle.sip_machine.specs.inner.Coded.{Coded}
 use Rattle.sip_standard.specs.PlainServer.{PlainServerPhase, Idle, Trying, Proceeding, Completed}
+use Rattle.sip_standard.specs.PhaseWords.{plain_server_told}
 pub mod Laws
 
 -- The phases of the code, whose messages are numbers of a book.
@@ -27,14 +27,6 @@ plain_server_names x = []
 abbrev pub PlainServerInRange : CodePhase → Type 0
 PlainServerInRange (code.Completed reliable final set) = set ≤ last_moment
 PlainServerInRange x = ⊤
-
--- a phase in words, as a listing tells it
-abbrev pub plain_server_told : PlainServerPhase → Told (List ℕ)
-plain_server_told Idle = record { name = codes "idle"; fields = [] }
-plain_server_told (Trying reliable) = record { name = codes "trying"; fields = Flag (codes "reliable") reliable ∷ [] }
-plain_server_told (Proceeding reliable last) = record { name = codes "proceeding"; fields = Flag (codes "reliable") reliable ∷ Message (codes "last") (Some last) ∷ [] }
-plain_server_told (Completed reliable final set) =
-    record { name = codes "completed"; fields = Flag (codes "reliable") reliable ∷ Message (codes "final") (Some final) ∷ Number (codes "set") (Some set) ∷ [] }
 
 -- how the code has it
 abbrev pub plain_server_coded : Coded PlainServerPhase

@@ -1,20 +1,13 @@
-use Rattle.std.specs.Prelude.{◌≤◌, ◌<◌, ◌^◌, ℕ, Bool, Some, List, [], ◌∷◌, codes, if◌then◌else◌}
+use Rattle.std.specs.Prelude.{◌≤◌, ◌<◌, ◌^◌, ℕ, List, [], ◌∷◌, if◌then◌else◌}
 use Rattle.sip_machine.specs.declared.waiting.Waiting.{Waiting as CodeWaiting}
 use Rattle.sip_standard.specs.Times.{Times, last_moment}
 use Rattle.sip_standard.specs.Window.{close_at}
 use Rattle.sip_machine.specs.Texts.{Texts, text_of}
-use Rattle.sip_machine.specs.Told.{ToldField, Flag, Number, Message}
 use Rattle.sip_standard.specs.Waiting.{Waiting}
 
 -- until when its timers let it wait: timer B or F, which was set for so long, and over an unreliable transport timer A or E
 abbrev pub waiting_closes : Times → Waiting → ℕ → List ℕ
 waiting_closes p w patience = close_at p w.start patience ∷ (if w.reliable then [] else close_at p w.set w.interval ∷ [])
-
--- what its phase tells of it
-abbrev pub waiting_fields : {M : Type 0} → (reliable : Bool) (request : M) (start set interval : ℕ) → List (ToldField M)
-waiting_fields reliable request start set interval =
-    Flag (codes "reliable") reliable ∷ Message (codes "request") (Some request) ∷ Number (codes "start") (Some start)
-    ∷ Number (codes "set") (Some set) ∷ Number (codes "interval") (Some interval) ∷ []
 
 -- The waiting requests of the code, whose messages are numbers of a book.
 

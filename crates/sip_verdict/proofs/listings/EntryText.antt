@@ -18,12 +18,12 @@ use Rattle.sip_machine.specs.Texts.{Texts}
 use Rattle.sip_standard.specs.KeyMachine.{machine_of_key}
 use Rattle.sip_states.specs.AnySet.{IsKnownSet}
 use Rattle.sip_states.specs.Tables.{Tabled}
-use Rattle.sip_listing.specs.Transaction.{transaction_text}
+use Rattle.sip_standard.specs.TransactionText.{transaction_text}
 use Rattle.sip_standard.specs.LogEntry.{Item}
 use Rattle.sip_standard.specs.Observation.{Observation, direction_of, silent_observation, ObservesMessage, has_fault, has_no_cookie, is_heard}
 use Rattle.sip_verdict.specs.Keyed.{with_key, concerns}
 use Rattle.sip_verdict.specs.MessageReading.{key_machines, message_reading}
-use Rattle.sip_verdict.specs.ListingOf.{IsKeyText, AreKeyTexts, IsEntryText}
+use Rattle.sip_standard.specs.ListingOf.{IsKeyText, AreKeyTexts, IsEntryText}
 use Rattle.sip_verdict.specs.inner.Tracking.{IsJudged, IsStanding}
 use Rattle.sip_verdict.specs.inner.TablesTracking.{key_keeping, transactions_of, HaveNumbers}
 use Rattle.sip_verdict.specs.inner.Numbering.{Appends, AppendsEach, IsTextOf}

@@ -13,9 +13,9 @@ use Rattle.sip_states.specs.KeySets.{coded_holds, key_rules, of_machine}
 use Rattle.sip_states.specs.Meaning.{IsKnown}
 use Rattle.sip_states.specs.AnySet.{meaning_of, IsKnownSet}
 use Rattle.sip_states.specs.declared.any_set.AnySet.{AnySet}
-use Rattle.sip_listing.specs.Fields.{Tells}
-use Rattle.sip_listing.specs.Lines.{AreInOrder, AreLinesOf}
-use Rattle.sip_listing.specs.Transaction.{state_text, TellsSet, AreLinesOfHeld, AreLinesOfSet, Lists}
+use Rattle.sip_listing.specs.Lists.{Tells, TellsSet, AreLinesOfHeld, AreLinesOfSet, Lists}
+use Rattle.sip_standard.specs.StateLines.{AreInOrder, AreLinesOf}
+use Rattle.sip_standard.specs.StateText.{state_text}
 use Rattle.sip_verdict.specs.inner.TablesTracking.{StandsOf}
 use Rattle.sip_states.proofs.keyed.ByMachine.{some_machine, of_set, to_set}
 

@@ -8,7 +8,7 @@ use Rattle.sip_machine.specs.Texts.{Texts, Keeps, IsBook, text_of}
 use Rattle.sip_machine.proofs.texts.TextLaws.{Contains-nil, Keeps-grow, Keeps-added, Keeps-grow_cases, text_of-grow, text_of-added}
 use Rattle.sip_standard.specs.LogEntry.{Item, has_message}
 use Rattle.sip_standard.specs.declared.verdict.Verdict.{Verdict}
-use Rattle.sip_verdict.specs.Listing.{entry_from, first_entry}
+use Rattle.sip_standard.specs.ListingOf.{entry_from, first_entry}
 use Rattle.sip_verdict.specs.MessageReading.{ConcernsNone}
 use Rattle.sip_verdict.specs.inner.Numbering.{AreNumbered, StaysNumbered, Appends, AppendsEach, IsTextOf}
 use Rattle.sip_states.specs.Tables.{Tabled}

@@ -13,14 +13,13 @@ use Rattle.sip_log.proofs.answers.ReadingLemmas.{IfSome-map}
 use Rattle.sip_standard.specs.declared.log_reason.LogReason.{LogReason}
 use Rattle.sip_standard.specs.declared.verdict.Verdict.{Verdict}
 use Rattle.sip_standard.specs.declared.verdict.Verdict.TheVariants.{Legal, Malformed, Breach, Undecided, LogFault as FaultOfLog}
-use Rattle.sip_verdict.specs.declared.listing.Listing.{Listing}
-use Rattle.sip_verdict.specs.declared.listing.Listing.TheVariants.{Text, Stopped, NoEntry}
+use Rattle.sip_standard.specs.declared.listing.Listing.{Listing}
+use Rattle.sip_standard.specs.declared.listing.Listing.TheVariants.{Text, Stopped, NoEntry}
 use Rattle.sip_standard.specs.Observation.{Observation}
 use Rattle.sip_verdict.specs.Keyed.{Machines, keys_of, newest_moment}
 use Rattle.sip_verdict.specs.Verdicts.{IsGood, IsTrouble}
 use Rattle.sip_standard.specs.VerdictOf.{keys_in, IsVerdictAfter, IsVerdictOf}
-use Rattle.sip_verdict.specs.Listing.{first_entry, trouble_of}
-use Rattle.sip_verdict.specs.ListingOf.{IsListingOf}
+use Rattle.sip_standard.specs.ListingOf.{first_entry, trouble_of, IsListingOf}
 use Rattle.sip_verdict.specs.MessageReading.{key_machines, message_reading}
 use Rattle.sip_verdict.specs.inner.Tracking.{Tracks, IsJudged}
 use Rattle.sip_verdict.specs.inner.TablesTracking.{key_keeping, transactions_of, TablesTrack}

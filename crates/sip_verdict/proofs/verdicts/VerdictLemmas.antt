@@ -17,7 +17,7 @@ use Rattle.sip_standard.specs.Observation.{Observation}
 use Rattle.sip_verdict.specs.Keyed.{HasRun, newest_moment}
 use Rattle.sip_verdict.specs.Verdicts.{IsFirst, IsTooWide, IsTrouble}
 use Rattle.sip_verdict.specs.Reading.{AreObserved, Judges, IsVerdictBy}
-use Rattle.sip_verdict.specs.Seen.{AreSeen}
+use Rattle.sip_standard.specs.Seen.{AreSeen}
 use Rattle.sip_verdict.specs.MessageReading.{key_machines, message_reading}
 use Rattle.sip_standard.specs.VerdictOf.{events_for, RunsOver, IsWideAt, IsFirstKey, HasTrouble, IsVerdictAfter, IsVerdictOf}
 

@@ -6,14 +6,14 @@ use Rattle.sip_machine.specs.Texts.{Texts, Keeps, text_of}
 use Rattle.sip_states.specs.Tables.{Tabled}
 use Rattle.sip_states.specs.declared.any_set.AnySet.{AnySet}
 use Rattle.sip_standard.specs.LogEntry.{Item}
-use Rattle.sip_listing.specs.Transaction.{transaction_text, Lists}
-use Rattle.sip_verdict.specs.declared.listing.Listing.{Listing}
-use Rattle.sip_verdict.specs.declared.listing.Listing.TheVariants.{Text, Stopped, NoEntry}
+use Rattle.sip_standard.specs.TransactionText.{transaction_text}
+use Rattle.sip_listing.specs.Lists.{Lists}
+use Rattle.sip_standard.specs.declared.listing.Listing.{Listing}
+use Rattle.sip_standard.specs.declared.listing.Listing.TheVariants.{Text, Stopped, NoEntry}
 use Rattle.sip_standard.specs.Observation.{Observation}
 use Rattle.sip_verdict.specs.MessageReading.{key_machines, ConcernsNone}
 use Rattle.sip_verdict.specs.Verdicts.{IsGood, IsTrouble}
-use Rattle.sip_verdict.specs.Listing.{first_entry}
-use Rattle.sip_verdict.specs.ListingOf.{IsEntryText}
+use Rattle.sip_standard.specs.ListingOf.{first_entry, IsEntryText}
 
 -- the book keeps the messages of these entries that concern a key, each under the number of the first that has it
 pub record AreNumbered (items : List Item) (texts : Texts) : Type 0 where

@@ -13,8 +13,8 @@ use Rattle.sip_verdict.specs.declared.reading.Next.{Next}
 use Rattle.sip_verdict.specs.declared.reading.Next.TheVariants.{Entry, End, Fault}
 use Rattle.sip_standard.specs.declared.verdict.Verdict.{Verdict}
 use Rattle.sip_standard.specs.declared.verdict.Verdict.TheVariants.{Legal, Malformed, Breach, Undecided, LogFault as FaultOfLog}
-use Rattle.sip_verdict.specs.declared.listing.Listing.{Listing}
-use Rattle.sip_verdict.specs.declared.listing.Listing.TheVariants.{Stopped, NoEntry}
+use Rattle.sip_standard.specs.declared.listing.Listing.{Listing}
+use Rattle.sip_standard.specs.declared.listing.Listing.TheVariants.{Stopped, NoEntry}
 use Rattle.sip_standard.specs.Observation.{Observation}
 use Rattle.sip_verdict.specs.Keyed.{newest_moment}
 use Rattle.sip_verdict.specs.Reading.{EntryReading, AreObserved}

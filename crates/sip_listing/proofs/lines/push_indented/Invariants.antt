@@ -1,5 +1,5 @@
 use Rattle.std.proofs.Common.{◌≡◌, ◌++◌, take, map, string_bytes}
-use Rattle.sip_listing.specs.Lines.{indented}
+use Rattle.sip_standard.specs.StateLines.{indented}
 use Rattle.sip_listing.proofs.lines.push_indented.Given as goal
 
 abbrev pub invariant-loop-line : goal.invariant-loop-line

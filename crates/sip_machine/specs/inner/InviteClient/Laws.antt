@@ -11,7 +11,8 @@ use Rattle.sip_standard.specs.Times.{Times}
 use Rattle.sip_standard.specs.Window.{open_at, close_at, window_at}
 use Rattle.sip_machine.specs.FigureRules.{IsFigure, closes_of}
 use Rattle.sip_standard.specs.InviteClient.{Idle, Calling, Proceeding, Completed, Receives, Sends, invite_client}
-use Rattle.sip_machine.specs.inner.InviteClient.{invite_client_seen, invite_client_names, invite_client_coded, invite_client_told}
+use Rattle.sip_machine.specs.inner.InviteClient.{invite_client_seen, invite_client_names, invite_client_coded}
+use Rattle.sip_standard.specs.PhaseWords.{invite_client_told}
 use Rattle.sip_machine.specs.inner.Coded.{IsCoded, AreApart, StandByNames, TellNames, SameWindow, SameCloses, LeadOn, LeadAway}
 use Rattle.sip_machine.specs.inner.FigureLaws.{keeps_them}
 use Rattle.sip_machine.specs.inner.MessageLaws.{option_exact, message_apart}

@@ -19,7 +19,8 @@ use Rattle.sip_standard.specs.Figure.{drops}
 use Rattle.sip_standard.specs.InviteServer as corrected
 use Rattle.sip_standard.specs.InviteServer.{InviteServerPhase, Proceeding, Completed}
 use Rattle.sip_standard.specs.InviteServer3261.{InviteServer3261Phase, Passed, In, Receives, Sends, Satisfies, Stays, invite_server_3261}
-use Rattle.sip_machine.specs.inner.InviteServer3261.{invite_server_3261_seen, invite_server_3261_names, invite_server_3261_coded, invite_server_3261_told}
+use Rattle.sip_machine.specs.inner.InviteServer3261.{invite_server_3261_seen, invite_server_3261_names, invite_server_3261_coded}
+use Rattle.sip_standard.specs.PhaseWords.{invite_server_3261_told}
 use Rattle.sip_machine.specs.inner.Coded.{IsCoded, AreApart, StandByNames, TellNames, SameWindow, SameCloses, LeadOn, LeadAway}
 use Rattle.sip_machine.specs.inner.OwesLaws.{both_true}
 use Rattle.sip_machine.specs.inner.FigureLaws.{keeps_them}

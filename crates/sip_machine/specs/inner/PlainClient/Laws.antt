@@ -8,7 +8,8 @@ use Rattle.sip_machine.specs.contracts.plain_client.PlainClientPhasePartialEq.Th
 use Rattle.sip_standard.specs.Window.{close_at}
 use Rattle.sip_machine.specs.FigureRules.{IsFigure}
 use Rattle.sip_standard.specs.PlainClient.{Idle, Trying, Proceeding, Receives, Sends, plain_client}
-use Rattle.sip_machine.specs.inner.PlainClient.{plain_client_seen, plain_client_names, plain_client_coded, plain_client_told}
+use Rattle.sip_machine.specs.inner.PlainClient.{plain_client_seen, plain_client_names, plain_client_coded}
+use Rattle.sip_standard.specs.PhaseWords.{plain_client_told}
 use Rattle.sip_machine.specs.inner.Coded.{IsCoded, AreApart, StandByNames, TellNames, SameWindow, SameCloses, LeadOn, LeadAway}
 use Rattle.sip_machine.specs.inner.FigureLaws.{keeps_them}
 use Rattle.sip_machine.specs.inner.WaitingLaws.{waiting_exact, waiting_apart, waiting_by_names, timer_starts, repeat_starts, patience_lasts}

@@ -1,7 +1,7 @@
 use Rattle.std.proofs.Common.{rules, ◌≡◌, IfSome, subst, map, string_bytes}
 use Rattle.std.specs.Io.Buffered.{writer_contents, writer_inner}
 use Rattle.std.specs.Io.KnownBytes.{Keeps}
-use Rattle.sip_program.specs.Answers.{IsAnswer, log_for}
+use Rattle.sip_standard.specs.Answers.{IsAnswer, log_for}
 use Rattle.sip_program.proofs.AnswerLemmas.{IsAnswer-kept, IsAnswerTo-known}
 use Rattle.sip_program.proofs.running.run.Goals as goal
 

@@ -1,9 +1,9 @@
 use Rattle.std.proofs.Common.{◌≤◌, IfSome, IsSomeAnd, sym, subst, arith}
 use Rattle.std.proofs.lemmas.Result.{IfOk-weaker}
 use Rattle.sip_log.proofs.answers.ReadingLemmas.{IfSome-map}
-use Rattle.sip_verdict.specs.declared.listing.Listing.TheVariants.{Stopped}
+use Rattle.sip_standard.specs.declared.listing.Listing.TheVariants.{Stopped}
 use Rattle.sip_standard.specs.VerdictOf.{IsVerdictOf}
-use Rattle.sip_verdict.specs.ListingOf.{IsListingOf}
+use Rattle.sip_standard.specs.ListingOf.{IsListingOf}
 use Rattle.sip_verdict.proofs.listing.states_at.Goals as goal
 
 pub returns-in-Err-clause-listing : goal.returns-in-Err-clause-listing

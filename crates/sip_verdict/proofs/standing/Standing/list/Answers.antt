@@ -1,6 +1,6 @@
 use Rattle.std.proofs.Common.{[], ◌∷◌, ◌++◌, ◌+◌, sym, ◌∙◌, ap, length, string_bytes}
 use Rattle.sip_log.specs.Told.{item}
-use Rattle.sip_verdict.specs.Listing.{first_entry}
+use Rattle.sip_standard.specs.ListingOf.{first_entry}
 use Rattle.sip_verdict.specs.inner.Concerned.{listed}
 use Rattle.sip_verdict.proofs.listings.NumberingLemmas.{stay_numbered}
 use Rattle.sip_verdict.proofs.listings.EntryText.{observed_ascii, entry_text}

@@ -2,8 +2,8 @@ use Rattle.std.proofs.Common.{◌≡◌, ◌+◌, ◌∙◌, IfSome, length, ref
 use Rattle.sip_log.specs.Reading as log
 use Rattle.sip_log.specs.Reading.{beside_source}
 use Rattle.sip_standard.specs.declared.verdict.Verdict.TheVariants.{Legal, LogFault}
-use Rattle.sip_verdict.specs.declared.listing.Listing.TheVariants.{Stopped}
-use Rattle.sip_verdict.specs.ListingOf.{IsListingOf}
+use Rattle.sip_standard.specs.declared.listing.Listing.TheVariants.{Stopped}
+use Rattle.sip_standard.specs.ListingOf.{IsListingOf}
 use Rattle.sip_verdict.specs.inner.TablesTracking.{transactions_of, MayTake}
 use Rattle.sip_verdict.proofs.tables.JudgeTables.{may_later}
 use Rattle.sip_verdict.proofs.listings.WalksLemmas.{walks_listed, walks_end, walks_fault, listed_before}

@@ -2,7 +2,7 @@ use Rattle.std.proofs.Common.{◌≡◌, ◌+◌, ◌∙◌, IfSome, ap, sym, su
 use Rattle.std.proofs.lemmas.Result.{IfOk-weaker}
 use Rattle.sip_log.specs.Reading as log
 use Rattle.sip_log.specs.Reading.{beside_source}
-use Rattle.sip_verdict.specs.ListingOf.{IsListingOf}
+use Rattle.sip_standard.specs.ListingOf.{IsListingOf}
 use Rattle.sip_verdict.proofs.listings.WalksLemmas.{listed_zero, listed_before}
 use Rattle.sip_verdict.proofs.walking.Walk.listing.Goals as goal
 
@@ -16,7 +16,7 @@ pub returns-in-Some-clause-listing : goal.returns-in-Some-clause-listing
 returns-in-Some-clause-listing g c start walks =
     let l = c.loop-earlier in
     let stops = (rw c.in-Some.is at c.in_ok-verdict.ensures.walks) start (l.invariant.walks start walks) in
-    subst (λ listing. IfSome start (λ input. IsListingOf input c.args.entry listing)) (sym c.after.ensures)
+    subst (λ listing. IfSome start (λ input. IsListingOf input c.args.entry listing)) (sym c.listing_after.ensures)
     (listed_before start c.args.entry l.self.count c.in-Some.verdict (omega (arith, c.loop-earlier-test.true, l.invariant.counts)) stops.0 stops.1)
 
 pub loop-earlier-preserved : goal.loop-earlier-preserved

@@ -4,9 +4,10 @@ ghost use Rattle.std.specs.IoError.{error_kind};
 ghost use Rattle.std.specs.Io.Buffered.{writer_contents};
 ghost use Rattle.std.specs.Io.KnownBytes.{Keeps};
 ghost use Rattle.std.specs.declared.io.ErrorKind.TheVariants.{OutOfMemory};
-ghost use Rattle.sip_program.specs.Sent.{sent};
+ghost use Rattle.sip_standard.specs.Sent.{sent};
 
-use sip_log::{Broken, Sink};
+use crate::broken::Broken;
+use crate::sink::Sink;
 use std::alloc::Global;
 use std::io;
 use std::io::{BufWriter, Write};

@@ -1,8 +1,8 @@
 use Rattle.std.specs.Prelude.{ℕ}
 use Rattle.sip_standard.specs.declared.verdict.Verdict.{Verdict}
 use Rattle.sip_standard.specs.declared.verdict.Verdict.TheVariants as verdicts
-use Rattle.sip_verdict.specs.declared.listing.Listing.{Listing}
-use Rattle.sip_verdict.specs.declared.listing.Listing.TheVariants.{Text, Stopped, NoEntry}
+use Rattle.sip_standard.specs.declared.listing.Listing.{Listing}
+use Rattle.sip_standard.specs.declared.listing.Listing.TheVariants.{Text, Stopped, NoEntry}
 use Rattle.sip_standard.specs.declared.shown.Shown.{Shown}
 use Rattle.sip_standard.specs.declared.shown.Shown.TheVariants.{End, Malformed, LogFault}
 

@@ -1,15 +1,11 @@
+-- What the words after the program's name ask for.
 use Rattle.std.specs.Prelude.{◌≡◌, ◌≢◌, ◌≤◌, ℕ, List, [], ◌∷◌, Option, None, Some, codes, decimal, ⊤}
-use Rattle.sip_program.specs.declared.words.Asked.{Asked}
-use Rattle.sip_program.specs.declared.words.Asked.TheVariants.{Input, Check, Show, States}
+use Rattle.sip_standard.specs.declared.asked.Asked.{Asked}
+use Rattle.sip_standard.specs.declared.asked.Asked.TheVariants.{Input, Check, Show, States}
 
 -- entries are numbered from 1, and a log has at most 1,000,000
 abbrev pub IsEntryNumber : ℕ → Type 0
 IsEntryNumber entry = (1 ≤ entry) × (entry ≤ 1000000)
-
--- the word is the number of an entry, without leading zeros, and None where it is none
-abbrev pub IsNumberFor : List ℕ → Option ℕ → Type 0
-IsNumberFor word (Some entry) = IsEntryNumber entry × (word ≡ decimal entry)
-IsNumberFor word None = (entry : ℕ) → IsEntryNumber entry → word ≢ decimal entry
 
 -- the words that ask for it
 abbrev pub words_for : Asked → List (List ℕ)
@@ -20,10 +16,8 @@ words_for (States file entry) = codes "states" ∷ file.now ∷ decimal entry �
 
 -- it can be asked for
 abbrev pub IsMeant : Asked → Type 0
-IsMeant Input = ⊤
-IsMeant (Check file) = ⊤
-IsMeant (Show file) = ⊤
 IsMeant (States file entry) = IsEntryNumber entry
+IsMeant asked = ⊤
 
 -- what words ask for, and None where there is nothing that they ask for
 abbrev pub IsAskedBy : List (List ℕ) → Option Asked → Type 0

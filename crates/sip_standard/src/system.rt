@@ -1,7 +1,7 @@
 //! What the program asks of the system that it runs on.
 ghost use Rattle.std.specs.Prelude.{◌≡◌, ℕ, Bool, true, List, Option, map, string_bytes, IfSome, OnOk, OnErr, IfOk};
 
-use sip_log::Source;
+use crate::source::Source;
 use std::hash::BuildHasher;
 use std::io;
 

@@ -1,10 +1,11 @@
-use Rattle.std.specs.Prelude.{◌≡◌, ◌++◌, ℕ, Bool, true, false, Option, Some, None, List, All, codes, decimal}
+-- The text of a state, one line without its end. A message is told by a number.
+use Rattle.std.specs.Prelude.{◌++◌, ℕ, Bool, true, false, Option, Some, None, List, codes, decimal}
 use Rattle.std.specs.List.{flat_map}
-use Rattle.sip_machine.specs.Texts.{Texts, text_of}
 use Rattle.sip_standard.specs.Debts.{Owed}
-use Rattle.sip_machine.specs.Told.{ToldField, Flag, Number, Message}
-
--- The words of which the text of a state is made. A message is told by a number.
+use Rattle.sip_standard.specs.Figure.{Owing}
+use Rattle.sip_standard.specs.KeyMachine.{MachineKind, transaction_of}
+use Rattle.sip_standard.specs.Told.{ToldField, Flag, Number, Message, Told, told_by}
+use Rattle.sip_standard.specs.PhaseWords.{words_of}
 
 -- a value with its name, after a blank
 abbrev pub field : List ℕ → List ℕ → List ℕ
@@ -25,10 +26,14 @@ flag_field name true = field name (codes "yes")
 flag_field name false = field name (codes "no")
 
 -- a field of a phase
-abbrev pub field_text : ToldField ℕ → List ℕ
-field_text (Flag name is) = flag_field name is
-field_text (Number name value) = optional_field name value
-field_text (Message name number) = optional_field name number
+abbrev pub told_text : ToldField ℕ → List ℕ
+told_text (Flag name is) = flag_field name is
+told_text (Number name value) = optional_field name value
+told_text (Message name number) = optional_field name number
+
+-- the text of a phase: its name and its data
+abbrev pub phase_text : Told ℕ → List ℕ
+phase_text told = told.name ++ flat_map told_text told.fields
 
 -- whether what is owed has to be sent
 abbrev pub duty : Bool → List ℕ
@@ -43,6 +48,6 @@ owed_field message deadline must = field (codes "owes") (decimal message ++ code
 abbrev pub owes_fields : (List ℕ → ℕ) → List Owed → List ℕ
 owes_fields number owes = flat_map (λ owed. owed_field (number owed.message) owed.deadline owed.must) owes
 
--- these numbers of the book are the numbers by which their messages are told
-abbrev pub Tells : (List ℕ → ℕ) → Texts → List ℕ → Type 0
-Tells number texts names = All (λ name. number (text_of texts name) ≡ name) names
+-- the text of a state of a machine: that of its phase, and what is owed, whose messages are told by these numbers
+abbrev pub state_text : (machine : MachineKind) → (List ℕ → ℕ) → Owing (transaction_of machine).Phase → List ℕ
+state_text machine number x = phase_text (told_by number (words_of machine x.phase)) ++ owes_fields number x.owes

@@ -3,17 +3,17 @@ use Rattle.std.specs.Prelude.{◌≡◌, ◌++◌, ◌∷◌, [], ℕ, List, Opt
 use Rattle.std.specs.Io.KnownBytes.{Appends}
 use Rattle.sip_standard.specs.LogSays.{line_feed}
 use Rattle.sip_standard.specs.declared.verdict.Verdict.{Verdict}
-use Rattle.sip_verdict.specs.declared.listing.Listing.{Listing}
-use Rattle.sip_verdict.specs.declared.listing.Listing.TheVariants.{Text, Stopped, NoEntry}
+use Rattle.sip_standard.specs.declared.listing.Listing.{Listing}
+use Rattle.sip_standard.specs.declared.listing.Listing.TheVariants.{Text, Stopped, NoEntry}
 use Rattle.sip_standard.specs.declared.shown.Shown.{Shown}
 use Rattle.sip_standard.specs.VerdictOf.{IsVerdictOf}
-use Rattle.sip_verdict.specs.ListingOf.{IsListingOf}
+use Rattle.sip_standard.specs.ListingOf.{IsListingOf}
 use Rattle.sip_standard.specs.Showing.{IsShownOf}
 use Rattle.sip_standard.specs.Rendering.{rendered}
-use Rattle.sip_program.specs.declared.words.Asked.{Asked}
-use Rattle.sip_program.specs.declared.words.Asked.TheVariants.{Input, Check, Show, States}
-use Rattle.sip_program.specs.Asked.{IsAskedBy}
-use Rattle.sip_program.specs.Status.{status_of, status_of_shown, status_of_listing}
+use Rattle.sip_standard.specs.declared.asked.Asked.{Asked}
+use Rattle.sip_standard.specs.declared.asked.Asked.TheVariants.{Input, Check, Show, States}
+use Rattle.sip_standard.specs.Asked.{IsAskedBy}
+use Rattle.sip_standard.specs.Status.{status_of, status_of_shown, status_of_listing}
 
 -- what is written of an entry: its text, a verdict on a line, or that there is no such entry
 abbrev pub listing_text : Listing → List ℕ

@@ -86,9 +86,9 @@ module _ (p : Times) (key : KeyParts) (old : List (Observation KeyParts)) (again
       let late = last_late front e [] order in
       let new = stands_new front (order_front front (e ∷ []) order) e.event.moment late in
       let into : (y : Owing (transaction_of (machine_of_key p.rules key)).Phase) → StandsAfter f p (events_for key (old ++ front)) e.event y → StandsAfter f p (events_for key front) e.event y =
-      λ y behind. (behind.0, (new behind.0).0 behind.1, behind.2) in
+      λ y stands. (stands.0, (new stands.0).0 stands.1, stands.2) in
       let from : (y : Owing (transaction_of (machine_of_key p.rules key)).Phase) → StandsAfter f p (events_for key front) e.event y → StandsAfter f p (events_for key (old ++ front)) e.event y =
-      λ y behind. (behind.0, (new behind.0).1 behind.1, behind.2) in (
+      λ y stands. (stands.0, (new stands.0).1 stands.1, stands.2) in (
         λ wide. (wide.0, (wide.1.0, wide.1.1, wide.1.2, All-weaker (StandsAfter f p (events_for key (old ++ front)) e.event) (StandsAfter f p (events_for key front) e.event) into wide.1.0 wide.1.3)),
         λ wide. (wide.0, (wide.1.0, wide.1.1, wide.1.2, All-weaker (StandsAfter f p (events_for key front) e.event) (StandsAfter f p (events_for key (old ++ front)) e.event) from wide.1.0 wide.1.3)),
       )

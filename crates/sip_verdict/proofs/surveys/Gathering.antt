@@ -156,7 +156,7 @@ counted p es (item ∷ items) close v (e, sees, inr (formed, runs, narrow, more)
 -- where the verdict is of entry 0 the input lacks a header, so this is its survey
 pub header_lacks : (input : List ℕ) (v : Verdict) → IsVerdictOf input v → trouble_of v ≡ Some 0 → LacksHeader input
 header_lacks input v (inl (lacks, is)) none = lacks
-header_lacks input v (inr (p, items, close, says, behind)) none = absurd (counted p [] items close v behind none)
+header_lacks input v (inr (p, items, close, says, judged)) none = absurd (counted p [] items close v judged none)
 
 -- the header cannot be read
 pub gathered_header : (part : Option PartOf) (start : Option (List ℕ)) (v : Verdict) → IfSome start (λ input. IsVerdictOf input v) → trouble_of v ≡ Some 0

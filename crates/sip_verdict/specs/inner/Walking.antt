@@ -70,17 +70,17 @@ pub record MayStep (count : ℕ) (place : Place) (texts : Texts) (t : Tabled) : 
   pub may : MayTake texts t (count + 1) place.last
 
 -- the verdict is that after so many entries: that the log ends there, or what is wrong with the next
-abbrev pub IsBehind : ℕ → Verdict → Type 0
-IsBehind count (Legal whole transactions) = whole ≡ count
-IsBehind count (Malformed entry fault) = entry ≡ count + 1
-IsBehind count (Breach entry transaction) = entry ≡ count + 1
-IsBehind count (Undecided entry transaction) = entry ≡ count + 1
-IsBehind count (FaultOfLog entry reason) = entry ≡ count + 1
+abbrev pub ComesAfter : ℕ → Verdict → Type 0
+ComesAfter count (Legal whole transactions) = whole ≡ count
+ComesAfter count (Malformed entry fault) = entry ≡ count + 1
+ComesAfter count (Breach entry transaction) = entry ≡ count + 1
+ComesAfter count (Undecided entry transaction) = entry ≡ count + 1
+ComesAfter count (FaultOfLog entry reason) = entry ≡ count + 1
 
 -- a step after so many entries: one more was judged and is in no trouble, or this is the verdict
 abbrev pub WalksOn : Option (List ℕ) → ℕ → log.ReaderState → Texts → Tabled → Option Verdict → Type 0
 WalksOn start count now texts t None = Walks start now texts t
-WalksOn start count now texts t (Some v) = IfSome start (λ input. IsVerdictOf input v) × IsBehind count v
+WalksOn start count now texts t (Some v) = IfSome start (λ input. IsVerdictOf input v) × ComesAfter count v
 
 -- what is listed of an entry that the verdict comes before: the verdict, or that the log has no such entry if it is legal
 abbrev pub listed_after : Verdict → Listing

@@ -1,3 +1,4 @@
+-- What holds of each element of a list holds of each that is picked from it or moved in it.
 use Rattle.std.proofs.Common.{◌≡◌, ◌<◌, ◌≤◌, ◌+◌, ◌-◌, ◌++◌, ◌∙◌, ℕ, List, All, ap, arith, get_or, length, length-append, set, subst, sym, take}
 use Rattle.std.proofs.Math.Seq.{get_or-append_right}
 use Rattle.std.proofs.lemmas.List.Elements.{All-map, All-set, All-take}

@@ -1,3 +1,4 @@
+-- What many states owe: what a send takes out of the debts of one state, and states that owe nothing.
 use Prim.Native.Nat.{suc, zero}
 use Rattle.std.specs.Prelude.{◌≡◌, ◌<◌, ◌≤◌, ◌-◌, ◌||◌, ℕ, Bool, true, false, IsTrue, None, List, [], ◌∷◌, ◌++◌, All, drop, filter, length, max, min, set, take}
 use Rattle.std.specs.Bool.{OnTrue, OnFalse}
@@ -11,8 +12,6 @@ use Rattle.sip_ledger.specs.Debts.{counts_at, is_payable, IsWithoutFirst as Ledg
 use Rattle.sip_standard.specs.Debts.{IsWithoutFirst}
 use Rattle.sip_machine.specs.Owes.{owed_in}
 use Rattle.sip_machine.specs.inner.Dues.{rows_in, AreBetween, AreDues}
-
--- What many states owe.
 
 is_false : (b : Bool) → ¬ (b ≡ true) → b ≡ false
 is_false true never = absurd (never refl)

@@ -1,3 +1,4 @@
+-- Debts in runs of equal ones: what holds of the debt of each run holds of each debt, and the run that a send pays first.
 use Prim.Native.Nat.{suc, zero}
 use Rattle.std.specs.Prelude.{◌≡◌, ◌<◌, ◌≤◌, ℕ, true, false, IsTrue, List, [], ◌∷◌, ◌++◌, All, get_or, length, replicate, take}
 use Rattle.std.proofs.Common.{refl, sym, ap, subst, arith, cond}
@@ -13,8 +14,6 @@ use Rattle.sip_machine.specs.inner.Acks.{HasTo}
 use Rattle.sip_machine.specs.inner.Tos.{IsToOf}
 use Rattle.sip_machine.specs.inner.DebtLaws.{All-front, All-back}
 use Rattle.sip_machine.proofs.debts.DueLemmas.{unpaid-front, without-behind}
-
--- Debts in runs of equal ones.
 
 abbrev pub no_run : Run
 no_run = record { debt = record { message = 0; deadline = 0; must = false }; count = 0 }

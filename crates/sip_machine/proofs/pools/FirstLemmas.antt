@@ -1,3 +1,4 @@
+-- The first of each kind among the elements of a list, how these are brought to its front, and the prints by which they are found.
 use Prim.Native.Nat.{suc, zero}
 use Rattle.std.specs.Prelude.{◌≡◌, ◌≢◌, ◌<◌, ◌≤◌, ◌+◌, ◌-◌, ℕ, List, [], ◌∷◌, ◌++◌, All, AllPairs, bit_xor, drop, get_or, length, map, take}
 use Rattle.std.specs.List.{Any}
@@ -13,8 +14,6 @@ use Rattle.sip_machine.specs.Pools.{AreFirstOnes, picked}
 use Rattle.sip_machine.specs.Prints.{ArePrints}
 use Rattle.sip_machine.specs.inner.Pools.{AreMixedWith, IsRun, beside, hash_by}
 use Rattle.sip_machine.proofs.pools.PoolLemmas.{beside-length, state-at}
-
--- The first of each kind among the elements of a list.
 
 module _ {X : Type 0} (xs : List X) where
   -- one of the rows has what row k has

@@ -1,3 +1,4 @@
+-- The states of a pool: a list of phases and a list of what is owed, read as one list.
 use Prim.Native.Nat.{suc, zero}
 use Rattle.std.specs.Prelude.{◌≡◌, ◌==◌, ◌↔◌, ◌<◌, ◌+◌, ℕ, IsTrue, true, List, [], ◌∷◌, ◌++◌, drop, get_or, length, set, take}
 use Rattle.std.proofs.Common.{Result, Ok, Err, OnErr, is_err, true≢false, refl, sym, ◌∙◌, ap, ap₂, subst, arith, length-append}
@@ -10,8 +11,6 @@ use Rattle.sip_machine.specs.declared.effects.Rest.{Rest}
 use Rattle.sip_machine.specs.declared.effects.Rest.TheVariants.{Stays, Pays}
 use Rattle.sip_machine.specs.inner.Effects.{rested_debts, rests_at}
 use Rattle.sip_machine.specs.inner.Pools.{beside}
-
--- Phases with what is owed beside them.
 
 module _ {S : Type 0} where
   -- as many as there are phases

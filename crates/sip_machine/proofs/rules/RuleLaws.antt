@@ -1,11 +1,10 @@
+-- Laws of states that hold numbers of a book: what they stand for stays when the book changes elsewhere.
 use Rattle.std.specs.Prelude.{◌≡◌, ℕ, List, [], ◌∷◌, ◌++◌, All, Contains, map}
 use Rattle.std.proofs.Common.{refl, sym}
 use Rattle.std.proofs.lemmas.List.Elements.{All-head, All-tail, All-contains, All-weaker, Contains-get_or}
 use Rattle.sip_machine.specs.Texts.{Texts, Keeps, text_of}
 use Rattle.sip_machine.proofs.texts.TextLaws.{Keeps-grow, text_of-grow}
 use Rattle.sip_machine.specs.Rules.{Knows, StandFor}
-
--- Laws of states that hold numbers of a book: what they stand for stays when the book changes elsewhere.
 
 -- b keeps what x names, and agrees on it with a
 abbrev pub AgreeOn : {S : Type 0} → (S → List ℕ) → Texts → Texts → S → Type 0

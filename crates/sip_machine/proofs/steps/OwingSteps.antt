@@ -1,3 +1,4 @@
+-- The steps of the machine of a figure, over the states of the code.
 use Rattle.std.specs.Prelude.{◌≡◌, ◌⊎◌, ◌≤◌, ◌<◌, ◌^◌, ℕ, IsTrue, Bool, true, false, Option, Some, None, List, [], ◌∷◌, ◌++◌, All, filter, length, option_to_list, unwrap_or}
 use Rattle.std.specs.Option.{option_map}
 use Rattle.std.proofs.Common.{inl, inr, refl, sym, ◌∙◌, ap, ap₂, subst, arith, cond, length-append}
@@ -35,8 +36,6 @@ use Rattle.sip_machine.specs.inner.OwingLaws.{quiet_stands, quiet_fits}
 use Rattle.sip_machine.proofs.texts.TextLaws.{Contains-nil}
 use Rattle.sip_machine.proofs.steps.SingleLemmas.{StandFor-none, StandFor-one}
 use Rattle.sip_machine.proofs.steps.BothLemmas.{StandFor-same, AnswersBoth-one, AnswersBoth-two, OrStays-one}
-
--- The steps of the machine of a figure, over the states of the code.
 
 -- the names of kept debts
 names-kept : (texts : Texts) (ds : List Debt) → All (λ d. Keeps texts d.message) ds → All (Keeps texts) (owes_names ds)

@@ -1,3 +1,4 @@
+-- Which bytes are a 100: by what they are read as, and by three digits at one place.
 use Rattle.std.specs.Prelude.{◌≡◌, ◌↔◌, ◌==◌, ◌+◌, IsTrue, ℕ, List, ◌∷◌, ◌++◌, codes, drop, flat_map, length, take}
 use Rattle.std.proofs.Common.{sym, ap, ◌∙◌, append_assoc, arith, eq-eqb, subst}
 use Rattle.std.specs.Fmt.{digits}

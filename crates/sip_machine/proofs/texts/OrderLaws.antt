@@ -1,3 +1,4 @@
+-- Laws of the order in which a book finds equal bytes.
 use Rattle.std.specs.Prelude.{◌≡◌, ◌≢◌, ◌<◌, ◌≤◌, ◌+◌, ◌-◌, ◌⊎◌, ℕ, List, [], ◌∷◌, ◌++◌, All, AllPairs, Contains, map, length}
 use Rattle.std.specs.List.{insert, drop-map, AllWithin}
 use Rattle.std.specs.List.Sorted.{IsNonDecreasingBy, IsPartitionPoint}
@@ -21,8 +22,6 @@ use Rattle.sip_machine.specs.declared.book.Kept.{Kept}
 use Rattle.sip_machine.specs.declared.book.Place.{Place}
 use Rattle.sip_machine.specs.inner.Order.{texts_of, hash_of, bytes_at, key_of, compare, IsPlace, IsOrder, IsGap}
 use Rattle.sip_machine.proofs.texts.TextLaws.{text_of-none, IsBook-grow}
-
--- Laws of the order in which a book finds equal bytes.
 
 -- hashes and bytes are ordered
 pub compare-total : IsTotalOrder compare

@@ -1,3 +1,4 @@
+-- Laws of the runs in which a book holds its places.
 use Rattle.std.specs.Prelude.{◌≡◌, ◌<◌, ◌≤◌, ◌+◌, ◌-◌, ◌⊎◌, ℕ, true, false, List, [], ◌∷◌, ◌++◌, length, take, All}
 use Rattle.std.specs.List.{insert}
 use Rattle.std.specs.List.Sorted.{IsNonDecreasingBy, IsPartitionedBy, IsPartitionPoint}
@@ -19,8 +20,6 @@ use Rattle.sip_machine.specs.declared.book.Run.{Run}
 use Rattle.sip_machine.specs.declared.book.Gap.{Gap}
 use Rattle.sip_machine.specs.inner.Order.{key_of, bytes_at, compare, begins_by, places_of, index_of, IsLed, IsInRuns, IsGap}
 use Rattle.sip_machine.proofs.texts.OrderLaws.{searchable, found}
-
--- Laws of the runs in which a book holds its places.
 
 abbrev items : Run → List Place
 items run = run.places.items

@@ -1,3 +1,4 @@
+-- The agenda: until when each transaction can wait, by its index, and as lines in the order of the moments.
 use Rattle.std.proofs.Common.{◌≡◌, ◌↔◌, ◌≤◌, ◌<◌, ℕ, Bool, true, false, cond, ◌==◌, ◌&&◌, List, [], ◌∷◌, length, Option, Some, None, IfSome, position, slice_get, get_or, refl, sym, ap, subst, ◌∙◌, true≢false, arith, ◌⊎◌, inl, inr}
 use Rattle.std.proofs.lemmas.Grind.{common_steps}
 use Rattle.std.proofs.lemmas.List.Quantifiers.{position-Some}
@@ -13,8 +14,6 @@ use Rattle.std.specs.Cmp.{ranks, first_so, second_so, both_tied, unsigned_ties, 
 use Rattle.std.specs.BTreeSet.{BTreeSet, contains}
 use Rattle.sip_states.specs.Agenda.{Records, is_overdue}
 use Rattle.sip_states.specs.inner.Lines.{line_cmp, HasLine, IsInOrder, IsLineOf, Enters, Leaves}
-
--- The records of the agenda, and its lines.
 
 -- lines compare Equal where both of their numbers are the same
 line_tied : (a b : ℕ × ℕ) → is_eq (line_cmp a b) ≡ ((a.0 == b.0) && (a.1 == b.1))

@@ -1,3 +1,4 @@
+-- Lists of keys with their sets: where a key stands, and what a write by index changes.
 use Rattle.std.proofs.Common.{◌≡◌, ◌≢◌, ◌<◌, ◌+◌, ◌-◌, ℕ, zero, suc, Bool, true, false, cond, List, [], ◌∷◌, Option, Some, None, is_some, position, slice_get, slice_set, All, get_or, refl, sym, ap, subst, ◌∙◌, true≢false, arith}
 use Rattle.std.proofs.lemmas.List.Quantifiers.{position-Some}
 use Rattle.std.proofs.lemmas.Option.{slice_get-get_or}
@@ -5,8 +6,6 @@ use Rattle.std.specs.Map.{keys_of, values_of, lookup}
 use Rattle.indexmap.specs.Layout.{set_value_at}
 use Rattle.sip_standard.specs.Key.{KeyParts, same_key}
 use Rattle.sip_key.specs.inner.KeyLaws.{same_key-decides}
-
--- Lists of keys with their sets.
 
 some-is-none : {X : Type 0} (x : X) → Some x ≡ None → ⊥
 some-is-none x e = cc

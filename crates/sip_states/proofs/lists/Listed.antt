@@ -1,8 +1,7 @@
+-- What is in a list, and in its image under a function.
 use Rattle.std.proofs.Common.{◌≡◌, ◌↔◌, ◌∙◌, ◌⊎◌, inl, inr, zero, suc, List, [], ◌∷◌, Contains, ◌≤◌, length, filter, Bool, true, false, cond, not, map, refl, sym, ap, arith}
 use Rattle.std.proofs.lemmas.List.{get_or-map, length-map}
 use Rattle.std.proofs.lemmas.List.Filters.{length-filter_both}
-
--- What is in a list, and in its image under a function.
 
 -- an empty list has none
 pub Contains-none : {X : Type 0} (x : X) → Contains [] x → ⊥

@@ -1,9 +1,8 @@
+-- Runs one step at a time: a run is a run to its last event and a wait from there.
 use Rattle.std.proofs.Common.{◌≡◌, ◌≤◌, ◌↔◌, ℕ, List, [], ◌∷◌, ◌++◌, map, refl, ap, subst, ◌∙◌}
 use Rattle.sip_standard.specs.MachineEvent.{MachineEvent}
 use Rattle.sip_machine.specs.Rules.{Rules}
 use Rattle.sip_states.specs.Runs.{Step, Hides, Takes, moment_of_step, Does, Goes, Reaches, taken, Wait, RunGives, RuledRun, AfterRun}
-
--- Runs one step at a time: a run is a run to its last event and a wait from there.
 
 -- hidden steps take no event
 pub taken-hides : (ends : List ℕ) → taken (map Hides ends) ≡ []

@@ -1,3 +1,4 @@
+-- Sets of states of the code beside the rules that they follow.
 use Rattle.std.proofs.Common.{◌≡◌, ◌≢◌, ◌↔◌, ◌≤◌, ◌<◌, inl, inr, ◌∙◌, ℕ, Option, None, ap, List, [], ◌∷◌, All, AllPairs, Contains, map, length, get_or, refl, sym, subst, arith}
 use Rattle.std.proofs.lemmas.List.{get_or-map, length-map}
 use Rattle.std.proofs.lemmas.List.Elements.{All-nil, All-contains, Contains-get_or}
@@ -8,8 +9,6 @@ use Rattle.sip_states.specs.Runs.{Wait}
 use Rattle.sip_states.specs.inner.Ways.{SomeCanEnd, SomeCanReach, Advances}
 use Rattle.sip_states.proofs.lists.Listed.{Contains-map, Contains-from_map}
 use Rattle.sip_states.proofs.sets.Waiting.{EndsFrom, IsWithin-none, Wait-stay, Wait-end, Wait-cases}
-
--- Sets of states of the code beside the rules that they follow.
 
 -- states of the code, with their windows and last moments, follow the rules over what they stand for
 pub record Follows {X S : Type 0} (names : S → List ℕ) (seen : Texts → S → X) (r : Rules X) (ended : S) (window : S → Option (ℕ × Option ℕ)) (until : S → Option ℕ) : Type 0 where

@@ -1,3 +1,4 @@
+-- How the code takes an event from a list of states.
 use Rattle.std.proofs.Common.{◌≡◌, ◌≢◌, ◌↔◌, ◌≤◌, ◌⊎◌, inl, inr, ℕ, Option, List, [], ◌∷◌, ◌++◌, All, AllPairs, Contains, ap, ap₂, arith, drop, refl, length, length-append, map, get_or, subst, ◌∙◌, ◌+◌}
 use Rattle.std.proofs.Math.Seq.{drop-append_seam, get_or-append_seam}
 use Rattle.std.proofs.lemmas.List.{get_or_append_left, map-append}
@@ -9,8 +10,6 @@ use Rattle.sip_states.specs.inner.Ways.{SomeCanEnd, GivesFrom, GivesAfter}
 use Rattle.sip_states.proofs.lists.Listed.{Contains-none, Contains-here, Contains-there, Contains-cons, Contains-single, Contains-map, Contains-from_map}
 use Rattle.sip_states.proofs.sets.Waiting.{Wait-stay, Wait-end, Wait-cases}
 use Rattle.sip_states.proofs.sets.Following.{Follows, seen_ends, ends_seen, distinct_seen}
-
--- How the code takes an event from a list of states.
 
 module _ {X S : Type 0} (names : S → List ℕ) (InRange : S → Type 0) (seen : Texts → S → X) (texts : Texts) where
   -- states cover a set told otherwise

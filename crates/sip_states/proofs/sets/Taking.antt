@@ -1,3 +1,4 @@
+-- What a set of states keeps when it takes an event.
 use Rattle.std.proofs.Common.{◌≢◌, ◌≤◌, ◌<◌, inl, inr, ℕ, Option, List, [], ◌∷◌, All, AllPairs, Contains, map, length, get_or, arith}
 use Rattle.std.proofs.lemmas.List.{length-map}
 use Rattle.std.proofs.lemmas.List.Elements.{All-contains_itself, All-head, All-weaker, Contains-get_or}
@@ -12,8 +13,6 @@ use Rattle.sip_standard.proofs.Few.{distinct_few}
 use Rattle.sip_states.proofs.sets.Following.{Follows, seen_waits, ended_stays}
 use Rattle.sip_states.proofs.lists.Listed.{Contains-map}
 use Rattle.sip_states.proofs.sets.Waiting.{IsWithin-none}
-
--- What a set of states keeps when it takes an event.
 
 -- more states than are followed stand for more
 pub many_wide : {X S : Type 0} (names : S → List ℕ) (InRange : S → Type 0) (seen : Texts → S → X) (texts : Texts) (P : X → Type 0) (new : List S) →

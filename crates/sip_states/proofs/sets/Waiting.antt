@@ -1,10 +1,9 @@
+-- Waits: since the ended state has no end, at most one hidden step matters.
 use Rattle.std.proofs.Common.{◌≡◌, ◌≤◌, ◌↔◌, ◌⊎◌, inl, inr, ℕ, Option, Some, None, List, [], ◌∷◌, map, refl, sym, subst, arith}
 use Rattle.sip_machine.specs.Limits.{IsWithin, IsOpenAt}
 use Rattle.sip_standard.specs.MachineEvent.{MachineEvent}
 use Rattle.sip_machine.specs.Rules.{Rules, IsLawful, Waits, Hide}
 use Rattle.sip_states.specs.Runs.{Hides, Reaches, Wait, RunGives}
-
--- Waits: since the ended state has no end, at most one hidden step matters.
 
 -- y is in S and stays from h to m
 pub record StaysFrom {X : Type 0} (r : Rules X) (S : X → Type 0) (h m : ℕ) (y : X) : Type 0 where

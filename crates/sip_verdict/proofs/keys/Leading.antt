@@ -1,3 +1,4 @@
+-- How a set that leads to where the runs stand goes on to lead there.
 use Rattle.std.proofs.Common.{◌≡◌, ◌≤◌, ◌↔◌, ℕ, List, [], ◌∷◌, ◌++◌, All, Contains, map, get_or, subst, arith}
 use Rattle.std.proofs.lemmas.List.Elements.{All-cons, All-nil, All-weaker, Contains-get_or}
 use Rattle.sip_machine.specs.Texts.{Texts, text_of}
@@ -9,8 +10,6 @@ use Rattle.sip_verdict.specs.inner.Leads.{Leads}
 use Rattle.sip_states.proofs.lists.Listed.{Contains-single, Contains-none, Contains-map}
 use Rattle.sip_states.proofs.runs.RunLemmas.{Run-wait, Run-wait_first, After-run}
 use Rattle.sip_states.proofs.sets.Waiting.{Wait-iff, Gives-iff, Wait-stay}
-
--- How a set that leads to where the runs stand goes on to lead there.
 
 -- one fact that holds just as another and that as a third hold alike
 pub iff_trans : {A B C : Type 0} → A ↔ B → B ↔ C → A ↔ C

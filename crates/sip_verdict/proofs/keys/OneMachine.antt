@@ -1,3 +1,4 @@
+-- What one event leaves of the runs of one machine, and how a set tells it.
 use Rattle.std.proofs.Common.{◌≡◌, ◌≢◌, ◌≤◌, ◌↔◌, ℕ, List, [], ◌∷◌, ◌++◌, All, Contains, map, length, refl, arith}
 use Rattle.std.proofs.lemmas.List.Elements.{All-contains}
 use Rattle.sip_machine.specs.Texts.{Texts}
@@ -10,8 +11,6 @@ use Rattle.sip_states.proofs.sets.Taking.{wide_among, wide_some, few_narrow}
 use Rattle.sip_states.proofs.runs.RunLemmas.{Run-wait}
 use Rattle.sip_states.proofs.sets.Waiting.{Wait-stay}
 use Rattle.sip_verdict.proofs.keys.Leading.{iff_trans, gives_after, Leads-none, Leads-some}
-
--- What one event leaves of the runs of one machine, and how a set tells it.
 
 module _ {X S : Type 0} (names : S → List ℕ) (seen : Texts → S → X) (texts : Texts) (r : Rules X) (events : List MachineEvent) (from moment : ℕ) (states : List S)
     (leads : Leads names seen texts r events from moment states) (late : from ≤ moment) where

@@ -31,7 +31,7 @@ pub record Place : Type 0 where
   pub count : ℕ
   pub last : ℕ
 
--- the same beside a source: what is left to read, where it is known, and whether a read has failed
+-- how far a log was read, beside its source: what is left to read, where it is known, and whether a read has failed
 pub record ReaderState : Type 0 where
   pub stage : Stage
   pub left : Option (List ℕ)

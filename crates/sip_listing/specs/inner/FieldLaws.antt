@@ -19,7 +19,7 @@ pub first_told : (number : List ℕ → ℕ) (texts : Texts) (name : ℕ) (names
     number (text_of texts name) ≡ name
 first_told number texts name names told = All-head (λ name. number (text_of texts name) ≡ name) name names told
 
--- and so are the others
+-- the numbers after the first are told as they are
 pub others_told : (number : List ℕ → ℕ) (texts : Texts) (name : ℕ) (names : List ℕ) → Tells number texts (name ∷ names) → Tells number texts names
 others_told number texts name names told = All-tail (λ name. number (text_of texts name) ≡ name) name names told
 

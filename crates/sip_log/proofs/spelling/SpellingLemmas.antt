@@ -107,7 +107,7 @@ lines-parts One p rest =
 lines-parts Two p rest =
     two-line (title_text Two) (codes "t1 ") (decimal p.t1) (codes " t2 ") (decimal p.t2) (codes " t4 ") (decimal p.t4) (codes " early ") (decimal p.early) (codes " late ") (decimal p.late) (line_feed ∷ []) rest
 
--- the limits do not speak of the rules
+-- times are within their limits whatever the rules are
 pub within-under : (rules : Rules) (p : Times) → AreTimes p → AreTimes (under rules p)
 within-under rules p is = record {
   t1_low = is.t1_low;
@@ -120,7 +120,7 @@ within-under rules p is = record {
   late_high = is.late_high;
 }
 
--- nor do lines 1 and 2
+-- lines 1 and 2 of a header do not tell the rules
 lines-under : (format : Format) (rules : Rules) (p : Times) → lines_text format (under rules p) ≡ lines_text format p
 lines-under One rules p = refl
 lines-under Two rules p = refl
@@ -148,7 +148,7 @@ header-spelled format input p behind (inl (f, rest, title, inl (q, rest2, front,
     } in
     coe 1 0 (i. Header ((first i).0) ((first i).1) input (second i)) is
 
--- and one that is spelled is read
+-- a header that is spelled so is read
 pub header-read : (format : Format) (input : List ℕ) (p : Times) (behind : List ℕ) → Header format p input behind → HeaderComes input (gives (format, p) behind)
 header-read format input p behind is =
     inl (

@@ -221,7 +221,7 @@ faults_of p chosen items cuts es cs close shut found part end fin seen saw cut w
             sym (same_fault at.so_far at.cut_so_far item at.e at.c (subst (λ i. Sees at.so_far i at.e) same_item.1 at.sees) (subst (λ i. Sees at.cut_so_far i at.c) same_cut.1 at.saw))
             ∙ ap (λ e. e.fault) same.1 ∙ there.4.1
 
--- the faults of a part
+-- the survey of a part has a fault exactly where the survey of the whole has it and its message stays in the part
 pub part_faults : (p : Times) (chosen : KeyParts → Bool) (items cuts : List Item) (es : List (Observation KeyParts)) (close shut : LogEnd) (found part : List Finding) (end fin : SurveyEnd)
     → AreObserved message_reading [] items es → IsCutLog chosen items es cuts → IsSurveyAfter p [] items close found end → IsSurveyAfter p [] cuts shut part fin → (n : ℕ) (fault : Fault)
     → Contains part (Malformed n fault) ↔ (Contains found (Malformed n fault) × StaysAt items cuts n)

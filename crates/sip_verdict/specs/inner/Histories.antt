@@ -19,7 +19,7 @@ pub record NotesLast (entry number : ℕ) (old new : List History) : Type 0 wher
   pub first : after.first ≡ before.first
   pub last : after.last ≡ entry
 
--- or of a new one, as its first one and its last one
+-- the entry with this number and text is noted of a new transaction, as its first one and its last one
 pub record NotesFirst (entry : ℕ) (text : List ℕ) (number : ℕ) (old new : List History) : Type 0 where
   pub begun : History
   pub beyond : length old ≤ number - 1

@@ -10,7 +10,7 @@ use Rattle.std.proofs.lemmas.List.FromFn.{get_or-map-range_with_len, length-map-
 use Rattle.sip_masks.specs.Bits.{test}
 use Rattle.sip_ledger.specs.declared.debt.Debt.{Debt}
 use Rattle.sip_ledger.specs.declared.debt.Entry.{Entry}
-use Rattle.sip_ledger.specs.declared.row.Place.{Place}
+use Rattle.sip_ledger.specs.declared.row.FoundBit.{FoundBit}
 use Rattle.sip_ledger.specs.Bits.{has}
 use Rattle.sip_ledger.specs.Debts.{IsWithoutFirst}
 use Rattle.sip_ledger.specs.Rows.{debts_from, row_debts, IsRow}
@@ -470,7 +470,7 @@ unpaid-row test t v row view inside none asks =
     subst (All (λ debt. ¬ (IsTrue (test debt)))) (sym (row-before_change t v row view inside)) fails
 
 -- whether a row has a debt that passes a test
-pub some-passes : (test : Debt → Bool) (t v : Grid) (row : ℕ) (place : Place) → t ≡ v → IsGrid t → row < t.rows → AsksNoMust test →
+pub some-passes : (test : Debt → Bool) (t v : Grid) (row : ℕ) (place : FoundBit) → t ≡ v → IsGrid t → row < t.rows → AsksNoMust test →
     IsFirst test t.entries (has (part t.width row t.owed)) place → true ≡ list_any test (grid_row v row)
 some-passes test t v row place view ledger inside asks first =
     sym (ap (list_any test) (row-before_change t v row view inside)
@@ -532,7 +532,7 @@ same-prints t v row other view ledger inside there owed_small must_small same =
     ∙ ap₂ (λ o m. fold mixed (fold mixed 0 o) m) (same-owed t v row other view ledger inside there owed_small same) (same-must t v row other view ledger inside there must_small same)
     ∙ sym (print-is t v other view)
 
-pub found-any : (test : Debt → Bool) (t v : Grid) (row : ℕ) (r : Option Place) → t ≡ v → IsGrid t → row < t.rows → AsksNoMust test →
+pub found-any : (test : Debt → Bool) (t v : Grid) (row : ℕ) (r : Option FoundBit) → t ≡ v → IsGrid t → row < t.rows → AsksNoMust test →
     IfSome r (IsFirst test t.entries (has (part t.width row t.owed))) → IfNone r (NonePasses test t.entries (has (part t.width row t.owed))) →
     is_some r ≡ list_any test (grid_row v row)
 found-any test t v row None view ledger inside asks found none = none-any test t v row view inside asks none

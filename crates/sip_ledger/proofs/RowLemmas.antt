@@ -7,7 +7,7 @@ use Rattle.std.proofs.lemmas.List.Folds.{list_any-append}
 use Rattle.std.proofs.lemmas.List.{get_or-take, get_or_default, get_or_append_left, get_or_at, length-append, length-take-le}
 use Rattle.sip_ledger.specs.declared.debt.Debt.{Debt}
 use Rattle.sip_ledger.specs.declared.debt.Entry.{Entry}
-use Rattle.sip_ledger.specs.declared.row.Place.{Place}
+use Rattle.sip_ledger.specs.declared.row.FoundBit.{FoundBit}
 use Rattle.sip_ledger.specs.Debts.{IsWithoutFirst, counts_at}
 use Rattle.sip_ledger.specs.Rows.{debt_of, debts_from, row_debts, IsGap, IsRow}
 use Rattle.sip_ledger.specs.inner.Places.{IsFirst, NonePasses, AsksNoMust, IsOpenRow, IsMoved, IsExpired, IsGainedAt}
@@ -417,7 +417,7 @@ listed-any test entries o m at within is passes =
     ∙ list_any-append test before (debt ∷ behind)
     ∙ or_right (list_any test before) (list_any test (debt ∷ behind)) (or_left (test debt) (list_any test behind) passes)
 
-pub first-any : (test : Debt → Bool) (entries : List Entry) (o m : ℕ → Bool) (place : Place) → AsksNoMust test → ((k : ℕ) → o k ≡ true → k < length entries) →
+pub first-any : (test : Debt → Bool) (entries : List Entry) (o m : ℕ → Bool) (place : FoundBit) → AsksNoMust test → ((k : ℕ) → o k ≡ true → k < length entries) →
     IsFirst test entries o place → list_any test (debts_from o m 0 entries) ≡ true
 first-any test entries o m place asks within first =
     listed-any test entries o m place.at (within place.at first.bit.is) first.bit.is (asks (get_or entries place.at no_entry) (m place.at) ∙ first.passes no_entry)

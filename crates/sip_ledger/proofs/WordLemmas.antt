@@ -19,7 +19,7 @@ use Rattle.sip_ledger.specs.Grids.{part}
 use Rattle.sip_ledger.specs.inner.Memos.{asked_of, IsMask}
 use Rattle.sip_ledger.specs.inner.Places.{AreRising, IsFirst, IsFirstIn, NonePasses}
 use Rattle.sip_ledger.specs.inner.Tables.{IsInside}
-use Rattle.sip_ledger.specs.declared.row.Place.{Place}
+use Rattle.sip_ledger.specs.declared.row.FoundBit.{FoundBit}
 use Rattle.sip_ledger.proofs.BitsLemmas.{has-is, has-past, test-zero, lowest-set}
 use Rattle.sip_ledger.proofs.ListedLemmas.{listed-counting}
 
@@ -62,7 +62,7 @@ test-not_below w at k low above =
 pub first-in : (owed bits low : ℕ) → 0 < bit_and owed bits → bit_and owed bits < 2 ^ 64 →
     NoneFrom (bit_and owed (below (trailing_zeros w64 (bit_and owed bits))) ∷ []) low →
     (0 < low → has (bit_and owed (below (trailing_zeros w64 (bit_and owed bits))) ∷ []) (low - 1) ≡ true) →
-    (let place : Place = record { low = low; at = trailing_zeros w64 (bit_and owed bits) } in IsFirstIn owed bits place)
+    (let place : FoundBit = record { low = low; at = trailing_zeros w64 (bit_and owed bits) } in IsFirstIn owed bits place)
 first-in owed bits low some small none last =
     let both = bit_and owed bits in
     let at = trailing_zeros w64 both in
@@ -99,7 +99,7 @@ none-in owed bits zero k set =
     true≢false (sym (and_from (test owed k) (test bits k) (sym (has-one owed k low) ∙ set) marked) ∙ sym (test-and owed bits k) ∙ ap (λ w. test w k) zero ∙ test-zero k))
 
 -- what a mask tells of a row of one word
-pub first-of_word : (asks : Debt → Bool) (entries : List Entry) (bits w : ℕ) (place : Place) → IsMask asks entries (length entries) bits →
+pub first-of_word : (asks : Debt → Bool) (entries : List Entry) (bits w : ℕ) (place : FoundBit) → IsMask asks entries (length entries) bits →
     ((k : ℕ) → has (w ∷ []) k ≡ true → k < length entries) → IsFirstIn w bits place → IsFirst asks entries (has (w ∷ [])) place
 first-of_word asks entries bits w place mask within first = record {
   bit = first.bit;

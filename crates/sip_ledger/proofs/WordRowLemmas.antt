@@ -5,7 +5,7 @@ use Rattle.std.specs.Bool.{OnTrue}
 use Rattle.sip_masks.specs.Bits.{test}
 use Rattle.sip_ledger.specs.declared.debt.Debt.{Debt}
 use Rattle.sip_ledger.specs.declared.debt.Entry.{Entry}
-use Rattle.sip_ledger.specs.declared.row.Place.{Place}
+use Rattle.sip_ledger.specs.declared.row.FoundBit.{FoundBit}
 use Rattle.sip_ledger.specs.Bits.{has}
 use Rattle.sip_ledger.specs.Debts.{counts_at}
 use Rattle.sip_ledger.specs.Rows.{row_debts, IsRow}
@@ -31,14 +31,14 @@ pub record IsWordRow (asks : Debt → Bool) (t : Grid) (row word bits : ℕ) : T
 word-within : (asks : Debt → Bool) (t : Grid) (row word bits : ℕ) → IsWordRow asks t row word bits → (k : ℕ) → has (word ∷ []) k ≡ true → k < length t.entries
 word-within asks t row word bits is = subst (λ ws. (k : ℕ) → has ws k ≡ true → k < length t.entries) is.own is.spelled.within
 
-pub word-found : (asks : Debt → Bool) (t v : Grid) (row word bits : ℕ) (r : Option Place) → t ≡ v → IsWordRow asks t row word bits → IfSome r (IsFirstIn word bits) →
+pub word-found : (asks : Debt → Bool) (t v : Grid) (row word bits : ℕ) (r : Option FoundBit) → t ≡ v → IsWordRow asks t row word bits → IfSome r (IsFirstIn word bits) →
     IfSome r (IsFirst asks v.entries (has (part v.width row v.owed)))
 word-found asks t v row word bits None view is found = tt
 word-found asks t v row word bits (Some place) view is found =
     subst (λ (x : Grid). IsFirst asks x.entries (has (part x.width row x.owed)) place) view
     (subst (λ ws. IsFirst asks t.entries (has ws) place) (sym is.own) (first-of_word asks t.entries bits word place is.mask (word-within asks t row word bits is) found))
 
-pub word-none : (asks : Debt → Bool) (t v : Grid) (row word bits : ℕ) (r : Option Place) → t ≡ v → IsWordRow asks t row word bits →
+pub word-none : (asks : Debt → Bool) (t v : Grid) (row word bits : ℕ) (r : Option FoundBit) → t ≡ v → IsWordRow asks t row word bits →
     IfNone r ((k : ℕ) → has (word ∷ []) k ≡ true → test bits k ≡ false) → IfNone r (NonePasses asks v.entries (has (part v.width row v.owed)))
 word-none asks t v row word bits None view is none =
     subst (λ (x : Grid). NonePasses asks x.entries (has (part x.width row x.owed))) view

@@ -10,7 +10,7 @@ use crate::event::{Event, is_provisional, is_success, is_unsuccessful};
 use crate::invite_client::acks::first_acked;
 use crate::phases::{Change, Phase, Phases, Turn};
 use crate::timers::timeout;
-use crate::told::Field::{Flag, Message, Number};
+use crate::told::ToldField::{Flag, Message, Number};
 use crate::told::Told;
 use crate::waiting::Waiting;
 use sip_standard::{Kind, Method};

@@ -7,7 +7,7 @@ use crate::dues::Dues;
 use crate::event::{Event, is_final, is_provisional};
 use crate::phases::{Change, Phase, Phases, Turn};
 use crate::timers::{linger, timeout};
-use crate::told::Field::{Flag, Number};
+use crate::told::ToldField::{Flag, Number};
 use crate::told::Told;
 use crate::waiting::Waiting;
 use sip_standard::Kind;

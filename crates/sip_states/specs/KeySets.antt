@@ -2,7 +2,7 @@
 use Rattle.std.specs.Prelude.{◌≡◌, [], ◌∷◌}
 use Rattle.std.proofs.Common.{refl}
 use Rattle.sip_standard.specs.Times.{Times}
-use Rattle.sip_machine.specs.Rules.{Rules}
+use Rattle.sip_machine.specs.Rules.{MachineRules}
 use Rattle.sip_standard.specs.Figure.{Owing}
 use Rattle.sip_machine.specs.FigureRules.{rules_of as rules_of_figure}
 use Rattle.sip_machine.specs.Owing.{CodeOwing}
@@ -29,7 +29,7 @@ abbrev pub PhaseOf : MachineKind → Type 0
 PhaseOf machine = Owing (transaction_of machine).Phase
 
 -- its rules with these times
-abbrev pub key_rules : Times → (machine : MachineKind) → Rules (PhaseOf machine)
+abbrev pub key_rules : Times → (machine : MachineKind) → MachineRules (PhaseOf machine)
 key_rules p machine = rules_of_figure (transaction_of machine).figure p
 
 -- How the code has the machines, and the sets of their states.

@@ -12,7 +12,7 @@ use Rattle.sip_log.specs.Next.{Next, ends, gives, stops, ComesNext}
 use Rattle.sip_standard.specs.LogEntry.{Item}
 use Rattle.sip_standard.specs.LogSays.{LacksHeader}
 use Rattle.sip_log.specs.Told.{FailsAs, TellsWhatComes, next_of}
-use Rattle.sip_log.specs.Reading.{fresh, entries, failed, Place, beside_source, Moves, ComesFirst, Comes, Heads, Nexts, NextsAt}
+use Rattle.sip_log.specs.Reading.{fresh, entries, failed, ProgressState, beside_source, Moves, ComesFirst, Comes, Heads, Nexts, NextsAt}
 use Rattle.sip_log.specs.declared.window.Window.{Window}
 use Rattle.sip_log.specs.inner.Window.{items, unread}
 use Rattle.sip_log.specs.inner.Header as read
@@ -121,7 +121,7 @@ keeps (Some p) new format format2 same same2 = (same, same2)
 
 -- One call, by what it was made of.
 
-module _ (old new : Place) (left left2 : Option (List ℕ)) (before after : Bool) (window : Window) (held : old.held ≡ items window) where
+module _ (old new : ProgressState) (left left2 : Option (List ℕ)) (before after : Bool) (window : Window) (held : old.held ≡ items window) where
   -- an entry is read
   pub entries-step : (r : Result (Option Entry) LogError) → old.stage ≡ entries → IsSome old.times → Moves old.count old.last (beside_source new left2 after) r → new.format ≡ old.format → new.times ≡ old.times
       → TellsWhatComes (unread window left) (prepend_known new.held left2) before after (entry.EntryComes old.format old.count old.last) next_of r

@@ -1,5 +1,5 @@
 use Rattle.std.specs.Prelude.{◌≡◌, ◌≢◌, ◌<◌, ◌≤◌, ◌-◌, ◌*◌, ◌/◌, ◌^◌, ℕ, Option, None, Some, List, get_or, length, map}
-use Rattle.sip_machine.specs.declared.slots.Kept.{Kept}
+use Rattle.sip_machine.specs.declared.slots.SlotPrint.{SlotPrint}
 
 -- Numbers, found again by a look at those alone that fall into the same slot.
 
@@ -10,7 +10,7 @@ pub record Slotted : Type 0 where
   pub olders : List ℕ
 
 -- the prints by slots, of the pairs that the code keeps
-abbrev pub slotted : List ℕ → List Kept → Slotted
+abbrev pub slotted : List ℕ → List SlotPrint → Slotted
 slotted newest kept = record { newest = newest; prints = map (λ x. x.print) kept; olders = map (λ x. x.older) kept }
 
 -- the slot of a number, of so many slots

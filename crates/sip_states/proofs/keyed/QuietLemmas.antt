@@ -5,7 +5,7 @@ use Rattle.sip_standard.specs.declared.action.Action.TheVariants.{Restart}
 use Rattle.sip_standard.specs.Times.{Times}
 use Rattle.sip_machine.specs.Texts.{Texts}
 use Rattle.sip_standard.specs.MachineEvent.{MachineEvent}
-use Rattle.sip_machine.specs.Rules.{Rules, IsLawful, StandFor, Knows}
+use Rattle.sip_machine.specs.Rules.{MachineRules, IsLawful, StandFor, Knows}
 use Rattle.sip_standard.specs.Figure.{Figure, Owing, quiet, Restarts, Steps}
 use Rattle.sip_states.specs.Runs.{Wait, RunGives}
 use Rattle.sip_states.specs.Held.{Held}
@@ -23,7 +23,7 @@ restarts_once f x y z (inl (idle, y_is)) (inr (other, z_is)) = absurd (other (ap
 restarts_once f x y z (inr (busy, y_is)) (inl (same, z_is)) = z_is ∙ ap quiet (sym same ∙ ap (λ s. s.phase) y_is) ∙ sym y_is
 restarts_once f x y z (inr (busy, y_is)) (inr (other, z_is)) = z_is ∙ sym y_is
 
-module _ {X : Type 0} (r : Rules X) (lawful : IsLawful r) (q : X) (endless : r.window q ≡ None) (stays : r.until q ≡ None) where
+module _ {X : Type 0} (r : MachineRules X) (lawful : IsLawful r) (q : X) (endless : r.window q ≡ None) (stays : r.until q ≡ None) where
   -- a state without an end and without a last moment is waited in for ever, and nothing else comes of it
   pub wait_still : (C : X → Type 0) → ((x : X) → C x ↔ (x ≡ q)) → (h n : ℕ) → h ≤ n → (y : X) → Wait r C h n y ↔ (y ≡ q)
   wait_still C only h n low y = (
@@ -110,7 +110,7 @@ quiet_still p machine texts s (inl is) = (first_of machine, is, first_still p ma
 quiet_still p machine texts s (inr is) = (last_of machine, is, last_still p machine texts)
 
 module _ (p : Times) (machine : MachineKind) (texts : Texts) (x : StateOf machine) (still : IsStill p machine texts x) where
-  abbrev r : Rules (PhaseOf machine)
+  abbrev r : MachineRules (PhaseOf machine)
   r = (meaning_of machine).rules p
 
   abbrev q : PhaseOf machine

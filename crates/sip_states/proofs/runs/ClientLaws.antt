@@ -3,7 +3,7 @@ use Rattle.std.proofs.Common.{◌≡◌, ◌≤◌, ◌⊎◌, inl, inr, ℕ, Bo
 use Rattle.std.specs.Prelude.{⊤}
 use Rattle.std.proofs.Math.Decide.{dec_le}
 use Rattle.sip_standard.specs.declared.role.Role.TheVariants.{Client}
-use Rattle.sip_standard.specs.declared.rules.Rules.{Rules as BuiltBy}
+use Rattle.sip_standard.specs.declared.rules.Rules.{Rules}
 use Rattle.sip_standard.specs.declared.rules.Rules.TheVariants.{R3261, R6026}
 use Rattle.sip_standard.specs.declared.action.Action.{Action}
 use Rattle.sip_standard.specs.declared.action.Action.TheVariants.{Sent, Received, Failed, Mark, Restart}
@@ -360,7 +360,7 @@ plain_silent p =
     (λ code e x y h is final low. plain_finishes p code e y is final x.phase x.owes low h) (plain_sends p)
 
 -- by whichever rules it was built
-pub plain_after_final : (p : Times) (rules : BuiltBy) (before between later : List MachineEvent) (request final e : MachineEvent) (code : ℕ) (y : PhaseOf (machine_of rules Client false)) →
+pub plain_after_final : (p : Times) (rules : Rules) (before between later : List MachineEvent) (request final e : MachineEvent) (code : ℕ) (y : PhaseOf (machine_of rules Client false)) →
     request.action ≡ Sent → IsRequest request.kind → final.action ≡ Received → final.kind ≡ Response code → IsFinal code → e.action ≡ Sent →
     AfterRun (key_rules p (machine_of rules Client false)) (before ++ request ∷ (between ++ final ∷ later)) e y → ⊥
 plain_after_final p R6026 = plain_silent p

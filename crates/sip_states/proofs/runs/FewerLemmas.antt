@@ -3,7 +3,7 @@ use Rattle.std.proofs.Common.{◌≡◌, ◌≤◌, ◌<◌, ℕ, List, [], ◌�
 use Rattle.std.proofs.Math.Decide.{dec_le}
 use Rattle.std.proofs.lemmas.List.Elements.{All-nil, All-cons, All-head, All-tail, All-weaker}
 use Rattle.sip_standard.specs.MachineEvent.{MachineEvent}
-use Rattle.sip_machine.specs.Rules.{Rules, Waits, Hide}
+use Rattle.sip_machine.specs.Rules.{MachineRules, Waits, Hide}
 use Rattle.sip_states.specs.Runs.{Step, Hides, Takes, moment_of_step, Does, Goes, Reaches, taken, RuledRun}
 use Rattle.sip_states.proofs.sets.Waiting.{IsWithin-earlier}
 
@@ -15,7 +15,7 @@ NotBefore m e = m ≤ e.moment
 abbrev NotAfter : ℕ → MachineEvent → Type 0
 NotAfter m e = e.moment ≤ m
 
-module _ {X : Type 0} (r : Rules X) where
+module _ {X : Type 0} (r : MachineRules X) where
   -- steps from a moment on take no event before it
   Goes-low : (x : X) (h : ℕ) (steps : List Step) (y : X) (m : ℕ) → Goes r x h steps y m → All (NotBefore h) (taken steps)
   Goes-low x h [] y m goes = All-nil (NotBefore h)

@@ -1,7 +1,7 @@
 -- Runs one step at a time: a run is a run to its last event and a wait from there.
 use Rattle.std.proofs.Common.{◌≡◌, ◌≤◌, ◌↔◌, ℕ, List, [], ◌∷◌, ◌++◌, map, refl, ap, subst, ◌∙◌}
 use Rattle.sip_standard.specs.MachineEvent.{MachineEvent}
-use Rattle.sip_machine.specs.Rules.{Rules}
+use Rattle.sip_machine.specs.Rules.{MachineRules}
 use Rattle.sip_states.specs.Runs.{Step, Hides, Takes, moment_of_step, Does, Goes, Reaches, taken, Wait, RunGives, RuledRun, AfterRun}
 
 -- hidden steps take no event
@@ -45,7 +45,7 @@ split_last (Hides t ∷ steps) fs f e =
 split_last (Takes g ∷ steps) [] f e = let none = none_taken steps (cc) in here steps g f (cc) none.0 none.1
 split_last (Takes g ∷ steps) (k ∷ fs) f e = later steps g k fs f (cc) (split_last steps fs f (cc))
 
-module _ {X : Type 0} (r : Rules X) where
+module _ {X : Type 0} (r : MachineRules X) where
   -- steps to one in the middle, and the steps from there
   pub record Passes (x : X) (h : ℕ) (front : List Step) (step : Step) (rest : List Step) (y : X) (m : ℕ) : Type 0 where
     pub middle : X

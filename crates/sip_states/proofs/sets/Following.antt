@@ -4,14 +4,14 @@ use Rattle.std.proofs.lemmas.List.{get_or-map, length-map}
 use Rattle.std.proofs.lemmas.List.Elements.{All-nil, All-contains, Contains-get_or}
 use Rattle.sip_machine.specs.Limits.{IsWithin, IsOpenAt}
 use Rattle.sip_machine.specs.Texts.{Texts, IsBook, Keeps}
-use Rattle.sip_machine.specs.Rules.{Rules, IsLawful, Waits, Knows, StandFor}
+use Rattle.sip_machine.specs.Rules.{MachineRules, IsLawful, Waits, Knows, StandFor}
 use Rattle.sip_states.specs.Runs.{Wait}
 use Rattle.sip_states.specs.inner.Ways.{SomeCanEnd, SomeCanReach, Advances}
 use Rattle.sip_states.proofs.lists.Listed.{Contains-map, Contains-from_map}
 use Rattle.sip_states.proofs.sets.Waiting.{EndsFrom, IsWithin-none, Wait-stay, Wait-end, Wait-cases}
 
 -- states of the code, with their windows and last moments, follow the rules over what they stand for
-pub record Follows {X S : Type 0} (names : S → List ℕ) (seen : Texts → S → X) (r : Rules X) (ended : S) (window : S → Option (ℕ × Option ℕ)) (until : S → Option ℕ) : Type 0 where
+pub record Follows {X S : Type 0} (names : S → List ℕ) (seen : Texts → S → X) (r : MachineRules X) (ended : S) (window : S → Option (ℕ × Option ℕ)) (until : S → Option ℕ) : Type 0 where
   pub lawful : IsLawful r
   pub ended_is : (texts : Texts) → seen texts ended ≡ r.ended
   pub ended_names : names ended ≡ []
@@ -19,13 +19,13 @@ pub record Follows {X S : Type 0} (names : S → List ℕ) (seen : Texts → S �
   pub until_is : (texts : Texts) (x : S) → r.until (seen texts x) ≡ until x
   pub apart : (texts : Texts) (x y : S) → IsBook texts → Knows names texts x → Knows names texts y → seen texts x ≡ seen texts y → x ≡ y
 
-module _ {X S : Type 0} (names : S → List ℕ) (InRange : S → Type 0) (seen : Texts → S → X) (r : Rules X) (ended : S) (window : S → Option (ℕ × Option ℕ)) (until : S → Option ℕ)
+module _ {X S : Type 0} (names : S → List ℕ) (InRange : S → Type 0) (seen : Texts → S → X) (r : MachineRules X) (ended : S) (window : S → Option (ℕ × Option ℕ)) (until : S → Option ℕ)
     (follows : Follows names seen r ended window until) where
   -- the ended state of the code stays for ever
   pub ended_stays : until ended ≡ None
   ended_stays = sym (follows.until_is [] ended) ∙ ap r.until (follows.ended_is []) ∙ follows.lawful.ended_stays
 
-module _ {X S : Type 0} (names : S → List ℕ) (InRange : S → Type 0) (seen : Texts → S → X) (r : Rules X) (ended : S) (window : S → Option (ℕ × Option ℕ)) (until : S → Option ℕ)
+module _ {X S : Type 0} (names : S → List ℕ) (InRange : S → Type 0) (seen : Texts → S → X) (r : MachineRules X) (ended : S) (window : S → Option (ℕ × Option ℕ)) (until : S → Option ℕ)
     (follows : Follows names seen r ended window until) (texts : Texts) where
   -- a state of the code can wait just as long as what it stands for
   pub seen_waits : (m : ℕ) (x : S) → Waits r (seen texts x) m ↔ IsWithin m (until x)

@@ -2,17 +2,17 @@
 use Rattle.std.proofs.Common.{◌≡◌, ◌≤◌, ◌↔◌, ◌⊎◌, inl, inr, ℕ, Option, Some, None, List, [], ◌∷◌, map, refl, sym, subst, arith}
 use Rattle.sip_machine.specs.Limits.{IsWithin, IsOpenAt}
 use Rattle.sip_standard.specs.MachineEvent.{MachineEvent}
-use Rattle.sip_machine.specs.Rules.{Rules, IsLawful, Waits, Hide}
+use Rattle.sip_machine.specs.Rules.{MachineRules, IsLawful, Waits, Hide}
 use Rattle.sip_states.specs.Runs.{Hides, Reaches, Wait, RunGives}
 
 -- y is in S and stays from h to m
-pub record StaysFrom {X : Type 0} (r : Rules X) (S : X → Type 0) (h m : ℕ) (y : X) : Type 0 where
+pub record StaysFrom {X : Type 0} (r : MachineRules X) (S : X → Type 0) (h m : ℕ) (y : X) : Type 0 where
   pub among : S y
   pub reached : h ≤ m
   pub waits : Waits r y m
 
 -- y is the end of a state of S at a moment from h to m
-pub record EndsFrom {X : Type 0} (r : Rules X) (S : X → Type 0) (h m : ℕ) (y : X) : Type 0 where
+pub record EndsFrom {X : Type 0} (r : MachineRules X) (S : X → Type 0) (h m : ℕ) (y : X) : Type 0 where
   pub start : X
   pub among : S start
   pub at : ℕ
@@ -33,7 +33,7 @@ IsWithin-none m limit e = rw e tt
 pub IsOpenAt-none : (m : ℕ) (window : Option (ℕ × Option ℕ)) → window ≡ None → IsOpenAt m window → ⊥
 IsOpenAt-none m window e h = rw e at h
 
-module _ {X : Type 0} (r : Rules X) where
+module _ {X : Type 0} (r : MachineRules X) where
   -- waiting in a state is a wait
   pub Wait-stay : (S : X → Type 0) (h m : ℕ) (y : X) → StaysFrom r S h m y → Wait r S h m y
   Wait-stay S h m y stays =
@@ -53,7 +53,7 @@ module _ {X : Type 0} (r : Rules X) where
     λ g. record { before = g.before; among = (same g.before).1 g.among; takes = g.takes },
   )
 
-module _ {X : Type 0} (r : Rules X) (lawful : IsLawful r) where
+module _ {X : Type 0} (r : MachineRules X) (lawful : IsLawful r) where
   -- an end is a wait
   pub Wait-end : (S : X → Type 0) (h m : ℕ) (y : X) → EndsFrom r S h m y → Wait r S h m y
   Wait-end S h m y ended =

@@ -24,9 +24,9 @@ use Rattle.sip_states.specs.declared.any_set.AnySet.{AnySet}
 use Rattle.sip_standard.specs.LogEntry.{Item}
 use Rattle.sip_verdict.specs.declared.concerned.Concerned.{Concerned}
 use Rattle.sip_verdict.specs.declared.concerned.Concerned.TheVariants as concerned
-use Rattle.sip_verdict.specs.declared.observing.Told.{Told}
-use Rattle.sip_verdict.specs.declared.observing.Told.TheVariants.{Unheard, Heard}
-use Rattle.sip_verdict.specs.declared.observing.Told.TheVariants as told
+use Rattle.sip_verdict.specs.declared.observing.Observed.{Observed}
+use Rattle.sip_verdict.specs.declared.observing.Observed.TheVariants.{Unheard, Heard}
+use Rattle.sip_verdict.specs.declared.observing.Observed.TheVariants as told
 use Rattle.sip_standard.specs.declared.verdict.Verdict.{Verdict}
 use Rattle.sip_standard.specs.Observation.{Observation}
 use Rattle.sip_verdict.specs.Keyed.{events_of, keys_of, newest_moment}
@@ -191,7 +191,7 @@ are_given t (n ∷ ns) (k ∷ ks) (low, at, rest) =
 
 module _ (verdict : Option Verdict) (old mid last : Texts) (number : ℕ) (bytes : List ℕ) (grown : IsGrown old number bytes mid) (i : Item) (moment count : ℕ) where
   -- this was told of the entry
-  abbrev Tells : Told → Type 0
+  abbrev Tells : Observed → Type 0
   Tells told = (es : List (Observation KeyParts)) → (e : Observation KeyParts) × message_reading.Observes es i e × IsObserved mid es i told e
 
   -- an entry that is not heard

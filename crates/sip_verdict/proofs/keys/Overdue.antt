@@ -5,7 +5,7 @@ use Rattle.sip_standard.specs.Times.{Times}
 use Rattle.sip_machine.specs.Texts.{Texts}
 use Rattle.sip_standard.specs.MachineEvent.{MachineEvent}
 use Rattle.sip_machine.specs.Limits.{IsWithin}
-use Rattle.sip_machine.specs.Rules.{Rules}
+use Rattle.sip_machine.specs.Rules.{MachineRules}
 use Rattle.sip_states.specs.Runs.{IsAgenda}
 use Rattle.sip_standard.specs.KeyMachine.{MachineKind}
 use Rattle.sip_states.specs.KeySets.{key_rules}
@@ -19,7 +19,7 @@ use Rattle.sip_verdict.specs.inner.TablesTracking.{LeadsOf}
 use Rattle.sip_states.proofs.keyed.ByMachine.{rules_are, moment_is, of_set}
 
 -- a run over one event more holds one that stands at its moment
-pub run_before : {X : Type 0} (r : Rules X) (events : List MachineEvent) (e : MachineEvent) (n : ℕ) → RunsUntil r (events ++ e ∷ []) n → RunsUntil r events e.moment
+pub run_before : {X : Type 0} (r : MachineRules X) (events : List MachineEvent) (e : MachineEvent) (n : ℕ) → RunsUntil r (events ++ e ∷ []) n → RunsUntil r events e.moment
 run_before r events e n (y, run) =
     let wait = (Run-wait r events e n y).0 run in
     let given = (After-run r events e wait.start).0 wait.begins in

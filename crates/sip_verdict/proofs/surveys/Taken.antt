@@ -21,8 +21,8 @@ use Rattle.sip_standard.specs.LogEntry.{Item}
 use Rattle.sip_standard.specs.declared.fault.Fault.{Fault}
 use Rattle.sip_verdict.specs.declared.concerned.Concerned.{Concerned}
 use Rattle.sip_verdict.specs.declared.concerned.Concerned.TheVariants as concerned
-use Rattle.sip_verdict.specs.declared.observing.Told.{Told}
-use Rattle.sip_verdict.specs.declared.observing.Told.TheVariants as told
+use Rattle.sip_verdict.specs.declared.observing.Observed.{Observed}
+use Rattle.sip_verdict.specs.declared.observing.Observed.TheVariants as told
 use Rattle.sip_verdict.specs.declared.passing.Hearing.{Hearing}
 use Rattle.sip_verdict.specs.declared.troubled.Troubled.{Troubled}
 use Rattle.sip_standard.specs.Observation.{Observation}
@@ -83,7 +83,7 @@ keys_none p es e none = keys_of-push (key_machines p) es e ∙ ap (fold (with_ke
 
 module _ (old mid : Texts) (number : ℕ) (bytes : List ℕ) (grown : IsGrown old number bytes mid) (i : Item) (moment : ℕ) (at : i.moment ≡ moment) where
   -- this was told of the entry
-  abbrev Tells : Told → Type 0
+  abbrev Tells : Observed → Type 0
   Tells told = (es : List (Observation KeyParts)) → (e : Observation KeyParts) × message_reading.Observes es i e × IsObserved mid es i told e
 
   module _ (t u : Tabled) (b c : Troubled) (long : length b.deaf.items ≡ length t.keys) (sets : length t.sets ≡ length t.keys) (fresh : IsFresh b) (keys : u.keys ≡ t.keys) where

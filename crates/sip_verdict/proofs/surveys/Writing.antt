@@ -151,14 +151,14 @@ surveys_none part s p start now times stands read =
     record { items = []; taken = []; es = []; are_taken = tt; seen = tt; follows = stands; read = subst (λ t. HasRead start t [] now) (sym times) read; front = λ rest close later end is. is }
 
 -- what was read of a log, and the text of what was found
-pub record Told (part : Option PartOf) (s : Surveying) (found : List Finding) (lines : List ℕ) (start : Option (List ℕ)) (now : log.ReaderState) : Type 0 where
+pub record ToldSoFar (part : Option PartOf) (s : Surveying) (found : List Finding) (lines : List ℕ) (start : Option (List ℕ)) (now : log.ReaderState) : Type 0 where
   pub read : SurveysRead part s found start now
   pub lines_are : IsTextOf read.es found lines
 
-pub told_nothing : (part : Option PartOf) (s : Surveying) (start : Option (List ℕ)) (now : log.ReaderState) → SurveysRead part s [] start now → Told part s [] [] start now
+pub told_nothing : (part : Option PartOf) (s : Surveying) (start : Option (List ℕ)) (now : log.ReaderState) → SurveysRead part s [] start now → ToldSoFar part s [] [] start now
 told_nothing part s start now read = record { read = read; lines_are = refl }
 
-module _ (part : Option PartOf) (start : Option (List ℕ)) (now : log.ReaderState) (s : Surveying) (found : List Finding) (lines : List ℕ) (told_so : Told part s found lines start now) where
+module _ (part : Option PartOf) (start : Option (List ℕ)) (now : log.ReaderState) (s : Surveying) (found : List Finding) (lines : List ℕ) (told_so : ToldSoFar part s found lines start now) where
   abbrev pub read : SurveysRead part s found start now
   read = told_so.read
 
@@ -167,11 +167,11 @@ module _ (part : Option PartOf) (start : Option (List ℕ)) (now : log.ReaderSta
       → (items : List Finding)
       → ((es : List (Observation KeyParts)) → SurveysFor s es → (seen : Observation KeyParts) × (here : List Finding) × message_reading.Observes es (item cut) seen
       × AreFoundAt s.tables.times es seen here × (items ≡ here) × SurveysFor k (es ++ seen ∷ []))
-      → (text : List ℕ) → AreLinesBy k items text → Told part k (found ++ items) (lines ++ text) start new
+      → (text : List ℕ) → AreLinesBy k items text → ToldSoFar part k (found ++ items) (lines ++ text) start new
   unfolding found_on
   surveys_on e cut new more is_taken k times items says text are_lines =
       let (seen, here, observed, are, same, stands) = says read.es read.follows in
-      subst (λ fs. Told part k (found ++ fs) (lines ++ text) start new) (sym same) (record {
+      subst (λ fs. ToldSoFar part k (found ++ fs) (lines ++ text) start new) (sym same) (record {
         read = found_on part start now s found read e cut new more is_taken k times seen here observed are stands;
         lines_are = text_append (read.es ++ seen ∷ []) found here lines text (text_more read.es (seen ∷ []) found lines told_so.lines_are)
             (found_text k s.tables.times read.es seen stands here text (λ f has. (are.1 f).0 has) (subst (λ fs. AreLinesBy k fs text) same are_lines));

@@ -7,7 +7,7 @@ use Rattle.sip_machine.specs.Texts.{Texts, IsBook, Keeps, text_of}
 use Rattle.sip_machine.specs.Retained.{only}
 use Rattle.sip_standard.specs.MachineEvent.{MachineEvent}
 use Rattle.sip_machine.specs.Limits.{IsWithin, IsOpenAt}
-use Rattle.sip_machine.specs.Rules.{Rules, IsLawful, StandFor}
+use Rattle.sip_machine.specs.Rules.{MachineRules, IsLawful, StandFor}
 use Rattle.sip_machine.specs.inner.OwingLaws.{window_same, until_same}
 use Rattle.sip_machine.proofs.texts.RetainLemmas.{only-Keeps, text_of-only}
 use Rattle.sip_states.specs.Runs.{Wait, IsAgenda}
@@ -27,7 +27,7 @@ use Rattle.sip_states.proofs.keyed.ByMachine.{some_machine, lawful_of, moment_is
 use Rattle.sip_verdict.proofs.sweeps.NamedLemmas.{Contains-flat_map}
 
 -- once a set that leads has waited, it leads
-pub waited_leads : {X S : Type 0} (names : S → List ℕ) (InRange : S → Type 0) (seen : Texts → S → X) (texts : Texts) (r : Rules X) → IsLawful r → (events : List MachineEvent) (from at moment : ℕ) (old new : List S) → at ≤ moment
+pub waited_leads : {X S : Type 0} (names : S → List ℕ) (InRange : S → Type 0) (seen : Texts → S → X) (texts : Texts) (r : MachineRules X) → IsLawful r → (events : List MachineEvent) (from at moment : ℕ) (old new : List S) → at ≤ moment
     → Leads names seen texts r events from at old → StandFor names InRange seen texts (Wait r (Contains (map (seen texts) old)) at moment) new → Leads names seen texts r events from moment new
 waited_leads names InRange seen texts r lawful events from at moment old new low leads stand = record {
   known = stand.known;
@@ -38,7 +38,7 @@ waited_leads names InRange seen texts r lawful events from at moment old new low
 
 -- and beside a book that keeps what it names
 pub kept_leads : {X S : Type 0} (names : S → List ℕ) (seen : Texts → S → X) → ((a b : Texts) (x : S) → ((n : ℕ) → Contains (names x) n → text_of a n ≡ text_of b n) → seen a x ≡ seen b x)
-    → (texts : Texts) (numbers : List ℕ) → IsBook texts → AllPairs (λ a b. a < b) numbers → All (Keeps texts) numbers → (r : Rules X) (events : List MachineEvent) (from moment : ℕ) (states : List S)
+    → (texts : Texts) (numbers : List ℕ) → IsBook texts → AllPairs (λ a b. a < b) numbers → All (Keeps texts) numbers → (r : MachineRules X) (events : List MachineEvent) (from moment : ℕ) (states : List S)
     → ((n : ℕ) → Contains (flat_map names states) n → Contains numbers n) → Leads names seen texts r events from moment states → Leads names seen (only numbers texts) r events from moment states
 kept_leads names seen by_names texts numbers book up kept r events from moment states within leads =
     Leads-book names seen by_names texts (only numbers texts) r events from moment states
@@ -78,7 +78,7 @@ module _ (texts : Texts) (numbers : List ℕ) (book : IsBook texts) (up : AllPai
 
 -- Until when a wait lasts does not depend on the book.
 
-module _ {X S : Type 0} (seen : Texts → S → X) (r : Rules X) (lawful : IsLawful r) (window_same : (a b : Texts) (x : S) → r.window (seen a x) ≡ r.window (seen b x))
+module _ {X S : Type 0} (seen : Texts → S → X) (r : MachineRules X) (lawful : IsLawful r) (window_same : (a b : Texts) (x : S) → r.window (seen a x) ≡ r.window (seen b x))
     (until_same : (a b : Texts) (x : S) → r.until (seen a x) ≡ r.until (seen b x)) where
   some_wait : (a b : Texts) (states : List S) (h m : ℕ) → ((y : X) × Wait r (Contains (map (seen a) states)) h m y) → (y : X) × Wait r (Contains (map (seen b) states)) h m y
   some_wait a b states h m (y, wait) = go ((Wait-cases r lawful (Contains (map (seen a) states)) h m y).0 wait)
@@ -114,7 +114,7 @@ module _ {X S : Type 0} (seen : Texts → S → X) (r : Rules X) (lawful : IsLaw
   agenda_any a b states h limit agenda m low = (λ some. (agenda m low).0 (some_wait b a states h m some), λ within. some_wait a b states h m ((agenda m low).1 within))
 
 -- a wait lasts as long after a wait
-pub agenda_waited : {X S : Type 0} (names : S → List ℕ) (InRange : S → Type 0) (seen : Texts → S → X) (texts : Texts) (r : Rules X) → IsLawful r → (at moment : ℕ) (old new : List S) → at ≤ moment
+pub agenda_waited : {X S : Type 0} (names : S → List ℕ) (InRange : S → Type 0) (seen : Texts → S → X) (texts : Texts) (r : MachineRules X) → IsLawful r → (at moment : ℕ) (old new : List S) → at ≤ moment
     → StandFor names InRange seen texts (Wait r (Contains (map (seen texts) old)) at moment) new → (limit : Option ℕ) → IsAgenda r (Contains (map (seen texts) old)) at limit
     → IsAgenda r (Contains (map (seen texts) new)) moment limit
 agenda_waited {X} names InRange seen texts r lawful at moment old new low stand limit agenda n later =

@@ -5,7 +5,7 @@ use Rattle.sip_standard.specs.Key.{KeyParts}
 use Rattle.sip_standard.specs.LogEntry.{Item}
 use Rattle.sip_standard.specs.LogSays.{LogEnd, most_entries, line_feed}
 use Rattle.sip_part.specs.Part.{PartOf}
-use Rattle.sip_log.specs.Reading.{Place, entries}
+use Rattle.sip_log.specs.Reading.{ProgressState, entries}
 use Rattle.sip_verdict.specs.declared.finding.Finding.{Finding}
 use Rattle.sip_standard.specs.declared.judge_error.JudgeError.{JudgeError}
 use Rattle.sip_verdict.specs.declared.summary.Summary.{Summary}
@@ -104,7 +104,7 @@ pub record IsWritten (part : Option PartOf) (input : List ℕ) (summary : Summar
   pub written : Appends before after text
 
 -- the survey goes on, and took all entries that were read up to this place
-pub record IsSurveyAt (s : Surveying) (place : Place) : Type 0 where
+pub record IsSurveyAt (s : Surveying) (place : ProgressState) : Type 0 where
   pub on : place.stage ≡ entries
   pub goes_on : s.failed ≡ false
   pub counts : s.number ≡ place.count

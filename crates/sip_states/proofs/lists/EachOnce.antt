@@ -33,7 +33,7 @@ module _ {S : Type 0} (ys : List S) (first : ℕ) (rows : List ℕ) (x : S) (one
   pub picked-members : (z : S) → Contains (picked ys x rows) z ↔ Contains (drop first ys) z
   picked-members z = (picked-there z, there-picked z)
 
-  -- each once
+  -- each of them is picked once
   pub picked-distinct : AllPairs (λ a b. a ≢ b) (picked ys x rows)
   picked-distinct = λ i j d low high same.
       let size : length (picked ys x rows) ≡ length rows = length-map rows at in

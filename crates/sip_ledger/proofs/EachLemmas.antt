@@ -9,7 +9,7 @@ pub always_err : {T E : Type 0} (r : Result T E) (P : Type 0) → P → OnErr r 
 always_err (Ok x) P p = tt
 always_err (Err e) P p = p
 
--- and what holds without one
+-- what holds where there is no error
 pub on_ok : {T E : Type 0} (r : Result T E) (P : Type 0) → is_err r ≡ false → OnOk r P → P
 on_ok (Ok x) P is ok = ok
 on_ok (Err e) P is ok = absurd (true≢false is)

@@ -17,7 +17,7 @@ pub rise-above : (places : List ℕ) (i : ℕ) → Rise places → i < length pl
 rise-above places zero rise inside = omega arith
 rise-above places (suc i) rise inside = omega (arith, rise-above places i rise (omega (arith, inside)), rise i (suc i) (omega arith) inside)
 
--- so far the elements have come to the front, and the others are as they were
+-- up to here the elements at the places have come to the front, and the others are as they were
 pub record IsKeptTo {X : Type 0} (d : X) (places : List ℕ) (to : ℕ) (old new : List X) : Type 0 where
   pub long : length new ≡ length old
   pub front : (k : ℕ) → k < to → get_or new k d ≡ get_or old (get_or places k 0) d

@@ -89,7 +89,7 @@ timely-told t entries bits mask = record {
       ∙ not-not (bit_and must bits == 0);
 }
 
--- and one of what a message pays, which of them have such a debt
+-- a mask of the entries that a message pays tells of each row whether it has such a debt
 pub payable-told : (message t : ℕ) (entries : List Entry) (bits past : ℕ) → IsMask (is_payable message t) entries (length entries) bits →
     IsMask (asked_of None t) entries (length entries) past → IsTold entries (λ owes. list_any (is_payable message t) owes && is_timely t owes) (Some bits) past
 payable-told message t entries bits past mask past_mask = record {

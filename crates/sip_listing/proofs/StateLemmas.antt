@@ -55,7 +55,7 @@ module _ (number : List ℕ → ℕ) (texts : Texts) where
         (ap (told_by number) (sym (ap (λ (s : Saying). s.0) says)) ∙ back)
         (debts_told number texts x.owes of_debts ∙ ap debts_fields (sym (ap (λ (s : Saying). s.2) says)))
 
-    -- and so are those of several
+    -- the texts of several states are those of what they stand for
     states_told : (xs : List (CodeOwing S)) (states : List ToldState) → map (said_state texts) states ≡ map (meant words seen names texts) xs
         → All (λ x. Tells number texts (owing_names names x)) xs → map (λ x. owing_text words number (owing_seen seen texts x)) xs ≡ map state_line states
     states_told [] [] are tells = refl

@@ -9,7 +9,7 @@ use Rattle.std.proofs.lemmas.List.Edits.{length-remove, get_or-remove_below, get
 pub AllPairs-head : {X : Type 0} (R : X → X → Type 0) (x : X) (xs : List X) → AllPairs R (x ∷ xs) → All (R x) xs
 AllPairs-head R x xs apart k d low = apart 0 (suc k) d (omega arith) (omega arith)
 
--- and the others from one another
+-- the elements after the first differ from one another
 pub AllPairs-tail : {X : Type 0} (R : X → X → Type 0) (x : X) (xs : List X) → AllPairs R (x ∷ xs) → AllPairs R xs
 AllPairs-tail R x xs apart i j d low high = apart (suc i) (suc j) d (omega arith) (omega arith)
 
@@ -26,7 +26,7 @@ module _ {X : Type 0} (xs : List X) (i : ℕ) (within : i < length xs) (x : X) w
       let long = length-remove xs i within in
       (j, omega (arith, long), get_or-remove_above xs i x j (omega arith) within ∙ rw add-one at)
 
-  -- so all that differ from the one that goes stay
+  -- each element that differs from the one that goes stays
   pub still_has : (y : X) → get_or xs i y ≡ y → y ≢ x → Contains xs x → Contains (remove xs i) x
   still_has y is differs (k, low, at) = go (dec_lt k i) (dec_lt i k)
     where

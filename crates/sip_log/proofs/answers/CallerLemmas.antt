@@ -65,7 +65,7 @@ module _ (input : List ℕ) (format : Format) (p : Times) (items : List Item) (r
     order = InOrder-push format 0 items e is.order next.2 next.3;
   }
 
-  -- and then the end
+  -- where the rest ends so after these entries, they are the log of the input
   pub Begins-ends : (end : LogEnd) → EndsWith format (length items) (last_of 0 items) rest end → LogSays input p items end
   Begins-ends end next = record { format = format; rest = rest; header = is.header; few = is.few; order = is.order; next = next }
 
@@ -107,7 +107,7 @@ Begins-log input format p items rest is =
       },
     )
 
--- and so they are for a reader that reads on
+-- the entries that a reader has given stand at the front of the log of its input
 pub Stands-log : (start : Option (List ℕ)) (items : List Item) (now : ReaderState) → now.stage ≡ entries → Stands start items now
     → IfSome start (λ input. IfSome now.times (λ p. (more : List Item) × (end : LogEnd) × LogSays input p (items ++ more) end))
 Stands-log start items now on stands = go now.times start (subst (λ s. StandsAt s start items now) on stands).0
@@ -159,7 +159,7 @@ module _ (start : Option (List ℕ)) (items : List Item) (old new : ReaderState)
   same-times None has kept = absurd has
   same-times (Some p) has kept = kept.0
 
-  -- and its format
+  -- the format of the log stays the same from entry to entry
   same-format : (t : Option Times) → HasRead start old.format t items old.left → IfSome t (λ p. (new.times ≡ Some p) × (new.format ≡ old.format)) → new.format ≡ old.format
   same-format None has kept = absurd has
   same-format (Some p) has kept = kept.1

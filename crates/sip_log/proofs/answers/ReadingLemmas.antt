@@ -36,7 +36,7 @@ FailsAs-map before after P Q errors.Io f h = h
 FailsAs-map before after P Q errors.Memory f h = tt
 FailsAs-map before after P Q errors.Failed f h = h
 
--- and so does an answer
+-- an answer says the same of what it is mapped to
 pub Says-map : {A B : Type 0} (old new : Option (List ℕ)) (before after : Bool) (P Q : List ℕ → Next B → Type 0) (seen : A → List ℕ → Next B) (r : Result A LogError)
     → ((xs : List ℕ) (n : Next B) → P xs n → Q xs n) → TellsWhatComes old new before after P seen r → TellsWhatComes old new before after Q seen r
 Says-map old new before after P Q seen (Ok a) f h =
@@ -105,7 +105,7 @@ headed old new before after format p says = (
       (λ xs w. (w.0, w.1, header-spelled format xs p w.0 w.2)) says.1,
 )
 
--- and so does its fault
+-- a fault of a header says what comes in the input
 pub unheaded : (old new : Option (List ℕ)) (before after : Bool) (format : Format) (e : LogError) → FailsAs before after (λ fault. IfSome old (λ xs. read.HeaderComes xs (stops fault))) e
     → TellsWhatComes {A = Times} old new before after (Heads format) gives (Err e)
 unheaded old new before after format e fails =

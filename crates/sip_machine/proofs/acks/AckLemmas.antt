@@ -33,7 +33,7 @@ module _ (ack invite response : List ℕ) (a i : Reading) (is : Bool) (reads_a :
     λ of. let (r, reads, both) = AckOf-read ack invite response a i reads_a reads_i of in record { message = r; reads = reads; is = to_is ∙ both.to },
   )
 
-  -- and one that is not is one for none
+  -- an ACK that is none for the INVITE is none for any response
   pub AckOf-none : is ≡ false → AckOf ack invite response → ⊥
   AckOf-none not_so of =
       let (r, reads, both) = AckOf-read ack invite response a i reads_a reads_i of in

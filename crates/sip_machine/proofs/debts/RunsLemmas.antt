@@ -25,7 +25,7 @@ All-each P (run ∷ runs) all =
     All-append P (replicate run.count run.debt) (debts_in runs) (All-replicate P run.count run.debt (All-head (λ run. P run.debt) run runs all))
     (All-each P runs (All-tail (λ run. P run.debt) run runs all))
 
--- and back
+-- what holds of each of several equal debts holds of the debt
 first-of : (P : Debt → Type 0) (n : ℕ) (d : Debt) → 0 < n → All P (replicate n d) → P d
 first-of P zero d some all = absurd (omega (arith, some))
 first-of P (suc n) d some all = All-head P d (replicate n d) all

@@ -80,7 +80,7 @@ rising-apart rows i (suc k) rising low =
     let above = rising (i + k) (suc (i + k)) 0 (omega arith) (omega (arith, low)) in
     rw next (omega (arith, before, above))
 
--- so where the last is no further from the first than their number says, each is the one after the index before it
+-- rising indices whose last is no further from the first than their number says are a run: each is one more than the one before
 pub run-of : (rows : List ℕ) → AllPairs (λ a b. a < b) rows → 0 < length rows → get_or rows (length rows - 1) 0 - get_or rows 0 0 < length rows → IsRun (get_or rows 0 0) rows
 run-of rows rising some near =
     record {
@@ -95,7 +95,7 @@ run-of rows rising some near =
           omega (arith, up, on, last, here, near, low, end);
     }
 
--- and such ones are a part of the list
+-- what is picked by a run of indices is a part of the list
 pub run-picked : {X : Type 0} (xs : List X) (rows : List ℕ) (first : ℕ) (x : X) → IsRun first rows → All (λ row. row < length xs) rows →
     take (length rows) (drop first xs) ≡ picked xs x rows
 run-picked xs rows first x run within =

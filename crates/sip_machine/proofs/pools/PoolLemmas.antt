@@ -141,6 +141,6 @@ module _ {X : Type 0} where
       let here : get_or more last d ≡ x = ap₂ (λ xs k. get_or xs k d) is at ∙ get_or-append_seam old x [] d in
       changed ∙ ap (λ y. set more last (f y)) here ∙ ap₂ (λ xs k. set xs k (f x)) is at ∙ set-end old x (f x)
 
-  -- and goes again
+  -- what was put at the end of a list goes again
   pub take-old : (old added new : List X) (n : ℕ) → new ≡ old ++ added → n ≡ length old → take n new ≡ old
   take-old old added new n is at = ap₂ take at is ∙ take-append_seam old added

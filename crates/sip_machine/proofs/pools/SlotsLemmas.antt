@@ -42,7 +42,7 @@ newest-here slots prints print =
       last = λ k high low. λ _. omega (arith, long, high, low);
     }
 
--- and of another slot it is none
+-- a print of another slot changes nothing of the newest one of this slot
 newest-other : (slots : ℕ) (prints : List ℕ) (slot newest print : ℕ) → slot ≢ slot_of slots print → IsNewest slots prints slot (length prints) newest →
     IsNewest slots (prints ++ print ∷ []) slot (length (prints ++ print ∷ [])) newest
 newest-other slots prints slot newest print other is =
@@ -94,7 +94,7 @@ slots-grow s print slot newest are is low count =
       ]);
     }
 
--- the same of the pairs as they lie
+-- one print more is put under its slot, in the pairs that the code keeps
 pub slots-more : (newest : List ℕ) (kept : List SlotPrint) (x : SlotPrint) (slot last : ℕ) → AreSlots (slotted newest kept) → slot ≡ slot_of (length newest) x.print → slot < length newest →
     x.older ≡ get_or newest slot 0 → last ≡ length kept + 1 → AreSlots (slotted (set newest slot last) (kept ++ x ∷ []))
 slots-more newest kept x slot last are is low older count =

@@ -19,7 +19,7 @@ map-seen names seen by_names a b (x ∷ xs) agree =
     let here = All-head (AgreeOn names a b) x xs agree in
     rw (by_names a b x (λ n has. (here n has).1), map-seen names seen by_names a b xs (All-tail (AgreeOn names a b) x xs agree))
 
--- and so do sets of them
+-- lists of states stand for the same beside books that agree on what they name
 pub StandFor-book : {X S : Type 0} (names : S → List ℕ) (InRange : S → Type 0) (seen : Texts → S → X) →
     ((a b : Texts) (x : S) → ((n : ℕ) → Contains (names x) n → text_of a n ≡ text_of b n) → seen a x ≡ seen b x) →
     (a b : Texts) (P : X → Type 0) (xs : List S) → All (AgreeOn names a b) xs →

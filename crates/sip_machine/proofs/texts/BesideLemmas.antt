@@ -49,7 +49,7 @@ count-parted p (x ∷ xs) (suc i) low parts =
     let next : 1 + i ≡ suc i = omega arith in
     count-cons p x xs ∙ ap₂ (λ b n. cond b 1 0 + n) here rest ∙ next
 
--- and as many numbers pass as things with them
+-- as many things pass as their numbers do
 count-map : {X : Type 0} (f : X → ℕ) (p : ℕ → Bool) (xs : List X) → count_by p (map f xs) ≡ count_by (λ x. p (f x)) xs
 count-map f p [] = refl
 count-map f p (x ∷ xs) = count-cons p (f x) (map f xs) ∙ ap (λ n. cond (p (f x)) 1 0 + n) (count-map f p xs) ∙ sym (count-cons (λ x. p (f x)) x xs)

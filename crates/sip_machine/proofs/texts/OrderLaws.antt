@@ -131,7 +131,7 @@ Contains-insert xs i y x has =
       | inr rest ↦ Contains-append_right (take i xs) (y ∷ drop i xs) x (Contains-append_right (y ∷ []) (drop i xs) x rest)
     ]
 
--- and so is the other one
+-- an inserted element is in the list
 Contains-inserted : {X : Type 0} (xs : List X) (i : ℕ) (y : X) → Contains (insert xs i y) y
 Contains-inserted xs i y = Contains-append_right (take i xs) (y ∷ drop i xs) y (Contains-get_or (y ∷ drop i xs) 0 y (omega arith))
 

@@ -115,7 +115,7 @@ found_later m ms n i d (Some j) found is next =
     let up : suc j ≡ i = cc in
     subst (λ k. (k < suc (length ms)) × (get_or (m ∷ ms) k d ≡ n)) up (omega (arith, there.0), there.1)
 
--- and what stands at a place is the number
+-- the number stands at the place where it is found
 pub place_found : (numbers : List ℕ) (n i d : ℕ) → place_among numbers n ≡ Some i → (i < length numbers) × (get_or numbers i d ≡ n)
 place_found [] n i d at = absurd cc
 place_found (m ∷ ms) n i d at =
@@ -498,7 +498,7 @@ module _ (texts : Texts) (numbers : List ℕ) (book : IsBook texts) (up : AllPai
       let at = text_of-at (only numbers texts) k x rising-only within (sym (at_number k n low) ∙ get_or_default (only numbers texts) k (0, []) x within) in
       ap (text_of (only numbers texts)) (sym is) ∙ at ∙ ap (text_of texts) is
 
-  -- so it is a book
+  -- some messages of a book are a book
   pub IsBook-only : IsBook (only numbers texts)
   IsBook-only = record {
     rising = rising-only;

@@ -39,7 +39,7 @@ module _ {X : Type 0} (r : MachineRules X) (lawful : IsLawful r) (q : X) (endles
 idle_restarts : {X : Type 0} (f : Figure X) (y : Owing X) → Restarts f (quiet f.idle) y ↔ (y ≡ quiet f.idle)
 idle_restarts f y = (λ h. elim h [ inl same ↦ same.1 | inr other ↦ absurd (other.0 refl) ], λ is. inl (refl, is))
 
--- and from the ended one
+-- a restart leaves the ended state as it is
 ended_restarts : {X : Type 0} (f : Figure X) → (f.ended ≡ f.idle) ⊎ ¬ (f.ended ≡ f.idle) → (y : Owing X) → Restarts f (quiet f.ended) y ↔ (y ≡ quiet f.ended)
 ended_restarts f decided y = (
   λ h. elim h [ inl same ↦ same.1 ∙ ap quiet (sym same.0) | inr other ↦ other.1 ],
@@ -123,7 +123,7 @@ module _ (p : Times) (machine : MachineKind) (texts : Texts) (x : StateOf machin
   pub waits_still : (h n : ℕ) → h ≤ n → (y : PhaseOf machine) → Wait r Alone h n y ↔ (y ≡ q)
   waits_still h n low y = wait_still r (lawful_of machine p) q still.endless still.stays Alone (λ z. Contains-single q z) h n low y
 
-  -- and a restart leaves it
+  -- a restart leaves a set that stands in idle alone
   pub restart_still : (h : ℕ) (e : MachineEvent) → e.action ≡ Restart → h ≤ e.moment
       → StandFor (meaning_of machine).names (meaning_of machine).in_range (meaning_of machine).seen texts (RunGives r (Wait r Alone h e.moment) e) (x ∷ [])
   restart_still h e is low = record {

@@ -253,7 +253,7 @@ module _ (p : Times) (one : MachineEvent) where
   awaits_opens y (inr (inr (stays, same))) is = absurd stays
   awaits_opens y (inr (inl (left, pays, to))) is = absurd (no_invite (sym is ∙ pays_ack invite.Idle one.kind one pays.first.message pays.holds.0))
 
-  -- and again
+  -- an INVITE that is sent again has the bytes of the first one, and comes T1 after it or later
   again : (x : invite.InviteClientPhase) (e : MachineEvent) (y : Row invite.InviteClientPhase) → invite.Sends p x (Request Invite) e y → Awaits x → (e.text ≡ one.text) × (one.reliable ≡ false) × (open_at p one.moment p.t1 ≤ e.moment)
   again invite.Idle e y h holds = absurd holds
   again (invite.Calling w) e y h holds = (h.0.same ∙ holds.0, sym holds.1 ∙ h.0.unreliable, omega (arith, h.0.fires, holds.2, holds.3))

@@ -56,7 +56,7 @@ module _ {X : Type 0} (f : Figure X) (p : Times) (asleep : IsAsleep f p) where
   stays_or_asked e y Restart is (inl (idle, same)) = inl same
   stays_or_asked e y Restart is (inr (other, ends)) = absurd (other refl)
 
-  -- and so do several
+  -- several steps stay in idle, or take a request
   goes_stay_or_asked : (h : ℕ) (steps : List Step) (y : Owing X) (m : ℕ) → Goes (rules_of_figure f p) (quiet f.idle) h steps y m → (y ≡ quiet f.idle) ⊎ Any IsAsked (taken steps)
   goes_stay_or_asked h [] y m goes = inl goes.0
   goes_stay_or_asked h (Hides t ∷ steps) y m (z, low, hides, goes) = absurd (IsOpenAt-none t _ asleep.no_end hides.opened)
@@ -71,7 +71,7 @@ module _ {X : Type 0} (f : Figure X) (p : Times) (asleep : IsAsleep f p) where
       by_step (inl same) rest = later (rest same)
       by_step (inr asked) rest = inr (0, e, omega arith, refl, asked)
 
-  -- so what it sends comes after one
+  -- what the machine sends comes after a request
   sends_when_asked : (events : List MachineEvent) (e : MachineEvent) (y : Owing X) → AfterRun (rules_of_figure f p) events e y → e.action ≡ Sent → Any IsAsked events
   sends_when_asked events e y after sent =
       let r = rules_of_figure f p in

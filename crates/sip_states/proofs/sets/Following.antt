@@ -43,7 +43,7 @@ module _ {X S : Type 0} (names : S → List ℕ) (InRange : S → Type 0) (seen 
         hides = record { opened = rw (follows.window_is texts x) can.is.opened; waited = (seen_waits can.at x).1 can.is.waited; gives = refl };
       }
 
-  -- and the other way round
+  -- where what the states stand for can end, one of the states can
   pub ends_seen : (xs : List S) (h m : ℕ) (y : X) → EndsFrom r (Contains (map (seen texts) xs)) h m y → SomeCanEnd window until h m xs
   ends_seen xs h m y e =
       let (x, (k, low, is), same) = Contains-from_map (seen texts) xs e.start e.among in (
@@ -108,7 +108,7 @@ module _ {X S : Type 0} (names : S → List ℕ) (InRange : S → Type 0) (seen 
               rw (is_ended, follows.ended_is texts) (Wait-end r follows.lawful (Contains (map (seen texts) xs)) h m r.ended (seen_ends xs h m some))
         ]
 
-    -- and each of those is what a state stands for to which it waits
+    -- each state in which one can stand after waiting is what a state stands for to which the code waits
     waited_seen : (ys : List S) → Advances InRange window until ended h m xs ys → (y : X) → Wait r (Contains (map (seen texts) xs)) h m y → Contains (map (seen texts) ys) y
     waited_seen ys a y wait =
         elim ((Wait-cases r follows.lawful (Contains (map (seen texts) xs)) h m y).0 wait) [

@@ -39,7 +39,7 @@ module _ {X : Type 0} (r : MachineRules X) where
   Wait-stay S h m y stays =
       record { start = y; begins = stays.among; ends = []; stands = record { last = h; goes = (refl, refl); reached = stays.reached; waits = stays.waits } }
 
-  -- the same from a wait's start on, from states of which the same holds
+  -- waits from the same states lead to the same states
   pub Wait-iff : (S T : X → Type 0) → ((x : X) → S x ↔ T x) → (h m : ℕ) (y : X) → Wait r S h m y ↔ Wait r T h m y
   Wait-iff S T same h m y = (
     λ w. record { start = w.start; begins = (same w.start).0 w.begins; ends = w.ends; stands = w.stands },

@@ -52,7 +52,7 @@ module _ (old new : Texts) (number : ℕ) (bytes : List ℕ) where
   grown_keeps (inl same) n keeps = subst (λ texts. Keeps texts n) (sym same) keeps
   grown_keeps (inr more) n keeps = subst (λ texts. Keeps texts n) (sym more) (Keeps-grow old number bytes n keeps)
 
-  -- and the sets' messages with it
+  -- a book that has grown knows the messages of the sets
   grown_known : IsGrown old number bytes new → (set : AnySet) → IsKnownSet old set → IsKnownSet new set
   grown_known grown set known =
       let o = some_machine set in
@@ -93,7 +93,7 @@ module _ (old new : Texts) (number : ℕ) (bytes : List ℕ) where
           },
         )
 
-    -- so do all
+    -- sets are ready beside a book that has grown
     grown_ready : IsGrown old number bytes new → (ts : List (KeyParts × AnySet)) → All (IsReady (key_machines p) (key_keeping old p) es) ts → All (IsReady (key_machines p) (key_keeping new p) es) ts
     grown_ready (inl same) ts ready = subst (λ texts. All (IsReady (key_machines p) (key_keeping texts p) es) ts) (sym same) ready
     grown_ready (inr more) ts ready =

@@ -33,20 +33,20 @@ module _ {K : Type 0} where
       let later : e.event.moment ≤ newest e.event.moment front = newest-from e.event.moment front more (AllPairs-head IsNotAfter e (front ++ more) order) (AllPairs-tail IsNotAfter e (front ++ more) order) in
       omega arith
 
-  -- nor is it before any of them
+  -- no entry is after the newest one
   pub newest-to : (last : ℕ) (front more : List (Observation K)) → AllPairs IsNotAfter (front ++ more) → All (IsTo (newest last front)) front
   newest-to last [] more order = All-nil (IsTo last)
   newest-to last (e ∷ front) more order =
       let rest = AllPairs-tail IsNotAfter e (front ++ more) order in
       All-cons (IsTo (newest e.event.moment front)) e front (newest-from e.event.moment front more (AllPairs-head IsNotAfter e (front ++ more) order) rest) (newest-to e.event.moment front more rest)
 
-  -- nor after any of the others
+  -- the newest moment is not after any later entry
   pub newest-before : (last : ℕ) (front more : List (Observation K)) → All (IsFrom last) (front ++ more) → AllPairs IsNotAfter (front ++ more) → All (IsFrom (newest last front)) more
   newest-before last [] more from order = from
   newest-before last (e ∷ front) more from order =
       newest-before e.event.moment front more (AllPairs-head IsNotAfter e (front ++ more) order) (AllPairs-tail IsNotAfter e (front ++ more) order)
 
-  -- and more entries have no earlier one
+  -- the newest moment of more entries is no earlier
   newest-more : (last : ℕ) (front more : List (Observation K)) → All (IsFrom last) (front ++ more) → AllPairs IsNotAfter (front ++ more) → newest last front ≤ newest last (front ++ more)
   newest-more last [] [] from order = omega arith
   newest-more last [] (e ∷ more) from order =

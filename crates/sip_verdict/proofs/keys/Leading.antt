@@ -15,7 +15,7 @@ use Rattle.sip_states.proofs.sets.Waiting.{Wait-iff, Gives-iff, Wait-stay}
 pub iff_trans : {A B C : Type 0} → A ↔ B → B ↔ C → A ↔ C
 iff_trans e f = (λ a. f.0 (e.0 a), λ c. e.1 (f.1 c))
 
--- and the other way round
+-- two facts that hold alike hold alike the other way round
 pub iff_sym : {A B : Type 0} → A ↔ B → B ↔ A
 iff_sym e = (e.1, e.0)
 
@@ -65,7 +65,7 @@ module _ {X S : Type 0} (names : S → List ℕ) (seen : Texts → S → X) wher
         runs = λ n x late low. subst (λ xs. Wait r (Contains xs) moment n x ↔ RuledRun r events n x) (map-seen names seen by_names a b states agree) (leads.runs n x late low);
       }
 
-  -- and so when the book grows
+  -- a set leads to the same when the book grows
   pub Leads-grow : ((a b : Texts) (x : S) → ((n : ℕ) → Contains (names x) n → text_of a n ≡ text_of b n) → seen a x ≡ seen b x) →
       (texts : Texts) (number : ℕ) (bytes : List ℕ) (r : MachineRules X) (events : List MachineEvent) (from moment : ℕ) (states : List S) →
       Leads names seen texts r events from moment states → Leads names seen (texts ++ (number, bytes) ∷ []) r events from moment states

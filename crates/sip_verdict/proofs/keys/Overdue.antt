@@ -36,7 +36,7 @@ module _ (texts : Texts) (p : Times) (machine : MachineKind) (events : List Mach
   not_later : leads.0.moment ≤ moment
   not_later = subst (λ m. m ≤ moment) (ap moment_of leads.1 ∙ moment_is machine leads.0) low
 
-  -- so there is a run over the events that stands then just where that is within it
+  -- a run over the events stands at the moment exactly if the moment is within the limit
   runs_within : RunsUntil (key_rules p machine) events moment ↔ IsWithin moment limit
   runs_within =
       subst (λ r. RunsUntil r events moment ↔ IsWithin moment limit) (rules_are p machine) (
@@ -52,7 +52,7 @@ module _ (texts : Texts) (p : Times) (machine : MachineKind) (events : List Mach
       go None past within = false≢true past
       go (Some last) past within = omega (arith, ltb-true last moment past, within)
 
-  -- and one does up to it
+  -- a run stands at any moment up to the last one on record
   pub in_time_some : is_overdue moment (Some limit) ≡ false → RunsUntil (key_rules p machine) events moment
   in_time_some in_time = runs_within.1 (go limit in_time)
     where

@@ -34,7 +34,7 @@ module _ (texts : Texts) (p : Times) (machine : MachineKind) (events : List Mach
   abbrev r : MachineRules (PhaseOf machine)
   r = (meaning_of machine).rules p
 
-  -- the same set at the moment of the restart
+  -- the set as it is at the moment of the restart
   abbrev new : Held Times (StateOf machine)
   new = record { machine = held.machine; moment = e.moment; states = held.states }
 

@@ -56,11 +56,11 @@ ways_ascii : (i : Item) (keys : List KeyParts) (e : Observation KeyParts) (way :
 ways_ascii i keys e None ascii is = subst (All (λ k. IsAscii k.method)) (sym (ap (λ x. x.keys) is)) (silent_ascii i.action i.moment keys ascii)
 ways_ascii i keys e (Some d) ascii observes = message_ascii i e d observes
 
--- so have those of an entry after others whose keys have
+-- the keys of an entry have methods in ASCII
 entry_ascii : (before : List (Observation KeyParts)) (i : Item) (e : Observation KeyParts) → All (λ k. IsAscii k.method) (keys_in before) → message_reading.Observes before i e → All (λ k. IsAscii k.method) e.keys
 entry_ascii before i e ascii observes = ways_ascii i (keys_in before) e (direction_of i.action) ascii observes
 
--- and the keys of entries, one after another
+-- the keys of some entries and of others have methods in ASCII
 more_ascii : (keys more : List KeyParts) → All (λ k. IsAscii k.method) keys → All (λ k. IsAscii k.method) more → All (λ k. IsAscii k.method) (fold (with_key same_key) keys more)
 more_ascii keys [] old new = old
 more_ascii keys (k ∷ more) old new = more_ascii (with_key same_key keys k) more (one (list_any (same_key k) keys)) (All-tail (λ x. IsAscii x.method) k more new)

@@ -87,7 +87,7 @@ listed_before start entry count (FaultOfLog at reason) low is next =
     IfSome-map start (λ input. IsVerdictOf input (FaultOfLog at reason)) (λ input. IsListingOf input entry (Stopped (FaultOfLog at reason))) (λ input verdict. (verdict, omega (arith, next, low))) is
 
 module _ (start : Option (List ℕ)) (now : log.ReaderState) (texts : Texts) (t : Tabled) (walks : Walks start now texts t) where
-  -- so many entries were judged
+  -- the count is that of the entries that were judged
   judged_count : now.count ≡ length walks.judged.es
   judged_count = read_count start t.times walks.judged.items now walks.judged.read ∙ walks.judged.long
 

@@ -83,7 +83,7 @@ module _ (chosen : List ℕ → Bool) where
       by Mark is seen = none_stays item e (ap (λ f. f.keys) seen)
       by Restart is seen = (item, inl (refl, inl is))
 
-  -- so there is a log of the chosen branches
+  -- there is a log of the chosen branches
   pub branch_cut : (done : List (Observation KeyParts)) (items : List Item) (es : List (Observation KeyParts)) → AreObserved message_reading done items es → (cuts : List Item) × IsCutLog (λ key. chosen key.branch) items es cuts
   branch_cut done [] [] seen = ([], tt)
   branch_cut done [] (e ∷ es) seen = absurd seen

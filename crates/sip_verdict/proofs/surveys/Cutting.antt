@@ -199,7 +199,7 @@ module _ (chosen : KeyParts → Bool) where
       split_same (f ∷ front) (d ∷ back) e c rest others zip long =
           let found = split_same front back e c rest others zip.1 (omega (arith, long)) in ((zip.0, found.0), found.1)
 
-      -- the same trouble at an entry and at that which stands for it
+      -- a key has the same trouble at an entry and at the one that stands for it in the cut log
       pub trouble_cut : (front back : List (Observation KeyParts)) (e c : Observation KeyParts) → AllZip (IsCutOf chosen) front back → IsCutOf chosen e c
           → (Breaks p front e key ↔ Breaks p back c key) × (Widens p front e key ↔ Widens p back c key)
       trouble_cut front back e c zip here =

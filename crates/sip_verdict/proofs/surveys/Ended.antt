@@ -57,7 +57,7 @@ split_at [] i x at = absurd cc
 split_at (u ∷ xs) zero x at = ([], xs, (let same : u ≡ x = cc in ap (λ y. y ∷ xs) same), refl)
 split_at (u ∷ xs) (suc i) x at = let (before, rest, is, long) = split_at xs i x at in (u ∷ before, rest, ap (λ ys. u ∷ ys) is, ap suc long)
 
--- and an element in the middle stands there
+-- an element in the middle of a list stands at the place after those before it
 at_split : {A : Type 0} (before : List A) (x : A) (rest : List A) → slice_get (before ++ x ∷ rest) (length before) ≡ Some x
 at_split [] x rest = refl
 at_split (u ∷ before) x rest = at_split before x rest

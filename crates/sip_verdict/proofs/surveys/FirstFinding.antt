@@ -72,7 +72,7 @@ module _ (p : Times) (es : List (Observation KeyParts)) (e : Observation KeyPart
   before_breach formed k t first (Breach m u) h low =
       let least = first_least (λ key. ¬ (RunsOver p (es ++ e ∷ []) key)) (Breaks p es e) keys t u first ((at.1 (Breach m u)).0 h).1 (λ key breaks. breaks.1) in omega (arith, least, low)
 
-  -- nor before the first key that is too wide, where each has a run
+  -- nothing comes before the first key that is too wide, where each key has a run
   before_wide : e.fault ≡ None → All (RunsOver p (es ++ e ∷ [])) keys → (k t : ℕ) → IsFirstKey (IsWideAt p es e) keys t → (g : Finding) → Contains here g → Precedes g (Undecided k t) → ⊥
   before_wide formed runs k t first (Malformed m a) h low = formed_none m a formed h
   before_wide formed runs k t first (Breach m u) h low = whole_none runs m u h

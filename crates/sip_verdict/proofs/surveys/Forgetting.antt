@@ -57,7 +57,7 @@ module _ (p : Times) (key : KeyParts) (old : List (Observation KeyParts)) (again
   last_late front e rest order =
       All-middle (λ f. newest_moment old ≤ f.event.moment) front rest e (newest-before 0 old (front ++ e ∷ rest) (λ i d within. omega arith) order)
 
-  -- so many of the later entries are in order too
+  -- the front of later entries in order is in order too
   order_front : (more rest : List (Observation KeyParts)) → order_of (more ++ rest) → order_of more
   order_front more rest order = ordered_front (λ a b. a.event.moment ≤ b.event.moment) (old ++ more) rest (subst (AllPairs (λ a b. a.event.moment ≤ b.event.moment)) (sym (append_assoc old more rest)) order)
 
@@ -127,7 +127,7 @@ module _ (p : Times) (key : KeyParts) (old : List (Observation KeyParts)) (again
                 subst (λ xs. RunsOver p xs key) (sym (ap (λ xs. old ++ xs) is ∙ sym (append_assoc old front (e ∷ []))))
                 ((runs_new front e (subst order_of is order)).1 (subst (λ xs. RunsOver p xs key) is runs))
 
-    -- so what is found of it at a later entry is what is found of a new one
+    -- what is found at a later entry of a transaction that was idle again is what is found of a new one
     pub found_new : (front : List (Observation KeyParts)) (e : Observation KeyParts) → order_of (front ++ e ∷ []) → (Breaks p (old ++ front) e key ↔ Breaks p front e key) × (Widens p (old ++ front) e key ↔ Widens p front e key)
     found_new front e order =
         let so_far = sound_new front (order_front front (e ∷ []) order) in

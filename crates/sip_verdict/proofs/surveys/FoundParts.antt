@@ -104,6 +104,6 @@ module _ (p : Times) (es : List (Observation KeyParts)) (e : Observation KeyPart
       (Contains-append_right (fault_found n e.fault) others (Undecided n t)
       (Contains-append_right (map (λ u. Breach n u) broken) (map (λ u. Undecided n u) wide) (Undecided n t) (Contains-map (λ u. Undecided n u) wide t ((widens.1 t).1 h.1))))
 
-  -- so just these are found
+  -- just what is listed is found at the entry
   pub listed_found : AreFoundAt p es e (listed n e.fault broken wide)
   listed_found = (in_order e.fault, λ f. (λ h. into f (Contains-append_cases (fault_found n e.fault) others f h), from f))

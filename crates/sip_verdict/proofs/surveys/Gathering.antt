@@ -46,7 +46,7 @@ taken_whole [] (x ∷ takens) are = absurd are
 taken_whole (i ∷ items) [] are = absurd are
 taken_whole (i ∷ items) (x ∷ takens) (same, are) = let rest = taken_whole items takens are in cc
 
--- and else as the log of the part
+-- a log that is surveyed for a part is the log of the part
 taken_part : (part : PartOf) (items takens : List Item) → AreTaken (Some part) items takens → IsPartLog part items takens
 taken_part part [] [] are = tt
 taken_part part [] (x ∷ takens) are = absurd are
@@ -100,7 +100,7 @@ module _ (part : Option PartOf) (start : Option (List ℕ)) (now : log.ReaderSta
             (subst (λ fs. IsSurveyAfter p [] ((read.taken ++ item cut ∷ []) ++ rest) close fs end) (sym (append_assoc found here later)) by_items);
       }
 
-  -- and put after what was found before
+  -- what is found at the next entry is put after what was found before
   pub gathered_on : (e cut : Entry) (new : log.ReaderState) → HasRead start s.tables.times (read.items ++ item e ∷ []) new → IsTaken part (item e) (item cut) → (k : Surveying) → k.tables.times ≡ s.tables.times
       → (items : List Finding)
       → ((es : List (Observation KeyParts)) → SurveysFor s es → (seen : Observation KeyParts) × (here : List Finding) × message_reading.Observes es (item cut) seen

@@ -126,7 +126,7 @@ module _ (texts : Texts) (p : Times) (es : List (Observation KeyParts)) (e : Obs
         by false is = is
         by true is = absurd (true≢false (sym past ∙ ap (is_overdue moment) (same_at t.records (number - 1) _ (Some None) there (watched.silent (number - 1) is))))
 
-    -- and has no run any more
+    -- the transaction has no run any more
     breaks : (key : KeyParts) → slice_get t.keys (number - 1) ≡ Some key → Breaks p es e key
     breaks key at =
         let (s, here) = at_place t.sets (number - 1) (let low = in_records in let long = may.long in let as_long = watched.recorded.long in omega arith) in

@@ -68,7 +68,7 @@ first_more : (es : Entries) (e : Observation KeyParts) (key : KeyParts) (n : ℕ
 first_more es e key n branch (before, o, after, whole, is, none, counts, says) =
     (before, o, after ++ e ∷ [], ap (λ xs. xs ++ e ∷ []) whole ∙ append_assoc before (o ∷ after) (e ∷ []), is, none, counts, says)
 
--- and what the last one is, if the entry does not concern the transaction
+-- an entry that does not concern the transaction leaves its last entry as it was
 last_more : (es : Entries) (e : Observation KeyParts) (key : KeyParts) (n : ℕ) → is_of key e ≡ false → IsLastOf es key n → IsLastOf (es ++ e ∷ []) key n
 last_more es e key n other (before, o, after, whole, is, none, counts) =
     (before, o, after ++ e ∷ [], ap (λ xs. xs ++ e ∷ []) whole ∙ append_assoc before (o ∷ after) (e ∷ []), is, All-push (λ x. is_of key x ≡ false) after e none other, counts)
@@ -178,7 +178,7 @@ module _ (entry : ℕ) (text : List ℕ) where
   long_note n old new (inl h) = (let long = ap length h.is ∙ length-set old (n - 1) h.after in omega arith)
   long_note n old new (inr h) = (let long = ap length h.is ∙ length-append old (h.begun ∷ []) in omega arith)
 
-  -- and several leave
+  -- notes of several transactions leave as many histories as there are keys
   pub notes_long : (ks : List KeyParts) (ns : List ℕ) (t u : Tabled) (old new : List History) → TouchesEach ks ns t u → length old ≡ length t.keys → NotesEach entry text ns old new → length new ≡ length u.keys
   notes_long [] [] t u old new same long is = ap length is ∙ long ∙ ap (λ x. length x.keys) (sym same)
   notes_long [] (n ∷ ns) t u old new touched long notes = absurd touched

@@ -22,7 +22,7 @@ pub surveyed_kept : (texts mid : Texts) (t u : Tabled) (deaf now : List Bool) (l
 surveyed_kept texts mid t u deaf now left es e times h few tracks =
     record { tracks = tracks; named = subst (λ p. WereStillNamed p (es ++ e ∷ []) left) (sym times) (named_more t.times es e left h.named); few = few }
 
--- or those that are named are left by a sweep
+-- a sweep leaves the messages that transactions in no trouble name
 pub surveyed_swept : (new : Texts) (u v : Tabled) (now : List Bool) (left : ℕ) (es : List (Observation KeyParts)) → v.times ≡ u.times → left ≡ length new
     → TablesSurvey new es v now × AreMany (IsStillNamed u.times es) (length new) → AreSurveyed new v now left es
 surveyed_swept new u v now left es times is (tracks, many) = record {

@@ -39,7 +39,7 @@ module _ {X : Type 0} (f : Figure X) (is : IsFigure f) (p : Times) where
   first_lasts : (m : ℕ) → Lasts f p (quiet f.idle) m
   first_lasts m = waits_lasts (quiet f.idle) m (IsWithin-none m _ (rules_lawful f is p).first_stays)
 
-  -- and does not end
+  -- the first state does not end
   first_stays : (m : ℕ) → ¬ (MayEnd f p (quiet f.idle) m)
   first_stays m may = subst (λ window. IsSomeAnd window (λ w. w.0 ≤ m)) (is.idle_has_no_end p) may.0
 
@@ -65,6 +65,6 @@ what_stands_lasts kind p = stands_lasts (transaction_of kind).figure (coded_hold
 pub idle_lasts : (kind : MachineKind) (p : Times) (m : ℕ) → Lasts (transaction_of kind).figure p (quiet (transaction_of kind).figure.idle) m
 idle_lasts kind p = first_lasts (transaction_of kind).figure (coded_holds kind).is_figure p
 
--- and does not end
+-- idle does not end
 pub idle_stays : (kind : MachineKind) (p : Times) (m : ℕ) → ¬ (MayEnd (transaction_of kind).figure p (quiet (transaction_of kind).figure.idle) m)
 idle_stays kind p = first_stays (transaction_of kind).figure (coded_holds kind).is_figure p

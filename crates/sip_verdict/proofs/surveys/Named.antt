@@ -54,7 +54,7 @@ found_at p done (item ∷ items) close (g ∷ es) found end (sees, seen) (h, her
     (found_at p (done ++ g ∷ []) items close es later end seen (subst (λ x. IsSurveyAfter p (done ++ x ∷ []) items close later end) known rest) front e more others f
     (subst (λ xs. IsFoundAt p xs e f) (sym (append_assoc done (g ∷ []) front)) (subst (λ x. IsFoundAt p (done ++ x ∷ front) e f) (sym first) at))))
 
--- and what is in the survey is found at an entry of the log
+-- what the survey has is found at an entry of the log
 pub found_is : (p : Times) (done : List (Observation KeyParts)) (items : List Item) (close : LogEnd) (es : List (Observation KeyParts)) (found : List Finding) (end : SurveyEnd) → AreObserved message_reading done items es →
     IsSurveyAfter p done items close found end → (f : Finding) → Contains found f → (front : List (Observation KeyParts)) × (e : Observation KeyParts) × (more : List (Observation KeyParts)) × (es ≡ front ++ e ∷ more)
     × IsFoundAt p (done ++ front) e f

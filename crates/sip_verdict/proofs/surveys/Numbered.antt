@@ -59,7 +59,7 @@ module _ (texts : Texts) (event : NumberedEvent) where
   pub hears_one : (number : ℕ) (t : Tabled) (b : Troubled) (u : Tabled) (c : Troubled) → HearsFirst number t b u c → HearsNumbers texts event (number ∷ []) t b u c
   hears_one number t b u c heard p es e times late apart concerned h = heard p es e [] times late refl concerned h
 
-  -- and two
+  -- two transactions hear the event, one after the other
   pub hears_two : (own cancelled : ℕ) (t : Tabled) (b : Troubled) (u : Tabled) (c : Troubled) (v : Tabled) (d : Troubled) → u.times ≡ t.times → u.keys ≡ t.keys
       → HearsFirst own t b u c → HearsFirst cancelled u c v d → HearsNumbers texts event (own ∷ cancelled ∷ []) t b v d
   hears_two own cancelled t b u c v d same_times same_keys first second p es e times late apart concerned h =

@@ -118,7 +118,7 @@ module _ (p : Times) (es : List (Observation KeyParts)) (order : AllPairs (λ a 
   alike front e (Breach n u) (Undecided k v) is so found other = absurd (not_both front e u v (is ∙ sym so) found.1 other.1)
   alike front e (Undecided n u) (Breach k v) is so found other = absurd (not_both front e v u (so ∙ sym is) other.1 found.1)
 
-  -- so there is one finding of it
+  -- there is one finding of a transaction
   pub one_of : (f g : Finding) → IsOf t f → IsOf t g
       → ((front : List (Observation KeyParts)) × (e : Observation KeyParts) × (more : List (Observation KeyParts)) × (es ≡ front ++ e ∷ more) × IsFoundAt p front e f)
       → ((front : List (Observation KeyParts)) × (e : Observation KeyParts) × (more : List (Observation KeyParts)) × (es ≡ front ++ e ∷ more) × IsFoundAt p front e g) → f ≡ g

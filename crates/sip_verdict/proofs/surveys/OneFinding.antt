@@ -30,7 +30,7 @@ stays_in_trouble p key front e more order (inl breaks) sound =
     breaks.1 (sound_fewer p key (front ++ e ∷ []) more (subst (AllPairs (λ a b. a.event.moment ≤ b.event.moment)) one order) (subst (λ es. IsSound p es key) one sound)).0
 stays_in_trouble p key front e more order (inr widens) sound = sound.1 front e more refl widens.1
 
--- so it has no second finding
+-- a transaction has no second finding
 pub one_finding : (p : Times) (key : KeyParts) (front : List (Observation KeyParts)) (e : Observation KeyParts) (more : List (Observation KeyParts)) (last : Observation KeyParts)
     → AllPairs (λ a b. a.event.moment ≤ b.event.moment) (front ++ e ∷ more) → Breaks p front e key ⊎ Widens p front e key
     → ¬ (Breaks p (front ++ e ∷ more) last key ⊎ Widens p (front ++ e ∷ more) last key)
@@ -48,7 +48,7 @@ no_finding p key done [] es is sound none = λ never. sound (λ s. never (subst 
 no_finding p key done (e ∷ rest) es is sound none =
     no_finding p key (done ++ e ∷ []) rest es (is ∙ sym (append_assoc done (e ∷ []) rest)) (λ unsound. sound (λ s. trouble_breaks p key done e s unsound (none done e rest is))) none
 
--- so one that is in trouble has a finding
+-- a transaction that is in trouble has a finding
 pub some_finding : (p : Times) (key : KeyParts) (es : List (Observation KeyParts)) → ¬ (IsSound p es key)
     → ¬ ((front : List (Observation KeyParts)) (e : Observation KeyParts) (more : List (Observation KeyParts)) → es ≡ front ++ e ∷ more → ¬ (Breaks p front e key ⊎ Widens p front e key))
 some_finding p key es unsound none = no_finding p key [] es es refl (λ never. never (sound_nil p key)) none unsound

@@ -32,7 +32,7 @@ after_one p es (item ∷ items) close fs gs end fin (e, here, later, sees, is, a
 pub says_one : (input : List ℕ) (p q : Times) (xs ys : List Item) (a b : LogEnd) → LogSays input p xs a → LogSays input q ys b → (p ≡ q) × (xs ≡ ys) × (a ≡ b)
 says_one input p q xs ys a b one other = one_log input p q xs ys a b one other
 
--- so what is true of the one is true of the other
+-- what is true of the one log of an input is true of the other
 pub says_same : (P : Times → List Item → LogEnd → Type 0) (input : List ℕ) (p q : Times) (xs ys : List Item) (a b : LogEnd) → LogSays input p xs a → LogSays input q ys b → P q ys b → P p xs a
 says_same P input p q xs ys a b one other holds =
     let same = says_one input p q xs ys a b one other in

@@ -68,7 +68,7 @@ module _ (part : PartOf) where
       by Mark is seen same = inl (same, inr (subst (All (λ key. Chosen key ≡ true)) (sym (ap (λ f. f.keys) seen)) (All-nil (λ key. Chosen key ≡ true))))
       by Restart is seen same = inl (same, inl is)
 
-  -- so the log of the part is cut from the whole by these keys
+  -- the log of a part is cut from the whole by the keys whose branches fall into it
   pub part_cut : (done : List (Observation KeyParts)) (items cuts : List Item) (es : List (Observation KeyParts)) → AreObserved message_reading done items es → IsPartLog part items cuts → IsCutLog Chosen items es cuts
   part_cut done [] [] [] seen are = tt
   part_cut done [] [] (e ∷ es) seen are = absurd seen

@@ -56,7 +56,7 @@ module _ (p : Times) (kind : ℕ → ℕ → Finding) (P : List (Observation Key
       subst (λ fs. HoldsOf (P fs e) (keys_in (fs ++ e ∷ [])) t) (sym same.0) (subst (λ d. HoldsOf (P back d) (keys_in (back ++ d ∷ [])) t) (sym same.1) both.1) in
       (front, e, more, is, entry, subst (P front e) named (same_place (P front e) (keys_in (front ++ e ∷ [])) before k rest t are mine number))
 
-  -- and where it does, the survey says so
+  -- where a key has trouble, the survey names it
   holds_named : (items : List Item) (close : LogEnd) (es : List (Observation KeyParts)) (found : List Finding) (end : SurveyEnd) → AreObserved message_reading [] items es → IsSurveyAfter p [] items close found end →
       (key : KeyParts) (n : ℕ) → Holds es key n → Names kind keys_in es found key n
   holds_named items close es found end seen survey key n (front, e, more, is, entry, holds) =
@@ -93,7 +93,7 @@ module _ (p : Times) (kind : ℕ → ℕ → Finding) (P : List (Observation Key
           (back, c, rest, t, split, entry ∙ ap (λ n. n + 1) (zip_long (IsCutOf chosen) front back zipped), subst (λ ks. HoldsOf (λ k. k ≡ key) ks t) (sym keys) named, has),
     )
 
-    -- so both surveys say it
+    -- both surveys name the key at the same entry
     named_cut : (items cuts : List Item) (es cs : List (Observation KeyParts)) (close shut : LogEnd) (found part : List Finding) (end fin : SurveyEnd) → AreObserved message_reading [] items es → AreObserved message_reading [] cuts cs
         → AllZip (IsCutOf chosen) es cs → IsSurveyAfter p [] items close found end → IsSurveyAfter p [] cuts shut part fin → (n : ℕ) → Names kind keys_in es found key n ↔ Names kind (chosen_in chosen) es part key n
     named_cut items cuts es cs close shut found part end fin seen saw zip whole some n =

@@ -80,7 +80,7 @@ module _ (kept : KeyParts → Bool) where
         go false e false same rest =
             ap (λ b. filter (same_key key) (cond b (k ∷ filter kept keys) (filter kept keys))) e ∙ rest ∙ ap (λ b. cond b (k ∷ filter (same_key key) keys) (filter (same_key key) keys)) (sym same)
 
-    -- so both are cut to the same entries of this key
+    -- the remembered entries and those of the key alone are cut to the same entries of this key
     zip_left : (es : List (Observation KeyParts)) → AllZip (IsCutOf (same_key key)) (remembered kept es) (remembered (same_key key) es)
     zip_left [] = tt
     zip_left (e ∷ es) = ((refl, sym (same_left e.keys), λ some. refl), zip_left es)
@@ -125,7 +125,7 @@ module _ (kept : KeyParts → Bool) where
         ap (λ b. map (λ f. f.event) (cond b (e ∷ filter (λ f. list_any (same_key key) f.keys) es) (filter (λ f. list_any (same_key key) f.keys) es))) (All-head (λ f. list_any (same_key key) f.keys ≡ false) e es all)
         ∙ no_events es (All-tail (λ f. list_any (same_key key) f.keys ≡ false) e es all)
 
-    -- so it is in no trouble
+    -- the key is in no trouble over what is remembered
     pub sound_forgotten : (p : Times) (es : List (Observation KeyParts)) → IsSound p (remembered kept es) key
     sound_forgotten p es =
         let none = none_concerns es in (
@@ -134,7 +134,7 @@ module _ (kept : KeyParts → Bool) where
               false≢true (sym (All-middle (λ f. list_any (same_key key) f.keys ≡ false) front rest e (subst (All (λ f. list_any (same_key key) f.keys ≡ false)) is none)) ∙ wide.0),
         )
 
-    -- and idle
+    -- the key is idle again over what is remembered
     pub idle_forgotten : (p : Times) (es : List (Observation KeyParts)) → IsIdleAgain (machine_of_key p.rules key) p (events_for key (remembered kept es)) (newest_moment (remembered kept es))
     idle_forgotten p es =
         let kind = machine_of_key p.rules key in

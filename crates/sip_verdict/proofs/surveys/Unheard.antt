@@ -18,7 +18,7 @@ concerned_events key front e rest concerned none =
     let size : length (events_for key (front ++ e ∷ rest)) ≡ length (filter P front) + length (e ∷ filter P rest) = length-map (filter P (front ++ e ∷ rest)) (λ f. f.event) ∙ ap length split ∙ length-append (filter P front) (e ∷ filter P rest) in
     omega (arith, size, ap length none)
 
--- so it is too wide at none
+-- a transaction that no entry concerns is too wide at none
 pub unheard_narrow : (p : Times) (es : List (Observation KeyParts)) (key : KeyParts) → events_for key es ≡ []
     → (front : List (Observation KeyParts)) (e : Observation KeyParts) (rest : List (Observation KeyParts)) → es ≡ front ++ e ∷ rest → ¬ (IsWideAt p front e key)
 unheard_narrow p es key none front e rest is wide = concerned_events key front e rest wide.0 (ap (events_for key) (sym is) ∙ none)

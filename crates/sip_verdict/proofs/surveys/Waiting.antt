@@ -105,7 +105,7 @@ module _ (texts : Texts) (p : Times) (es : List (Observation KeyParts)) (e : Obs
   pub event_waits : ArePassing texts p es e (is_among numbers) t b
   event_waits = to_hear texts p es e moment late now t b may none h numbers watched left
 
-  -- and concerns those that do
+  -- the event concerns the keys with these numbers
   pub event_concerns : AreConcerned texts p es e hearing.event numbers t.keys
   event_concerns n key at among = ((told n key at).event, (told n key at).concerned p ∙ hearers.heard (n + 1) among)
 

@@ -26,7 +26,7 @@ set_here [] i a low = absurd (omega arith)
 set_here (x ∷ xs) zero a low = refl
 set_here (x ∷ xs) (suc i) a low = set_here xs i a (omega arith)
 
--- and the others are as they were
+-- the elements at other places are as they were
 set_other : {A : Type 0} (xs : List A) (i n : ℕ) (a x : A) → n ≢ i → slice_get xs n ≡ Some x → slice_get (slice_set xs i a) n ≡ Some x
 set_other [] i n a x differ at = absurd cc
 set_other (u ∷ xs) zero zero a x differ at = absurd (differ refl)
@@ -110,6 +110,6 @@ pub passes_anew : (texts : Texts) (t u : Tabled) (place moment : ℕ) (key : Key
 passes_anew texts t u place moment key q may keys sets =
     passes_with texts t u place moment (start_of q key) may (let at = start_at q key in omega arith) (start_known texts q key) keys sets
 
--- so it is where more are still to hear
+-- what is watched while few are still to hear is watched while more are
 pub watched_more : (few more : List ℕ) (t : Tabled) (b : Troubled) → ((n : ℕ) → is_among few n ≡ true → is_among more n ≡ true) → AreWatched few t b → AreWatched more t b
 watched_more few more t b among h = record { long = h.long; recorded = recorded_more few more t among h.recorded; silent = h.silent }

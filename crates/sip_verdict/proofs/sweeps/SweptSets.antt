@@ -36,7 +36,7 @@ waited_leads names InRange seen texts r lawful events from at moment old new low
       (iff_trans (Wait-twice r lawful (Contains (map (seen texts) old)) at moment n low later x) (leads.runs n x late (omega (arith, low, later))));
 }
 
--- and beside a book that keeps what it names
+-- a set leads to the same beside a book that keeps what it names
 pub kept_leads : {X S : Type 0} (names : S → List ℕ) (seen : Texts → S → X) → ((a b : Texts) (x : S) → ((n : ℕ) → Contains (names x) n → text_of a n ≡ text_of b n) → seen a x ≡ seen b x)
     → (texts : Texts) (numbers : List ℕ) → IsBook texts → AllPairs (λ a b. a < b) numbers → All (Keeps texts) numbers → (r : MachineRules X) (events : List MachineEvent) (from moment : ℕ) (states : List S)
     → ((n : ℕ) → Contains (flat_map names states) n → Contains numbers n) → Leads names seen texts r events from moment states → Leads names seen (only numbers texts) r events from moment states
@@ -130,7 +130,7 @@ window_of machine p a b x = window_same (transaction_of machine).figure (coded_o
 until_of : (machine : MachineKind) (p : Times) (a b : Texts) (x : StateOf machine) → ((meaning_of machine).rules p).until ((meaning_of machine).seen a x) ≡ ((meaning_of machine).rules p).until ((meaning_of machine).seen b x)
 until_of machine p a b x = until_same (transaction_of machine).figure (coded_of machine).seen a b p x ((coded_holds machine).closes_same a b p x.phase)
 
--- so the last moment on record stays that of the set
+-- the last moment on record is still that of the set
 pub swept_agenda : (texts : Texts) → IsBook texts → (moment : ℕ) (old new : AnySet) → moment_of old ≤ moment → IsAdvanced moment old new
     → IsKnownSet texts old → (limit : Option ℕ) → IsAgendaOf limit old → IsAgendaOf limit new
 swept_agenda texts book moment old new low (inr (same, silent)) known limit agenda = subst (IsAgendaOf limit) (sym same) agenda

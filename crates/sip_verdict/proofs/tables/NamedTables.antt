@@ -146,7 +146,7 @@ module _ (texts : Texts) (book : IsBook texts) (p : Times) (moment : ℕ) where
           record { key = key; state = y; stands = subst (λ n. RuledRun (key_rules p (machine_of_key p.rules key)) (events_of (key_machines p) key es) n y) (sym newest) run; names = names },
     )
 
-    -- so there are just as many as messages that are kept
+    -- as many messages are named as are kept
     pub many_named : (numbers : List ℕ) → AllPairs (λ a b. a < b) numbers → ((n : ℕ) → Contains numbers n ↔ Contains (flat_map numbers_of u.sets) n) → All (Keeps texts) numbers
         → AreMany (IsNamed (key_machines p) (key_messages p) es) (length (only numbers texts))
     many_named numbers up same kept = many_texts texts book (IsNamed (key_machines p) (key_messages p) es) (flat_map numbers_of u.sets) tables_named numbers up same kept

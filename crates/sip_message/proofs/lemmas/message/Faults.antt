@@ -82,7 +82,7 @@ read-fields n (line ∷ lines) fields is =
       given more.2,
     )
 
--- and fields are read
+-- lines that are fields are read as them
 pub fields-read : (n : ℕ) (lines : List (List ℕ)) (fields : List Field) → FieldsText lines fields → FieldsOf n lines (gives fields)
 fields-read n [] fields is = ap (λ fs. gives fs) is
 fields-read n (line ∷ lines) fields (f, fs, is, are, whole) =
@@ -150,7 +150,7 @@ read-text bytes m is =
       body_is = fits.1;
     })
 
--- and the bytes of a message are read
+-- the bytes of a message are read as it
 pub text-read : (bytes : List ℕ) (m : Message) → MessageText bytes m → ReadOf bytes (gives m)
 text-read bytes m text =
     let fits = text.fits in

@@ -6,8 +6,8 @@ use Rattle.sip_standard.specs.declared.log_reason.LogReason.TheVariants.{Header}
 use Rattle.sip_verdict.specs.declared.survey_end.SurveyEnd.TheVariants.{LogFault}
 use Rattle.sip_verdict.specs.SurveyOf.{IsSurveyOf}
 use Rattle.sip_verdict.specs.inner.SurveyingLogs.{SurveysRead}
-use Rattle.sip_verdict.proofs.surveys.Gathering.{gathered_header}
-use Rattle.sip_verdict.proofs.surveys.Writing.{surveys_none}
+use Rattle.sip_verdict.proofs.surveys.written.Gathering.{gathered_header}
+use Rattle.sip_verdict.proofs.surveys.written.Writing.{surveys_none}
 use Rattle.sip_verdict.proofs.gathering.survey_bytes.Goals as goal
 
 pub returns-in-Ok-clause-survey : goal.returns-in-Ok-clause-survey

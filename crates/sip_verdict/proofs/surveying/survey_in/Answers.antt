@@ -5,7 +5,7 @@ use Rattle.sip_log.specs.Reading.{ProgressState, beside_source}
 use Rattle.sip_standard.specs.declared.log_reason.LogReason.TheVariants.{Header}
 use Rattle.sip_verdict.specs.declared.survey_end.SurveyEnd.TheVariants.{LogFault}
 use Rattle.sip_verdict.specs.inner.SurveyingLogs.{SurveysRead}
-use Rattle.sip_verdict.proofs.surveys.Writing.{all_told, as_told, still_fine, summed, surveys_header, surveys_none}
+use Rattle.sip_verdict.proofs.surveys.written.Writing.{all_told, as_told, still_fine, summed, surveys_header, surveys_none}
 use Rattle.sip_verdict.proofs.surveying.survey_in.Goals as goal
 
 pub returns-in-Ok-clause-surveyed : goal.returns-in-Ok-clause-surveyed

@@ -4,7 +4,7 @@ use Rattle.std.specs.Option.{option_copied}
 use Rattle.sip_log.specs.Reading.{beside_source}
 use Rattle.sip_verdict.specs.declared.finding.Finding.{Finding}
 use Rattle.sip_verdict.specs.inner.SurveyingLogs.{AreTold, IsSurveyAt, SurveysRead}
-use Rattle.sip_verdict.proofs.surveys.Writing.{ToldSoFar}
+use Rattle.sip_verdict.proofs.surveys.written.Writing.{ToldSoFar}
 use Rattle.sip_verdict.proofs.surveying.write_entries.Given as goal
 
 abbrev pub invariant-loop-found : goal.invariant-loop-found

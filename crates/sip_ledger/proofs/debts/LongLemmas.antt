@@ -1,4 +1,4 @@
--- Debts whose numbers rise.
+-- Debts of one row in the order of their numbers: how they are found, put, paid and dropped.
 use Rattle.std.proofs.Common.{◌≡◌, ℕ, ◌+◌, ◌<◌, ◌≤◌, ◌==◌, ◌&&◌, ◌||◌, Bool, true, false, cond, List, [], ◌∷◌, ◌++◌, length, map, filter, get_or, take, refl, sym, ap, ap₂, ◌∙◌, subst, arith}
 use mathlib.Core.Bool.{true≢false}
 use Rattle.std.specs.Prelude.{All, IsTrue, Option, None, Some, IfNone, is_some, min, nat_le}

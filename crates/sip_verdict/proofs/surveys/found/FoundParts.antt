@@ -1,4 +1,4 @@
--- What is found at an entry, from its parts. For the survey's body: listed, listed_found, precedes_once.
+-- What is found at an entry, from its parts.
 use Rattle.std.proofs.Common.{◌≡◌, ◌<◌, ◌+◌, ◌⊎◌, inl, inr, ℕ, Option, Some, None, List, [], ◌∷◌, ◌++◌, AllPairs, Contains, length, map, refl, sym, ◌∙◌, subst, arith}
 use Rattle.std.proofs.lemmas.List.Elements.{Contains-append_left, Contains-append_right, Contains-append_cases}
 use Rattle.sip_standard.specs.declared.fault.Fault.{Fault}

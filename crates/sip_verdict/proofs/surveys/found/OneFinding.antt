@@ -1,4 +1,4 @@
--- A transaction has one finding, where it is in trouble, and none where it is in none. For the survey's body: sound_fewer, stays_in_trouble, trouble_breaks.
+-- A transaction has one finding, where it is in trouble, and none where it is in none.
 use Rattle.std.proofs.Common.{◌≡◌, ◌≤◌, ◌⊎◌, inl, inr, List, [], ◌∷◌, ◌++◌, AllPairs, refl, sym, ap, ◌∙◌, subst, append_assoc, append-nil}
 use Rattle.sip_standard.specs.Key.{KeyParts}
 use Rattle.sip_standard.specs.Times.{Times}

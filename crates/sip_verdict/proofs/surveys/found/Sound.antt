@@ -1,4 +1,4 @@
--- A transaction in no trouble, with one entry more. For the survey's body: idle_runs, sound_push, sound_nil, concerned-among.
+-- A transaction in no trouble, with one entry more.
 use Rattle.std.proofs.Common.{◌≡◌, ◌⊎◌, inl, inr, Bool, true, false, List, [], ◌∷◌, ◌++◌, All, Contains, length, length-append, refl, sym, ap, ◌∙◌, subst, arith, zero-le}
 use Rattle.std.specs.List.{list_any}
 use Rattle.std.proofs.lemmas.Bool.{false≢true}

@@ -1,4 +1,4 @@
--- The log of some keys has their troubles. For the survey's body: keys_cut, zip_push, newest_cut, events_cut, runs_cut, wide_cut, sound_cut, trouble_cut.
+-- In the log of some keys each of them has the trouble that it has in the whole log.
 use Rattle.std.proofs.Common.{◌≡◌, ◌≢◌, ◌↔◌, ℕ, Bool, true, false, cond, ◌||◌, List, [], ◌∷◌, ◌++◌, All, length, map, refl, sym, ap, ap₂, ◌∙◌, subst, arith}
 use Rattle.std.specs.Prelude.{filter, fold, flat_map}
 use Rattle.std.specs.List.{list_any, AllZip}

@@ -1,4 +1,4 @@
--- What is found at the entries of a log, one after another, and what it comes to when the log ends. For surveying and gathering: found_on; for surveying: entries_in, gathered_of, header_lacks, told_without; for gathering: gathered_on, gathered_end, gathered_stop, gathered_header.
+-- What is found at the entries of a log, one after another, and what it comes to when the log ends.
 use Rattle.std.proofs.Common.{◌≡◌, ◌+◌, ◌∙◌, inl, inr, ℕ, Option, Some, None, IfSome, List, [], ◌∷◌, ◌++◌, length, refl, sym, ap, subst, append_assoc, arith}
 use Rattle.std.proofs.lemmas.List.{append-nil}
 use Rattle.sip_standard.specs.Key.{KeyParts}

@@ -2,7 +2,7 @@
 ghost use Rattle.std.specs.Prelude.{◌≡◌, ◌++◌, OnOk, flat_map, replicate, string_bytes};
 ghost use Rattle.sip_standard.specs.StateText.{field, told_text, number_field, optional_field, flag_field, owed_field};
 ghost use Rattle.sip_machine.specs.Told.{field_of_code};
-ghost use Rattle.sip_listing.specs.inner.FieldLaws.{debts_fields};
+ghost use Rattle.sip_listing.specs.inner.FieldWords.{debts_fields};
 
 use itoa::Buffer;
 use sip_machine::{Debt, Run, ToldField};

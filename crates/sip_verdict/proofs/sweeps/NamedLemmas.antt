@@ -12,7 +12,8 @@ use Rattle.sip_machine.specs.Rules.{MachineRules, IsLawful, StandFor}
 use Rattle.sip_machine.proofs.texts.TextLaws.{Contains-nil, Contains-cons_cases}
 use Rattle.sip_states.specs.Runs.{Wait, RuledRun}
 use Rattle.sip_standard.specs.KeyMachine.{MachineKind}
-use Rattle.sip_states.specs.KeySets.{coded_of, coded_holds, StateOf}
+use Rattle.sip_states.specs.KeySets.{coded_of, StateOf}
+use Rattle.sip_states.proofs.keyed.KeySetLaws.{coded_holds}
 use Rattle.sip_states.specs.AnySet.{meaning_of}
 use Rattle.sip_states.proofs.lists.Listed.{Contains-map, Contains-from_map, Contains-here, Contains-there, Contains-none}
 use Rattle.sip_states.proofs.sets.Waiting.{StaysFrom, EndsFrom, Wait-cases}

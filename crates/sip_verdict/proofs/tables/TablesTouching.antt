@@ -11,7 +11,7 @@ use Rattle.sip_standard.specs.Times.{Times}
 use Rattle.sip_machine.specs.Texts.{Texts, Keeps}
 use Rattle.sip_machine.specs.NumberedEvent.{event_in}
 use Rattle.sip_standard.specs.KeyMachine.{machine_of_key}
-use Rattle.sip_states.specs.KeySets.{start_is}
+use Rattle.sip_states.proofs.keyed.KeySetLaws.{start_is}
 use Rattle.sip_states.specs.Meaning.{IsKnown}
 use Rattle.sip_states.specs.AnySet.{moment_of, IsKnownSet, start_of, meaning_of}
 use Rattle.sip_states.specs.Tables.{Tabled, Touches, with_key}

@@ -9,7 +9,8 @@ use Rattle.sip_standard.specs.LogSays.{LogEnd, Clean, Stops}
 use Rattle.sip_standard.specs.declared.verdict.Verdict.{Verdict}
 use Rattle.sip_standard.specs.declared.verdict.Verdict.TheVariants.{Legal, Malformed, Breach, Undecided, LogFault}
 use Rattle.sip_standard.specs.KeyMachine.{machine_of_key, transaction_of}
-use Rattle.sip_states.specs.KeySets.{coded_holds, key_rules}
+use Rattle.sip_states.specs.KeySets.{key_rules}
+use Rattle.sip_states.proofs.keyed.KeySetLaws.{coded_holds}
 use Rattle.sip_states.specs.Runs.{AfterRun}
 use Rattle.sip_standard.specs.Stands.{StandsAfter}
 use Rattle.sip_states.proofs.runs.StandsLemmas.{stands-runs, stands-after}

@@ -1,5 +1,5 @@
 use Rattle.sip_standard.specs.KeyMachine.{transaction_of}
-use Rattle.sip_states.specs.KeySets.{coded_holds}
+use Rattle.sip_states.proofs.keyed.KeySetLaws.{coded_holds}
 use Rattle.sip_states.proofs.runs.StandsLemmas.{stands-runs, stands-after}
 use Rattle.sip_states.proofs.laws.a_run_by_rules_stands.Goals as goal
 

@@ -1,6 +1,6 @@
 use Rattle.sip_standard.specs.declared.role.Role.TheVariants.{Server}
 use Rattle.sip_standard.specs.KeyMachine.{machine_of, transaction_of}
-use Rattle.sip_states.specs.KeySets.{coded_holds}
+use Rattle.sip_states.proofs.keyed.KeySetLaws.{coded_holds}
 use Rattle.sip_states.proofs.runs.StandsLemmas.{stands-after}
 use Rattle.sip_states.proofs.runs.ServerLaws.{server_sends_when_asked}
 use Rattle.sip_states.proofs.laws.a_server_sends_when_it_was_asked.Goals as goal

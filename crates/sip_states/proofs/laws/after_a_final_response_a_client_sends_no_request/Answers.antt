@@ -2,7 +2,7 @@ use Rattle.std.specs.Prelude.{◌∷◌, ◌++◌, true, false}
 use Rattle.sip_standard.specs.declared.role.Role.TheVariants.{Client}
 use Rattle.sip_standard.specs.declared.rules.Rules.TheVariants.{R6026}
 use Rattle.sip_standard.specs.KeyMachine.{machine_of, transaction_of}
-use Rattle.sip_states.specs.KeySets.{coded_holds}
+use Rattle.sip_states.proofs.keyed.KeySetLaws.{coded_holds}
 use Rattle.sip_states.proofs.runs.StandsLemmas.{stands-after}
 use Rattle.sip_states.proofs.runs.ClientLaws.{invite_after_final, plain_after_final}
 use Rattle.sip_states.proofs.laws.after_a_final_response_a_client_sends_no_request.Goals as goal

@@ -1,5 +1,5 @@
+-- The words of debts that the code names by numbers of a book are those of what they stand for.
 use Rattle.std.specs.Prelude.{◌≡◌, ◌++◌, ℕ, List, [], ◌∷◌}
-use Rattle.std.specs.List.{flat_map}
 use Rattle.std.proofs.Common.{refl, ap₂}
 use Rattle.std.proofs.lemmas.List.Elements.{All-head, All-tail}
 use Rattle.sip_ledger.specs.declared.debt.Debt.{Debt}
@@ -7,12 +7,7 @@ use Rattle.sip_machine.specs.Texts.{Texts, text_of}
 use Rattle.sip_machine.specs.Owes.{owes_names, owes_seen}
 use Rattle.sip_standard.specs.StateText.{owed_field, owes_fields}
 use Rattle.sip_listing.specs.Lists.{Tells}
-
--- The words of what the code names by numbers of a book.
-
--- the debts of the code, one after another
-abbrev pub debts_fields : List Debt → List ℕ
-debts_fields debts = flat_map (λ debt. owed_field debt.message debt.deadline debt.must) debts
+use Rattle.sip_listing.specs.inner.FieldWords.{debts_fields}
 
 -- the first of the numbers is told as it is
 pub first_told : (number : List ℕ → ℕ) (texts : Texts) (name : ℕ) (names : List ℕ) → Tells number texts (name ∷ names) →

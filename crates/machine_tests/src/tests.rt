@@ -94,7 +94,7 @@ fn a_book_goes_on_after_a_refused_growth(rt: HostRuntime) -> Result<(), Fail> {
     Err(error.into())
 }
 
-/// That a book that keeps the ACK as its only message takes another one.
+/// Asserts that a book that keeps the ACK as its only message takes another one.
 fn takes_the_next(rt: &impl Abort, book: &mut Book) -> Result<(), Fail>
     requires { (n : ℕ) → Keeps book.old n → n ≤ 1 }
 {
@@ -104,7 +104,7 @@ fn takes_the_next(rt: &impl Abort, book: &mut Book) -> Result<(), Fail>
     Ok(())
 }
 
-/// That a book that was refused memory for the ACK of this number does not keep it, and takes it now.
+/// Asserts that a book that was refused memory for the ACK of this number does not keep it, and takes it now.
 fn goes_on(rt: &impl Abort, book: &mut Book, number: u32) -> Result<(), AllocError>
     requires { (n : ℕ) → Keeps book.old n → n < number }
 {
@@ -114,7 +114,7 @@ fn goes_on(rt: &impl Abort, book: &mut Book, number: u32) -> Result<(), AllocErr
     Ok(())
 }
 
-/// That the book keeps these bytes under the number, or none.
+/// Asserts that the book keeps these bytes under the number, or none.
 fn keeps(rt: &impl Abort, book: &Book, number: u32, bytes: Option<&[u8]>) {
     assert_eq!(rt; book.bytes(number), bytes, "{number}");
 }

@@ -27,8 +27,8 @@ use std::marker::Model;
 /// hashes fall; its bytes are kept once.
 #[derive(Debug, Drop)]
 pub struct Book {
-    kept: Vec<Kept>,
-    order: Vec<Run>,
+    kept: Vec<KeptMessage>,
+    order: Vec<PlaceRun>,
     /// The To of some of the messages.
     tos: Tos,
     /// Buffers of messages that were forgotten, for those that come.
@@ -37,7 +37,7 @@ pub struct Book {
 
 /// A message with the number of its first entry.
 #[derive(Debug, Drop)]
-struct Kept {
+struct KeptMessage {
     number: u32,
     bytes: Vec<u8>,
 }
@@ -52,7 +52,7 @@ struct Place {
 /// Some of the places, in their order: at least one, at most `MOST`. The first one stands here again, so that
 /// the run of a message is found without a look into other runs.
 #[derive(Debug, Drop)]
-struct Run {
+struct PlaceRun {
     first: Place,
     places: Vec<Place>,
 }
@@ -251,7 +251,7 @@ fn is_refusal(message: &Message<'_>) -> bool {
 }
 
 /// How many of the messages have numbers from `low` up to `high`.
-fn kept_between(kept: &[Kept], low: u32, high: u32) -> usize
+fn kept_between(kept: &[KeptMessage], low: u32, high: u32) -> usize
     requires { AllPairs (λ a b. a.0 < b.0) (texts_of kept.now) }
     ensures { result ≡ count_between low high (map (λ k. k.0) (texts_of kept.now)) }
 {
@@ -261,7 +261,7 @@ fn kept_between(kept: &[Kept], low: u32, high: u32) -> usize
 }
 
 /// The position of the message with these bytes; where there is none, its gap in the order.
-fn find(kept: &[Kept], runs: &[Run], hash: u64, bytes: &[u8]) -> Result<usize, Gap>
+fn find(kept: &[KeptMessage], runs: &[PlaceRun], hash: u64, bytes: &[u8]) -> Result<usize, Gap>
     requires { IsInRuns (texts_of kept.now) runs.now }
     ensures found { IfOk result (λ position. (position < length kept.now) × (bytes_at (texts_of kept.now) position ≡ bytes.now)) }
     ensures gap { IfErr result (λ gap. IsGap (texts_of kept.now) (hash, bytes.now) (places_of runs.now) (index_of runs.now gap)) }
@@ -280,7 +280,7 @@ fn find(kept: &[Kept], runs: &[Run], hash: u64, bytes: &[u8]) -> Result<usize, G
 }
 
 /// Whether the first place of a run is none after this hash and these bytes.
-fn begins_by(kept: &[Kept], run: &Run, hash: u64, bytes: &[u8]) -> bool
+fn begins_by(kept: &[KeptMessage], run: &PlaceRun, hash: u64, bytes: &[u8]) -> bool
     ensures { result ≡ begins_by (texts_of kept.now) (hash, bytes.now) run.now }
 {
     standing(kept, run.first, hash, bytes).is_le()
@@ -302,8 +302,8 @@ fn copy(spare: &mut Vec<Vec<u8>>, kept: usize, bytes: &[u8]) -> Result<Vec<u8>, 
 
 /// Keeps a message under the number of its entry, with its place in the gap; on an error all is as before.
 fn put(
-    kept: &mut Vec<Kept>,
-    runs: &mut Vec<Run>,
+    kept: &mut Vec<KeptMessage>,
+    runs: &mut Vec<PlaceRun>,
     gap: Gap,
     entry: u32,
     hash: u64,
@@ -322,7 +322,7 @@ fn put(
     kept.reserve(1)?;
     let position = kept.len();
     insert(runs, gap, Place { hash, position })?;
-    kept.push(Kept {
+    kept.push(KeptMessage {
         number: entry,
         bytes,
     })?;
@@ -330,7 +330,7 @@ fn put(
 }
 
 /// Puts a place into the gap; on an error the places are as before.
-fn insert(runs: &mut Vec<Run>, gap: Gap, place: Place) -> Result<(), AllocError>
+fn insert(runs: &mut Vec<PlaceRun>, gap: Gap, place: Place) -> Result<(), AllocError>
     requires led { All IsLed runs.old.items }
     requires short { All (λ run. length run.places.items ≤ most_places) runs.old.items }
     requires inside { 0 < length runs.old.items → IsInside runs.old.items gap }
@@ -342,7 +342,7 @@ fn insert(runs: &mut Vec<Run>, gap: Gap, place: Place) -> Result<(), AllocError>
     if runs.is_empty() {
         let mut places = Vec::new(*runs.allocator());
         places.push(place)?;
-        runs.push(Run {
+        runs.push(PlaceRun {
             first: place,
             places,
         })?;
@@ -358,7 +358,7 @@ fn insert(runs: &mut Vec<Run>, gap: Gap, place: Place) -> Result<(), AllocError>
 }
 
 /// Halves the run of a gap where it is full, so that it has room. The gap as it is then; on an error the places are as before.
-fn make_room(runs: &mut Vec<Run>, gap: Gap) -> Result<Gap, AllocError>
+fn make_room(runs: &mut Vec<PlaceRun>, gap: Gap) -> Result<Gap, AllocError>
     requires led { All IsLed runs.old.items }
     requires short { All (λ run. length run.places.items ≤ most_places) runs.old.items }
     requires inside { IsInside runs.old.items gap }
@@ -375,7 +375,7 @@ fn make_room(runs: &mut Vec<Run>, gap: Gap) -> Result<Gap, AllocError>
     runs.reserve(1)?;
     let places = runs[gap.run].places.split_off(MOST / 2)?;
     let first = places[0];
-    runs.insert(gap.run + 1, Run { first, places })?;
+    runs.insert(gap.run + 1, PlaceRun { first, places })?;
     if gap.place <= MOST / 2 {
         return Ok(gap);
     }
@@ -386,7 +386,7 @@ fn make_room(runs: &mut Vec<Run>, gap: Gap) -> Result<Gap, AllocError>
 }
 
 /// Where the message with these bytes and this hash stands among places in order, or where it would go.
-fn search(kept: &[Kept], places: &[Place], hash: u64, bytes: &[u8]) -> Result<usize, usize>
+fn search(kept: &[KeptMessage], places: &[Place], hash: u64, bytes: &[u8]) -> Result<usize, usize>
     ensures within { IsSearchInRange result (length places.now) }
     ensures found { IsBinarySearchResult (λ place. compare (key_of (texts_of kept.now) place) (hash, bytes.now)) places.now result }
 {
@@ -394,7 +394,7 @@ fn search(kept: &[Kept], places: &[Place], hash: u64, bytes: &[u8]) -> Result<us
 }
 
 /// How the message at a place stands to one with this hash and these bytes: by the hash, then by the bytes.
-fn standing(kept: &[Kept], place: Place, hash: u64, bytes: &[u8]) -> Ordering
+fn standing(kept: &[KeptMessage], place: Place, hash: u64, bytes: &[u8]) -> Ordering
     ensures { result ≡ compare (key_of (texts_of kept.now) place) (hash, bytes.now) }
 {
     match place.hash.cmp(&hash) {
@@ -404,7 +404,7 @@ fn standing(kept: &[Kept], place: Place, hash: u64, bytes: &[u8]) -> Ordering
 }
 
 /// The bytes at a position, none past the last message.
-fn bytes_at(kept: &[Kept], position: usize) -> &[u8]
+fn bytes_at(kept: &[KeptMessage], position: usize) -> &[u8]
     ensures { result.now ≡ bytes_at (texts_of kept.now) position }
 {
     match kept.get(position) {

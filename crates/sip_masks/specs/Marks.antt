@@ -17,8 +17,8 @@ abbrev pub is_control : ℕ → Bool
 is_control byte = (is_in_range 0 31 byte && not (byte == tab)) || byte == 127
 
 -- of the first n places of the text, bit i says whether byte i passes the test; past the end stands NUL
-abbrev pub Marks : (ℕ → Bool) → List ℕ → List ℕ → ℕ → Type 0
-Marks p text words n = (i : ℕ) → i < n → test (get_or words (i / 64) 0) (i % 64) ≡ p (get_or text i 0)
+abbrev pub BitsTell : (ℕ → Bool) → List ℕ → List ℕ → ℕ → Type 0
+BitsTell p text words n = (i : ℕ) → i < n → test (get_or words (i / 64) 0) (i % 64) ≡ p (get_or text i 0)
 
 -- how many words a text of this length has
 abbrev pub words_for : ℕ → ℕ
@@ -27,5 +27,5 @@ words_for n = n / 64 + 2
 pub record IsMasks (text others controls : List ℕ) : Type 0 where
   pub others_long : words_for (length text) ≤ length others
   pub controls_long : words_for (length text) ≤ length controls
-  pub others_mark : Marks is_other text others (64 * words_for (length text))
-  pub controls_mark : Marks is_control text controls (64 * words_for (length text))
+  pub others_mark : BitsTell is_other text others (64 * words_for (length text))
+  pub controls_mark : BitsTell is_control text controls (64 * words_for (length text))

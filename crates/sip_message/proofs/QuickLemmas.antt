@@ -157,7 +157,7 @@ behind-open text at n end less within mark clear =
     let rest = take (end - (at + n + 1)) (drop (at + n + 1) text) in
     (all_right is_open (take n (drop at text)) (colon ∷ rest) (subst IsOpen (line-cut text at n end less within mark) clear)).1
 
--- nor has the value there
+-- the value of a text without controls has none
 pub value-open : (rest value : List ℕ) → IsOpen rest → ValueText rest value → IsOpen value
 value-open rest value clear valued =
     let w = valued.whole in
@@ -175,7 +175,7 @@ line-begins line f is =
     at [] token more begins = absurd (omega (arith, length-append token.0 token.1, ap length token.4, ap length token.2.2))
     at (b ∷ name) token more begins = both_ways (is_token_byte b) (blank-token b (wsp-blank b begins)) (each-token (b ∷ name) token).0
 
--- so are the lines of fields
+-- where no line of fields has a control, each begins without a blank and has no line end in it
 lines-begin : (lines : List (List ℕ)) (fields : List Field) → FieldsText lines fields → AllByRecursion IsOpen lines → AreInner lines × AllByRecursion (λ line. ¬ (OpensBlank line)) lines
 lines-begin [] fields are clear = (tt, tt)
 lines-begin (line ∷ lines) fields (f, fs, is, are, whole) clear =
@@ -261,7 +261,7 @@ ordinary-head bytes text more rest start fields end at bytes_is clear is is_star
       are_fields = are.are;
     }
 
--- each is a byte
+-- each number of the text is a byte
 abbrev pub Bytes : List ℕ → Type 0
 Bytes text = (i : ℕ) → get_or text i 0 < 256
 
@@ -269,7 +269,7 @@ Bytes text = (i : ℕ) → get_or text i 0 < 256
 abbrev pub is_name_byte : ℕ → Bool
 is_name_byte b = (nat_le 97 b && nat_le b 122) || b == 45
 
--- of the bytes of a token those are the bytes with one bit set
+-- a byte of a token that is one of a known name once a bit is set is lowered by setting that bit
 token-small : (b : ℕ) → b < 256 → is_token_byte b ≡ true → is_name_byte (small b) ≡ true → to_ascii_lowercase b ≡ small b
 token-small b low token name =
     eqb-true _ _ (by (is_token_byte b) (is_name_byte (small b)) _ token name (agree_below_at (λ x. not (is_token_byte x && is_name_byte (small x)) || to_ascii_lowercase x == small x) (λ _. true) 256 b refl low))
@@ -287,7 +287,7 @@ lower-small b low name =
     by true z one is = is
     by false z one is = absurd (both_ways false refl one)
 
--- so a token whose bytes with that bit are those of a name is that name
+-- a token whose bytes are those of a known name once that bit is set is lowered by setting it in each byte
 small-folded : (text : List ℕ) → Bytes text → All is_token_byte text → list_all is_name_byte (map small text) ≡ true → folded text ≡ map small text
 small-folded [] fits token name = refl
 small-folded (b ∷ text) fits token name =

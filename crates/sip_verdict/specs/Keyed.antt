@@ -1,7 +1,7 @@
 use Rattle.std.specs.Prelude.{ℕ, Bool, List, [], ◌∷◌, ◌++◌, if◌then◌else◌, map, filter, fold, flat_map}
 use Rattle.std.specs.List.{list_any}
 use Rattle.sip_standard.specs.MachineEvent.{MachineEvent}
-use Rattle.sip_machine.specs.Rules.{Rules}
+use Rattle.sip_machine.specs.Rules.{MachineRules}
 use Rattle.sip_states.specs.Runs.{RuledRun}
 use Rattle.sip_standard.specs.Observation.{Observation}
 
@@ -9,7 +9,7 @@ use Rattle.sip_standard.specs.Observation.{Observation}
 pub record Machines (K : Type 0) : Type 1 where
   pub same : K → K → Bool
   pub State : K → Type 0
-  pub rules : (key : K) → Rules (State key)
+  pub rules : (key : K) → MachineRules (State key)
 
 -- the keys with one more, at the end if it is new
 abbrev pub with_key : {K : Type 0} → (K → K → Bool) → List K → K → List K

@@ -13,7 +13,7 @@ use Rattle.sip_verdict.specs.Keyed.{Machines, events_of, newest_moment}
 abbrev pub messages_of : (machine : MachineKind) → PhaseOf machine → List (List ℕ)
 messages_of machine x = messages_told ((coded_of machine).told x.phase) ++ map (λ owed. owed.message) x.owes
 
--- the same for the machine of each key
+-- the messages that a state of the machine of this key names
 abbrev pub key_messages : (p : Times) (key : KeyParts) → PhaseOf (machine_of_key p.rules key) → List (List ℕ)
 key_messages p key x = messages_of (machine_of_key p.rules key) x
 
@@ -31,13 +31,13 @@ pub record AreMany (P : List ℕ → Type 0) (count : ℕ) : Type 0 where
   pub just : (text : List ℕ) → Contains texts text ↔ P text
   pub counts : count ≡ length texts
 
--- so many messages were named after some entry, or before the first
+-- this many messages were named after some entry, or before the first
 pub record WereNamed {K : Type 0} (m : Machines K) (messages : (key : K) → m.State key → List (List ℕ)) (es : List (Observation K)) (count : ℕ) : Type 0 where
   pub front : List (Observation K)
   pub rest : List (Observation K)
   pub whole : es ≡ front ++ rest
   pub many : AreMany (IsNamed m messages front) count
 
--- so few messages are kept: at most twice as many as were named after some entry, and 64
+-- few messages are kept: at most twice as many as were named after some entry, and 64 more
 abbrev pub AreFew : {K : Type 0} (m : Machines K) → ((key : K) → m.State key → List (List ℕ)) → List (Observation K) → ℕ → Type 0
 AreFew m messages es kept = (named : ℕ) × WereNamed m messages es named × (kept ≤ named + named + 64)

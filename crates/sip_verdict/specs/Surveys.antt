@@ -28,14 +28,14 @@ pub record IsStillNamed (p : Times) (es : List (Observation KeyParts)) (text : L
   pub stands : RuledRun ((key_machines p).rules key) (events_of (key_machines p) key es) (newest_moment es) state
   pub names : Contains (key_messages p key state) text
 
--- so many messages were named after some entry, or before the first
+-- this many messages were named by transactions in no trouble, after some entry or before the first
 pub record WereStillNamed (p : Times) (es : List (Observation KeyParts)) (count : ℕ) : Type 0 where
   pub front : List (Observation KeyParts)
   pub rest : List (Observation KeyParts)
   pub whole : es ≡ front ++ rest
   pub many : AreMany (IsStillNamed p front) count
 
--- so few messages are kept: at most twice as many as were named after some entry by transactions in no trouble, and 64
+-- few messages are kept: at most twice as many as transactions in no trouble named after some entry, and 64 more
 abbrev pub AreFewKept : Times → List (Observation KeyParts) → ℕ → Type 0
 AreFewKept p es kept = (named : ℕ) × WereStillNamed p es named × (kept ≤ named + named + 64)
 
@@ -44,7 +44,7 @@ pub record IsHistoryOf (es : List (Observation KeyParts)) (restart : ℕ) (key :
   pub first : IsFirstOf es key h.first h.branch.items
   pub last : IsLastOf es key (max h.last restart)
 
--- so it is of each transaction of the entries
+-- there is a history of each transaction of the entries
 pub record AreHistories (es : List (Observation KeyParts)) (b : Histories) : Type 0 where
   pub long : length b.each.items ≡ length (keys_in es)
   pub restart : b.restart ≤ length es

@@ -17,7 +17,7 @@ ghost use Rattle.sip_verdict.specs.inner.Surveying.{ArePassing, AreWatched, IsFr
 use crate::concerned::Concerned;
 use crate::finding::Finding;
 use crate::histories::Histories;
-use crate::observing::{Told, observe};
+use crate::observing::{Observed, observe};
 use crate::passing::Hearing;
 use crate::releasing::pass_each;
 use crate::standing::{Standing, touch_each};
@@ -57,7 +57,7 @@ fn take<H: BuildHasher>(
     let told = observe(alloc, &mut standing.book, entry)?;
     standing.book.known();
     match told {
-        Told::Unheard => {
+        Observed::Unheard => {
             pass_each(
                 &mut standing.tables,
                 troubled,
@@ -67,7 +67,7 @@ fn take<H: BuildHasher>(
             )?;
             Ok(None)
         }
-        Told::Fault(fault) => {
+        Observed::Fault(fault) => {
             pass_each(
                 &mut standing.tables,
                 troubled,
@@ -77,7 +77,7 @@ fn take<H: BuildHasher>(
             )?;
             Ok(Some(fault))
         }
-        Told::Restart => {
+        Observed::Restart => {
             standing.tables.known();
             histories.restart = entry.number;
             let event = Event::restart(entry.moment);
@@ -92,7 +92,7 @@ fn take<H: BuildHasher>(
             )?;
             Ok(None)
         }
-        Told::Heard { event, concerned } => {
+        Observed::Heard { event, concerned } => {
             let concerned = touch_each(&mut standing.tables, concerned)?;
             troubled.grow(standing.tables.len())?;
             histories.note_each(alloc, concerned, entry)?;

@@ -22,7 +22,7 @@ ghost use Rattle.sip_verdict.specs.inner.Tracking.{IsJudged};
 ghost use Rattle.sip_verdict.specs.inner.TablesTracking.{key_keeping, transactions_of, TablesTrack, TablesTrackBefore, AreTold, TouchesEach, HaveNumbers, hearers, MayPass, MayHear, AreOnRecord, AllAreOnRecord, MayTake};
 
 use crate::concerned::Concerned;
-use crate::observing::{Told, observe};
+use crate::observing::{Observed, observe};
 use crate::passing::{Hearing, Outcome, pass_all};
 use sip_key::Key;
 use sip_listing::push_transaction;
@@ -213,21 +213,21 @@ impl<H: BuildHasher> Standing<H> {
         let told = observe(alloc, &mut self.book, entry)?;
         self.book.known();
         match told {
-            Told::Unheard => {
+            Observed::Unheard => {
                 let verdict = self.pass(entry.number, entry.moment, None)?;
                 Ok(Taken {
                     verdict,
                     concerned: Concerned::None,
                 })
             }
-            Told::Fault(fault) => Ok(Taken {
+            Observed::Fault(fault) => Ok(Taken {
                 verdict: Some(Verdict::Malformed {
                     entry: entry.number,
                     fault,
                 }),
                 concerned: Concerned::None,
             }),
-            Told::Restart => {
+            Observed::Restart => {
                 self.tables.known();
                 let event = Event::restart(entry.moment);
                 let concerned = Concerned::All;
@@ -235,7 +235,7 @@ impl<H: BuildHasher> Standing<H> {
                 let verdict = self.pass(entry.number, entry.moment, Some(&hearing))?;
                 Ok(Taken { verdict, concerned })
             }
-            Told::Heard { event, concerned } => {
+            Observed::Heard { event, concerned } => {
                 let concerned = touch_each(&mut self.tables, concerned)?;
                 self.tables.known();
                 let hearing = Hearing { event, concerned };

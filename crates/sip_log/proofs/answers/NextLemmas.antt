@@ -39,7 +39,7 @@ pub comes-end : (format : Format) (count last : ℕ) (rest : List ℕ) (end : Lo
 comes-end format count last rest Clean next = next
 comes-end format count last rest (Stops fault) next = next
 
--- and how it ends comes next
+-- how the log ends is what comes next in the rest
 pub end-comes : (format : Format) (count last : ℕ) (rest : List ℕ) (end : LogEnd) → EndsWith format count last rest end → ComesNext format count last rest (next_at end)
 end-comes format count last rest Clean next = next
 end-comes format count last rest (Stops fault) next = next

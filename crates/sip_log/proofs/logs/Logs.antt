@@ -79,7 +79,7 @@ log-follows input p items end is = (
   follow-read is.format 0 0 items is.rest end (omega (arith, is.few)) is.order (subst (λ n. EndsWith is.format n (last_of 0 items) is.rest end) (from_zero (length items)) is.next),
 )
 
--- and the other way
+-- entries that follow a header in the input, one after another, are its log
 pub log-spelled : (format : Format) (input : List ℕ) (p : Times) (behind : List ℕ) (items : List Item) (end : LogEnd) → Header format p input behind → Follow format 0 0 behind items end → LogSays input p items end
 log-spelled format input p behind items end header follow =
     let rest = follow-spelled format 0 0 behind items end (omega arith) follow in
@@ -214,7 +214,7 @@ turn-front format count last rest (e2 ∷ items) end (e ∷ es) left follow (beh
     let more = turn-front format (count + 1) e.moment behind items end es left (coe 0 1 (i. Follow format (count + 1) ((first i).moment) (at i) items end) follow.2) turn in
     (more.0, λ i. first i ∷ more.1 i)
 
--- and of those of the log
+-- the entries of a log stand at the front of its input
 pub log-front : (input : List ℕ) (p : Times) (items : List Item) (end : LogEnd) → IsLogOf input (Readable p items end) →
     (format : Format) (q : Times) (behind left : List ℕ) (read : List Item) → Header format q input behind → ComeInTurn format 0 0 behind read left →
     (more : List Item) × (items ≡ read ++ more)

@@ -1,3 +1,4 @@
+-- What bytes are read as: nothing where they have a fault, and of which response they are an ACK.
 use Rattle.std.specs.Prelude.{◌≡◌, ◌↔◌, ℕ, Bool, false, IsTrue, List}
 use Rattle.std.proofs.Common.{sym, ◌∙◌, true≢false}
 use Rattle.sip_standard.specs.declared.fault.Fault.{Fault}
@@ -11,8 +12,6 @@ use Rattle.sip_standard.specs.Solid.{solid}
 use Rattle.sip_standard.specs.AckOf.{AckOf, IsAckOf, SameSolid}
 use Rattle.sip_key.proofs.AckOfLemmas.{ack-of_bytes}
 use Rattle.sip_machine.specs.inner.Tos.{IsToOf}
-
--- What is read where there is a fault, and what is read as an ACK.
 
 -- bytes that have a fault are read as no message
 pub Reads-fault : (bytes : List ℕ) (f : Fault) → Says bytes (stops f) → (r : Reading) → Reads bytes r → ⊥
@@ -34,7 +33,7 @@ module _ (ack invite response : List ℕ) (a i : Reading) (is : Bool) (reads_a :
     λ of. let (r, reads, both) = AckOf-read ack invite response a i reads_a reads_i of in record { message = r; reads = reads; is = to_is ∙ both.to },
   )
 
-  -- and one that is not is one for none
+  -- an ACK that is none for the INVITE is none for any response
   pub AckOf-none : is ≡ false → AckOf ack invite response → ⊥
   AckOf-none not_so of =
       let (r, reads, both) = AckOf-read ack invite response a i reads_a reads_i of in

@@ -1,3 +1,4 @@
+-- Which bytes are a 100: by what they are read as, and by three digits at one place.
 use Rattle.std.specs.Prelude.{◌≡◌, ◌↔◌, ◌==◌, ◌+◌, IsTrue, ℕ, List, ◌∷◌, ◌++◌, codes, drop, flat_map, length, take}
 use Rattle.std.proofs.Common.{sym, ap, ◌∙◌, append_assoc, arith, eq-eqb, subst}
 use Rattle.std.specs.Fmt.{digits}
@@ -63,7 +64,7 @@ code-100 bytes m reason text start =
     ∙ drop-append-add parts.version (0x20 ∷ (code ++ more)) 1 in
     ap (take 3) dropped ∙ ap (λ digits. take 3 ((digits ++ 0x20 ∷ reason) ++ more)) (digits-100 parts.digits parts.is_code)
 
--- so have bytes that spell one
+-- bytes that spell a 100 have its digits after the version and a blank
 pub Is100-code : (bytes : List ℕ) → Is100 bytes → take 3 (drop 8 bytes) ≡ codes "100"
 Is100-code bytes is =
     let read = says-reads bytes is.said is.says in

@@ -22,7 +22,7 @@ StopsBlank text = blank_len text ≡ 0
 abbrev pub Behind : List ℕ → List ℕ → Type 0
 Behind text rest = StopsBlank rest × (Sws then Exactly rest) text
 
--- and there is one such rest
+-- the only rest after the longest run of blanks at the front
 abbrev pub IsOnlyBehind : List ℕ → List ℕ → Type 0
 IsOnlyBehind text rest = Behind text rest × ((other : List ℕ) → Behind text other → other ≡ rest)
 

@@ -15,7 +15,7 @@ pub record AreLines (text : List ℕ) (lines : List (List ℕ)) : Type 0 where
 abbrev pub IsPaired : List ℕ → ℕ → Type 0
 IsPaired text k = (slice_index text k == carriage_return) ≡ (slice_index text (k + 1) == line_feed)
 
--- so it is from one place up to another
+-- from one place up to another a LF stands after each CR, and after no other byte
 abbrev pub ArePaired : List ℕ → ℕ → ℕ → Type 0
 ArePaired text from to = (k : ℕ) → from ≤ k → k < to → IsPaired text k
 

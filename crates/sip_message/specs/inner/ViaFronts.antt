@@ -33,7 +33,7 @@ abbrev pub BranchFront : List ℕ → Option (List ℕ) × List ℕ → Type 0
 BranchFront text (branch, rest) =
     (params : List Param) × AllParamsFront text (params, rest) × IsBranch params branch
 
--- the same with the text of the parameters, from their first ";" on
+-- *( SEMI via-params ) with its branch and its text, which begins at the first ";", and what is left
 abbrev pub TailFront : List ℕ → (List ℕ × Option (List ℕ)) × List ℕ → Type 0
 TailFront text (tail, rest) =
     BranchFront text (tail.1, rest) × ((front : List ℕ) × (text ≡ front ++ rest) × Behind front (tail.0))

@@ -43,7 +43,7 @@ module _ (texts : Texts) (t : Tabled) (es : List (Observation KeyParts)) (from :
     late (Some limit) on is =
         overdue_none texts t.times (machine_of_key t.times.rules key) (events_of (key_machines t.times) key es) (newest_moment es) s leads limit (recorded.each n s (Some limit) here on) moment newest low is
 
-    -- and up to it one
+    -- a key whose last moment is not past has a run
     in_time : (r : Option (Option ℕ)) → slice_get t.records n ≡ Some r → is_overdue moment r ≡ false → Runs key
     in_time None on is = absurd (false≢true (recorded.each n s None here on))
     in_time (Some limit) on is =
@@ -67,7 +67,7 @@ module _ (texts : Texts) (t : Tabled) (es : List (Observation KeyParts)) (from :
       nothing None is e n r on = not_passing (is_overdue moment r) (All-place (λ x. ¬ (IsTrue (is_overdue moment x))) t.records n r on (All-position_None (is_overdue moment) t.records is))
       nothing (Some i) is e n r on = absurd cc
 
-  -- and where each has one, nothing is
+  -- where each key has a run, none is overdue
   waits_none : CanWaitUntil t.times es moment → due_of t moment ≡ None
   waits_none waits = go (position (is_overdue moment) t.records) refl
     where
@@ -79,11 +79,11 @@ module _ (texts : Texts) (t : Tabled) (es : List (Observation KeyParts)) (from :
           let (s, here) = set_of_key i key at in
           absurd (late i key s at here (get_or t.records i None) (slice_get-get_or t.records i None found.0) found.1 (All-place Runs t.keys i key at (subst (All Runs) (sym keys_of_all) waits)))
 
-  -- so they can wait up to the earliest last moment
+  -- all can wait up to the earliest of the last moments
   pub waits_until : (P : Type 0) → ((due_of t moment ≡ None) ↔ P) → CanWaitUntil t.times es moment ↔ P
   waits_until P due = (λ waits. due.0 (waits_none waits), λ h. none_waits (due.1 h))
 
--- the same of a judge
+-- until when all transactions of a judge can wait
 pub judge_waits : (j : Judging) (es : List (Observation KeyParts)) → StandsFor j es → MayTake j.texts j.tables (j.number + 1) j.moment → (moment : ℕ) → j.moment ≤ moment
     → (P : Type 0) → ((due_of j.tables moment ≡ None) ↔ P) → CanWaitUntil j.tables.times es moment ↔ P
 judge_waits j es stands may moment later P due =

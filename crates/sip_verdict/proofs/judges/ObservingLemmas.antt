@@ -149,13 +149,13 @@ no_keys own other cancels (Some x) none = absurd cc
 no_keys own other true None none = refl
 no_keys own other false None none = refl
 
--- and without a key no branch
+-- without a key there is no branch
 no_branch : {A B : Type 0} (own other : A → B) (cancels : Bool) (branch : Option A)
     → option_to_list (option_map own branch) ++ option_to_list (if cancels then option_map other branch else None) ≡ [] → branch ≡ None
 no_branch own other cancels None none = refl
 no_branch own other cancels (Some x) none = absurd cc
 
--- nor where the cookie lacks
+-- a request that lacks the cookie has no branch
 lacks_branch : {A : Type 0} (sends : Bool) (branch : Option A) → (sends && not (is_some branch)) ≡ true → branch ≡ None
 lacks_branch sends None lacks = refl
 lacks_branch true (Some x) lacks = absurd (false≢true lacks)

@@ -24,9 +24,9 @@ use Rattle.sip_states.specs.declared.any_set.AnySet.{AnySet}
 use Rattle.sip_standard.specs.LogEntry.{Item}
 use Rattle.sip_verdict.specs.declared.concerned.Concerned.{Concerned}
 use Rattle.sip_verdict.specs.declared.concerned.Concerned.TheVariants as concerned
-use Rattle.sip_verdict.specs.declared.observing.Told.{Told}
-use Rattle.sip_verdict.specs.declared.observing.Told.TheVariants.{Unheard, Heard}
-use Rattle.sip_verdict.specs.declared.observing.Told.TheVariants as told
+use Rattle.sip_verdict.specs.declared.observing.Observed.{Observed}
+use Rattle.sip_verdict.specs.declared.observing.Observed.TheVariants.{Unheard, Heard}
+use Rattle.sip_verdict.specs.declared.observing.Observed.TheVariants as told
 use Rattle.sip_standard.specs.declared.verdict.Verdict.{Verdict}
 use Rattle.sip_standard.specs.Observation.{Observation}
 use Rattle.sip_verdict.specs.Keyed.{events_of, keys_of, newest_moment}
@@ -52,7 +52,7 @@ module _ (old new : Texts) (number : ℕ) (bytes : List ℕ) where
   grown_keeps (inl same) n keeps = subst (λ texts. Keeps texts n) (sym same) keeps
   grown_keeps (inr more) n keeps = subst (λ texts. Keeps texts n) (sym more) (Keeps-grow old number bytes n keeps)
 
-  -- and the sets' messages with it
+  -- a book that has grown knows the messages of the sets
   grown_known : IsGrown old number bytes new → (set : AnySet) → IsKnownSet old set → IsKnownSet new set
   grown_known grown set known =
       let o = some_machine set in
@@ -93,7 +93,7 @@ module _ (old new : Texts) (number : ℕ) (bytes : List ℕ) where
           },
         )
 
-    -- so do all
+    -- sets are ready beside a book that has grown
     grown_ready : IsGrown old number bytes new → (ts : List (KeyParts × AnySet)) → All (IsReady (key_machines p) (key_keeping old p) es) ts → All (IsReady (key_machines p) (key_keeping new p) es) ts
     grown_ready (inl same) ts ready = subst (λ texts. All (IsReady (key_machines p) (key_keeping texts p) es) ts) (sym same) ready
     grown_ready (inr more) ts ready =
@@ -191,7 +191,7 @@ are_given t (n ∷ ns) (k ∷ ks) (low, at, rest) =
 
 module _ (verdict : Option Verdict) (old mid last : Texts) (number : ℕ) (bytes : List ℕ) (grown : IsGrown old number bytes mid) (i : Item) (moment count : ℕ) where
   -- this was told of the entry
-  abbrev Tells : Told → Type 0
+  abbrev Tells : Observed → Type 0
   Tells told = (es : List (Observation KeyParts)) → (e : Observation KeyParts) × message_reading.Observes es i e × IsObserved mid es i told e
 
   -- an entry that is not heard

@@ -4,7 +4,7 @@ use Rattle.sip_standard.specs.Times.{Times}
 use Rattle.sip_machine.specs.Texts.{Texts}
 use Rattle.sip_machine.specs.NumberedEvent.{NumberedEvent, event_in}
 use Rattle.sip_standard.specs.MachineEvent.{MachineEvent}
-use Rattle.sip_machine.specs.Rules.{Rules, StandFor}
+use Rattle.sip_machine.specs.Rules.{MachineRules, StandFor}
 use Rattle.sip_states.specs.Runs.{AfterRun, IsWide}
 use Rattle.sip_states.specs.Held.{Held}
 use Rattle.sip_standard.specs.KeyMachine.{MachineKind}
@@ -39,7 +39,7 @@ some_of machine t new is some none = some (subst IsEmpty (sym is) (to_set (λ X 
 
 module _ (texts : Texts) (p : Times) (machine : MachineKind) (events : List MachineEvent) (from : ℕ) (old new : AnySet) (leads : LeadsOf texts p machine events from old) where
   -- the rules of the machine, as those of its sets
-  own : Rules (PhaseOf machine)
+  own : MachineRules (PhaseOf machine)
   own = (meaning_of machine).rules p
 
   -- the old set is not later

@@ -12,8 +12,8 @@ use Rattle.sip_verdict.specs.Keyed.{Machines, concerns, events_of, newest_moment
 
 module _ {K : Type 0} where
   -- the first is not after the second
-  abbrev IsNotBehind : Observation K → Observation K → Type 0
-  IsNotBehind a b = a.event.moment ≤ b.event.moment
+  abbrev IsNotAfter : Observation K → Observation K → Type 0
+  IsNotAfter a b = a.event.moment ≤ b.event.moment
 
   abbrev IsFrom : ℕ → Observation K → Type 0
   IsFrom moment e = moment ≤ e.event.moment
@@ -26,35 +26,35 @@ module _ {K : Type 0} where
   newest last es = fold (λ moment e. e.event.moment) last es
 
   -- the newest moment of entries in order is not before the moment from which they are
-  newest-from : (last : ℕ) (front more : List (Observation K)) → All (IsFrom last) (front ++ more) → AllPairs IsNotBehind (front ++ more) → last ≤ newest last front
+  newest-from : (last : ℕ) (front more : List (Observation K)) → All (IsFrom last) (front ++ more) → AllPairs IsNotAfter (front ++ more) → last ≤ newest last front
   newest-from last [] more from order = omega arith
   newest-from last (e ∷ front) more from order =
       let here : last ≤ e.event.moment = All-head (IsFrom last) e (front ++ more) from in
-      let later : e.event.moment ≤ newest e.event.moment front = newest-from e.event.moment front more (AllPairs-head IsNotBehind e (front ++ more) order) (AllPairs-tail IsNotBehind e (front ++ more) order) in
+      let later : e.event.moment ≤ newest e.event.moment front = newest-from e.event.moment front more (AllPairs-head IsNotAfter e (front ++ more) order) (AllPairs-tail IsNotAfter e (front ++ more) order) in
       omega arith
 
-  -- nor is it before any of them
-  pub newest-to : (last : ℕ) (front more : List (Observation K)) → AllPairs IsNotBehind (front ++ more) → All (IsTo (newest last front)) front
+  -- no entry is after the newest one
+  pub newest-to : (last : ℕ) (front more : List (Observation K)) → AllPairs IsNotAfter (front ++ more) → All (IsTo (newest last front)) front
   newest-to last [] more order = All-nil (IsTo last)
   newest-to last (e ∷ front) more order =
-      let rest = AllPairs-tail IsNotBehind e (front ++ more) order in
-      All-cons (IsTo (newest e.event.moment front)) e front (newest-from e.event.moment front more (AllPairs-head IsNotBehind e (front ++ more) order) rest) (newest-to e.event.moment front more rest)
+      let rest = AllPairs-tail IsNotAfter e (front ++ more) order in
+      All-cons (IsTo (newest e.event.moment front)) e front (newest-from e.event.moment front more (AllPairs-head IsNotAfter e (front ++ more) order) rest) (newest-to e.event.moment front more rest)
 
-  -- nor after any of the others
-  pub newest-before : (last : ℕ) (front more : List (Observation K)) → All (IsFrom last) (front ++ more) → AllPairs IsNotBehind (front ++ more) → All (IsFrom (newest last front)) more
+  -- the newest moment is not after any later entry
+  pub newest-before : (last : ℕ) (front more : List (Observation K)) → All (IsFrom last) (front ++ more) → AllPairs IsNotAfter (front ++ more) → All (IsFrom (newest last front)) more
   newest-before last [] more from order = from
   newest-before last (e ∷ front) more from order =
-      newest-before e.event.moment front more (AllPairs-head IsNotBehind e (front ++ more) order) (AllPairs-tail IsNotBehind e (front ++ more) order)
+      newest-before e.event.moment front more (AllPairs-head IsNotAfter e (front ++ more) order) (AllPairs-tail IsNotAfter e (front ++ more) order)
 
-  -- and more entries have no earlier one
-  newest-more : (last : ℕ) (front more : List (Observation K)) → All (IsFrom last) (front ++ more) → AllPairs IsNotBehind (front ++ more) → newest last front ≤ newest last (front ++ more)
+  -- the newest moment of more entries is no earlier
+  newest-more : (last : ℕ) (front more : List (Observation K)) → All (IsFrom last) (front ++ more) → AllPairs IsNotAfter (front ++ more) → newest last front ≤ newest last (front ++ more)
   newest-more last [] [] from order = omega arith
   newest-more last [] (e ∷ more) from order =
       let here : last ≤ e.event.moment = All-head (IsFrom last) e more from in
-      let later : e.event.moment ≤ newest e.event.moment more = newest-more e.event.moment [] more (AllPairs-head IsNotBehind e more order) (AllPairs-tail IsNotBehind e more order) in
+      let later : e.event.moment ≤ newest e.event.moment more = newest-more e.event.moment [] more (AllPairs-head IsNotAfter e more order) (AllPairs-tail IsNotAfter e more order) in
       omega arith
   newest-more last (e ∷ front) more from order =
-      newest-more e.event.moment front more (AllPairs-head IsNotBehind e (front ++ more) order) (AllPairs-tail IsNotBehind e (front ++ more) order)
+      newest-more e.event.moment front more (AllPairs-head IsNotAfter e (front ++ more) order) (AllPairs-tail IsNotAfter e (front ++ more) order)
 
 module _ {K : Type 0} (m : Machines K) (key : K) where
   -- what holds of entries holds of their events

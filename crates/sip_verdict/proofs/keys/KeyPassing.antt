@@ -62,7 +62,7 @@ module _ (texts : Texts) (p : Times) (es : List (Observation KeyParts)) (e : Obs
         other_passed m k es e (key, s) apart (in_time_some texts p machine events (newest_moment es) s ready limit agenda e.event.moment late low in_time)
         (leads_later texts p machine events (newest_moment es) e.event.moment s late ready)
 
-    -- and a restart leaves it where it is quiet
+    -- a quiet set goes on over a restart
     pub quiet_goes : (event : NumberedEvent) → e.event ≡ event_in texts event → event.action ≡ Restart → IsQuietSet s → concerns m key e ≡ true → GoesOn m k es e (key, s)
     quiet_goes event is restart quiet concerned =
         own_passed m k es e (key, s) concerned Runs

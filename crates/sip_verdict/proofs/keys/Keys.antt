@@ -89,7 +89,7 @@ module _ {K : Type 0} (m : Machines K) where
       go true e none = (none, old (m.same key k) refl e none)
       go false e none = let (a, b) = or_false _ _ (sym (list_any-append (m.same key) keys (k ∷ [])) ∙ none) in (a, (or_false _ _ b).0)
 
-  -- the same for several keys
+  -- a key that is none of several keys is not among them once they are added
   pub among-fold : IsExact m → (key : K) (keys more : List K) → list_any (m.same key) (fold (with_key m.same) keys more) ≡ false
       → (list_any (m.same key) keys ≡ false) × (list_any (m.same key) more ≡ false)
   among-fold exact key keys [] h = (h, refl)

@@ -5,7 +5,7 @@ use Rattle.sip_standard.specs.Times.{Times}
 use Rattle.sip_machine.specs.Texts.{Texts}
 use Rattle.sip_standard.specs.MachineEvent.{MachineEvent}
 use Rattle.sip_machine.specs.Limits.{IsWithin}
-use Rattle.sip_machine.specs.Rules.{Rules}
+use Rattle.sip_machine.specs.Rules.{MachineRules}
 use Rattle.sip_states.specs.Runs.{IsAgenda}
 use Rattle.sip_standard.specs.KeyMachine.{MachineKind}
 use Rattle.sip_states.specs.KeySets.{key_rules}
@@ -19,7 +19,7 @@ use Rattle.sip_verdict.specs.inner.TablesTracking.{LeadsOf}
 use Rattle.sip_states.proofs.keyed.ByMachine.{rules_are, moment_is, of_set}
 
 -- a run over one event more holds one that stands at its moment
-pub run_before : {X : Type 0} (r : Rules X) (events : List MachineEvent) (e : MachineEvent) (n : ℕ) → RunsUntil r (events ++ e ∷ []) n → RunsUntil r events e.moment
+pub run_before : {X : Type 0} (r : MachineRules X) (events : List MachineEvent) (e : MachineEvent) (n : ℕ) → RunsUntil r (events ++ e ∷ []) n → RunsUntil r events e.moment
 run_before r events e n (y, run) =
     let wait = (Run-wait r events e n y).0 run in
     let given = (After-run r events e wait.start).0 wait.begins in
@@ -36,7 +36,7 @@ module _ (texts : Texts) (p : Times) (machine : MachineKind) (events : List Mach
   not_later : leads.0.moment ≤ moment
   not_later = subst (λ m. m ≤ moment) (ap moment_of leads.1 ∙ moment_is machine leads.0) low
 
-  -- so there is a run over the events that stands then just where that is within it
+  -- a run over the events stands at the moment exactly if the moment is within the limit
   runs_within : RunsUntil (key_rules p machine) events moment ↔ IsWithin moment limit
   runs_within =
       subst (λ r. RunsUntil r events moment ↔ IsWithin moment limit) (rules_are p machine) (
@@ -52,7 +52,7 @@ module _ (texts : Texts) (p : Times) (machine : MachineKind) (events : List Mach
       go None past within = false≢true past
       go (Some last) past within = omega (arith, ltb-true last moment past, within)
 
-  -- and one does up to it
+  -- a run stands at any moment up to the last one on record
   pub in_time_some : is_overdue moment (Some limit) ≡ false → RunsUntil (key_rules p machine) events moment
   in_time_some in_time = runs_within.1 (go limit in_time)
     where

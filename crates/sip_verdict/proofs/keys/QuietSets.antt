@@ -5,7 +5,7 @@ use Rattle.sip_standard.specs.Times.{Times}
 use Rattle.sip_machine.specs.Texts.{Texts}
 use Rattle.sip_machine.specs.NumberedEvent.{NumberedEvent, event_in}
 use Rattle.sip_standard.specs.MachineEvent.{MachineEvent}
-use Rattle.sip_machine.specs.Rules.{Rules, StandFor}
+use Rattle.sip_machine.specs.Rules.{MachineRules, StandFor}
 use Rattle.sip_states.specs.Runs.{Wait, RunGives, AfterRun, IsWide}
 use Rattle.sip_states.specs.Held.{Held}
 use Rattle.sip_standard.specs.KeyMachine.{MachineKind}
@@ -31,10 +31,10 @@ module _ (texts : Texts) (p : Times) (machine : MachineKind) (events : List Mach
   abbrev held : Held Times (StateOf machine)
   held = leads.0
 
-  abbrev r : Rules (PhaseOf machine)
+  abbrev r : MachineRules (PhaseOf machine)
   r = (meaning_of machine).rules p
 
-  -- the same set at the moment of the restart
+  -- the set as it is at the moment of the restart
   abbrev new : Held Times (StateOf machine)
   new = record { machine = held.machine; moment = e.moment; states = held.states }
 

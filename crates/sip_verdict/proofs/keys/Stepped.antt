@@ -18,7 +18,7 @@ module _ {K T : Type 0} (m : Machines K) (k : Keeping K T) (es : List (Observati
       subst (λ now. RunsUntil (m.rules (k.key t)) (events_of m (k.key t) (es ++ e ∷ [])) now) (sym (newest_moment-push es e))
       (subst (λ fs. RunsUntil (m.rules (k.key t)) fs e.event.moment) (sym at) run)
 
-  -- and the other way round
+  -- a key with a run over the entries has one over its events until the moment
   key_runs : (events : List MachineEvent) → events_of m (k.key t) (es ++ e ∷ []) ≡ events → HasRun m (k.key t) (es ++ e ∷ []) → RunsUntil (m.rules (k.key t)) events e.event.moment
   key_runs events at run =
       subst (λ fs. RunsUntil (m.rules (k.key t)) fs e.event.moment) at

@@ -56,11 +56,11 @@ ways_ascii : (i : Item) (keys : List KeyParts) (e : Observation KeyParts) (way :
 ways_ascii i keys e None ascii is = subst (All (λ k. IsAscii k.method)) (sym (ap (λ x. x.keys) is)) (silent_ascii i.action i.moment keys ascii)
 ways_ascii i keys e (Some d) ascii observes = message_ascii i e d observes
 
--- so have those of an entry after others whose keys have
+-- the keys of an entry have methods in ASCII
 entry_ascii : (before : List (Observation KeyParts)) (i : Item) (e : Observation KeyParts) → All (λ k. IsAscii k.method) (keys_in before) → message_reading.Observes before i e → All (λ k. IsAscii k.method) e.keys
 entry_ascii before i e ascii observes = ways_ascii i (keys_in before) e (direction_of i.action) ascii observes
 
--- and the keys of entries, one after another
+-- the keys of some entries and of others have methods in ASCII
 more_ascii : (keys more : List KeyParts) → All (λ k. IsAscii k.method) keys → All (λ k. IsAscii k.method) more → All (λ k. IsAscii k.method) (fold (with_key same_key) keys more)
 more_ascii keys [] old new = old
 more_ascii keys (k ∷ more) old new = more_ascii (with_key same_key keys k) more (one (list_any (same_key k) keys)) (All-tail (λ x. IsAscii x.method) k more new)
@@ -69,14 +69,14 @@ more_ascii keys (k ∷ more) old new = more_ascii (with_key same_key keys k) mor
     one true = old
     one false = All-push (λ x. IsAscii x.method) keys k old (All-head (λ x. IsAscii x.method) k more new)
 
-keys_ascii_behind : (before : List (Observation KeyParts)) (items : List Item) (es : List (Observation KeyParts)) → All (λ k. IsAscii k.method) (keys_in before) → AreObserved message_reading before items es
+keys_ascii_after : (before : List (Observation KeyParts)) (items : List Item) (es : List (Observation KeyParts)) → All (λ k. IsAscii k.method) (keys_in before) → AreObserved message_reading before items es
     → All (λ k. IsAscii k.method) (keys_in (before ++ es))
-keys_ascii_behind before [] [] ascii seen = subst (λ es. All (λ k. IsAscii k.method) (keys_in es)) (sym (append-nil before)) ascii
-keys_ascii_behind before [] (e ∷ es) ascii seen = absurd seen
-keys_ascii_behind before (i ∷ items) [] ascii seen = absurd seen
-keys_ascii_behind before (i ∷ items) (e ∷ es) ascii seen =
+keys_ascii_after before [] [] ascii seen = subst (λ es. All (λ k. IsAscii k.method) (keys_in es)) (sym (append-nil before)) ascii
+keys_ascii_after before [] (e ∷ es) ascii seen = absurd seen
+keys_ascii_after before (i ∷ items) [] ascii seen = absurd seen
+keys_ascii_after before (i ∷ items) (e ∷ es) ascii seen =
     subst (λ all. All (λ k. IsAscii k.method) (keys_in all)) (append_assoc before (e ∷ []) es)
-    (keys_ascii_behind (before ++ e ∷ []) items es
+    (keys_ascii_after (before ++ e ∷ []) items es
     (subst (All (λ k. IsAscii k.method)) (sym (keys_of-push (key_machines any_times) before e)) (more_ascii (keys_in before) e.keys ascii (entry_ascii before i e ascii seen.0))) seen.1)
   where
     any_times : Times
@@ -84,7 +84,7 @@ keys_ascii_behind before (i ∷ items) (e ∷ es) ascii seen =
 
 pub observed_ascii : (items : List Item) (before : List (Observation KeyParts)) (i : Item) (e : Observation KeyParts) → AreObserved message_reading [] items before → message_reading.Observes before i e
     → All (λ k. IsAscii k.method) e.keys
-observed_ascii items before i e seen observes = entry_ascii before i e (keys_ascii_behind [] items before (All-nil (λ k. IsAscii k.method)) seen) observes
+observed_ascii items before i e seen observes = entry_ascii before i e (keys_ascii_after [] items before (All-nil (λ k. IsAscii k.method)) seen) observes
 
 -- Among keys that differ, the one at a place is the first that is the same.
 first_place : (keys : List KeyParts) → AllPairs (λ a b. a ≢ b) keys → (n : ℕ) (key : KeyParts) → slice_get keys n ≡ Some key → IsFirstKey (λ k. same_key key k ≡ true) keys (n + 1)

@@ -24,11 +24,11 @@ use Rattle.sip_verdict.specs.MessageReading.{key_machines, message_reading}
 use Rattle.sip_verdict.specs.inner.Tracking.{Tracks, IsJudged}
 use Rattle.sip_verdict.specs.inner.TablesTracking.{key_keeping, transactions_of, TablesTrack}
 use Rattle.sip_verdict.specs.inner.Numbering.{AreNumbered, StaysNumbered, IsListedEntry}
-use Rattle.sip_verdict.specs.inner.Walking.{HasRead, Walks, WalksOn, IsBehind, listed_after}
+use Rattle.sip_verdict.specs.inner.Walking.{HasRead, Walks, WalksOn, ComesAfter, listed_after}
 use Rattle.sip_verdict.specs.Reading.{Judges, IsVerdictBy, AreObserved}
 use Rattle.sip_verdict.proofs.sweeps.FollowedLemmas.{observed_moment}
 use Rattle.sip_verdict.proofs.judges.JudgingLemmas.{observed-push, judges_front, judged_ends, judged_trouble}
-use Rattle.sip_verdict.proofs.verdicts.VerdictLemmas.{observed-seen, behind-verdict, by-verdict}
+use Rattle.sip_verdict.proofs.verdicts.VerdictLemmas.{observed-seen, verdict-after, by-verdict}
 use Rattle.sip_verdict.proofs.judges.JudgeLemmas.{verdict_of}
 use Rattle.sip_verdict.proofs.listings.NumberingLemmas.{numbered_start}
 use Rattle.sip_verdict.proofs.tables.TrackingLemmas.{tracks_none}
@@ -51,12 +51,12 @@ walks_start start now p texts t none empty read = subst (Walks start now texts) 
 })
 
 -- trouble after so many entries is that of the next
-behind_trouble : {K : Type 0} (m : Machines K) (es : List (Observation K)) (e : Observation K) (v : Verdict) (count : ℕ) → count ≡ length es → IsTrouble m es e v → IsBehind count v
-behind_trouble m es e (Legal whole transactions) count many is = absurd is
-behind_trouble m es e (Malformed entry fault) count many is = omega (arith, is.0, many)
-behind_trouble m es e (Breach entry transaction) count many is = omega (arith, is.0, many)
-behind_trouble m es e (Undecided entry transaction) count many is = omega (arith, is.0, many)
-behind_trouble m es e (FaultOfLog entry reason) count many is = absurd is
+next_trouble : {K : Type 0} (m : Machines K) (es : List (Observation K)) (e : Observation K) (v : Verdict) (count : ℕ) → count ≡ length es → IsTrouble m es e v → ComesAfter count v
+next_trouble m es e (Legal whole transactions) count many is = absurd is
+next_trouble m es e (Malformed entry fault) count many is = omega (arith, is.0, many)
+next_trouble m es e (Breach entry transaction) count many is = omega (arith, is.0, many)
+next_trouble m es e (Undecided entry transaction) count many is = omega (arith, is.0, many)
+next_trouble m es e (FaultOfLog entry reason) count many is = absurd is
 
 trouble_low : {K : Type 0} (m : Machines K) (es : List (Observation K)) (e : Observation K) (v : Verdict) (count : ℕ) → count ≡ length es → IsTrouble m es e v → IsSomeAnd (trouble_of v) (λ k. k ≤ count + 1)
 trouble_low m es e (Legal whole transactions) count many is = absurd is
@@ -70,24 +70,24 @@ legal_until : (p : Times) (items : List Item) (es : List (Observation KeyParts))
     → IsVerdictAfter p [] items Clean (Legal count (length (keys_in es)))
 legal_until p items es count observed good counts =
     let v : Verdict = Legal count (length (keys_in es)) in
-    behind-verdict p [] items Clean v
+    verdict-after p [] items Clean v
     (subst (λ all. Judges message_reading p [] all Clean v) (append-nil items) (judges_front message_reading p Clean v [] items [] es observed good (ap (λ n. Legal n (length (keys_in es))) counts)))
 
 -- what is listed of a later entry where this verdict comes before it
-pub listed_before : (start : Option (List ℕ)) (entry count : ℕ) (v : Verdict) → count < entry → IfSome start (λ input. IsVerdictOf input v) → IsBehind count v → IfSome start (λ input. IsListingOf input entry (listed_after v))
-listed_before start entry count (Legal whole transactions) low is behind =
-    IfSome-map start (λ input. IsVerdictOf input (Legal whole transactions)) (λ input. IsListingOf input entry NoEntry) (λ input verdict. inr (whole, transactions, verdict, omega (arith, behind, low))) is
-listed_before start entry count (Malformed at fault) low is behind =
-    IfSome-map start (λ input. IsVerdictOf input (Malformed at fault)) (λ input. IsListingOf input entry (Stopped (Malformed at fault))) (λ input verdict. (verdict, omega (arith, behind, low))) is
-listed_before start entry count (Breach at transaction) low is behind =
-    IfSome-map start (λ input. IsVerdictOf input (Breach at transaction)) (λ input. IsListingOf input entry (Stopped (Breach at transaction))) (λ input verdict. (verdict, omega (arith, behind, low))) is
-listed_before start entry count (Undecided at transaction) low is behind =
-    IfSome-map start (λ input. IsVerdictOf input (Undecided at transaction)) (λ input. IsListingOf input entry (Stopped (Undecided at transaction))) (λ input verdict. (verdict, omega (arith, behind, low))) is
-listed_before start entry count (FaultOfLog at reason) low is behind =
-    IfSome-map start (λ input. IsVerdictOf input (FaultOfLog at reason)) (λ input. IsListingOf input entry (Stopped (FaultOfLog at reason))) (λ input verdict. (verdict, omega (arith, behind, low))) is
+pub listed_before : (start : Option (List ℕ)) (entry count : ℕ) (v : Verdict) → count < entry → IfSome start (λ input. IsVerdictOf input v) → ComesAfter count v → IfSome start (λ input. IsListingOf input entry (listed_after v))
+listed_before start entry count (Legal whole transactions) low is next =
+    IfSome-map start (λ input. IsVerdictOf input (Legal whole transactions)) (λ input. IsListingOf input entry NoEntry) (λ input verdict. inr (whole, transactions, verdict, omega (arith, next, low))) is
+listed_before start entry count (Malformed at fault) low is next =
+    IfSome-map start (λ input. IsVerdictOf input (Malformed at fault)) (λ input. IsListingOf input entry (Stopped (Malformed at fault))) (λ input verdict. (verdict, omega (arith, next, low))) is
+listed_before start entry count (Breach at transaction) low is next =
+    IfSome-map start (λ input. IsVerdictOf input (Breach at transaction)) (λ input. IsListingOf input entry (Stopped (Breach at transaction))) (λ input verdict. (verdict, omega (arith, next, low))) is
+listed_before start entry count (Undecided at transaction) low is next =
+    IfSome-map start (λ input. IsVerdictOf input (Undecided at transaction)) (λ input. IsListingOf input entry (Stopped (Undecided at transaction))) (λ input verdict. (verdict, omega (arith, next, low))) is
+listed_before start entry count (FaultOfLog at reason) low is next =
+    IfSome-map start (λ input. IsVerdictOf input (FaultOfLog at reason)) (λ input. IsListingOf input entry (Stopped (FaultOfLog at reason))) (λ input verdict. (verdict, omega (arith, next, low))) is
 
 module _ (start : Option (List ℕ)) (now : log.ReaderState) (texts : Texts) (t : Tabled) (walks : Walks start now texts t) where
-  -- so many entries were judged
+  -- the count is that of the entries that were judged
   judged_count : now.count ≡ length walks.judged.es
   judged_count = read_count start t.times walks.judged.items now walks.judged.read ∙ walks.judged.long
 
@@ -145,7 +145,7 @@ module _ (start : Option (List ℕ)) (now : log.ReaderState) (texts : Texts) (t 
     walks_on texts2 u (Some v) says numbered times last =
         let j = walks.judged in
         let h = says j.es j.follows number_is in_order in
-        (verdict_of start v (judged_trouble message_reading t.times _ start now j j.follows.good (item e) new read h.0 h.1 v h.2), behind_trouble (key_machines t.times) j.es h.0 v count (counts ∙ judged_count) h.2)
+        (verdict_of start v (judged_trouble message_reading t.times _ start now j j.follows.good (item e) new read h.0 h.1 v h.2), next_trouble (key_machines t.times) j.es h.0 v count (counts ∙ judged_count) h.2)
 
     -- what is listed of it
     pub walks_listed : (listing : Listing)

@@ -37,7 +37,7 @@ not_below texts rising d (suc i) low =
     let more = rising i (suc i) d (omega arith) low in
     omega (arith, before, more)
 
--- so it keeps at most so many messages with numbers below this one
+-- a book whose numbers are all below this one keeps at most this many messages
 pub book_few : (texts : Texts) → IsBook texts → (number : ℕ) → ((n : ℕ) → Keeps texts n → n < number) → length texts ≤ number
 book_few texts book number below = go (length texts) refl
   where
@@ -52,11 +52,11 @@ book_few texts book number below = go (length texts) refl
 
 -- What was named.
 
--- so many were named after the entries
+-- as many messages were named after some entry as are named after the last
 pub now_named : {K : Type 0} (m : Machines K) (messages : (key : K) → m.State key → List (List ℕ)) (es : List (Observation K)) (count : ℕ) → AreMany (IsNamed m messages es) count → WereNamed m messages es count
 now_named m messages es count many = record { front = es; rest = []; whole = sym (append-nil es); many = many }
 
--- or before one more
+-- what was named after some entry was so before one entry more
 more_named : {K : Type 0} (m : Machines K) (messages : (key : K) → m.State key → List (List ℕ)) (es : List (Observation K)) (e : Observation K) (count : ℕ) → WereNamed m messages es count
     → WereNamed m messages (es ++ e ∷ []) count
 more_named m messages es e count w = record { front = w.front; rest = w.rest ++ e ∷ []; whole = ap (λ xs. xs ++ e ∷ []) w.whole ∙ append_assoc w.front w.rest (e ∷ []); many = w.many }

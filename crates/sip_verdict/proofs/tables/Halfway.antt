@@ -203,7 +203,7 @@ module _ (texts : Texts) (p : Times) (es : List (Observation KeyParts)) (e : Obs
         overdue_none texts p (machine_of_key p.rules key) (events_of (key_machines p) key es) (newest_moment es) s leads limit (recorded.each n s (Some limit) here on) moment newest low is
         (subst (RunsUntil (key_rules p (machine_of_key p.rules key)) (events_of (key_machines p) key es)) at_moment (run_still (key_machines p) (key_keeping texts p) es e (key, s) run))
 
-    -- and up to it, it goes on
+    -- a transaction whose last moment is not past goes on
     in_time : (r : Option (Option ℕ)) → slice_get t.records n ≡ Some r → is_overdue moment r ≡ false → is_among numbers (n + 1) ≡ false → GoesOn (key_machines p) (key_keeping texts p) es e (key, s)
     in_time None on is other = absurd (false≢true (sym other ∙ recorded.each n s None here on))
     in_time (Some limit) on is other = elim (others n key s at here other) [ inl apart ↦ waits_on apart | inr goes ↦ goes ]
@@ -277,7 +277,7 @@ module _ (texts : Texts) (p : Times) (es : List (Observation KeyParts)) (e : Obs
       halfway_all texts p es e t.keys t may.long (overdue_outcome (due_of t moment))
       (subst (λ ns. IsHalfway texts p es e t.keys ns t (overdue_outcome (due_of t moment))) none halfway_start)
 
-  -- and of one whose event was heard by each that it concerns
+  -- the outcome of an entry whose event was heard by each transaction that it concerns
   pub heard_outcome : (event : NumberedEvent) → ((n : ℕ) (key : KeyParts) → slice_get t.keys n ≡ Some key → e.event ≡ event_in texts event) → newest_moment es ≤ event.moment → All (IsGiven t) numbers → AllPairs (λ a b. a ≢ b) numbers → (u : Tabled)
       → length u.sets ≡ length u.keys → (outcome : Outcome) → HearsEach texts event numbers t (overdue_outcome (due_of t moment)) u outcome
       → IsOutcome (key_machines p) (key_keeping texts p) es e (transactions_of u) outcome

@@ -9,7 +9,7 @@ use Rattle.sip_standard.specs.Times.{Times}
 use Rattle.sip_machine.specs.Texts.{Texts, IsBook, Keeps, text_of}
 use Rattle.sip_machine.specs.Retained.{only}
 use Rattle.sip_standard.specs.MachineEvent.{MachineEvent}
-use Rattle.sip_machine.specs.Rules.{Rules, IsLawful, StandFor}
+use Rattle.sip_machine.specs.Rules.{MachineRules, IsLawful, StandFor}
 use Rattle.sip_machine.proofs.texts.RetainLemmas.{length-only}
 use Rattle.sip_states.specs.Runs.{Wait, RuledRun}
 use Rattle.sip_states.specs.Held.{Held}
@@ -35,7 +35,7 @@ use Rattle.sip_verdict.proofs.tables.TablesPassing.{at_place, All-place, zip-pla
 use Rattle.sip_verdict.proofs.sweeps.NamedLemmas.{RunNames, IsNumberOf, waited_names, silent_names, named_of, first_silent, ended_silent, Contains-flat_map, Contains-from_flat_map}
 
 -- a run over no event stands in the first state
-stays_first : {X : Type 0} (r : Rules X) → IsLawful r → (m : ℕ) (y : X) → RuledRun r [] m y → y ≡ r.first
+stays_first : {X : Type 0} (r : MachineRules X) → IsLawful r → (m : ℕ) (y : X) → RuledRun r [] m y → y ≡ r.first
 stays_first {X} r lawful m y run = go ((Wait-cases r lawful (λ x. x ≡ r.first) 0 m y).0 ((Run-wait_first r m y).0 run))
   where
     go : StaysFrom r (λ x. x ≡ r.first) 0 m y ⊎ EndsFrom r (λ x. x ≡ r.first) 0 m y → y ≡ r.first
@@ -77,7 +77,7 @@ module _ (texts : Texts) (book : IsBook texts) (p : Times) (moment : ℕ) where
     abbrev held : Held Times (StateOf machine)
     held = leads.0
 
-    abbrev r : Rules (PhaseOf machine)
+    abbrev r : MachineRules (PhaseOf machine)
     r = (meaning_of machine).rules p
 
     not_later : held.moment ≤ moment
@@ -146,7 +146,7 @@ module _ (texts : Texts) (book : IsBook texts) (p : Times) (moment : ℕ) where
           record { key = key; state = y; stands = subst (λ n. RuledRun (key_rules p (machine_of_key p.rules key)) (events_of (key_machines p) key es) n y) (sym newest) run; names = names },
     )
 
-    -- so there are just as many as messages that are kept
+    -- as many messages are named as are kept
     pub many_named : (numbers : List ℕ) → AllPairs (λ a b. a < b) numbers → ((n : ℕ) → Contains numbers n ↔ Contains (flat_map numbers_of u.sets) n) → All (Keeps texts) numbers
         → AreMany (IsNamed (key_machines p) (key_messages p) es) (length (only numbers texts))
     many_named numbers up same kept = many_texts texts book (IsNamed (key_machines p) (key_messages p) es) (flat_map numbers_of u.sets) tables_named numbers up same kept

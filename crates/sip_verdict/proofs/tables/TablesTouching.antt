@@ -11,7 +11,7 @@ use Rattle.sip_standard.specs.Times.{Times}
 use Rattle.sip_machine.specs.Texts.{Texts, Keeps}
 use Rattle.sip_machine.specs.NumberedEvent.{event_in}
 use Rattle.sip_standard.specs.KeyMachine.{machine_of_key}
-use Rattle.sip_states.specs.KeySets.{start_is}
+use Rattle.sip_states.proofs.keyed.KeySetLaws.{start_is}
 use Rattle.sip_states.specs.Meaning.{IsKnown}
 use Rattle.sip_states.specs.AnySet.{moment_of, IsKnownSet, start_of, meaning_of}
 use Rattle.sip_states.specs.Tables.{Tabled, Touches, with_key}
@@ -156,7 +156,7 @@ module _ (texts : Texts) (p : Times) where
       absent : ¬ Contains old.keys key
       absent (i, low, is) = h.0 i key low is
 
-  -- and of all that are
+  -- what was kept of some keys is kept when keys are touched one after another
   pub kept_each : (es : List (Observation KeyParts)) (keys ks : List KeyParts) (ns : List ℕ) (old new : Tabled) → old.times ≡ p → length old.sets ≡ length old.keys → TouchesEach ks ns old new
       → AreKept (key_machines p) (key_keeping texts p) es keys (transactions_of old) → AreKept (key_machines p) (key_keeping texts p) es (fold (keyed.with_key same_key) keys ks) (transactions_of new)
   kept_each es keys [] [] old new times long same kept = subst (λ t. AreKept (key_machines p) (key_keeping texts p) es keys (transactions_of t)) (sym same) kept
@@ -173,7 +173,7 @@ slice_get-more [] ys n x at = absurd cc
 slice_get-more (u ∷ xs) ys zero x at = at
 slice_get-more (u ∷ xs) ys (suc n) x at = slice_get-more xs ys n x at
 
--- and the last one is after them
+-- the last element stands after all others
 slice_get-last : {A : Type 0} (xs : List A) (x : A) → slice_get (xs ++ x ∷ []) (length xs) ≡ Some x
 slice_get-last [] x = refl
 slice_get-last (u ∷ xs) x = slice_get-last xs x

@@ -62,7 +62,7 @@ module _ {K T : Type 0} (m : Machines K) (k : Keeping K T) where
       good = s.good;
     }
 
-    -- so does one that concerns the keys of the entries
+    -- what tracks the entries is ready for one that concerns all of their keys
     pub before_all : IsExact m → (ts : List T) → e.keys ≡ keys_of m es → Tracks m k es ts → TracksBefore m k es e ts
     before_all exact ts all s = record {
       keys = s.keys ∙ sym (keys_of-push m es e ∙ ap (fold (with_key m.same) (keys_of m es)) all ∙ known (keys_of m es) (λ n d low. Contains-get_or (keys_of m es) n d low));

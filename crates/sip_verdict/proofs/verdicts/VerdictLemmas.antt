@@ -9,10 +9,11 @@ use Rattle.sip_standard.specs.LogSays.{LogEnd, Clean, Stops}
 use Rattle.sip_standard.specs.declared.verdict.Verdict.{Verdict}
 use Rattle.sip_standard.specs.declared.verdict.Verdict.TheVariants.{Legal, Malformed, Breach, Undecided, LogFault}
 use Rattle.sip_standard.specs.KeyMachine.{machine_of_key, transaction_of}
-use Rattle.sip_states.specs.KeySets.{coded_holds, key_rules}
+use Rattle.sip_states.specs.KeySets.{key_rules}
+use Rattle.sip_states.proofs.keyed.KeySetLaws.{coded_holds}
 use Rattle.sip_states.specs.Runs.{AfterRun}
 use Rattle.sip_standard.specs.Stands.{StandsAfter}
-use Rattle.sip_states.proofs.runs.StandsLemmas.{stands-runs, behind-after}
+use Rattle.sip_states.proofs.runs.StandsLemmas.{stands-runs, stands-after}
 use Rattle.sip_standard.specs.Observation.{Observation}
 use Rattle.sip_verdict.specs.Keyed.{HasRun, newest_moment}
 use Rattle.sip_verdict.specs.Verdicts.{IsFirst, IsTooWide, IsTrouble}
@@ -43,9 +44,9 @@ over-run p es key (y, stands) =
 
 module _ (p : Times) (front : List (Observation KeyParts)) (e : Observation KeyParts) where
   -- what stands after the entry
-  behind : (key : KeyParts) (y : Owing (transaction_of (machine_of_key p.rules key)).Phase) →
+  stands_after : (key : KeyParts) (y : Owing (transaction_of (machine_of_key p.rules key)).Phase) →
       StandsAfter (transaction_of (machine_of_key p.rules key)).figure p (events_for key front) e.event y ↔ AfterRun (key_rules p (machine_of_key p.rules key)) (events_for key front) e.event y
-  behind key y = let machine = machine_of_key p.rules key in behind-after (transaction_of machine).figure (coded_holds machine).is_figure p (events_for key front) e.event y
+  stands_after key y = let machine = machine_of_key p.rules key in stands-after (transaction_of machine).figure (coded_holds machine).is_figure p (events_for key front) e.event y
 
   -- a key that is too wide
   pub wide-at : (key : KeyParts) → IsTooWide (key_machines p) front e key → IsWideAt p front e key
@@ -56,14 +57,14 @@ module _ (p : Times) (front : List (Observation KeyParts)) (e : Observation KeyP
       is.wide.distinct,
       is.wide.wide,
       All-weaker (AfterRun (key_rules p (machine_of_key p.rules key)) (events_for key front) e.event) (StandsAfter (transaction_of (machine_of_key p.rules key)).figure p (events_for key front) e.event)
-          (λ y after. (behind key y).1 after) is.wide.many is.wide.each,
+          (λ y after. (stands_after key y).1 after) is.wide.many is.wide.each,
     ),
   )
 
   pub at-wide : (key : KeyParts) → IsWideAt p front e key → IsTooWide (key_machines p) front e key
   at-wide key (concerned, (many, distinct, wide, each)) =
       let after = All-weaker (StandsAfter (transaction_of (machine_of_key p.rules key)).figure p (events_for key front) e.event) (AfterRun (key_rules p (machine_of_key p.rules key)) (events_for key front) e.event)
-      (λ y stands. (behind key y).0 stands) many each in
+      (λ y stands. (stands_after key y).0 stands) many each in
       record { concerned = concerned; wide = record { many = many; distinct = distinct; wide = wide; each = after } }
 
   -- an entry in trouble
@@ -101,26 +102,26 @@ observed-seen before (item ∷ items) [] observed = observed
 observed-seen before (item ∷ items) (e ∷ es) (sees, more) = (sees, observed-seen (before ++ e ∷ []) items es more)
 
 -- the entries that are left
-pub behind-verdict : (p : Times) (es : List (Observation KeyParts)) (items : List Item) (end : LogEnd) (v : Verdict) → Judges message_reading p es items end v → IsVerdictAfter p es items end v
-behind-verdict p es [] Clean v is = is
-behind-verdict p es [] (Stops fault) v is = is
-behind-verdict p es (item ∷ items) end v (e, sees, inl trouble) = (e, sees, inl (has-trouble p es e v trouble))
-behind-verdict p es (item ∷ items) end v (e, sees, inr (fine, more)) = (
+pub verdict-after : (p : Times) (es : List (Observation KeyParts)) (items : List Item) (end : LogEnd) (v : Verdict) → Judges message_reading p es items end v → IsVerdictAfter p es items end v
+verdict-after p es [] Clean v is = is
+verdict-after p es [] (Stops fault) v is = is
+verdict-after p es (item ∷ items) end v (e, sees, inl trouble) = (e, sees, inl (has-trouble p es e v trouble))
+verdict-after p es (item ∷ items) end v (e, sees, inr (fine, more)) = (
   e,
   sees,
   inr (
     fine.formed,
     All-weaker (λ key. HasRun (key_machines p) key (es ++ e ∷ [])) (RunsOver p (es ++ e ∷ [])) (run-over p (es ++ e ∷ [])) _ fine.runs,
     All-weaker (λ key. ¬ (IsTooWide (key_machines p) es e key)) (λ key. ¬ (IsWideAt p es e key)) (λ key none wide. none (at-wide p es e key wide)) _ fine.narrow,
-    behind-verdict p (es ++ e ∷ []) items end v more,
+    verdict-after p (es ++ e ∷ []) items end v more,
   ),
 )
 
-verdict-behind : (p : Times) (es : List (Observation KeyParts)) (items : List Item) (end : LogEnd) (v : Verdict) → IsVerdictAfter p es items end v → Judges message_reading p es items end v
-verdict-behind p es [] Clean v is = is
-verdict-behind p es [] (Stops fault) v is = is
-verdict-behind p es (item ∷ items) end v (e, sees, inl trouble) = (e, sees, inl (trouble-has p es e v trouble))
-verdict-behind p es (item ∷ items) end v (e, sees, inr (formed, runs, narrow, more)) = (
+after-verdict : (p : Times) (es : List (Observation KeyParts)) (items : List Item) (end : LogEnd) (v : Verdict) → IsVerdictAfter p es items end v → Judges message_reading p es items end v
+after-verdict p es [] Clean v is = is
+after-verdict p es [] (Stops fault) v is = is
+after-verdict p es (item ∷ items) end v (e, sees, inl trouble) = (e, sees, inl (trouble-has p es e v trouble))
+after-verdict p es (item ∷ items) end v (e, sees, inr (formed, runs, narrow, more)) = (
   e,
   sees,
   inr (
@@ -129,15 +130,15 @@ verdict-behind p es (item ∷ items) end v (e, sees, inr (formed, runs, narrow, 
       runs = All-weaker (RunsOver p (es ++ e ∷ [])) (λ key. HasRun (key_machines p) key (es ++ e ∷ [])) (over-run p (es ++ e ∷ [])) _ runs;
       narrow = All-weaker (λ key. ¬ (IsWideAt p es e key)) (λ key. ¬ (IsTooWide (key_machines p) es e key)) (λ key none wide. none (wide-at p es e key wide)) _ narrow;
     },
-    verdict-behind p (es ++ e ∷ []) items end v more,
+    after-verdict p (es ++ e ∷ []) items end v more,
   ),
 )
 
 -- the verdict of an input
 pub by-verdict : (input : List ℕ) (v : Verdict) → IsVerdictBy message_reading input v → IsVerdictOf input v
 by-verdict input v (inl (none, is)) = inl (none, is)
-by-verdict input v (inr (p, items, end, log, judges)) = inr (p, items, end, log, behind-verdict p [] items end v judges)
+by-verdict input v (inr (p, items, end, log, judges)) = inr (p, items, end, log, verdict-after p [] items end v judges)
 
 pub verdict-by : (input : List ℕ) (v : Verdict) → IsVerdictOf input v → IsVerdictBy message_reading input v
 verdict-by input v (inl (none, is)) = inl (none, is)
-verdict-by input v (inr (p, items, end, says, judges)) = inr (p, items, end, says, verdict-behind p [] items end v judges)
+verdict-by input v (inr (p, items, end, says, judges)) = inr (p, items, end, says, after-verdict p [] items end v judges)

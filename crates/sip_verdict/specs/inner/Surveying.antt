@@ -75,7 +75,7 @@ module _ (texts : Texts) (p : Times) (es : List (Observation KeyParts)) (e : Obs
   IsPassing waits b number key set false =
       IsSound p es key × MatchBool (waits number) (IsReady (key_machines p) (key_keeping texts p) es (key, set)) (GoesOn (key_machines p) (key_keeping texts p) es e (key, set))
 
-  -- so it is of each, and those that came into trouble have run out of runs or are too wide
+  -- each transaction is passing the entry, and those that came into trouble there have no run any more or are too wide
   pub record ArePassing (waits : ℕ → Bool) (t : Tabled) (b : Troubled) : Type 0 where
     pub broken : (number : ℕ) → Contains b.broken.items number → IsNumberOf (Breaks p es e) t.keys number
     pub wide : (number : ℕ) → Contains b.wide.items number → IsNumberOf (λ key. Widens p es e key × RunsOver p (es ++ e ∷ []) key) t.keys number
@@ -106,7 +106,7 @@ fault_listing entry (Some fault) = Malformed entry fault ∷ []
 abbrev pub listing : ℕ → List ℕ → List ℕ → List Finding
 listing entry broken wide = map (λ transaction. Breach entry transaction) broken ++ map (λ transaction. Undecided entry transaction) wide
 
--- the same numbers, each once and ascending
+-- the second list has the numbers of the first, each once and ascending
 abbrev pub AreAscending : List ℕ → List ℕ → Type 0
 AreAscending numbers ascending = AllPairs (λ i k. i < k) ascending × ((n : ℕ) → Contains ascending n ↔ Contains numbers n)
 

@@ -5,7 +5,7 @@ use Rattle.sip_machine.specs.Texts.{Texts}
 use Rattle.sip_states.specs.Tables.{Tabled}
 use Rattle.sip_standard.specs.LogSays.{most_entries}
 use Rattle.sip_log.specs.Reading as log
-use Rattle.sip_log.specs.Reading.{Place, entries}
+use Rattle.sip_log.specs.Reading.{ProgressState, entries}
 use Rattle.sip_verdict.specs.declared.stage.Stage.TheVariants.{Open}
 use Rattle.sip_standard.specs.declared.verdict.Verdict.{Verdict}
 use Rattle.sip_standard.specs.Observation.{Observation}
@@ -20,7 +20,7 @@ AreFollowedOn texts t left es e None = AreFollowed texts t left (es ++ e ∷ [])
 AreFollowedOn texts t left es e (Some v) = IsTrouble (key_machines t.times) es e v
 
 -- the judge goes on, and took all entries that were read up to this place
-pub record IsAt (j : Judging) (place : Place) : Type 0 where
+pub record IsAt (j : Judging) (place : ProgressState) : Type 0 where
   pub on : place.stage ≡ entries
   pub goes_on : j.stage ≡ Open
   pub counts : j.number ≡ place.count

@@ -129,11 +129,11 @@ pub record AreOnRecord (waits : List ℕ) (t : Tabled) : Type 0 where
   pub long : length t.records ≡ length t.keys
   pub each : (n : ℕ) (set : AnySet) (recorded : Option (Option ℕ)) → slice_get t.sets n ≡ Some set → slice_get t.records n ≡ Some recorded → IsOnRecord waits (n + 1) set recorded
 
--- the same where none is still to hear one
+-- each last moment is on record
 abbrev pub AllAreOnRecord : Tabled → Type 0
 AllAreOnRecord t = AreOnRecord [] t
 
--- the same after an entry, unless it is in trouble
+-- after an entry each last moment is on record, unless the entry is in trouble
 abbrev pub AreOnRecordIf : Outcome → Tabled → Type 0
 AreOnRecordIf all.Fine t = AllAreOnRecord t
 AreOnRecordIf (all.NoRun number) t = ⊤
@@ -154,7 +154,7 @@ pub record Hears (texts : Texts) (e : NumberedEvent) (number : ℕ) (old new : T
   pub stepped : (p : Times) (machine : MachineKind) (events : List MachineEvent) (from : ℕ) → from ≤ e.moment → LeadsOf texts p machine events from before
       → IsStepped (key_rules p machine) events (event_in texts e) (λ es. LeadsOf texts p machine es e.moment after) (λ f. StandsOf texts p machine events f after) fate
 
--- the same, with the outcome
+-- the set with this number has heard the event, and the outcome says what that leaves of its runs
 abbrev pub HearsOne : Texts → NumberedEvent → ℕ → Tabled → Tabled → Outcome → Type 0
 HearsOne texts e number old new outcome = (fate : Fate) × Hears texts e number old new fate × (outcome ≡ outcome_of number fate)
 

@@ -205,7 +205,7 @@ pub cut-no_display : (text : List ℕ) → (HasScheme text → ⊥) → NotRead 
 cut-no_display text no_has none c (named inner display uri rest) = none (c.display, inner) display
 cut-no_display text no_has none c (plain has is all stops whole) = no_has has
 
--- nor is one whose angle is not closed
+-- an address whose angle is not closed is not read
 pub cut-open : (text inner : List ℕ) (d : Option (List ℕ)) → (HasScheme text → ⊥) → ReadAs (DisplayFront text) (d, inner) → None ≡ behind right_angle inner → NotRead (AddressCut text)
 cut-open text inner d no_has is missing c (named i display uri rest) =
     let same : ◌≡◌ {A = Option (List ℕ) × List ℕ} (c.display, i) (d, inner) = is.1 (c.display, i) display in
@@ -241,7 +241,7 @@ tail-empty text params behind some none p is =
     at [] e whole = both_ways (nat_eq (length text) 0) some (ap (λ t. nat_eq (length t) 0) whole)
     at (b ∷ q) e whole = absurd (omega (arith, e))
 
--- nor does what is no parameters
+-- a text that is no parameters is no tail
 pub tail-no_params : (text params : List ℕ) → IsOnlyBehind text params → (((ps : List (List ℕ × Option (List ℕ))) × ParamsPart params ps) → ⊥) → NotRead (TailText text)
 tail-no_params text params behind none p is =
     none (is.1.0, subst (λ t. ParamsPart t is.1.0) (behind.1 p (tail-behind text p is)) is.1.1)
@@ -267,7 +267,7 @@ before-display (Some name) d text inner fits (e, t, e_is, (s, l, sws, l_is, t_is
     at (inl quoted) = inl (quoted, flat)
     at (inr words) = inr (words, (left_angle ∷ inner, behind_is, refl), flat)
 
--- and back
+-- a display name that is read at the front stands before the URI
 display-before : (display : Option (List ℕ)) (text inner : List ℕ) → DisplayFront text (display, inner) → (d : List ℕ) × BeforeUri display d × (text ≡ d ++ inner)
 display-before None text inner is = (left_angle ∷ [], refl, is)
 display-before (Some name) text inner (rest, is, (stops, (s, y, sws, y_is, rest_is))) = (
@@ -371,7 +371,7 @@ one-steps text =
     one-seq (TailText c.rest) _ (one-tail c.rest) (λ params.
     one-last (text, record { display = c.display; uri_text = c.uri; uri = uri; params = params }))))
 
--- and in one way by the grammar
+-- the grammar gives an address in one way
 pub one-address : (text : List ℕ) (a b : AddressParts) → AddressText text a → AddressText text b → a ≡ b
 one-address text a b one other = ap (λ x. x.1) (one-steps text (text, a) (text, b) (address-steps text a one) (address-steps text b other))
 

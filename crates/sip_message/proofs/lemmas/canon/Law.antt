@@ -254,7 +254,7 @@ field-cut line f is =
     at (b ∷ name) token begins =
         both_ways (is_token_byte b) (blank-token b (wsp-blank b begins)) (each-token (b ∷ name) token).0
 
--- so are the lines of fields
+-- the canonical lines of fields spell the fields, unfolded
 fields-canon : (lines : List (List ℕ)) (fs : List Field) → FieldsText lines fs → FieldsText (map field_text (map unfolded_field fs)) (map unfolded_field fs)
 fields-canon [] fs is = subst (λ gs. FieldsText (map field_text (map unfolded_field gs)) (map unfolded_field gs)) (sym is) refl
 fields-canon (line ∷ lines) fs (f, more, is, are, whole) =

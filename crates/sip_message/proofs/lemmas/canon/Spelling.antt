@@ -86,7 +86,7 @@ from-same (b ∷ text) run inner all = at (is_lws_byte b) (from-same text (run +
     at true left right = left ∙ append_assoc run (b ∷ []) text
     at false left right = ap (λ t. t ++ b ∷ unfolded_from [] text) (inner-run run inner) ∙ ap (λ t. run ++ b ∷ t) right
 
--- and unfolding leaves such a text as it is
+-- a text without line ends stays as it is when it is unfolded
 pub unfolded-same : (text : List ℕ) → Inner text → unfolded text ≡ text
 unfolded-same text inner = from-same text [] tt inner
 
@@ -162,7 +162,7 @@ inner-many : (line : List ℕ) → Inner line → HasNoBareEnd line
 inner-many [] inner = many-nil _
 inner-many (b ∷ line) inner = many-cons _ (b ∷ []) line (inr (b, inner.0, refl)) (inner-many line inner.1)
 
--- and no bare line end
+-- lines without line ends in them have no bare one together
 pub inner-no_bare : (lines : List (List ℕ)) → AreInner lines → HasNoBareEnd (flat_map with_end lines)
 inner-no_bare [] inner = many-nil _
 inner-no_bare (l ∷ ls) inner =

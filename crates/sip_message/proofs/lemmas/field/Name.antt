@@ -37,7 +37,7 @@ name-token line rest name n =
 pub named-no_token : (line : List ℕ) → NotRead (TokenFront line) → NotRead (HasName line)
 named-no_token line none (name, rest) n = none (n.spelled, n.whole.3.0 ++ colon ∷ rest) (name-token line rest name n)
 
--- nor without the colon
+-- a line without a colon after its token has no name
 pub named-no_colon : (line token rest : List ℕ) → ReadAs (TokenFront line) (token, rest) → past colon (past_wsp rest) ≡ None → NotRead (HasName line)
 named-no_colon line token rest read none (name, more) n =
     let same : n.whole.3.0 ++ colon ∷ more ≡ rest = ap (λ x. x.1) (read.1 (n.spelled, n.whole.3.0 ++ colon ∷ more) (name-token line more name n)) in

@@ -22,7 +22,7 @@ pub led-some : (mark : ℕ) (Part : List ℕ → List ℕ × List ℕ → Type 0
 led-some mark Part text inner part rest solid one found is =
     read-one (LedFront mark Part text) (Some part, rest) (one-led mark Part text solid one) (inner, found.0, is)
 
--- and without one nothing is read
+-- where nothing is read after the mark, nothing is read with it
 pub no-led : (mark : ℕ) (Part : List ℕ → List ℕ × List ℕ → Type 0) (text inner : List ℕ) → ReadAs (MarkFront mark text) inner → NotRead (Part inner) → NotRead (LedFront mark Part text)
 no-led mark Part text inner found none (None, rest) (no_mark, is) = no_mark inner found.0
 no-led mark Part text inner found none (Some part, rest) (t, mark_too, is) =

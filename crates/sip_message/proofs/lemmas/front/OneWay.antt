@@ -145,7 +145,7 @@ each-hostname =
     labels : Each T (Many (One is_label_byte))
     labels = each-many T _ (each-one T is_label_byte token-label)
 
--- so has an IPv4 address
+-- all bytes of an IPv4 address are bytes of tokens
 pub each-v4 : Each T Ipv4
 each-v4 =
     each-then T _ _ group (each-then T _ _ (token-byte dot refl) (each-then T _ _ group (each-then T _ _ (token-byte dot refl)
@@ -159,7 +159,7 @@ pub bare-all : (u : List ℕ) → All T u → All B u
 bare-all [] all = tt
 bare-all (b ∷ u) all = (bare-token b all.0, bare-all u all.1)
 
--- and so are those of an IPv6 address
+-- all bytes of an IPv6 address are bytes of tokens or colons
 pub each-v6 : Each B Ipv6
 each-v6 =
     each-or B _ _ (each-then B _ _ hexpart (each-optional B _ (each-then B _ _ (bare-byte colon refl) v4_bare)))

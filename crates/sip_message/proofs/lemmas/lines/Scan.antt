@@ -118,7 +118,7 @@ cut-lf t front rest front_is rest_is = (
   subst (Lacks line_feed) (sym front_is) (lacks-before line_feed t),
 )
 
--- or at none
+-- a text without a LF has no line at its front
 pub cut-none : (text : List ℕ) (at : ℕ) → Scanned (take at text) (drop at text) → None ≡ behind line_feed (drop at text) → NotRead (LineFront text)
 cut-none text at scanned none =
     subst (λ t. NotRead (LineFront t)) (take-append-drop at text)
@@ -187,7 +187,7 @@ line-found text front rest at within scanned front_is rest_is line =
         ∙ ap (take (length (take at text ++ f.0))) (append_assoc (take at text) f.0 (crlf ++ rest) ∙ sym whole)
         ∙ ap (λ n. take n text) (omega (arith, length-append (take at text) f.0, length-take-le at text within, ap length f.1, length-append f.0 (carriage_return ∷ [])))
 
--- or it does not, and is scanned
+-- a line end that is none is passed, and the scan goes on
 pub line-on : (text front rest : List ℕ) (at : ℕ) → at ≤ length text → Scanned (take at text) (drop at text) → front ≡ before line_feed (drop at text) → Some rest ≡ behind line_feed (drop at text) → is_line front rest ≡ false → (at + length front + 1 ≤ length text) × Scanned (take (at + length front + 1) text) (drop (at + length front + 1) text)
 line-on text front rest at within scanned front_is rest_is line = (
   omega (arith, size, ap length whole, length-append (take at text ++ (front ++ line_feed ∷ [])) rest),

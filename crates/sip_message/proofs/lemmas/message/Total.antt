@@ -61,7 +61,7 @@ comes-read bytes =
     comes-then _ _ (comes-demand _ _) (λ _ _. comes-gives _))))) (λ body _. comes-gives _))))
     (λ out of_lines. never out (lines.0, lines.1, lines.2, of_lines))))
 
--- so bytes have a reading or a fault
+-- no bytes are without a reading and without a fault
 pub reading-or-fault : (bytes : List ℕ) → ((r : Reading) → ¬ (Reads bytes r)) → ¬ ((fault : Fault) → ¬ (Says bytes (stops fault)))
 reading-or-fault bytes no_reading no_fault = comes-read bytes at
   where

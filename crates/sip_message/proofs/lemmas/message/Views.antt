@@ -23,7 +23,7 @@ pub some-read : {A X : Type 0} (R : List ℕ → X → Type 0) (parts : A → X)
 some-read R parts text None none is = absurd (none _ is)
 some-read R parts text (Some a) read is = refl
 
--- and it is what it must be
+-- what is read of a text that is of the form is what it must be
 pub read-is : {A X : Type 0} (R : List ℕ → X → Type 0) (parts : A → X) (text : List ℕ) {x : X} (r : Option A) (a : A) → r ≡ Some a → IsOnlyValue R parts text r → R text x → parts a ≡ x
 read-is R parts text {x = x} r a some read is = sym ((subst (IsOnlyValue R parts text) some read).1 x is)
 
@@ -37,7 +37,7 @@ same-value known fields {a = a} {b = b} one other =
 pub keeps-from : {m : Message} {p : Parts} {v f t i c : List ℕ} → Keeps m p v f t i c → AddressValue f p.from
 keeps-from {m = m} {p = p} k = subst (λ x. AddressValue x p.from) (same-value known_name.From m.fields k.parts.is.from.1 k.from) k.parts.is.from.2
 
--- so is the To
+-- the value of the first To is an address, with the parts that the message has
 pub keeps-to : {m : Message} {p : Parts} {v f t i c : List ℕ} → Keeps m p v f t i c → AddressValue t p.to
 keeps-to {m = m} {p = p} k = subst (λ x. AddressValue x p.to) (same-value known_name.To m.fields k.parts.is.to.1 k.to) k.parts.is.to.2
 
@@ -45,7 +45,7 @@ keeps-to {m = m} {p = p} k = subst (λ x. AddressValue x p.to) (same-value known
 pub keeps-cseq : {m : Message} {p : Parts} {v f t i c : List ℕ} → Keeps m p v f t i c → CSeqValue c p.cseq
 keeps-cseq {m = m} {p = p} k = subst (λ x. CSeqValue x p.cseq) (same-value known_name.CSeq m.fields k.parts.is.cseq.1 k.cseq) k.parts.is.cseq.2
 
--- and the Call-ID
+-- the value of the first Call-ID is that of the message
 pub keeps-call_id : {m : Message} {p : Parts} {v f t i c : List ℕ} → Keeps m p v f t i c → i ≡ p.call_id
 keeps-call_id {m = m} k = same-value known_name.CallId m.fields k.call_id k.parts.is.call_id
 
@@ -82,7 +82,7 @@ same_text bytes m n one other =
     let same : ◌≡◌ {A = Outcome Message} (gives m) (gives n) = one-read bytes (gives m) (gives n) (text-read bytes m one) (text-read bytes n other) in
     cc
 
--- and are read in one way
+-- bytes are read in one way
 pub same_reading : (bytes : List ℕ) (r s : Reading) → Reads bytes r → Reads bytes s → r ≡ s
 same_reading bytes r s one other =
     let message = same_text bytes r.message s.message one.text other.text in

@@ -27,7 +27,7 @@ blanks-space = (space ∷ [], [], lws-space, many-nil Lws, refl)
 pub closed-blanks : Closed Blanks
 closed-blanks = closed-blank Blanks each-blanks blanks-space
 
--- and blanks that may be none stay so
+-- blanks that may be none stay so when a fold in them is unfolded
 pub closed-sws : Closed Sws
 closed-sws = closed-blank Sws each-sws (inr blanks-space)
 
@@ -43,7 +43,7 @@ closed-byte b is = closed-solid (Byte b) (each-byte b is)
 pub open-byte : (b : ℕ) → is_solid b ≡ true → AllOpen (Byte b)
 open-byte b is u v text = subst (λ t. OpensSolid (t ++ v)) (sym text) (solid_is b is)
 
--- and ends solid
+-- a byte that is no blank is firm
 pub firm-byte : (b : ℕ) → is_solid b ≡ true → AllFirm (Byte b)
 firm-byte b is u text = subst Firm (sym text) (solid_is b is)
 
@@ -77,7 +77,7 @@ some-run class u run none = absurd (omega (arith, ap length none, ap length run.
 pub firm-token : AllFirm Token
 firm-token = firm-solid Token solid-token (some-run is_token_byte)
 
--- and opens solid
+-- a token begins without a blank
 pub open-token : AllOpen Token
 open-token = open-solid Token solid-token (some-run is_token_byte)
 
@@ -138,7 +138,7 @@ firm-quoted =
     firm-then_right (Byte dquote) (Many (Qdtext or QuotedPair) then Byte dquote)
     (firm-then_right (Many (Qdtext or QuotedPair)) (Byte dquote) (firm-byte dquote refl))
 
--- and opens solid
+-- a quoted string begins without a blank
 pub open-quoted : (u : List ℕ) → Quoted u → OpensSolid u
 open-quoted u = opens-then (Byte dquote) (Many (Qdtext or QuotedPair) then Byte dquote) (open-byte dquote refl) u
 

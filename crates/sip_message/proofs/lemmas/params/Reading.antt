@@ -254,7 +254,7 @@ params-some text inner rest found all = (to rest all.0 all.1, from)
     from : AreParams text → IsTrue (nat_eq (length rest) 0)
     from are = ap (λ t. nat_eq (length t) 0) (params-is text all.0 are.0 rest all.1 are.1.1)
 
--- and another exactly if it is empty
+-- a text without a semicolon is parameters exactly if it is empty
 pub params-none : (text : List ℕ) → past semicolon text ≡ None → IsTrue (nat_eq (length text) 0) ↔ AreParams text
 params-none text none = (to text, (λ are. ap (λ t. nat_eq (length t) 0) (params-closed text are.0 none are.1)))
   where

@@ -49,7 +49,7 @@ long-name token =
     (two (has "supported") (has "k") known_name.Supported _
     (one (has "route") known_name.Route _ refl)))))))))))
 
--- and so are fields
+-- the canonical text of a field is the same, as it is read and as it is said
 same-text : (n : ℕ) (f : Field) (g : SaidField) → IsField n f g → field_text (unfolded_field f) ≡ form.field_text g
 same-text n f g (f_is, g_is, line_is, value_is) =
     ap₂ (λ name value. name ++ colon ∷ space ∷ unfolded value) (ap name_text f_is ∙ long-name g.spelled) (sym value_is)
@@ -74,7 +74,7 @@ text-canonical bytes m text = let told = (same-read bytes).to (gives m) (text-re
     at (gives y) tells is_told = (y, tells, same-form m y is_told)
     at (stops f) tells is_told = absurd is_told
 
--- and what has a canonical form spells a message
+-- bytes with a canonical form spell a message
 pub canonical-spells : (bytes text : List ℕ) → IsCanonical bytes text → (m : Message) × Spells bytes m × (text ≡ canon m)
 canonical-spells bytes text (told, tells, is) = let read = (same-read bytes).back (gives told) tells in at read.0 read.1 read.2
   where

@@ -102,11 +102,11 @@ text-says bytes r text parts = let told = (same-read bytes).to (gives r.message)
     at (gives y) tells is_told = passes y tells (said_of r, parts-tell r.message y.0 y.1 y.2 r.parts is_told parts, refl)
     at (stops f) tells is_told = absurd is_told
 
--- so they are read as that message
+-- bytes that spell a message are read as it
 pub text-reads : (bytes : List ℕ) (r : Reading) → MessageText bytes r.message → IsOnly (HasParts r.message.fields) r.parts → Reads bytes r
 text-reads bytes r text parts = record { says = text-says bytes r text parts.is; text = text; parts = parts }
 
--- and have a reading that says it
+-- bytes that say something have a reading that says it
 pub says-reads : (bytes : List ℕ) (s : Said) → Says bytes (gives s) → (r : Reading) × Reads bytes r × (s ≡ said_of r)
 says-reads bytes s (stopped f tells is) = absurd (no_value is)
 says-reads bytes s (passes y tells (t, fields, is)) = let read = (same-read bytes).back (gives y) tells in at read.0 read.1 read.2
@@ -122,7 +122,7 @@ says-reads bytes s (passes y tells (t, fields, is)) = let read = (same-read byte
           q.2,
         )
 
--- and their first fault is the one with which they are not read
+-- the first fault with which bytes are not read is the one that they say
 pub fault-says : (bytes : List ℕ) (f : Fault) → ReadOf bytes (stops f) → Says bytes (stops f)
 fault-says bytes f read = let told = (same-read bytes).to (stops f) read in at told.0 told.1 told.2
   where
@@ -138,7 +138,7 @@ says-fault bytes f (stopped g tells is) = let read = (same-read bytes).back (sto
     at (gives m) read is_told = absurd is_told
     at (stops h) read same = subst (λ z. ReadOf bytes (stops z)) (same ∙ sym (fault_is is)) read
 
--- so they say one message
+-- bytes that are read as a message say what that message says
 pub said-is : (bytes : List ℕ) (r : Reading) (s : Said) → Reads bytes r → Says bytes (gives s) → s ≡ said_of r
 said-is bytes r s reads says =
     let other = says-reads bytes s says in

@@ -222,7 +222,7 @@ pub elements-via : (text : List ℕ) (es : List Element) → ElementsText text e
 elements-via text [] none = absurd none
 elements-via text (e ∷ es) are = let row = elements-first text e es are in (e.1, row.0, row.1)
 
--- and the other way round
+-- the Vias of a text are its elements
 pub via-elements : (text : List ℕ) (v : ViaParts) (vias : List ViaParts) → ViasText text v vias → (x : List ℕ) × (es : List Element) × ElementsText text ((x, v) ∷ es)
 via-elements text v vias (x, y, via, more, whole) =
     let later = more-elements vias y more in

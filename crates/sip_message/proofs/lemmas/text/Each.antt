@@ -102,6 +102,6 @@ each-lws =
 pub each-blanks : Each is_lws_byte Blanks
 each-blanks = each-some is_lws_byte Lws each-lws
 
--- so are blanks that may be none
+-- all bytes of blanks, which may be none, are SP, HTAB, CR or LF
 pub each-sws : Each is_lws_byte Sws
 each-sws = each-optional is_lws_byte Blanks each-blanks

@@ -29,7 +29,7 @@ solid-byte b is u text = subst (All S) (sym text) (is, tt)
 pub solid-token : Each S Token
 solid-token = each-some S _ (solid-one is_token_byte refl refl refl refl)
 
--- so are digits
+-- digits are no blanks
 pub solid-digits : Each S (OneOrMore (One is_ascii_digit))
 solid-digits = each-some S _ (solid-one is_ascii_digit refl refl refl refl)
 
@@ -75,7 +75,7 @@ solid-v6 =
     each-or S _ _ (each-then S _ _ solid-hexpart (each-optional S _ (each-then S _ _ (solid-byte colon refl) solid-v4)))
     (each-then S _ _ (each-or S _ _ (each-then S _ _ solid-hexseq solid-double) solid-double) solid-v4)
 
--- and one in brackets
+-- an IPv6 address in brackets has no blanks
 pub solid-v6_reference : Each S Bracketed
 solid-v6_reference = each-then S _ _ (solid-byte 91 refl) (each-then S _ _ solid-v6 (solid-byte 93 refl))
 

@@ -104,7 +104,7 @@ pub trimmed-value : (text front value back : List ℕ) → IsTrimmed text front 
 trimmed-value text front value back is left right =
     record { opens = is.opens; ends = is.ends; whole = (front, value ++ back, left, (value, back, refl, right, refl), is.whole) }
 
--- and any value has blank runs at its ends
+-- a value has blank runs at both of its ends
 pub value-trimmed : (text front value back w : List ℕ) → IsTrimmed text front value back → ValueText text w → Sws front × Sws back
 value-trimmed text front value back w is of = at w of.opens of.ends (of.whole.4 ∙ ap (λ t. of.whole.0 ++ t) (of.whole.3.4 ∙ ap (λ t. t ++ b) of.whole.3.2))
   where

@@ -6,8 +6,8 @@ use Rattle.sip_verdict.specs.inner.TablesTracking.{MayHear}
 use Rattle.sip_verdict.proofs.judges.StandingLemmas.{grown_may, few_keys, may_hear, may_next, same_some}
 use Rattle.sip_verdict.proofs.tables.TablesTouching.{touches_may}
 use Rattle.sip_verdict.proofs.verdicts.MessageUnique.{observes_one}
-use Rattle.sip_verdict.proofs.surveys.Histories.{silent_histories, restart_histories, heard_histories, message_says, touched_low}
-use Rattle.sip_verdict.proofs.surveys.Taken.{unheard_taken, fault_taken, restart_taken, heard_taken, watched_touched}
+use Rattle.sip_verdict.proofs.surveys.kept.Histories.{silent_histories, restart_histories, heard_histories, message_says, touched_low}
+use Rattle.sip_verdict.proofs.surveys.passing.Taken.{unheard_taken, fault_taken, restart_taken, heard_taken, watched_touched}
 use Rattle.sip_verdict.proofs.entries.take.Goals as goal
 
 pub pass_each-requires-in-Heard-clause-may : goal.pass_each-requires-in-Heard-clause-may

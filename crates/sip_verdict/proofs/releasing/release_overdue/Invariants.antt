@@ -6,7 +6,7 @@ use Rattle.sip_standard.specs.Observation.{Observation}
 use Rattle.sip_verdict.specs.Keyed.{newest_moment}
 use Rattle.sip_verdict.specs.inner.TablesTracking.{MayPass}
 use Rattle.sip_verdict.specs.inner.Surveying.{AreWatched, ArePassing, any}
-use Rattle.sip_verdict.proofs.surveys.Lasts.{lasts}
+use Rattle.sip_verdict.proofs.surveys.passing.Lasts.{lasts}
 use Rattle.sip_verdict.proofs.releasing.release_overdue.Given as goal
 
 abbrev pub invariant-loop-number : goal.invariant-loop-number

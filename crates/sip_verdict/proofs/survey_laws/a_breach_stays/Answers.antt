@@ -1,4 +1,4 @@
-use Rattle.sip_verdict.proofs.surveys.OneFinding.{runs_over_fewer}
+use Rattle.sip_verdict.proofs.surveys.found.OneFinding.{runs_over_fewer}
 use Rattle.sip_verdict.proofs.survey_laws.a_breach_stays.Goals as goal
 
 pub returns : goal.returns

@@ -7,7 +7,7 @@ use Rattle.sip_verdict.specs.Surveys.{IsStillNamed}
 use Rattle.sip_verdict.specs.inner.Surveying.{TablesSurvey}
 use Rattle.sip_verdict.proofs.sweeps.SweptBook.{only_within}
 use Rattle.sip_verdict.proofs.sweeps.SweptTables.{named_is, swept_may, swept_track, swept_recorded, swept_kept}
-use Rattle.sip_verdict.proofs.surveys.Swept.{swept_survey, swept_many}
+use Rattle.sip_verdict.proofs.surveys.kept.Swept.{swept_survey, swept_many}
 use Rattle.sip_verdict.proofs.standing.Standing.sweep.Goals as goal
 
 pub retain_only-requires-clause-rising : goal.retain_only-requires-clause-rising

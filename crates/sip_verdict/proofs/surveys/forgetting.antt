@@ -1,0 +1,4 @@
+pub mod Forgetting
+pub mod IdleAgain
+pub mod Lasting
+pub mod Remembered

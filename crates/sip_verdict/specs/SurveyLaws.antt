@@ -71,7 +71,7 @@ HasSameTrouble p es cuts key =
 -- what a cut leaves of a log: the chosen keys in their order, and the trouble of each
 pub record Keeps (p : Times) (chosen : KeyParts → Bool) (es : List (Observation KeyParts)) (cuts : List Item) : Type 0 where
   pub seen : List (Observation KeyParts)
-  pub are : AreObserved message_reading [] cuts seen
+  pub are : AreSeen [] cuts seen
   pub keys : keys_in seen ≡ chosen_in chosen es
   pub troubles : (key : KeyParts) → chosen key ≡ true → HasSameTrouble p es seen key
 

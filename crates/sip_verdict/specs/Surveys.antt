@@ -24,8 +24,8 @@ use Rattle.sip_verdict.specs.declared.survey_end.SurveyEnd.TheVariants as ended
 pub record IsStillNamed (p : Times) (es : List (Observation KeyParts)) (text : List ℕ) : Type 0 where
   pub key : KeyParts
   pub sound : IsSound p es key
-  pub state : (key_machines p).State key
-  pub stands : RuledRun ((key_machines p).rules key) (events_of (key_machines p) key es) (newest_moment es) state
+  pub state : PhaseOf (machine_of_key p.rules key)
+  pub stands : Stands (transaction_of (machine_of_key p.rules key)).figure p (events_for key es) (newest_moment es) state
   pub names : Contains (key_messages p key state) text
 
 -- so many messages were named after some entry, or before the first

@@ -89,7 +89,7 @@ impl<H: BuildHasher + Drop> Survey<H> {
     pub fn entry(&mut self, entry: &Entry, found: &mut Vec<Finding>) -> Result<(), StepError>
         requires { self.old.failed ≡ false → MayComeNext self.old.number self.old.moment entry.now.number entry.now.moment }
         ensures found { OnOk result ((es : List (Observation KeyParts)) → SurveysFor self.old es
-            → (e : Observation KeyParts) × (here : List Finding) × message_reading.Observes es (item entry.now) e
+            → (e : Observation KeyParts) × (here : List Finding) × Sees es (item entry.now) e
             × AreFoundAt self.old.tables.times es e here × (found.new.items ≡ found.old.items ++ here) × SurveysFor self.new (es ++ e ∷ [])) }
         ensures answers { MayAnswer self.old.failed result }
         ensures failed { self.new.failed ≡ is_err result }

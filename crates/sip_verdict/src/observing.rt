@@ -82,7 +82,7 @@ fn told_without_message(action: Action) -> Told
 pub(crate) fn observe(alloc: Global, book: &mut Book, entry: &Entry) -> Result<Told, AllocError>
     requires limit { entry.now.moment ≤ last_moment }
     requires numbered { (n : ℕ) → Keeps book.old n → n < entry.now.number }
-    ensures observed { IfOk result (λ told. (es : List (Observation KeyParts)) → (e : Observation KeyParts) × message_reading.Observes es (item entry.now) e
+    ensures observed { IfOk result (λ told. (es : List (Observation KeyParts)) → (e : Observation KeyParts) × Sees es (item entry.now) e
         × IsObserved book.new es (item entry.now) told e) }
     ensures heard { IfOk result (IsHeard book.new entry.now.moment) }
     ensures kept { IfOk result (IsKept book.old book.new entry.now) }

@@ -199,8 +199,8 @@ pub(crate) fn pass_all<H: BuildHasher>(
     ensures recorded { IfOk result (λ outcome. AreOnRecordIf outcome tables.new) }
     ensures outcome { IfOk result (λ outcome. (p : Times) (es : List (Observation KeyParts)) (e : Observation KeyParts)
         → newest_moment es ≤ moment → AreTold book.now tables.old.keys moment (option_copied hearing.entry) e
-        → All (IsReady (key_machines p) (key_keeping book.now p) es) (transactions_of tables.old)
-        → IsOutcome (key_machines p) (key_keeping book.now p) es e (transactions_of tables.new) outcome) }
+        → All (IsReady (key_keeping book.now p) es) (transactions_of tables.old)
+        → IsOutcome p (key_keeping book.now p) es e (transactions_of tables.new) outcome) }
 {
     let overdue = overdue(tables, moment);
     let Some(hearing) = hearing else {

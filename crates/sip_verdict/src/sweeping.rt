@@ -38,7 +38,7 @@ pub(crate) fn judge_next<H: BuildHasher>(
     ensures keyless { OnOk result (ConcernsNone (item entry.now) → All (Contains standing.old.book) standing.new.book) }
     ensures judged { IfOk result (λ verdict. (es : List (Observation KeyParts)) → AreFollowed standing.old.book standing.old.tables left.old es
         → entry.now.number ≡ length es + 1 → newest_moment es ≤ entry.now.moment
-        → (e : Observation KeyParts) × message_reading.Observes es (item entry.now) e
+        → (e : Observation KeyParts) × Sees es (item entry.now) e
         × AreFollowedOn standing.new.book standing.new.tables left.new es e verdict) }
 {
     if let Some(verdict) = standing.entry(alloc, entry)? {

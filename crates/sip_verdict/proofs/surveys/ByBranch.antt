@@ -84,7 +84,7 @@ module _ (chosen : List ℕ → Bool) where
       by Restart is seen = (item, inl (refl, inl is))
 
   -- so there is a log of the chosen branches
-  pub branch_cut : (done : List (Observation KeyParts)) (items : List Item) (es : List (Observation KeyParts)) → AreObserved message_reading done items es → (cuts : List Item) × IsCutLog (λ key. chosen key.branch) items es cuts
+  pub branch_cut : (done : List (Observation KeyParts)) (items : List Item) (es : List (Observation KeyParts)) → AreSeen done items es → (cuts : List Item) × IsCutLog (λ key. chosen key.branch) items es cuts
   branch_cut done [] [] seen = ([], tt)
   branch_cut done [] (e ∷ es) seen = absurd seen
   branch_cut done (item ∷ items) [] seen = absurd seen

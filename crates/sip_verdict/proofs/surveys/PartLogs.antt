@@ -58,7 +58,7 @@ module _ (part : PartOf) where
   CutSo item cut a =
       MatchOption (direction_of a) (cut ≡ item) (λ direction. (branch : List ℕ) × TellsBranch item.text branch × (cut ≡ if falls_into part branch then item else mark_of item))
 
-  item_part : (done : List (Observation KeyParts)) (item cut : Item) (e : Observation KeyParts) → message_reading.Observes done item e → IsPartItem part item cut → StaysOrIsMark Chosen item e cut
+  item_part : (done : List (Observation KeyParts)) (item cut : Item) (e : Observation KeyParts) → Sees done item e → IsPartItem part item cut → StaysOrIsMark Chosen item e cut
   item_part done item cut e sees is_cut = by item.action refl sees is_cut
     where
       by : (a : Action) → item.action ≡ a → SeenSo done item e a → CutSo item cut a → StaysOrIsMark Chosen item e cut
@@ -69,7 +69,7 @@ module _ (part : PartOf) where
       by Restart is seen same = inl (same, inl is)
 
   -- so the log of the part is cut from the whole by these keys
-  pub part_cut : (done : List (Observation KeyParts)) (items cuts : List Item) (es : List (Observation KeyParts)) → AreObserved message_reading done items es → IsPartLog part items cuts → IsCutLog Chosen items es cuts
+  pub part_cut : (done : List (Observation KeyParts)) (items cuts : List Item) (es : List (Observation KeyParts)) → AreSeen done items es → IsPartLog part items cuts → IsCutLog Chosen items es cuts
   part_cut done [] [] [] seen are = tt
   part_cut done [] [] (e ∷ es) seen are = absurd seen
   part_cut done [] (cut ∷ cuts) es seen are = absurd are

@@ -26,13 +26,13 @@ idle_runs p es key none =
     (quiet f.idle, subst (λ events. Stands f p events (newest_moment es) (quiet f.idle)) (sym none) (waits [] 0 (newest_moment es) (quiet f.idle) begins zero-le (idle_lasts kind p (newest_moment es))))
 
 -- a key of the last entry is one of them all
-pub concerned-among : (p : Times) (key : KeyParts) (es : List (Observation KeyParts)) (e : Observation KeyParts) → list_any (same_key key) e.keys ≡ true → Contains (keys_in (es ++ e ∷ [])) key
-concerned-among p key es e h = by (list_any (same_key key) (keys_in (es ++ e ∷ []))) refl
+pub concerned-among : (key : KeyParts) (es : List (Observation KeyParts)) (e : Observation KeyParts) → list_any (same_key key) e.keys ≡ true → Contains (keys_in (es ++ e ∷ [])) key
+concerned-among key es e h = by (list_any (same_key key) (keys_in (es ++ e ∷ []))) refl
   where
     by : (b : Bool) → list_any (same_key key) (keys_in (es ++ e ∷ [])) ≡ b → Contains (keys_in (es ++ e ∷ [])) key
-    by true is = among-contains (key_machines p) (keys_exact p) key (keys_in (es ++ e ∷ [])) is
+    by true is = among-contains key (keys_in (es ++ e ∷ [])) is
     by false is =
-        let lacks = among-fold (key_machines p) (keys_exact p) key (keys_in es) e.keys (ap (list_any (same_key key)) (sym (keys_of-push (key_machines p) es e)) ∙ is) in
+        let lacks = among-fold key (keys_in es) e.keys (ap (list_any (same_key key)) (sym (keys_in-push es e)) ∙ is) in
         absurd (false≢true (sym lacks.1 ∙ h))
 
 -- each key, of the entries or not, is in no trouble
@@ -64,8 +64,8 @@ pub all_sound_push : (p : Times) (es : List (Observation KeyParts)) (e : Observa
 all_sound_push p es e sound runs narrow key = sound_push p es e key (sound key) (by_key (list_any (same_key key) (keys_in (es ++ e ∷ []))) refl) not_wide
   where
     by_key : (b : Bool) → list_any (same_key key) (keys_in (es ++ e ∷ [])) ≡ b → RunsOver p (es ++ e ∷ []) key
-    by_key true is = All-contains (RunsOver p (es ++ e ∷ [])) (keys_in (es ++ e ∷ [])) key runs (among-contains (key_machines p) (keys_exact p) key (keys_in (es ++ e ∷ [])) is)
-    by_key false is = idle_runs p (es ++ e ∷ []) key (new_key (key_machines p) (keys_exact p) key (es ++ e ∷ []) is)
+    by_key true is = All-contains (RunsOver p (es ++ e ∷ [])) (keys_in (es ++ e ∷ [])) key runs (among-contains key (keys_in (es ++ e ∷ [])) is)
+    by_key false is = idle_runs p (es ++ e ∷ []) key (new_key key (es ++ e ∷ []) is)
 
     not_wide : ¬ (IsWideAt p es e key)
-    not_wide wide = All-contains (λ k. ¬ (IsWideAt p es e k)) (keys_in (es ++ e ∷ [])) key narrow (concerned-among p key es e wide.0) wide
+    not_wide wide = All-contains (λ k. ¬ (IsWideAt p es e k)) (keys_in (es ++ e ∷ [])) key narrow (concerned-among key es e wide.0) wide

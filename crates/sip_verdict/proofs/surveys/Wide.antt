@@ -22,6 +22,6 @@ wide_runs p es e key (concerned, (many, apart, long, all)) =
     let one = first_of_many (StandsAfter f p (events_for key es) e.event) 1024 many long all in (
       one.0,
       subst (λ m. Stands f p (events_for key (es ++ e ∷ [])) m one.0) (sym (newest_moment-push es e))
-          (subst (λ events. Stands f p events e.event.moment one.0) (sym (events_of-concerned (key_machines p) key es e concerned))
+          (subst (λ events. Stands f p events e.event.moment one.0) (sym (events_for-concerned key es e concerned))
           (takes (events_for key es) e.event one.1.0 one.0 one.1.1 one.1.2)),
     )

@@ -26,7 +26,7 @@ formed_going None item silent e none seen = tt
 formed_going (Some direction) item silent e none seen = formed direction item e none seen
 
 -- and that of each
-all_formed : (before : List (Observation KeyParts)) (items : List Item) (es : List (Observation KeyParts)) → AreObserved message_reading before items es → All (λ e. e.fault ≡ None) es
+pub all_formed : (before : List (Observation KeyParts)) (items : List Item) (es : List (Observation KeyParts)) → AreSeen before items es → All (λ e. e.fault ≡ None) es
     → All (λ item. IfSome (direction_of item.action) (λ d. IsFormed d item.text)) items
 all_formed before [] es seen none = All-nil (λ item. IfSome (direction_of item.action) (λ d. IsFormed d item.text))
 all_formed before (item ∷ items) [] seen none = absurd seen
@@ -34,9 +34,3 @@ all_formed before (item ∷ items) (e ∷ es) seen none =
     All-cons (λ x. IfSome (direction_of x.action) (λ d. IsFormed d x.text)) item items
     (formed_going (direction_of item.action) item _ e (All-head (λ x. x.fault ≡ None) e es none) seen.0)
     (all_formed (before ++ e ∷ []) items es seen.1 (All-tail (λ x. x.fault ≡ None) e es none))
-
--- a legal log has messages of the grammar, and runs
-pub legal_log : (input : List ℕ) (entries transactions : ℕ) → IsVerdictOf input (Legal entries transactions) → IsLegalLog input entries transactions
-legal_log input entries transactions v =
-    let runs = legal_has_runs message_reading input entries transactions (verdict-by input (Legal entries transactions) v) in
-    record { runs = runs; formed = all_formed [] runs.whole.items runs.es runs.whole.observed runs.formed }

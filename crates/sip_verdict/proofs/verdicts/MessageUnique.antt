@@ -56,5 +56,5 @@ going_one None item silent e f a b = a ∙ sym b
 going_one (Some direction) item silent e f a b = message_one direction item e f a b
 
 -- one thing is observed of an entry
-pub observes_one : (es : List (Observation KeyParts)) (item : Item) (e f : Observation KeyParts) → message_reading.Observes es item e → message_reading.Observes es item f → e ≡ f
+pub observes_one : (es : List (Observation KeyParts)) (item : Item) (e f : Observation KeyParts) → Sees es item e → Sees es item f → e ≡ f
 observes_one es item e f a b = going_one (direction_of item.action) item _ e f a b

@@ -43,6 +43,6 @@ IsTextOf t (n ∷ ns) text = AppendsEach t (n ∷ ns) [] text
 
 -- what is listed of the entry after these: its text if it is in no trouble, else its verdict
 abbrev pub IsListedEntry : Times → (List ℕ → ℕ) → List (Observation KeyParts) → Observation KeyParts → Listing → Type 0
-IsListedEntry p number es e (Text text) = IsGood (key_machines p) (es ++ e ∷ []) × IsEntryText p number es e e.keys (string_bytes text)
-IsListedEntry p number es e (Stopped v) = IsTrouble (key_machines p) es e v
+IsListedEntry p number es e (Text text) = IsGood p (es ++ e ∷ []) × IsEntryText p number es e e.keys (string_bytes text)
+IsListedEntry p number es e (Stopped v) = HasTrouble p es e v
 IsListedEntry p number es e NoEntry = ⊥

@@ -117,7 +117,7 @@ pub record SurveysRead (part : Option PartOf) (s : Surveying) (found : List Find
   pub taken : List Item
   pub es : List (Observation KeyParts)
   pub are_taken : AreTaken part items taken
-  pub seen : AreObserved message_reading [] taken es
+  pub seen : AreSeen [] taken es
   pub follows : SurveysFor s es
   pub read : HasRead start s.tables.times items now
   pub front : (rest : List Item) (close : LogEnd) (later : List Finding) (end : SurveyEnd) → IsSurveyAfter s.tables.times es rest close later end

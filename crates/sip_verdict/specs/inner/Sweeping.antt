@@ -17,7 +17,7 @@ use Rattle.sip_verdict.specs.inner.Walking.{Judged}
 -- what is judged of an entry after those that messages and sets follow: they follow this one too, or this is its verdict
 abbrev pub AreFollowedOn : Texts → Tabled → ℕ → List (Observation KeyParts) → Observation KeyParts → Option Verdict → Type 0
 AreFollowedOn texts t left es e None = AreFollowed texts t left (es ++ e ∷ [])
-AreFollowedOn texts t left es e (Some v) = IsTrouble (key_machines t.times) es e v
+AreFollowedOn texts t left es e (Some v) = HasTrouble t.times es e v
 
 -- the judge goes on, and took all entries that were read up to this place
 pub record IsAt (j : Judging) (place : Place) : Type 0 where
@@ -29,4 +29,4 @@ pub record IsAt (j : Judging) (place : Place) : Type 0 where
 
 -- the judge stands for the entries that were read of the input
 abbrev pub StandsForRead : Judging → Option (List ℕ) → log.ReaderState → Type 0
-StandsForRead j start now = Judged message_reading j.tables.times (StandsFor j) start now
+StandsForRead j start now = Judged j.tables.times (StandsFor j) start now

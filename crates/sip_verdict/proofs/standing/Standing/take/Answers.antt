@@ -101,7 +101,7 @@ pub returns-in-Fault-clause-judged : goal.returns-in-Fault-clause-judged
 returns-in-Fault-clause-judged g c = λ es tracks counts newest.
     let (e, seen, is) = (rw c.in-Fault.is at c.in_ok-told.ensures.observed) es in (
       fault_observation (item c.args.entry.now) c.in-Fault.fault,
-      subst (message_reading.Observes es (item c.args.entry.now)) is seen,
+      subst (Sees es (item c.args.entry.now)) is seen,
       (counts, refl),
       tt,
     )

@@ -3,7 +3,6 @@ use Rattle.std.specs.Prelude.{◌≡◌, ◌≢◌, ◌≤◌, ◌+◌, ℕ, Lis
 use Rattle.sip_standard.specs.Key.{KeyParts}
 use Rattle.sip_standard.specs.Times.{Times, last_moment}
 use Rattle.sip_machine.specs.Texts.{Texts}
-use Rattle.sip_states.specs.Runs.{RuledRun}
 use Rattle.sip_states.specs.Tables.{Tabled}
 use Rattle.sip_standard.specs.LogSays.{most_entries}
 use Rattle.sip_verdict.specs.declared.stage.Stage.{Stage}
@@ -13,10 +12,12 @@ use Rattle.sip_verdict.specs.declared.step_error.StepError.TheVariants as errors
 use Rattle.sip_standard.specs.declared.verdict.Verdict.{Verdict}
 use Rattle.sip_standard.specs.declared.verdict.Verdict.TheVariants.{Legal}
 use Rattle.sip_standard.specs.Observation.{Observation}
-use Rattle.sip_verdict.specs.Keyed.{keys_of, events_of, newest_moment}
-use Rattle.sip_verdict.specs.Verdicts.{IsTrouble}
-use Rattle.sip_verdict.specs.MessageReading.{key_machines}
-use Rattle.sip_verdict.specs.Named.{WereNamed, key_messages}
+use Rattle.sip_standard.specs.VerdictOf.{keys_in, events_for, HasTrouble}
+use Rattle.sip_verdict.specs.Entries.{newest_moment}
+use Rattle.sip_standard.specs.Stands.{Stands}
+use Rattle.sip_standard.specs.Figure.{Owing}
+use Rattle.sip_standard.specs.KeyMachine.{machine_of_key, transaction_of}
+use Rattle.sip_verdict.specs.Named.{WereNamed}
 use Rattle.sip_verdict.specs.inner.TablesTracking.{TablesTrack}
 
 -- what a judge holds: the number and the moment of its newest entry, the messages that it keeps, the set of each key, how many messages its last

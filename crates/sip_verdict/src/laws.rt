@@ -1,14 +1,9 @@
 //! Laws of verdicts. The functions do nothing: their contracts are the laws.
-ghost use Rattle.std.specs.Prelude.{◌≡◌, ◌↔◌, ◌≤◌, ◌++◌, ℕ, List, AllPairs};
+ghost use Rattle.std.specs.Prelude.{◌≡◌, ◌↔◌, ◌≤◌, ◌++◌, ℕ, List};
 ghost use Rattle.sip_standard.specs.VerdictOf.{IsVerdictOf};
 ghost use Rattle.sip_verdict.specs.LegalLog.{IsLegalLog};
 ghost use Rattle.sip_standard.specs.declared.verdict.Verdict.TheVariants.{Legal};
 ghost use Rattle.sip_standard.specs.declared.verdict.Verdict.{Verdict as VerdictValue};
-ghost use Rattle.sip_standard.specs.Observation.{Observation};
-ghost use Rattle.sip_verdict.specs.Keyed.{HasRun};
-ghost use Rattle.sip_verdict.specs.MessageReading.{key_machines, message_reading};
-ghost use Rattle.sip_verdict.specs.Reading.{IsVerdictBy};
-ghost use Rattle.sip_standard.specs.Key.{KeyParts};
 ghost use Rattle.sip_standard.specs.declared.format.Format.{Format};
 ghost use Rattle.sip_standard.specs.declared.format.Format.TheVariants.{One, Two};
 ghost use Rattle.sip_standard.specs.LogEntry.{Item};

@@ -6,7 +6,7 @@ ghost use Rattle.sip_standard.specs.Key.{KeyParts};
 ghost use Rattle.sip_message.specs.SaidOf.{said_of};
 ghost use Rattle.sip_log.specs.Told.{item};
 ghost use Rattle.sip_standard.specs.Observation.{Observation, direction_of};
-ghost use Rattle.sip_verdict.specs.MessageReading.{message_reading};
+ghost use Rattle.sip_standard.specs.VerdictOf.{Sees};
 ghost use Rattle.sip_verdict.specs.inner.Observing.{AreKeysOf, IsObserved, IsKept, IsHeard, silent_told};
 
 use crate::concerned::Concerned;

@@ -6,9 +6,9 @@ ghost use Rattle.sip_states.specs.Tables.{HasNumber, IsGiven, due_of};
 ghost use Rattle.sip_verdict.specs.declared.stage.Stage.TheVariants.{Open};
 ghost use Rattle.sip_standard.specs.declared.verdict.Verdict.TheVariants.{Legal};
 ghost use Rattle.sip_standard.specs.Observation.{Observation};
-ghost use Rattle.sip_verdict.specs.Keyed.{keys_of};
-ghost use Rattle.sip_verdict.specs.MessageReading.{key_machines, message_reading, ConcernsNone};
-ghost use Rattle.sip_verdict.specs.Named.{AreFew, key_messages};
+ghost use Rattle.sip_standard.specs.VerdictOf.{keys_in, Sees};
+ghost use Rattle.sip_verdict.specs.Entries.{ConcernsNone};
+ghost use Rattle.sip_verdict.specs.Named.{AreFew};
 ghost use Rattle.sip_verdict.specs.Judging.{StandsFor, CanWaitUntil, MayComeNext, IsNext, CanAnswer, stage_after, last_verdict};
 
 use crate::stage::Stage;

@@ -10,9 +10,8 @@ ghost use Rattle.sip_verdict.specs.declared.finding.Finding.TheVariants.{Malform
 ghost use Rattle.sip_verdict.specs.declared.survey_end.SurveyEnd.{SurveyEnd as EndValue};
 ghost use Rattle.sip_standard.specs.declared.verdict.Verdict.{Verdict as VerdictValue};
 ghost use Rattle.sip_standard.specs.Observation.{Observation};
-ghost use Rattle.sip_verdict.specs.Keyed.{newest_moment};
-ghost use Rattle.sip_verdict.specs.MessageReading.{message_reading};
-ghost use Rattle.sip_verdict.specs.Reading.{AreObserved};
+ghost use Rattle.sip_standard.specs.Seen.{AreSeen};
+ghost use Rattle.sip_verdict.specs.Entries.{newest_moment};
 ghost use Rattle.sip_standard.specs.declared.fault.Fault.{Fault as FaultValue};
 ghost use Rattle.sip_standard.specs.Key.{KeyParts};
 ghost use Rattle.sip_standard.specs.LogEntry.{Item};

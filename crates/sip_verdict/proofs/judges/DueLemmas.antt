@@ -8,15 +8,14 @@ use Rattle.sip_standard.specs.Key.{KeyParts}
 use Rattle.sip_machine.specs.Texts.{Texts}
 use Rattle.sip_states.specs.Agenda.{is_overdue}
 use Rattle.sip_states.specs.AnySet.{moment_of}
-use Rattle.sip_states.specs.KeySets.{key_rules}
 use Rattle.sip_standard.specs.KeyMachine.{machine_of_key}
 use Rattle.sip_states.specs.Tables.{Tabled, due_of}
 use Rattle.sip_states.specs.declared.any_set.AnySet.{AnySet}
 use Rattle.sip_verdict.specs.Judging.{Judging, StandsFor, CanWaitUntil}
 use Rattle.sip_standard.specs.Observation.{Observation}
-use Rattle.sip_verdict.specs.Keyed.{keys_of, events_of, newest_moment}
-use Rattle.sip_verdict.specs.MessageReading.{key_machines}
-use Rattle.sip_verdict.specs.inner.Stepping.{RunsUntil}
+use Rattle.sip_standard.specs.VerdictOf.{keys_in, events_for}
+use Rattle.sip_verdict.specs.Entries.{newest_moment}
+use Rattle.sip_verdict.proofs.keys.RunsStand.{StandsUntil, run-stands, stands-run}
 use Rattle.sip_verdict.specs.inner.TablesTracking.{LeadsOf, key_keeping, transactions_of, MayPass, MayTake, AllAreOnRecord, TablesTrack}
 use Rattle.sip_verdict.specs.inner.Tracking.{IsReady}
 use Rattle.sip_verdict.proofs.tables.Halfway.{All-position_None, not_passing}

@@ -12,20 +12,14 @@ use Rattle.sip_verdict.specs.declared.stage.Stage.TheVariants.{Open}
 use Rattle.sip_standard.specs.declared.verdict.Verdict.{Verdict}
 use Rattle.sip_standard.specs.declared.verdict.Verdict.TheVariants.{Legal, LogFault as FaultOfLog}
 use Rattle.sip_standard.specs.Observation.{Observation}
-use Rattle.sip_verdict.specs.Keyed.{keys_of}
-use Rattle.sip_verdict.specs.Verdicts.{IsTrouble}
-use Rattle.sip_standard.specs.VerdictOf.{IsVerdictOf}
-use Rattle.sip_verdict.specs.MessageReading.{key_machines, message_reading}
+use Rattle.sip_standard.specs.VerdictOf.{IsVerdictOf, keys_in, Sees, HasTrouble}
 use Rattle.sip_verdict.specs.Judging.{Judging, StandsFor, MayComeNext, IsNext}
 use Rattle.sip_verdict.specs.inner.Sweeping.{AreFollowedOn, StandsForRead}
 use Rattle.sip_verdict.specs.inner.TablesTracking.{MayTake}
 use Rattle.sip_verdict.specs.inner.Walking.{HasRead}
 use Rattle.sip_verdict.proofs.tables.JudgeTables.{may_later}
 use Rattle.sip_verdict.proofs.tables.TablesPassing.{keys_are}
-use Rattle.sip_verdict.specs.Reading.{IsVerdictBy}
-use Rattle.sip_log.proofs.answers.ReadingLemmas.{IfSome-map}
 use Rattle.sip_verdict.proofs.judges.JudgingLemmas.{seen-push, judged_ends, judged_trouble}
-use Rattle.sip_verdict.proofs.verdicts.VerdictLemmas.{by-verdict}
 use Rattle.sip_verdict.proofs.sweeps.FollowedLemmas.{observed_moment, followed_keys}
 use Rattle.sip_log.specs.Reading as log
 

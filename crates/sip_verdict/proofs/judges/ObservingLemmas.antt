@@ -26,8 +26,8 @@ use Rattle.sip_standard.specs.LogEntry.{Item, has_message}
 use Rattle.sip_verdict.specs.declared.concerned.Concerned.{Concerned}
 use Rattle.sip_verdict.specs.declared.concerned.Concerned.TheVariants as concerned
 use Rattle.sip_standard.specs.Observation.{Observation, direction_of, silent_observation, fault_observation, no_cookie, message_event, ObservesMessage, has_fault, has_no_cookie, is_heard}
-use Rattle.sip_verdict.specs.MessageReading.{message_reading, ConcernsNone}
-use Rattle.sip_standard.specs.VerdictOf.{keys_in}
+use Rattle.sip_verdict.specs.Entries.{ConcernsNone}
+use Rattle.sip_standard.specs.VerdictOf.{keys_in, Sees}
 use Rattle.sip_verdict.specs.inner.Concerned.{each, is_all}
 use Rattle.sip_verdict.specs.inner.Observing.{IsObserved, IsHeard, IsKept, silent_told}
 use Rattle.sip_verdict.proofs.verdicts.MessageUnique.{observes_one}

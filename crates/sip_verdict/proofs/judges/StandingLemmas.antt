@@ -7,7 +7,7 @@ use Rattle.sip_states.proofs.lists.Listed.{Contains-here, Contains-there}
 use Rattle.std.proofs.lemmas.Bool.{false≢true}
 use Rattle.std.proofs.lemmas.Option.{slice_get_within, get_or_from_slice_get}
 use Rattle.std.proofs.lemmas.List.Elements.{All-nil, All-cons, All-weaker}
-use Rattle.sip_standard.specs.Key.{KeyParts, same_key}
+use Rattle.sip_standard.specs.Key.{KeyParts}
 use Rattle.sip_standard.specs.Times.{Times, last_moment}
 use Rattle.sip_standard.specs.declared.action.Action.TheVariants.{Restart}
 use Rattle.sip_standard.specs.declared.kind.Kind.TheVariants.{Request}
@@ -29,9 +29,9 @@ use Rattle.sip_verdict.specs.declared.observing.Told.TheVariants.{Unheard, Heard
 use Rattle.sip_verdict.specs.declared.observing.Told.TheVariants as told
 use Rattle.sip_standard.specs.declared.verdict.Verdict.{Verdict}
 use Rattle.sip_standard.specs.Observation.{Observation}
-use Rattle.sip_verdict.specs.Keyed.{events_of, keys_of, newest_moment}
-use Rattle.sip_verdict.specs.Keyed as keyed
-use Rattle.sip_verdict.specs.MessageReading.{key_machines, message_reading}
+use Rattle.sip_standard.specs.VerdictOf.{keys_in, Sees, events_for}
+use Rattle.sip_verdict.specs.Entries.{newest_moment}
+use Rattle.sip_verdict.specs.inner.Keyed as keyed
 use Rattle.sip_verdict.specs.inner.Concerned.{each, is_all, up_to, listed}
 use Rattle.sip_verdict.specs.inner.Observing.{IsObserved, restart_observation}
 use Rattle.sip_verdict.specs.inner.Tracking.{IsReady, TracksBefore, IsJudged}
@@ -39,7 +39,7 @@ use Rattle.sip_verdict.specs.inner.TablesTracking.{key_keeping, transactions_of,
 use Rattle.sip_verdict.proofs.keys.Leading.{Leads-grow}
 use Rattle.sip_states.proofs.keyed.ByMachine.{seen_by_names_of, some_machine, of_set, to_set}
 use Rattle.sip_verdict.proofs.tables.TrackingLemmas.{AreKept, kept_tracked, before_none, before_all, before_touched}
-use Rattle.sip_verdict.proofs.tables.TablesTouching.{keys_exact, touches_times, touches_few, touches_recorded, kept_each, have_numbers, told_unheard, told_event, told_restart}
+use Rattle.sip_verdict.proofs.tables.TablesTouching.{touches_times, touches_few, touches_recorded, kept_each, have_numbers, told_unheard, told_event, told_restart}
 use Rattle.sip_verdict.proofs.tables.TablesPassing.{at_place, keys_are}
 
 -- the book has the same messages, or one more

@@ -1,14 +1,14 @@
 -- The text of an entry.
-use Rattle.std.proofs.Common.{◌≡◌, ◌≢◌, ◌∙◌, ◌<◌, ◌+◌, ◌-◌, ℕ, zero, suc, Bool, true, false, cond, Option, Some, None, MatchOption, List, [], ◌∷◌, ◌++◌, All, AllPairs, length, slice_get, refl, sym, ap, subst, arith, append_assoc}
+use Rattle.std.proofs.Common.{◌≡◌, ◌≢◌, ◌∙◌, ◌<◌, ◌+◌, ◌-◌, ℕ, Bool, true, false, cond, Option, Some, None, MatchOption, List, [], ◌∷◌, ◌++◌, All, AllPairs, length, slice_get, refl, sym, ap, subst, arith, append_assoc}
 use Rattle.std.specs.Prelude.{IsAscii, fold}
 use Rattle.std.specs.List.{list_any}
 use Rattle.sip_standard.specs.declared.action.Action.{Action}
 use Rattle.sip_standard.specs.declared.action.Action.TheVariants.{Sent, Received, Failed, Mark, Restart}
-use Rattle.sip_verdict.specs.Reading.{AreObserved}
-use Rattle.sip_standard.specs.VerdictOf.{keys_in, events_for, IsFirstKey}
+use Rattle.sip_standard.specs.Seen.{AreSeen}
+use Rattle.sip_verdict.specs.inner.Keyed.{with_key, concerns}
+use Rattle.sip_standard.specs.VerdictOf.{keys_in, events_for, IsFirstKey, Sees}
 use Rattle.std.proofs.lemmas.List.{append-nil}
-use Rattle.std.proofs.lemmas.List.Elements.{All-nil, All-cons, All-head, All-tail, All-push, Contains-get_or}
-use Rattle.std.proofs.lemmas.Option.{slice_get_within, get_or_from_slice_get}
+use Rattle.std.proofs.lemmas.List.Elements.{All-nil, All-head, All-tail, All-push, Contains-get_or}
 use Rattle.sip_standard.specs.Key.{KeyParts, same_key}
 use Rattle.sip_key.specs.inner.KeyLaws.{same_key-decides}
 use Rattle.sip_standard.specs.declared.role.Direction.{Direction}
@@ -20,13 +20,11 @@ use Rattle.sip_states.specs.Tables.{Tabled}
 use Rattle.sip_standard.specs.TransactionText.{transaction_text}
 use Rattle.sip_standard.specs.LogEntry.{Item}
 use Rattle.sip_standard.specs.Observation.{Observation, direction_of, silent_observation, ObservesMessage, has_fault, has_no_cookie, is_heard}
-use Rattle.sip_verdict.specs.Keyed.{with_key, concerns}
-use Rattle.sip_verdict.specs.MessageReading.{key_machines, message_reading}
 use Rattle.sip_standard.specs.ListingOf.{IsKeyText, AreKeyTexts, IsEntryText}
 use Rattle.sip_verdict.specs.inner.Tracking.{IsJudged, IsStanding}
 use Rattle.sip_verdict.specs.inner.TablesTracking.{key_keeping, transactions_of, HaveNumbers}
 use Rattle.sip_verdict.specs.inner.Numbering.{Appends, AppendsEach, IsTextOf}
-use Rattle.sip_verdict.proofs.keys.Keys.{contains-among, keys_of-push}
+use Rattle.sip_verdict.proofs.keys.Keys.{contains-among, keys_in-push}
 use Rattle.sip_verdict.proofs.tables.TablesPassing.{All-place, zip-place, keys_are}
 use Rattle.sip_verdict.proofs.tables.TablesTouching.{same_place}
 use Rattle.sip_verdict.proofs.verdicts.Outcomes.{first_at}

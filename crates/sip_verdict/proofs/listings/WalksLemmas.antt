@@ -16,20 +16,17 @@ use Rattle.sip_standard.specs.declared.verdict.Verdict.TheVariants.{Legal, Malfo
 use Rattle.sip_standard.specs.declared.listing.Listing.{Listing}
 use Rattle.sip_standard.specs.declared.listing.Listing.TheVariants.{Text, Stopped, NoEntry}
 use Rattle.sip_standard.specs.Observation.{Observation}
-use Rattle.sip_verdict.specs.Keyed.{Machines, keys_of, newest_moment}
-use Rattle.sip_verdict.specs.Verdicts.{IsGood, IsTrouble}
-use Rattle.sip_standard.specs.VerdictOf.{keys_in, IsVerdictAfter, IsVerdictOf}
+use Rattle.sip_standard.specs.Seen.{AreSeen}
+use Rattle.sip_verdict.specs.Entries.{newest_moment}
+use Rattle.sip_verdict.specs.LegalLog.{IsGood}
+use Rattle.sip_standard.specs.VerdictOf.{keys_in, IsVerdictAfter, IsVerdictOf, Sees, HasTrouble}
 use Rattle.sip_standard.specs.ListingOf.{first_entry, trouble_of, IsListingOf}
-use Rattle.sip_verdict.specs.MessageReading.{key_machines, message_reading}
 use Rattle.sip_verdict.specs.inner.Tracking.{Tracks, IsJudged}
 use Rattle.sip_verdict.specs.inner.TablesTracking.{key_keeping, transactions_of, TablesTrack}
 use Rattle.sip_verdict.specs.inner.Numbering.{AreNumbered, StaysNumbered, IsListedEntry}
 use Rattle.sip_verdict.specs.inner.Walking.{HasRead, Walks, WalksOn, IsBehind, listed_after}
-use Rattle.sip_verdict.specs.Reading.{Judges, IsVerdictBy, AreObserved}
 use Rattle.sip_verdict.proofs.sweeps.FollowedLemmas.{observed_moment}
 use Rattle.sip_verdict.proofs.judges.JudgingLemmas.{seen-push, judges_front, judged_ends, judged_trouble}
-use Rattle.sip_verdict.proofs.verdicts.VerdictLemmas.{observed-seen, behind-verdict, by-verdict}
-use Rattle.sip_verdict.proofs.judges.JudgeLemmas.{verdict_of}
 use Rattle.sip_verdict.proofs.listings.NumberingLemmas.{numbered_start}
 use Rattle.sip_verdict.proofs.tables.TrackingLemmas.{tracks_none}
 use Rattle.sip_verdict.proofs.listings.WalkingLemmas.{read_log, read_count}

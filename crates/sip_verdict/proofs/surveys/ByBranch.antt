@@ -14,8 +14,7 @@ use Rattle.sip_standard.specs.declared.action.Action.{Action}
 use Rattle.sip_standard.specs.declared.action.Action.TheVariants.{Sent, Received, Failed, Mark, Restart}
 use Rattle.sip_standard.specs.LogEntry.{Item}
 use Rattle.sip_standard.specs.Observation.{Observation, direction_of, silent_observation, ObservesMessage, has_fault, has_no_cookie, is_heard}
-use Rattle.sip_verdict.specs.MessageReading.{message_reading}
-use Rattle.sip_verdict.specs.Reading.{AreObserved}
+use Rattle.sip_standard.specs.Seen.{AreSeen}
 use Rattle.sip_standard.specs.VerdictOf.{keys_in, Sees}
 use Rattle.sip_verdict.specs.SurveyLaws.{StaysOrIsMark, IsCutLog}
 

@@ -11,8 +11,7 @@ use Rattle.sip_standard.specs.declared.action.Action.TheVariants.{Sent, Received
 use Rattle.sip_standard.specs.declared.role.Direction.{Direction}
 use Rattle.sip_standard.specs.declared.role.Direction.TheVariants as way
 use Rattle.sip_standard.specs.Observation.{Observation, direction_of, silent_observation, ObservesMessage, has_fault, has_no_cookie, is_heard}
-use Rattle.sip_verdict.specs.MessageReading.{message_reading}
-use Rattle.sip_verdict.specs.Reading.{AreObserved}
+use Rattle.sip_standard.specs.Seen.{AreSeen}
 use Rattle.sip_standard.specs.VerdictOf.{keys_in, Sees}
 use Rattle.sip_verdict.specs.SurveyLaws.{IsCutOf, StaysOrIsMark, IsCutLog, Keeps}
 use Rattle.sip_verdict.proofs.surveys.Cutting.{keys_cut, zip_push, same_trouble}

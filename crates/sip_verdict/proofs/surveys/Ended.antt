@@ -1,5 +1,5 @@
 -- The transactions of a survey after an entry, and what is found at it.
-use Rattle.std.proofs.Common.{◌≡◌, ◌≤◌, ◌+◌, ◌-◌, ◌⊎◌, inl, inr, ℕ, zero, suc, Bool, true, false, Some, List, [], ◌∷◌, ◌++◌, Contains, length, slice_get, All, append_assoc, append-nil, refl, sym, ap, ◌∙◌, subst, arith}
+use Rattle.std.proofs.Common.{◌≡◌, ◌≤◌, ◌+◌, ◌-◌, ◌⊎◌, inl, inr, ℕ, zero, suc, Bool, true, false, Some, List, [], ◌∷◌, ◌++◌, Contains, length, slice_get, All, append-nil, refl, sym, ap, ◌∙◌, subst, arith}
 use Rattle.std.proofs.lemmas.Option.{slice_get_within}
 use Rattle.std.proofs.lemmas.List.Elements.{All-contains}
 use Rattle.sip_standard.specs.Key.{KeyParts}
@@ -10,8 +10,7 @@ use Rattle.sip_states.specs.Tables.{Tabled}
 use Rattle.sip_states.specs.declared.any_set.AnySet.{AnySet}
 use Rattle.sip_verdict.specs.declared.troubled.Troubled.{Troubled}
 use Rattle.sip_standard.specs.Observation.{Observation}
-use Rattle.sip_verdict.specs.Keyed.{newest_moment}
-use Rattle.sip_verdict.specs.MessageReading.{key_machines}
+use Rattle.sip_verdict.specs.Entries.{newest_moment}
 use Rattle.sip_standard.specs.VerdictOf.{keys_in, RunsOver, IsWideAt}
 use Rattle.sip_verdict.specs.SurveyOf.{IsSound, Breaks, Widens, HoldsOf, AreFoundAt}
 use Rattle.sip_verdict.specs.inner.TablesTracking.{LeadsOf, is_among}
@@ -20,7 +19,6 @@ use Rattle.sip_verdict.proofs.keys.Keys.{newest_moment-push}
 use Rattle.sip_states.proofs.lists.Listed.{Contains-none, Contains-cons}
 use Rattle.sip_verdict.proofs.keys.FewerEntries.{newest-to}
 use Rattle.sip_verdict.proofs.tables.TablesPassing.{at_place}
-use Rattle.sip_verdict.proofs.verdicts.VerdictLemmas.{run-over, over-run, at-wide}
 use Rattle.sip_verdict.proofs.surveys.Numbers.{AreNumbers}
 use Rattle.sip_verdict.proofs.surveys.FoundParts.{listed, listed_found}
 use Rattle.sip_verdict.proofs.surveys.Ordered.{ordered_append}

@@ -1,5 +1,5 @@
 -- What is found at an entry, as it was appended.
-use Rattle.std.proofs.Common.{◌≡◌, ◌+◌, ◌≤◌, ℕ, Option, Some, None, List, [], ◌∷◌, ◌++◌, length, append_assoc, slice_get, refl, sym, ap, ◌∙◌, subst}
+use Rattle.std.proofs.Common.{◌≡◌, ◌+◌, ◌≤◌, ℕ, Option, Some, None, List, [], ◌∷◌, ◌++◌, length, append_assoc, refl, sym, ap, ◌∙◌, subst}
 use Rattle.sip_standard.specs.Key.{KeyParts}
 use Rattle.sip_standard.specs.Times.{Times}
 use Rattle.sip_machine.specs.Texts.{Texts}
@@ -9,10 +9,10 @@ use Rattle.sip_standard.specs.LogEntry.{Item}
 use Rattle.sip_verdict.specs.declared.finding.Finding.{Finding}
 use Rattle.sip_verdict.specs.declared.troubled.Troubled.{Troubled}
 use Rattle.sip_standard.specs.Observation.{Observation}
-use Rattle.sip_verdict.specs.Keyed.{newest_moment}
-use Rattle.sip_verdict.specs.MessageReading.{message_reading}
+use Rattle.sip_standard.specs.VerdictOf.{Sees}
+use Rattle.sip_verdict.specs.Entries.{newest_moment}
 use Rattle.sip_verdict.specs.SurveyOf.{AreFoundAt}
-use Rattle.sip_verdict.specs.inner.Surveying.{AreWatched, IsOrdered, TablesSurvey, AppendsTroubled, fault_listing, listing}
+use Rattle.sip_verdict.specs.inner.Surveying.{IsOrdered, TablesSurvey, AppendsTroubled, fault_listing, listing}
 use Rattle.sip_verdict.proofs.surveys.Ended.{ended_tracks, ended_found}
 use Rattle.sip_verdict.proofs.surveys.FoundParts.{fault_found}
 use Rattle.sip_verdict.proofs.surveys.Taken.{IsTaken}

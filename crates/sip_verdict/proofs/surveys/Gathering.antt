@@ -17,8 +17,8 @@ use Rattle.sip_standard.specs.declared.verdict.Verdict.{Verdict}
 use Rattle.sip_standard.specs.declared.verdict.Verdict.TheVariants.{Legal, Malformed, Breach, Undecided, LogFault as FaultOfLog}
 use Rattle.sip_standard.specs.Observation.{Observation}
 use Rattle.sip_standard.specs.ListingOf.{trouble_of}
-use Rattle.sip_verdict.specs.MessageReading.{message_reading}
-use Rattle.sip_standard.specs.VerdictOf.{keys_in, HasTrouble, IsVerdictAfter, IsVerdictOf}
+use Rattle.sip_standard.specs.Seen.{AreSeen}
+use Rattle.sip_standard.specs.VerdictOf.{keys_in, HasTrouble, IsVerdictAfter, IsVerdictOf, Sees}
 use Rattle.sip_verdict.specs.SurveyOf.{AreFoundAt, IsSurveyAfter}
 use Rattle.sip_verdict.specs.Surveys.{Surveying, SurveysFor}
 use Rattle.sip_verdict.specs.SurveyParts.{IsPartLog}
@@ -26,9 +26,7 @@ use Rattle.sip_verdict.specs.inner.SurveyingLogs.{AreTaken, IsSurveyIn, IsTaken,
 use Rattle.sip_verdict.specs.inner.Walking.{HasRead}
 use Rattle.sip_verdict.proofs.judges.StandingLemmas.{same_some}
 use Rattle.sip_verdict.proofs.judges.JudgingLemmas.{seen-push}
-use Rattle.sip_verdict.proofs.verdicts.VerdictLemmas.{observed-seen}
 use Rattle.sip_verdict.specs.SurveyText.{IsSurveyText, end_text}
-use Rattle.sip_verdict.specs.Reading.{AreObserved}
 use Rattle.sip_log.specs.Reading as log
 use Rattle.sip_verdict.specs.declared.survey_end.SurveyEnd.TheVariants as ended
 

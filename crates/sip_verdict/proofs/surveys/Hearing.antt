@@ -16,8 +16,8 @@ use Rattle.sip_verdict.specs.declared.passing.Fate.{Fate}
 use Rattle.sip_verdict.specs.declared.passing.Fate.TheVariants.{Runs, NoRun, TooWide}
 use Rattle.sip_verdict.specs.declared.troubled.Troubled.{Troubled}
 use Rattle.sip_standard.specs.Observation.{Observation}
-use Rattle.sip_verdict.specs.Keyed.{Machines, newest_moment, HasRun}
-use Rattle.sip_verdict.specs.MessageReading.{key_machines}
+use Rattle.sip_standard.specs.VerdictOf.{RunsOver}
+use Rattle.sip_verdict.specs.Entries.{newest_moment}
 use Rattle.sip_verdict.specs.SurveyOf.{IsSound, Breaks}
 use Rattle.sip_verdict.specs.inner.Stepping.{IsStepped}
 use Rattle.sip_verdict.specs.inner.Tracking.{Keeping, IsReady, GoesOn, IsPassed}
@@ -26,7 +26,6 @@ use Rattle.sip_verdict.specs.inner.Surveying.{AreWatched, IsPassing, ArePassing,
 use Rattle.sip_verdict.proofs.keys.KeyPassing.{heard_left, overdue_breaks}
 use Rattle.sip_verdict.proofs.tables.TablesPassing.{at_place, All-place, set-place, among_first}
 use Rattle.sip_verdict.proofs.tables.TablesTouching.{starts}
-use Rattle.sip_verdict.proofs.verdicts.VerdictLemmas.{run-over, over-run, wide-at}
 use Rattle.sip_verdict.proofs.surveys.Passing.{among_cons, same_at, passed_on, released_broken, released_wide, stays}
 
 -- the sets of tables of which one key's starts anew

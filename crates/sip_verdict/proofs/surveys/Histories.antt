@@ -5,7 +5,7 @@ use Rattle.std.specs.List.{list_any}
 use Rattle.std.specs.Cmp.{unsigned_Decides}
 use Rattle.std.proofs.lemmas.Bool.{false≢true, ltb-true}
 use Rattle.std.proofs.lemmas.List.{length-set}
-use Rattle.std.proofs.lemmas.List.Elements.{All-cons, All-nil, All-push, Contains-get_or}
+use Rattle.std.proofs.lemmas.List.Elements.{All-cons, All-nil, All-push}
 use Rattle.std.proofs.lemmas.List.Folds.{list_any-append}
 use Rattle.std.proofs.lemmas.Option.{slice_get_within, get_or_from_slice_get, slice_get-get_or}
 use Rattle.std.specs.Slice.{IsItemAt}
@@ -14,7 +14,6 @@ use Rattle.sip_standard.specs.declared.role.Direction.{Direction}
 use Rattle.sip_standard.specs.Branch.{cookie_branch}
 use Rattle.sip_standard.specs.Concerns.{Concerns, is_sent}
 use Rattle.sip_standard.specs.Key.{KeyParts, same_key}
-use Rattle.sip_standard.specs.Times.{Times}
 use Rattle.sip_standard.specs.LogEntry.{Item, has_message}
 use Rattle.sip_standard.specs.declared.fault.Fault.{Fault}
 use Rattle.sip_standard.specs.Outcome.{gives, stops}
@@ -25,20 +24,18 @@ use Rattle.sip_states.specs.Tables.{Tabled, Touches}
 use Rattle.sip_verdict.specs.declared.histories.Histories.{Histories}
 use Rattle.sip_verdict.specs.declared.histories.History.{History}
 use Rattle.sip_standard.specs.Observation.{Observation, ObservesMessage, has_fault, has_no_cookie, is_heard, silent_observation}
-use Rattle.sip_verdict.specs.Keyed.{with_key}
-use Rattle.sip_verdict.specs.MessageReading.{key_machines, message_reading}
-use Rattle.sip_standard.specs.VerdictOf.{keys_in}
+use Rattle.sip_verdict.specs.inner.Keyed.{with_key}
+use Rattle.sip_standard.specs.VerdictOf.{keys_in, Sees}
 use Rattle.sip_verdict.specs.SurveyText.{is_of, IsFirstOf, IsLastOf}
 use Rattle.sip_verdict.specs.Surveys.{IsHistoryOf, AreHistories}
 use Rattle.sip_verdict.specs.inner.Histories.{SpellsBranch, Notes, NotesEach}
 use Rattle.sip_verdict.specs.inner.TablesTracking.{TouchesEach, is_among}
 use Rattle.sip_verdict.proofs.judges.ObservingLemmas.{no_keys, went}
-use Rattle.sip_verdict.proofs.keys.Keys.{among-fold, contains-among, keys_of-push, not_among, or_false}
+use Rattle.sip_verdict.proofs.keys.Keys.{among-fold, contains-among, not_among, or_false, keys_in-push, keys_in-none, keys_in-all}
 use Rattle.sip_verdict.proofs.verdicts.MessageUnique.{fault_says_none, one_said}
 use Rattle.sip_verdict.proofs.surveys.Begun.{AreMore, more_each, none_more, touched_keys}
-use Rattle.sip_verdict.proofs.surveys.Taken.{keys_none, known_keys}
 use Rattle.sip_verdict.proofs.tables.TablesPassing.{at_place, set-place}
-use Rattle.sip_verdict.proofs.tables.TablesTouching.{have_numbers, keys_exact, push-place, same_numbers}
+use Rattle.sip_verdict.proofs.tables.TablesTouching.{have_numbers, push-place, same_numbers}
 
 abbrev pub Entries : Type 0
 Entries = List (Observation KeyParts)

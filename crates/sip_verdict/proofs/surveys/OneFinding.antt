@@ -3,11 +3,8 @@ use Rattle.std.proofs.Common.{◌≡◌, ◌≤◌, ◌⊎◌, inl, inr, List, [
 use Rattle.sip_standard.specs.Key.{KeyParts}
 use Rattle.sip_standard.specs.Times.{Times}
 use Rattle.sip_standard.specs.Observation.{Observation}
-use Rattle.sip_verdict.specs.MessageReading.{key_machines}
-use Rattle.sip_standard.specs.VerdictOf.{RunsOver}
 use Rattle.sip_verdict.specs.SurveyOf.{IsSound, Breaks, Widens}
 use Rattle.sip_verdict.proofs.keys.FewerEntries.{fewer-entries}
-use Rattle.sip_verdict.proofs.verdicts.VerdictLemmas.{run-over, over-run}
 use Rattle.sip_verdict.proofs.surveys.Sound.{sound_nil, sound_push}
 
 -- what is in no trouble over entries in order is in none over the first of them

@@ -12,9 +12,8 @@ use Rattle.sip_standard.specs.LogEntry.{Item}
 use Rattle.sip_part.specs.Part.{PartOf, TellsBranch, compared, falls_into}
 use Rattle.sip_part.proofs.Told.{told_branch}
 use Rattle.sip_standard.specs.Observation.{Observation, direction_of, silent_observation, ObservesMessage, has_fault, has_no_cookie, is_heard}
-use Rattle.sip_verdict.specs.MessageReading.{message_reading}
-use Rattle.sip_verdict.specs.Reading.{AreObserved}
-use Rattle.sip_standard.specs.VerdictOf.{keys_in}
+use Rattle.sip_standard.specs.Seen.{AreSeen}
+use Rattle.sip_standard.specs.VerdictOf.{keys_in, Sees}
 use Rattle.sip_verdict.specs.SurveyLaws.{StaysOrIsMark, IsCutLog}
 use Rattle.sip_verdict.specs.SurveyParts.{IsPartItem, IsPartLog}
 use Rattle.sip_verdict.proofs.surveys.ByBranch.{of_one_branch}

@@ -11,8 +11,6 @@ use Rattle.sip_states.specs.Tables.{Tabled, IsGiven}
 use Rattle.sip_states.specs.declared.any_set.AnySet.{AnySet}
 use Rattle.sip_verdict.specs.declared.troubled.Troubled.{Troubled}
 use Rattle.sip_standard.specs.Observation.{Observation}
-use Rattle.sip_verdict.specs.Keyed.{Machines}
-use Rattle.sip_verdict.specs.MessageReading.{key_machines}
 use Rattle.sip_standard.specs.VerdictOf.{RunsOver}
 use Rattle.sip_verdict.specs.SurveyOf.{IsSound, Breaks, Widens}
 use Rattle.sip_verdict.specs.inner.Tracking.{Keeping, IsReady, GoesOn}

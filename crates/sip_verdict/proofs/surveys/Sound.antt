@@ -9,13 +9,11 @@ use Rattle.sip_standard.specs.Figure.{quiet}
 use Rattle.sip_standard.specs.Stands.{Stands, begins, waits}
 use Rattle.sip_standard.specs.KeyMachine.{machine_of_key, transaction_of}
 use Rattle.sip_standard.specs.Observation.{Observation}
-use Rattle.sip_verdict.specs.Keyed.{newest_moment}
-use Rattle.sip_verdict.specs.MessageReading.{key_machines}
+use Rattle.sip_verdict.specs.Entries.{newest_moment}
 use Rattle.sip_standard.specs.VerdictOf.{keys_in, events_for, RunsOver, IsWideAt}
 use Rattle.sip_verdict.specs.SurveyOf.{IsSound}
-use Rattle.sip_verdict.proofs.keys.Keys.{keys_of-push, among-contains, among-fold, new_key}
+use Rattle.sip_verdict.proofs.keys.Keys.{among-contains, among-fold, new_key, keys_in-push}
 use Rattle.sip_verdict.proofs.keys.Splitting.{split_compare}
-use Rattle.sip_verdict.proofs.tables.TablesTouching.{keys_exact}
 use Rattle.sip_verdict.proofs.surveys.Lasting.{idle_lasts}
 
 -- a key that no entry concerns has a run

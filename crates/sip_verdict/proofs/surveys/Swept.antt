@@ -7,27 +7,25 @@ use Rattle.sip_standard.specs.Times.{Times}
 use Rattle.sip_machine.specs.Texts.{Texts, IsBook, Keeps}
 use Rattle.sip_machine.specs.Retained.{only}
 use Rattle.sip_standard.specs.MachineEvent.{MachineEvent}
-use Rattle.sip_states.specs.Runs.{RuledRun}
-use Rattle.sip_standard.specs.KeyMachine.{machine_of_key}
-use Rattle.sip_states.specs.KeySets.{key_rules}
+use Rattle.sip_standard.specs.KeyMachine.{machine_of_key, transaction_of}
 use Rattle.sip_states.specs.AnySet.{moment_of}
 use Rattle.sip_states.specs.Sweep.{numbers_of, AdvancesAll}
 use Rattle.sip_states.specs.Tables.{Tabled}
 use Rattle.sip_states.specs.declared.any_set.AnySet.{AnySet}
 use Rattle.sip_standard.specs.Observation.{Observation}
-use Rattle.sip_verdict.specs.Keyed.{keys_of, events_of, newest_moment}
-use Rattle.sip_verdict.specs.MessageReading.{key_machines}
-use Rattle.sip_verdict.specs.Named.{AreMany, messages_of}
+use Rattle.sip_standard.specs.VerdictOf.{keys_in, events_for}
+use Rattle.sip_verdict.specs.Entries.{newest_moment}
+use Rattle.sip_standard.specs.Stands.{Stands}
+use Rattle.sip_verdict.specs.Named.{AreMany}
 use Rattle.sip_verdict.specs.Surveys.{IsStillNamed}
 use Rattle.sip_verdict.specs.inner.TablesTracking.{LeadsOf, MayPass}
 use Rattle.sip_verdict.specs.inner.Surveying.{IsFollowed, TablesSurvey}
 use Rattle.sip_verdict.proofs.keys.Keys.{among-contains, new_key}
-use Rattle.sip_verdict.proofs.sweeps.NamedLemmas.{RunNames, IsNumberOf, Contains-flat_map, Contains-from_flat_map}
-use Rattle.sip_verdict.proofs.tables.NamedTables.{no_events_silent, key_named, many_texts}
+use Rattle.sip_verdict.proofs.sweeps.NamedLemmas.{IsNumberOf, Contains-flat_map, Contains-from_flat_map}
+use Rattle.sip_verdict.proofs.tables.NamedTables.{no_events_silent, key_named, many_texts, StandsNaming}
 use Rattle.sip_verdict.proofs.sweeps.SweptSets.{swept_leads}
 use Rattle.sip_verdict.proofs.sweeps.SweptTables.{before, within}
 use Rattle.sip_verdict.proofs.tables.TablesPassing.{at_place, All-place}
-use Rattle.sip_verdict.proofs.tables.TablesTouching.{keys_exact}
 
 module _ (texts : Texts) (book : IsBook texts) (t u : Tabled) (moment : ℕ) (advances : AdvancesAll moment t u) (may : MayPass texts t moment)
     (numbers : List ℕ) (up : AllPairs (λ a b. a < b) numbers) (same : (n : ℕ) → Contains numbers n ↔ Contains (flat_map numbers_of u.sets) n) (kept : All (Keeps texts) numbers)

@@ -1,13 +1,11 @@
 -- An entry of each kind, as the transactions of a survey pass it.
-use Rattle.std.proofs.Common.{◌≡◌, ◌≢◌, ◌≤◌, ◌<◌, inl, inr, ℕ, Bool, true, false, Option, Some, None, List, [], ◌∷◌, ◌++◌, All, AllPairs, Contains, length, slice_get, refl, sym, ap, ◌∙◌, subst, true≢false, arith}
+use Rattle.std.proofs.Common.{◌≡◌, ◌≢◌, ◌≤◌, ◌<◌, inl, inr, ℕ, Bool, true, false, Option, Some, None, List, [], ◌∷◌, ◌++◌, All, AllPairs, length, slice_get, refl, sym, ap, ◌∙◌, subst, true≢false, arith}
 use Rattle.std.specs.Prelude.{fold}
-use Rattle.std.specs.List.{list_any}
 use Rattle.std.proofs.Math.Decide.{dec_le}
-use Rattle.std.proofs.lemmas.List.Elements.{All-head, All-tail, Contains-get_or}
 use Rattle.sip_standard.specs.declared.action.Action.TheVariants.{Restart}
 use Rattle.sip_standard.specs.declared.kind.Kind.TheVariants.{Request}
 use Rattle.sip_standard.specs.declared.kind.Method.TheVariants.{Other}
-use Rattle.sip_standard.specs.Key.{KeyParts, same_key}
+use Rattle.sip_standard.specs.Key.{KeyParts}
 use Rattle.sip_standard.specs.Times.{Times}
 use Rattle.sip_machine.specs.Texts.{Texts, Keeps, text_of}
 use Rattle.sip_machine.specs.NumberedEvent.{NumberedEvent, event_in}
@@ -26,17 +24,17 @@ use Rattle.sip_verdict.specs.declared.observing.Told.TheVariants as told
 use Rattle.sip_verdict.specs.declared.passing.Hearing.{Hearing}
 use Rattle.sip_verdict.specs.declared.troubled.Troubled.{Troubled}
 use Rattle.sip_standard.specs.Observation.{Observation}
-use Rattle.sip_verdict.specs.Keyed.{with_key, newest_moment}
-use Rattle.sip_verdict.specs.MessageReading.{key_machines, message_reading}
-use Rattle.sip_standard.specs.VerdictOf.{keys_in}
+use Rattle.sip_verdict.specs.Entries.{newest_moment}
+use Rattle.sip_verdict.specs.inner.Keyed.{with_key}
+use Rattle.sip_standard.specs.VerdictOf.{keys_in, Sees}
 use Rattle.sip_verdict.specs.inner.Concerned.{each, is_all}
 use Rattle.sip_verdict.specs.inner.Observing.{IsObserved, restart_observation}
 use Rattle.sip_verdict.specs.inner.TablesTracking.{LeadsOf, is_among, AreTold, TouchesEach}
 use Rattle.sip_verdict.specs.inner.Surveying.{AreWatched, IsFresh, IsFollowed, TablesSurvey, ArePassing, any}
-use Rattle.sip_verdict.proofs.keys.Keys.{cond_true, keys_of-push, contains-among}
+use Rattle.sip_verdict.proofs.keys.Keys.{keys_in-push, keys_in-none, keys_in-all}
 use Rattle.sip_verdict.proofs.keys.Leading.{Leads-grow}
 use Rattle.sip_verdict.proofs.judges.StandingLemmas.{IsGrown, text_of_none, touched_recorded}
-use Rattle.sip_verdict.proofs.tables.TablesTouching.{keys_exact, touches_elim, touches_times, have_numbers, slice_get-more, told_unheard, told_event, told_restart}
+use Rattle.sip_verdict.proofs.tables.TablesTouching.{touches_elim, touches_times, have_numbers, slice_get-more, told_unheard, told_event, told_restart}
 use Rattle.sip_verdict.proofs.surveys.Begun.{begun_same, begun_touched, touched_keys, front_place, back_place}
 
 -- Where the book has one message more, the sets lead to the same.

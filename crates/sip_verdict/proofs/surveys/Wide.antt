@@ -6,9 +6,8 @@ use Rattle.sip_standard.specs.Times.{Times}
 use Rattle.sip_standard.specs.Stands.{Stands, takes, StandsAfter}
 use Rattle.sip_standard.specs.KeyMachine.{machine_of_key, transaction_of}
 use Rattle.sip_standard.specs.Observation.{Observation}
-use Rattle.sip_verdict.specs.MessageReading.{key_machines}
 use Rattle.sip_standard.specs.VerdictOf.{events_for, RunsOver, IsWideAt}
-use Rattle.sip_verdict.proofs.keys.Keys.{newest_moment-push, events_of-concerned}
+use Rattle.sip_verdict.proofs.keys.Keys.{newest_moment-push, events_for-concerned}
 
 -- the first of more than so many
 first_of_many : {X : Type 0} (P : X → Type 0) (n : ℕ) (xs : List X) → n < length xs → All P xs → (x : X) × P x

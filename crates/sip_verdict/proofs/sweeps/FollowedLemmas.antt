@@ -13,12 +13,11 @@ use Rattle.sip_states.proofs.lists.Listed.{Contains-none, Contains-map}
 use Rattle.sip_standard.specs.LogEntry.{Item}
 use Rattle.sip_standard.specs.declared.verdict.Verdict.{Verdict}
 use Rattle.sip_standard.specs.Observation.{Observation, silent_observation, ObservesMessage, direction_of, has_fault, has_no_cookie, is_heard}
-use Rattle.sip_verdict.specs.Keyed.{Machines, keys_of, newest_moment}
+use Rattle.sip_verdict.specs.Entries.{newest_moment}
 use Rattle.sip_standard.specs.declared.action.Action.{Action}
 use Rattle.sip_standard.specs.declared.action.Action.TheVariants.{Sent, Received, Failed, Mark, Restart}
-use Rattle.sip_standard.specs.VerdictOf.{keys_in}
-use Rattle.sip_verdict.specs.MessageReading.{key_machines, message_reading}
-use Rattle.sip_verdict.specs.Named.{IsNamed, AreMany, WereNamed, key_messages}
+use Rattle.sip_standard.specs.VerdictOf.{keys_in, Sees}
+use Rattle.sip_verdict.specs.Named.{IsNamed, AreMany, WereNamed}
 use Rattle.sip_verdict.specs.Judging.{AreFollowed}
 use Rattle.sip_verdict.specs.inner.Sweeping.{AreFollowedOn}
 use Rattle.sip_verdict.specs.inner.Tracking.{Tracks, IsJudged}

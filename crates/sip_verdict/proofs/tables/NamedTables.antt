@@ -4,7 +4,6 @@ use Rattle.std.specs.List.{flat_map, list_any}
 use Rattle.std.proofs.lemmas.List.{length-map, get_or-map}
 use Rattle.std.proofs.lemmas.Option.{slice_get_within, get_or_from_slice_get, slice_get-get_or}
 use Rattle.sip_standard.specs.Key.{KeyParts, same_key}
-use Rattle.sip_key.specs.inner.KeyLaws.{same_key-decides}
 use Rattle.sip_standard.specs.Times.{Times}
 use Rattle.sip_machine.specs.Texts.{Texts, IsBook, Keeps, text_of}
 use Rattle.sip_machine.specs.Retained.{only}
@@ -13,8 +12,8 @@ use Rattle.sip_machine.specs.Rules.{Rules, IsLawful, StandFor}
 use Rattle.sip_machine.proofs.texts.RetainLemmas.{length-only}
 use Rattle.sip_states.specs.Runs.{Wait, RuledRun}
 use Rattle.sip_states.specs.Held.{Held}
-use Rattle.sip_standard.specs.KeyMachine.{MachineKind, machine_of_key}
-use Rattle.sip_states.specs.KeySets.{PhaseOf, StateOf, key_rules}
+use Rattle.sip_standard.specs.KeyMachine.{MachineKind, machine_of_key, transaction_of}
+use Rattle.sip_states.specs.KeySets.{PhaseOf, StateOf, key_rules, coded_holds}
 use Rattle.sip_states.specs.Meaning.{HasWaited}
 use Rattle.sip_states.specs.AnySet.{meaning_of, moment_of, SetWaits}
 use Rattle.sip_states.specs.Sweep.{numbers_of, IsAdvanced}
@@ -24,12 +23,15 @@ use Rattle.sip_states.proofs.lists.Listed.{Contains-none, Contains-map, Contains
 use Rattle.sip_states.proofs.runs.RunLemmas.{Run-wait_first}
 use Rattle.sip_states.proofs.sets.Waiting.{StaysFrom, EndsFrom, Wait-cases, IsOpenAt-none}
 use Rattle.sip_standard.specs.Observation.{Observation}
-use Rattle.sip_verdict.specs.Keyed.{keys_of, events_of, newest_moment}
-use Rattle.sip_verdict.specs.MessageReading.{key_machines}
-use Rattle.sip_verdict.specs.Named.{IsNamed, AreMany, messages_of, key_messages}
+use Rattle.sip_standard.specs.VerdictOf.{keys_in, events_for}
+use Rattle.sip_verdict.specs.Entries.{newest_moment}
+use Rattle.sip_standard.specs.Stands.{Stands}
+use Rattle.sip_states.proofs.runs.StandsLemmas.{stands-runs}
+use Rattle.sip_verdict.proofs.keys.Leading.{iff_trans}
+use Rattle.sip_verdict.specs.Named.{IsNamed, AreMany, messages_of}
 use Rattle.sip_verdict.specs.inner.TablesTracking.{LeadsOf, key_keeping, transactions_of, TablesTrack}
 use Rattle.sip_verdict.specs.inner.Tracking.{IsReady}
-use Rattle.sip_verdict.proofs.keys.Keys.{IsExact, among-contains, new_key}
+use Rattle.sip_verdict.proofs.keys.Keys.{among-contains, new_key}
 use Rattle.sip_states.proofs.keyed.ByMachine.{rules_are, lawful_of, moment_is, numbers_are, of_sets}
 use Rattle.sip_verdict.proofs.tables.TablesPassing.{at_place, All-place, zip-place, keys_are}
 use Rattle.sip_verdict.proofs.sweeps.NamedLemmas.{RunNames, IsNumberOf, waited_names, silent_names, named_of, first_silent, ended_silent, Contains-flat_map, Contains-from_flat_map}

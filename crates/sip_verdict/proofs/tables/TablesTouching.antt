@@ -18,13 +18,12 @@ use Rattle.sip_states.specs.Tables.{Tabled, Touches, with_key}
 use Rattle.sip_states.specs.declared.any_set.AnySet.{AnySet}
 use Rattle.sip_verdict.specs.declared.passing.Hearing.{Hearing}
 use Rattle.sip_standard.specs.Observation.{Observation}
-use Rattle.sip_verdict.specs.Keyed.{newest_moment}
-use Rattle.sip_verdict.specs.Keyed as keyed
-use Rattle.sip_verdict.specs.MessageReading.{key_machines}
+use Rattle.sip_verdict.specs.Entries.{newest_moment}
+use Rattle.sip_verdict.specs.inner.Keyed as keyed
 use Rattle.sip_verdict.specs.inner.Tracking.{IsTouched}
 use Rattle.sip_verdict.specs.inner.TablesTracking.{LeadsOf, key_keeping, transactions_of, AreTold, TouchesEach, HaveNumbers, is_among, MayPass, IsOnRecord, AreOnRecord}
 use Rattle.sip_verdict.specs.inner.Concerned.{each, is_all}
-use Rattle.sip_verdict.proofs.keys.Keys.{IsExact, contains-among}
+use Rattle.sip_verdict.proofs.keys.Keys.{contains-among}
 use Rattle.sip_verdict.proofs.keys.Leading.{Leads-start}
 use Rattle.sip_states.proofs.keyed.ByMachine.{first_of, first_is_of, first_knows, moment_is, to_set}
 use Rattle.sip_verdict.proofs.tables.TablesPassing.{keys_are, among_first, among_rest}

@@ -3,13 +3,17 @@ use Rattle.std.proofs.Common.{◌≡◌, inl, inr, ℕ, ◌+◌, false, None, Li
 use Rattle.std.specs.Prelude.{fold}
 use Rattle.std.specs.List.{list_any}
 use Rattle.std.proofs.lemmas.List.{map-append}
-use Rattle.std.proofs.lemmas.List.Elements.{All-nil, All-map, All-weaker, All-push, All-head, All-tail, Contains-get_or}
+use Rattle.std.proofs.lemmas.List.Elements.{All-nil, All-map, All-weaker, All-push}
 use Rattle.sip_standard.specs.declared.verdict.Verdict.TheVariants.{Breach, Undecided}
 use Rattle.sip_standard.specs.Observation.{Observation}
-use Rattle.sip_verdict.specs.Keyed.{Machines, with_key, keys_of, newest_moment, HasRun}
-use Rattle.sip_verdict.specs.Verdicts.{IsFirstKey, IsTooWide, IsGood, IsTrouble}
+use Rattle.sip_standard.specs.VerdictOf.{keys_in, RunsOver, IsWideAt, IsFirstKey, HasTrouble}
+use Rattle.sip_verdict.specs.Entries.{newest_moment}
+use Rattle.sip_verdict.specs.LegalLog.{IsGood}
+use Rattle.sip_verdict.specs.inner.Keyed.{with_key}
+use Rattle.sip_standard.specs.Key.{KeyParts, same_key}
+use Rattle.sip_standard.specs.Times.{Times}
 use Rattle.sip_verdict.specs.inner.Tracking.{Keeping, IsReady, IsStanding, Tracks, TracksBefore, GoesOn, IsTouched}
-use Rattle.sip_verdict.proofs.keys.Keys.{IsExact, cond_true, cond_false, keys_of-push, new_key, contains-among, not_among, among-with_key}
+use Rattle.sip_verdict.proofs.keys.Keys.{cond_true, cond_false, new_key, contains-among, not_among, among-with_key, keys_in-push, keys_in-none, keys_in-all}
 use Rattle.sip_verdict.proofs.verdicts.Unique.{good-nil, good-push}
 
 -- the transactions have these keys, among which are those of the entries, and lead to the runs over the entries

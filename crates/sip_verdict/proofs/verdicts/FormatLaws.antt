@@ -12,11 +12,8 @@ use Rattle.sip_log.specs.Log.{Readable, IsLogOf}
 use Rattle.sip_log.proofs.logs.Logs.{log-of-two, clean-log}
 use Rattle.sip_log.proofs.logs.LogLaws.{Header-one}
 use Rattle.sip_standard.specs.declared.verdict.Verdict.{Verdict}
-use Rattle.sip_verdict.specs.Reading.{Judges, IsVerdictBy}
-use Rattle.sip_verdict.specs.MessageReading.{message_reading}
-use Rattle.sip_standard.specs.VerdictOf.{IsVerdictOf}
+use Rattle.sip_standard.specs.VerdictOf.{IsVerdictOf, IsVerdictAfter}
 use Rattle.sip_verdict.proofs.verdicts.OneVerdict.{one_log, not_both}
-use Rattle.sip_verdict.proofs.verdicts.VerdictLemmas.{by-verdict, verdict-by}
 
 -- what a verdict of an input judges is its log
 judges_log : (input : List ℕ) (p : Times) (items : List Item) (end : LogEnd) (v : Verdict) → LogSays input p items end → IsVerdictOf input v → IsVerdictAfter p [] items end v

@@ -21,11 +21,7 @@ use Rattle.sip_standard.specs.declared.verdict.Verdict.{Verdict}
 use Rattle.sip_standard.specs.declared.verdict.Verdict.TheVariants.{Legal, Malformed, Breach, Undecided, LogFault}
 use Rattle.sip_standard.specs.declared.log_reason.LogReason.TheVariants.{Header}
 use Rattle.sip_standard.specs.Observation.{Observation, direction_of, silent_observation, ObservesMessage, has_fault, has_no_cookie, is_heard}
-use Rattle.sip_verdict.specs.Keyed.{Machines, keys_of, HasRun}
-use Rattle.sip_verdict.specs.Verdicts.{IsFirstKey, IsTooWide, AllRun, IsFine, IsTrouble}
-use Rattle.sip_verdict.specs.Reading.{EntryReading, Judges, IsVerdictBy}
-use Rattle.sip_standard.specs.VerdictOf.{keys_in}
-use Rattle.sip_verdict.specs.MessageReading.{message_reading}
+use Rattle.sip_standard.specs.VerdictOf.{keys_in, Sees, RunsOver, IsWideAt, IsFirstKey, HasTrouble, IsVerdictAfter, IsVerdictOf}
 use Rattle.sip_verdict.specs.LegalLog.{IsFine}
 use Rattle.sip_verdict.specs.inner.Observing.{mark_observation, restart_observation}
 use Rattle.sip_message.specs.Reading as message

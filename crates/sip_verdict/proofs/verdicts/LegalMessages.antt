@@ -1,17 +1,12 @@
 -- The messages of a legal log.
-use Rattle.std.proofs.Common.{◌≡◌, ℕ, Option, Some, None, IfSome, MatchOption, List, [], ◌∷◌, ◌++◌, All, sym, ap, ◌∙◌}
+use Rattle.std.proofs.Common.{◌≡◌, Option, Some, None, IfSome, MatchOption, List, [], ◌∷◌, ◌++◌, All, sym, ap, ◌∙◌}
 use Rattle.std.proofs.lemmas.List.Elements.{All-nil, All-cons, All-head, All-tail}
 use Rattle.sip_standard.specs.declared.role.Direction.{Direction}
 use Rattle.sip_standard.specs.Key.{KeyParts}
 use Rattle.sip_standard.specs.LogEntry.{Item}
-use Rattle.sip_standard.specs.declared.verdict.Verdict.TheVariants.{Legal}
 use Rattle.sip_standard.specs.Observation.{Observation, direction_of, no_cookie, ObservesMessage, has_fault, has_no_cookie, is_heard}
-use Rattle.sip_verdict.specs.Reading.{AreObserved}
-use Rattle.sip_verdict.specs.MessageReading.{message_reading}
-use Rattle.sip_verdict.specs.LegalLog.{IsFormed, IsLegalLog}
-use Rattle.sip_standard.specs.VerdictOf.{IsVerdictOf}
-use Rattle.sip_verdict.proofs.verdicts.LegalRuns.{legal_has_runs}
-use Rattle.sip_verdict.proofs.verdicts.VerdictLemmas.{verdict-by}
+use Rattle.sip_standard.specs.Seen.{AreSeen}
+use Rattle.sip_verdict.specs.LegalLog.{IsFormed}
 
 -- a message that is observed without a fault is of the grammar
 formed : (direction : Direction) (item : Item) (e : Observation KeyParts) → e.fault ≡ None → ObservesMessage direction item e → IsFormed direction item.text

@@ -10,7 +10,7 @@ use Rattle.sip_standard.specs.Key.{KeyParts}
 use Rattle.sip_standard.specs.Concerns.{Concerns, lacks_cookie, own_key, cancelled_key}
 use Rattle.sip_standard.specs.LogEntry.{Item}
 use Rattle.sip_standard.specs.Observation.{Observation, fault_observation, message_event, ObservesMessage, has_fault, has_no_cookie, is_heard, direction_of}
-use Rattle.sip_verdict.specs.MessageReading.{message_reading}
+use Rattle.sip_standard.specs.VerdictOf.{Sees}
 
 -- bytes that have a fault say no message
 pub fault_says_none : (text : List ℕ) (fault : Fault) (s : Said) → Says text (stops fault) → Says text (gives s) → ⊥

@@ -5,7 +5,8 @@ use Rattle.std.proofs.lemmas.Bool.{cases_lt}
 use Rattle.std.proofs.lemmas.List.Elements.{All-nil, All-cons}
 use Rattle.sip_verdict.specs.declared.passing.Outcome.{Outcome}
 use Rattle.sip_verdict.specs.declared.passing.Outcome.TheVariants as all
-use Rattle.sip_verdict.specs.Verdicts.{IsFirstKey}
+use Rattle.sip_standard.specs.VerdictOf.{IsFirstKey}
+use Rattle.sip_standard.specs.Key.{KeyParts}
 use Rattle.sip_verdict.specs.inner.Tracking.{first_of}
 
 -- a key at a place, of which P holds, and before which it holds of none, is the first

@@ -11,8 +11,9 @@ use Rattle.sip_listing.specs.Lists.{Lists}
 use Rattle.sip_standard.specs.declared.listing.Listing.{Listing}
 use Rattle.sip_standard.specs.declared.listing.Listing.TheVariants.{Text, Stopped, NoEntry}
 use Rattle.sip_standard.specs.Observation.{Observation}
-use Rattle.sip_verdict.specs.MessageReading.{key_machines, ConcernsNone}
-use Rattle.sip_verdict.specs.Verdicts.{IsGood, IsTrouble}
+use Rattle.sip_standard.specs.VerdictOf.{HasTrouble}
+use Rattle.sip_verdict.specs.Entries.{ConcernsNone}
+use Rattle.sip_verdict.specs.LegalLog.{IsGood}
 use Rattle.sip_standard.specs.ListingOf.{first_entry, IsEntryText}
 
 -- the book keeps the messages of these entries that concern a key, each under the number of the first that has it

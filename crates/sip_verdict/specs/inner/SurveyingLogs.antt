@@ -22,8 +22,7 @@ use Rattle.sip_verdict.specs.inner.Walking.{HasRead}
 use Rattle.sip_standard.specs.Times.{Times}
 use Rattle.sip_verdict.specs.declared.finding.Finding.TheVariants.{Malformed, Breach, Undecided}
 use Rattle.sip_verdict.specs.declared.transaction.Transaction.{Transaction}
-use Rattle.sip_verdict.specs.MessageReading.{message_reading}
-use Rattle.sip_verdict.specs.Reading.{AreObserved}
+use Rattle.sip_standard.specs.Seen.{AreSeen}
 use Rattle.sip_standard.specs.Rendering.{rendered}
 use Rattle.sip_standard.specs.VerdictOf.{keys_in}
 use Rattle.sip_log.specs.Reading as log

@@ -9,8 +9,7 @@ use Rattle.sip_log.specs.Reading.{Place, entries}
 use Rattle.sip_verdict.specs.declared.stage.Stage.TheVariants.{Open}
 use Rattle.sip_standard.specs.declared.verdict.Verdict.{Verdict}
 use Rattle.sip_standard.specs.Observation.{Observation}
-use Rattle.sip_verdict.specs.Verdicts.{IsTrouble}
-use Rattle.sip_verdict.specs.MessageReading.{key_machines, message_reading}
+use Rattle.sip_standard.specs.VerdictOf.{HasTrouble}
 use Rattle.sip_verdict.specs.Judging.{Judging, AreFollowed, StandsFor}
 use Rattle.sip_verdict.specs.inner.Walking.{Judged}
 

@@ -22,8 +22,7 @@ use Rattle.sip_verdict.specs.declared.passing.Fate.TheVariants.{Runs, NoRun, Too
 use Rattle.sip_verdict.specs.declared.passing.Outcome.{Outcome}
 use Rattle.sip_verdict.specs.declared.passing.Outcome.TheVariants as all
 use Rattle.sip_standard.specs.Observation.{Observation}
-use Rattle.sip_verdict.specs.Keyed.{concerns}
-use Rattle.sip_verdict.specs.MessageReading.{key_machines}
+use Rattle.sip_verdict.specs.inner.Keyed.{concerns}
 use Rattle.sip_verdict.specs.inner.Stepping.{LeadsTo, IsStepped}
 use Rattle.sip_verdict.specs.inner.Tracking.{Keeping, Tracks, TracksBefore, outcome_of, first_of}
 use Rattle.sip_verdict.specs.inner.Concerned.{each, is_all}

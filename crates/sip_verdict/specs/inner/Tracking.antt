@@ -6,8 +6,12 @@ use Rattle.sip_verdict.specs.declared.passing.Fate.TheVariants.{Runs, NoRun, Too
 use Rattle.sip_verdict.specs.declared.passing.Outcome.{Outcome}
 use Rattle.sip_verdict.specs.declared.passing.Outcome.TheVariants as all
 use Rattle.sip_standard.specs.Observation.{Observation}
-use Rattle.sip_verdict.specs.Keyed.{Machines, concerns, keys_of, events_of, newest_moment, HasRun}
-use Rattle.sip_verdict.specs.Verdicts.{IsFirst, IsTooWide, IsGood, IsTrouble}
+use Rattle.sip_standard.specs.VerdictOf.{keys_in, events_for, RunsOver, IsWideAt, IsFirstKey, HasTrouble}
+use Rattle.sip_verdict.specs.Entries.{newest_moment}
+use Rattle.sip_verdict.specs.LegalLog.{IsGood}
+use Rattle.sip_verdict.specs.inner.Keyed.{concerns}
+use Rattle.sip_standard.specs.Key.{KeyParts}
+use Rattle.sip_standard.specs.Times.{Times}
 
 -- How what is kept of transactions follows the entries of a log, whatever is kept of each.
 

@@ -4,7 +4,6 @@ use Rattle.std.proofs.lemmas.Result.{IfOk-weaker}
 use Rattle.sip_verdict.specs.inner.Tracking.{IsOutcome}
 use Rattle.sip_verdict.specs.inner.TablesTracking.{key_keeping, transactions_of, MayPass, MayHear, HearsEach}
 use Rattle.sip_verdict.specs.inner.Concerned.{each}
-use Rattle.sip_verdict.specs.MessageReading.{key_machines}
 use Rattle.sip_verdict.proofs.tables.Halfway.{mark_outcome, heard_outcome, quiet_others}
 use Rattle.sip_verdict.proofs.tables.TablesPassing.{on_record_if, heard_recorded, recorded_more}
 use Rattle.sip_verdict.proofs.passing.pass_all.Goals as goal

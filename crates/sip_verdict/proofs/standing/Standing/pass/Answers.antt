@@ -1,5 +1,4 @@
 use Rattle.std.proofs.Common.{◌≡◌, map, sym, ◌∙◌, subst}
-use Rattle.sip_verdict.specs.MessageReading.{key_machines}
 use Rattle.sip_verdict.specs.inner.Tracking.{IsOutcome}
 use Rattle.sip_verdict.specs.inner.TablesTracking.{key_keeping, transactions_of}
 use Rattle.sip_verdict.proofs.tables.TablesPassing.{keys_are}

@@ -1,6 +1,5 @@
 use Rattle.std.proofs.Common.{All, Contains, length, refl, sym, subst}
-use Rattle.sip_verdict.specs.Named.{IsNamed, AreMany, key_messages}
-use Rattle.sip_verdict.specs.MessageReading.{key_machines}
+use Rattle.sip_verdict.specs.Named.{IsNamed, AreMany}
 use Rattle.sip_verdict.specs.inner.TablesTracking.{MayPass, TablesTrack}
 use Rattle.sip_verdict.proofs.tables.NamedTables.{many_named}
 use Rattle.sip_verdict.specs.Surveys.{IsStillNamed}

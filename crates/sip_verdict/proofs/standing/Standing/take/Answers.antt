@@ -2,7 +2,7 @@ use Rattle.std.proofs.Common.{[], ◌∙◌, ap, inl, length, refl, arith, subst
 use Rattle.sip_machine.specs.Texts.{Keeps}
 use Rattle.sip_log.specs.Told.{item}
 use Rattle.sip_standard.specs.Observation.{fault_observation}
-use Rattle.sip_verdict.specs.MessageReading.{message_reading}
+use Rattle.sip_standard.specs.VerdictOf.{Sees}
 use Rattle.sip_verdict.specs.inner.Numbering.{StaysNumbered}
 use Rattle.sip_verdict.specs.inner.TablesTracking.{HaveNumbers, MayHear}
 use Rattle.sip_verdict.specs.inner.Concerned.{each}

@@ -91,7 +91,7 @@ observes_message direction item never = reading-or-fault item.text no_reading no
         by_cookie false has = never (_, is_heard (said_of r) _ reads.says has refl refl)
 
 -- and of each entry
-sees_entry : (before : List (Observation KeyParts)) (item : Item) → Weakly ((e : Observation KeyParts) × Sees before item e)
+pub sees_entry : (before : List (Observation KeyParts)) (item : Item) → Weakly ((e : Observation KeyParts) × Sees before item e)
 sees_entry before item = by_action item.action refl
   where
     keys : List KeyParts

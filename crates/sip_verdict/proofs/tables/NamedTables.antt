@@ -32,7 +32,7 @@ use Rattle.sip_verdict.specs.Named.{IsNamed, AreMany, messages_of}
 use Rattle.sip_verdict.specs.inner.TablesTracking.{LeadsOf, key_keeping, transactions_of, TablesTrack}
 use Rattle.sip_verdict.specs.inner.Tracking.{IsReady}
 use Rattle.sip_verdict.proofs.keys.Keys.{among-contains, new_key}
-use Rattle.sip_states.proofs.keyed.ByMachine.{rules_are, lawful_of, moment_is, numbers_are, of_sets}
+use Rattle.sip_states.proofs.keyed.ByMachine.{lawful_of, moment_is, numbers_are, of_sets}
 use Rattle.sip_verdict.proofs.tables.TablesPassing.{at_place, All-place, zip-place, keys_are}
 use Rattle.sip_verdict.proofs.sweeps.NamedLemmas.{RunNames, IsNumberOf, waited_names, silent_names, named_of, first_silent, ended_silent, Contains-flat_map, Contains-from_flat_map}
 
@@ -58,8 +58,7 @@ names_stand p machine events moment text =
 pub no_events_silent : (p : Times) (moment : ℕ) (machine : MachineKind) (events : List MachineEvent) (text : List ℕ) → events ≡ [] → StandsNaming p machine events moment text → ⊥
 no_events_silent p moment machine events text none named =
     let q = (meaning_of machine).rules p in
-    let by_rules = (names_stand p machine [] moment text).0 (subst (λ es. StandsNaming p machine es moment text) none named) in
-    let (y, run, has) = subst (λ s. RunNames s (messages_of machine) [] moment text) (sym (rules_are p machine)) by_rules in
+    let (y, run, has) = (names_stand p machine [] moment text).0 (subst (λ es. StandsNaming p machine es moment text) none named) in
     Contains-none text (subst (λ ts. Contains ts text) (ap (messages_of machine) (stays_first q (lawful_of machine p) moment y run) ∙ first_silent machine p) has)
 
 -- where texts are named just by these numbers, there are just as many as messages that are kept
@@ -112,9 +111,7 @@ module _ (texts : Texts) (book : IsBook texts) (p : Times) (moment : ℕ) where
     )
 
     pub key_named : IsAdvanced moment old new → StandsNaming p machine events moment text ↔ IsNumberOf texts (numbers_of new) text
-    key_named advanced =
-        iff_trans (names_stand p machine events moment text)
-        (subst (λ q. RunNames q (messages_of machine) events moment text ↔ IsNumberOf texts (numbers_of new) text) (rules_are p machine) (by_set advanced))
+    key_named advanced = iff_trans (names_stand p machine events moment text) (by_set advanced)
 
   -- all keys
   module _ (es : List (Observation KeyParts)) (t u : Tabled) (times : t.times ≡ p) (tracks : TablesTrack texts es t) (long : length t.sets ≡ length t.keys) (newest : newest_moment es ≡ moment)

@@ -1,6 +1,7 @@
 pub mod Concerned
 pub mod Histories
 pub mod Judging
+pub mod Keyed
 pub mod Leads
 pub mod Numbering
 pub mod Observing

@@ -6,8 +6,8 @@ ghost use Rattle.sip_log.specs.Told.{item};
 ghost use Rattle.sip_verdict.specs.declared.finding.Finding.{Finding};
 ghost use Rattle.sip_verdict.specs.declared.survey_end.SurveyEnd.TheVariants.{Clean};
 ghost use Rattle.sip_standard.specs.Observation.{Observation};
-ghost use Rattle.sip_verdict.specs.MessageReading.{message_reading, ConcernsNone};
-ghost use Rattle.sip_standard.specs.VerdictOf.{keys_in};
+ghost use Rattle.sip_verdict.specs.Entries.{ConcernsNone};
+ghost use Rattle.sip_standard.specs.VerdictOf.{keys_in, Sees};
 ghost use Rattle.sip_verdict.specs.SurveyOf.{AreFoundAt};
 ghost use Rattle.sip_verdict.specs.SurveyText.{IsFirstOf, IsLastOf};
 ghost use Rattle.sip_verdict.specs.Judging.{MayComeNext};
@@ -89,7 +89,7 @@ impl<H: BuildHasher + Drop> Survey<H> {
     pub fn entry(&mut self, entry: &Entry, found: &mut Vec<Finding>) -> Result<(), StepError>
         requires { self.old.failed ≡ false → MayComeNext self.old.number self.old.moment entry.now.number entry.now.moment }
         ensures found { OnOk result ((es : List (Observation KeyParts)) → SurveysFor self.old es
-            → (e : Observation KeyParts) × (here : List Finding) × message_reading.Observes es (item entry.now) e
+            → (e : Observation KeyParts) × (here : List Finding) × Sees es (item entry.now) e
             × AreFoundAt self.old.tables.times es e here × (found.new.items ≡ found.old.items ++ here) × SurveysFor self.new (es ++ e ∷ [])) }
         ensures answers { MayAnswer self.old.failed result }
         ensures failed { self.new.failed ≡ is_err result }

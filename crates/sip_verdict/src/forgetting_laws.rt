@@ -6,7 +6,7 @@ ghost use Rattle.sip_standard.specs.Observation.{Observation};
 ghost use Rattle.sip_standard.specs.Times.{Times};
 ghost use Rattle.sip_standard.specs.VerdictOf.{events_for};
 ghost use Rattle.sip_verdict.specs.Forgetting.{remembered};
-ghost use Rattle.sip_verdict.specs.Keyed.{newest_moment};
+ghost use Rattle.sip_verdict.specs.Entries.{newest_moment};
 ghost use Rattle.sip_verdict.specs.SurveyLaws.{IsIdleAgain};
 ghost use Rattle.sip_verdict.specs.SurveyOf.{IsSound, Breaks, Widens};
 

@@ -6,7 +6,7 @@ ghost use Rattle.sip_standard.specs.Key.{KeyParts};
 ghost use Rattle.sip_message.specs.SaidOf.{said_of};
 ghost use Rattle.sip_log.specs.Told.{item};
 ghost use Rattle.sip_standard.specs.Observation.{Observation, direction_of};
-ghost use Rattle.sip_verdict.specs.MessageReading.{message_reading};
+ghost use Rattle.sip_standard.specs.VerdictOf.{Sees};
 ghost use Rattle.sip_verdict.specs.inner.Observing.{AreKeysOf, IsObserved, IsKept, IsHeard, silent_told};
 
 use crate::concerned::Concerned;
@@ -82,7 +82,7 @@ fn told_without_message(action: Action) -> Observed
 pub(crate) fn observe(alloc: Global, book: &mut Book, entry: &Entry) -> Result<Observed, AllocError>
     requires limit { entry.now.moment ≤ last_moment }
     requires numbered { (n : ℕ) → Keeps book.old n → n < entry.now.number }
-    ensures observed { IfOk result (λ told. (es : List (Observation KeyParts)) → (e : Observation KeyParts) × message_reading.Observes es (item entry.now) e
+    ensures observed { IfOk result (λ told. (es : List (Observation KeyParts)) → (e : Observation KeyParts) × Sees es (item entry.now) e
         × IsObserved book.new es (item entry.now) told e) }
     ensures heard { IfOk result (IsHeard book.new entry.now.moment) }
     ensures kept { IfOk result (IsKept book.old book.new entry.now) }

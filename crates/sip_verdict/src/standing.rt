@@ -9,11 +9,11 @@ ghost use Rattle.sip_standard.specs.LogSays.{most_entries};
 ghost use Rattle.sip_standard.specs.LogEntry.{Item};
 ghost use Rattle.sip_log.specs.Told.{item};
 ghost use Rattle.sip_standard.specs.Observation.{Observation};
-ghost use Rattle.sip_verdict.specs.Keyed.{newest_moment};
-ghost use Rattle.sip_verdict.specs.Named.{AreMany, IsNamed, key_messages};
-ghost use Rattle.sip_verdict.specs.MessageReading.{key_machines, message_reading, ConcernsNone};
+ghost use Rattle.sip_standard.specs.VerdictOf.{Sees};
+ghost use Rattle.sip_standard.specs.Seen.{AreSeen};
+ghost use Rattle.sip_verdict.specs.Entries.{newest_moment, ConcernsNone};
+ghost use Rattle.sip_verdict.specs.Named.{AreMany, IsNamed};
 ghost use Rattle.sip_standard.specs.ListingOf.{first_entry};
-ghost use Rattle.sip_verdict.specs.Reading.{AreObserved};
 ghost use Rattle.sip_verdict.specs.inner.Concerned.{each, is_all, listed, up_to};
 ghost use Rattle.sip_verdict.specs.inner.Numbering.{AreNumbered, StaysNumbered, IsListedEntry, Appends, IsTextOf};
 ghost use Rattle.sip_verdict.specs.Surveys.{IsStillNamed};
@@ -108,7 +108,7 @@ impl<H: BuildHasher> Standing<H> {
         ensures fewer { OnOk result (All (Contains self.old.book) self.new.book) }
         ensures tracks { OnOk result ((es : List (Observation KeyParts)) → TablesTrack self.old.book es self.old.tables → TablesTrack self.new.book es self.new.tables) }
         ensures named { OnOk result ((es : List (Observation KeyParts)) → TablesTrack self.old.book es self.old.tables → newest_moment es ≡ moment
-            → AreMany (IsNamed (key_machines self.old.tables.times) (key_messages self.old.tables.times) es) (length self.new.book)) }
+            → AreMany (IsNamed self.old.tables.times es) (length self.new.book)) }
         ensures surveyed { OnOk result ((es : List (Observation KeyParts)) (deaf : List Bool) → TablesSurvey self.old.book es self.old.tables deaf → newest_moment es ≡ moment
             → length deaf ≡ length self.old.tables.keys
             → TablesSurvey self.new.book es self.new.tables deaf × AreMany (IsStillNamed self.old.tables.times es) (length self.new.book)) }
@@ -139,7 +139,7 @@ impl<H: BuildHasher> Standing<H> {
         ensures judged { IfOk result (λ verdict. (es : List (Observation KeyParts)) (e : Observation KeyParts) → e.fault ≡ None → newest_moment es ≤ moment
             → AreTold self.old.book self.old.tables.keys moment (option_copied hearing.entry) e
             → TablesTrackBefore self.old.book es e self.old.tables → number ≡ length es + 1
-            → IsJudged (key_machines self.old.tables.times) (key_keeping self.new.book self.old.tables.times) es e (transactions_of self.new.tables) verdict) }
+            → IsJudged self.old.tables.times (key_keeping self.new.book self.old.tables.times) es e (transactions_of self.new.tables) verdict) }
     {
         let outcome = pass_all(&mut self.tables, &self.book, moment, hearing)?;
         Ok(match outcome {
@@ -170,8 +170,8 @@ impl<H: BuildHasher> Standing<H> {
         ensures keyless { OnOk result (ConcernsNone (item entry.now) → self.new.book ≡ self.old.book) }
         ensures judged { IfOk result (λ verdict. (es : List (Observation KeyParts)) → TablesTrack self.old.book es self.old.tables
             → entry.now.number ≡ length es + 1 → newest_moment es ≤ entry.now.moment
-            → (e : Observation KeyParts) × message_reading.Observes es (item entry.now) e
-            × IsJudged (key_machines self.old.tables.times) (key_keeping self.new.book self.old.tables.times) es e (transactions_of self.new.tables) verdict) }
+            → (e : Observation KeyParts) × Sees es (item entry.now) e
+            × IsJudged self.old.tables.times (key_keeping self.new.book self.old.tables.times) es e (transactions_of self.new.tables) verdict) }
     {
         Ok(self.take(alloc, entry)?.verdict)
     }
@@ -182,9 +182,9 @@ impl<H: BuildHasher> Standing<H> {
         requires count { entry.now.number ≤ most_entries }
         requires may { MayTake self.old.book self.old.tables entry.now.number entry.now.moment }
         ensures listed { IfOk result (λ listing. (es : List (Observation KeyParts)) (items more : List Item) → TablesTrack self.old.book es self.old.tables
-            → AreNumbered items self.old.book → AreObserved message_reading [] items es → length items ≡ length es → entry.now.number ≡ length es + 1
+            → AreNumbered items self.old.book → AreSeen [] items es → length items ≡ length es → entry.now.number ≡ length es + 1
             → newest_moment es ≤ entry.now.moment
-            → (e : Observation KeyParts) × message_reading.Observes es (item entry.now) e
+            → (e : Observation KeyParts) × Sees es (item entry.now) e
             × IsListedEntry self.old.tables.times (first_entry ((items ++ item entry.now ∷ []) ++ more)) es e listing) }
     {
         let taken = self.take(alloc, entry)?;
@@ -206,8 +206,8 @@ impl<H: BuildHasher> Standing<H> {
         ensures keyless { OnOk result (ConcernsNone (item entry.now) → self.new.book ≡ self.old.book) }
         ensures judged { IfOk result (λ taken. (es : List (Observation KeyParts)) → TablesTrack self.old.book es self.old.tables
             → entry.now.number ≡ length es + 1 → newest_moment es ≤ entry.now.moment
-            → (e : Observation KeyParts) × message_reading.Observes es (item entry.now) e
-            × IsJudged (key_machines self.old.tables.times) (key_keeping self.new.book self.old.tables.times) es e (transactions_of self.new.tables) taken.verdict
+            → (e : Observation KeyParts) × Sees es (item entry.now) e
+            × IsJudged self.old.tables.times (key_keeping self.new.book self.old.tables.times) es e (transactions_of self.new.tables) taken.verdict
             × HaveNumbers self.new.tables.keys (listed (length self.new.tables.keys) taken.concerned) e.keys) }
     {
         let told = observe(alloc, &mut self.book, entry)?;

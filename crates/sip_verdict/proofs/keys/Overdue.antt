@@ -16,7 +16,7 @@ use Rattle.sip_states.specs.declared.any_set.AnySet.{AnySet}
 use Rattle.sip_states.proofs.runs.RunLemmas.{Run-wait, After-run}
 use Rattle.sip_verdict.specs.inner.Stepping.{RunsUntil}
 use Rattle.sip_verdict.specs.inner.TablesTracking.{LeadsOf}
-use Rattle.sip_states.proofs.keyed.ByMachine.{rules_are, moment_is, of_set}
+use Rattle.sip_states.proofs.keyed.ByMachine.{moment_is, of_set}
 
 -- a run over one event more holds one that stands at its moment
 pub run_before : {X : Type 0} (r : MachineRules X) (events : List MachineEvent) (e : MachineEvent) (n : ℕ) → RunsUntil r (events ++ e ∷ []) n → RunsUntil r events e.moment
@@ -38,11 +38,10 @@ module _ (texts : Texts) (p : Times) (machine : MachineKind) (events : List Mach
 
   -- a run over the events stands at the moment exactly if the moment is within the limit
   runs_within : RunsUntil (key_rules p machine) events moment ↔ IsWithin moment limit
-  runs_within =
-      subst (λ r. RunsUntil r events moment ↔ IsWithin moment limit) (rules_are p machine) (
-        λ run. (waits moment not_later).0 (run.0, (leads.2.leads.runs moment run.0 late not_later).1 run.1),
-        λ within. let wait = (waits moment not_later).1 within in (wait.0, (leads.2.leads.runs moment wait.0 late not_later).0 wait.1),
-      )
+  runs_within = (
+    λ run. (waits moment not_later).0 (run.0, (leads.2.leads.runs moment run.0 late not_later).1 run.1),
+    λ within. let wait = (waits moment not_later).1 within in (wait.0, (leads.2.leads.runs moment wait.0 late not_later).0 wait.1),
+  )
 
   -- none stands after the last moment
   pub overdue_none : is_overdue moment (Some limit) ≡ true → ¬ RunsUntil (key_rules p machine) events moment

@@ -12,23 +12,20 @@ use Rattle.sip_log.specs.Log.{Readable, IsLogOf}
 use Rattle.sip_log.proofs.logs.Logs.{log-of-two, clean-log}
 use Rattle.sip_log.proofs.logs.LogLaws.{Header-one}
 use Rattle.sip_standard.specs.declared.verdict.Verdict.{Verdict}
-use Rattle.sip_verdict.specs.Reading.{Judges, IsVerdictBy}
-use Rattle.sip_verdict.specs.MessageReading.{message_reading}
-use Rattle.sip_standard.specs.VerdictOf.{IsVerdictOf}
+use Rattle.sip_standard.specs.VerdictOf.{IsVerdictOf, IsVerdictAfter}
 use Rattle.sip_verdict.proofs.verdicts.OneVerdict.{one_log, not_both}
-use Rattle.sip_verdict.proofs.verdicts.VerdictLemmas.{by-verdict, verdict-by}
 
 -- what a verdict of an input judges is its log
-judges_log : (input : List ℕ) (p : Times) (items : List Item) (end : LogEnd) (v : Verdict) → LogSays input p items end → IsVerdictBy message_reading input v → Judges message_reading p [] items end v
+judges_log : (input : List ℕ) (p : Times) (items : List Item) (end : LogEnd) (v : Verdict) → LogSays input p items end → IsVerdictOf input v → IsVerdictAfter p [] items end v
 judges_log input p items end v log (inl (none, is)) = absurd (not_both input p items end none log)
 judges_log input p items end v log (inr (q, ys, fin, other, judges)) =
     let same = one_log input p q items ys end fin log other in
-    subst (λ z. Judges message_reading z [] items end v) (sym same.0) (subst (λ z. Judges message_reading q [] z end v) (sym same.1) (subst (λ z. Judges message_reading q [] ys z v) (sym same.2) judges))
+    subst (λ z. IsVerdictAfter z [] items end v) (sym same.0) (subst (λ z. IsVerdictAfter q [] z end v) (sym same.1) (subst (λ z. IsVerdictAfter q [] ys z v) (sym same.2) judges))
 
 -- inputs of one log have the same verdict
 log_verdict : (input other : List ℕ) (p : Times) (items : List Item) (end : LogEnd) (v : Verdict) → LogSays input p items end → LogSays other p items end → IsVerdictOf input v → IsVerdictOf other v
 log_verdict input other p items end v log same is =
-    by-verdict other v (inr (p, items, end, same, judges_log input p items end v log (verdict-by input v is)))
+    inr (p, items, end, same, judges_log input p items end v log is)
 
 -- a log of format 1 and one of format 2
 pub format_verdict : (v : Verdict) (input other : List ℕ) (p : Times) (behind : List ℕ) (items : List Item) → Header One p input behind → Header Two p other behind → IsLogOf input (Readable p items Clean)

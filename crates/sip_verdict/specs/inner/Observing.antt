@@ -17,7 +17,7 @@ use Rattle.sip_verdict.specs.declared.observing.Observed.{Observed}
 use Rattle.sip_verdict.specs.declared.observing.Observed.TheVariants.{Unheard, Fault, Restart, Heard}
 use Rattle.sip_standard.specs.Observation.{Observation, fault_observation, silent_observation}
 use Rattle.sip_standard.specs.VerdictOf.{keys_in}
-use Rattle.sip_verdict.specs.MessageReading.{ConcernsNone}
+use Rattle.sip_verdict.specs.Entries.{ConcernsNone}
 use Rattle.sip_verdict.specs.inner.Concerned.{each, is_all}
 
 -- What the judge is told of an entry.

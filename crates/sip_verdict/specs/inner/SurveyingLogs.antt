@@ -22,8 +22,7 @@ use Rattle.sip_verdict.specs.inner.Walking.{HasRead}
 use Rattle.sip_standard.specs.Times.{Times}
 use Rattle.sip_verdict.specs.declared.finding.Finding.TheVariants.{Malformed, Breach, Undecided}
 use Rattle.sip_verdict.specs.declared.transaction.Transaction.{Transaction}
-use Rattle.sip_verdict.specs.MessageReading.{message_reading}
-use Rattle.sip_verdict.specs.Reading.{AreObserved}
+use Rattle.sip_standard.specs.Seen.{AreSeen}
 use Rattle.sip_standard.specs.Rendering.{rendered}
 use Rattle.sip_standard.specs.VerdictOf.{keys_in}
 use Rattle.sip_log.specs.Reading as log
@@ -117,7 +116,7 @@ pub record SurveysRead (part : Option PartOf) (s : Surveying) (found : List Find
   pub taken : List Item
   pub es : List (Observation KeyParts)
   pub are_taken : AreTaken part items taken
-  pub seen : AreObserved message_reading [] taken es
+  pub seen : AreSeen [] taken es
   pub follows : SurveysFor s es
   pub read : HasRead start s.tables.times items now
   pub front : (rest : List Item) (close : LogEnd) (later : List Finding) (end : SurveyEnd) → IsSurveyAfter s.tables.times es rest close later end

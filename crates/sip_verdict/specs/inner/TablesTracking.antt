@@ -22,8 +22,7 @@ use Rattle.sip_verdict.specs.declared.passing.Fate.TheVariants.{Runs, NoRun, Too
 use Rattle.sip_verdict.specs.declared.passing.Outcome.{Outcome}
 use Rattle.sip_verdict.specs.declared.passing.Outcome.TheVariants as all
 use Rattle.sip_standard.specs.Observation.{Observation}
-use Rattle.sip_verdict.specs.Keyed.{concerns}
-use Rattle.sip_verdict.specs.MessageReading.{key_machines}
+use Rattle.sip_verdict.specs.inner.Keyed.{concerns}
 use Rattle.sip_verdict.specs.inner.Stepping.{LeadsTo, IsStepped}
 use Rattle.sip_verdict.specs.inner.Tracking.{Keeping, Tracks, TracksBefore, outcome_of, first_of}
 use Rattle.sip_verdict.specs.inner.Concerned.{each, is_all}
@@ -44,7 +43,7 @@ StandsOf texts p machine events e set = (s : Held Times (StateOf machine)) × (s
     × StandFor (meaning_of machine).names (meaning_of machine).in_range (meaning_of machine).seen texts (AfterRun (key_rules p machine) events e) s.states
 
 -- each key has a set of its machine
-abbrev pub key_keeping : Texts → Times → Keeping KeyParts (KeyParts × AnySet)
+abbrev pub key_keeping : Texts → Times → Keeping (KeyParts × AnySet)
 key_keeping texts p = record { key = λ t. t.0; Leads = λ t events from. LeadsOf texts p (machine_of_key p.rules t.0) events from t.1; Stands = λ t events e. StandsOf texts p (machine_of_key p.rules t.0) events e t.1 }
 
 -- the keys of tables, each with its set
@@ -53,11 +52,11 @@ transactions_of t = zip t.keys t.sets
 
 -- the tables follow the entries
 abbrev pub TablesTrack : Texts → List (Observation KeyParts) → Tabled → Type 0
-TablesTrack texts es t = Tracks (key_machines t.times) (key_keeping texts t.times) es (transactions_of t)
+TablesTrack texts es t = Tracks t.times (key_keeping texts t.times) es (transactions_of t)
 
 -- they did not pass the last one yet
 abbrev pub TablesTrackBefore : Texts → List (Observation KeyParts) → Observation KeyParts → Tabled → Type 0
-TablesTrackBefore texts es e t = TracksBefore (key_machines t.times) (key_keeping texts t.times) es e (transactions_of t)
+TablesTrackBefore texts es e t = TracksBefore t.times (key_keeping texts t.times) es e (transactions_of t)
 
 -- the numbers of the transactions that an event names one by one, if there is one
 abbrev pub hearers : Option Hearing → List ℕ
@@ -77,7 +76,7 @@ concerns_number (Some h) number = is_all h.concerned || is_among (each h.concern
 pub record IsTold (texts : Texts) (moment : ℕ) (hearing : Option Hearing) (number : ℕ) (key : KeyParts) (e : Observation KeyParts) : Type 0 where
   pub at : e.event.moment ≡ moment
   pub event : IfSome hearing (λ h. e.event ≡ event_in texts h.event)
-  pub concerned : (p : Times) → concerns (key_machines p) key e ≡ concerns_number hearing number
+  pub concerned : concerns key e ≡ concerns_number hearing number
 
 -- the entry tells this to each of the keys
 abbrev pub AreTold : Texts → List KeyParts → ℕ → Option Hearing → Observation KeyParts → Type 0

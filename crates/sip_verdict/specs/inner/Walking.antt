@@ -16,10 +16,9 @@ use Rattle.sip_standard.specs.declared.verdict.Verdict.TheVariants.{Legal, Malfo
 use Rattle.sip_standard.specs.declared.listing.Listing.{Listing}
 use Rattle.sip_standard.specs.declared.listing.Listing.TheVariants.{Stopped, NoEntry}
 use Rattle.sip_standard.specs.Observation.{Observation}
-use Rattle.sip_verdict.specs.Keyed.{newest_moment}
-use Rattle.sip_verdict.specs.Reading.{EntryReading, AreObserved}
+use Rattle.sip_standard.specs.Seen.{AreSeen}
+use Rattle.sip_verdict.specs.Entries.{newest_moment}
 use Rattle.sip_standard.specs.VerdictOf.{IsVerdictOf}
-use Rattle.sip_verdict.specs.MessageReading.{message_reading}
 use Rattle.sip_verdict.specs.inner.Numbering.{AreNumbered}
 use Rattle.sip_verdict.specs.inner.TablesTracking.{TablesTrack, MayTake}
 use Rattle.sip_standard.specs.declared.log_reason.LogReason.{LogReason}
@@ -48,17 +47,17 @@ MovesOn old new (Fault reason) = ⊤
 -- What was judged of it.
 
 -- these entries were read of the input and this is observed of them; what was judged follows them
-pub record Judged {K : Type 0} (r : EntryReading K) (times : Times) (Follows : List (Observation K) → Type 0) (start : Option (List ℕ)) (now : log.ReaderState) : Type 0 where
+pub record Judged (times : Times) (Follows : List (Observation KeyParts) → Type 0) (start : Option (List ℕ)) (now : log.ReaderState) : Type 0 where
   pub items : List Item
-  pub es : List (Observation K)
-  pub observed : AreObserved r [] items es
+  pub es : List (Observation KeyParts)
+  pub observed : AreSeen [] items es
   pub follows : Follows es
   pub long : length items ≡ length es
   pub read : HasRead start times items now
 
 -- book and tables follow the entries that were read of the input, and the book numbers their messages; none of them is later than the place
 pub record Walks (start : Option (List ℕ)) (now : log.ReaderState) (texts : Texts) (t : Tabled) : Type 0 where
-  pub judged : Judged message_reading t.times (λ (es : List (Observation KeyParts)). TablesTrack texts es t) start now
+  pub judged : Judged t.times (λ es. TablesTrack texts es t) start now
   pub numbered : AreNumbered judged.items texts
   pub newest : newest_moment judged.es ≤ now.last
 

@@ -4,7 +4,6 @@ use Rattle.std.proofs.lemmas.Result.{IfOk-weaker}
 use Rattle.sip_verdict.specs.inner.Tracking.{IsOutcome}
 use Rattle.sip_verdict.specs.inner.TablesTracking.{key_keeping, transactions_of, MayPass, MayHear, HearsEach}
 use Rattle.sip_verdict.specs.inner.Concerned.{each}
-use Rattle.sip_verdict.specs.MessageReading.{key_machines}
 use Rattle.sip_verdict.proofs.tables.Halfway.{mark_outcome, heard_outcome, quiet_others}
 use Rattle.sip_verdict.proofs.tables.TablesPassing.{on_record_if, heard_recorded, recorded_more}
 use Rattle.sip_verdict.proofs.passing.pass_all.Goals as goal
@@ -15,7 +14,7 @@ returns-in_default-clause-recorded g c = on_record_if _ c.args.tables.now (λ fi
 pub returns-in_default-clause-outcome : goal.returns-in_default-clause-outcome
 returns-in_default-clause-outcome g c = λ p es e newest told ready.
     let t = c.args.tables.now in
-    subst (IsOutcome (key_machines p) (key_keeping c.args.book.now p) es e (transactions_of t)) (sym c.overdue-overdue.ensures)
+    subst (IsOutcome p (key_keeping c.args.book.now p) es e (transactions_of t)) (sym c.overdue-overdue.ensures)
     (mark_outcome c.args.book.now p es e c.args.moment _ t c.requires.may [] (rw c.in_default.is at c.requires.recorded) (rw c.in_default.is at told) ready newest (λ n among. absurd (false≢true among)) (λ n key s at here none. inl refl) refl)
 
 pub hear_each-requires-clause-hear : goal.hear_each-requires-clause-hear

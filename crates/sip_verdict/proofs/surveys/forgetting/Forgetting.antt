@@ -7,8 +7,7 @@ use Rattle.sip_standard.specs.Figure.{Owing}
 use Rattle.sip_standard.specs.Stands.{Stands, StandsAfter}
 use Rattle.sip_standard.specs.KeyMachine.{machine_of_key, transaction_of}
 use Rattle.sip_standard.specs.Observation.{Observation}
-use Rattle.sip_verdict.specs.Keyed.{newest_moment}
-use Rattle.sip_verdict.specs.MessageReading.{key_machines}
+use Rattle.sip_verdict.specs.Entries.{newest_moment}
 use Rattle.sip_standard.specs.VerdictOf.{events_for, RunsOver, IsWideAt}
 use Rattle.sip_verdict.specs.SurveyOf.{IsSound, Breaks, Widens}
 use Rattle.sip_verdict.specs.SurveyLaws.{IsIdleAgain}
@@ -42,14 +41,13 @@ module _ (p : Times) (key : KeyParts) (old : List (Observation KeyParts)) (again
   stands_new : (more : List (Observation KeyParts)) → order_of more → (k : ℕ) → newest_moment old ≤ k → (y : Owing (transaction_of (machine_of_key p.rules key)).Phase)
       → Stands (transaction_of (machine_of_key p.rules key)).figure p (events_for key (old ++ more)) k y ↔ Stands (transaction_of (machine_of_key p.rules key)).figure p (events_for key more) k y
   stands_new more order k high y =
-      let m = key_machines p in
       let from : All (λ e. 0 ≤ e.event.moment) (old ++ more) = λ i d within. omega arith in
       let both = idle_is_new (machine_of_key p.rules key) p (events_for key old) (events_for key more) (newest_moment old) k y again
-      (events-all m key (λ f. f.moment ≤ newest_moment old) old (newest-to 0 old more order))
-      (events-all m key (λ f. newest_moment old ≤ f.moment) more (newest-before 0 old more from order)) high in
+      (events-all key (λ f. f.moment ≤ newest_moment old) old (newest-to 0 old more order))
+      (events-all key (λ f. newest_moment old ≤ f.moment) more (newest-before 0 old more from order)) high in
       let f = (transaction_of (machine_of_key p.rules key)).figure in (
-        λ stands. both.0 (subst (λ events. Stands f p events k y) (events-append m key old more) stands),
-        λ stands. subst (λ events. Stands f p events k y) (sym (events-append m key old more)) (both.1 stands),
+        λ stands. both.0 (subst (λ events. Stands f p events k y) (events-append key old more) stands),
+        λ stands. subst (λ events. Stands f p events k y) (sym (events-append key old more)) (both.1 stands),
       )
 
   -- the last of later entries is not before the older ones

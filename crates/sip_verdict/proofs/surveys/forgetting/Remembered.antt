@@ -15,7 +15,7 @@ use Rattle.sip_standard.specs.KeyMachine.{machine_of_key, transaction_of}
 use Rattle.sip_standard.specs.Observation.{Observation}
 use Rattle.sip_standard.specs.VerdictOf.{events_for}
 use Rattle.sip_standard.proofs.Few.{AllPairs-head, AllPairs-tail}
-use Rattle.sip_verdict.specs.Keyed.{newest_moment}
+use Rattle.sip_verdict.specs.Entries.{newest_moment}
 use Rattle.sip_verdict.specs.SurveyOf.{IsSound, Breaks, Widens}
 use Rattle.sip_verdict.specs.SurveyLaws.{IsCutOf, IsIdleAgain}
 use Rattle.sip_verdict.specs.Forgetting.{remembered}

@@ -11,13 +11,11 @@ use Rattle.sip_verdict.specs.declared.finding.Finding.{Finding}
 use Rattle.sip_verdict.specs.declared.finding.Finding.TheVariants.{Breach, Undecided}
 use Rattle.sip_verdict.specs.declared.survey_end.SurveyEnd.{SurveyEnd}
 use Rattle.sip_standard.specs.Observation.{Observation}
-use Rattle.sip_verdict.specs.MessageReading.{key_machines, message_reading}
-use Rattle.sip_verdict.specs.Reading.{AreObserved}
+use Rattle.sip_standard.specs.Seen.{AreSeen}
 use Rattle.sip_standard.specs.VerdictOf.{keys_in, RunsOver}
 use Rattle.sip_verdict.specs.SurveyOf.{IsSound, Breaks, Widens, HoldsOf, IsFoundAt, IsSurveyAfter}
 use Rattle.sip_verdict.specs.SurveyLaws.{AreAbout}
 use Rattle.sip_verdict.proofs.keys.Keys.{among-contains, new_key}
-use Rattle.sip_verdict.proofs.tables.TablesTouching.{keys_exact}
 use Rattle.sip_verdict.proofs.verdicts.MessageUnique.{observes_one}
 use Rattle.sip_verdict.proofs.surveys.found.OneFinding.{some_finding}
 use Rattle.sip_verdict.proofs.surveys.found.Sound.{idle_runs, concerned-among}
@@ -34,7 +32,7 @@ numbered P keys key among holds =
     let at = split_at keys key among in (length at.0 + 1, (at.0, key, at.1, at.2, refl, refl), (at.0, key, at.1, at.2, holds, refl))
 
 -- what is found at an entry of the log is in its survey
-pub found_at : (p : Times) (done : List (Observation KeyParts)) (items : List Item) (close : LogEnd) (es : List (Observation KeyParts)) (found : List Finding) (end : SurveyEnd) → AreObserved message_reading done items es →
+pub found_at : (p : Times) (done : List (Observation KeyParts)) (items : List Item) (close : LogEnd) (es : List (Observation KeyParts)) (found : List Finding) (end : SurveyEnd) → AreSeen done items es →
     IsSurveyAfter p done items close found end → (front : List (Observation KeyParts)) (e : Observation KeyParts) (more : List (Observation KeyParts)) → es ≡ front ++ e ∷ more → (f : Finding) →
     IsFoundAt p (done ++ front) e f → Contains found f
 found_at p done [] close [] found end seen survey [] e more is f at = absurd (cc)
@@ -55,7 +53,7 @@ found_at p done (item ∷ items) close (g ∷ es) found end (sees, seen) (h, her
     (subst (λ xs. IsFoundAt p xs e f) (sym (append_assoc done (g ∷ []) front)) (subst (λ x. IsFoundAt p (done ++ x ∷ front) e f) (sym first) at))))
 
 -- what the survey has is found at an entry of the log
-pub found_is : (p : Times) (done : List (Observation KeyParts)) (items : List Item) (close : LogEnd) (es : List (Observation KeyParts)) (found : List Finding) (end : SurveyEnd) → AreObserved message_reading done items es →
+pub found_is : (p : Times) (done : List (Observation KeyParts)) (items : List Item) (close : LogEnd) (es : List (Observation KeyParts)) (found : List Finding) (end : SurveyEnd) → AreSeen done items es →
     IsSurveyAfter p done items close found end → (f : Finding) → Contains found f → (front : List (Observation KeyParts)) × (e : Observation KeyParts) × (more : List (Observation KeyParts)) × (es ≡ front ++ e ∷ more)
     × IsFoundAt p (done ++ front) e f
 found_is p done [] Clean es found end seen survey f has = absurd (Contains-none f (subst (λ fs. Contains fs f) survey.0 has))
@@ -80,11 +78,11 @@ pub breaks_known : (p : Times) (front : List (Observation KeyParts)) (e : Observ
 breaks_known p front e key none = by (list_any (same_key key) (keys_in (front ++ e ∷ []))) refl
   where
     by : (b : Bool) → list_any (same_key key) (keys_in (front ++ e ∷ [])) ≡ b → Contains (keys_in (front ++ e ∷ [])) key
-    by true is = among-contains (key_machines p) (keys_exact p) key (keys_in (front ++ e ∷ [])) is
-    by false is = absurd (none (idle_runs p (front ++ e ∷ []) key (new_key (key_machines p) (keys_exact p) key (front ++ e ∷ []) is)))
+    by true is = among-contains key (keys_in (front ++ e ∷ [])) is
+    by false is = absurd (none (idle_runs p (front ++ e ∷ []) key (new_key key (front ++ e ∷ []) is)))
 
 -- each transaction in trouble is named
-pub trouble_is_named : (p : Times) (items : List Item) (close : LogEnd) (es : List (Observation KeyParts)) (found : List Finding) (end : SurveyEnd) → AreObserved message_reading [] items es
+pub trouble_is_named : (p : Times) (items : List Item) (close : LogEnd) (es : List (Observation KeyParts)) (found : List Finding) (end : SurveyEnd) → AreSeen [] items es
     → IsSurveyAfter p [] items close found end → (key : KeyParts) → ¬ (IsSound p es key) → ¬ (¬ (AreAbout es found key))
 trouble_is_named p items close es found end seen survey key unsound never = some_finding p key es unsound by
   where
@@ -93,5 +91,5 @@ trouble_is_named p items close es found end seen survey key unsound never = some
         let (n, named, at) = numbered (Breaks p front e) (keys_in (front ++ e ∷ [])) key (breaks_known p front e key breaks.1) breaks in
         never (length front + 1, inl (front, e, more, n, is, refl, named, found_at p [] items close es found end seen survey front e more is (Breach (length front + 1) n) (refl, at)))
     by front e more is (inr widens) =
-        let (n, named, at) = numbered (Widens p front e) (keys_in (front ++ e ∷ [])) key (concerned-among p key front e widens.1.0) widens in
+        let (n, named, at) = numbered (Widens p front e) (keys_in (front ++ e ∷ [])) key (concerned-among key front e widens.1.0) widens in
         never (length front + 1, inr (front, e, more, n, is, refl, named, found_at p [] items close es found end seen survey front e more is (Undecided (length front + 1) n) (refl, at)))

@@ -8,7 +8,7 @@ use Rattle.sip_standard.proofs.Few.{AllPairs-tail}
 use Rattle.sip_states.specs.Tables.{Tabled}
 use Rattle.sip_verdict.specs.declared.troubled.Troubled.{Troubled}
 use Rattle.sip_standard.specs.Observation.{Observation}
-use Rattle.sip_verdict.specs.Keyed.{newest_moment}
+use Rattle.sip_verdict.specs.Entries.{newest_moment}
 use Rattle.sip_verdict.specs.inner.TablesTracking.{is_among}
 use Rattle.sip_verdict.specs.inner.Surveying.{AreConcerned, ArePassing, HearsNumbers}
 use Rattle.sip_verdict.proofs.tables.TablesPassing.{among_rest, first_apart}

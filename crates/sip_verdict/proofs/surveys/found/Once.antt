@@ -18,9 +18,8 @@ use Rattle.sip_verdict.specs.declared.finding.Finding.{Finding}
 use Rattle.sip_verdict.specs.declared.finding.Finding.TheVariants.{Malformed, Breach, Undecided}
 use Rattle.sip_verdict.specs.declared.survey_end.SurveyEnd.{SurveyEnd}
 use Rattle.sip_standard.specs.Observation.{Observation}
-use Rattle.sip_verdict.specs.Keyed.{with_key}
-use Rattle.sip_verdict.specs.MessageReading.{message_reading}
-use Rattle.sip_verdict.specs.Reading.{AreObserved}
+use Rattle.sip_standard.specs.Seen.{AreSeen}
+use Rattle.sip_verdict.specs.inner.Keyed.{with_key}
 use Rattle.sip_standard.specs.VerdictOf.{keys_in}
 use Rattle.sip_verdict.specs.SurveyOf.{Breaks, Widens, HoldsOf, IsFoundAt, IsSurveyAfter, IsSurveyOf}
 use Rattle.sip_verdict.specs.SurveyLaws.{IsOf}
@@ -38,7 +37,7 @@ ordered_front R (x ∷ xs) ys sorted =
     AllPairs-cons R x xs (All-front (R x) xs ys (AllPairs-head R x (xs ++ ys) sorted)) (ordered_front R xs ys (AllPairs-tail R x (xs ++ ys) sorted))
 
 -- what is observed of a log has its order
-pub observed_order : (format : Format) (last : ℕ) (done : List (Observation KeyParts)) (items : List Item) (es : List (Observation KeyParts)) → InOrder format last items → AreObserved message_reading done items es
+pub observed_order : (format : Format) (last : ℕ) (done : List (Observation KeyParts)) (items : List Item) (es : List (Observation KeyParts)) → InOrder format last items → AreSeen done items es
     → All (λ e. last ≤ e.event.moment) es × AllPairs (λ a b. a.event.moment ≤ b.event.moment) es
 observed_order format last done [] [] order seen = (All-nil (λ e. last ≤ e.event.moment), λ i j d low high. absurd (omega (arith, high)))
 observed_order format last done [] (e ∷ es) order seen = absurd seen
@@ -52,18 +51,18 @@ observed_order format last done (item ∷ items) (e ∷ es) (low, entry, order) 
 
 -- the entries of a survey
 survey_observed : (p : Times) (done : List (Observation KeyParts)) (items : List Item) (close : LogEnd) (found : List Finding) (end : SurveyEnd) → IsSurveyAfter p done items close found end
-    → (es : List (Observation KeyParts)) × AreObserved message_reading done items es
+    → (es : List (Observation KeyParts)) × AreSeen done items es
 survey_observed p done [] close found end survey = ([], tt)
 survey_observed p done (item ∷ items) close found end (e, here, later, sees, whole, at, more) =
     let rest = survey_observed p (done ++ e ∷ []) items close later end more in (e ∷ rest.0, (sees, rest.1))
 
 -- keys stay where they are when others come
-keys_after : (keys more : List KeyParts) → (zs : List KeyParts) × (fold (with_key same_key) keys more ≡ keys ++ zs)
+keys_after : (keys more : List KeyParts) → (zs : List KeyParts) × (fold with_key keys more ≡ keys ++ zs)
 keys_after keys [] = ([], sym (append-nil keys))
 keys_after keys (k ∷ more) = by (list_any (same_key k) keys) (keys_after (cond (list_any (same_key k) keys) keys (keys ++ k ∷ [])) more)
   where
-    by : (b : Bool) → ((zs : List KeyParts) × (fold (with_key same_key) (cond b keys (keys ++ k ∷ [])) more ≡ cond b keys (keys ++ k ∷ []) ++ zs))
-        → (zs : List KeyParts) × (fold (with_key same_key) (cond b keys (keys ++ k ∷ [])) more ≡ keys ++ zs)
+    by : (b : Bool) → ((zs : List KeyParts) × (fold with_key (cond b keys (keys ++ k ∷ [])) more ≡ cond b keys (keys ++ k ∷ []) ++ zs))
+        → (zs : List KeyParts) × (fold with_key (cond b keys (keys ++ k ∷ [])) more ≡ keys ++ zs)
     by true rest = rest
     by false rest = (k ∷ rest.0, rest.1 ∙ append_assoc keys (k ∷ []) rest.0)
 
@@ -72,7 +71,7 @@ pub keys_more : (front more : List (Observation KeyParts)) → (zs : List KeyPar
 keys_more front more =
     let after = keys_after (keys_in front) (flat_map (λ e. e.keys) more) in (
       after.0,
-      ap (fold (with_key same_key) []) (flat_map-append (λ e. e.keys) front more) ∙ fold-append (with_key same_key) [] (flat_map (λ e. e.keys) front) (flat_map (λ e. e.keys) more) ∙ after.1,
+      ap (fold with_key []) (flat_map-append (λ e. e.keys) front more) ∙ fold-append with_key [] (flat_map (λ e. e.keys) front) (flat_map (λ e. e.keys) more) ∙ after.1,
     )
 
 -- two facts of the key with one number

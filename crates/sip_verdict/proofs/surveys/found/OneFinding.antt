@@ -3,22 +3,14 @@ use Rattle.std.proofs.Common.{◌≡◌, ◌≤◌, ◌⊎◌, inl, inr, List, [
 use Rattle.sip_standard.specs.Key.{KeyParts}
 use Rattle.sip_standard.specs.Times.{Times}
 use Rattle.sip_standard.specs.Observation.{Observation}
-use Rattle.sip_verdict.specs.MessageReading.{key_machines}
-use Rattle.sip_standard.specs.VerdictOf.{RunsOver}
 use Rattle.sip_verdict.specs.SurveyOf.{IsSound, Breaks, Widens}
 use Rattle.sip_verdict.proofs.keys.FewerEntries.{fewer-entries}
-use Rattle.sip_verdict.proofs.verdicts.VerdictLemmas.{run-over, over-run}
 use Rattle.sip_verdict.proofs.surveys.found.Sound.{sound_nil, sound_push}
-
--- a run over entries in the order of their moments holds one over the first of them
-pub runs_over_fewer : (p : Times) (key : KeyParts) (front more : List (Observation KeyParts)) → AllPairs (λ a b. a.event.moment ≤ b.event.moment) (front ++ more)
-    → RunsOver p (front ++ more) key → RunsOver p front key
-runs_over_fewer p key front more order runs = run-over p front key (fewer-entries (key_machines p) key front more order (over-run p (front ++ more) key runs))
 
 -- what is in no trouble over entries in order is in none over the first of them
 pub sound_fewer : (p : Times) (key : KeyParts) (front more : List (Observation KeyParts)) → AllPairs (λ a b. a.event.moment ≤ b.event.moment) (front ++ more) → IsSound p (front ++ more) key → IsSound p front key
 sound_fewer p key front more order (runs, narrow) = (
-  runs_over_fewer p key front more order runs,
+  fewer-entries p key front more order runs,
   λ before e rest is. narrow before e (rest ++ more) (ap (λ xs. xs ++ more) is ∙ append_assoc before (e ∷ rest) more),
 )
 

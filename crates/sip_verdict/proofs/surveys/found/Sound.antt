@@ -9,13 +9,11 @@ use Rattle.sip_standard.specs.Figure.{quiet}
 use Rattle.sip_standard.specs.Stands.{Stands, begins, waits}
 use Rattle.sip_standard.specs.KeyMachine.{machine_of_key, transaction_of}
 use Rattle.sip_standard.specs.Observation.{Observation}
-use Rattle.sip_verdict.specs.Keyed.{newest_moment}
-use Rattle.sip_verdict.specs.MessageReading.{key_machines}
+use Rattle.sip_verdict.specs.Entries.{newest_moment}
 use Rattle.sip_standard.specs.VerdictOf.{keys_in, events_for, RunsOver, IsWideAt}
 use Rattle.sip_verdict.specs.SurveyOf.{IsSound}
-use Rattle.sip_verdict.proofs.keys.Keys.{keys_of-push, among-contains, among-fold, new_key}
+use Rattle.sip_verdict.proofs.keys.Keys.{among-contains, among-fold, new_key, keys_in-push}
 use Rattle.sip_verdict.proofs.keys.Splitting.{split_compare}
-use Rattle.sip_verdict.proofs.tables.TablesTouching.{keys_exact}
 use Rattle.sip_verdict.proofs.surveys.forgetting.Lasting.{idle_lasts}
 
 -- a key that no entry concerns has a run
@@ -26,13 +24,13 @@ idle_runs p es key none =
     (quiet f.idle, subst (λ events. Stands f p events (newest_moment es) (quiet f.idle)) (sym none) (waits [] 0 (newest_moment es) (quiet f.idle) begins zero-le (idle_lasts kind p (newest_moment es))))
 
 -- a key of the last entry is one of them all
-pub concerned-among : (p : Times) (key : KeyParts) (es : List (Observation KeyParts)) (e : Observation KeyParts) → list_any (same_key key) e.keys ≡ true → Contains (keys_in (es ++ e ∷ [])) key
-concerned-among p key es e h = by (list_any (same_key key) (keys_in (es ++ e ∷ []))) refl
+pub concerned-among : (key : KeyParts) (es : List (Observation KeyParts)) (e : Observation KeyParts) → list_any (same_key key) e.keys ≡ true → Contains (keys_in (es ++ e ∷ [])) key
+concerned-among key es e h = by (list_any (same_key key) (keys_in (es ++ e ∷ []))) refl
   where
     by : (b : Bool) → list_any (same_key key) (keys_in (es ++ e ∷ [])) ≡ b → Contains (keys_in (es ++ e ∷ [])) key
-    by true is = among-contains (key_machines p) (keys_exact p) key (keys_in (es ++ e ∷ [])) is
+    by true is = among-contains key (keys_in (es ++ e ∷ [])) is
     by false is =
-        let lacks = among-fold (key_machines p) (keys_exact p) key (keys_in es) e.keys (ap (list_any (same_key key)) (sym (keys_of-push (key_machines p) es e)) ∙ is) in
+        let lacks = among-fold key (keys_in es) e.keys (ap (list_any (same_key key)) (sym (keys_in-push es e)) ∙ is) in
         absurd (false≢true (sym lacks.1 ∙ h))
 
 -- each key, of the entries or not, is in no trouble
@@ -64,8 +62,8 @@ pub all_sound_push : (p : Times) (es : List (Observation KeyParts)) (e : Observa
 all_sound_push p es e sound runs narrow key = sound_push p es e key (sound key) (by_key (list_any (same_key key) (keys_in (es ++ e ∷ []))) refl) not_wide
   where
     by_key : (b : Bool) → list_any (same_key key) (keys_in (es ++ e ∷ [])) ≡ b → RunsOver p (es ++ e ∷ []) key
-    by_key true is = All-contains (RunsOver p (es ++ e ∷ [])) (keys_in (es ++ e ∷ [])) key runs (among-contains (key_machines p) (keys_exact p) key (keys_in (es ++ e ∷ [])) is)
-    by_key false is = idle_runs p (es ++ e ∷ []) key (new_key (key_machines p) (keys_exact p) key (es ++ e ∷ []) is)
+    by_key true is = All-contains (RunsOver p (es ++ e ∷ [])) (keys_in (es ++ e ∷ [])) key runs (among-contains key (keys_in (es ++ e ∷ [])) is)
+    by_key false is = idle_runs p (es ++ e ∷ []) key (new_key key (es ++ e ∷ []) is)
 
     not_wide : ¬ (IsWideAt p es e key)
-    not_wide wide = All-contains (λ k. ¬ (IsWideAt p es e k)) (keys_in (es ++ e ∷ [])) key narrow (concerned-among p key es e wide.0) wide
+    not_wide wide = All-contains (λ k. ¬ (IsWideAt p es e k)) (keys_in (es ++ e ∷ [])) key narrow (concerned-among key es e wide.0) wide

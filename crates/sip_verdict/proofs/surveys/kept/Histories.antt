@@ -5,7 +5,7 @@ use Rattle.std.specs.List.{list_any}
 use Rattle.std.specs.Cmp.{unsigned_Decides}
 use Rattle.std.proofs.lemmas.Bool.{false≢true, ltb-true}
 use Rattle.std.proofs.lemmas.List.{length-set}
-use Rattle.std.proofs.lemmas.List.Elements.{All-cons, All-nil, All-push, Contains-get_or}
+use Rattle.std.proofs.lemmas.List.Elements.{All-cons, All-nil, All-push}
 use Rattle.std.proofs.lemmas.List.Folds.{list_any-append}
 use Rattle.std.proofs.lemmas.Option.{slice_get_within, get_or_from_slice_get, slice_get-get_or}
 use Rattle.std.specs.Slice.{IsItemAt}
@@ -14,7 +14,6 @@ use Rattle.sip_standard.specs.declared.role.Direction.{Direction}
 use Rattle.sip_standard.specs.Branch.{cookie_branch}
 use Rattle.sip_standard.specs.Concerns.{Concerns, is_sent}
 use Rattle.sip_standard.specs.Key.{KeyParts, same_key}
-use Rattle.sip_standard.specs.Times.{Times}
 use Rattle.sip_standard.specs.LogEntry.{Item, has_message}
 use Rattle.sip_standard.specs.declared.fault.Fault.{Fault}
 use Rattle.sip_standard.specs.Outcome.{gives, stops}
@@ -25,20 +24,18 @@ use Rattle.sip_states.specs.Tables.{Tabled, Touches}
 use Rattle.sip_verdict.specs.declared.histories.Histories.{Histories}
 use Rattle.sip_verdict.specs.declared.histories.History.{History}
 use Rattle.sip_standard.specs.Observation.{Observation, ObservesMessage, has_fault, has_no_cookie, is_heard, silent_observation}
-use Rattle.sip_verdict.specs.Keyed.{with_key}
-use Rattle.sip_verdict.specs.MessageReading.{key_machines, message_reading}
-use Rattle.sip_standard.specs.VerdictOf.{keys_in}
+use Rattle.sip_verdict.specs.inner.Keyed.{with_key}
+use Rattle.sip_standard.specs.VerdictOf.{keys_in, Sees}
 use Rattle.sip_verdict.specs.SurveyText.{is_of, IsFirstOf, IsLastOf}
 use Rattle.sip_verdict.specs.Surveys.{IsHistoryOf, AreHistories}
 use Rattle.sip_verdict.specs.inner.Histories.{SpellsBranch, Notes, NotesEach}
 use Rattle.sip_verdict.specs.inner.TablesTracking.{TouchesEach, is_among}
 use Rattle.sip_verdict.proofs.judges.ObservingLemmas.{no_keys, went}
-use Rattle.sip_verdict.proofs.keys.Keys.{among-fold, contains-among, keys_of-push, not_among, or_false}
+use Rattle.sip_verdict.proofs.keys.Keys.{among-fold, contains-among, not_among, or_false, keys_in-push, keys_in-none, keys_in-all}
 use Rattle.sip_verdict.proofs.verdicts.MessageUnique.{fault_says_none, one_said}
 use Rattle.sip_verdict.proofs.surveys.passing.Begun.{AreMore, more_each, none_more, touched_keys}
-use Rattle.sip_verdict.proofs.surveys.passing.Taken.{keys_none, known_keys}
 use Rattle.sip_verdict.proofs.tables.TablesPassing.{at_place, set-place}
-use Rattle.sip_verdict.proofs.tables.TablesTouching.{have_numbers, keys_exact, push-place, same_numbers}
+use Rattle.sip_verdict.proofs.tables.TablesTouching.{have_numbers, push-place, same_numbers}
 
 abbrev pub Entries : Type 0
 Entries = List (Observation KeyParts)
@@ -88,18 +85,18 @@ none_in key (e ∷ es) none =
     let (here, later) = or_false _ _ (sym (list_any-append (same_key key) e.keys (flat_map (λ f. f.keys) es)) ∙ none) in
     All-cons (λ o. is_of key o ≡ false) e es here (none_in key es later)
 
-none_of : (p : Times) (key : KeyParts) (es : Entries) → ¬ Contains (keys_in es) key → All (λ o. is_of key o ≡ false) es
-none_of p key es none =
-    none_in key es (among-fold (key_machines p) (keys_exact p) key [] (flat_map (λ e. e.keys) es) (not_among (key_machines p) (keys_exact p) key (keys_in es) none)).1
+none_of : (key : KeyParts) (es : Entries) → ¬ Contains (keys_in es) key → All (λ o. is_of key o ≡ false) es
+none_of key es none =
+    none_in key es (among-fold key [] (flat_map (λ e. e.keys) es) (not_among key (keys_in es) none)).1
 
 -- before the first entry
 pub none_yet : (b : Histories) → b.each.items ≡ [] → b.restart ≡ 0 → AreHistories [] b
 none_yet b none restart = record { long = ap length none; restart = omega (arith, restart); each = λ n key k at. absurd cc }
 
 -- an entry that concerns none
-pub silent_histories : (p : Times) (es : Entries) (e : Observation KeyParts) (b : Histories) → e.keys ≡ [] → AreHistories es b → AreHistories (es ++ e ∷ []) b
-silent_histories p es e b none h =
-    let same = keys_none p es e none in
+pub silent_histories : (es : Entries) (e : Observation KeyParts) (b : Histories) → e.keys ≡ [] → AreHistories es b → AreHistories (es ++ e ∷ []) b
+silent_histories es e b none h =
+    let same = keys_in-none es e none in
     record {
       long = h.long ∙ ap length (sym same);
       restart = (let long = length-append es (e ∷ []) in let low = h.restart in omega arith);
@@ -109,11 +106,10 @@ silent_histories p es e b none h =
     }
 
 -- a restart
-pub restart_histories : (p : Times) (es : Entries) (e : Observation KeyParts) (b c : Histories) (number : ℕ) → e.keys ≡ keys_in es → number ≡ length es + 1 → c.each.items ≡ b.each.items → c.restart ≡ number
+pub restart_histories : (es : Entries) (e : Observation KeyParts) (b c : Histories) (number : ℕ) → e.keys ≡ keys_in es → number ≡ length es + 1 → c.each.items ≡ b.each.items → c.restart ≡ number
     → AreHistories es b → AreHistories (es ++ e ∷ []) c
-restart_histories p es e b c number all counts kept newest h =
-    let same : keys_in (es ++ e ∷ []) ≡ keys_in es = keys_of-push (key_machines p) es e ∙ ap (fold (with_key same_key) (keys_in es)) all
-    ∙ known_keys p (keys_in es) (keys_in es) (λ n d low. Contains-get_or (keys_in es) n d low) in
+restart_histories es e b c number all counts kept newest h =
+    let same = keys_in-all es e all in
     record {
       long = ap length kept ∙ h.long ∙ ap length (sym same);
       restart = (let long = length-append es (e ∷ []) in omega (arith, newest, counts));
@@ -121,7 +117,7 @@ restart_histories p es e b c number all counts kept newest h =
           let was : slice_get (keys_in es) n ≡ Some key = ap (λ ks. slice_get ks n) (sym same) ∙ at in
           let one = h.each n key k was (ap (λ hs. slice_get hs n) (sym kept) ∙ here) in
           let low = last_low es key (max k.last b.restart) one.last in
-          let is : is_of key e ≡ true = contains-among (key_machines p) (keys_exact p) key e.keys
+          let is : is_of key e ≡ true = contains-among key e.keys
           (subst (λ ks. Contains ks key) (sym all) (n, slice_get_within (keys_in es) n key was, get_or_from_slice_get (keys_in es) n key key was)) in
           record { first = first_more es e key k.first k.branch.items one.first; last = last_here es e key (max k.last c.restart) is (omega (arith, low, newest, counts)) };
     }
@@ -206,12 +202,12 @@ module _ (entry : ℕ) (text : List ℕ) where
           subst (IsAt entry text old i h) (sym (or_some (nat_eq (i + 1) n))) (last, inr ((let grows = long_note n old mid note in omega (arith, beyond)), first, spells))
 
 -- Keys that an entry concerns.
-module _ (p : Times) (es : Entries) (e : Observation KeyParts) (b c : Histories) (number : ℕ) (text : List ℕ) (t w : Tabled) (ks : List KeyParts) (ns : List ℕ)
+module _ (es : Entries) (e : Observation KeyParts) (b c : Histories) (number : ℕ) (text : List ℕ) (t w : Tabled) (ks : List KeyParts) (ns : List ℕ)
     (h : AreHistories es b) (t_keys : t.keys ≡ keys_in es) (sets : length t.sets ≡ length t.keys) (counts : number ≡ length es + 1) (touched : TouchesEach ks ns t w) (apart : AllPairs (λ x y. x ≢ y) w.keys)
     (notes : NotesEach number text ns b.each.items c.each.items) (same_restart : c.restart ≡ b.restart) (keys : e.keys ≡ ks)
     (says : (key : KeyParts) → is_of key e ≡ true → (s : Said) × Says text (gives s) × ((branch : List ℕ) × (s.via.branch ≡ Some branch))) (told : e.event.text ≡ text) where
   w_keys : w.keys ≡ keys_in (es ++ e ∷ [])
-  w_keys = touched_keys p ks ns t w touched ∙ ap (λ xs. fold (with_key same_key) xs ks) t_keys ∙ ap (fold (with_key same_key) (keys_in es)) (sym keys) ∙ sym (keys_of-push (key_machines p) es e)
+  w_keys = touched_keys ks ns t w touched ∙ ap (λ xs. fold with_key xs ks) t_keys ∙ ap (fold with_key (keys_in es)) (sym keys) ∙ sym (keys_in-push es e)
 
   t_long : length b.each.items ≡ length t.keys
   t_long = h.long ∙ ap length (sym t_keys)
@@ -231,7 +227,7 @@ module _ (p : Times) (es : Entries) (e : Observation KeyParts) (b c : Histories)
   begun key branch none is spells n n_is =
       let (s, said, (there, has)) = says key is in
       let same : branch ≡ there = subst (λ o. IfSome o (λ x. branch ≡ x)) has (spells s said) in
-      (es, e, [], refl, is, none_of p key es none, n_is ∙ counts, (s, subst (λ x. Says x (gives s)) (sym told) said, has ∙ ap Some (sym same)))
+      (es, e, [], refl, is, none_of key es none, n_is ∙ counts, (s, subst (λ x. Says x (gives s)) (sym told) said, has ∙ ap Some (sym same)))
 
   pub heard_histories : AreHistories (es ++ e ∷ []) c
   heard_histories = record {
@@ -281,7 +277,7 @@ heard_says direction i e (has_no_cookie s says lacks is) key of = absurd (some_k
 heard_says direction i e (is_heard s keys says fine concerns is) key of =
     (s, says, branch_of s direction keys concerns (some_keys key keys (sym (ap (λ o. list_any (same_key key) o.keys) is) ∙ of)))
 
-pub message_says : (es : Entries) (i : Item) (e : Observation KeyParts) → has_message i.action ≡ true → message_reading.Observes es i e → (key : KeyParts) → is_of key e ≡ true
+pub message_says : (es : Entries) (i : Item) (e : Observation KeyParts) → has_message i.action ≡ true → Sees es i e → (key : KeyParts) → is_of key e ≡ true
     → (s : Said) × Says i.text (gives s) × ((branch : List ℕ) × (s.via.branch ≡ Some branch))
 message_says es i e says seen key of =
     let (direction, goes) = went i.action says in

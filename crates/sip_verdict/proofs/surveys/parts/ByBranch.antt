@@ -14,8 +14,7 @@ use Rattle.sip_standard.specs.declared.action.Action.{Action}
 use Rattle.sip_standard.specs.declared.action.Action.TheVariants.{Sent, Received, Failed, Mark, Restart}
 use Rattle.sip_standard.specs.LogEntry.{Item}
 use Rattle.sip_standard.specs.Observation.{Observation, direction_of, silent_observation, ObservesMessage, has_fault, has_no_cookie, is_heard}
-use Rattle.sip_verdict.specs.MessageReading.{message_reading}
-use Rattle.sip_verdict.specs.Reading.{AreObserved}
+use Rattle.sip_standard.specs.Seen.{AreSeen}
 use Rattle.sip_standard.specs.VerdictOf.{keys_in, Sees}
 use Rattle.sip_verdict.specs.SurveyLaws.{StaysOrIsMark, IsCutLog}
 
@@ -84,7 +83,7 @@ module _ (chosen : List ℕ → Bool) where
       by Restart is seen = (item, inl (refl, inl is))
 
   -- there is a log of the chosen branches
-  pub branch_cut : (done : List (Observation KeyParts)) (items : List Item) (es : List (Observation KeyParts)) → AreObserved message_reading done items es → (cuts : List Item) × IsCutLog (λ key. chosen key.branch) items es cuts
+  pub branch_cut : (done : List (Observation KeyParts)) (items : List Item) (es : List (Observation KeyParts)) → AreSeen done items es → (cuts : List Item) × IsCutLog (λ key. chosen key.branch) items es cuts
   branch_cut done [] [] seen = ([], tt)
   branch_cut done [] (e ∷ es) seen = absurd seen
   branch_cut done (item ∷ items) [] seen = absurd seen

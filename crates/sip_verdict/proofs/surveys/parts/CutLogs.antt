@@ -11,8 +11,7 @@ use Rattle.sip_standard.specs.declared.action.Action.TheVariants.{Sent, Received
 use Rattle.sip_standard.specs.declared.role.Direction.{Direction}
 use Rattle.sip_standard.specs.declared.role.Direction.TheVariants as way
 use Rattle.sip_standard.specs.Observation.{Observation, direction_of, silent_observation, ObservesMessage, has_fault, has_no_cookie, is_heard}
-use Rattle.sip_verdict.specs.MessageReading.{message_reading}
-use Rattle.sip_verdict.specs.Reading.{AreObserved}
+use Rattle.sip_standard.specs.Seen.{AreSeen}
 use Rattle.sip_standard.specs.VerdictOf.{keys_in, Sees}
 use Rattle.sip_verdict.specs.SurveyLaws.{IsCutOf, StaysOrIsMark, IsCutLog, Keeps}
 use Rattle.sip_verdict.proofs.surveys.parts.Cutting.{keys_cut, zip_push, same_trouble}
@@ -74,8 +73,8 @@ module _ (chosen : KeyParts → Bool) where
       (c, subst (λ i. Sees back i c) (sym is) refl, (sym (seen_moment done item e item.action sees), sym (filter_none e.keys none), λ some. absurd (some refl)))
 
   -- what is seen of the cut log
-  pub log_cut : (done back : List (Observation KeyParts)) → AllZip (IsCutOf chosen) done back → (items : List Item) (es : List (Observation KeyParts)) (cuts : List Item) → AreObserved message_reading done items es
-      → IsCutLog chosen items es cuts → (cs : List (Observation KeyParts)) × AreObserved message_reading back cuts cs × AllZip (IsCutOf chosen) es cs
+  pub log_cut : (done back : List (Observation KeyParts)) → AllZip (IsCutOf chosen) done back → (items : List Item) (es : List (Observation KeyParts)) (cuts : List Item) → AreSeen done items es
+      → IsCutLog chosen items es cuts → (cs : List (Observation KeyParts)) × AreSeen back cuts cs × AllZip (IsCutOf chosen) es cs
   log_cut done back zip [] [] [] seen cut = ([], tt, tt)
   log_cut done back zip [] [] (c ∷ cuts) seen cut = absurd cut
   log_cut done back zip [] (e ∷ es) cuts seen cut = absurd seen
@@ -86,7 +85,7 @@ module _ (chosen : KeyParts → Bool) where
       let more = log_cut (done ++ e ∷ []) (back ++ one.0 ∷ []) (zip_push chosen done back e one.0 zip one.2) items es cuts seen cut in
       (one.0 ∷ more.0, (one.1, more.1), (one.2, more.2))
 
-  pub cut_keeps : (p : Times) (items : List Item) (es : List (Observation KeyParts)) (cuts : List Item) → AreObserved message_reading [] items es → IsCutLog chosen items es cuts → Keeps p chosen es cuts
+  pub cut_keeps : (p : Times) (items : List Item) (es : List (Observation KeyParts)) (cuts : List Item) → AreSeen [] items es → IsCutLog chosen items es cuts → Keeps p chosen es cuts
   cut_keeps p items es cuts seen cut =
       let all = log_cut [] [] tt items es cuts seen cut in
       record { seen = all.0; are = all.1; keys = keys_cut chosen es all.0 all.2; troubles = λ key is. same_trouble chosen key is p es all.0 all.2 }

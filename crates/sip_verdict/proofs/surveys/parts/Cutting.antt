@@ -12,14 +12,11 @@ use Rattle.sip_standard.specs.MachineEvent.{MachineEvent}
 use Rattle.sip_standard.specs.Stands.{Stands, StandsAfter}
 use Rattle.sip_standard.specs.KeyMachine.{machine_of_key, transaction_of}
 use Rattle.sip_standard.specs.Observation.{Observation}
-use Rattle.sip_verdict.specs.Keyed.{with_key, newest_moment}
+use Rattle.sip_verdict.specs.Entries.{newest_moment}
+use Rattle.sip_verdict.specs.inner.Keyed.{with_key, concerns}
 use Rattle.sip_standard.specs.VerdictOf.{keys_in, events_for, RunsOver, IsWideAt}
 use Rattle.sip_verdict.specs.SurveyOf.{IsSound, Breaks, Widens}
 use Rattle.sip_verdict.specs.SurveyLaws.{IsCutOf, HasSameTrouble}
-
--- whether the entry concerns the key
-abbrev concerns : KeyParts → Observation KeyParts → Bool
-concerns key e = list_any (same_key key) e.keys
 
 module _ (chosen : KeyParts → Bool) where
   -- a chosen key is among keys exactly if it is among the chosen ones of them
@@ -36,10 +33,10 @@ module _ (chosen : KeyParts → Bool) where
 
   -- what that says, where it is known whether the key is chosen, and whether it is new
   abbrev OneMore : List KeyParts → KeyParts → Bool → Bool → Type 0
-  OneMore keys k b t = filter chosen (cond t keys (keys ++ k ∷ [])) ≡ fold (with_key same_key) (filter chosen keys) (cond b (k ∷ []) [])
+  OneMore keys k b t = filter chosen (cond t keys (keys ++ k ∷ [])) ≡ fold with_key (filter chosen keys) (cond b (k ∷ []) [])
 
   -- the chosen ones of keys with one more
-  filter_with_key : (keys : List KeyParts) (k : KeyParts) → filter chosen (with_key same_key keys k) ≡ fold (with_key same_key) (filter chosen keys) (filter chosen (k ∷ []))
+  filter_with_key : (keys : List KeyParts) (k : KeyParts) → filter chosen (with_key keys k) ≡ fold with_key (filter chosen keys) (filter chosen (k ∷ []))
   filter_with_key keys k = go (chosen k) refl (list_any (same_key k) keys) refl
     where
       one : (b : Bool) → chosen k ≡ b → filter chosen (keys ++ k ∷ []) ≡ filter chosen keys ++ cond b (k ∷ []) []
@@ -58,17 +55,17 @@ module _ (chosen : KeyParts → Bool) where
       go b e t f = subst (λ c. OneMore keys k c (list_any (same_key k) keys)) (sym e) (subst (λ c. OneMore keys k b c) (sym f) (by b t e f))
 
   -- the chosen ones of several more
-  filter_keys : (keys more : List KeyParts) → fold (with_key same_key) (filter chosen keys) (filter chosen more) ≡ filter chosen (fold (with_key same_key) keys more)
+  filter_keys : (keys more : List KeyParts) → fold with_key (filter chosen keys) (filter chosen more) ≡ filter chosen (fold with_key keys more)
   filter_keys keys [] = refl
   filter_keys keys (k ∷ more) =
-      by (chosen k) refl ∙ ap (λ start. fold (with_key same_key) start (filter chosen more)) (sym (filter_with_key keys k)) ∙ filter_keys (with_key same_key keys k) more
+      by (chosen k) refl ∙ ap (λ start. fold with_key start (filter chosen more)) (sym (filter_with_key keys k)) ∙ filter_keys (with_key keys k) more
     where
-      by : (b : Bool) → chosen k ≡ b → fold (with_key same_key) (filter chosen keys) (cond (chosen k) (k ∷ filter chosen more) (filter chosen more))
-          ≡ fold (with_key same_key) (fold (with_key same_key) (filter chosen keys) (cond (chosen k) (k ∷ []) [])) (filter chosen more)
-      by true e = ap (λ b. fold (with_key same_key) (filter chosen keys) (cond b (k ∷ filter chosen more) (filter chosen more))) e
-          ∙ sym (ap (λ b. fold (with_key same_key) (fold (with_key same_key) (filter chosen keys) (cond b (k ∷ []) [])) (filter chosen more)) e)
-      by false e = ap (λ b. fold (with_key same_key) (filter chosen keys) (cond b (k ∷ filter chosen more) (filter chosen more))) e
-          ∙ sym (ap (λ b. fold (with_key same_key) (fold (with_key same_key) (filter chosen keys) (cond b (k ∷ []) [])) (filter chosen more)) e)
+      by : (b : Bool) → chosen k ≡ b → fold with_key (filter chosen keys) (cond (chosen k) (k ∷ filter chosen more) (filter chosen more))
+          ≡ fold with_key (fold with_key (filter chosen keys) (cond (chosen k) (k ∷ []) [])) (filter chosen more)
+      by true e = ap (λ b. fold with_key (filter chosen keys) (cond b (k ∷ filter chosen more) (filter chosen more))) e
+          ∙ sym (ap (λ b. fold with_key (fold with_key (filter chosen keys) (cond b (k ∷ []) [])) (filter chosen more)) e)
+      by false e = ap (λ b. fold with_key (filter chosen keys) (cond b (k ∷ filter chosen more) (filter chosen more))) e
+          ∙ sym (ap (λ b. fold with_key (fold with_key (filter chosen keys) (cond b (k ∷ []) [])) (filter chosen more)) e)
 
   all_keys : (es cs : List (Observation KeyParts)) → AllZip (IsCutOf chosen) es cs → flat_map (λ c. c.keys) cs ≡ filter chosen (flat_map (λ e. e.keys) es)
   all_keys [] [] zip = refl
@@ -78,7 +75,7 @@ module _ (chosen : KeyParts → Bool) where
 
   -- the keys of the cut log are the chosen ones of the log's
   pub keys_cut : (es cs : List (Observation KeyParts)) → AllZip (IsCutOf chosen) es cs → keys_in cs ≡ filter chosen (keys_in es)
-  keys_cut es cs zip = ap (fold (with_key same_key) []) (all_keys es cs zip) ∙ filter_keys [] (flat_map (λ e. e.keys) es)
+  keys_cut es cs zip = ap (fold with_key []) (all_keys es cs zip) ∙ filter_keys [] (flat_map (λ e. e.keys) es)
 
   -- one entry more
   pub zip_push : (es cs : List (Observation KeyParts)) (e c : Observation KeyParts) → AllZip (IsCutOf chosen) es cs → IsCutOf chosen e c → AllZip (IsCutOf chosen) (es ++ e ∷ []) (cs ++ c ∷ [])

@@ -11,8 +11,7 @@ use Rattle.sip_verdict.specs.declared.finding.Finding.{Finding}
 use Rattle.sip_verdict.specs.declared.finding.Finding.TheVariants.{Malformed}
 use Rattle.sip_verdict.specs.declared.survey_end.SurveyEnd.{SurveyEnd}
 use Rattle.sip_standard.specs.Observation.{Observation, direction_of, silent_observation, ObservesMessage}
-use Rattle.sip_verdict.specs.MessageReading.{message_reading}
-use Rattle.sip_verdict.specs.Reading.{AreObserved}
+use Rattle.sip_standard.specs.Seen.{AreSeen}
 use Rattle.sip_standard.specs.VerdictOf.{keys_in, Sees}
 use Rattle.sip_verdict.specs.SurveyOf.{IsFoundAt, IsSurveyAfter}
 use Rattle.sip_verdict.specs.SurveyLaws.{StaysOrIsMark, IsCutLog, StaysAt}
@@ -48,8 +47,8 @@ record At (chosen : KeyParts → Bool) (done back : List (Observation KeyParts))
   pub saw : Sees (back ++ cut_so_far) cut c
 
 -- there is one at each place
-at_place : (chosen : KeyParts → Bool) (done back : List (Observation KeyParts)) (items cuts : List Item) (es cs : List (Observation KeyParts)) → AreObserved message_reading done items es
-    → AreObserved message_reading back cuts cs → IsCutLog chosen items es cuts → (n : ℕ) → n < length es → At chosen done back items cuts es cs n
+at_place : (chosen : KeyParts → Bool) (done back : List (Observation KeyParts)) (items cuts : List Item) (es cs : List (Observation KeyParts)) → AreSeen done items es
+    → AreSeen back cuts cs → IsCutLog chosen items es cuts → (n : ℕ) → n < length es → At chosen done back items cuts es cs n
 at_place chosen done back items cuts [] cs seen saw cut n low = absurd (omega (arith, low))
 at_place chosen done back [] cuts (e ∷ es) cs seen saw cut n low = absurd seen
 at_place chosen done back (item ∷ items) [] (e ∷ es) cs seen saw cut n low = absurd cut
@@ -109,8 +108,8 @@ at_place chosen done back (item ∷ items) (i ∷ cuts) (e ∷ es) (c ∷ cs) se
     }
 
 -- a log that is cut has as many entries
-cut_long : (chosen : KeyParts → Bool) (done back : List (Observation KeyParts)) (items cuts : List Item) (es cs : List (Observation KeyParts)) → AreObserved message_reading done items es
-    → AreObserved message_reading back cuts cs → IsCutLog chosen items es cuts → length cs ≡ length es
+cut_long : (chosen : KeyParts → Bool) (done back : List (Observation KeyParts)) (items cuts : List Item) (es cs : List (Observation KeyParts)) → AreSeen done items es
+    → AreSeen back cuts cs → IsCutLog chosen items es cuts → length cs ≡ length es
 cut_long chosen done back [] [] [] [] seen saw cut = refl
 cut_long chosen done back [] [] [] (c ∷ cs) seen saw cut = absurd saw
 cut_long chosen done back [] (i ∷ cuts) [] cs seen saw cut = absurd cut
@@ -145,7 +144,7 @@ mark_whole ys item c saw = ap (λ f. f.fault) saw
 
 -- what is found of the whole, and of the part
 faults_of : (p : Times) (chosen : KeyParts → Bool) (items cuts : List Item) (es cs : List (Observation KeyParts)) (close shut : LogEnd) (found part : List Finding) (end fin : SurveyEnd)
-    → AreObserved message_reading [] items es → AreObserved message_reading [] cuts cs → IsCutLog chosen items es cuts → IsSurveyAfter p [] items close found end → IsSurveyAfter p [] cuts shut part fin
+    → AreSeen [] items es → AreSeen [] cuts cs → IsCutLog chosen items es cuts → IsSurveyAfter p [] items close found end → IsSurveyAfter p [] cuts shut part fin
     → (n : ℕ) (fault : Fault) → Contains part (Malformed n fault) ↔ (Contains found (Malformed n fault) × StaysAt items cuts n)
 faults_of p chosen items cuts es cs close shut found part end fin seen saw cut whole some n fault = (into, λ h. from h.0 h.1)
   where
@@ -223,7 +222,7 @@ faults_of p chosen items cuts es cs close shut found part end fin seen saw cut w
 
 -- the survey of a part has a fault exactly where the survey of the whole has it and its message stays in the part
 pub part_faults : (p : Times) (chosen : KeyParts → Bool) (items cuts : List Item) (es : List (Observation KeyParts)) (close shut : LogEnd) (found part : List Finding) (end fin : SurveyEnd)
-    → AreObserved message_reading [] items es → IsCutLog chosen items es cuts → IsSurveyAfter p [] items close found end → IsSurveyAfter p [] cuts shut part fin → (n : ℕ) (fault : Fault)
+    → AreSeen [] items es → IsCutLog chosen items es cuts → IsSurveyAfter p [] items close found end → IsSurveyAfter p [] cuts shut part fin → (n : ℕ) (fault : Fault)
     → Contains part (Malformed n fault) ↔ (Contains found (Malformed n fault) × StaysAt items cuts n)
 part_faults p chosen items cuts es close shut found part end fin seen cut whole some n fault =
     let observed = log_cut chosen [] [] tt items es cuts seen cut in faults_of p chosen items cuts es observed.0 close shut found part end fin seen observed.1 cut whole some n fault

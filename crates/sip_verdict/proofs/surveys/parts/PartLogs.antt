@@ -12,9 +12,8 @@ use Rattle.sip_standard.specs.LogEntry.{Item}
 use Rattle.sip_part.specs.Part.{PartOf, TellsBranch, compared, falls_into}
 use Rattle.sip_part.proofs.Told.{told_branch}
 use Rattle.sip_standard.specs.Observation.{Observation, direction_of, silent_observation, ObservesMessage, has_fault, has_no_cookie, is_heard}
-use Rattle.sip_verdict.specs.MessageReading.{message_reading}
-use Rattle.sip_verdict.specs.Reading.{AreObserved}
-use Rattle.sip_standard.specs.VerdictOf.{keys_in}
+use Rattle.sip_standard.specs.Seen.{AreSeen}
+use Rattle.sip_standard.specs.VerdictOf.{keys_in, Sees}
 use Rattle.sip_verdict.specs.SurveyLaws.{StaysOrIsMark, IsCutLog}
 use Rattle.sip_verdict.specs.SurveyParts.{IsPartItem, IsPartLog}
 use Rattle.sip_verdict.proofs.surveys.parts.ByBranch.{of_one_branch}
@@ -58,7 +57,7 @@ module _ (part : PartOf) where
   CutSo item cut a =
       MatchOption (direction_of a) (cut ≡ item) (λ direction. (branch : List ℕ) × TellsBranch item.text branch × (cut ≡ if falls_into part branch then item else mark_of item))
 
-  item_part : (done : List (Observation KeyParts)) (item cut : Item) (e : Observation KeyParts) → message_reading.Observes done item e → IsPartItem part item cut → StaysOrIsMark Chosen item e cut
+  item_part : (done : List (Observation KeyParts)) (item cut : Item) (e : Observation KeyParts) → Sees done item e → IsPartItem part item cut → StaysOrIsMark Chosen item e cut
   item_part done item cut e sees is_cut = by item.action refl sees is_cut
     where
       by : (a : Action) → item.action ≡ a → SeenSo done item e a → CutSo item cut a → StaysOrIsMark Chosen item e cut
@@ -69,7 +68,7 @@ module _ (part : PartOf) where
       by Restart is seen same = inl (same, inl is)
 
   -- the log of a part is cut from the whole by the keys whose branches fall into it
-  pub part_cut : (done : List (Observation KeyParts)) (items cuts : List Item) (es : List (Observation KeyParts)) → AreObserved message_reading done items es → IsPartLog part items cuts → IsCutLog Chosen items es cuts
+  pub part_cut : (done : List (Observation KeyParts)) (items cuts : List Item) (es : List (Observation KeyParts)) → AreSeen done items es → IsPartLog part items cuts → IsCutLog Chosen items es cuts
   part_cut done [] [] [] seen are = tt
   part_cut done [] [] (e ∷ es) seen are = absurd seen
   part_cut done [] (cut ∷ cuts) es seen are = absurd are

@@ -9,8 +9,7 @@ use Rattle.sip_verdict.specs.declared.finding.Finding.{Finding}
 use Rattle.sip_verdict.specs.declared.finding.Finding.TheVariants.{Breach, Undecided}
 use Rattle.sip_verdict.specs.declared.survey_end.SurveyEnd.{SurveyEnd}
 use Rattle.sip_standard.specs.Observation.{Observation}
-use Rattle.sip_verdict.specs.MessageReading.{message_reading}
-use Rattle.sip_verdict.specs.Reading.{AreObserved}
+use Rattle.sip_standard.specs.Seen.{AreSeen}
 use Rattle.sip_standard.specs.VerdictOf.{keys_in}
 use Rattle.sip_verdict.specs.SurveyOf.{Breaks, Widens, HoldsOf, IsFoundAt, IsSurveyAfter}
 use Rattle.sip_verdict.specs.SurveyLaws.{Names, chosen_in, IsCutLog, IsCutOf}
@@ -46,7 +45,7 @@ module _ (p : Times) (kind : ℕ → ℕ → Finding) (P : List (Observation Key
   Holds es key n = (front : List (Observation KeyParts)) × (e : Observation KeyParts) × (more : List (Observation KeyParts)) × (es ≡ front ++ e ∷ more) × (n ≡ length front + 1) × P front e key
 
   -- where the survey says so, it does
-  named_holds : (items : List Item) (close : LogEnd) (es : List (Observation KeyParts)) (found : List Finding) (end : SurveyEnd) → AreObserved message_reading [] items es → IsSurveyAfter p [] items close found end →
+  named_holds : (items : List Item) (close : LogEnd) (es : List (Observation KeyParts)) (found : List Finding) (end : SurveyEnd) → AreSeen [] items es → IsSurveyAfter p [] items close found end →
       (key : KeyParts) (n : ℕ) → Names kind keys_in es found key n → Holds es key n
   named_holds items close es found end seen survey key n (front, e, more, t, is, entry, (before, k, rest, are, named, number), has) =
       let (back, c, others, split, at) = found_is p [] items close es found end seen survey (kind n t) has in
@@ -57,7 +56,7 @@ module _ (p : Times) (kind : ℕ → ℕ → Finding) (P : List (Observation Key
       (front, e, more, is, entry, subst (P front e) named (same_place (P front e) (keys_in (front ++ e ∷ [])) before k rest t are mine number))
 
   -- where a key has trouble, the survey names it
-  holds_named : (items : List Item) (close : LogEnd) (es : List (Observation KeyParts)) (found : List Finding) (end : SurveyEnd) → AreObserved message_reading [] items es → IsSurveyAfter p [] items close found end →
+  holds_named : (items : List Item) (close : LogEnd) (es : List (Observation KeyParts)) (found : List Finding) (end : SurveyEnd) → AreSeen [] items es → IsSurveyAfter p [] items close found end →
       (key : KeyParts) (n : ℕ) → Holds es key n → Names kind keys_in es found key n
   holds_named items close es found end seen survey key n (front, e, more, is, entry, holds) =
       let (t, named, at) = numbered (P front e) (keys_in (front ++ e ∷ [])) key (known front e key holds) holds in
@@ -94,7 +93,7 @@ module _ (p : Times) (kind : ℕ → ℕ → Finding) (P : List (Observation Key
     )
 
     -- both surveys name the key at the same entry
-    named_cut : (items cuts : List Item) (es cs : List (Observation KeyParts)) (close shut : LogEnd) (found part : List Finding) (end fin : SurveyEnd) → AreObserved message_reading [] items es → AreObserved message_reading [] cuts cs
+    named_cut : (items cuts : List Item) (es cs : List (Observation KeyParts)) (close shut : LogEnd) (found part : List Finding) (end fin : SurveyEnd) → AreSeen [] items es → AreSeen [] cuts cs
         → AllZip (IsCutOf chosen) es cs → IsSurveyAfter p [] items close found end → IsSurveyAfter p [] cuts shut part fin → (n : ℕ) → Names kind keys_in es found key n ↔ Names kind (chosen_in chosen) es part key n
     named_cut items cuts es cs close shut found part end fin seen saw zip whole some n =
         let cut = holds_cut es cs n zip in
@@ -105,13 +104,13 @@ module _ (p : Times) (kind : ℕ → ℕ → Finding) (P : List (Observation Key
 
 -- the surveys of a log and of its cut say the same of a chosen transaction
 pub part_is_whole : (p : Times) (chosen : KeyParts → Bool) (items cuts : List Item) (es : List (Observation KeyParts)) (close shut : LogEnd) (found part : List Finding) (end fin : SurveyEnd)
-    → AreObserved message_reading [] items es → IsCutLog chosen items es cuts → IsSurveyAfter p [] items close found end → IsSurveyAfter p [] cuts shut part fin → (key : KeyParts) → chosen key ≡ true → (n : ℕ)
+    → AreSeen [] items es → IsCutLog chosen items es cuts → IsSurveyAfter p [] items close found end → IsSurveyAfter p [] cuts shut part fin → (key : KeyParts) → chosen key ≡ true → (n : ℕ)
     → (Names (λ n t. Breach n t) keys_in es found key n ↔ Names (λ n t. Breach n t) (chosen_in chosen) es part key n)
     × (Names (λ n t. Undecided n t) keys_in es found key n ↔ Names (λ n t. Undecided n t) (chosen_in chosen) es part key n)
 part_is_whole p chosen items cuts es close shut found part end fin seen cut whole some key is n =
     let (cs, saw, zip) = log_cut chosen [] [] tt items es cuts seen cut in (
       named_cut p (λ n t. Breach n t) (Breaks p) (λ front e n t found. found) (λ front e t holds. (refl, holds)) (λ front e key breaks. breaks_known p front e key breaks.1) chosen key is
           (λ front back e c zip here. (trouble_cut chosen key is p front back e c zip here).0) items cuts es cs close shut found part end fin seen saw zip whole some n,
-      named_cut p (λ n t. Undecided n t) (Widens p) (λ front e n t found. found) (λ front e t holds. (refl, holds)) (λ front e key widens. concerned-among p key front e widens.1.0) chosen key is
+      named_cut p (λ n t. Undecided n t) (Widens p) (λ front e n t found. found) (λ front e t holds. (refl, holds)) (λ front e key widens. concerned-among key front e widens.1.0) chosen key is
           (λ front back e c zip here. (trouble_cut chosen key is p front back e c zip here).1) items cuts es cs close shut found part end fin seen saw zip whole some n,
     )

@@ -6,7 +6,6 @@ use Rattle.std.proofs.lemmas.Option.{slice_get_within, get_or_from_slice_get}
 use Rattle.std.proofs.lemmas.List.{append-nil}
 use Rattle.std.proofs.lemmas.List.Elements.{Contains-append_left}
 use Rattle.sip_standard.specs.Key.{KeyParts, same_key}
-use Rattle.sip_standard.specs.Times.{Times}
 use Rattle.sip_machine.specs.Texts.{Texts}
 use Rattle.sip_standard.specs.KeyMachine.{machine_of_key}
 use Rattle.sip_states.specs.AnySet.{start_of}
@@ -15,14 +14,15 @@ use Rattle.sip_states.specs.declared.any_set.AnySet.{AnySet}
 use Rattle.sip_states.proofs.lists.Listed.{Contains-none}
 use Rattle.sip_verdict.specs.declared.troubled.Troubled.{Troubled}
 use Rattle.sip_standard.specs.Observation.{Observation}
-use Rattle.sip_verdict.specs.Keyed.{with_key, newest_moment, keys_of, events_of}
-use Rattle.sip_verdict.specs.MessageReading.{key_machines}
+use Rattle.sip_standard.specs.VerdictOf.{keys_in, events_for}
+use Rattle.sip_verdict.specs.Entries.{newest_moment}
+use Rattle.sip_verdict.specs.inner.Keyed.{with_key}
 use Rattle.sip_verdict.specs.inner.TablesTracking.{LeadsOf, TouchesEach}
 use Rattle.sip_verdict.specs.inner.Surveying.{IsFresh, IsFollowed, TablesSurvey, IsPassing, ArePassing, any}
 use Rattle.sip_verdict.proofs.keys.Keys.{cond_true, cond_false, contains-among, not_among, new_key}
 use Rattle.sip_verdict.proofs.tables.TablesPassing.{All-place}
 use Rattle.sip_verdict.proofs.keys.QuietSets.{leads_later}
-use Rattle.sip_verdict.proofs.tables.TablesTouching.{keys_exact, starts, push-place}
+use Rattle.sip_verdict.proofs.tables.TablesTouching.{starts, push-place}
 use Rattle.sip_verdict.proofs.surveys.found.Sound.{idle_runs}
 use Rattle.sip_verdict.proofs.surveys.passing.Unheard.{unheard_narrow}
 
@@ -71,20 +71,20 @@ more_each old (k ∷ ks) [] t u h touched = absurd touched
 more_each old (k ∷ ks) (n ∷ ns) t u h (between, one, rest) = more_each old ks ns between u (one_more old t h k n between one) rest
 
 -- the keys, once these came
-touched_key : (p : Times) (k : KeyParts) (n : ℕ) (t u : Tabled) → Touches k n t u → u.keys ≡ with_key same_key t.keys k
-touched_key p k n t u (inl (has, same)) =
+touched_key : (k : KeyParts) (n : ℕ) (t u : Tabled) → Touches k n t u → u.keys ≡ with_key t.keys k
+touched_key k n t u (inl (has, same)) =
     ap (λ x. x.keys) same
     ∙ sym (cond_true (list_any (same_key k) t.keys) t.keys (t.keys ++ k ∷ [])
-    (contains-among (key_machines p) (keys_exact p) k t.keys (n - 1, slice_get_within t.keys (n - 1) k has.1, get_or_from_slice_get t.keys (n - 1) k k has.1)))
-touched_key p k n t u (inr (new, counts, is)) =
+    (contains-among k t.keys (n - 1, slice_get_within t.keys (n - 1) k has.1, get_or_from_slice_get t.keys (n - 1) k k has.1)))
+touched_key k n t u (inr (new, counts, is)) =
     ap (λ x. x.keys) is
-    ∙ sym (cond_false (list_any (same_key k) t.keys) t.keys (t.keys ++ k ∷ []) (not_among (key_machines p) (keys_exact p) k t.keys (λ (i, low, same). new i k low same)))
+    ∙ sym (cond_false (list_any (same_key k) t.keys) t.keys (t.keys ++ k ∷ []) (not_among k t.keys (λ (i, low, same). new i k low same)))
 
-pub touched_keys : (p : Times) (ks : List KeyParts) (ns : List ℕ) (t u : Tabled) → TouchesEach ks ns t u → u.keys ≡ fold (with_key same_key) t.keys ks
-touched_keys p [] [] t u same = ap (λ x. x.keys) same
-touched_keys p [] (n ∷ ns) t u h = absurd h
-touched_keys p (k ∷ ks) [] t u h = absurd h
-touched_keys p (k ∷ ks) (n ∷ ns) t u (between, one, rest) = touched_keys p ks ns between u rest ∙ ap (λ keys. fold (with_key same_key) keys ks) (touched_key p k n t between one)
+pub touched_keys : (ks : List KeyParts) (ns : List ℕ) (t u : Tabled) → TouchesEach ks ns t u → u.keys ≡ fold with_key t.keys ks
+touched_keys [] [] t u same = ap (λ x. x.keys) same
+touched_keys [] (n ∷ ns) t u h = absurd h
+touched_keys (k ∷ ks) [] t u h = absurd h
+touched_keys (k ∷ ks) (n ∷ ns) t u (between, one, rest) = touched_keys ks ns between u rest ∙ ap (λ keys. fold with_key keys ks) (touched_key k n t between one)
 
 -- an element of two lists, one after the other
 pub front_place : {A : Type 0} (xs ys : List A) (n : ℕ) (x : A) → n < length xs → slice_get (xs ++ ys) n ≡ Some x → slice_get xs n ≡ Some x
@@ -103,9 +103,8 @@ module _ (texts : Texts) (es : List (Observation KeyParts)) (e : Observation Key
   new_follows : (key : KeyParts) (s : AnySet) → s ≡ start_of old.times key → ¬ Contains old.keys key → IsFollowed texts old.times es key s false
   new_follows key s is none =
       let p = old.times in
-      let m = key_machines p in
-      let silent = new_key m (keys_exact p) key es (not_among m (keys_exact p) key (keys_of m es) (λ has. none (subst (λ ks. Contains ks key) (sym tracks.keys) has))) in (
-        subst (LeadsOf texts p (machine_of_key p.rules key) (events_of m key es) (newest_moment es)) (sym is)
+      let silent = new_key key es (not_among key (keys_in es) (λ has. none (subst (λ ks. Contains ks key) (sym tracks.keys) has))) in (
+        subst (LeadsOf texts p (machine_of_key p.rules key) (events_for key es) (newest_moment es)) (sym is)
             (subst (λ events. LeadsOf texts p (machine_of_key p.rules key) events (newest_moment es) (start_of p key)) (sym silent) (starts texts p key (newest_moment es))),
         (idle_runs p es key silent, unheard_narrow p es key silent),
       )

@@ -1,5 +1,5 @@
 -- The transactions of a survey after an entry, and what is found at it.
-use Rattle.std.proofs.Common.{◌≡◌, ◌≤◌, ◌+◌, ◌-◌, ◌⊎◌, inl, inr, ℕ, zero, suc, Bool, true, false, Some, List, [], ◌∷◌, ◌++◌, Contains, length, slice_get, All, append_assoc, append-nil, refl, sym, ap, ◌∙◌, subst, arith}
+use Rattle.std.proofs.Common.{◌≡◌, ◌≤◌, ◌+◌, ◌-◌, ◌⊎◌, inl, inr, ℕ, zero, suc, Bool, true, false, Some, List, [], ◌∷◌, ◌++◌, Contains, length, slice_get, All, append-nil, refl, sym, ap, ◌∙◌, subst, arith}
 use Rattle.std.proofs.lemmas.Option.{slice_get_within}
 use Rattle.std.proofs.lemmas.List.Elements.{All-contains}
 use Rattle.sip_standard.specs.Key.{KeyParts}
@@ -10,20 +10,19 @@ use Rattle.sip_states.specs.Tables.{Tabled}
 use Rattle.sip_states.specs.declared.any_set.AnySet.{AnySet}
 use Rattle.sip_verdict.specs.declared.troubled.Troubled.{Troubled}
 use Rattle.sip_standard.specs.Observation.{Observation}
-use Rattle.sip_verdict.specs.Keyed.{newest_moment}
-use Rattle.sip_verdict.specs.MessageReading.{key_machines}
+use Rattle.sip_verdict.specs.Entries.{newest_moment}
 use Rattle.sip_standard.specs.VerdictOf.{keys_in, RunsOver, IsWideAt}
 use Rattle.sip_verdict.specs.SurveyOf.{IsSound, Breaks, Widens, HoldsOf, AreFoundAt}
 use Rattle.sip_verdict.specs.inner.TablesTracking.{LeadsOf, is_among}
 use Rattle.sip_verdict.specs.inner.Surveying.{IsNumberOf, IsFollowed, IsOrdered, TablesSurvey, IsPassing, ArePassing, AreAscending}
 use Rattle.sip_verdict.proofs.keys.Keys.{newest_moment-push}
 use Rattle.sip_states.proofs.lists.Listed.{Contains-none, Contains-cons}
-use Rattle.sip_verdict.proofs.keys.FewerEntries.{fewer-entries, newest-to}
+use Rattle.sip_verdict.proofs.keys.FewerEntries.{newest-to}
 use Rattle.sip_verdict.proofs.tables.TablesPassing.{at_place}
-use Rattle.sip_verdict.proofs.verdicts.VerdictLemmas.{run-over, over-run, at-wide}
 use Rattle.sip_verdict.proofs.surveys.found.Numbers.{AreNumbers}
 use Rattle.sip_verdict.proofs.surveys.found.FoundParts.{listed, listed_found}
 use Rattle.sip_verdict.proofs.surveys.found.Ordered.{ordered_append}
+use Rattle.sip_verdict.proofs.surveys.OneFinding.{sound_fewer}
 use Rattle.sip_verdict.proofs.surveys.found.Sound.{sound_push}
 use Rattle.sip_verdict.proofs.surveys.passing.Wide.{wide_runs}
 use Rattle.sip_verdict.proofs.surveys.passing.Passing.{same_at}
@@ -43,13 +42,6 @@ ordered_push es e order late = ordered_append (λ a b. a.event.moment ≤ b.even
     across x y h g =
         let low = All-contains (λ a. a.event.moment ≤ newest_moment es) es x to h in
         subst (λ z. x.event.moment ≤ z.event.moment) (last y (Contains-cons e [] y g)) (omega (arith, low, late))
-
--- what is in no trouble was in none before
-sound_fewer : (p : Times) (es : List (Observation KeyParts)) (e : Observation KeyParts) (key : KeyParts) → IsOrdered (es ++ e ∷ []) → IsSound p (es ++ e ∷ []) key → IsSound p es key
-sound_fewer p es e key order (runs, narrow) = (
-  run-over p es key (fewer-entries (key_machines p) key es (e ∷ []) order (over-run p (es ++ e ∷ []) key runs)),
-  λ front f rest is. narrow front f (rest ++ e ∷ []) (ap (λ xs. xs ++ e ∷ []) is ∙ append_assoc front (f ∷ rest) (e ∷ [])),
-)
 
 -- a list is split at a place
 split_at : {A : Type 0} (xs : List A) (i : ℕ) (x : A) → slice_get xs i ≡ Some x → (before : List A) × (rest : List A) × (xs ≡ before ++ x ∷ rest) × (length before ≡ i)
@@ -76,7 +68,7 @@ module _ (texts : Texts) (es : List (Observation KeyParts)) (e : Observation Key
     (keys : t.keys ≡ keys_in (es ++ e ∷ [])) (sets : length t.sets ≡ length t.keys) (long : length b.deaf.items ≡ length t.keys) (h : ArePassing texts p es e (is_among []) t b) where
   -- a transaction in trouble is in trouble after the entry
   unsound : (n : ℕ) (key : KeyParts) → slice_get t.keys n ≡ Some key → ¬ (IsSound p es key) ⊎ (Contains b.broken.items (n + 1) ⊎ Contains b.wide.items (n + 1)) → ¬ (IsSound p (es ++ e ∷ []) key)
-  unsound n key at (inl before) sound = before (sound_fewer p es e key (ordered_push es e order late) sound)
+  unsound n key at (inl before) sound = before (sound_fewer p key es (e ∷ []) (ordered_push es e order late) sound)
   unsound n key at (inr (inl has)) sound =
       let own = h.broken (n + 1) has in
       own.holds.1 (subst (RunsOver p (es ++ e ∷ [])) (same_at t.keys n key own.key at (ap (slice_get t.keys) (omega arith) ∙ own.at)) sound.0)
@@ -95,7 +87,7 @@ module _ (texts : Texts) (es : List (Observation KeyParts)) (e : Observation Key
       by : (n : ℕ) (key : KeyParts) (s : AnySet) (d : Bool) → slice_get t.keys n ≡ Some key → IsPassing texts p es e (is_among []) b (n + 1) key s d → IsFollowed texts p (es ++ e ∷ []) key s d
       by n key s true at (leads, troubled) = (subst (λ m. LeadsOf texts p (machine_of_key p.rules key) [] m s) (sym (newest_moment-push es e)) leads, unsound n key at troubled)
       by n key s false at (sound, goes) =
-          (goes.ready, sound_push p es e key sound (run-over p (es ++ e ∷ []) key goes.runs) (λ wide. goes.narrow (at-wide p es e key wide)))
+          (goes.ready, sound_push p es e key sound goes.runs goes.narrow)
 
   -- a key of all, with what is said of it
   found_key : (n : ℕ) (key : KeyParts) → slice_get t.keys n ≡ Some key → (d : Bool) × (s : AnySet) × IsPassing texts p es e (is_among []) b (n + 1) key s d
@@ -116,7 +108,7 @@ module _ (texts : Texts) (es : List (Observation KeyParts)) (e : Observation Key
       by true s (leads, inl before) = absurd (before sound)
       by true s (leads, inr (inl has)) = has
       by true s (leads, inr (inr has)) = absurd (none (one_key (λ k. Widens p es e k × RunsOver p (es ++ e ∷ []) k) n key at (h.wide (n + 1) has)).1)
-      by false s (still, goes) = absurd (none (run-over p (es ++ e ∷ []) key goes.runs))
+      by false s (still, goes) = absurd (none goes.runs)
 
   all_wide : (n : ℕ) (key : KeyParts) → slice_get t.keys n ≡ Some key → Widens p es e key → Contains b.wide.items (n + 1)
   all_wide n key at (sound, wide) = let (d, s, g) = found_key n key at in by d s g
@@ -125,7 +117,7 @@ module _ (texts : Texts) (es : List (Observation KeyParts)) (e : Observation Key
       by true s (leads, inl before) = absurd (before sound)
       by true s (leads, inr (inl has)) = absurd ((one_key (Breaks p es e) n key at (h.broken (n + 1) has)).1 (wide_runs p es e key wide))
       by true s (leads, inr (inr has)) = has
-      by false s (still, goes) = absurd (goes.narrow (at-wide p es e key wide))
+      by false s (still, goes) = absurd (goes.narrow wide)
 
   module _ (broken wide : List ℕ) (broken_is : AreAscending b.broken.items broken) (wide_is : AreAscending b.wide.items wide) where
     breaks : AreNumbers (Breaks p es e) t.keys broken

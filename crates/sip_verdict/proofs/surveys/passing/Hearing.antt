@@ -16,8 +16,8 @@ use Rattle.sip_verdict.specs.declared.passing.Fate.{Fate}
 use Rattle.sip_verdict.specs.declared.passing.Fate.TheVariants.{Runs, NoRun, TooWide}
 use Rattle.sip_verdict.specs.declared.troubled.Troubled.{Troubled}
 use Rattle.sip_standard.specs.Observation.{Observation}
-use Rattle.sip_verdict.specs.Keyed.{Machines, newest_moment, HasRun}
-use Rattle.sip_verdict.specs.MessageReading.{key_machines}
+use Rattle.sip_standard.specs.VerdictOf.{RunsOver}
+use Rattle.sip_verdict.specs.Entries.{newest_moment}
 use Rattle.sip_verdict.specs.SurveyOf.{IsSound, Breaks}
 use Rattle.sip_verdict.specs.inner.Stepping.{IsStepped}
 use Rattle.sip_verdict.specs.inner.Tracking.{Keeping, IsReady, GoesOn, IsPassed}
@@ -26,12 +26,7 @@ use Rattle.sip_verdict.specs.inner.Surveying.{AreWatched, IsPassing, ArePassing,
 use Rattle.sip_verdict.proofs.keys.KeyPassing.{heard_left, overdue_breaks}
 use Rattle.sip_verdict.proofs.tables.TablesPassing.{at_place, All-place, set-place, among_first}
 use Rattle.sip_verdict.proofs.tables.TablesTouching.{starts}
-use Rattle.sip_verdict.proofs.verdicts.VerdictLemmas.{run-over, over-run, wide-at}
 use Rattle.sip_verdict.proofs.surveys.passing.Passing.{among_cons, same_at, passed_on, released_broken, released_wide, stays}
-
--- what is left of a key that was in no trouble
-pub left_breaks : (p : Times) (es : List (Observation KeyParts)) (e : Observation KeyParts) (key : KeyParts) → IsSound p es key → ¬ HasRun (key_machines p) key (es ++ e ∷ []) → Breaks p es e key
-left_breaks p es e key sound none = (sound, λ over. none (over-run p (es ++ e ∷ []) key over))
 
 -- the sets of tables of which one key's starts anew
 module _ (texts : Texts) (p q : Times) (moment : ℕ) (t u : Tabled) (number : ℕ) (own : KeyParts) (at : slice_get t.keys (number - 1) ≡ Some own) (rules : q ≡ p)
@@ -50,10 +45,7 @@ module _ (texts : Texts) (p q : Times) (moment : ℕ) (t u : Tabled) (number : �
       by (inr other) = inr other
 
 module _ (texts : Texts) (p : Times) (es : List (Observation KeyParts)) (e : Observation KeyParts) (t : Tabled) (b : Troubled) (number : ℕ) (given : IsGiven t number) where
-  abbrev m : Machines KeyParts
-  m = key_machines p
-
-  abbrev k : Keeping KeyParts (KeyParts × AnySet)
+  abbrev k : Keeping (KeyParts × AnySet)
   k = key_keeping texts p
 
   abbrev place : ℕ
@@ -79,11 +71,11 @@ module _ (texts : Texts) (p : Times) (es : List (Observation KeyParts)) (e : Obs
       (stepped : (q : Times) (kind : MachineKind) (fs : List MachineEvent) (from : ℕ) → from ≤ event.moment → LeadsOf texts q kind fs from before
       → IsStepped (key_rules q kind) fs (event_in texts event) (λ gs. LeadsOf texts q kind gs event.moment after) (λ g. StandsOf texts q kind fs g after) fate) where
     -- what is left of it
-    left : (key : KeyParts) → slice_get t.keys (number - 1) ≡ Some key → IsSound p es key × IsPassed m k es e (key, after) fate
+    left : (key : KeyParts) → slice_get t.keys (number - 1) ≡ Some key → IsSound p es key × IsPassed p k es e (key, after) fate
     left key at =
         let among = among_first (place + 1) number waits back in
         let own = h.each place key before false at was hearing in
-        let ready : IsReady m k es (key, before) = subst (λ x. MatchBool x (IsReady m k es (key, before)) (GoesOn m k es e (key, before))) among own.1 in
+        let ready : IsReady k es (key, before) = subst (λ x. MatchBool x (IsReady k es (key, before)) (GoesOn p k es e (key, before))) among own.1 in
         let told = concerned place key at among in
         let now : newest_moment es ≤ e.event.moment = subst (λ f. newest_moment es ≤ f.moment) (sym told.0) late in
         (own.0, heard_left texts p es e key before ready now event told.0 told.1 after fate stepped)
@@ -94,19 +86,19 @@ module _ (texts : Texts) (p : Times) (es : List (Observation KeyParts)) (e : Obs
     pub heard_on : fate ≡ Runs → (u : Tabled) → u.keys ≡ t.keys → u.sets ≡ slice_set t.sets (number - 1) after → ArePassing texts p es e (is_among waits) u b
     heard_on runs u keys sets =
         passed_on texts p es e t u b (is_among (number ∷ waits)) (is_among waits) number given keys apart h after sets hearing once
-        (λ key at. let l = left key at in (l.0, subst (IsPassed m k es e (key, after)) runs l.1))
+        (λ key at. let l = left key at in (l.0, subst (IsPassed p k es e (key, after)) runs l.1))
 
     pub heard_broken : fate ≡ NoRun → (u : Tabled) (c : Troubled) (q : Times) (own : KeyParts) → slice_get t.keys (number - 1) ≡ Some own → q ≡ p → u.keys ≡ t.keys → u.sets ≡ slice_set t.sets (number - 1) (start_of q own)
         → c.deaf.items ≡ slice_set b.deaf.items (number - 1) true → c.broken.items ≡ b.broken.items ++ number ∷ [] → c.wide.items ≡ b.wide.items → ArePassing texts p es e (is_among waits) u c
     heard_broken none u c q own at rules keys sets deaf added kept =
         released_broken texts p es e t u b (is_among (number ∷ waits)) (is_among waits) number given keys apart h c (begins_anew texts p q e.event.moment t u number own at rules sets) deaf added kept
-        (λ key there. let l = left key there in left_breaks p es e key l.0 (subst (IsPassed m k es e (key, after)) none l.1))
+        (λ key there. let l = left key there in (l.0, subst (IsPassed p k es e (key, after)) none l.1))
 
     pub heard_wide : fate ≡ TooWide → (u : Tabled) (c : Troubled) (q : Times) (own : KeyParts) → slice_get t.keys (number - 1) ≡ Some own → q ≡ p → u.keys ≡ t.keys → u.sets ≡ slice_set t.sets (number - 1) (start_of q own)
         → c.deaf.items ≡ slice_set b.deaf.items (number - 1) true → c.wide.items ≡ b.wide.items ++ number ∷ [] → c.broken.items ≡ b.broken.items → ArePassing texts p es e (is_among waits) u c
     heard_wide many u c q own at rules keys sets deaf added kept =
         released_wide texts p es e t u b (is_among (number ∷ waits)) (is_among waits) number given keys apart h c (begins_anew texts p q e.event.moment t u number own at rules sets) deaf added kept
-        (λ key there. let l = left key there in let w = subst (IsPassed m k es e (key, after)) many l.1 in ((l.0, wide-at p es e key w.1), run-over p (es ++ e ∷ []) key w.0))
+        (λ key there. let l = left key there in let w = subst (IsPassed p k es e (key, after)) many l.1 in ((l.0, w.1), w.0))
 
   -- one that has waited longer than it can
   module _ (moment : ℕ) (waits : List ℕ) (late : newest_moment es ≤ moment) (now : e.event.moment ≡ moment) (may : MayPass texts t moment) (watched : AreWatched waits t b)
@@ -131,9 +123,9 @@ module _ (texts : Texts) (p : Times) (es : List (Observation KeyParts)) (e : Obs
     breaks key at =
         let (s, here) = at_place t.sets (number - 1) (let low = in_records in let long = may.long in let as_long = watched.recorded.long in omega arith) in
         let own = h.each (number - 1) key s false at here overdue_hears in
-        left_breaks p es e key own.0 (by s own.1 here (slice_index_or t.records (number - 1) None) there past)
+        (own.0, by s own.1 here (slice_index_or t.records (number - 1) None) there past)
       where
-        by : (s : AnySet) → IsReady m k es (key, s) → slice_get t.sets (number - 1) ≡ Some s → (r : Option (Option ℕ)) → slice_get t.records (number - 1) ≡ Some r → is_overdue moment r ≡ true → ¬ HasRun m key (es ++ e ∷ [])
+        by : (s : AnySet) → IsReady k es (key, s) → slice_get t.sets (number - 1) ≡ Some s → (r : Option (Option ℕ)) → slice_get t.records (number - 1) ≡ Some r → is_overdue moment r ≡ true → ¬ RunsOver p (es ++ e ∷ []) key
         by s ready here None on is = absurd (true≢false (sym is))
         by s ready here (Some limit) on is =
             overdue_breaks texts p es e key s ready (subst (λ n. newest_moment es ≤ n) (sym now) late) (subst (λ n. moment_of s ≤ n) (sym now) (All-place (λ x. moment_of x ≤ moment) t.sets (number - 1) s here may.order))

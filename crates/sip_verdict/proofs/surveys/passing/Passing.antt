@@ -11,8 +11,6 @@ use Rattle.sip_states.specs.Tables.{Tabled, IsGiven}
 use Rattle.sip_states.specs.declared.any_set.AnySet.{AnySet}
 use Rattle.sip_verdict.specs.declared.troubled.Troubled.{Troubled}
 use Rattle.sip_standard.specs.Observation.{Observation}
-use Rattle.sip_verdict.specs.Keyed.{Machines}
-use Rattle.sip_verdict.specs.MessageReading.{key_machines}
 use Rattle.sip_standard.specs.VerdictOf.{RunsOver}
 use Rattle.sip_verdict.specs.SurveyOf.{IsSound, Breaks, Widens}
 use Rattle.sip_verdict.specs.inner.Tracking.{Keeping, IsReady, GoesOn}
@@ -33,15 +31,12 @@ pub same_at : {A : Type 0} (xs : List A) (n : ℕ) (x y : A) → slice_get xs n 
 same_at xs n x y a b = let both : Some x ≡ Some y = sym a ∙ b in cc
 
 module _ (texts : Texts) (p : Times) (es : List (Observation KeyParts)) (e : Observation KeyParts) where
-  abbrev m : Machines KeyParts
-  m = key_machines p
-
-  abbrev k : Keeping KeyParts (KeyParts × AnySet)
+  abbrev k : Keeping (KeyParts × AnySet)
   k = key_keeping texts p
 
   -- whether a key hears or waits is told alike
-  waits_alike : (a b : Bool) (key : KeyParts) (s : AnySet) → a ≡ b → MatchBool a (IsReady m k es (key, s)) (GoesOn m k es e (key, s)) → MatchBool b (IsReady m k es (key, s)) (GoesOn m k es e (key, s))
-  waits_alike a b key s same h = subst (λ x. MatchBool x (IsReady m k es (key, s)) (GoesOn m k es e (key, s))) same h
+  waits_alike : (a b : Bool) (key : KeyParts) (s : AnySet) → a ≡ b → MatchBool a (IsReady k es (key, s)) (GoesOn p k es e (key, s)) → MatchBool b (IsReady k es (key, s)) (GoesOn p k es e (key, s))
+  waits_alike a b key s same h = subst (λ x. MatchBool x (IsReady k es (key, s)) (GoesOn p k es e (key, s))) same h
 
   -- what is said of one transaction stays where more came into trouble
   pub stays : (v w : ℕ → Bool) (b c : Troubled) (number : ℕ) (key : KeyParts) (s : AnySet) (is_deaf : Bool) → v number ≡ w number
@@ -66,7 +61,7 @@ module _ (texts : Texts) (p : Times) (es : List (Observation KeyParts)) (e : Obs
 
     -- it goes on
     module _ (after : AnySet) (sets : u.sets ≡ slice_set t.sets (number - 1) after) (hearing : slice_get b.deaf.items (number - 1) ≡ Some false) where
-      pub passed_on : w number ≡ false → ((key : KeyParts) → slice_get t.keys (number - 1) ≡ Some key → IsSound p es key × GoesOn m k es e (key, after)) → ArePassing texts p es e w u b
+      pub passed_on : w number ≡ false → ((key : KeyParts) → slice_get t.keys (number - 1) ≡ Some key → IsSound p es key × GoesOn p k es e (key, after)) → ArePassing texts p es e w u b
       passed_on done goes = record {
         broken = λ n has. number_still (Breaks p es e) t.keys u.keys n keys (h.broken n has);
         wide = λ n has. number_still (λ key. Widens p es e key × RunsOver p (es ++ e ∷ []) key) t.keys u.keys n keys (h.wide n has);
@@ -78,7 +73,7 @@ module _ (texts : Texts) (p : Times) (es : List (Observation KeyParts)) (e : Obs
           own n key s false at here same is =
               let g = goes key (ap (slice_get t.keys) (sym here) ∙ at) in
               let off : w (n + 1) ≡ false = ap w (omega (arith, here, next)) ∙ done in
-              (g.0, waits_alike false (w (n + 1)) key s (sym off) (subst (λ x. GoesOn m k es e (key, x)) same g.1))
+              (g.0, waits_alike false (w (n + 1)) key s (sym off) (subst (λ x. GoesOn p k es e (key, x)) same g.1))
 
           one : (n : ℕ) (key : KeyParts) (s : AnySet) (d : Bool) → slice_get t.keys n ≡ Some key → slice_get b.deaf.items n ≡ Some d
               → ((n ≡ place) × (after ≡ s)) ⊎ ((n ≢ place) × (slice_get t.sets n ≡ Some s)) → IsPassing texts p es e w b (n + 1) key s d

@@ -1,13 +1,11 @@
 -- An entry of each kind, as the transactions of a survey pass it.
-use Rattle.std.proofs.Common.{◌≡◌, ◌≢◌, ◌≤◌, ◌<◌, inl, inr, ℕ, Bool, true, false, Option, Some, None, List, [], ◌∷◌, ◌++◌, All, AllPairs, Contains, length, slice_get, refl, sym, ap, ◌∙◌, subst, true≢false, arith}
+use Rattle.std.proofs.Common.{◌≡◌, ◌≢◌, ◌≤◌, ◌<◌, inl, inr, ℕ, Bool, true, false, Option, Some, None, List, [], ◌∷◌, ◌++◌, All, AllPairs, length, slice_get, refl, sym, ap, ◌∙◌, subst, true≢false, arith}
 use Rattle.std.specs.Prelude.{fold}
-use Rattle.std.specs.List.{list_any}
 use Rattle.std.proofs.Math.Decide.{dec_le}
-use Rattle.std.proofs.lemmas.List.Elements.{All-head, All-tail, Contains-get_or}
 use Rattle.sip_standard.specs.declared.action.Action.TheVariants.{Restart}
 use Rattle.sip_standard.specs.declared.kind.Kind.TheVariants.{Request}
 use Rattle.sip_standard.specs.declared.kind.Method.TheVariants.{Other}
-use Rattle.sip_standard.specs.Key.{KeyParts, same_key}
+use Rattle.sip_standard.specs.Key.{KeyParts}
 use Rattle.sip_standard.specs.Times.{Times}
 use Rattle.sip_machine.specs.Texts.{Texts, Keeps, text_of}
 use Rattle.sip_machine.specs.NumberedEvent.{NumberedEvent, event_in}
@@ -26,17 +24,17 @@ use Rattle.sip_verdict.specs.declared.observing.Observed.TheVariants as told
 use Rattle.sip_verdict.specs.declared.passing.Hearing.{Hearing}
 use Rattle.sip_verdict.specs.declared.troubled.Troubled.{Troubled}
 use Rattle.sip_standard.specs.Observation.{Observation}
-use Rattle.sip_verdict.specs.Keyed.{with_key, newest_moment}
-use Rattle.sip_verdict.specs.MessageReading.{key_machines, message_reading}
-use Rattle.sip_standard.specs.VerdictOf.{keys_in}
+use Rattle.sip_verdict.specs.Entries.{newest_moment}
+use Rattle.sip_verdict.specs.inner.Keyed.{with_key}
+use Rattle.sip_standard.specs.VerdictOf.{keys_in, Sees}
 use Rattle.sip_verdict.specs.inner.Concerned.{each, is_all}
 use Rattle.sip_verdict.specs.inner.Observing.{IsObserved, restart_observation}
 use Rattle.sip_verdict.specs.inner.TablesTracking.{LeadsOf, is_among, AreTold, TouchesEach}
 use Rattle.sip_verdict.specs.inner.Surveying.{AreWatched, IsFresh, IsFollowed, TablesSurvey, ArePassing, any}
-use Rattle.sip_verdict.proofs.keys.Keys.{cond_true, keys_of-push, contains-among}
+use Rattle.sip_verdict.proofs.keys.Keys.{keys_in-push, keys_in-none, keys_in-all}
 use Rattle.sip_verdict.proofs.keys.Leading.{Leads-grow}
 use Rattle.sip_verdict.proofs.judges.StandingLemmas.{IsGrown, text_of_none, touched_recorded}
-use Rattle.sip_verdict.proofs.tables.TablesTouching.{keys_exact, touches_elim, touches_times, have_numbers, slice_get-more, told_unheard, told_event, told_restart}
+use Rattle.sip_verdict.proofs.tables.TablesTouching.{touches_elim, touches_times, have_numbers, slice_get-more, told_unheard, told_event, told_restart}
 use Rattle.sip_verdict.proofs.surveys.passing.Begun.{begun_same, begun_touched, touched_keys, front_place, back_place}
 
 -- Where the book has one message more, the sets lead to the same.
@@ -58,18 +56,10 @@ grown_survey old new number bytes grown es t deaf h = record { order = h.order; 
     by key s true (leads, unsound) = (grown_leads old new number bytes t.times grown (machine_of_key t.times.rules key) [] (newest_moment es) s leads, unsound)
     by key s false (leads, sound) = (grown_leads old new number bytes t.times grown (machine_of_key t.times.rules key) _ (newest_moment es) s leads, sound)
 
--- keys that are there are no more
-pub known_keys : (p : Times) (keys more : List KeyParts) → All (Contains keys) more → fold (with_key same_key) keys more ≡ keys
-known_keys p keys [] among = refl
-known_keys p keys (key ∷ more) among =
-    ap (λ ks. fold (with_key same_key) ks more)
-    (cond_true (list_any (same_key key) keys) keys (keys ++ key ∷ []) (contains-among (key_machines p) (keys_exact p) key keys (All-head (Contains keys) key more among)))
-    ∙ known_keys p keys more (All-tail (Contains keys) key more among)
-
 -- what is said of an entry once it has passed
 abbrev pub IsTaken : Texts → Times → List (Observation KeyParts) → Item → ℕ → Option Fault → Tabled → Troubled → Type 0
 IsTaken texts p es i moment fault t b =
-    (e : Observation KeyParts) × message_reading.Observes es i e × (e.fault ≡ fault) × (e.event.moment ≡ moment) × (t.keys ≡ keys_in (es ++ e ∷ [])) × ArePassing texts p es e (is_among []) t b
+    (e : Observation KeyParts) × Sees es i e × (e.fault ≡ fault) × (e.event.moment ≡ moment) × (t.keys ≡ keys_in (es ++ e ∷ [])) × ArePassing texts p es e (is_among []) t b
 
 -- what passing does
 abbrev pub Passes : Texts → ℕ → Option Hearing → Tabled → Troubled → Tabled → Troubled → Type 0
@@ -77,25 +67,21 @@ Passes texts moment hearing t b u c =
     (p : Times) (es : List (Observation KeyParts)) (e : Observation KeyParts) → t.times ≡ p → newest_moment es ≤ moment → e.event.moment ≡ moment → AreTold texts t.keys moment hearing e
     → ArePassing texts p es e any t b → ArePassing texts p es e (is_among []) u c
 
--- the keys of the entries, and of one more that concerns none
-pub keys_none : (p : Times) (es : List (Observation KeyParts)) (e : Observation KeyParts) → e.keys ≡ [] → keys_in (es ++ e ∷ []) ≡ keys_in es
-keys_none p es e none = keys_of-push (key_machines p) es e ∙ ap (fold (with_key same_key) (keys_in es)) none
-
 module _ (old mid : Texts) (number : ℕ) (bytes : List ℕ) (grown : IsGrown old number bytes mid) (i : Item) (moment : ℕ) (at : i.moment ≡ moment) where
   -- this was told of the entry
   abbrev Tells : Observed → Type 0
-  Tells told = (es : List (Observation KeyParts)) → (e : Observation KeyParts) × message_reading.Observes es i e × IsObserved mid es i told e
+  Tells told = (es : List (Observation KeyParts)) → (e : Observation KeyParts) × Sees es i e × IsObserved mid es i told e
 
   module _ (t u : Tabled) (b c : Troubled) (long : length b.deaf.items ≡ length t.keys) (sets : length t.sets ≡ length t.keys) (fresh : IsFresh b) (keys : u.keys ≡ t.keys) where
     -- an entry that concerns none
-    silent_taken : (es : List (Observation KeyParts)) (e : Observation KeyParts) (fault : Option Fault) → message_reading.Observes es i e → e.fault ≡ fault → e.event.moment ≡ moment → e.keys ≡ [] → Passes mid moment None t b u c
+    silent_taken : (es : List (Observation KeyParts)) (e : Observation KeyParts) (fault : Option Fault) → Sees es i e → e.fault ≡ fault → e.event.moment ≡ moment → e.keys ≡ [] → Passes mid moment None t b u c
         → TablesSurvey old es t b.deaf.items → newest_moment es ≤ moment → IsTaken mid t.times es i moment fault u c
     silent_taken es e fault seen fault_is now none passes tracks late = (
       e,
       seen,
       fault_is,
       now,
-      keys ∙ tracks.keys ∙ sym (keys_none t.times es e none),
+      keys ∙ tracks.keys ∙ sym (keys_in-none es e none),
       passes t.times es e refl late now (told_unheard mid t.keys moment e now none)
           (begun_same mid es e t b (grown_survey old mid number bytes grown es t b.deaf.items tracks) long sets (subst (λ n. newest_moment es ≤ n) (sym now) late) fresh),
     )
@@ -122,14 +108,12 @@ module _ (old mid : Texts) (number : ℕ) (bytes : List ℕ) (grown : IsGrown ol
         let heard : e.event ≡ event_in mid event =
         ap (λ x. x.event) e_is ∙ ap (λ n. (restart_observation n []).event) at
         ∙ ap (λ text. record { moment = moment; action = Restart; text = text; kind = Request Other; reliable = false }) silent ∙ sym (ap (event_in mid) is) in
-        let now : e.event.moment ≡ moment = ap (λ x. x.moment) heard ∙ ap (λ x. x.moment) is in
-        let same : keys_in (es ++ e ∷ []) ≡ keys_in es = keys_of-push (key_machines t.times) es e ∙ ap (fold (with_key same_key) (keys_in es)) all
-        ∙ known_keys t.times (keys_in es) (keys_in es) (λ n d low. Contains-get_or (keys_in es) n d low) in (
+        let now : e.event.moment ≡ moment = ap (λ x. x.moment) heard ∙ ap (λ x. x.moment) is in (
           e,
           seen,
           ap (λ x. x.fault) e_is,
           now,
-          keys ∙ tracks.keys ∙ sym same,
+          keys ∙ tracks.keys ∙ sym (keys_in-all es e all),
           passes t.times es e refl late now (told_restart mid t.keys moment (record { event = event; concerned = concerned.All }) e refl (all ∙ sym tracks.keys) now heard)
               (begun_same mid es e t b (grown_survey old mid number bytes grown es t b.deaf.items tracks) long sets (subst (λ n. newest_moment es ≤ n) (sym now) late) fresh),
         )
@@ -144,10 +128,10 @@ module _ (old mid : Texts) (number : ℕ) (bytes : List ℕ) (grown : IsGrown ol
       let have = have_numbers (each concerned) (each numbers) t w touched in
       let times = touches_times (each concerned) (each numbers) t w touched in (
         seen,
-        (let (e, observed, is) = tells es in subst (message_reading.Observes es i) is observed),
+        (let (e, observed, is) = tells es in subst (Sees es i) is observed),
         refl,
         now,
-        keys ∙ touched_keys t.times (each concerned) (each numbers) t w touched ∙ ap (λ ks. fold (with_key same_key) ks (each concerned)) tracks.keys ∙ sym (keys_of-push (key_machines t.times) es seen),
+        keys ∙ touched_keys (each concerned) (each numbers) t w touched ∙ ap (λ ks. fold with_key ks (each concerned)) tracks.keys ∙ sym (keys_in-push es seen),
         passes t.times es seen times late now (told_event mid w.keys moment (record { event = event; concerned = numbers }) seen apart some have now refl)
             (begun_touched mid es seen t w b d more (grown_survey old mid number bytes grown es t b.deaf.items tracks) long sets (subst (λ n. newest_moment es ≤ n) (sym now) late) fresh deaf false_all broken wide
             (each concerned) (each numbers) touched),

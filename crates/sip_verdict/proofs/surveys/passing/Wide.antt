@@ -6,9 +6,8 @@ use Rattle.sip_standard.specs.Times.{Times}
 use Rattle.sip_standard.specs.Stands.{Stands, takes, StandsAfter}
 use Rattle.sip_standard.specs.KeyMachine.{machine_of_key, transaction_of}
 use Rattle.sip_standard.specs.Observation.{Observation}
-use Rattle.sip_verdict.specs.MessageReading.{key_machines}
 use Rattle.sip_standard.specs.VerdictOf.{events_for, RunsOver, IsWideAt}
-use Rattle.sip_verdict.proofs.keys.Keys.{newest_moment-push, events_of-concerned}
+use Rattle.sip_verdict.proofs.keys.Keys.{newest_moment-push, events_for-concerned}
 
 -- the first of more than so many
 first_of_many : {X : Type 0} (P : X → Type 0) (n : ℕ) (xs : List X) → n < length xs → All P xs → (x : X) × P x
@@ -22,6 +21,6 @@ wide_runs p es e key (concerned, (many, apart, long, all)) =
     let one = first_of_many (StandsAfter f p (events_for key es) e.event) 1024 many long all in (
       one.0,
       subst (λ m. Stands f p (events_for key (es ++ e ∷ [])) m one.0) (sym (newest_moment-push es e))
-          (subst (λ events. Stands f p events e.event.moment one.0) (sym (events_of-concerned (key_machines p) key es e concerned))
+          (subst (λ events. Stands f p events e.event.moment one.0) (sym (events_for-concerned key es e concerned))
           (takes (events_for key es) e.event one.1.0 one.0 one.1.1 one.1.2)),
     )

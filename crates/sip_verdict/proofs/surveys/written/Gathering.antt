@@ -17,18 +17,16 @@ use Rattle.sip_standard.specs.declared.verdict.Verdict.{Verdict}
 use Rattle.sip_standard.specs.declared.verdict.Verdict.TheVariants.{Legal, Malformed, Breach, Undecided, LogFault as FaultOfLog}
 use Rattle.sip_standard.specs.Observation.{Observation}
 use Rattle.sip_standard.specs.ListingOf.{trouble_of}
-use Rattle.sip_verdict.specs.MessageReading.{message_reading}
-use Rattle.sip_standard.specs.VerdictOf.{keys_in, HasTrouble, IsVerdictAfter, IsVerdictOf}
+use Rattle.sip_standard.specs.Seen.{AreSeen}
+use Rattle.sip_standard.specs.VerdictOf.{keys_in, HasTrouble, IsVerdictAfter, IsVerdictOf, Sees}
 use Rattle.sip_verdict.specs.SurveyOf.{AreFoundAt, IsSurveyAfter}
 use Rattle.sip_verdict.specs.Surveys.{Surveying, SurveysFor}
 use Rattle.sip_verdict.specs.SurveyParts.{IsPartLog}
 use Rattle.sip_verdict.specs.inner.SurveyingLogs.{AreTaken, IsSurveyIn, IsTaken, SurveysRead, IsToldIn}
 use Rattle.sip_verdict.specs.inner.Walking.{HasRead}
 use Rattle.sip_verdict.proofs.judges.StandingLemmas.{same_some}
-use Rattle.sip_verdict.proofs.judges.JudgingLemmas.{observed-push}
-use Rattle.sip_verdict.proofs.verdicts.VerdictLemmas.{observed-seen}
+use Rattle.sip_verdict.proofs.judges.JudgingLemmas.{seen-push}
 use Rattle.sip_verdict.specs.SurveyText.{IsSurveyText, end_text}
-use Rattle.sip_verdict.specs.Reading.{AreObserved}
 use Rattle.sip_log.specs.Reading as log
 use Rattle.sip_verdict.specs.declared.survey_end.SurveyEnd.TheVariants as ended
 
@@ -62,10 +60,10 @@ survey_in (Some part) input p items takens close found end log are whole = inr (
 
 -- these are the entries of the survey
 pub entries_in : (part : Option PartOf) (input : List ℕ) (p : Times) (items takens : List Item) (es : List (Observation KeyParts)) (close : LogEnd) (found : List Finding) (end : SurveyEnd) (text : List ℕ)
-    → LogSays input p items close → AreTaken part items takens → AreObserved message_reading [] takens es → IsSurveyIn part input found end → IsSurveyText es found end text → IsToldIn part input found end text
+    → LogSays input p items close → AreTaken part items takens → AreSeen [] takens es → IsSurveyIn part input found end → IsSurveyText es found end text → IsToldIn part input found end text
 entries_in None input p items takens es close found end text log are seen survey told =
-    (survey, (es, inr (p, items, close, log, observed-seen [] items es (subst (λ is. AreObserved message_reading [] is es) (taken_whole items takens are) seen)), told))
-entries_in (Some part) input p items takens es close found end text log are seen survey told = (survey, (es, inr (p, items, close, takens, log, taken_part part items takens are, observed-seen [] takens es seen), told))
+    (survey, (es, inr (p, items, close, log, subst (λ is. AreSeen [] is es) (taken_whole items takens are) seen), told))
+entries_in (Some part) input p items takens es close found end text log are seen survey told = (survey, (es, inr (p, items, close, takens, log, taken_part part items takens are, seen), told))
 
 pub told_without : (part : Option PartOf) (input : List ℕ) (end : SurveyEnd) → LacksHeader input → end ≡ ended.LogFault 0 Header → IsToldIn part input [] end (end_text end 0)
 told_without None input end lacks same = (inl (lacks, refl, same), ([], inl (lacks, refl), ([], refl, refl)))
@@ -79,7 +77,7 @@ survey_without (Some part) input end lacks same = inl (lacks, refl, same)
 module _ (part : Option PartOf) (start : Option (List ℕ)) (now : log.ReaderState) (s : Surveying) (found : List Finding) (read : SurveysRead part s found start now) where
   -- one more entry was read and taken so, and this was found at it
   unfoldable pub found_on : (e cut : Entry) (new : log.ReaderState) → HasRead start s.tables.times (read.items ++ item e ∷ []) new → IsTaken part (item e) (item cut) → (k : Surveying) → k.tables.times ≡ s.tables.times
-      → (seen : Observation KeyParts) (here : List Finding) → message_reading.Observes read.es (item cut) seen → AreFoundAt s.tables.times read.es seen here → SurveysFor k (read.es ++ seen ∷ [])
+      → (seen : Observation KeyParts) (here : List Finding) → Sees read.es (item cut) seen → AreFoundAt s.tables.times read.es seen here → SurveysFor k (read.es ++ seen ∷ [])
       → SurveysRead part k (found ++ here) start new
   found_on e cut new more is_taken k times seen here observed are stands =
       let p = s.tables.times in
@@ -88,7 +86,7 @@ module _ (part : Option PartOf) (start : Option (List ℕ)) (now : log.ReaderSta
         taken = read.taken ++ item cut ∷ [];
         es = read.es ++ seen ∷ [];
         are_taken = taken_push part read.items read.taken (item e) (item cut) read.are_taken is_taken;
-        seen = observed-push message_reading [] read.taken read.es (item cut) seen read.seen observed;
+        seen = seen-push [] read.taken read.es (item cut) seen read.seen observed;
         follows = stands;
         read = subst (λ t. HasRead start t (read.items ++ item e ∷ []) new) (sym times) more;
         front = λ rest close later end left.
@@ -103,7 +101,7 @@ module _ (part : Option PartOf) (start : Option (List ℕ)) (now : log.ReaderSta
   -- what is found at the next entry is put after what was found before
   pub gathered_on : (e cut : Entry) (new : log.ReaderState) → HasRead start s.tables.times (read.items ++ item e ∷ []) new → IsTaken part (item e) (item cut) → (k : Surveying) → k.tables.times ≡ s.tables.times
       → (items : List Finding)
-      → ((es : List (Observation KeyParts)) → SurveysFor s es → (seen : Observation KeyParts) × (here : List Finding) × message_reading.Observes es (item cut) seen
+      → ((es : List (Observation KeyParts)) → SurveysFor s es → (seen : Observation KeyParts) × (here : List Finding) × Sees es (item cut) seen
       × AreFoundAt s.tables.times es seen here × (items ≡ found ++ here) × SurveysFor k (es ++ seen ∷ []))
       → SurveysRead part k items start new
   gathered_on e cut new more is_taken k times items says =

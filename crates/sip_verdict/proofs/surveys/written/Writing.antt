@@ -20,8 +20,7 @@ use Rattle.sip_verdict.specs.declared.surveying.Counts.{Counts}
 use Rattle.sip_standard.specs.declared.verdict.Verdict.{Verdict}
 use Rattle.sip_standard.specs.Observation.{Observation}
 use Rattle.sip_standard.specs.ListingOf.{trouble_of}
-use Rattle.sip_verdict.specs.MessageReading.{message_reading}
-use Rattle.sip_standard.specs.VerdictOf.{keys_in, IsVerdictOf}
+use Rattle.sip_standard.specs.VerdictOf.{keys_in, IsVerdictOf, Sees}
 use Rattle.sip_verdict.specs.SurveyOf.{AreFoundAt, IsSurveyAfter, HoldsOf, IsFoundAt, verdict_of}
 use Rattle.sip_verdict.specs.SurveyText.{SumsUp, end_text, is_undecided, AreWordsOf, IsFirstOf, IsLastOf, IsTextOf, entry_of, transaction_words}
 use Rattle.sip_verdict.specs.Surveys.{Surveying, SurveysFor}
@@ -165,7 +164,7 @@ module _ (part : Option PartOf) (start : Option (List ℕ)) (now : log.ReaderSta
   -- one more entry was read and taken so, and this was found at it, and these lines were written of it
   pub surveys_on : (e cut : Entry) (new : log.ReaderState) → HasRead start s.tables.times (read.items ++ item e ∷ []) new → IsTaken part (item e) (item cut) → (k : Surveying) → k.tables.times ≡ s.tables.times
       → (items : List Finding)
-      → ((es : List (Observation KeyParts)) → SurveysFor s es → (seen : Observation KeyParts) × (here : List Finding) × message_reading.Observes es (item cut) seen
+      → ((es : List (Observation KeyParts)) → SurveysFor s es → (seen : Observation KeyParts) × (here : List Finding) × Sees es (item cut) seen
       × AreFoundAt s.tables.times es seen here × (items ≡ here) × SurveysFor k (es ++ seen ∷ []))
       → (text : List ℕ) → AreLinesBy k items text → ToldSoFar part k (found ++ items) (lines ++ text) start new
   unfolding found_on

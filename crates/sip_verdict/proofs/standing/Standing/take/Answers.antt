@@ -2,7 +2,7 @@ use Rattle.std.proofs.Common.{[], ◌∙◌, ap, inl, length, refl, arith, subst
 use Rattle.sip_machine.specs.Texts.{Keeps}
 use Rattle.sip_log.specs.Told.{item}
 use Rattle.sip_standard.specs.Observation.{fault_observation}
-use Rattle.sip_verdict.specs.MessageReading.{message_reading}
+use Rattle.sip_standard.specs.VerdictOf.{Sees}
 use Rattle.sip_verdict.specs.inner.Numbering.{StaysNumbered}
 use Rattle.sip_verdict.specs.inner.TablesTracking.{HaveNumbers, MayHear}
 use Rattle.sip_verdict.specs.inner.Concerned.{each}
@@ -101,7 +101,7 @@ pub returns-in-Fault-clause-judged : goal.returns-in-Fault-clause-judged
 returns-in-Fault-clause-judged g c = λ es tracks counts newest.
     let (e, seen, is) = (rw c.in-Fault.is at c.in_ok-told.ensures.observed) es in (
       fault_observation (item c.args.entry.now) c.in-Fault.fault,
-      subst (message_reading.Observes es (item c.args.entry.now)) is seen,
+      subst (Sees es (item c.args.entry.now)) is seen,
       (counts, refl),
       tt,
     )

@@ -44,11 +44,11 @@ judges_front p end v before (item ∷ items) rest (e ∷ es) seen good left =
     )
 
 module _ (p : Times) (Follows : List (Observation KeyParts) → Type 0) (start : Option (List ℕ)) (now : log.ReaderState) (judged : Judged p Follows start now) (good : IsGood p judged.es) where
-  -- the log goes on so after them
+  -- a verdict after the entries that were judged is that of the log
   goes_on : (rest : List Item) (end : LogEnd) (v : Verdict) → IsVerdictAfter p judged.es rest end v → (input : List ℕ) → LogSays input p (judged.items ++ rest) end → IsVerdictOf input v
   goes_on rest end v left input is = inr (p, judged.items ++ rest, end, is, judges_front p end v [] judged.items rest judged.es judged.observed good left)
 
-  -- it ends so after them
+  -- a verdict at the end of the log is that of the input
   pub judged_ends : (end : LogEnd) (v : Verdict) → IsVerdictAfter p judged.es [] end v → IfSome start (λ input. LogSays input p judged.items end) → IfSome start (λ input. IsVerdictOf input v)
   judged_ends end v left logs =
       IfSome-map start (λ input. LogSays input p judged.items end) (λ input. IsVerdictOf input v)

@@ -71,7 +71,7 @@ module _ (key : KeyParts) where
   events-append front more = ap (map (λ e. e.event)) (filter-append (concerns key) front more) ∙ map-append (λ e. e.event) (filter (concerns key) front) (filter (concerns key) more)
 
 -- a run over entries in the order of their moments holds one over the first of them
-pub fewer-entries : (p : Times) (key : KeyParts) (front more : List (Observation KeyParts)) → AllPairs IsNotBehind (front ++ more) → RunsOver p (front ++ more) key → RunsOver p front key
+pub fewer-entries : (p : Times) (key : KeyParts) (front more : List (Observation KeyParts)) → AllPairs IsNotAfter (front ++ more) → RunsOver p (front ++ more) key → RunsOver p front key
 fewer-entries p key front more order run =
     let machine = machine_of_key p.rules key in
     let r = key_rules p machine in

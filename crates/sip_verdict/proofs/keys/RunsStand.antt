@@ -5,9 +5,10 @@ use Rattle.sip_standard.specs.Times.{Times}
 use Rattle.sip_standard.specs.MachineEvent.{MachineEvent}
 use Rattle.sip_standard.specs.KeyMachine.{MachineKind, transaction_of}
 use Rattle.sip_standard.specs.Stands.{Stands, StandsAfter}
-use Rattle.sip_states.specs.KeySets.{PhaseOf, coded_holds, key_rules}
+use Rattle.sip_states.specs.KeySets.{PhaseOf, key_rules}
+use Rattle.sip_states.proofs.keyed.KeySetLaws.{coded_holds}
 use Rattle.sip_states.specs.Runs.{AfterRun, IsWide}
-use Rattle.sip_states.proofs.runs.StandsLemmas.{stands-runs, behind-after}
+use Rattle.sip_states.proofs.runs.StandsLemmas.{stands-runs, stands-after}
 use Rattle.sip_verdict.specs.inner.Stepping.{RunsUntil}
 
 -- a run of the machine over the events stands at the moment
@@ -36,12 +37,12 @@ module _ (p : Times) (machine : MachineKind) (events : List MachineEvent) where
 
     pub wide-stands : IsWide Last → AreTooMany machine After
     wide-stands wide =
-        (wide.many, wide.distinct, wide.wide, All-weaker Last After (λ y last. (behind-after (transaction_of machine).figure (coded_holds machine).is_figure p events e y).1 last) wide.many wide.each)
+        (wide.many, wide.distinct, wide.wide, All-weaker Last After (λ y last. (stands-after (transaction_of machine).figure (coded_holds machine).is_figure p events e y).1 last) wide.many wide.each)
 
     pub stands-wide : AreTooMany machine After → IsWide Last
     stands-wide (many, distinct, wide, each) = record {
       many = many;
       distinct = distinct;
       wide = wide;
-      each = All-weaker After Last (λ y after. (behind-after (transaction_of machine).figure (coded_holds machine).is_figure p events e y).0 after) many each;
+      each = All-weaker After Last (λ y after. (stands-after (transaction_of machine).figure (coded_holds machine).is_figure p events e y).0 after) many each;
     }

@@ -6,7 +6,7 @@ use Rattle.sip_standard.specs.Times.{Times}
 use Rattle.sip_standard.specs.MachineEvent.{MachineEvent}
 use Rattle.sip_standard.specs.KeyMachine.{MachineKind, machine_of_key}
 use Rattle.sip_states.specs.KeySets.{PhaseOf, key_rules}
-use Rattle.sip_machine.specs.Rules.{Rules}
+use Rattle.sip_machine.specs.Rules.{MachineRules}
 use Rattle.sip_verdict.specs.declared.passing.Fate.{Fate}
 use Rattle.sip_verdict.specs.declared.passing.Fate.TheVariants.{Runs, NoRun, TooWide}
 use Rattle.sip_standard.specs.Observation.{Observation}
@@ -23,7 +23,7 @@ module _ {T : Type 0} (p : Times) (k : Keeping T) (es : List (Observation KeyPar
   abbrev machine : MachineKind
   machine = machine_of_key p.rules (k.key t)
 
-  abbrev r : Rules (PhaseOf machine)
+  abbrev r : MachineRules (PhaseOf machine)
   r = key_rules p machine
 
   -- a run over the events that stands at the newest moment is one of the key

@@ -13,7 +13,8 @@ use Rattle.sip_machine.proofs.texts.RetainLemmas.{length-only}
 use Rattle.sip_states.specs.Runs.{Wait, RuledRun}
 use Rattle.sip_states.specs.Held.{Held}
 use Rattle.sip_standard.specs.KeyMachine.{MachineKind, machine_of_key, transaction_of}
-use Rattle.sip_states.specs.KeySets.{PhaseOf, StateOf, key_rules, coded_holds}
+use Rattle.sip_states.specs.KeySets.{PhaseOf, StateOf, key_rules}
+use Rattle.sip_states.proofs.keyed.KeySetLaws.{coded_holds}
 use Rattle.sip_states.specs.Meaning.{HasWaited}
 use Rattle.sip_states.specs.AnySet.{meaning_of, moment_of, SetWaits}
 use Rattle.sip_states.specs.Sweep.{numbers_of, IsAdvanced}
@@ -48,7 +49,7 @@ stays_first {X} r lawful m y run = go ((Wait-cases r lawful (λ x. x ≡ r.first
 abbrev pub StandsNaming : Times → MachineKind → List MachineEvent → ℕ → List ℕ → Type 0
 StandsNaming p machine events moment text = (y : PhaseOf machine) × Stands (transaction_of machine).figure p events moment y × Contains (messages_of machine y) text
 
--- so it is by the machine's rules
+-- a state that names the text is that of a run by the machine's rules
 names_stand : (p : Times) (machine : MachineKind) (events : List MachineEvent) (moment : ℕ) (text : List ℕ) → StandsNaming p machine events moment text ↔ RunNames (key_rules p machine) (messages_of machine) events moment text
 names_stand p machine events moment text =
     let same = stands-runs (transaction_of machine).figure (coded_holds machine).is_figure p events moment in

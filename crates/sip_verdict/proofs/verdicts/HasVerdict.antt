@@ -117,11 +117,11 @@ judges_some p es (item ∷ items) end never =
     fine_or_trouble p es seen.0 (λ v trouble. never (v, (seen.0, seen.1, inl trouble))) (λ fine.
     judges_some p (es ++ seen.0 ∷ []) items end (λ left. never (left.0, (seen.0, seen.1, inr (fine.formed, fine.runs, fine.narrow, left.1))))))
 
--- so has a log
+-- a log has a verdict
 verdict_of_log : (input : List ℕ) (log : Log) → IsLogOf input log → Weakly ((v : Verdict) × IsVerdictOf input v)
 verdict_of_log input Faulty is never = never (LogFault 0 Header, inl (is, refl))
 verdict_of_log input (Readable p items end) is never = judges_some p [] items end (λ one. never (one.0, inr (p, items, end, is, one.1)))
 
--- and each input
+-- each input has a verdict
 pub has_verdict : (input : List ℕ) → ¬ ((v : Verdict) → ¬ (IsVerdictOf input v))
 has_verdict input never = let log = log_is_some input in verdict_of_log input log.0 log.1 (λ one. never one.0 one.1)

@@ -22,7 +22,7 @@ use Rattle.sip_verdict.proofs.tables.TablesPassing.{at_place}
 use Rattle.sip_verdict.proofs.surveys.found.Numbers.{AreNumbers}
 use Rattle.sip_verdict.proofs.surveys.found.FoundParts.{listed, listed_found}
 use Rattle.sip_verdict.proofs.surveys.found.Ordered.{ordered_append}
-use Rattle.sip_verdict.proofs.surveys.OneFinding.{sound_fewer}
+use Rattle.sip_verdict.proofs.surveys.found.OneFinding.{sound_fewer}
 use Rattle.sip_verdict.proofs.surveys.found.Sound.{sound_push}
 use Rattle.sip_verdict.proofs.surveys.passing.Wide.{wide_runs}
 use Rattle.sip_verdict.proofs.surveys.passing.Passing.{same_at}

@@ -7,12 +7,14 @@ ghost use Rattle.sip_states.specs.AnySet.{moment_of};
 ghost use Rattle.sip_states.specs.Sweep.{AdvancesAll, AdvancesSome, AppendsNamed};
 ghost use Rattle.sip_states.specs.inner.Advance.{AdvancesAt, AdvancesSomeAt};
 ghost use Rattle.sip_states.specs.inner.Marks.{AreMarked, AreMoved, IsMarked};
+ghost use Rattle.sip_states.specs.Kept.{kept_tables};
 ghost use Rattle.sip_states.specs.Restarting.{AreToRestart};
 ghost use Rattle.sip_states.specs.Tables.{IsGiven, HasState, Settles, StartsAnew, Touches, due_of, most_keys, with_key};
 
 use crate::agenda::Agenda;
 use crate::any_set::AnySet;
 use crate::each_once::keep_ascending;
+use crate::keeping::keep_entries;
 use crate::marks::Marks;
 use indexmap::IndexMap;
 use sip_key::Key;
@@ -316,6 +318,23 @@ impl<H: BuildHasher> Tables<H> {
         ensures { self.new ≡ self.old }
     {
         unmark_quiet(&mut self.moved, &mut self.marks, &mut self.sets);
+    }
+
+    /// Keeps the keys at which the flag is true, in their order: they are numbered anew. On an error nothing changes.
+    pub fn keep(&mut self, flags: &[bool]) -> Result<(), AllocError>
+        requires { length flags.now ≡ length self.old.keys }
+        ensures ok { OnOk result (self.new ≡ kept_tables flags.now self.old) }
+        ensures err { OnErr result (self.new ≡ self.old) }
+    {
+        let alloc = *self.sets.allocator();
+        let agenda = self.agenda.kept(alloc, flags)?;
+        let marks = Marks::all(alloc, agenda.len())?;
+        let moved = Marks::all(alloc, agenda.len())?;
+        keep_entries(&mut self.sets, flags);
+        self.agenda = agenda;
+        self.marks = marks;
+        self.moved = moved;
+        Ok(())
     }
 
     /// The key with this number.

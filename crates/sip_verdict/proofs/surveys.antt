@@ -5,6 +5,7 @@ pub mod Cutting
 pub mod Ended
 pub mod FirstFinding
 pub mod Forgetting
+pub mod Forgotten
 pub mod Found
 pub mod FoundParts
 pub mod Gathering
@@ -26,6 +27,7 @@ pub mod PartFaults
 pub mod PartLogs
 pub mod Parts
 pub mod Passing
+pub mod Quiet
 pub mod Remembered
 pub mod Sound
 pub mod Swept

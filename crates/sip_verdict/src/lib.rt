@@ -6,6 +6,7 @@ mod concerned;
 mod entries;
 mod finding;
 mod following;
+mod forgetting;
 mod forgetting_laws;
 mod gathering;
 mod histories;

@@ -23,7 +23,7 @@ concerns key e = list_any (same_key key) e.keys
 
 module _ (chosen : KeyParts → Bool) where
   -- a chosen key is among keys exactly if it is among the chosen ones of them
-  among_chosen : (key : KeyParts) → chosen key ≡ true → (keys : List KeyParts) → list_any (same_key key) (filter chosen keys) ≡ list_any (same_key key) keys
+  pub among_chosen : (key : KeyParts) → chosen key ≡ true → (keys : List KeyParts) → list_any (same_key key) (filter chosen keys) ≡ list_any (same_key key) keys
   among_chosen key is [] = refl
   among_chosen key is (k ∷ keys) = go (chosen k) refl (same_key key k) refl (among_chosen key is keys)
     where

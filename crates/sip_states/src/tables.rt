@@ -3,8 +3,8 @@ ghost use Rattle.std.specs.Prelude.{◌≡◌, ◌≢◌, ◌<◌, ◌≤◌, �
 ghost use Rattle.std.specs.Borrow.{sem};
 ghost use Rattle.indexmap.specs.IndexMap.{keys, values, index_map_len, with_value_at};
 ghost use Rattle.sip_states.specs.Agenda.{is_overdue};
-ghost use Rattle.sip_states.specs.AnySet.{moment_of};
-ghost use Rattle.sip_states.specs.Sweep.{AdvancesAll, AdvancesSome, AppendsNamed};
+ghost use Rattle.sip_states.specs.AnySet.{moment_of, SetWaits};
+ghost use Rattle.sip_states.specs.Sweep.{AdvancesAll, AdvancesSome, AppendsNamed, ChangesSets};
 ghost use Rattle.sip_states.specs.inner.Advance.{AdvancesAt, AdvancesSomeAt};
 ghost use Rattle.sip_states.specs.inner.Marks.{AreMarked, AreMoved, IsMarked};
 ghost use Rattle.sip_states.specs.Kept.{kept_tables};
@@ -286,6 +286,21 @@ impl<H: BuildHasher> Tables<H> {
     {
         advance_each(&mut self.sets, self.marks.marked(), moment)?;
         unmark_silent(&mut self.marks, &mut self.sets)
+    }
+
+    /// Lets every set wait until the moment, in milliseconds. On an error some have waited, and the others are as before.
+    pub fn wait_all(&mut self, moment: u64) -> Result<(), AllocError>
+        requires { All (λ set. moment_of set ≤ moment) self.old.sets }
+        ensures ok { OnOk result (ChangesSets (SetWaits moment) self.old self.new) }
+        ensures err { OnErr result (AdvancesSome moment self.old self.new) }
+    {
+        let alloc = *self.sets.allocator();
+        let marks = Marks::all(alloc, self.sets.len())?;
+        let moved = Marks::all(alloc, self.sets.len())?;
+        self.marks = marks;
+        self.moved = moved;
+        advance_each(&mut self.sets, self.marks.marked(), moment)?;
+        Ok(())
     }
 
     /// Appends the numbers of the messages that the sets name, ascending, each once. On an error the vector is as before.

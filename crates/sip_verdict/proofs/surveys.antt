@@ -22,6 +22,7 @@ pub mod Numbers
 pub mod Once
 pub mod OneFinding
 pub mod OneSurvey
+pub mod Onward
 pub mod Ordered
 pub mod PartFaults
 pub mod PartLogs
@@ -34,6 +35,7 @@ pub mod Swept
 pub mod Taking
 pub mod Taken
 pub mod Unheard
+pub mod Waited
 pub mod Waiting
 pub mod Watching
 pub mod Wide

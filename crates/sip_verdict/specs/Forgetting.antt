@@ -1,5 +1,5 @@
 -- What a survey that forgets transactions stands for.
-use Rattle.std.specs.Prelude.{◌≡◌, ◌≤◌, ◌↔◌, ◌⊎◌, ℕ, Bool, false, Some, List, map, max, filter, slice_get}
+use Rattle.std.specs.Prelude.{◌≡◌, ◌≤◌, ◌↔◌, ◌⊎◌, ℕ, Bool, false, List, ◌++◌, ◌∷◌, length, map, filter}
 use Rattle.sip_standard.specs.Key.{KeyParts}
 use Rattle.sip_standard.specs.Times.{Times}
 use Rattle.sip_standard.specs.MachineEvent.{MachineEvent}
@@ -8,13 +8,8 @@ use Rattle.sip_standard.specs.Stands.{Stands}
 use Rattle.sip_standard.specs.KeyMachine.{MachineKind, machine_of_key, transaction_of}
 use Rattle.sip_standard.specs.Observation.{Observation}
 use Rattle.sip_standard.specs.VerdictOf.{events_for}
-use Rattle.sip_states.specs.AnySet.{IsQuietSet}
-use Rattle.sip_states.specs.Tables.{Tabled}
-use Rattle.sip_states.specs.declared.any_set.AnySet.{AnySet}
-use Rattle.sip_verdict.specs.declared.histories.Histories.{Histories}
-use Rattle.sip_verdict.specs.declared.histories.History.{History}
 use Rattle.sip_verdict.specs.Keyed.{newest_moment}
-use Rattle.sip_verdict.specs.SurveyOf.{IsSound}
+use Rattle.sip_verdict.specs.SurveyOf.{IsSound, Breaks, Widens}
 use Rattle.sip_verdict.specs.SurveyLaws.{IsIdleAgain}
 use Rattle.sip_verdict.specs.SurveyText.{IsLastOf}
 
@@ -34,10 +29,12 @@ IsOver p es key =
     ¬ (IsSound p es key)
     ⊎ (IsIdleAgain (machine_of_key p.rules key) p (events_for key es) (newest_moment es) ⊎ HasEnded (machine_of_key p.rules key) p (events_for key es) (newest_moment es))
 
--- of the transactions of the entries those are not kept, and no others, whose sets are quiet and that no entry concerns whose number is above this
--- one; each of them is over
-pub record ForgetsBy (t : Tabled) (b : Histories) (until : ℕ) (es : List (Observation KeyParts)) (kept : KeyParts → Bool) : Type 0 where
-  pub just : (n : ℕ) (key : KeyParts) (set : AnySet) (h : History) → slice_get t.keys n ≡ Some key → slice_get t.sets n ≡ Some set → slice_get b.each.items n ≡ Some h
-      → (kept key ≡ false) ↔ (IsQuietSet set × (max h.last b.restart ≤ until))
-  pub over : (key : KeyParts) → kept key ≡ false → IsOver t.times es key
-  pub past : (key : KeyParts) → kept key ≡ false → (last : ℕ) × IsLastOf es key last × (last ≤ until)
+-- just those transactions of the entries are not kept that are over, and whose last entry has a number up to this one
+abbrev pub ForgetsUpTo : ℕ → Times → List (Observation KeyParts) → (KeyParts → Bool) → Type 0
+ForgetsUpTo until p es kept = (key : KeyParts) → (kept key ≡ false) ↔ (IsOver p es key × ((last : ℕ) × IsLastOf es key last × (last ≤ until)))
+
+-- at the entry with the same number of those that came after old and after left, the key has the same trouble
+abbrev pub HasSameTroubleAfter : Times → (old left : List (Observation KeyParts)) → (es others : List (Observation KeyParts)) → KeyParts → Type 0
+HasSameTroubleAfter p old left es others key =
+    (front back : List (Observation KeyParts)) (e f : Observation KeyParts) (rest more : List (Observation KeyParts)) → es ≡ front ++ e ∷ rest → others ≡ back ++ f ∷ more
+    → length front ≡ length back → (Breaks p (old ++ front) e key ↔ Breaks p (left ++ back) f key) × (Widens p (old ++ front) e key ↔ Widens p (left ++ back) f key)

@@ -9,10 +9,11 @@ ghost use Rattle.sip_standard.specs.Observation.{Observation};
 ghost use Rattle.sip_verdict.specs.MessageReading.{message_reading, ConcernsNone};
 ghost use Rattle.sip_standard.specs.VerdictOf.{keys_in};
 ghost use Rattle.sip_verdict.specs.SurveyOf.{AreFoundAt};
-ghost use Rattle.sip_verdict.specs.Forgetting.{ForgetsBy, remembered};
+ghost use Rattle.sip_verdict.specs.Forgetting.{ForgetsUpTo, remembered};
+ghost use Rattle.sip_verdict.specs.Named.{AreMany};
 ghost use Rattle.sip_verdict.specs.SurveyText.{IsFirstOf, IsLastOf};
 ghost use Rattle.sip_verdict.specs.Judging.{MayComeNext};
-ghost use Rattle.sip_verdict.specs.Surveys.{AreFewKept, MayAnswer, SurveysFor, end_after};
+ghost use Rattle.sip_verdict.specs.Surveys.{AreFewKept, IsStillNamed, MayAnswer, SurveysFor, end_after};
 
 use crate::entries::find_next;
 use crate::finding::Finding;
@@ -126,14 +127,16 @@ impl<H: BuildHasher + Drop> Survey<H> {
     }
 
     /// Forgets the transactions that are over and that no entry concerns whose number is above `until`: those that are in trouble, are
-    /// idle again, or have ended. It goes on as after the same entries without them. The others are numbered anew, in their order.
+    /// idle again, or have ended. It goes on as after the same entries without them. The others are numbered anew, in their order. The
+    /// messages that are kept then are just those that the others name.
     ///
     /// Of one that was idle again, as a server is that has ended, nothing is lost. A later message of another begins a new transaction:
     /// that a client that ended sends its request again is no breach then. So `until` is best the number that the newest entry had so
     /// long ago that no message of an ended transaction can be on its way. After an error every call answers `StepError::Failed`.
     pub fn forget(&mut self, until: u32) -> Result<(), StepError>
         ensures forgets { OnOk result ((es : List (Observation KeyParts)) → SurveysFor self.old es
-            → (kept : KeyParts → Bool) × ForgetsBy self.old.tables self.old.histories until es kept × SurveysFor self.new (remembered kept es)) }
+            → (kept : KeyParts → Bool) × ForgetsUpTo until self.old.tables.times es kept × SurveysFor self.new (remembered kept es)
+            × AreMany (IsStillNamed self.old.tables.times (remembered kept es)) (length self.new.texts)) }
         ensures answers { MayAnswer self.old.failed result }
         ensures failed { self.new.failed ≡ is_err result }
         ensures newest { OnOk result ((self.new.number ≡ self.old.number) × (self.new.moment ≡ self.old.moment)) }

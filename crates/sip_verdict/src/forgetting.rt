@@ -1,14 +1,15 @@
 //! Forgets transactions that are over.
-ghost use Rattle.std.specs.Prelude.{◌≡◌, ◌↔◌, ◌≤◌, ◌+◌, ◌-◌, [], Bool, List, Some, All, Contains, IfOk, IsTrue, OnOk, slice_get};
+ghost use Rattle.std.specs.Prelude.{◌≡◌, ◌↔◌, ◌≤◌, ◌+◌, ◌-◌, [], Bool, List, Some, All, Contains, IfOk, IsTrue, OnOk, length, slice_get};
 ghost use Rattle.sip_standard.specs.Key.{KeyParts};
 ghost use Rattle.sip_standard.specs.LogSays.{most_entries};
 ghost use Rattle.sip_standard.specs.Observation.{Observation};
 ghost use Rattle.sip_states.specs.Tables.{IsGiven};
 ghost use Rattle.sip_states.specs.declared.any_set.AnySet.{AnySet as AnySetValue};
 ghost use Rattle.sip_verdict.specs.declared.histories.History.{History as HistoryValue};
-ghost use Rattle.sip_verdict.specs.Forgetting.{ForgetsBy, remembered};
+ghost use Rattle.sip_verdict.specs.Forgetting.{ForgetsUpTo, remembered};
 ghost use Rattle.sip_verdict.specs.Keyed.{newest_moment};
-ghost use Rattle.sip_verdict.specs.Surveys.{AreHistories, AreSurveyed};
+ghost use Rattle.sip_verdict.specs.Named.{AreMany};
+ghost use Rattle.sip_verdict.specs.Surveys.{AreHistories, AreSurveyed, IsStillNamed};
 ghost use Rattle.sip_verdict.specs.inner.Forgetting.{AreFlags, IsPast};
 ghost use Rattle.sip_verdict.specs.inner.Surveying.{AreWatched, IsFresh};
 ghost use Rattle.sip_verdict.specs.inner.TablesTracking.{MayTake};
@@ -86,9 +87,11 @@ pub(crate) fn forget<H: BuildHasher>(
     ensures fewer { OnOk result (All (Contains standing.old.book) standing.new.book) }
     ensures forgets { OnOk result ((es : List (Observation KeyParts)) → AreSurveyed standing.old.book standing.old.tables troubled.old.deaf.items left.old es
         → AreHistories es histories.old → newest_moment es ≡ newest.moment
-        → (kept : KeyParts → Bool) × ForgetsBy standing.old.tables histories.old until es kept
-        × AreSurveyed standing.new.book standing.new.tables troubled.new.deaf.items left.new (remembered kept es) × AreHistories (remembered kept es) histories.new) }
+        → (kept : KeyParts → Bool) × ForgetsUpTo until standing.old.tables.times es kept
+        × AreSurveyed standing.new.book standing.new.tables troubled.new.deaf.items left.new (remembered kept es) × AreHistories (remembered kept es) histories.new
+        × AreMany (IsStillNamed standing.old.tables.times (remembered kept es)) (length standing.new.book)) }
 {
+    standing.wait(newest.moment)?;
     standing.tables.known();
     let flags = kept_flags(alloc, &standing.tables, histories, until)?;
     let flags = flags.as_slice();

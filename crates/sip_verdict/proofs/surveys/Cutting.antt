@@ -58,7 +58,7 @@ module _ (chosen : KeyParts → Bool) where
       go b e t f = subst (λ c. OneMore keys k c (list_any (same_key k) keys)) (sym e) (subst (λ c. OneMore keys k b c) (sym f) (by b t e f))
 
   -- the chosen ones of several more
-  filter_keys : (keys more : List KeyParts) → fold (with_key same_key) (filter chosen keys) (filter chosen more) ≡ filter chosen (fold (with_key same_key) keys more)
+  pub filter_keys : (keys more : List KeyParts) → fold (with_key same_key) (filter chosen keys) (filter chosen more) ≡ filter chosen (fold (with_key same_key) keys more)
   filter_keys keys [] = refl
   filter_keys keys (k ∷ more) =
       by (chosen k) refl ∙ ap (λ start. fold (with_key same_key) start (filter chosen more)) (sym (filter_with_key keys k)) ∙ filter_keys (with_key same_key keys k) more

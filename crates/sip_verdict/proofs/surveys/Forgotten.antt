@@ -1,11 +1,11 @@
 -- What a survey keeps, where some of its transactions are forgotten.
-use Rattle.std.proofs.Common.{◌≡◌, ◌≢◌, ◌≤◌, ◌<◌, ◌↔◌, ◌+◌, ◌⊎◌, inl, inr, ℕ, zero, suc, Bool, true, false, cond, Option, Some, None, List, [], ◌∷◌, ◌++◌, All, AllPairs, Contains, length, map, slice_get, refl, sym, ap, ap₂, ◌∙◌, subst, arith, append-nil, true≢false}
-use Rattle.std.specs.Prelude.{filter, max, not, IsTrue}
+use Rattle.std.proofs.Common.{◌≡◌, ◌≢◌, ◌≤◌, ◌<◌, ◌↔◌, ◌+◌, ◌⊎◌, inl, inr, ℕ, zero, suc, Bool, true, false, cond, Option, Some, None, List, [], ◌∷◌, ◌++◌, All, AllPairs, Contains, length, map, slice_get, refl, sym, ap, ap₂, ◌∙◌, subst, arith, append-nil, append_assoc, length-append, true≢false}
+use Rattle.std.specs.Prelude.{filter, flat_map, max, not, IsTrue}
 use Rattle.std.specs.List.{list_any}
 use Rattle.std.proofs.lemmas.Bool.{false≢true}
-use Rattle.std.proofs.lemmas.List.{length-map, map-append}
+use Rattle.std.proofs.lemmas.List.{append_cancel_left, length-map, map-append}
 use Rattle.std.proofs.lemmas.List.Elements.{All-nil, All-cons, All-head, All-tail}
-use Rattle.std.proofs.lemmas.Option.{slice_get_within}
+use Rattle.std.proofs.lemmas.Option.{slice_get_within, slice_get-get_or}
 use Rattle.sip_standard.proofs.Few.{AllPairs-head, AllPairs-tail}
 use Rattle.sip_standard.specs.Key.{KeyParts, same_key}
 use Rattle.sip_key.specs.inner.KeyLaws.{same_key-decides}
@@ -13,7 +13,7 @@ use Rattle.sip_standard.specs.Times.{Times}
 use Rattle.sip_standard.specs.KeyMachine.{machine_of_key}
 use Rattle.sip_standard.specs.Observation.{Observation}
 use Rattle.sip_standard.specs.VerdictOf.{keys_in, events_for}
-use Rattle.sip_machine.specs.Texts.{Texts}
+use Rattle.sip_machine.specs.Texts.{Texts, Keeps}
 use Rattle.sip_states.specs.AnySet.{moment_of, IsKnownSet, IsQuietSet}
 use Rattle.sip_states.specs.Tables.{Tabled}
 use Rattle.sip_states.specs.Kept.{kept_of, kept_tables}
@@ -22,18 +22,24 @@ use Rattle.sip_states.proofs.lists.Kept.{place_of, kept_at, kept_long, kept_few}
 use Rattle.sip_verdict.specs.declared.histories.Histories.{Histories}
 use Rattle.sip_verdict.specs.declared.histories.History.{History}
 use Rattle.sip_verdict.specs.declared.troubled.Troubled.{Troubled}
-use Rattle.sip_verdict.specs.Forgetting.{remembered, IsOver, ForgetsBy}
+use Rattle.sip_verdict.specs.Forgetting.{remembered, IsOver, ForgetsUpTo}
 use Rattle.sip_verdict.specs.Keyed.{newest_moment}
+use Rattle.sip_verdict.specs.MessageReading.{key_machines}
 use Rattle.sip_verdict.specs.SurveyOf.{IsSound}
 use Rattle.sip_verdict.specs.SurveyText.{is_of, IsFirstOf, IsLastOf}
 use Rattle.sip_verdict.specs.Surveys.{IsHistoryOf, AreHistories}
-use Rattle.sip_verdict.specs.inner.Forgetting.{IsPast, AreFlags, TellsPast}
+use Rattle.sip_verdict.specs.inner.Forgetting.{IsPast, AreFlags, AreQuietIfOver, TellsPast}
 use Rattle.sip_verdict.specs.inner.Surveying.{AreWatched, IsFollowed, TablesSurvey}
 use Rattle.sip_verdict.specs.inner.TablesTracking.{LeadsOf, MayPass, MayTake, IsOnRecord, AllAreOnRecord}
+use Rattle.sip_verdict.proofs.keys.Keys.{among-contains, among-fold}
+use Rattle.sip_verdict.proofs.keys.Splitting.{split_compare}
 use Rattle.sip_verdict.proofs.surveys.Cutting.{among_chosen, keys_cut, newest_cut, events_cut, sound_cut}
+use Rattle.sip_verdict.proofs.surveys.Histories.{none_in}
 use Rattle.sip_verdict.proofs.surveys.Quiet.{quiet_over}
 use Rattle.sip_verdict.proofs.surveys.Remembered.{zip_remembered, order_kept}
 use Rattle.sip_verdict.proofs.tables.TablesPassing.{at_place, All-place, All-places}
+use Rattle.sip_verdict.proofs.tables.TablesTouching.{keys_exact}
+use Rattle.sip_verdict.proofs.verdicts.Unique.{All-middle}
 
 -- Which keys are kept, by a flag for each.
 
@@ -148,6 +154,28 @@ module _ (kept : KeyParts → Bool) (key : KeyParts) (is : kept key ≡ true) wh
         (sound_cut kept key is p es (remembered kept es) zip).0 sound,
       )
 
+-- the last entry of a transaction has one number
+last_not_after : (es : List (Observation KeyParts)) (key : KeyParts) (m n : ℕ) → IsLastOf es key m → IsLastOf es key n → n ≤ m
+last_not_after es key m n (b, e, a, whole, is, none, counts) (c, f, d, other, at, last, number) = by (split_compare b a c d e f (sym whole ∙ other))
+  where
+    by : ((b ≡ c) × (e ≡ f)) ⊎ (((zs : List (Observation KeyParts)) × (c ≡ b ++ e ∷ zs)) ⊎ ((zs : List (Observation KeyParts)) × (b ≡ c ++ f ∷ zs))) → n ≤ m
+    by (inl same) = omega (arith, counts, number, ap length same.0)
+    by (inr (inl (zs, later))) =
+        let tail : e ∷ a ≡ (e ∷ zs) ++ f ∷ d = append_cancel_left b (e ∷ a) ((e ∷ zs) ++ f ∷ d) (sym whole ∙ other ∙ ap (λ xs. xs ++ f ∷ d) later ∙ append_assoc b (e ∷ zs) (f ∷ d)) in
+        let after : a ≡ zs ++ f ∷ d = cc in
+        absurd (false≢true (sym (All-middle (λ o. is_of key o ≡ false) zs d f (subst (All (λ o. is_of key o ≡ false)) after none)) ∙ at))
+    by (inr (inr (zs, earlier))) = omega (arith, counts, number, simp length-append at (ap length earlier))
+
+-- one that an entry concerns has a place among the keys
+key_of : (p : Times) (es : List (Observation KeyParts)) (key : KeyParts) (last : ℕ) → IsLastOf es key last → (n : ℕ) × (slice_get (keys_in es) n ≡ Some key)
+key_of p es key last (before, e, after, whole, is, none, counts) = by (list_any (same_key key) (keys_in es)) refl
+  where
+    by : (b : Bool) → list_any (same_key key) (keys_in es) ≡ b → (n : ℕ) × (slice_get (keys_in es) n ≡ Some key)
+    by true among = let (n, inside, there) = among-contains (key_machines p) (keys_exact p) key (keys_in es) among in (n, slice_get-get_or (keys_in es) n key inside ∙ ap Some there)
+    by false lacks =
+        let all = none_in key es (among-fold (key_machines p) (keys_exact p) key [] (flat_map (λ o. o.keys) es) lacks).1 in
+        absurd (false≢true (sym (All-middle (λ o. is_of key o ≡ false) before after e (subst (All (λ o. is_of key o ≡ false)) whole all)) ∙ is))
+
 -- there are as many entries
 pub long_kept : (kept : KeyParts → Bool) (es : List (Observation KeyParts)) → length (remembered kept es) ≡ length es
 long_kept kept [] = refl
@@ -156,6 +184,22 @@ long_kept kept (e ∷ es) = ap suc (long_kept kept es)
 -- the newest moment is the same
 pub newest_kept : (kept : KeyParts → Bool) (es : List (Observation KeyParts)) → newest_moment (remembered kept es) ≡ newest_moment es
 newest_kept kept es = newest_cut kept 0 es (remembered kept es) (zip_remembered kept es)
+
+-- Tables whose sets have waited.
+
+-- the next entry may come
+pub take_waited : (old new : Texts) (t u : Tabled) (number moment : ℕ) → new ≡ old → u.keys ≡ t.keys → MayPass new u moment → AllAreOnRecord u → MayTake old t number moment → MayTake new u number moment
+take_waited old new t u number moment book keys passes recorded may = record {
+  passes = passes;
+  recorded = recorded;
+  numbered = λ n keeps. may.numbered n (subst (λ b. Keeps b n) book keeps);
+  some = λ n keeps. may.some n (subst (λ b. Keeps b n) book keeps);
+  few = (let few = may.few in let same = ap length keys in omega (arith, few, same));
+}
+
+pub watched_waited : (t u : Tabled) (b : Troubled) → u.keys ≡ t.keys → u.records ≡ t.records → AllAreOnRecord u → AreWatched [] t b → AreWatched [] u b
+watched_waited t u b keys records recorded h =
+    record { long = h.long ∙ sym (ap length keys); recorded = recorded; silent = λ n is. ap (λ rs. slice_get rs n) records ∙ h.silent n is }
 
 module _ (flags : List Bool) (t : Tabled) (long : length flags ≡ length t.keys) (apart : AllPairs (λ a b. a ≢ b) t.keys) where
   abbrev pub kept : KeyParts → Bool
@@ -260,13 +304,16 @@ module _ (flags : List Bool) (t : Tabled) (long : length flags ≡ length t.keys
           (max h.last b.restart, (told.each n key h (ap (λ ks. slice_get ks n) (sym tracks.keys) ∙ at) of).last, past.1),
         )
 
-    pub forgets_kept : ForgetsBy t b until es kept
-    forgets_kept = record {
-      just = λ n key set h at here of.
-          let (flag, is) = at_place flags n (let l = slice_get_within t.keys n key at in omega (arith, l, long)) in
-          let same = kept_by_at flags t.keys apart n key flag at is in
-          let each = says.each n flag set h is here of in
-          (λ gone. each.0 (sym same ∙ gone), λ past. same ∙ each.1 past);
-      over = λ key gone. (forgotten key gone).0;
-      past = λ key gone. (forgotten key gone).1;
-    }
+    -- and so is all that is over, and concerned no later entry
+    module _ (over_quiet : AreQuietIfOver es t) where
+      remembers : (key : KeyParts) → IsOver t.times es key → (last : ℕ) → IsLastOf es key last → last ≤ until → kept key ≡ false
+      remembers key over last is_last low =
+          let (n, there) = key_of t.times es key last is_last in
+          let at : slice_get t.keys n ≡ Some key = ap (λ ks. slice_get ks n) tracks.keys ∙ there in
+          let (set, d, h, here, is, of) = at_key n key at in
+          let (flag, flagged) = at_place flags n (let inside = slice_get_within t.keys n key at in omega (arith, inside, long)) in
+          let not_later = last_not_after es key last (max h.last b.restart) is_last (told.each n key h there of).last in
+          kept_by_at flags t.keys apart n key flag at flagged ∙ (says.each n flag set h flagged here of).1 (over_quiet n key set at here over, omega (arith, not_later, low))
+
+      pub forgets_kept : ForgetsUpTo until t.times es kept
+      forgets_kept key = (forgotten key, λ both. remembers key both.0 both.1.0 both.1.1 both.1.2)

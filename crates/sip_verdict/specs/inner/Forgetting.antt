@@ -1,11 +1,18 @@
 use Rattle.std.specs.Prelude.{◌≡◌, ◌≤◌, ◌↔◌, ℕ, Bool, false, Some, List, length, max, slice_get}
+use Rattle.sip_standard.specs.Key.{KeyParts}
+use Rattle.sip_standard.specs.Observation.{Observation}
 use Rattle.sip_states.specs.AnySet.{IsQuietSet}
 use Rattle.sip_states.specs.Tables.{Tabled}
 use Rattle.sip_states.specs.declared.any_set.AnySet.{AnySet}
 use Rattle.sip_verdict.specs.declared.histories.Histories.{Histories}
 use Rattle.sip_verdict.specs.declared.histories.History.{History}
+use Rattle.sip_verdict.specs.Forgetting.{IsOver}
 
 -- Which transactions a survey forgets.
+
+-- where a transaction is over, its set is quiet
+abbrev pub AreQuietIfOver : List (Observation KeyParts) → Tabled → Type 0
+AreQuietIfOver es t = (n : ℕ) (key : KeyParts) (set : AnySet) → slice_get t.keys n ≡ Some key → slice_get t.sets n ≡ Some set → IsOver t.times es key → IsQuietSet set
 
 -- the set is quiet, and no entry of its transaction has a number above this one
 abbrev pub IsPast : ℕ → ℕ → AnySet → History → Type 0

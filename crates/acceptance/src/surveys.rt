@@ -14,7 +14,7 @@ use std::hash::{BuildHasherDefault, FoldHasher};
 use std::process::Abort;
 use std::test::Fail;
 
-type Hasher = BuildHasherDefault<FoldHasher>;
+pub(crate) type Hasher = BuildHasherDefault<FoldHasher>;
 
 /// The words of a log, and the lines of its survey.
 type Row = (&'static str, &'static str);
@@ -138,15 +138,15 @@ fn a_restart_stands_in_each_part(rt: HostRuntime) -> Result<(), Fail> {
 }
 
 /// The entries of a log as they come, and the survey that takes them.
-struct Surveyed<'a> {
+pub(crate) struct Surveyed<'a> {
     bytes: &'a [u8],
     progress: Progress,
-    survey: Survey<Hasher>,
+    pub(crate) survey: Survey<Hasher>,
 }
 
 impl<'a> Surveyed<'a> {
     /// Reads the header.
-    fn open(alloc: Global, mut bytes: &'a [u8]) -> Result<Surveyed<'a>, LogError> {
+    pub(crate) fn open(alloc: Global, mut bytes: &'a [u8]) -> Result<Surveyed<'a>, LogError> {
         let (params, progress) = Progress::open(alloc, &mut bytes)?;
         Ok(Surveyed {
             bytes,
@@ -156,12 +156,12 @@ impl<'a> Surveyed<'a> {
     }
 
     /// The next entry.
-    fn next(&mut self) -> Result<Option<Entry>, LogError> {
+    pub(crate) fn next(&mut self) -> Result<Option<Entry>, LogError> {
         self.progress.next(&mut self.bytes)
     }
 
     /// How the log ends after the entries that were taken.
-    fn end(self) -> Option<SurveyEnd> {
+    pub(crate) fn end(self) -> Option<SurveyEnd> {
         let Surveyed {
             bytes: _bytes,
             progress: _progress,
@@ -172,7 +172,7 @@ impl<'a> Surveyed<'a> {
 }
 
 /// Takes the entry where it may come next.
-fn take(
+pub(crate) fn take(
     rt: &impl Abort,
     survey: &mut Survey<Hasher>,
     entry: &Entry,
@@ -260,46 +260,4 @@ fn refused_while_a_survey_goes_on(rt: HostRuntime) -> Result<(), Fail> {
     };
     holds(&rt, end.is_none(), "of a survey that failed");
     Err(error.into())
-}
-
-/// Forgets, twice, what is over and what no entry concerns after the one with this number: the second call sees what ended by the first.
-fn forget(survey: &mut Survey<Hasher>, until: u32) -> Result<(), StepError> {
-    survey.forget(until)?;
-    survey.forget(until)
-}
-
-/// Takes the entries of a log, and forgets after each what is over and what no entry concerns after it.
-fn takes_and_forgets(
-    rt: &impl Abort,
-    surveyed: &mut Surveyed<'_>,
-    found: &mut Vec<Finding>,
-) -> Result<(), Fail> {
-    for _ in 0..100 {
-        let Some(entry) = surveyed.next()? else {
-            break;
-        };
-        take(rt, &mut surveyed.survey, &entry, found)?;
-        forget(&mut surveyed.survey, entry.number)?;
-    }
-    Ok(())
-}
-
-/// T4 is 5000 and 64*T1 is 32000. The client of a hears its response at 10 and ends by 5060 (timer K), the server of b sends its own at 110 and
-/// is idle again by 32160 (timer J). The client of c is silent and breaks at the first mark; it is forgotten, and begins anew.
-#[test]
-fn a_survey_forgets_what_is_over(rt: HostRuntime) -> Result<(), Fail> {
-    let words = "S 0 OPTIONS a; R 10 OPTIONS a 200; R 100 OPTIONS b; S 110 OPTIONS b 200; S 120 OPTIONS c; M 20000; M 40000; S 40010 OPTIONS c; R 40020 OPTIONS b";
-    let log = log_of(rt.alloc(), words)?;
-    let mut found = Vec::new(rt.alloc());
-    let mut surveyed = Surveyed::open(rt.alloc(), log.as_str().as_bytes())?;
-    let done = takes_and_forgets(&rt, &mut surveyed, &mut found);
-    let end = surveyed.end();
-    done?;
-    holds(&rt, found.len() == 1, "found");
-    let clean = SurveyEnd::Clean {
-        entries: 9,
-        transactions: 2,
-    };
-    holds(&rt, end == Some(clean), "at the end");
-    Ok(())
 }

@@ -299,7 +299,7 @@ impl<H: BuildHasher> Tables<H> {
         let moved = Marks::all(alloc, self.sets.len())?;
         self.marks = marks;
         self.moved = moved;
-        advance_each(&mut self.sets, self.marks.marked(), moment)?;
+        advance_each(&mut self.sets, self.moved.marked(), moment)?;
         Ok(())
     }
 

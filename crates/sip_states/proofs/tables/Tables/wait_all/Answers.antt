@@ -12,11 +12,11 @@ use Rattle.sip_states.proofs.tables.Tables.wait_all.Goals as goal
 pub advance_each-requires-clause-inside : goal.advance_each-requires-clause-inside
 advance_each-requires-clause-inside g c =
     λ k d low.
-    let marks = c.in_ok-marks.marks in
+    let marks = c.in_ok-moved.moved in
     let index = get_or c.marked.result.now k d in
     let mark : IsMarked marks index = (c.marked.ensures.members index).0 (place_among c.marked.result.now k d low) in
     let within = slice_get_within marks index true mark in
-    omega (arith, within, c.in_ok-marks.ensures.long, c.len.ensures)
+    omega (arith, within, c.in_ok-moved.ensures.long, c.len-2.ensures)
 
 -- every set is marked, whether all have waited or some
 pub invariant_of-self : goal.invariant_of-self
@@ -70,12 +70,12 @@ pub returns-clause-ok : goal.returns-clause-ok
 returns-clause-ok g c =
     let up = c.in_ok-advance_each.ensures.ok in
     let sets = c.self.inside.sets in
-    let marks = c.in_ok-marks.marks in
+    let marks = c.in_ok-moved.moved in
     rw (← c.self.view_is) (record {
       times = refl;
       keys = c.in_ok-advance_each.ensures.keys;
       records = refl;
       long = up.long;
       each = all_advance c.args.moment c.marked.result.now marks (values sets) (values c.advance_each.new.sets)
-          (c.in_ok-marks.ensures.long ∙ c.len.ensures ∙ sym (length-values_of sets.entries)) c.in_ok-marks.ensures.marked c.marked.ensures.members up;
+          (c.in_ok-moved.ensures.long ∙ c.len-2.ensures ∙ sym (length-values_of sets.entries)) c.in_ok-moved.ensures.marked c.marked.ensures.members up;
     })

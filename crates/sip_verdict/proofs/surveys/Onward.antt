@@ -192,9 +192,6 @@ module _ (key : KeyParts) where
     through : (front mid back : Entries) (e c f : Observation KeyParts) → Alike front e mid c → Alike back f mid c → Alike front e back f
     through front mid back e c f a b = ((λ h. b.0.1 (a.0.0 h), λ h. a.0.1 (b.0.0 h)), (λ h. b.1.1 (a.1.0 h), λ h. a.1.1 (b.1.0 h)))
 
-    turned : (front back : Entries) (e f : Observation KeyParts) → Alike front e back f → Alike back f front e
-    turned front back e f a = ((a.0.1, a.0.0), (a.1.1, a.1.0))
-
     -- so it is where both have the same mid
     alike_by : (front mid back : Entries) (e c f : Observation KeyParts) → AllZip (IsCutOf (same_key key)) front mid → AllZip (IsCutOf (same_key key)) back mid → IsCutOf (same_key key) e c → IsCutOf (same_key key) f c
         → Alike front e back f

@@ -16,7 +16,7 @@ advance_each-requires-clause-inside g c =
     let index = get_or c.marked.result.now k d in
     let mark : IsMarked marks index = (c.marked.ensures.members index).0 (place_among c.marked.result.now k d low) in
     let within = slice_get_within marks index true mark in
-    omega (arith, within, c.in_ok-moved.ensures.long, c.len-2.ensures)
+    omega (arith, within, c.in_ok-moved.ensures.long, c.len-2.ensures.len)
 
 -- every set is marked, whether all have waited or some
 pub invariant_of-self : goal.invariant_of-self
@@ -24,8 +24,8 @@ invariant_of-self g c =
     let marks = c.in_ok-marks.marks in
     let moved = c.in_ok-moved.moved in
     let size = c.in_err-advance_each.ensures.size in
-    let marks_long = c.in_ok-marks.ensures.long ∙ c.len.ensures ∙ sym size in
-    let moved_long = c.in_ok-moved.ensures.long ∙ c.len-2.ensures ∙ sym size in (
+    let marks_long = c.in_ok-marks.ensures.long ∙ c.len.ensures.len ∙ sym size in
+    let moved_long = c.in_ok-moved.ensures.long ∙ c.len-2.ensures.len ∙ sym size in (
       subst (λ n. n ≤ most_keys) (sym size) c.self.invariant.0,
       c.self.invariant.1 ∙ sym size,
       marks_long,
@@ -42,8 +42,8 @@ invariant_of-self-2 g c =
     let marks = c.in_ok-marks.marks in
     let moved = c.in_ok-moved.moved in
     let size = c.in_ok-advance_each.ensures.size in
-    let marks_long = c.in_ok-marks.ensures.long ∙ c.len.ensures ∙ sym size in
-    let moved_long = c.in_ok-moved.ensures.long ∙ c.len-2.ensures ∙ sym size in (
+    let marks_long = c.in_ok-marks.ensures.long ∙ c.len.ensures.len ∙ sym size in
+    let moved_long = c.in_ok-moved.ensures.long ∙ c.len-2.ensures.len ∙ sym size in (
       subst (λ n. n ≤ most_keys) (sym size) c.self.invariant.0,
       c.self.invariant.1 ∙ sym size,
       marks_long,
@@ -58,7 +58,7 @@ invariant_of-self-2 g c =
 pub returns-in_err-advance_each-clause-err : goal.returns-in_err-advance_each-clause-err
 returns-in_err-advance_each-clause-err g c =
     let some = c.in_err-advance_each.ensures.err in
-    always_err c.from_residual.result _ (rw (← c.self.view_is) (record {
+    always_err c.from_residual-in_err-advance_each.result _ (rw (← c.self.view_is) (record {
       times = refl;
       keys = c.in_err-advance_each.ensures.keys;
       records = refl;
@@ -77,5 +77,5 @@ returns-clause-ok g c =
       records = refl;
       long = up.long;
       each = all_advance c.args.moment c.marked.result.now marks (values sets) (values c.advance_each.new.sets)
-          (c.in_ok-moved.ensures.long ∙ c.len-2.ensures ∙ sym (length-values_of sets.entries)) c.in_ok-moved.ensures.marked c.marked.ensures.members up;
+          (c.in_ok-moved.ensures.long ∙ c.len-2.ensures.len ∙ sym (length-values_of sets.entries)) c.in_ok-moved.ensures.marked c.marked.ensures.members up;
     })

@@ -57,21 +57,22 @@ kept_by_at (c ∷ flags) (k ∷ keys) apart zero key b at flag =
     let is : c ≡ b = cc in
     ap (λ t. cond t c (kept_by flags keys key)) ((same_key-decides key k).1 (sym same)) ∙ is
 kept_by_at (c ∷ flags) (k ∷ keys) apart (suc n) key b at flag =
-    go (same_key key k) refl
+    go (same_key key k) refl (kept_by_at flags keys (AllPairs-tail (λ a b. a ≢ b) k keys apart) n key b at flag)
   where
-    go : (t : Bool) → same_key key k ≡ t → cond (same_key key k) c (kept_by flags keys key) ≡ b
-    go true e = absurd (All-place (λ x. k ≢ x) keys n key at (AllPairs-head (λ a b. a ≢ b) k keys apart) (sym ((same_key-decides key k).0 e)))
-    go false e = ap (λ t. cond t c (kept_by flags keys key)) e ∙ kept_by_at flags keys (AllPairs-tail (λ a b. a ≢ b) k keys apart) n key b at flag
+    go : (t : Bool) → same_key key k ≡ t → kept_by flags keys key ≡ b → cond (same_key key k) c (kept_by flags keys key) ≡ b
+    go true e rest = absurd (All-place (λ x. k ≢ x) keys n key at (AllPairs-head (λ a b. a ≢ b) k keys apart) (sym ((same_key-decides key k).0 e)))
+    go false e rest = ap (λ t. cond t c (kept_by flags keys key)) e ∙ rest
 
 -- one that is not kept has a place
 pub kept_by_not : (flags : List Bool) (keys : List KeyParts) (key : KeyParts) → kept_by flags keys key ≡ false → (n : ℕ) × (slice_get keys n ≡ Some key) × (slice_get flags n ≡ Some false)
 kept_by_not [] keys key gone = absurd (true≢false gone)
 kept_by_not (b ∷ flags) [] key gone = absurd (true≢false gone)
-kept_by_not (b ∷ flags) (k ∷ keys) key gone = go (same_key key k) refl
+kept_by_not (b ∷ flags) (k ∷ keys) key gone = go (same_key key k) refl (λ still. kept_by_not flags keys key still)
   where
-    go : (t : Bool) → same_key key k ≡ t → (n : ℕ) × (slice_get (k ∷ keys) n ≡ Some key) × (slice_get (b ∷ flags) n ≡ Some false)
-    go true e = (0, ap Some (sym ((same_key-decides key k).0 e)), ap Some (sym (ap (λ t. cond t b (kept_by flags keys key)) e) ∙ gone))
-    go false e = let (n, at, flag) = kept_by_not flags keys key (sym (ap (λ t. cond t b (kept_by flags keys key)) e) ∙ gone) in (suc n, at, flag)
+    go : (t : Bool) → same_key key k ≡ t → (kept_by flags keys key ≡ false → (n : ℕ) × (slice_get keys n ≡ Some key) × (slice_get flags n ≡ Some false))
+        → (n : ℕ) × (slice_get (k ∷ keys) n ≡ Some key) × (slice_get (b ∷ flags) n ≡ Some false)
+    go true e rest = (0, ap Some (sym ((same_key-decides key k).0 e)), ap Some (sym (ap (λ t. cond t b (kept_by flags keys key)) e) ∙ gone))
+    go false e rest = let (n, at, flag) = rest (sym (ap (λ t. cond t b (kept_by flags keys key)) e) ∙ gone) in (suc n, at, flag)
 
 -- a test that says what the flags say keeps what they keep
 filter_flags : (test : KeyParts → Bool) (flags : List Bool) (keys : List KeyParts) → length flags ≡ length keys

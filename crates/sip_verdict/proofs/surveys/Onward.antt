@@ -317,17 +317,14 @@ module _ (key : KeyParts) where
     later_rests old left (item ∷ items) [] fs order order_left r r_left seen saw front back e f rest more split other long = absurd seen
     later_rests old left (item ∷ items) (g ∷ es) [] order order_left r r_left seen saw front back e f rest more split other long = absurd saw
     later_rests old left (item ∷ items) (g ∷ es) (h ∷ fs) order order_left r r_left (sees, seen) (saw, seen_left) front back e f rest more split other long =
-        by (comes old left item g h item.action sees saw)
+        by (comes old left item g h item.action sees saw) (λ now now_left.
+        later_rests (old ++ g ∷ []) (left ++ h ∷ []) items es fs (subst IsOrdered (sym (append_assoc old (g ∷ []) es)) order) (subst IsOrdered (sym (append_assoc left (h ∷ []) fs)) order_left) now now_left seen seen_left)
       where
         first : IsOrdered (old ++ g ∷ [])
         first = ordered_to old [] g es order
 
         first_left : IsOrdered (left ++ h ∷ [])
         first_left = ordered_to left [] h fs order_left
-
-        on : Rests (old ++ g ∷ []) → Rests (left ++ h ∷ []) → HasSameTroubleAfter p (old ++ g ∷ []) (left ++ h ∷ []) es fs key
-        on now now_left =
-            later_rests (old ++ g ∷ []) (left ++ h ∷ []) items es fs (subst IsOrdered (sym (append_assoc old (g ∷ []) es)) order) (subst IsOrdered (sym (append_assoc left (h ∷ []) fs)) order_left) now now_left seen seen_left
 
         at : Rests (old ++ g ∷ []) → Rests (left ++ h ∷ []) → HasSameTroubleAfter p (old ++ g ∷ []) (left ++ h ∷ []) es fs key
             → (front back : Entries) (e f : Observation KeyParts) (rest more : Entries) → g ∷ es ≡ front ++ e ∷ rest → h ∷ fs ≡ back ++ f ∷ more → length front ≡ length back → Alike (old ++ front) e (left ++ back) f
@@ -350,12 +347,12 @@ module _ (key : KeyParts) where
             (subst (λ xs. Alike ((old ++ g ∷ []) ++ front) e xs f) (append_assoc left (h ∷ []) back ∙ ap (λ z. left ++ z ∷ back) is_left)
             (later front back e f rest more tail tail_left (omega (arith, long))))
 
-        by : Comes g h → Alike (old ++ front) e (left ++ back) f
-        by (inl (same, some)) =
+        by : Comes g h → (Rests (old ++ g ∷ []) → Rests (left ++ h ∷ []) → HasSameTroubleAfter p (old ++ g ∷ []) (left ++ h ∷ []) es fs key) → Alike (old ++ front) e (left ++ back) f
+        by (inl (same, some)) on =
             let own_same : own (keys_in (old ++ g ∷ [])) ≡ own (keys_in (left ++ h ∷ [])) = own_with old g some ∙ sym (own_with left h (ap (λ x. list_any (same_key key) x.keys) (sym same) ∙ some)) in
             found_both old left g es fs some order (subst (λ x. IsOrdered (left ++ x ∷ fs)) (sym same) order_left) r r_left (all_alike (old ++ g ∷ []) (left ++ h ∷ []) own_same items es fs seen seen_left)
             front back e f rest more split (ap (λ x. x ∷ fs) same ∙ other) long
-        by (inr (passes, passes_left)) =
+        by (inr (passes, passes_left)) on =
             let now = rests_on old g first r passes in
             let now_left = rests_on left h first_left r_left passes_left in
             at now now_left (on now now_left) front back e f rest more split other long

@@ -14,31 +14,31 @@ use Rattle.sip_verdict.proofs.sweeps.SweptBook.{within_keeps}
 use Rattle.sip_verdict.proofs.forgetting.forget.Goals as goal
 
 pub keep-requires : goal.keep-requires
-keep-requires g c = ap length c.as_slice.ensures.value ∙ c.in_ok-flags.ensures.long
+keep-requires g c = ap length c.as_slice-flags.ensures.value ∙ c.in_ok-flags.ensures.long
 
-pub keep-2-requires : goal.keep-2-requires
-keep-2-requires g c = ap length c.as_slice.ensures.value ∙ c.in_ok-flags.ensures.long ∙ ap length c.in_ok-wait.ensures.keys ∙ sym c.requires.watched.long
+pub keep-requires-2 : goal.keep-requires-2
+keep-requires-2 g c = ap length c.as_slice-flags.ensures.value ∙ c.in_ok-flags.ensures.long ∙ ap length c.in_ok-wait.ensures.keys ∙ sym c.requires.watched.long
 
 pub sweep-requires-clause-may : goal.sweep-requires-clause-may
 sweep-requires-clause-may g c =
     let s = c.wait.new.self in
-    let flags = c.as_slice.result.now in
-    let long = ap length c.as_slice.ensures.value ∙ c.in_ok-flags.ensures.long in
+    let flags = c.as_slice-flags.result.now in
+    let long = ap length c.as_slice-flags.ensures.value ∙ c.in_ok-flags.ensures.long in
     subst (λ t. MayPass s.book t c.args.newest.moment) (sym c.in_ok-keep.ensures.ok) (pass_kept flags s.tables long c.known.ensures.unique s.book c.args.newest.moment c.in_ok-wait.ensures.may)
 
 pub sweep-requires-clause-recorded : goal.sweep-requires-clause-recorded
 sweep-requires-clause-recorded g c =
     let s = c.wait.new.self in
-    let flags = c.as_slice.result.now in
-    let long = ap length c.as_slice.ensures.value ∙ c.in_ok-flags.ensures.long in
+    let flags = c.as_slice-flags.result.now in
+    let long = ap length c.as_slice-flags.ensures.value ∙ c.in_ok-flags.ensures.long in
     subst AllAreOnRecord (sym c.in_ok-keep.ensures.ok) (recorded_kept flags s.tables long c.known.ensures.unique c.in_ok-wait.ensures.recorded)
 
 pub returns-clause-may : goal.returns-clause-may
 returns-clause-may g c =
     let old = c.args.standing.now in
     let s = c.wait.new.self in
-    let flags = c.as_slice.result.now in
-    let long = ap length c.as_slice.ensures.value ∙ c.in_ok-flags.ensures.long in
+    let flags = c.as_slice-flags.result.now in
+    let long = ap length c.as_slice-flags.ensures.value ∙ c.in_ok-flags.ensures.long in
     let newest = c.args.newest in
     let new = c.sweep.new.self in
     let mid = c.keep.new.self in
@@ -50,8 +50,8 @@ returns-clause-may g c =
 pub returns-clause-watched : goal.returns-clause-watched
 returns-clause-watched g c =
     let s = c.wait.new.self in
-    let flags = c.as_slice.result.now in
-    let long = ap length c.as_slice.ensures.value ∙ c.in_ok-flags.ensures.long in
+    let flags = c.as_slice-flags.result.now in
+    let long = ap length c.as_slice-flags.ensures.value ∙ c.in_ok-flags.ensures.long in
     let b = c.keep-2.new.self in
     let waited = watched_waited c.args.standing.now.tables s.tables c.args.troubled.now c.in_ok-wait.ensures.keys c.in_ok-wait.ensures.records c.in_ok-wait.ensures.recorded c.requires.watched in
     let h = subst (λ t. AreWatched [] t b) (sym c.in_ok-keep.ensures.ok) (watched_kept flags s.tables long c.known.ensures.unique c.args.troubled.now b c.keep-2.ensures.deaf waited) in
@@ -77,10 +77,10 @@ returns-clause-forgets g c = λ es surveyed told newest.
     let old = c.args.standing.now in
     let s = c.wait.new.self in
     let t = s.tables in
-    let flags = c.as_slice.result.now in
-    let long = ap length c.as_slice.ensures.value ∙ c.in_ok-flags.ensures.long in
+    let flags = c.as_slice-flags.result.now in
+    let long = ap length c.as_slice-flags.ensures.value ∙ c.in_ok-flags.ensures.long in
     let apart = c.known.ensures.unique in
-    let says = subst (AreFlags c.args.until t c.args.histories.now) (sym c.as_slice.ensures.value) c.in_ok-flags.ensures in
+    let says = subst (AreFlags c.args.until t c.args.histories.now) (sym c.as_slice-flags.ensures.value) c.in_ok-flags.ensures in
     let troubled = c.args.troubled.now in
     let deaf = troubled.deaf.items in
     let (tracks_on, quiet) = c.in_ok-wait.ensures.surveyed es deaf surveyed.tracks newest c.requires.watched.long in

@@ -99,6 +99,6 @@ returns-clause-forgets g c = λ es surveyed told newest.
       subst (λ p. ForgetsUpTo c.args.until p es kept) c.in_ok-wait.ensures.times
           (forgets_kept flags t long apart s.book es deaf c.args.histories.now c.args.until c.args.newest.moment says tracks_on waited.long c.in_ok-wait.ensures.may newest told quiet),
       surveyed_swept new.book mid new.tables now c.kept.result left swept.times c.kept.ensures.kept both,
-      histories_kept flags t long apart es c.args.histories.now c.keep_each.new.items tracks_on.keys c.keep_each.ensures refl told,
+      histories_kept flags t long apart es c.args.histories.now (record { each = c.keep_each.new.items; restart = c.args.histories.now.restart }) tracks_on.keys c.keep_each.ensures refl told,
       subst (λ p. AreMany (IsStillNamed p left) (length new.book)) times both.1,
     )

@@ -127,9 +127,9 @@ impl AnySet {
         each_machine!(self, set => set.names(out))
     }
 
-    /// Whether its one state is the one before anything was sent or received, or the one after an end. Where it is not told so, nothing is said.
-    pub(crate) fn is_quiet(&self) -> bool
-        ensures { IsTrue result → IsQuietSet self.now }
+    /// Whether its one state is the one before anything was sent or received, or the one after an end.
+    pub fn is_quiet(&self) -> bool
+        ensures { IsTrue result ↔ IsQuietSet self.now }
     {
         each_machine!(self, set => set.is_quiet())
     }

@@ -204,7 +204,7 @@ impl<M: Machine> StateSet<M> {
 
     /// Whether its one state is the first or the ended one.
     pub(crate) fn is_quiet(&self) -> bool
-        ensures { IsTrue result → (self.now.states ≡ M.first self.now.machine ∷ []) ⊎ (self.now.states ≡ M.ended self.now.machine ∷ []) }
+        ensures { IsTrue result ↔ (self.now.states ≡ M.first self.now.machine ∷ []) ⊎ (self.now.states ≡ M.ended self.now.machine ∷ []) }
     {
         self.states.len() == 1
             && (self.states.is_at_rest(0, self.machine.first())

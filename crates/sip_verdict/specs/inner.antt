@@ -1,4 +1,5 @@
 pub mod Concerned
+pub mod Forgetting
 pub mod Histories
 pub mod Judging
 pub mod Keyed

@@ -6,6 +6,7 @@ mod concerned;
 mod entries;
 mod finding;
 mod following;
+mod forgetting;
 mod forgetting_laws;
 mod gathering;
 mod histories;
@@ -38,6 +39,7 @@ pub use finding::Finding;
 pub use following::Survey;
 pub use forgetting_laws::{
     nothing_is_lost_of_what_is_idle_again, what_is_forgotten_is_judged_as_new,
+    what_is_idle_again_is_found_at_the_same_entries, what_is_kept_is_found_at_the_same_entries,
     what_is_kept_is_judged_on,
 };
 pub use gathering::survey_bytes;

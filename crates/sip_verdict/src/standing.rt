@@ -17,6 +17,7 @@ ghost use Rattle.sip_standard.specs.ListingOf.{first_entry};
 ghost use Rattle.sip_verdict.specs.inner.Concerned.{each, is_all, listed, up_to};
 ghost use Rattle.sip_verdict.specs.inner.Numbering.{AreNumbered, StaysNumbered, IsListedEntry, Appends, IsTextOf};
 ghost use Rattle.sip_verdict.specs.Surveys.{IsStillNamed};
+ghost use Rattle.sip_verdict.specs.inner.Forgetting.{AreQuietIfOver};
 ghost use Rattle.sip_verdict.specs.inner.Surveying.{TablesSurvey};
 ghost use Rattle.sip_verdict.specs.inner.Tracking.{IsJudged};
 ghost use Rattle.sip_verdict.specs.inner.TablesTracking.{key_keeping, transactions_of, TablesTrack, TablesTrackBefore, AreTold, TouchesEach, HaveNumbers, hearers, MayPass, MayHear, AreOnRecord, AllAreOnRecord, MayTake};
@@ -94,6 +95,24 @@ impl<H: BuildHasher> Standing<H> {
     {
         self.book.known();
         self.book.len()
+    }
+
+    /// Lets every transaction wait until the moment. Where one is over, its set is quiet then.
+    pub(crate) fn wait(&mut self, moment: u64) -> Result<(), AllocError>
+        requires may { MayPass self.old.book self.old.tables moment }
+        requires recorded { AllAreOnRecord self.old.tables }
+        ensures times { OnOk result (self.new.tables.times ≡ self.old.tables.times) }
+        ensures keys { OnOk result (self.new.tables.keys ≡ self.old.tables.keys) }
+        ensures book { OnOk result (self.new.book ≡ self.old.book) }
+        ensures may { OnOk result (MayPass self.new.book self.new.tables moment) }
+        ensures recorded { OnOk result (AllAreOnRecord self.new.tables) }
+        ensures records { OnOk result (self.new.tables.records ≡ self.old.tables.records) }
+        ensures surveyed { OnOk result ((es : List (Observation KeyParts)) (deaf : List Bool) → TablesSurvey self.old.book es self.old.tables deaf → newest_moment es ≡ moment
+            → length deaf ≡ length self.old.tables.keys → TablesSurvey self.new.book es self.new.tables deaf × AreQuietIfOver es self.new.tables) }
+    {
+        self.book.known();
+        self.tables.wait_all(moment)?;
+        Ok(())
     }
 
     /// Lets the transactions wait until the moment, and forgets the messages that none of their states names then.

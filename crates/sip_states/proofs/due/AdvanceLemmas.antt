@@ -130,6 +130,18 @@ marked_advance moment marked marks old new long are members up n a b was is =
       | inr same ↦ inr (same.1, are n a was (not_marked marks n (omega arith) (λ mark. same.0 ((members n).1 mark))))
     ]
 
+-- all have waited where all are marked
+pub all_advance : (moment : ℕ) (marked : List ℕ) (marks : List Bool) (old new : List AnySet) → length marks ≡ length old → All (λ is_marked. is_marked ≡ true) marks
+    → ((n : ℕ) → Contains marked n ↔ IsMarked marks n) → AdvancesAt moment marked old new
+    → (n : ℕ) (a b : AnySet) → slice_get old n ≡ Some a → slice_get new n ≡ Some b → SetWaits moment a b
+all_advance moment marked marks old new long all members up n a b was is =
+    let low = slice_get_within old n a was in
+    let inside : n < length marks = omega (arith, low, long) in
+    elim (up.each n a b was is) [
+      | inl waited ↦ waited.1
+      | inr same ↦ absurd (same.0 ((members n).1 (slice_get-get_or marks n true inside ∙ ap Some (all n true inside))))
+    ]
+
 -- some have
 pub some_advance : (moment : ℕ) (indices : List ℕ) (old new : List AnySet) → AdvancesAt moment indices old new
     → (n : ℕ) (a b : AnySet) → slice_get old n ≡ Some a → slice_get new n ≡ Some b → IsAdvanced moment a b ⊎ (b ≡ a)

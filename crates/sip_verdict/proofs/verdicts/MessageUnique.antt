@@ -35,7 +35,7 @@ heard_once item direction s t keys more same c d =
     ap (λ ks. heard_as item s ks) alike ∙ ap (λ x. heard_as item x more) same
 
 -- one thing is observed of a message
-message_one : (direction : Direction) (item : Item) (e f : Observation KeyParts) → ObservesMessage direction item e → ObservesMessage direction item f → e ≡ f
+pub message_one : (direction : Direction) (item : Item) (e f : Observation KeyParts) → ObservesMessage direction item e → ObservesMessage direction item f → e ≡ f
 message_one direction item e f (has_fault a has is) (has_fault b has2 is2) =
     let same : ◌≡◌ {A = Outcome Said} (stops a) (stops b) = says-one item.text (stops a) (stops b) has has2 in
     let alike : a ≡ b = cc in is ∙ ap (fault_observation item) alike ∙ sym is2

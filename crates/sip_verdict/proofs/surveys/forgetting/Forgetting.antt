@@ -38,7 +38,7 @@ module _ (p : Times) (key : KeyParts) (old : List (Observation KeyParts)) (again
   order_of more = AllPairs (λ a b. a.event.moment ≤ b.event.moment) (old ++ more)
 
   -- where a run stands over later entries
-  stands_new : (more : List (Observation KeyParts)) → order_of more → (k : ℕ) → newest_moment old ≤ k → (y : Owing (transaction_of (machine_of_key p.rules key)).Phase)
+  pub stands_new : (more : List (Observation KeyParts)) → order_of more → (k : ℕ) → newest_moment old ≤ k → (y : Owing (transaction_of (machine_of_key p.rules key)).Phase)
       → Stands (transaction_of (machine_of_key p.rules key)).figure p (events_for key (old ++ more)) k y ↔ Stands (transaction_of (machine_of_key p.rules key)).figure p (events_for key more) k y
   stands_new more order k high y =
       let from : All (λ e. 0 ≤ e.event.moment) (old ++ more) = λ i d within. omega arith in

@@ -1,5 +1,5 @@
 -- Entries without the transactions that are not kept: what is found of a kept one, and of one that is forgotten.
-use Rattle.std.proofs.Common.{◌≡◌, ◌≤◌, ◌↔◌, ℕ, Bool, true, false, cond, List, [], ◌∷◌, ◌++◌, ◌||◌, All, AllPairs, refl, sym, ap, ◌∙◌, subst, zero-le}
+use Rattle.std.proofs.Common.{◌≡◌, ◌≤◌, ◌↔◌, inl, inr, ℕ, Bool, true, false, cond, List, [], ◌∷◌, ◌++◌, ◌||◌, All, AllPairs, refl, sym, ap, ◌∙◌, subst, zero-le}
 use Rattle.std.specs.Prelude.{filter, map}
 use Rattle.std.specs.List.{AllZip, list_any}
 use Rattle.std.proofs.lemmas.Bool.{false≢true}
@@ -9,9 +9,11 @@ use Rattle.sip_standard.specs.Key.{KeyParts, same_key}
 use Rattle.sip_key.specs.inner.KeyLaws.{same_key-decides}
 use Rattle.sip_standard.specs.Times.{Times}
 use Rattle.sip_standard.specs.MachineEvent.{MachineEvent}
-use Rattle.sip_standard.specs.Figure.{Figure, Owing, quiet, MayEnd}
+use Rattle.sip_standard.specs.declared.action.Action.TheVariants.{Restart}
+use Rattle.sip_standard.specs.Figure.{Figure, Owing, quiet, Lasts, MayEnd, Restarts, Steps, Takes}
+use Rattle.sip_machine.specs.inner.DebtLaws.{All-front}
 use Rattle.sip_standard.specs.Stands.{Stands, begins, waits, ends, takes}
-use Rattle.sip_standard.specs.KeyMachine.{machine_of_key, transaction_of}
+use Rattle.sip_standard.specs.KeyMachine.{MachineKind, machine_of_key, transaction_of}
 use Rattle.sip_standard.specs.Observation.{Observation}
 use Rattle.sip_standard.specs.VerdictOf.{events_for}
 use Rattle.sip_standard.proofs.Few.{AllPairs-head, AllPairs-tail}
@@ -33,16 +35,34 @@ pub alike_through : (p : Times) (key : KeyParts) (front mid back : List (Observa
 alike_through p key front mid back e a b =
     ((λ h. b.0.1 (a.0.0 h), λ h. a.0.1 (b.0.0 h)), (λ h. b.1.1 (a.1.0 h), λ h. a.1.1 (b.1.0 h)))
 
--- a run over no event stands in idle
-stands_idle : {X : Type 0} (f : Figure X) (p : Times) → ((m : ℕ) → ¬ (MayEnd f p (quiet f.idle) m)) → (events : List MachineEvent) (m : ℕ) (x : Owing X) → Stands f p events m x → events ≡ [] → x ≡ quiet f.idle
-stands_idle f p stays events m x begins none = refl
-stands_idle f p stays events m x (waits evs h k y stands low lasting) none = stands_idle f p stays evs h y stands none
-stands_idle f p stays events m x (ends evs h y stands may) none = absurd (stays h (subst (λ z. MayEnd f p z h) (stands_idle f p stays evs h y stands none) may))
-stands_idle f p stays events m x (takes evs e y z stands does) none = absurd (no_last evs e none)
+-- a restart leaves an idle transaction idle
+restarted : {X : Type 0} (f : Figure X) (p : Times) (e : MachineEvent) (y : Owing X) → e.action ≡ Restart → Takes f p (quiet f.idle) e y ↔ (y ≡ quiet f.idle)
+restarted f p e y is =
+    (λ does. stays (subst (λ a. Steps f p a e (quiet f.idle) y) is does), λ same. subst (λ a. Steps f p a e (quiet f.idle) y) (sym is) (inl (refl, same)))
   where
-    no_last : (xs : List MachineEvent) (y : MachineEvent) → xs ++ y ∷ [] ≡ [] → ⊥
-    no_last [] y is = cc
-    no_last (x ∷ xs) y is = cc
+    stays : Restarts f (quiet f.idle) y → y ≡ quiet f.idle
+    stays (inl idle) = idle.1
+    stays (inr other) = absurd (other.0 refl)
+
+-- a run over restarts alone stands in idle
+pub stands_idle : {X : Type 0} (f : Figure X) (p : Times) → ((m : ℕ) → ¬ (MayEnd f p (quiet f.idle) m)) → (events : List MachineEvent) (m : ℕ) (x : Owing X) → Stands f p events m x
+    → All (λ e. e.action ≡ Restart) events → x ≡ quiet f.idle
+stands_idle f p stays events m x begins all = refl
+stands_idle f p stays events m x (waits evs h k y stands low lasting) all = stands_idle f p stays evs h y stands all
+stands_idle f p stays events m x (ends evs h y stands may) all = absurd (stays h (subst (λ z. MayEnd f p z h) (stands_idle f p stays evs h y stands all) may))
+stands_idle f p stays events m x (takes evs e y z stands does) all =
+    let idle = stands_idle f p stays evs e.moment y stands (All-front (λ d. d.action ≡ Restart) evs (e ∷ []) all) in
+    (restarted f p e z (All-middle (λ d. d.action ≡ Restart) evs [] e all)).0 (subst (λ w. Takes f p w e z) idle does)
+
+-- and one stands there after one restart
+pub restart_stands : {X : Type 0} (f : Figure X) (p : Times) → ((m : ℕ) → Lasts f p (quiet f.idle) m) → (e : MachineEvent) → e.action ≡ Restart → Stands f p (e ∷ []) e.moment (quiet f.idle)
+restart_stands f p lasts e is = takes [] e (quiet f.idle) (quiet f.idle) (waits [] 0 e.moment (quiet f.idle) begins zero-le (lasts e.moment)) ((restarted f p e (quiet f.idle) is).1 refl)
+
+-- a transaction without events is idle
+pub idle_begun : (kind : MachineKind) (p : Times) (m : ℕ) → IsIdleAgain kind p [] m
+idle_begun kind p m =
+    let f = (transaction_of kind).figure in
+    (waits [] 0 m (quiet f.idle) begins zero-le (idle_lasts kind p m), λ x stands. stands_idle f p (idle_stays kind p) [] m x stands (All-nil (λ e. e.action ≡ Restart)))
 
 -- entries are cut to what is kept of them
 pub zip_remembered : (kept : KeyParts → Bool) (es : List (Observation KeyParts)) → AllZip (IsCutOf kept) es (remembered kept es)
@@ -81,7 +101,7 @@ module _ (kept : KeyParts → Bool) where
             ap (λ b. filter (same_key key) (cond b (k ∷ filter kept keys) (filter kept keys))) e ∙ rest ∙ ap (λ b. cond b (k ∷ filter (same_key key) keys) (filter (same_key key) keys)) (sym same)
 
     -- the remembered entries and those of the key alone are cut to the same entries of this key
-    zip_left : (es : List (Observation KeyParts)) → AllZip (IsCutOf (same_key key)) (remembered kept es) (remembered (same_key key) es)
+    pub zip_left : (es : List (Observation KeyParts)) → AllZip (IsCutOf (same_key key)) (remembered kept es) (remembered (same_key key) es)
     zip_left [] = tt
     zip_left (e ∷ es) = ((refl, sym (same_left e.keys), λ some. refl), zip_left es)
 
@@ -138,10 +158,8 @@ module _ (kept : KeyParts → Bool) where
     pub idle_forgotten : (p : Times) (es : List (Observation KeyParts)) → IsIdleAgain (machine_of_key p.rules key) p (events_for key (remembered kept es)) (newest_moment (remembered kept es))
     idle_forgotten p es =
         let kind = machine_of_key p.rules key in
-        let f = (transaction_of kind).figure in
         let m = newest_moment (remembered kept es) in
-        let none = no_events (remembered kept es) (none_concerns es) in
-        subst (λ events. IsIdleAgain kind p events m) (sym none) (waits [] 0 m (quiet f.idle) begins zero-le (idle_lasts kind p m), λ x stands. stands_idle f p (idle_stays kind p) [] m x stands refl)
+        subst (λ events. IsIdleAgain kind p events m) (sym (no_events (remembered kept es) (none_concerns es))) (idle_begun kind p m)
 
     -- what is found of it is what is found of a new one
     pub found_forgotten : (p : Times) (old front : List (Observation KeyParts)) (e : Observation KeyParts) → AllPairs (λ a b. a.event.moment ≤ b.event.moment) (old ++ (front ++ e ∷ []))

@@ -79,7 +79,7 @@ last_low : (es : Entries) (key : KeyParts) (n : ℕ) → IsLastOf es key n → n
 last_low es key n (before, o, after, whole, is, none, counts) = let long = ap length whole ∙ length-append before (o ∷ after) in omega (arith, long, counts)
 
 -- no entry concerns a key that is not among theirs
-none_in : (key : KeyParts) (es : Entries) → list_any (same_key key) (flat_map (λ e. e.keys) es) ≡ false → All (λ o. is_of key o ≡ false) es
+pub none_in : (key : KeyParts) (es : Entries) → list_any (same_key key) (flat_map (λ e. e.keys) es) ≡ false → All (λ o. is_of key o ≡ false) es
 none_in key [] none = All-nil (λ o. is_of key o ≡ false)
 none_in key (e ∷ es) none =
     let (here, later) = or_false _ _ (sym (list_any-append (same_key key) e.keys (flat_map (λ f. f.keys) es)) ∙ none) in

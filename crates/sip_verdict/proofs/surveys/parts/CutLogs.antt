@@ -17,7 +17,7 @@ use Rattle.sip_verdict.specs.SurveyLaws.{IsCutOf, StaysOrIsMark, IsCutLog, Keeps
 use Rattle.sip_verdict.proofs.surveys.parts.Cutting.{keys_cut, zip_push, same_trouble}
 
 -- what is seen of an item with which this was done
-abbrev SeenAs : List (Observation KeyParts) → Item → Observation KeyParts → Action → Type 0
+abbrev pub SeenAs : List (Observation KeyParts) → Item → Observation KeyParts → Action → Type 0
 SeenAs es item e a = MatchOption (direction_of a) (e ≡ silent_observation a item.moment (keys_in es)) (λ direction. ObservesMessage direction item e)
 
 observes_moment : (direction : Direction) (item : Item) (e : Observation KeyParts) → ObservesMessage direction item e → e.event.moment ≡ item.moment

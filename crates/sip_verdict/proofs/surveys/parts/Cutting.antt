@@ -20,7 +20,7 @@ use Rattle.sip_verdict.specs.SurveyLaws.{IsCutOf, HasSameTrouble}
 
 module _ (chosen : KeyParts → Bool) where
   -- a chosen key is among keys exactly if it is among the chosen ones of them
-  among_chosen : (key : KeyParts) → chosen key ≡ true → (keys : List KeyParts) → list_any (same_key key) (filter chosen keys) ≡ list_any (same_key key) keys
+  pub among_chosen : (key : KeyParts) → chosen key ≡ true → (keys : List KeyParts) → list_any (same_key key) (filter chosen keys) ≡ list_any (same_key key) keys
   among_chosen key is [] = refl
   among_chosen key is (k ∷ keys) = go (chosen k) refl (same_key key k) refl (among_chosen key is keys)
     where
@@ -55,7 +55,7 @@ module _ (chosen : KeyParts → Bool) where
       go b e t f = subst (λ c. OneMore keys k c (list_any (same_key k) keys)) (sym e) (subst (λ c. OneMore keys k b c) (sym f) (by b t e f))
 
   -- the chosen ones of several more
-  filter_keys : (keys more : List KeyParts) → fold with_key (filter chosen keys) (filter chosen more) ≡ filter chosen (fold with_key keys more)
+  pub filter_keys : (keys more : List KeyParts) → fold with_key (filter chosen keys) (filter chosen more) ≡ filter chosen (fold with_key keys more)
   filter_keys keys [] = refl
   filter_keys keys (k ∷ more) =
       by (chosen k) refl ∙ ap (λ start. fold with_key start (filter chosen more)) (sym (filter_with_key keys k)) ∙ filter_keys (with_key keys k) more

@@ -3,21 +3,12 @@ use Rattle.std.proofs.Common.{◌≡◌, ◌⊎◌, inl, inr, ℕ, List, [], ◌
 use Rattle.sip_standard.specs.Times.{Times}
 use Rattle.sip_standard.specs.declared.verdict.Verdict.{Verdict}
 use Rattle.sip_standard.specs.LogEntry.{Item}
-use Rattle.sip_standard.specs.LogSays.{LogEnd, Clean, Stops, LogSays, LacksHeader}
-use Rattle.sip_log.specs.Log.{Readable}
+use Rattle.sip_standard.specs.LogSays.{LogEnd, Clean, Stops, LogSays}
 use Rattle.sip_standard.specs.Observation.{Observation}
 use Rattle.sip_verdict.specs.Verdicts.{IsFine, IsTrouble}
 use Rattle.sip_verdict.specs.Reading.{EntryReading, Judges, IsVerdictBy}
-use Rattle.sip_log.proofs.logs.Logs.{log_is_one}
+use Rattle.sip_log.proofs.logs.Logs.{log_is_one, log_has_header}
 use Rattle.sip_verdict.proofs.verdicts.Unique.{fine_no_trouble, trouble_is_one}
-
--- an input has one log with a header
-pub one_log : (input : List ℕ) (p q : Times) (xs ys : List Item) (end fin : LogEnd) → LogSays input p xs end → LogSays input q ys fin → (p ≡ q) × (xs ≡ ys) × (end ≡ fin)
-one_log input p q xs ys end fin a b = let e = log_is_one input (Readable p xs end) (Readable q ys fin) a b in (cc, cc, cc)
-
--- a log has no header or holds entries
-pub not_both : (input : List ℕ) (p : Times) (items : List Item) (end : LogEnd) → LacksHeader input → LogSays input p items end → ⊥
-not_both input p items end none is = none is.format p _ is.header
 
 module _ {K : Type 0} (r : EntryReading K) (one : (es : List (Observation K)) (item : Item) (e f : Observation K) → r.Observes es item e → r.Observes es item f → e ≡ f) where
   -- entries have one verdict
@@ -38,12 +29,12 @@ module _ {K : Type 0} (r : EntryReading K) (one : (es : List (Observation K)) (i
   -- an input with a header has one verdict
   log_judges_one : (input : List ℕ) (p q : Times) (xs ys : List Item) (end fin : LogEnd) (v w : Verdict) → LogSays input p xs end → Judges r p [] xs end v → LogSays input q ys fin → Judges r q [] ys fin w → v ≡ w
   log_judges_one input p q xs ys end fin v w log a other b =
-      let same = one_log input p q xs ys end fin log other in
+      let same = log_is_one input p q xs ys end fin log other in
       judges_one p [] xs end v w a (subst (λ z. Judges r z [] xs end w) (sym same.0) (subst (λ z. Judges r q [] z end w) (sym same.1) (subst (λ z. Judges r q [] ys z w) (sym same.2) b)))
 
   -- an input has one verdict
   pub verdict_is_one : (input : List ℕ) (v w : Verdict) → IsVerdictBy r input v → IsVerdictBy r input w → v ≡ w
   verdict_is_one input v w (inl a) (inl b) = a.1 ∙ sym b.1
-  verdict_is_one input v w (inl a) (inr (q, ys, fin, log, b)) = absurd (not_both input q ys fin a.0 log)
-  verdict_is_one input v w (inr (p, xs, end, log, a)) (inl b) = absurd (not_both input p xs end b.0 log)
+  verdict_is_one input v w (inl a) (inr (q, ys, fin, log, b)) = absurd (log_has_header input q ys fin a.0 log)
+  verdict_is_one input v w (inr (p, xs, end, log, a)) (inl b) = absurd (log_has_header input p xs end b.0 log)
   verdict_is_one input v w (inr (p, xs, end, log, a)) (inr (q, ys, fin, other, b)) = log_judges_one input p q xs ys end fin v w log a other b

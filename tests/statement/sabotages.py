@@ -198,7 +198,7 @@ LAWS = {
     "a law that is gone": law(
         "sip_key", "pub fn keys_are_equal_by_their_parts()", "pub fn keys_are_the_same()", "- | `sip_key/src/laws.rt` | `sip_key::laws::keys_are_equal_by_their_parts` | 1 |"),
     "a law with a clause less": law(
-        "sip_message", "    ensures message { (bytes : List ℕ) (m n : Message) → Spells bytes m → Spells bytes n → m ≡ n }\n", "", "- | `sip_message/src/laws.rt` | `sip_message::laws::bytes_have_one_reading` | 3 |"),
+        "sip_log", "    ensures either { (input : List ℕ) (p : Times) (items : List Item) (end : LogEnd) → LacksHeader input → LogSays input p items end → ⊥ }\n", "", "- | `sip_log/src/laws.rt` | `sip_log::an_input_has_one_log` | 2 |"),
     "a law for its crate alone": law("sip_key", "pub fn keys_are_equal_by", "pub(crate) fn keys_are_equal_by", "the law keys_are_equal_by_their_parts is not public"),
     "a law without a clause": law("sip_log", "    ensures { (input : List ℕ)", "    requires { (input : List ℕ)", "stands among laws and is none"),
 }

@@ -1,13 +1,14 @@
 -- What the masks of a text say.
-use Rattle.std.specs.Prelude.{◌≡◌, ℕ, ◌+◌, ◌*◌, ◌/◌, ◌%◌, ◌<◌, ◌≤◌, Bool, not, ◌&&◌, ◌||◌, ◌==◌, List, get_or, length, codes}
+use Rattle.std.specs.Prelude.{◌≡◌, ℕ, ◌+◌, ◌*◌, ◌/◌, ◌%◌, ◌<◌, ◌≤◌, Bool, not, ◌&&◌, ◌||◌, ◌==◌, List, get_or, length}
 use Rattle.std.specs.Int.{is_in_range}
 use Rattle.std.specs.Char.{is_ascii_alphanumeric}
-use Rattle.sip_text.specs.Bytes.{is_one_of, tab}
+use Rattle.sip_standard.specs.Chars.{is_among}
+use Rattle.sip_text.specs.Bytes.{tab}
 use Rattle.sip_masks.specs.Bits.{test}
 
 -- a byte of a token, of a word, of a user, of a password, of a parameter and of a header of a URI
 abbrev pub is_plain : ℕ → Bool
-is_plain byte = is_ascii_alphanumeric byte || is_one_of (codes "-.!*_+'~") byte
+is_plain byte = is_ascii_alphanumeric byte || is_among "-.!*_+'~" byte
 
 abbrev pub is_other : ℕ → Bool
 is_other byte = not (is_plain byte)

@@ -3,7 +3,7 @@ use Rattle.std.proofs.Common.{◌≡◌, ◌⊎◌, ℕ, zero, suc, ◌+◌, ◌
 use Rattle.std.specs.Prelude.{codes, bytes_eq, replicate}
 use Rattle.std.specs.Char.{is_ascii_alphanumeric, to_ascii_lowercase}
 use Rattle.std.specs.Int.{from_le_bytes, to_le_bytes}
-use Rattle.std.specs.List.{AllByRecursion, filter, flat_map, list_all, prefix_len}
+use Rattle.std.specs.List.{AllByRecursion, filter, flat_map, list_all, list_any, prefix_len}
 use Rattle.std.proofs.Math.Seq.{drop-cons, take-append_seam, take-append-add}
 use Rattle.std.proofs.lemmas.Bool.{both_ways, agree_below_at, and_parts, or_cases, cases_lt, eqb-true, ltb-true, le-leb, ne_eqb}
 use Rattle.std.proofs.lemmas.List.{take-append-drop, drop-drop, append_assoc, append-nil, length-append, length-drop, length-take-le, length-map, length-replicate, map-append, take-map, drop-map}
@@ -13,19 +13,22 @@ use Rattle.std.proofs.lemmas.Grind.{flat_map-append}
 use Rattle.sip_standard.specs.Text.{One, ◌or◌}
 use Rattle.sip_standard.specs.Case.{folded}
 use Rattle.sip_standard.specs.Profile.{Token, Lws}
-use Rattle.sip_text.specs.Bytes.{is_one_of, crlf, colon, carriage_return, line_feed, is_wsp, is_token_byte}
+use Rattle.sip_standard.specs.Chars.{is_among}
+use Rattle.sip_text.specs.inner.Blanks.{is_wsp}
+use Rattle.sip_text.specs.Bytes.{is_token_byte, crlf, colon, carriage_return, line_feed}
 use Rattle.sip_text.proofs.texts.ManyLemmas.{AllByRecursion-append, many-nil, many-cons, many-map, some-many}
 use Rattle.sip_text.proofs.strings.BlanksLemmas.{lws-blank}
 use Rattle.sip_text.proofs.texts.RunLemmas.{run-front}
 use Rattle.sip_masks.specs.Marks.{is_plain}
 use Rattle.sip_standard.specs.Lines.{CutSays, OpensBlank}
-use Rattle.sip_message.specs.Lines.{is_inner_byte, with_end}
-use Rattle.sip_message.specs.Values.{is_value_byte, OtherText}
+use Rattle.sip_message.specs.inner.Lines.{is_inner_byte, with_end}
+use Rattle.sip_message.specs.inner.Values.{is_value_byte, OtherText}
 use Rattle.sip_message.specs.declared.name.Known.{Known}
 use Rattle.sip_message.specs.Name.{FieldName, known, other, spellings, name_by, name_of}
 use Rattle.sip_standard.specs.StartLine.{StartLine, request, status}
-use Rattle.sip_message.specs.StartLine.{StartText}
-use Rattle.sip_message.specs.Field.{Field, NameText, ValueText, FieldText, FieldsText}
+use Rattle.sip_message.specs.inner.StartLine.{StartText}
+use Rattle.sip_message.specs.Field.{Field}
+use Rattle.sip_message.specs.inner.FieldText.{NameText, ValueText, FieldText, FieldsText}
 use Rattle.sip_message.specs.inner.Quick.{is_open, IsOpen, AreOrdinary, IsOrdinary}
 use Rattle.sip_message.specs.inner.Numbers.{small, filled, number_of}
 use Rattle.sip_message.proofs.lemmas.text.Cuts.{All, all_left, all_right}
@@ -107,10 +110,10 @@ line-cut text at n end less within is =
     ap₂ take count parts ∙ take-append-add (take n t) (colon ∷ drop (at + n + 1) text) (suc (end - (at + n + 1)))
 
 -- a byte that stands in a list of bytes
-pub low-one : (set : List ℕ) (b : ℕ) → AllByRecursion (λ x. x < 256) set → is_one_of set b ≡ true → b < 256
+pub low-one : (set : List ℕ) (b : ℕ) → AllByRecursion (λ x. x < 256) set → list_any (λ c. c == b) set ≡ true → b < 256
 low-one [] b low is = absurd (both_ways false refl is)
 low-one (x ∷ set) b low is =
-    elim (or_cases (x == b) (is_one_of set b) is) [
+    elim (or_cases (x == b) (list_any (λ c. c == b) set) is) [
       | inl same ↦ omega (arith, eqb-true x b same, low.0)
       | inr later ↦ low-one set b low.1 later
     ]
@@ -118,8 +121,8 @@ low-one (x ∷ set) b low is =
 -- a plain byte is one of a token
 pub plain-token : (b : ℕ) → is_plain b ≡ true → is_token_byte b ≡ true
 plain-token b is =
-    elim (or_cases (is_ascii_alphanumeric b) (is_one_of (codes "-.!*_+'~") b) is) [
-      | inl letter ↦ ap (λ x. x || is_one_of (codes "-.!%*_+`'~") b) letter
+    elim (or_cases (is_ascii_alphanumeric b) (is_among "-.!*_+'~" b) is) [
+      | inl letter ↦ ap (λ x. x || is_among "-.!%*_+`'~" b) letter
       | inr mark ↦
           (and_parts (is_token_byte b) (is_plain b) (agree_below_at (λ x. is_token_byte x && is_plain x) is_plain 256 b refl (low-one (codes "-.!*_+'~") b low mark) ∙ is)).0
     ]

@@ -8,11 +8,11 @@ use Rattle.sip_standard.specs.Text.{Exactly, ◌then◌, Optional, Many}
 use Rattle.sip_standard.specs.Case.{folded}
 use Rattle.sip_standard.specs.Chars.{AnyCase, is_among, EachSays}
 use Rattle.sip_standard.specs.Profile.{Token, Wsp, Lws, Blanks, Sws, Mark, Quoted, Ipv6, Host}
-use Rattle.sip_text.specs.Bytes.{semicolon, is_token_byte, is_wsp}
+use Rattle.sip_text.specs.Bytes.{semicolon, is_token_byte}
+use Rattle.sip_text.specs.inner.Blanks.{is_wsp, Blank}
 use Prim.Native.String.{String}
 use Rattle.std.proofs.lemmas.List.{take-append-drop}
 use Rattle.std.specs.Cmp.Lexicographic.{same_text}
-use Rattle.sip_text.specs.inner.Blanks.{Blank}
 use Rattle.sip_text.proofs.strings.BlanksLemmas.{units-blanks}
 use Rattle.sip_text.proofs.texts.LacksLemmas.{Lacks, AllLack, lacks-append, lack-one, lack-exactly, lack-then, lack-optional, lack-many, lack-some, lack-between}
 use Rattle.sip_text.proofs.uris.UriHostLemmas.{IsForeign, lack-host}

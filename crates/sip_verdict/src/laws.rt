@@ -8,8 +8,7 @@ ghost use Rattle.sip_standard.specs.declared.format.Format.{Format};
 ghost use Rattle.sip_standard.specs.declared.format.Format.TheVariants.{One, Two};
 ghost use Rattle.sip_standard.specs.LogEntry.{Item};
 ghost use Rattle.sip_standard.specs.LogHeader.{Header};
-ghost use Rattle.sip_standard.specs.LogSays.{Clean};
-ghost use Rattle.sip_log.specs.Log.{Readable, IsLogOf};
+ghost use Rattle.sip_standard.specs.LogSays.{Clean, LogSays};
 ghost use Rattle.sip_standard.specs.Times.{Times};
 
 use sip_standard::Verdict;
@@ -27,13 +26,13 @@ pub fn an_input_has_a_verdict()
 /// A log of format 1 that is read to its end has, after a header of format 2 with the same times, the same verdict.
 pub fn a_log_of_format_1_has_its_verdict_in_format_2(_verdict: &Verdict)
     ensures { (input other : List ℕ) (p : Times) (behind : List ℕ) (items : List Item) → Header One p input behind → Header Two p other behind
-        → IsLogOf input (Readable p items Clean) → IsVerdictOf input _verdict.now ↔ IsVerdictOf other _verdict.now }
+        → LogSays input p items Clean → IsVerdictOf input _verdict.now ↔ IsVerdictOf other _verdict.now }
 {}
 
 /// And one that is read to its end has the same verdict with the line `rules 6026` and without it: its two headers say the same.
 pub fn a_line_of_rules_6026_changes_no_verdict(_verdict: &Verdict)
     ensures { (format : Format) (input other : List ℕ) (p : Times) (behind : List ℕ) (items : List Item) → Header format p input behind
-        → Header format p other behind → IsLogOf input (Readable p items Clean) → IsVerdictOf input _verdict.now ↔ IsVerdictOf other _verdict.now }
+        → Header format p other behind → LogSays input p items Clean → IsVerdictOf input _verdict.now ↔ IsVerdictOf other _verdict.now }
 {}
 
 /// A legal log is read whole, has so many entries and transactions, each message is of the grammar, and each transaction has

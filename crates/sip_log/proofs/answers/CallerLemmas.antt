@@ -13,8 +13,7 @@ use Rattle.sip_log.specs.Next.{Next, ends, gives, stops, ComesNext}
 use Rattle.sip_standard.specs.LogEntry.{Item, entry_says, IsEntry, InOrder, last_of}
 use Rattle.sip_standard.specs.LogHeader.{Header}
 use Rattle.sip_standard.specs.LogSays.{most_entries, EndsWith, LogEnd, Clean, Stops, LacksHeader, LogSays}
-use Rattle.sip_log.specs.Log.{IsFaultOf}
-use Rattle.sip_log.specs.Told.{FailsAs, item}
+use Rattle.sip_log.specs.Told.{FailsAs, item, IsFaultOf}
 use Rattle.sip_log.specs.Reading.{Stage, fresh, entries, ended, failed, ReaderState, Moves, ProgressState, beside_source, Continues, ComesFirst, Comes, Heads, Opens, NextsAt, Nexts}
 use Rattle.sip_log.proofs.answers.ReadingLemmas.{FailsAs-map}
 use Rattle.sip_log.proofs.logs.LogExists.{Follow-some}

@@ -8,7 +8,8 @@ use Rattle.sip_standard.specs.declared.format.Format.{Format}
 use Rattle.sip_standard.specs.declared.log_reason.LogReason.{LogReason}
 use Rattle.sip_standard.specs.declared.log_reason.LogReason.TheVariants.{EntryLine, Truncated, Order, Limit}
 use Rattle.sip_standard.specs.declared.log_reason.LogReason.TheVariants as faults
-use Rattle.sip_log.specs.Next.{Next, gives, stops, ComesNext, next_at}
+use Rattle.sip_log.specs.Next.{Next, gives, stops, ComesNext}
+use Rattle.sip_log.specs.inner.Follow.{next_at}
 use Rattle.sip_standard.specs.LogSays.{line_feed, most_entries, First, FrontLine, LogEnd, Clean, Stops, LineFault, EndsWith}
 use Rattle.sip_standard.specs.LogEntry.{Item, line_says, HasMessage, body_says, entry_says, IsOf, IsWithinLimits, IsEntry}
 use Rattle.sip_log.specs.inner.Line.{Head, message, plain, HeadLine, KeepsLimits}

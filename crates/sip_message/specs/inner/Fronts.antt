@@ -3,11 +3,11 @@ use Rattle.std.specs.Prelude.{◌≡◌, ℕ, ◌-◌, ◌&&◌, ◌==◌, not, 
 use Rattle.std.specs.Borrow.{Bor}
 use Rattle.sip_standard.specs.Text.{Exactly, ◌then◌}
 use Rattle.sip_standard.specs.Profile.{Token, Sws, Blanks}
-use Rattle.sip_text.specs.Bytes.{carriage_return, is_wsp, is_token_byte}
-use Rattle.sip_text.specs.inner.Blanks.{blank_len}
+use Rattle.sip_text.specs.Bytes.{carriage_return, is_token_byte}
+use Rattle.sip_text.specs.inner.Blanks.{is_wsp, blank_len}
 use Rattle.sip_standard.specs.Lines.{OpensBlank}
-use Rattle.sip_message.specs.Lines.{IsFolded, with_end}
-use Rattle.sip_message.specs.Params.{slash, Mark}
+use Rattle.sip_message.specs.inner.Lines.{IsFolded, with_end}
+use Rattle.sip_message.specs.inner.Marks.{slash, Mark}
 
 -- the text begins with no byte that passes
 abbrev pub Stops : (ℕ → Bool) → List ℕ → Type 0

@@ -3,7 +3,7 @@ use Rattle.std.specs.Prelude.{◌≡◌, ◌⊎◌, ℕ, List, ◌++◌, Option,
 use Rattle.std.specs.Borrow.{Bor}
 use Rattle.sip_standard.specs.Profile.{Token, Port}
 use Rattle.sip_text.specs.Bytes.{colon}
-use Rattle.sip_text.specs.Case.{SameText}
+use Rattle.sip_text.specs.inner.Case.{SameText}
 use Rattle.sip_text.specs.Host.{HostParts, HostText, host_parts}
 use Rattle.sip_text.specs.declared.host.Host.{Host}
 use Rattle.sip_message.specs.Via.{ViaParts, IsBranch}

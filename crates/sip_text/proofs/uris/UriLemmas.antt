@@ -7,7 +7,7 @@ use Rattle.sip_standard.specs.Case.{folded}
 use Rattle.sip_standard.specs.Profile.{Scheme, Uric}
 use Rattle.sip_text.specs.Bytes.{colon}
 use Rattle.sip_text.specs.Parts.{led, IsOnlyValue}
-use Rattle.sip_text.specs.Case.{SameText}
+use Rattle.sip_text.specs.inner.Case.{SameText}
 use Rattle.sip_text.specs.Uri.{sip_text, scheme_name, UriParts, sip, other, UriText, uri_parts}
 use Rattle.sip_text.specs.inner.Class.{is_scheme_byte}
 use Rattle.sip_text.specs.inner.Cut.{before, behind}

@@ -14,8 +14,7 @@ use Rattle.sip_standard.specs.declared.action.Action.{Action}
 use Rattle.sip_standard.specs.declared.action.Action.TheVariants.{Sent, Received, Failed, Mark, Restart}
 use Rattle.sip_standard.specs.Times.{Times}
 use Rattle.sip_standard.specs.LogEntry.{Item}
-use Rattle.sip_standard.specs.LogSays.{LogEnd, Clean, Stops}
-use Rattle.sip_log.specs.Log.{Log, Faulty, Readable, IsLogOf}
+use Rattle.sip_standard.specs.LogSays.{LogEnd, Clean, Stops, LogSays, LacksHeader}
 use Rattle.sip_log.proofs.logs.Logs.{log_is_some}
 use Rattle.sip_standard.specs.declared.verdict.Verdict.{Verdict}
 use Rattle.sip_standard.specs.declared.verdict.Verdict.TheVariants.{Legal, Malformed, Breach, Undecided, LogFault}
@@ -118,10 +117,10 @@ judges_some p es (item ∷ items) end never =
     judges_some p (es ++ seen.0 ∷ []) items end (λ left. never (left.0, (seen.0, seen.1, inr (fine.formed, fine.runs, fine.narrow, left.1))))))
 
 -- a log has a verdict
-verdict_of_log : (input : List ℕ) (log : Log) → IsLogOf input log → Weakly ((v : Verdict) × IsVerdictOf input v)
-verdict_of_log input Faulty is never = never (LogFault 0 Header, inl (is, refl))
-verdict_of_log input (Readable p items end) is never = judges_some p [] items end (λ one. never (one.0, inr (p, items, end, is, one.1)))
+verdict_of_log : (input : List ℕ) → LacksHeader input ⊎ ((p : Times) × (items : List Item) × (end : LogEnd) × LogSays input p items end) → Weakly ((v : Verdict) × IsVerdictOf input v)
+verdict_of_log input (inl none) never = never (LogFault 0 Header, inl (none, refl))
+verdict_of_log input (inr (p, items, end, is)) never = judges_some p [] items end (λ one. never (one.0, inr (p, items, end, is, one.1)))
 
 -- each input has a verdict
 pub has_verdict : (input : List ℕ) → ¬ ((v : Verdict) → ¬ (IsVerdictOf input v))
-has_verdict input never = let log = log_is_some input in verdict_of_log input log.0 log.1 (λ one. never one.0 one.1)
+has_verdict input never = verdict_of_log input (log_is_some input) (λ one. never one.0 one.1)

@@ -3,22 +3,13 @@ use Rattle.std.proofs.Common.{◌≡◌, ◌⊎◌, inl, inr, ℕ, None, List, [
 use Rattle.sip_standard.specs.Times.{Times}
 use Rattle.sip_standard.specs.declared.verdict.Verdict.{Verdict}
 use Rattle.sip_standard.specs.LogEntry.{Item}
-use Rattle.sip_standard.specs.LogSays.{LogEnd, Clean, Stops, LogSays, LacksHeader}
-use Rattle.sip_log.specs.Log.{Readable}
+use Rattle.sip_standard.specs.LogSays.{LogEnd, Clean, Stops, LogSays}
 use Rattle.sip_standard.specs.Key.{KeyParts}
 use Rattle.sip_standard.specs.Observation.{Observation}
+use Rattle.sip_log.proofs.logs.Logs.{log_is_one, log_has_header}
 use Rattle.sip_standard.specs.VerdictOf.{keys_in, RunsOver, IsWideAt, HasTrouble, IsVerdictAfter, IsVerdictOf}
-use Rattle.sip_log.proofs.logs.Logs.{log_is_one}
 use Rattle.sip_verdict.proofs.verdicts.MessageUnique.{observes_one}
 use Rattle.sip_verdict.proofs.verdicts.Unique.{fine_no_trouble, trouble_is_one}
-
--- an input has one log with a header
-pub one_log : (input : List ℕ) (p q : Times) (xs ys : List Item) (end fin : LogEnd) → LogSays input p xs end → LogSays input q ys fin → (p ≡ q) × (xs ≡ ys) × (end ≡ fin)
-one_log input p q xs ys end fin a b = let e = log_is_one input (Readable p xs end) (Readable q ys fin) a b in (cc, cc, cc)
-
--- a log has no header or holds entries
-pub not_both : (input : List ℕ) (p : Times) (items : List Item) (end : LogEnd) → LacksHeader input → LogSays input p items end → ⊥
-not_both input p items end none is = none is.format p _ is.header
 
 -- entries have one verdict
 judges_one : (p : Times) (es : List (Observation KeyParts)) (items : List Item) (end : LogEnd) (v w : Verdict) → IsVerdictAfter p es items end v → IsVerdictAfter p es items end w → v ≡ w
@@ -41,12 +32,12 @@ judges_one p es (item ∷ items) end v w (e, seen, a) (f, seen2, b) = go a (subs
 -- an input with a header has one verdict
 log_judges_one : (input : List ℕ) (p q : Times) (xs ys : List Item) (end fin : LogEnd) (v w : Verdict) → LogSays input p xs end → IsVerdictAfter p [] xs end v → LogSays input q ys fin → IsVerdictAfter q [] ys fin w → v ≡ w
 log_judges_one input p q xs ys end fin v w log a other b =
-    let same = one_log input p q xs ys end fin log other in
+    let same = log_is_one input p q xs ys end fin log other in
     judges_one p [] xs end v w a (subst (λ z. IsVerdictAfter z [] xs end w) (sym same.0) (subst (λ z. IsVerdictAfter q [] z end w) (sym same.1) (subst (λ z. IsVerdictAfter q [] ys z w) (sym same.2) b)))
 
 -- an input has one verdict
 pub verdict_is_one : (input : List ℕ) (v w : Verdict) → IsVerdictOf input v → IsVerdictOf input w → v ≡ w
 verdict_is_one input v w (inl a) (inl b) = a.1 ∙ sym b.1
-verdict_is_one input v w (inl a) (inr (q, ys, fin, log, b)) = absurd (not_both input q ys fin a.0 log)
-verdict_is_one input v w (inr (p, xs, end, log, a)) (inl b) = absurd (not_both input p xs end b.0 log)
+verdict_is_one input v w (inl a) (inr (q, ys, fin, log, b)) = absurd (log_has_header input q ys fin a.0 log)
+verdict_is_one input v w (inr (p, xs, end, log, a)) (inl b) = absurd (log_has_header input p xs end b.0 log)
 verdict_is_one input v w (inr (p, xs, end, log, a)) (inr (q, ys, fin, other, b)) = log_judges_one input p q xs ys end fin v w log a other b

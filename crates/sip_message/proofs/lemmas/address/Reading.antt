@@ -1,6 +1,5 @@
 -- An address is read step by step, and what is read is the grammar's text.
 use Rattle.std.proofs.Common.{◌≡◌, ℕ, zero, suc, ◌<◌, ◌≤◌, Bool, true, false, ◌||◌, not, nat_eq, nat_lt, List, [], ◌∷◌, ◌++◌, Option, Some, None, IfSome, length, take, drop, get_or, slice_index, refl, sym, ap, ◌∙◌, subst, inl, inr, arith}
-use Rattle.std.specs.Prelude.{codes}
 use Rattle.std.specs.Bool.{Decides}
 use Rattle.std.specs.List.{prefix_len}
 use Rattle.std.proofs.Math.Seq.{drop-cons}
@@ -8,7 +7,8 @@ use Rattle.std.proofs.lemmas.Bool.{both_ways, eqb-true, eq-eqb, or_parts, and_pa
 use Rattle.std.proofs.lemmas.List.{append_assoc, length-drop, take-append-drop}
 use Rattle.sip_standard.specs.Text.{◌then◌, Many}
 use Rattle.sip_standard.specs.Profile.{Token, Sws, Blanks}
-use Rattle.sip_text.specs.Bytes.{colon, dquote, semicolon, is_token_byte, is_one_of}
+use Rattle.sip_text.specs.Bytes.{colon, dquote, semicolon, is_token_byte}
+use Rattle.sip_standard.specs.Chars.{is_among}
 use Rattle.sip_text.specs.Parts.{led, IsLongestFront}
 use Rattle.sip_text.specs.Uri.{UriText}
 use Rattle.sip_text.specs.inner.Cut.{before, behind, past}
@@ -16,7 +16,8 @@ use Rattle.sip_text.proofs.cuts.CutLemmas.{cut-whole, past-some, before-led, beh
 use Rattle.sip_text.proofs.texts.ManyLemmas.{some-many}
 use Rattle.sip_text.proofs.texts.LacksLemmas.{Lacks}
 use Rattle.sip_standard.specs.Field.{is_lws_byte}
-use Rattle.sip_message.specs.Params.{left_angle, right_angle, Mark, ParamsPart, BehindBlanks}
+use Rattle.sip_message.specs.inner.Marks.{left_angle, right_angle, Mark}
+use Rattle.sip_message.specs.Params.{ParamsPart, BehindBlanks}
 use Rattle.sip_message.specs.Address.{AddressParts, AddressText, name_addr, addr_spec, BeforeUri, DisplayName}
 use Rattle.sip_message.specs.inner.Fronts.{Stops, Behind, IsOnlyBehind, both}
 use Rattle.sip_message.specs.Reading.{AddressValue}
@@ -289,13 +290,13 @@ display-fits (Some name) text inner (rest, inr words, behind) = inr words.0
 not-plain : (b : ℕ) → is_lws_byte b ≡ true → is_unmarked_byte b ≡ false
 not-plain = blank_is (λ b. is_unmarked_byte b ≡ false) refl refl refl refl
 
-plain-all : (u : List ℕ) → All (λ b. not (is_lws_byte b)) u → All (λ b. not (is_one_of (codes ",?;") b)) u → All is_unmarked_byte u
+plain-all : (u : List ℕ) → All (λ b. not (is_lws_byte b)) u → All (λ b. not (is_among ",?;" b)) u → All is_unmarked_byte u
 plain-all [] solid other = tt
-plain-all (b ∷ u) solid other = (and_from (not (is_lws_byte b)) (not (is_one_of (codes ",?;") b)) solid.0 other.0, plain-all u solid.1 other.1)
+plain-all (b ∷ u) solid other = (and_from (not (is_lws_byte b)) (not (is_among ",?;" b)) solid.0 other.0, plain-all u solid.1 other.1)
 
-all-other : (u : List ℕ) → All is_unmarked_byte u → All (λ b. not (is_one_of (codes ",?;") b)) u
+all-other : (u : List ℕ) → All is_unmarked_byte u → All (λ b. not (is_among ",?;" b)) u
 all-other [] all = tt
-all-other (b ∷ u) all = ((and_parts (not (is_lws_byte b)) (not (is_one_of (codes ",?;") b)) all.0).1, all-other u all.1)
+all-other (b ∷ u) all = ((and_parts (not (is_lws_byte b)) (not (is_among ",?;" b)) all.0).1, all-other u all.1)
 
 fails-plain : (u : List ℕ) → Fails is_unmarked_byte u → Stops is_unmarked_byte u
 fails-plain [] fails = absurd fails
@@ -332,7 +333,7 @@ address-steps text a (name_addr fits (d, w1, before_is, (u, w2, u_is, (g, w3, g_
 address-steps text a (addr_spec fits none plain_is (u, w, u_is, tail, whole)) =
     both (make a.display a.uri_text w)
     (plain (has.0, has.1 ++ w, has.2, flat ∙ ap (λ t. t ++ w) has.3 ∙ append_assoc has.0 (colon ∷ has.1) w) none
-    (plain-all a.uri_text (solid-uri a.uri_text a.uri fits.uri) (each-many (λ b. not (is_one_of (codes ",?;") b)) _ (each-one (λ b. not (is_one_of (codes ",?;") b)) (λ b. not (is_one_of (codes ",?;") b)) (λ b is. is)) a.uri_text plain_is))
+    (plain-all a.uri_text (solid-uri a.uri_text a.uri fits.uri) (each-many (λ b. not (is_among ",?;" b)) _ (each-one (λ b. not (is_among ",?;" b)) (λ b. not (is_among ",?;" b)) (λ b is. is)) a.uri_text plain_is))
     (tail-stops w a.params (tail, fits.params)) flat)
     (both a.uri fits.uri (both a.params (tail, fits.params) refl))
   where
@@ -359,7 +360,7 @@ steps-address text x (both c (named inner display uri_is rest_is) (both uri is_u
 steps-address text x (both c (plain has none all stops whole) (both uri is_uri (both params tail is))) =
     subst (AddressValue text) (sym is) (
       addr_spec (record { display = subst (λ d. IfSome d DisplayName) (sym none) tt; uri = is_uri; params = tail.1 }) none
-          (all-run (λ b. not (is_one_of (codes ",?;") b)) c.uri (all-other c.uri all)) (c.uri, c.rest, refl, tail.0, whole),
+          (all-run (λ b. not (is_among ",?;" b)) c.uri (all-other c.uri all)) (c.uri, c.rest, refl, tail.0, whole),
       refl,
     )
 

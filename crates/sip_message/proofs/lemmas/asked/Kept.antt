@@ -11,9 +11,10 @@ use Rattle.sip_message.specs.declared.values.CSeq.{CSeq}
 use Rattle.sip_message.specs.declared.name.Known.{Known}
 use Rattle.sip_message.specs.declared.name.Known.TheVariants as known_name
 use Rattle.sip_message.specs.Name.{known, is_name_of}
-use Rattle.sip_message.specs.Field.{Field, Row}
+use Rattle.sip_message.specs.Field.{Field}
+use Rattle.sip_message.specs.inner.FieldText.{Row}
 use Rattle.sip_message.specs.Elements.{values}
-use Rattle.sip_message.specs.Reading.{CSeqValue}
+use Rattle.sip_message.specs.inner.Values.{CSeqValue}
 use Rattle.sip_message.specs.ViaParts.{element}
 use Rattle.sip_message.specs.ValueParts.{cseq_parts}
 use Rattle.sip_message.specs.inner.ElementFronts.{FirstVia}

@@ -3,10 +3,11 @@ use Rattle.std.proofs.Common.{◌≡◌, ℕ, ◌+◌, ◌≤◌, Bool, true, fa
 use Rattle.std.specs.List.{AllByRecursion, flat_map, list_any}
 use Rattle.std.proofs.lemmas.Bool.{both_ways}
 use Rattle.std.proofs.lemmas.List.{append_assoc, append-nil, length-append}
-use Rattle.sip_text.specs.Bytes.{crlf, carriage_return, line_feed, space, is_wsp}
+use Rattle.sip_text.specs.Bytes.{crlf, carriage_return, line_feed, space}
+use Rattle.sip_text.specs.inner.Blanks.{is_wsp}
 use Rattle.sip_text.proofs.texts.ManyLemmas.{many-nil, many-cons, many-append, many-one}
 use Rattle.sip_standard.specs.Lines.{CutSays}
-use Rattle.sip_message.specs.Lines.{is_inner_byte, HasNoBareEnd, IsFolded, with_end}
+use Rattle.sip_message.specs.inner.Lines.{is_inner_byte, HasNoBareEnd, IsFolded, with_end}
 use Rattle.sip_standard.specs.Field.{is_lws_byte}
 use Rattle.sip_standard.specs.Canonical.{is_end_byte, unfolded_run, unfolded_from, unfolded}
 use Rattle.sip_message.proofs.lemmas.text.Cuts.{Cuts, first_longer, same_length, second_longer, two_cuts, All, all_right, all_both}

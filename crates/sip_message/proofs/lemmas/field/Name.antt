@@ -2,12 +2,13 @@
 use Rattle.std.proofs.Common.{◌≡◌, ℕ, Bool, true, false, cond, List, [], ◌∷◌, ◌++◌, Some, None, refl, sym, ap, ◌∙◌}
 use Rattle.std.proofs.lemmas.Option.{none-some}
 use Rattle.sip_standard.specs.Text.{One, Many}
-use Rattle.sip_text.specs.Bytes.{colon, is_wsp}
+use Rattle.sip_text.specs.Bytes.{colon}
+use Rattle.sip_text.specs.inner.Blanks.{is_wsp}
 use Rattle.sip_text.specs.inner.Cut.{past}
 use Rattle.sip_text.proofs.texts.ManyLemmas.{many-nil, many-cons}
 use Rattle.sip_text.proofs.cuts.CutLemmas.{past-some}
 use Rattle.sip_message.specs.Name.{FieldName, name_of}
-use Rattle.sip_message.specs.Field.{NameText}
+use Rattle.sip_message.specs.inner.FieldText.{NameText}
 use Rattle.sip_message.specs.inner.Faults.{HasName}
 use Rattle.sip_message.specs.inner.Fronts.{TokenFront, past_wsp}
 use Rattle.sip_message.proofs.lemmas.text.Cuts.{All}

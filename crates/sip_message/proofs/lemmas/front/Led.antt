@@ -3,7 +3,7 @@ use Rattle.std.proofs.Common.{◌≡◌, ℕ, ◌<◌, ◌≤◌, ◌⊎◌, Boo
 use Rattle.std.proofs.lemmas.Bool.{both_ways}
 use Rattle.std.proofs.lemmas.List.{append_assoc, length-append}
 use Rattle.sip_standard.specs.Field.{is_lws_byte}
-use Rattle.sip_message.specs.Params.{comma, Mark}
+use Rattle.sip_message.specs.inner.Marks.{comma, Mark}
 use Rattle.sip_message.specs.inner.Fronts.{Stops, Behind, TokenFront, MarkFront}
 use Rattle.sip_message.specs.inner.ElementFronts.{EndsElement}
 use Rattle.sip_message.specs.inner.ParamFronts.{LedFront}

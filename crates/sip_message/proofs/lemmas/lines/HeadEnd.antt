@@ -9,8 +9,7 @@ use Rattle.sip_standard.specs.Text.{One, Exactly, ◌or◌}
 use Rattle.sip_text.specs.Bytes.{crlf, carriage_return, line_feed}
 use Rattle.sip_text.proofs.texts.ManyLemmas.{many-nil, many-cons}
 use Rattle.sip_standard.specs.Lines.{CutSays, LinesSay}
-use Rattle.sip_message.specs.Lines.{is_inner_byte, HasNoBareEnd, with_end}
-use Rattle.sip_message.specs.inner.Lines.{AreLines, IsPaired, ArePaired, BeginsWithFeed}
+use Rattle.sip_message.specs.inner.Lines.{is_inner_byte, HasNoBareEnd, with_end, AreLines, IsPaired, ArePaired, BeginsWithFeed}
 use Rattle.sip_message.specs.inner.Fronts.{LineFront}
 use Rattle.sip_message.proofs.lemmas.text.Cuts.{All}
 use Rattle.sip_message.proofs.lemmas.front.Cuts.{ReadAs, NotRead}

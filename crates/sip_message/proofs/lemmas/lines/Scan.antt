@@ -3,7 +3,8 @@ use Rattle.std.proofs.Common.{◌≡◌, ℕ, ◌+◌, ◌-◌, ◌≤◌, ◌�
 use Rattle.std.proofs.lemmas.Bool.{both_ways, and_parts, and_from}
 use Rattle.std.proofs.lemmas.Option.{none-some}
 use Rattle.std.proofs.Math.Seq.{take-append_seam, drop-append_seam}
-use Rattle.sip_text.specs.Bytes.{crlf, carriage_return, line_feed, is_wsp}
+use Rattle.sip_text.specs.Bytes.{crlf, carriage_return, line_feed}
+use Rattle.sip_text.specs.inner.Blanks.{is_wsp}
 use Rattle.sip_text.specs.Parts.{led}
 use Rattle.sip_text.specs.inner.Cut.{before, behind, up_to}
 use Rattle.sip_text.proofs.cuts.CutLemmas.{cut-whole, lacks-before}
@@ -11,7 +12,7 @@ use Rattle.sip_text.proofs.cuts.EndLemmas.{up_to-some, up_to-mark}
 use Rattle.std.proofs.lemmas.List.{append_assoc, append-nil, length-append, append_cancel_left, take-append-drop, length-take-le}
 use Rattle.sip_text.proofs.texts.LacksLemmas.{Lacks}
 use Rattle.sip_standard.specs.Lines.{OpensBlank}
-use Rattle.sip_message.specs.Lines.{IsFolded}
+use Rattle.sip_message.specs.inner.Lines.{IsFolded}
 use Rattle.sip_message.specs.inner.Fronts.{LineFront, ends_cr, begins_wsp, is_line}
 use Rattle.sip_message.proofs.lemmas.text.Cuts.{Cuts, first_longer, same_length, second_longer, two_cuts, same_by_end}
 use Rattle.sip_message.proofs.lemmas.lines.OneWay.{same_first}

@@ -4,9 +4,11 @@ use Rattle.sip_message.specs.declared.name.Known.{Known}
 use Rattle.sip_message.specs.declared.name.Known.TheVariants as known_name
 use Rattle.sip_standard.specs.Outcome.{gives, passes}
 use Rattle.sip_standard.specs.StartLine.{StartLine}
-use Rattle.sip_message.specs.StartLine.{StartText}
-use Rattle.sip_message.specs.Field.{Field, Row, NameText, ValueText, FieldsText}
-use Rattle.sip_message.specs.Message.{Message, IsFirstFound, MethodFits, HasLength, IsNoMore, MessageFits, MessageText, message_of, Spells, content_length, found}
+use Rattle.sip_message.specs.inner.StartLine.{StartText}
+use Rattle.sip_message.specs.Field.{Field}
+use Rattle.sip_message.specs.inner.FieldText.{Row, NameText, ValueText, FieldsText}
+use Rattle.sip_message.specs.Message.{Message}
+use Rattle.sip_message.specs.inner.MessageText.{IsFirstFound, MethodFits, HasLength, IsNoMore, MessageFits, MessageText, message_of, Spells, content_length, found}
 use Rattle.sip_standard.specs.Body.{cut_body}
 use Rattle.sip_standard.specs.Field.{FirstOf, OneOf}
 use Rattle.sip_standard.specs.Lines.{CutSays}

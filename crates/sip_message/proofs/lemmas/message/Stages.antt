@@ -6,20 +6,21 @@ use Rattle.sip_standard.specs.declared.fault.Fault.{Fault}
 use Rattle.sip_message.specs.declared.fault.ReadError.{ReadError}
 use Rattle.sip_message.specs.declared.fault.ReadError.TheVariants as error
 use Rattle.sip_standard.specs.Lines.{CutSays, LinesSay}
-use Rattle.sip_message.specs.Lines.{HasNoBareEnd}
-use Rattle.sip_message.specs.inner.Lines.{AreLines}
+use Rattle.sip_message.specs.inner.Lines.{HasNoBareEnd, AreLines}
 use Rattle.sip_standard.specs.StartLine.{StartLine}
-use Rattle.sip_message.specs.StartLine.{StartText}
+use Rattle.sip_message.specs.inner.StartLine.{StartText}
 use Rattle.sip_message.specs.Field.{Field}
-use Rattle.sip_message.specs.Message.{Message, MessageText, content_length}
+use Rattle.sip_message.specs.Message.{Message}
+use Rattle.sip_message.specs.inner.MessageText.{MessageText, content_length}
 use Rattle.sip_standard.specs.Outcome.{Outcome, gives, stops, passes}
 use Rattle.sip_message.specs.inner.Faults.{FieldsOf, NamesOf, BodyOf, LinesOf, ReadOf}
 use Rattle.sip_message.specs.inner.Settles.{Settles}
 use Rattle.sip_message.specs.Only.{IsOnly}
-use Rattle.sip_message.specs.Reading.{Reading, Parts, HasParts, Keeps, CSeqValue}
+use Rattle.sip_message.specs.Reading.{Reading, Parts, HasParts}
+use Rattle.sip_message.specs.inner.Kept.{Keeps, KeepsRead}
+use Rattle.sip_message.specs.inner.Values.{CSeqValue}
 use Rattle.sip_message.specs.Elements.{Element}
 use Rattle.sip_message.specs.inner.ElementFronts.{FirstVia}
-use Rattle.sip_message.specs.inner.Kept.{KeepsRead}
 use Rattle.sip_message.specs.Reads.{Reads, ReadsTo}
 use Rattle.sip_message.specs.inner.Stages.{Names, Stand}
 use Rattle.sip_message.proofs.lemmas.lines.OneWay.{head-lines}

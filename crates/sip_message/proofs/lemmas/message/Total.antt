@@ -4,7 +4,8 @@ use Rattle.std.proofs.Common.{refl}
 use Rattle.sip_standard.specs.declared.fault.Fault.{Fault}
 use Rattle.sip_message.specs.declared.name.Known.{Known}
 use Rattle.sip_message.specs.Field.{Field}
-use Rattle.sip_message.specs.Message.{Message, found}
+use Rattle.sip_message.specs.Message.{Message}
+use Rattle.sip_message.specs.inner.MessageText.{found}
 use Rattle.sip_standard.specs.Outcome.{Outcome, gives, stops, Gives, Demand, Then, passes, stopped}
 use Rattle.sip_standard.specs.Field.{OneOf}
 use Rattle.sip_message.specs.inner.Faults.{FieldOf, FieldsOf, NamesOf, ReadOf}

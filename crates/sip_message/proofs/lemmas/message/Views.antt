@@ -6,17 +6,23 @@ use Rattle.sip_message.specs.declared.name.Known.{Known}
 use Rattle.sip_message.specs.declared.name.Known.TheVariants as known_name
 use Rattle.sip_message.specs.Field.{Field}
 use Rattle.sip_standard.specs.Outcome.{Outcome, gives}
+use Rattle.sip_standard.specs.Values.{CSeqSays}
 use Rattle.sip_standard.specs.Says.{IsFirstOf}
-use Rattle.sip_message.specs.Message.{Message, MessageText}
-use Rattle.sip_message.specs.Only.{IsOnly, ExactlyOne, the}
+use Rattle.sip_message.specs.Message.{Message}
+use Rattle.sip_message.specs.inner.MessageText.{MessageText}
+use Rattle.sip_message.specs.Only.{IsOnly}
+use Rattle.sip_message.specs.inner.Only.{ExactlyOne, the}
 use Rattle.sip_message.specs.Elements.{Element, values, AreElements}
 use Rattle.sip_message.specs.inner.ElementFronts.{ViaFront}
-use Rattle.sip_message.specs.Reading.{AddressValue, CSeqValue, Reading, Parts, HasParts, Keeps}
+use Rattle.sip_message.specs.Reading.{AddressValue, Reading, Parts, HasParts}
+use Rattle.sip_message.specs.inner.Values.{CSeqValue}
+use Rattle.sip_message.specs.inner.Kept.{Keeps, KeepsRead}
 use Rattle.sip_message.specs.inner.Codes.{parts_code}
-use Rattle.sip_message.specs.inner.Kept.{KeepsRead}
 use Rattle.sip_message.specs.Reads.{Reads}
 use Rattle.sip_message.proofs.lemmas.message.Faults.{text-read, one-read}
 use Rattle.sip_message.proofs.lemmas.via.Elements.{first-front, One-is}
+use Rattle.sip_message.proofs.lemmas.says.Values.{said-value}
+use Rattle.sip_message.proofs.lemmas.says.Told.{tells-text}
 
 -- what must be read is read
 pub some-read : {A X : Type 0} (R : List ℕ → X → Type 0) (parts : A → X) (text : List ℕ) {x : X} (r : Option A) → IsOnlyValue R parts text r → R text x → IsSome r
@@ -43,7 +49,7 @@ keeps-to {m = m} {p = p} k = subst (λ x. AddressValue x p.to) (same-value known
 
 -- the CSeq
 pub keeps-cseq : {m : Message} {p : Parts} {v f t i c : List ℕ} → Keeps m p v f t i c → CSeqValue c p.cseq
-keeps-cseq {m = m} {p = p} k = subst (λ x. CSeqValue x p.cseq) (same-value known_name.CSeq m.fields k.parts.is.cseq.1 k.cseq) k.parts.is.cseq.2
+keeps-cseq {m = m} {p = p} {c = c} k = said-value c p.cseq (subst (λ x. CSeqSays p.cseq x) (same-value known_name.CSeq m.fields k.parts.is.cseq.1 k.cseq) k.parts.is.cseq.2)
 
 -- the value of the first Call-ID is that of the message
 pub keeps-call_id : {m : Message} {p : Parts} {v f t i c : List ℕ} → Keeps m p v f t i c → i ≡ p.call_id
@@ -85,7 +91,7 @@ same_text bytes m n one other =
 -- bytes are read in one way
 pub same_reading : (bytes : List ℕ) (r s : Reading) → Reads bytes r → Reads bytes s → r ≡ s
 same_reading bytes r s one other =
-    let message = same_text bytes r.message s.message one.text other.text in
+    let message = same_text bytes r.message s.message (tells-text bytes r.message one.tells) (tells-text bytes s.message other.tells) in
     let parts : s.parts ≡ r.parts = one.parts.only s.parts (subst (λ m. HasParts m.fields s.parts) (sym message) other.parts.is) in
     ap (λ m. record { message = m; parts = r.parts }) message ∙ ap (λ p. record { message = s.message; parts = p }) (sym parts)
 

@@ -5,13 +5,14 @@ use Rattle.std.proofs.lemmas.Bool.{both_ways}
 use Rattle.std.proofs.lemmas.List.{append_assoc, length-append}
 use Rattle.sip_standard.specs.Text.{One, Exactly, ◌then◌, ◌or◌, Many, OneOrMore, Between}
 use Rattle.sip_standard.specs.Profile.{Token, Lws, Blanks, Sws, Hexseq, Ipv6, Bracketed, Quoted}
-use Rattle.sip_text.specs.Bytes.{space, semicolon, equals, dquote, colon, is_token_byte, Byte}
+use Rattle.sip_text.specs.Bytes.{space, semicolon, equals, dquote, colon, Byte, is_token_byte}
 use Rattle.sip_text.specs.inner.Pieces.{Qdtext, QuotedPair, Hex4, Hexpart}
 use Rattle.sip_text.proofs.texts.ManyLemmas.{many-nil, many-cons}
-use Rattle.sip_message.specs.Unfold.{OpensSolid, EndsSolid}
+use Rattle.sip_message.specs.Params.{OpensSolid, ParamText, ParamsText, ParamsPart, BehindBlanks}
+use Rattle.sip_message.specs.inner.FieldText.{EndsSolid}
 use Rattle.sip_standard.specs.Field.{is_lws_byte}
 use Rattle.sip_standard.specs.Via.{GenValue}
-use Rattle.sip_message.specs.Params.{Mark, ParamText, ParamsText, ParamsPart, BehindBlanks}
+use Rattle.sip_message.specs.inner.Marks.{Mark}
 use Rattle.sip_message.proofs.lemmas.text.Cuts.{All}
 use Rattle.sip_message.proofs.lemmas.text.Each.{Each, each-sws, each-blanks, is_solid}
 use Rattle.sip_message.proofs.lemmas.text.Solid.{solid-token, solid-v6, solid-v6_reference}

@@ -8,10 +8,10 @@ use Rattle.sip_standard.specs.Profile.{Token, Ipv6}
 use Rattle.sip_text.specs.Bytes.{semicolon, equals, dquote, left_bracket, right_bracket, is_token_byte}
 use Rattle.sip_text.specs.inner.Cut.{past}
 use Rattle.sip_text.proofs.cuts.CutLemmas.{past-some}
-use Rattle.sip_message.specs.Unfold.{OpensSolid}
+use Rattle.sip_message.specs.Params.{OpensSolid, ParamText, ParamsText, ParamsPart, BehindBlanks}
 use Rattle.sip_standard.specs.Field.{is_lws_byte}
 use Rattle.sip_standard.specs.Via.{GenValue}
-use Rattle.sip_message.specs.Params.{comma, Mark, ParamText, ParamsText, ParamsPart, BehindBlanks}
+use Rattle.sip_message.specs.inner.Marks.{comma, Mark}
 use Rattle.sip_message.specs.inner.Fronts.{StopsBlank, TokenFront, MarkFront, both}
 use Rattle.sip_message.specs.inner.ParamFronts.{Param, is_bare_byte, ValueFront, LedFront, ParamFront, ParamsFront, AllParamsFront}
 use Rattle.sip_message.proofs.lemmas.text.Cuts.{All}

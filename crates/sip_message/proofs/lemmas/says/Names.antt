@@ -9,7 +9,7 @@ use Rattle.sip_standard.specs.Case.{folded}
 use Rattle.sip_message.specs.declared.name.Known.{Known}
 use Rattle.sip_message.specs.declared.name.Known.TheVariants as known_name
 use Rattle.sip_message.specs.Name.{FieldName, known, other, spellings, name_by, name_of, is_name_of}
-use Rattle.sip_message.specs.Field.{Row}
+use Rattle.sip_message.specs.inner.FieldText.{Row}
 use Rattle.sip_standard.specs.Via.{SaidVia, ViasSay}
 use Rattle.sip_standard.specs.Values.{Address, CSeqSays}
 use Rattle.sip_standard.specs.Field.{full_name, RowSays}

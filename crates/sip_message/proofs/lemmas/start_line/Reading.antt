@@ -12,16 +12,15 @@ use Rattle.sip_standard.specs.Text.{One, Many}
 use Rattle.sip_standard.specs.Case.{folded}
 use Rattle.sip_standard.specs.Profile.{Token}
 use Rattle.sip_text.specs.Bytes.{space}
-use Rattle.sip_text.specs.Case.{SameText}
+use Rattle.sip_text.specs.inner.Case.{SameText}
 use Rattle.sip_text.specs.Uri.{UriParts, UriText}
 use Rattle.sip_text.specs.inner.Cut.{past}
 use Rattle.sip_text.proofs.texts.ManyLemmas.{many-some}
-use Rattle.sip_message.specs.Values.{Digits}
+use Rattle.sip_message.specs.inner.Values.{Digits}
 use Rattle.sip_text.proofs.cuts.CutLemmas.{past-some}
 use Rattle.sip_text.proofs.texts.RunLemmas.{run-list_all, list_all-run}
 use Rattle.sip_standard.specs.StartLine.{StartLine, request, status}
-use Rattle.sip_message.specs.StartLine.{Version, CodeText, is_reason_byte, StartText}
-use Rattle.sip_message.specs.inner.StartFronts.{RequestLine, StatusLine, CodeFront}
+use Rattle.sip_message.specs.inner.StartLine.{Version, CodeText, is_reason_byte, StartText, RequestLine, StatusLine, CodeFront}
 use Rattle.sip_message.specs.inner.Fronts.{TokenFront}
 use Rattle.sip_message.proofs.lemmas.text.Cuts.{same_by_front, same_by_end}
 use Rattle.sip_message.proofs.lemmas.front.Cuts.{ReadAs, NotRead}

@@ -5,7 +5,7 @@ use Rattle.std.specs.Prelude.{IfSome}
 use Rattle.sip_standard.specs.Text.{One, Exactly, Many, OneOrMore}
 use Rattle.sip_standard.specs.Case.{folded}
 use Rattle.sip_standard.specs.Profile.{Token, Hostname, Ipv4, Hexseq, Ipv6, Bracketed, User, Password, Port, UriParameters, Headers}
-use Rattle.sip_text.specs.Bytes.{space, tab, carriage_return, line_feed, colon, at_sign, question, is_token_byte, Byte}
+use Rattle.sip_text.specs.Bytes.{space, tab, carriage_return, line_feed, colon, at_sign, question, Byte, is_token_byte}
 use Rattle.sip_text.specs.Parts.{led}
 use Rattle.sip_text.specs.Host.{HostParts, HostText, host_text, name, v4, v6}
 use Rattle.sip_text.specs.Uri.{SipParts, SipFits, userinfo_text, hostport_text, sip_text, scheme_name, UriParts, UriText, sip, other}

@@ -6,14 +6,13 @@ use Rattle.std.proofs.lemmas.Bool.{and_parts, eqb-true, eq-eqb, or_left, or_righ
 use Rattle.std.proofs.lemmas.List.{append-nil, append_assoc, length-append, drop-drop}
 use Rattle.sip_standard.specs.Text.{One, Exactly, ◌then◌, ◌or◌, Many}
 use Rattle.sip_standard.specs.Profile.{Lws}
-use Rattle.sip_text.specs.Bytes.{carriage_return, line_feed, crlf, is_wsp}
+use Rattle.sip_text.specs.Bytes.{carriage_return, line_feed, crlf}
+use Rattle.sip_text.specs.inner.Blanks.{is_wsp, Blank, begins_with_fold}
 use Rattle.sip_text.specs.Parts.{HasFront}
-use Rattle.sip_text.specs.inner.Blanks.{Blank, begins_with_fold}
 use Rattle.sip_text.proofs.texts.ManyLemmas.{many-one, many-map, many-flat, many-append, IsStep, longest_many, front-rest, front-within, front-whole}
 use Rattle.sip_text.proofs.strings.BlanksLemmas.{blanks-lws, lws-blank}
 use Rattle.sip_text.proofs.texts.RunLemmas.{run-front}
-use Rattle.sip_message.specs.Values.{is_value_byte, OtherText}
-use Rattle.sip_message.specs.inner.ValueFronts.{is_plain_byte}
+use Rattle.sip_message.specs.inner.Values.{is_value_byte, OtherText, is_plain_byte}
 use Rattle.sip_message.proofs.lemmas.text.Cuts.{Stops}
 use Rattle.sip_message.proofs.lemmas.front.Prefix.{prefix-at}
 

@@ -11,10 +11,10 @@ use Rattle.sip_text.specs.Parts.{IsLongestFront, IsOnlyValue}
 use Rattle.sip_text.specs.inner.Blanks.{Blank}
 use Rattle.sip_text.proofs.texts.ManyLemmas.{many-nil, many-one, many-append, front-whole}
 use Rattle.sip_text.proofs.strings.BlanksLemmas.{units-blanks, blanks-units}
-use Rattle.sip_message.specs.Unfold.{OpensSolid, EndsSolid}
+use Rattle.sip_message.specs.Params.{OpensSolid}
+use Rattle.sip_message.specs.inner.FieldText.{EndsSolid, ValueText}
 use Rattle.sip_standard.specs.Field.{is_lws_byte}
-use Rattle.sip_message.specs.Field.{ValueText}
-use Rattle.sip_message.specs.inner.ValueFronts.{is_solid}
+use Rattle.sip_message.specs.inner.Values.{is_solid}
 use Rattle.sip_message.proofs.lemmas.text.Cuts.{All, Stops, all_both, all_right, same_front}
 use Rattle.sip_message.proofs.lemmas.text.Each.{each-sws}
 use Rattle.sip_message.proofs.lemmas.field.OneWay.{same_solid}

@@ -6,9 +6,9 @@ use Rattle.sip_standard.specs.Profile.{Port}
 use Rattle.sip_text.specs.Bytes.{colon, semicolon}
 use Rattle.sip_text.specs.Host.{HostParts, HostText, host_text}
 use Rattle.std.specs.Prelude.{IfSome}
-use Rattle.sip_message.specs.Unfold.{OpensSolid}
-use Rattle.sip_message.specs.Params.{slash, comma, ParamsText, ParamsPart, BehindBlanks}
-use Rattle.sip_message.specs.Via.{ViaParts, ColonPort, ProtocolText}
+use Rattle.sip_message.specs.Params.{OpensSolid, ParamsText, ParamsPart, BehindBlanks}
+use Rattle.sip_message.specs.inner.Marks.{slash, comma}
+use Rattle.sip_message.specs.Via.{ViaParts, ColonPort}
 use Rattle.sip_message.specs.inner.Fronts.{StopsBlank, Behind, TokenFront, MarkFront, BlanksFront, ProtocolParts, ProtocolFront, both}
 use Rattle.sip_message.specs.Elements.{Element}
 use Rattle.sip_message.specs.inner.ElementFronts.{EndsElement, ViaFront}
@@ -16,7 +16,7 @@ use Rattle.sip_message.specs.inner.ParamFronts.{Param, LedFront}
 use Rattle.sip_message.specs.inner.ViaFronts.{HostFront, PortFront, TailFront, ViaSteps}
 use Rattle.sip_message.proofs.lemmas.text.Cuts.{same_by_end}
 use Rattle.sip_message.proofs.lemmas.front.Cuts.{ReadAs, NotRead, stops-byte, same-behind}
-use Rattle.sip_message.proofs.lemmas.via.Protocol.{IsProtocol, protocol-steps, steps-protocol}
+use Rattle.sip_message.proofs.lemmas.via.Protocol.{ProtocolText, IsProtocol, protocol-steps, steps-protocol}
 use Rattle.sip_message.proofs.lemmas.front.OneWay.{AtMostOne, read-one, one-seq, one-last, one-token, one-mark, one-blanks, one-led}
 use Rattle.sip_message.proofs.lemmas.params.Value.{front-is, rest-short}
 use Rattle.sip_message.proofs.lemmas.front.Led.{Next, ends-next, mark-next}

@@ -1,10 +1,9 @@
 -- Each input has a survey: none is without.
-use Rattle.std.proofs.Common.{inl, inr, ◌+◌, ℕ, List, [], ◌∷◌, ◌++◌, length, refl}
+use Rattle.std.proofs.Common.{◌⊎◌, inl, inr, ◌+◌, ℕ, List, [], ◌∷◌, ◌++◌, length, refl}
 use Rattle.sip_standard.specs.Key.{KeyParts}
 use Rattle.sip_standard.specs.Times.{Times}
 use Rattle.sip_standard.specs.LogEntry.{Item}
-use Rattle.sip_standard.specs.LogSays.{LogEnd, Clean, Stops}
-use Rattle.sip_log.specs.Log.{Log, Faulty, Readable, IsLogOf}
+use Rattle.sip_standard.specs.LogSays.{LogEnd, Clean, Stops, LogSays, LacksHeader}
 use Rattle.sip_log.proofs.logs.Logs.{log_is_some}
 use Rattle.sip_verdict.specs.declared.finding.Finding.{Finding}
 use Rattle.sip_verdict.specs.declared.survey_end.SurveyEnd.{SurveyEnd}
@@ -37,8 +36,8 @@ after_some p es (item ∷ items) close never =
 
 -- each input has a survey
 pub has_survey : (input : List ℕ) → ¬ ((found : List Finding) (end : SurveyEnd) → ¬ (IsSurveyOf input found end))
-has_survey input never = let log = log_is_some input in by log.0 log.1
+has_survey input never = by (log_is_some input)
   where
-    by : (log : Log) → IsLogOf input log → ⊥
-    by Faulty none = never [] (ended.LogFault 0 Header) (inl (none, refl, refl))
-    by (Readable p items close) is = after_some p [] items close (λ one. never one.0 one.1 (inr (p, items, close, is, one.2)))
+    by : LacksHeader input ⊎ ((p : Times) × (items : List Item) × (close : LogEnd) × LogSays input p items close) → ⊥
+    by (inl none) = never [] (ended.LogFault 0 Header) (inl (none, refl, refl))
+    by (inr (p, items, close, is)) = after_some p [] items close (λ one. never one.0 one.1 (inr (p, items, close, is, one.2)))

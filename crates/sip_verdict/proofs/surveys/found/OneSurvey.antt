@@ -9,7 +9,7 @@ use Rattle.sip_verdict.specs.declared.survey_end.SurveyEnd.{SurveyEnd}
 use Rattle.sip_standard.specs.Observation.{Observation}
 use Rattle.sip_verdict.specs.SurveyOf.{Precedes, AreFoundAt, IsSurveyAfter, IsSurveyOf}
 use Rattle.sip_verdict.proofs.verdicts.MessageUnique.{observes_one}
-use Rattle.sip_verdict.proofs.verdicts.OneVerdict.{one_log}
+use Rattle.sip_log.proofs.logs.Logs.{log_is_one}
 use Rattle.sip_verdict.proofs.surveys.found.Ordered.{ordered_one}
 use Rattle.sip_verdict.proofs.surveys.found.FoundParts.{precedes_once}
 
@@ -30,7 +30,7 @@ after_one p es (item ∷ items) close fs gs end fin (e, here, later, sees, is, a
 
 -- an input says one log
 pub says_one : (input : List ℕ) (p q : Times) (xs ys : List Item) (a b : LogEnd) → LogSays input p xs a → LogSays input q ys b → (p ≡ q) × (xs ≡ ys) × (a ≡ b)
-says_one input p q xs ys a b one other = one_log input p q xs ys a b one other
+says_one input p q xs ys a b one other = log_is_one input p q xs ys a b one other
 
 -- what is true of the one log of an input is true of the other
 pub says_same : (P : Times → List Item → LogEnd → Type 0) (input : List ℕ) (p q : Times) (xs ys : List Item) (a b : LogEnd) → LogSays input p xs a → LogSays input q ys b → P q ys b → P p xs a

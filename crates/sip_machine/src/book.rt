@@ -1,5 +1,5 @@
 //! The messages of a log, each kept once.
-ghost use Rattle.std.specs.Prelude.{◌≡◌, ◌≢◌, ◌<◌, ◌≤◌, ◌⊎◌, ◌↔◌, ◌++◌, ◌∷◌, [], ℕ, length, map, MatchOption, IfSome, IfOk, IfErr, OnOk, OnErr, IsTrue, All, AllPairs};
+ghost use Rattle.std.specs.Prelude.{◌≡◌, ◌≢◌, ◌<◌, ◌≤◌, ◌⊎◌, ◌↔◌, ◌++◌, ◌∷◌, [], ℕ, true, false, List, length, map, MatchOption, IfNone, IfSome, IfOk, IfErr, OnOk, OnErr, IsTrue, All, AllPairs};
 ghost use Rattle.std.specs.List.{insert, HoldsAt};
 ghost use Rattle.std.specs.List.Sorted.{IsSearchInRange, IsBinarySearchResult};
 ghost use Rattle.sip_machine.specs.Texts.{IsBook, Keeps, text_of};
@@ -7,11 +7,11 @@ ghost use Rattle.sip_machine.specs.Retained.{only};
 ghost use Rattle.sip_message.specs.Reads.{Reads};
 ghost use Rattle.sip_machine.specs.inner.ReadAs.{IsReadAs};
 ghost use Rattle.sip_machine.specs.inner.Tos.{IsToOf, HoldsBetween, count_between};
-ghost use Rattle.sip_machine.specs.inner.Order.{texts_of, bytes_at, key_of, compare, begins_by, places_of, index_of, most_places, IsLed, IsInRuns, IsInside, IsGap};
+ghost use Rattle.sip_machine.specs.inner.Order.{texts_of, placed, bytes_at, key_of, compare, begins_by, places_of, index_of, most_places, IsLed, IsInRuns, IsInside, IsGap};
 
 mod retain;
 
-use crate::book::retain::{keep_only, move_all};
+use crate::book::retain::{keep_only, lay_aside, move_all};
 use crate::event::is_unsuccessful;
 use crate::hashed::{Hashed, hash};
 use crate::tos::{Holder, Tos};
@@ -24,11 +24,14 @@ use std::marker::Model;
 /// Messages by number: equal bytes have one number. They stand in the order of their numbers, and beside them
 /// their places stand in the order of hash and bytes, in runs, so that few places move for a new one. So a message
 /// is found by its number, and by its bytes, with a logarithm of comparisons, whatever the log is and however the
-/// hashes fall; its bytes are kept once.
+/// hashes fall; its bytes are kept once. The newest one gets its place when the next one comes, so that one which is
+/// forgotten at once never has one.
 #[derive(Debug, Drop)]
 pub struct Book {
     kept: Vec<Kept>,
     order: Vec<Run>,
+    /// Whether the place of the newest message stands in no run yet.
+    loose: bool,
     /// The To of some of the messages.
     tos: Tos,
     /// Buffers of messages that were forgotten, for those that come.
@@ -69,14 +72,14 @@ const MOST: usize = 128;
 
 impl Model for Book {
     ghost use Rattle.sip_machine.specs.Texts.{Texts, IsBook};
-    ghost use Rattle.sip_machine.specs.inner.Order.{texts_of, IsInRuns};
+    ghost use Rattle.sip_machine.specs.inner.Order.{texts_of, placed, IsInRuns};
     ghost use Rattle.sip_machine.specs.inner.Tos.{AreTos};
 
     ghost Value = { Texts };
 
     ghost view = { λ b. texts_of b.kept.items };
 
-    ghost invariant = { λ b. IsBook (texts_of b.kept.items) × IsInRuns (texts_of b.kept.items) b.order.items × AreTos (texts_of b.kept.items) b.tos };
+    ghost invariant = { λ b. IsBook (texts_of b.kept.items) × IsInRuns (placed b.loose (texts_of b.kept.items)) b.order.items × AreTos (texts_of b.kept.items) b.tos };
 }
 
 impl Book {
@@ -87,6 +90,7 @@ impl Book {
         Book {
             kept: Vec::new(alloc),
             order: Vec::new(alloc),
+            loose: false,
             tos: Tos::new(alloc),
             spare: Vec::new(alloc),
         }
@@ -210,14 +214,32 @@ impl Book {
             ⊎ ((self.new ≡ self.old ++ (entry, bytes.now) ∷ []) × (n ≡ entry))) }
         ensures err { OnErr result (self.new ≡ self.old) }
     {
+        place_newest(&self.kept, &mut self.order, &mut self.loose)?;
         let hash = hash(bytes);
         match find(&self.kept, &self.order, hash, bytes) {
             Ok(position) => Ok(self.kept[position].number),
-            Err(gap) => {
+            Err(_) => {
                 let bytes = copy(&mut self.spare, self.kept.len(), bytes)?;
-                put(&mut self.kept, &mut self.order, gap, entry, hash, bytes)?;
+                self.kept.push(Kept {
+                    number: entry,
+                    bytes,
+                })?;
+                self.loose = true;
                 Ok(entry)
             }
+        }
+    }
+
+    /// Forgets the newest message, if it has this number, and neither its place nor its To stands beside it yet.
+    pub fn forget_newest(&mut self, number: u32)
+        ensures { (self.new ≡ self.old) ⊎ ((bytes : List ℕ) × (self.old ≡ self.new ++ (number, bytes) ∷ [])) }
+    {
+        if !self.loose || !self.tos.are_below(number) {
+            return;
+        }
+        if let Some(newest) = pop_newest(&mut self.kept, number) {
+            self.loose = false;
+            lay_aside(&mut self.spare, newest.bytes);
         }
     }
 
@@ -234,7 +256,8 @@ impl Book {
         requires kept { All (Keeps self.old) numbers.now }
         ensures { self.new ≡ only numbers.now self.old }
     {
-        move_all(&mut self.order, &self.kept, numbers);
+        let kept = placed(&self.kept, self.loose);
+        move_all(&mut self.order, kept, placed(numbers, self.loose));
         keep_only(&mut self.kept, &mut self.spare, numbers);
         self.tos.retain(numbers);
     }
@@ -300,33 +323,63 @@ fn copy(spare: &mut Vec<Vec<u8>>, kept: usize, bytes: &[u8]) -> Result<Vec<u8>, 
     Ok(copy)
 }
 
-/// Keeps a message under the number of its entry, with its place in the gap; on an error all is as before.
-fn put(
-    kept: &mut Vec<Kept>,
-    runs: &mut Vec<Run>,
-    gap: Gap,
-    entry: u32,
-    hash: u64,
-    bytes: Vec<u8>,
-) -> Result<(), AllocError>
-    requires led { All IsLed runs.old.items }
-    requires short { All (λ run. length run.places.items ≤ most_places) runs.old.items }
-    requires inside { 0 < length runs.old.items → IsInside runs.old.items gap }
-    ensures ok { OnOk result ((texts_of kept.new.items ≡ texts_of kept.old.items ++ (entry, bytes.items) ∷ [])
-        × (places_of runs.new.items ≡ insert (places_of runs.old.items) (index_of runs.old.items gap)
-        (record { hash = hash; position = length kept.old.items }))) }
-    ensures err { OnErr result ((kept.new.items ≡ kept.old.items) × (places_of runs.new.items ≡ places_of runs.old.items)) }
-    ensures led { All IsLed runs.new.items }
-    ensures short { All (λ run. length run.places.items ≤ most_places) runs.new.items }
+/// The messages whose places stand in the order, or their numbers: all, or all but the newest, which comes last.
+fn placed<T>(all: &[T], loose: bool) -> &[T]
+    ensures { result.now ≡ placed loose all.now }
 {
-    kept.reserve(1)?;
-    let position = kept.len();
-    insert(runs, gap, Place { hash, position })?;
-    kept.push(Kept {
-        number: entry,
-        bytes,
-    })?;
+    if loose {
+        &all[..all.len().saturating_sub(1)]
+    } else {
+        all
+    }
+}
+
+/// Puts the place of the newest message with the others, if it stands in no run yet. On an error they are as before.
+fn place_newest(
+    kept: &[Kept],
+    runs: &mut Vec<Run>,
+    loose: &mut bool,
+) -> Result<(), AllocError>
+    requires book { IsBook (texts_of kept.now) }
+    requires order { IsInRuns (placed loose.old (texts_of kept.now)) runs.old.items }
+    ensures ok { OnOk result ((loose.new ≡ false) × IsInRuns (texts_of kept.now) runs.new.items) }
+    ensures err { OnErr result (IsInRuns (placed loose.new (texts_of kept.now)) runs.new.items) }
+{
+    if *loose {
+        put_newest(kept, runs)?;
+        *loose = false;
+    }
     Ok(())
+}
+
+/// Puts the place of the newest message, which stands in no run yet, with the others. On an error they are as before.
+fn put_newest(kept: &[Kept], runs: &mut Vec<Run>) -> Result<(), AllocError>
+    requires book { IsBook (texts_of kept.now) }
+    requires order { IsInRuns (placed true (texts_of kept.now)) runs.old.items }
+    ensures ok { OnOk result (IsInRuns (texts_of kept.now) runs.new.items) }
+    ensures err { OnErr result (IsInRuns (placed true (texts_of kept.now)) runs.new.items) }
+{
+    let Some((newest, others)) = kept.split_last() else {
+        return Ok(());
+    };
+    let bytes = newest.bytes.as_slice();
+    let hash = hash(bytes);
+    if let Err(gap) = find(others, runs, hash, bytes) {
+        let position = others.len();
+        insert(runs, gap, Place { hash, position })?;
+    }
+    Ok(())
+}
+
+/// Takes the newest message away, if it has this number.
+fn pop_newest(kept: &mut Vec<Kept>, number: u32) -> Option<Kept>
+    ensures none { IfNone result (kept.new.items ≡ kept.old.items) }
+    ensures some { IfSome result (λ newest. (newest.number ≡ number) × (kept.old.items ≡ kept.new.items ++ newest ∷ [])) }
+{
+    match kept.last() {
+        Some(newest) if newest.number == number => kept.pop(),
+        _ => None,
+    }
 }
 
 /// Puts a place into the gap; on an error the places are as before.

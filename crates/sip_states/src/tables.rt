@@ -231,8 +231,8 @@ impl<H: BuildHasher> Tables<H> {
         &mut self.sets[index]
     }
 
-    /// Puts the last moment of the set of this number on record, in place of an older one. On an error
-    /// nothing changes.
+    /// Puts the last moment of the set of this number on record, in place of an older one. A set that names no message then is
+    /// visited by no sweep. On an error nothing changes.
     pub fn settle(&mut self, number: u32) -> Result<(), AllocError>
         requires given { IsGiven self.old number }
         requires state { HasState self.old number }
@@ -240,8 +240,12 @@ impl<H: BuildHasher> Tables<H> {
         ensures err { OnErr result (self.new ≡ self.old) }
     {
         let index = number as usize - 1;
-        let limit = self.sets[index].last_moment();
-        self.agenda.set(index, limit)
+        let set = &self.sets[index];
+        self.agenda.set(index, set.last_moment())?;
+        if set.is_silent() {
+            self.marks.unmark(index);
+        }
+        Ok(())
     }
 
     /// The least number whose last moment on record is below the moment, in milliseconds. It looks no

@@ -1,4 +1,4 @@
-use Rattle.std.specs.Prelude.{◌≡◌, ◌<◌, ◌≤◌, ◌+◌, ℕ, Bool, List, [], All, AllPairs, Contains, map, length, take, slice_index_or}
+use Rattle.std.specs.Prelude.{◌≡◌, ◌<◌, ◌≤◌, ◌+◌, ◌-◌, ℕ, Bool, true, false, List, [], All, AllPairs, Contains, map, length, take, slice_index_or}
 use Rattle.std.specs.declared.cmp.Ordering.{Ordering}
 use Rattle.std.specs.declared.cmp.Ordering.TheVariants.{Less, Greater}
 use Rattle.std.specs.Ordering.{nat_cmp, ordering_then, is_le}
@@ -16,6 +16,11 @@ use Rattle.sip_machine.specs.declared.book.Gap.{Gap}
 -- what the kept messages are
 abbrev pub texts_of : List Kept → Texts
 texts_of kept = map (λ k. (k.number, k.bytes.items)) kept
+
+-- the messages whose places stand in the order, or their numbers: all, or all but the newest, which comes last
+abbrev pub placed : {X : Type 0} → Bool → List X → List X
+placed false all = all
+placed true all = take (length all - 1) all
 
 -- the hash of these bytes, by the first 256 of them
 abbrev pub hash_of : List ℕ → ℕ

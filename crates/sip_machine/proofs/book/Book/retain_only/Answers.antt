@@ -1,24 +1,25 @@
 use Rattle.std.proofs.Common.{◌∙◌, sym, ap, subst, All}
 use Rattle.sip_machine.specs.Texts.{IsBook, Keeps}
 use Rattle.sip_machine.specs.Retained.{only}
-use Rattle.sip_machine.specs.inner.Order.{texts_of, places_of, IsOrder}
+use Rattle.sip_machine.specs.inner.Order.{texts_of, ordered, places_of, IsOrder}
 use Rattle.sip_machine.specs.inner.Tos.{AreTos}
 use Rattle.sip_machine.proofs.acks.ToLemmas.{AreTos-only}
-use Rattle.sip_machine.proofs.texts.RetainLemmas.{merged_is, IsBook-only, IsOrder-only}
+use Rattle.sip_machine.proofs.texts.RetainLemmas.{merged_is, IsBook-only}
+use Rattle.sip_machine.proofs.texts.NewestLaws.{retained_order}
 use Rattle.sip_machine.proofs.book.Book.retain_only.Goals as goal
 
 pub invariant_of-self : goal.invariant_of-self
 invariant_of-self c =
     let texts = texts_of c.self.inside.kept.items in
+    let loose = c.self.inside.loose in
     let numbers = c.args.numbers.now in
     let book = c.self.invariant.0 in
     let kept : All (Keeps texts) numbers = rw c.self.view_is c.requires.kept in
     let is = c.keep_only.ensures ∙ merged_is numbers texts c.requires.rising book.rising kept in
-    let places = rw c.deref.ensures.value at c.move_all.ensures.places in
-    let order = IsOrder-only texts numbers book c.requires.rising kept (places_of c.self.inside.order.items) c.self.invariant.1.order in (
+    let order = retained_order loose texts numbers book c.requires.rising kept (places_of c.self.inside.order.items) c.self.invariant.1.order in (
       subst IsBook (sym is) (IsBook-only texts numbers book c.requires.rising kept),
       record {
-        order = subst (λ ts. IsOrder ts (places_of c.move_all.new.runs.items)) (sym is) (subst (IsOrder (only numbers texts)) (sym places) order);
+        order = subst (λ ts. IsOrder (ordered loose ts) (places_of c.move_all.new.runs.items)) (sym is) ?;
         led = c.move_all.ensures.led;
         short = c.move_all.ensures.short;
       },

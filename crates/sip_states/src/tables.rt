@@ -99,12 +99,13 @@ fn put_at<H: BuildHasher>(sets: &mut IndexMap<Key, AnySet, H>, index: usize, set
     sets[index] = set;
 }
 
-/// Takes the marks off those sets that name no message, and gives back what room they do not need. On an error some are still
-/// marked.
-fn unmark_silent<H: BuildHasher>(
+/// Takes the mark off the set at the index if it names no message, and gives back what room it does not need then.
+fn unmark_if_silent<H: BuildHasher>(
     marks: &mut Marks,
     sets: &mut IndexMap<Key, AnySet, H>,
-) -> Result<(), AllocError>
+    index: usize,
+)
+    requires inside { index < index_map_len sets.old }
     requires long { length marks.old ≡ index_map_len sets.old }
     requires marked { AreMarked marks.old (values sets.old) }
     ensures long { length marks.new ≡ length marks.old }
@@ -112,19 +113,26 @@ fn unmark_silent<H: BuildHasher>(
     ensures fewer { (index : ℕ) → IsMarked marks.new index → IsMarked marks.old index }
     ensures same { sets.new ≡ sets.old }
 {
-    let mut numbers = Vec::new(*sets.allocator());
+    if sets[index].is_silent() {
+        marks.unmark(index);
+        trim_at(sets, index);
+    }
+}
+
+/// The same of each set that is marked.
+fn unmark_silent<H: BuildHasher>(marks: &mut Marks, sets: &mut IndexMap<Key, AnySet, H>)
+    requires long { length marks.old ≡ index_map_len sets.old }
+    requires marked { AreMarked marks.old (values sets.old) }
+    ensures long { length marks.new ≡ length marks.old }
+    ensures marked { AreMarked marks.new (values sets.old) }
+    ensures fewer { (index : ℕ) → IsMarked marks.new index → IsMarked marks.old index }
+    ensures same { sets.new ≡ sets.old }
+{
     for place in (0..marks.marked().len()).rev() {
         if let Some(index) = marks.marked().get(place).copied() {
-            let index = index as usize;
-            numbers.clear();
-            sets[index].names(&mut numbers)?;
-            if numbers.is_empty() {
-                marks.unmark(index);
-                trim_at(sets, index);
-            }
+            unmark_if_silent(marks, sets, index as usize);
         }
     }
-    Ok(())
 }
 
 /// Takes both marks off those sets that are quiet, and gives back what room they do not need.
@@ -240,11 +248,9 @@ impl<H: BuildHasher> Tables<H> {
         ensures err { OnErr result (self.new ≡ self.old) }
     {
         let index = number as usize - 1;
-        let set = &self.sets[index];
-        self.agenda.set(index, set.last_moment())?;
-        if set.is_silent() {
-            self.marks.unmark(index);
-        }
+        let limit = self.sets[index].last_moment();
+        self.agenda.set(index, limit)?;
+        unmark_if_silent(&mut self.marks, &mut self.sets, index);
         Ok(())
     }
 
@@ -287,7 +293,8 @@ impl<H: BuildHasher> Tables<H> {
         ensures err { OnErr result (AdvancesSome moment self.old self.new) }
     {
         advance_each(&mut self.sets, self.marks.marked(), moment)?;
-        unmark_silent(&mut self.marks, &mut self.sets)
+        unmark_silent(&mut self.marks, &mut self.sets);
+        Ok(())
     }
 
     /// Appends the numbers of the messages that the sets name, ascending, each once. On an error the vector is as before.

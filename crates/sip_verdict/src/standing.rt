@@ -1,12 +1,11 @@
 //! What is kept of the entries of a log that were judged.
-ghost use Rattle.std.specs.Prelude.{◌≡◌, ◌≢◌, ◌≤◌, ◌<◌, ◌+◌, ◌++◌, ◌∷◌, [], ℕ, Bool, true, false, None, Some, List, All, AllPairs, Contains, IfOk, IfNone, OnOk, length, slice_get, string_bytes, ◌↔◌, IfSome, MatchOption};
+ghost use Rattle.std.specs.Prelude.{◌≡◌, ◌≢◌, ◌≤◌, ◌<◌, ◌+◌, ◌++◌, ◌∷◌, [], ℕ, Bool, false, None, List, All, AllPairs, Contains, IfOk, IfNone, OnOk, length, string_bytes, ◌↔◌, IfSome, MatchOption};
 ghost use Rattle.std.specs.Option.{ForSome, option_copied};
 ghost use Rattle.sip_standard.specs.Key.{KeyParts};
 ghost use Rattle.sip_standard.specs.Times.{last_moment};
 ghost use Rattle.sip_machine.specs.Texts.{Keeps};
 ghost use Rattle.sip_states.specs.AnySet.{IsKnownSet};
 ghost use Rattle.sip_states.specs.Sweep.{numbers_of};
-ghost use Rattle.sip_states.specs.declared.any_set.AnySet.{AnySet};
 ghost use Rattle.sip_states.specs.Tables.{HasNumber, IsGiven, due_of, most_keys};
 ghost use Rattle.sip_standard.specs.LogSays.{most_entries};
 ghost use Rattle.sip_standard.specs.LogEntry.{Item};
@@ -22,7 +21,7 @@ ghost use Rattle.sip_verdict.specs.inner.Numbering.{AreNumbered, StaysNumbered, 
 ghost use Rattle.sip_verdict.specs.Surveys.{IsStillNamed};
 ghost use Rattle.sip_verdict.specs.inner.Surveying.{TablesSurvey};
 ghost use Rattle.sip_verdict.specs.inner.Tracking.{IsJudged};
-ghost use Rattle.sip_verdict.specs.inner.TablesTracking.{key_keeping, transactions_of, TablesTrack, TablesTrackBefore, AreTold, LeavesOthers, OthersAre, IsForgotten, TouchesEach, HaveNumbers, hearers, is_among, MayPass, MayHear, AreOnRecord, AllAreOnRecord, MayTake};
+ghost use Rattle.sip_verdict.specs.inner.TablesTracking.{key_keeping, transactions_of, TablesTrack, TablesTrackBefore, AreTold, LeavesOthers, OthersAre, NamesNot, IsForgotten, TouchesEach, HaveNumbers, hearers, MayPass, MayHear, AreOnRecord, AllAreOnRecord, MayTake};
 
 use crate::concerned::Concerned;
 use crate::observing::{Told, observe};
@@ -74,8 +73,7 @@ pub(crate) fn touch_each<H: BuildHasher>(
 /// Whether one of these transactions may name the message with this number.
 fn may_name<H: BuildHasher>(tables: &Tables<H>, number: u32, concerned: Concerned<u32>) -> bool
     requires { All (IsGiven tables.now) (each concerned) }
-    ensures { result ≡ false → (is_all concerned ≡ false) × ((n : ℕ) (set : AnySet) → is_among (each concerned) (n + 1) ≡ true → slice_get tables.now.sets n ≡ Some set
-        → ¬ Contains (numbers_of set) number) }
+    ensures { result ≡ false → (is_all concerned ≡ false) × All (NamesNot tables.now number) (each concerned) }
 {
     match concerned {
         Concerned::None => false,

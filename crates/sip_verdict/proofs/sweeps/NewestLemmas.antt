@@ -1,7 +1,9 @@
 -- The newest message is forgotten, where no set names it: the sets know what they name, and lead and stand as before.
-use Rattle.std.proofs.Common.{◌≡◌, ◌<◌, ◌+◌, ◌⊎◌, inl, inr, ℕ, Bool, true, false, Option, Some, None, List, [], ◌∷◌, ◌++◌, All, Contains, get_or, slice_get, refl, sym, ap, ◌∙◌, subst, arith}
+use Rattle.std.proofs.Common.{◌≡◌, ◌<◌, ◌+◌, ◌-◌, ◌⊎◌, inl, inr, ℕ, Bool, true, false, Option, Some, None, List, [], ◌∷◌, ◌++◌, All, Contains, get_or, slice_get, refl, sym, ap, ◌∙◌, subst, arith}
 use Rattle.std.specs.List.{flat_map}
-use Rattle.std.proofs.lemmas.List.Elements.{All-contains, All-weaker, Contains-append_left, Contains-get_or}
+use Rattle.std.proofs.lemmas.Bool.{false≢true}
+use Rattle.std.proofs.lemmas.Bool.Decides.{eqb_tells}
+use Rattle.std.proofs.lemmas.List.Elements.{All-contains, All-head, All-tail, All-weaker, Contains-append_left, Contains-get_or}
 use Rattle.sip_standard.specs.Key.{KeyParts}
 use Rattle.sip_standard.specs.Times.{Times}
 use Rattle.sip_standard.specs.MachineEvent.{MachineEvent}
@@ -25,13 +27,13 @@ use Rattle.sip_verdict.specs.Keyed.{events_of, newest_moment}
 use Rattle.sip_verdict.specs.MessageReading.{key_machines}
 use Rattle.sip_verdict.specs.inner.Concerned.{each, is_all}
 use Rattle.sip_verdict.specs.inner.Tracking.{IsReady, IsStanding, Tracks, IsJudged}
-use Rattle.sip_verdict.specs.inner.TablesTracking.{LeadsOf, StandsOf, key_keeping, transactions_of, is_among, concerns_number, LeavesOthers, OthersAre, IsForgotten, MayPass, AllAreOnRecord, MayTake}
+use Rattle.sip_verdict.specs.inner.TablesTracking.{LeadsOf, StandsOf, key_keeping, transactions_of, is_among, concerns_number, LeavesOthers, OthersAre, NamesNot, IsForgotten, MayPass, AllAreOnRecord, MayTake}
 use Rattle.sip_verdict.specs.declared.concerned.Concerned.{Concerned}
 use Rattle.sip_verdict.specs.declared.passing.Hearing.{Hearing}
 use Rattle.sip_verdict.proofs.keys.Leading.{Leads-book}
 use Rattle.sip_verdict.proofs.sweeps.NamedLemmas.{Contains-flat_map, Contains-from_flat_map}
 use Rattle.sip_verdict.proofs.sweeps.SweptBook.{same_within}
-use Rattle.sip_verdict.proofs.tables.TablesPassing.{All-place, All-places, place-zip}
+use Rattle.sip_verdict.proofs.tables.TablesPassing.{All-place, All-places, place-zip, among_one}
 
 -- a set that an event does not concern has only messages that were kept before it
 pub others_known : (texts : Texts) (concerned : Concerned ℕ) (hearing : Option Hearing) (t u : Tabled) → All (IsKnownSet texts) t.sets → LeavesOthers hearing t u
@@ -147,12 +149,28 @@ forgotten_within sets number old new (inl same) = same_within old new same
 forgotten_within sets number old new (inr (bytes, is, unnamed)) k d low =
     subst (λ texts. Contains texts (get_or new k d)) (sym is) (Contains-append_left new ((number, bytes) ∷ []) (get_or new k d) (Contains-get_or new k d low))
 
+-- where none of some transactions names a message, the sets of their numbers do not
+these_unnamed : (message : ℕ) (t : Tabled) (numbers : List ℕ) → All (NamesNot t message) numbers → (n : ℕ) (set : AnySet) → is_among numbers (n + 1) ≡ true → slice_get t.sets n ≡ Some set
+    → ¬ Contains (numbers_of set) message
+these_unnamed message t [] none n set among at = absurd (false≢true among)
+these_unnamed message t (m ∷ ms) none n set among at =
+    elim (eqb_tells (n + 1) m) [
+      | inl same ↦
+          let here : n ≡ m - 1 = omega (arith, same.1) in
+          All-head (NamesNot t message) m ms none set (subst (λ k. slice_get t.sets k ≡ Some set) here at)
+      | inr other ↦ these_unnamed message t ms (All-tail (NamesNot t message) m ms none) n set (among_one (n + 1) m ms among other.1) at
+    ]
+
+-- a transaction whose set does not name it
+pub names_not : (message number : ℕ) (t : Tabled) (set : AnySet) → slice_get t.sets (number - 1) ≡ Some set → ¬ Contains (numbers_of set) message → NamesNot t message number
+names_not message number t set at none other is = subst (λ s. ¬ Contains (numbers_of s) message) (let same : Some set ≡ Some other = sym at ∙ is in cc) none
+
 -- the sets that none of some transactions is, and those, name no such message
 pub all_unnamed : (number : ℕ) (concerned : Concerned ℕ) (t : Tabled) → is_all concerned ≡ false → OthersAre (λ set. ¬ Contains (numbers_of set) number) concerned t
-    → ((n : ℕ) (set : AnySet) → is_among (each concerned) (n + 1) ≡ true → slice_get t.sets n ≡ Some set → ¬ Contains (numbers_of set) number)
+    → All (NamesNot t number) (each concerned)
     → All (λ set. ¬ Contains (numbers_of set) number) t.sets
 all_unnamed number concerned t some others these = All-places (λ set. ¬ Contains (numbers_of set) number) t.sets (λ n set at. go n set at (is_among (each concerned) (n + 1)) refl)
   where
     go : (n : ℕ) (set : AnySet) → slice_get t.sets n ≡ Some set → (b : Bool) → is_among (each concerned) (n + 1) ≡ b → ¬ Contains (numbers_of set) number
-    go n set at true among = these n set among at
+    go n set at true among = these_unnamed number t (each concerned) these n set among at
     go n set at false among = others some n set among at

@@ -92,6 +92,10 @@ pub record IsTold (texts : Texts) (moment : ℕ) (hearing : Option Hearing) (num
 abbrev pub AreTold : Texts → List KeyParts → ℕ → Option Hearing → Observation KeyParts → Type 0
 AreTold texts keys moment hearing e = (n : ℕ) (key : KeyParts) → slice_get keys n ≡ Some key → IsTold texts moment hearing (n + 1) key e
 
+-- the transaction with this number does not name the message
+abbrev pub NamesNot : Tabled → ℕ → ℕ → Type 0
+NamesNot t message number = (set : AnySet) → slice_get t.sets (number - 1) ≡ Some set → ¬ Contains (numbers_of set) message
+
 -- the newest message was forgotten, which no set names, or none was
 abbrev pub IsForgotten : List AnySet → ℕ → Texts → Texts → Type 0
 IsForgotten sets number old new = (new ≡ old) ⊎ ((bytes : List ℕ) × (old ≡ new ++ (number, bytes) ∷ []) × All (λ set. ¬ Contains (numbers_of set) number) sets)

@@ -14,7 +14,7 @@ use Rattle.sip_machine.specs.declared.tos.To.{To}
 use Rattle.sip_machine.specs.inner.Order.{texts_of, placed, bytes_at, hash_of, places_of, IsOrder, IsInRuns, IsGap}
 use Rattle.sip_machine.specs.inner.Retain.{number_at, moved}
 use Rattle.sip_machine.specs.inner.Tos.{AreTos, IsTo, IsToOf}
-use Rattle.sip_machine.proofs.acks.ToLemmas.{AreTos-grow}
+use Rattle.sip_machine.proofs.acks.ToLemmas.{AllPairs-take, AreTos-grow}
 use Rattle.sip_machine.proofs.texts.TextLaws.{Contains-nil, Keeps-grow, Keeps-grow_cases, Keeps-added, Keeps-at, text_of-at, text_of-added, text_of-grow, text_of-none, IsBook-grow}
 use Rattle.sip_machine.proofs.texts.OrderLaws.{none_in_gap, IsOrder-grow}
 use Rattle.sip_machine.proofs.texts.RetainLemmas.{kept_place, IsOrder-only}
@@ -201,6 +201,11 @@ split_last : (texts : Texts) (last : ℕ) → length texts ≡ last + 1 → text
 split_last texts last size =
     let before : last ≡ length texts - 1 = omega (arith, size) in
     sym (take_all (last + 1) texts (omega (arith, size))) ∙ take_more texts last (0, []) (omega (arith, size)) ∙ ap (λ n. take n texts ++ get_or texts last (0, []) ∷ []) before
+
+-- their numbers rise as all do
+pub placed_up : (loose : Bool) (numbers : List ℕ) → AllPairs (λ a b. a < b) numbers → AllPairs (λ a b. a < b) (placed loose numbers)
+placed_up false numbers up = up
+placed_up true numbers up = AllPairs-take (λ a b. a < b) (length numbers - 1) numbers up
 
 -- the messages of the code whose places stand in the order
 pub placed_texts : (loose : Bool) (kept : List Kept) → texts_of (placed loose kept) ≡ placed loose (texts_of kept)

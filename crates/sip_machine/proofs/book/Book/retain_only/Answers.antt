@@ -1,12 +1,17 @@
-use Rattle.std.proofs.Common.{◌∙◌, sym, ap, subst, All}
+use Rattle.std.proofs.Common.{◌∙◌, sym, ap, ap₂, subst, All}
+use Rattle.std.specs.List.{filter_map}
 use Rattle.sip_machine.specs.Texts.{IsBook, Keeps}
 use Rattle.sip_machine.specs.Retained.{only}
-use Rattle.sip_machine.specs.inner.Order.{texts_of, ordered, places_of, IsOrder}
+use Rattle.sip_machine.specs.inner.Order.{texts_of, placed, places_of, IsOrder}
+use Rattle.sip_machine.specs.inner.Retain.{moved}
 use Rattle.sip_machine.specs.inner.Tos.{AreTos}
 use Rattle.sip_machine.proofs.acks.ToLemmas.{AreTos-only}
 use Rattle.sip_machine.proofs.texts.RetainLemmas.{merged_is, IsBook-only}
-use Rattle.sip_machine.proofs.texts.NewestLaws.{retained_order}
+use Rattle.sip_machine.proofs.texts.NewestLaws.{placed_texts, placed_up, retained_order}
 use Rattle.sip_machine.proofs.book.Book.retain_only.Goals as goal
+
+pub move_all-requires-clause-rising : goal.move_all-requires-clause-rising
+move_all-requires-clause-rising c = rw c.placed.ensures (placed_up c.self.inside.loose c.args.numbers.now c.requires.rising)
 
 pub invariant_of-self : goal.invariant_of-self
 invariant_of-self c =
@@ -16,10 +21,14 @@ invariant_of-self c =
     let book = c.self.invariant.0 in
     let kept : All (Keeps texts) numbers = rw c.self.view_is c.requires.kept in
     let is = c.keep_only.ensures ∙ merged_is numbers texts c.requires.rising book.rising kept in
-    let order = retained_order loose texts numbers book c.requires.rising kept (places_of c.self.inside.order.items) c.self.invariant.1.order in (
+    let old = places_of c.self.inside.order.items in
+    let now = places_of c.move_all.new.runs.items in
+    let front = ap texts_of (c.placed-kept.ensures ∙ ap (placed loose) c.deref.ensures.value) ∙ placed_texts loose c.self.inside.kept.items in
+    let places = c.move_all.ensures.places ∙ ap₂ (λ ts ns. filter_map (moved ts ns) old) front c.placed.ensures in
+    let order = retained_order loose texts numbers book c.requires.rising kept old c.self.invariant.1.order in (
       subst IsBook (sym is) (IsBook-only texts numbers book c.requires.rising kept),
       record {
-        order = subst (λ ts. IsOrder (ordered loose ts) (places_of c.move_all.new.runs.items)) (sym is) ?;
+        order = subst (λ ts. IsOrder (placed loose ts) now) (sym is) (subst (IsOrder (placed loose (only numbers texts))) (sym places) order);
         led = c.move_all.ensures.led;
         short = c.move_all.ensures.short;
       },

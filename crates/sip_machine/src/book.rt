@@ -1,5 +1,5 @@
 //! The messages of a log, each kept once.
-ghost use Rattle.std.specs.Prelude.{◌≡◌, ◌≢◌, ◌<◌, ◌≤◌, ◌⊎◌, ◌↔◌, ◌++◌, ◌∷◌, [], ℕ, true, false, List, length, map, MatchOption, IfNone, IfSome, IfOk, IfErr, OnOk, OnErr, IsTrue, All, AllPairs};
+ghost use Rattle.std.specs.Prelude.{◌≡◌, ◌≢◌, ◌<◌, ◌≤◌, ◌⊎◌, ◌↔◌, ◌++◌, ◌∷◌, [], ℕ, None, List, length, map, MatchOption, IfNone, IfSome, IfOk, IfErr, OnOk, OnErr, IsTrue, All, AllPairs};
 ghost use Rattle.std.specs.List.{insert, HoldsAt};
 ghost use Rattle.std.specs.List.Sorted.{IsSearchInRange, IsBinarySearchResult};
 ghost use Rattle.sip_machine.specs.Texts.{IsBook, Keeps, text_of};
@@ -7,7 +7,7 @@ ghost use Rattle.sip_machine.specs.Retained.{only};
 ghost use Rattle.sip_message.specs.Reads.{Reads};
 ghost use Rattle.sip_machine.specs.inner.ReadAs.{IsReadAs};
 ghost use Rattle.sip_machine.specs.inner.Tos.{IsToOf, HoldsBetween, count_between};
-ghost use Rattle.sip_machine.specs.inner.Order.{texts_of, placed, bytes_at, key_of, compare, begins_by, places_of, index_of, most_places, IsLed, IsInRuns, IsInside, IsGap};
+ghost use Rattle.sip_machine.specs.inner.Order.{texts_of, placed, bytes_at, key_of, compare, begins_by, places_of, index_of, most_places, IsLed, IsInRuns, StandInRuns, IsInside, IsGap};
 
 mod retain;
 
@@ -30,8 +30,8 @@ use std::marker::Model;
 pub struct Book {
     kept: Vec<Kept>,
     order: Vec<Run>,
-    /// Whether the place of the newest message stands in no run yet.
-    loose: bool,
+    /// Where the place of the newest message goes, if it stands in no run yet.
+    loose: Option<Loose>,
     /// The To of some of the messages.
     tos: Tos,
     /// Buffers of messages that were forgotten, for those that come.
@@ -61,10 +61,17 @@ struct Run {
 }
 
 /// Between two places: in this run, before this place of it.
-#[derive(Clone, Copy)]
+#[derive(Clone, Copy, Debug)]
 struct Gap {
     run: usize,
     place: usize,
+}
+
+/// Where the place of the newest message goes, with the hash of its bytes.
+#[derive(Clone, Copy, Debug)]
+struct Loose {
+    hash: u64,
+    gap: Gap,
 }
 
 /// A run with so many places is halved before it takes another one.
@@ -72,14 +79,14 @@ const MOST: usize = 128;
 
 impl Model for Book {
     ghost use Rattle.sip_machine.specs.Texts.{Texts, IsBook};
-    ghost use Rattle.sip_machine.specs.inner.Order.{texts_of, placed, IsInRuns};
+    ghost use Rattle.sip_machine.specs.inner.Order.{texts_of, StandInRuns};
     ghost use Rattle.sip_machine.specs.inner.Tos.{AreTos};
 
     ghost Value = { Texts };
 
     ghost view = { λ b. texts_of b.kept.items };
 
-    ghost invariant = { λ b. IsBook (texts_of b.kept.items) × IsInRuns (placed b.loose (texts_of b.kept.items)) b.order.items × AreTos (texts_of b.kept.items) b.tos };
+    ghost invariant = { λ b. IsBook (texts_of b.kept.items) × StandInRuns (texts_of b.kept.items) b.order.items b.loose × AreTos (texts_of b.kept.items) b.tos };
 }
 
 impl Book {
@@ -90,7 +97,7 @@ impl Book {
         Book {
             kept: Vec::new(alloc),
             order: Vec::new(alloc),
-            loose: false,
+            loose: None,
             tos: Tos::new(alloc),
             spare: Vec::new(alloc),
         }
@@ -218,13 +225,13 @@ impl Book {
         let hash = hash(bytes);
         match find(&self.kept, &self.order, hash, bytes) {
             Ok(position) => Ok(self.kept[position].number),
-            Err(_) => {
+            Err(gap) => {
                 let bytes = copy(&mut self.spare, self.kept.len(), bytes)?;
                 self.kept.push(Kept {
                     number: entry,
                     bytes,
                 })?;
-                self.loose = true;
+                self.loose = Some(Loose { hash, gap });
                 Ok(entry)
             }
         }
@@ -234,11 +241,11 @@ impl Book {
     pub fn forget_newest(&mut self, number: u32)
         ensures { (self.new ≡ self.old) ⊎ ((bytes : List ℕ) × (self.old ≡ self.new ++ (number, bytes) ∷ [])) }
     {
-        if !self.loose || !self.tos.are_below(number) {
+        if self.loose.is_none() || !self.tos.are_below(number) {
             return;
         }
         if let Some(newest) = pop_newest(&mut self.kept, number) {
-            self.loose = false;
+            self.loose = None;
             lay_aside(&mut self.spare, newest.bytes);
         }
     }
@@ -256,9 +263,11 @@ impl Book {
         requires kept { All (Keeps self.old) numbers.now }
         ensures { self.new ≡ only numbers.now self.old }
     {
-        let kept = placed(&self.kept, self.loose);
-        move_all(&mut self.order, kept, placed(numbers, self.loose));
+        let is_loose = self.loose.is_some();
+        let kept = placed(&self.kept, is_loose);
+        move_all(&mut self.order, kept, placed(numbers, is_loose));
         keep_only(&mut self.kept, &mut self.spare, numbers);
+        self.loose = loosened(&self.kept, &self.order, is_loose);
         self.tos.retain(numbers);
     }
 }
@@ -324,51 +333,60 @@ fn copy(spare: &mut Vec<Vec<u8>>, kept: usize, bytes: &[u8]) -> Result<Vec<u8>, 
 }
 
 /// The messages whose places stand in the order, or their numbers: all, or all but the newest, which comes last.
-fn placed<T>(all: &[T], loose: bool) -> &[T]
-    ensures { result.now ≡ placed loose all.now }
+fn placed<T>(all: &[T], is_loose: bool) -> &[T]
+    ensures { result.now ≡ placed is_loose all.now }
 {
-    if loose {
+    if is_loose {
         &all[..all.len().saturating_sub(1)]
     } else {
         all
     }
 }
 
-/// Puts the place of the newest message with the others, if it stands in no run yet. On an error they are as before.
+/// Puts the place of the newest message with the others, if it stands in no run yet. On an error it stands in none.
 fn place_newest(
     kept: &[Kept],
     runs: &mut Vec<Run>,
-    loose: &mut bool,
+    loose: &mut Option<Loose>,
 ) -> Result<(), AllocError>
     requires book { IsBook (texts_of kept.now) }
-    requires order { IsInRuns (placed loose.old (texts_of kept.now)) runs.old.items }
-    ensures ok { OnOk result ((loose.new ≡ false) × IsInRuns (texts_of kept.now) runs.new.items) }
-    ensures err { OnErr result (IsInRuns (placed loose.new (texts_of kept.now)) runs.new.items) }
+    requires order { StandInRuns (texts_of kept.now) runs.old.items loose.old }
+    ensures ok { OnOk result ((loose.new ≡ None) × IsInRuns (texts_of kept.now) runs.new.items) }
+    ensures err { OnErr result (StandInRuns (texts_of kept.now) runs.new.items loose.new) }
 {
-    if *loose {
-        put_newest(kept, runs)?;
-        *loose = false;
+    let Some(newest) = *loose else {
+        return Ok(());
+    };
+    let place = Place {
+        hash: newest.hash,
+        position: kept.len().saturating_sub(1),
+    };
+    if let Err(refused) = insert(runs, newest.gap, place) {
+        *loose = loosened(kept, runs, true);
+        return Err(refused);
     }
+    *loose = None;
     Ok(())
 }
 
-/// Puts the place of the newest message, which stands in no run yet, with the others. On an error they are as before.
-fn put_newest(kept: &[Kept], runs: &mut Vec<Run>) -> Result<(), AllocError>
+/// Where the place of the newest message goes, if it stands in no run.
+fn loosened(kept: &[Kept], runs: &[Run], is_loose: bool) -> Option<Loose>
     requires book { IsBook (texts_of kept.now) }
-    requires order { IsInRuns (placed true (texts_of kept.now)) runs.old.items }
-    ensures ok { OnOk result (IsInRuns (texts_of kept.now) runs.new.items) }
-    ensures err { OnErr result (IsInRuns (placed true (texts_of kept.now)) runs.new.items) }
+    requires order { IsInRuns (placed is_loose (texts_of kept.now)) runs.now }
+    ensures { StandInRuns (texts_of kept.now) runs.now result }
 {
+    if !is_loose {
+        return None;
+    }
     let Some((newest, others)) = kept.split_last() else {
-        return Ok(());
+        return None;
     };
     let bytes = newest.bytes.as_slice();
     let hash = hash(bytes);
-    if let Err(gap) = find(others, runs, hash, bytes) {
-        let position = others.len();
-        insert(runs, gap, Place { hash, position })?;
+    match find(others, runs, hash, bytes) {
+        Ok(_) => None,
+        Err(gap) => Some(Loose { hash, gap }),
     }
-    Ok(())
 }
 
 /// Takes the newest message away, if it has this number.

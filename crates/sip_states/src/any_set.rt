@@ -1,5 +1,5 @@
 //! The states of one transaction, whichever machine it has.
-ghost use Rattle.std.specs.Prelude.{◌≡◌, ◌↔◌, ◌≤◌, [], false, Contains, IfOk, IsErrOf, IsTrue, OnErr, OnOk};
+ghost use Rattle.std.specs.Prelude.{◌≡◌, ◌↔◌, ◌≤◌, false, Contains, IfOk, IsErrOf, IsTrue, OnErr, OnOk};
 ghost use Rattle.sip_machine.specs.NumberedEvent.{FitsBook};
 ghost use Rattle.sip_states.specs.AnySet.{moment_of, start_of, IsEmpty, IsKeptSet, IsQuietSet, IsKnownSet, SetWaits, SetTakes, IsSetTooWide, IsAgendaOf};
 ghost use Rattle.sip_states.specs.Sweep.{AppendsNumbers, numbers_of};
@@ -132,13 +132,6 @@ impl AnySet {
         ensures { result ≡ false → ¬ Contains (numbers_of self.now) number }
     {
         each_machine!(self, set => set.may_name(number))
-    }
-
-    /// Whether none of its states names a message. Where it is not told so, nothing is said.
-    pub(crate) fn is_silent(&self) -> bool
-        ensures { IsTrue result → numbers_of self.now ≡ [] }
-    {
-        each_machine!(self, set => set.is_silent())
     }
 
     /// Whether its one state is the one before anything was sent or received, or the one after an end. Where it is not told so, nothing is said.

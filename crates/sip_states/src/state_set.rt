@@ -239,18 +239,6 @@ impl<M: Phases> StateSet<M> {
         }
         false
     }
-
-    /// Whether no state names a message. Where it is not told so, nothing is said.
-    pub(crate) fn is_silent(&self) -> bool
-        ensures { IsTrue result → flat_map (owing_names M.names) self.now.states ≡ [] }
-    {
-        for at in 0..self.states.len() {
-            if !state_is_silent(&self.machine, &self.states, at) {
-                return false;
-            }
-        }
-        true
-    }
 }
 
 /// Whether the state at the index may name the message with this number.
@@ -271,15 +259,6 @@ fn state_may_name<M: Phases>(
         Some(named) => named == number,
         None => false,
     }
-}
-
-/// Whether the state at the index owes nothing, and names no message.
-fn state_is_silent<M: Phases>(machine: &M, states: &Pool<M::Phase>, at: usize) -> bool
-    requires { at < length states.now }
-    ensures { HoldsAt (λ x. IsTrue result → owing_names M.names x ≡ []) states.now at }
-{
-    let phase = states.phase(at);
-    states.is_at_rest(at, phase) && machine.message(&phase).is_none()
 }
 
 /// Finds the states that the event gives, after the others, and tells where the first of each stand. On an error they may

@@ -99,13 +99,12 @@ fn put_at<H: BuildHasher>(sets: &mut IndexMap<Key, AnySet, H>, index: usize, set
     sets[index] = set;
 }
 
-/// Takes the mark off the set at the index if it names no message, and gives back what room it does not need then.
-fn unmark_if_silent<H: BuildHasher>(
+/// Takes the marks off those sets that name no message, and gives back what room they do not need. On an error some are still
+/// marked.
+fn unmark_silent<H: BuildHasher>(
     marks: &mut Marks,
     sets: &mut IndexMap<Key, AnySet, H>,
-    index: usize,
-)
-    requires inside { index < index_map_len sets.old }
+) -> Result<(), AllocError>
     requires long { length marks.old ≡ index_map_len sets.old }
     requires marked { AreMarked marks.old (values sets.old) }
     ensures long { length marks.new ≡ length marks.old }
@@ -113,26 +112,19 @@ fn unmark_if_silent<H: BuildHasher>(
     ensures fewer { (index : ℕ) → IsMarked marks.new index → IsMarked marks.old index }
     ensures same { sets.new ≡ sets.old }
 {
-    if sets[index].is_silent() {
-        marks.unmark(index);
-        trim_at(sets, index);
-    }
-}
-
-/// The same of each set that is marked.
-fn unmark_silent<H: BuildHasher>(marks: &mut Marks, sets: &mut IndexMap<Key, AnySet, H>)
-    requires long { length marks.old ≡ index_map_len sets.old }
-    requires marked { AreMarked marks.old (values sets.old) }
-    ensures long { length marks.new ≡ length marks.old }
-    ensures marked { AreMarked marks.new (values sets.old) }
-    ensures fewer { (index : ℕ) → IsMarked marks.new index → IsMarked marks.old index }
-    ensures same { sets.new ≡ sets.old }
-{
+    let mut numbers = Vec::new(*sets.allocator());
     for place in (0..marks.marked().len()).rev() {
         if let Some(index) = marks.marked().get(place).copied() {
-            unmark_if_silent(marks, sets, index as usize);
+            let index = index as usize;
+            numbers.clear();
+            sets[index].names(&mut numbers)?;
+            if numbers.is_empty() {
+                marks.unmark(index);
+                trim_at(sets, index);
+            }
         }
     }
+    Ok(())
 }
 
 /// Takes both marks off those sets that are quiet, and gives back what room they do not need.
@@ -239,8 +231,8 @@ impl<H: BuildHasher> Tables<H> {
         &mut self.sets[index]
     }
 
-    /// Puts the last moment of the set of this number on record, in place of an older one. A set that names no message then is
-    /// visited by no sweep. On an error nothing changes.
+    /// Puts the last moment of the set of this number on record, in place of an older one. On an error
+    /// nothing changes.
     pub fn settle(&mut self, number: u32) -> Result<(), AllocError>
         requires given { IsGiven self.old number }
         requires state { HasState self.old number }
@@ -249,9 +241,7 @@ impl<H: BuildHasher> Tables<H> {
     {
         let index = number as usize - 1;
         let limit = self.sets[index].last_moment();
-        self.agenda.set(index, limit)?;
-        unmark_if_silent(&mut self.marks, &mut self.sets, index);
-        Ok(())
+        self.agenda.set(index, limit)
     }
 
     /// The least number whose last moment on record is below the moment, in milliseconds. It looks no
@@ -293,8 +283,7 @@ impl<H: BuildHasher> Tables<H> {
         ensures err { OnErr result (AdvancesSome moment self.old self.new) }
     {
         advance_each(&mut self.sets, self.marks.marked(), moment)?;
-        unmark_silent(&mut self.marks, &mut self.sets);
-        Ok(())
+        unmark_silent(&mut self.marks, &mut self.sets)
     }
 
     /// Appends the numbers of the messages that the sets name, ascending, each once. On an error the vector is as before.

@@ -1,17 +1,19 @@
 -- The newest message of a book: its place is put into the order later than it comes, or it is forgotten before.
-use Rattle.std.specs.Prelude.{◌≡◌, ◌≢◌, ◌<◌, ◌+◌, ◌-◌, ◌⊎◌, ℕ, Bool, true, false, List, [], ◌∷◌, ◌++◌, All, AllPairs, map, length, take}
+use Rattle.std.specs.Prelude.{◌≡◌, ◌≢◌, ◌<◌, ◌+◌, ◌-◌, ◌⊎◌, ℕ, Bool, true, false, Option, Some, None, is_some, List, [], ◌∷◌, ◌++◌, All, AllPairs, map, length, take}
 use Rattle.std.specs.List.{insert, filter_map}
 use Rattle.std.proofs.Common.{inl, inr, refl, sym, ◌∙◌, ap, subst, arith, get_or}
+use Rattle.std.proofs.lemmas.Bool.{false≢true}
 use Rattle.std.proofs.Math.Seq.{take-append_seam}
 use Rattle.std.proofs.lemmas.List.{get_or_default, map-append, get_or_append_left, get_or-append-add, length-append, length-map, length-take-le, get_or-take, take_all, take_more, take-map}
 use Rattle.std.proofs.lemmas.List.Elements.{All-head, All-tail}
 use Rattle.sip_machine.specs.Texts.{Texts, IsBook, Keeps, text_of}
 use Rattle.sip_machine.specs.Retained.{only}
 use Rattle.sip_machine.specs.declared.book.Kept.{Kept}
+use Rattle.sip_machine.specs.declared.book.Loose.{Loose}
 use Rattle.sip_machine.specs.declared.book.Place.{Place}
 use Rattle.sip_machine.specs.declared.book.Run.{Run}
 use Rattle.sip_machine.specs.declared.tos.To.{To}
-use Rattle.sip_machine.specs.inner.Order.{texts_of, placed, bytes_at, hash_of, places_of, IsOrder, IsInRuns, IsGap}
+use Rattle.sip_machine.specs.inner.Order.{texts_of, placed, bytes_at, hash_of, places_of, index_of, IsOrder, IsInRuns, IsGap, IsInside, IsLoose, StandInRuns}
 use Rattle.sip_machine.specs.inner.Retain.{number_at, moved}
 use Rattle.sip_machine.specs.inner.Tos.{AreTos, IsTo, IsToOf}
 use Rattle.sip_machine.proofs.acks.ToLemmas.{AllPairs-take, AreTos-grow}
@@ -111,40 +113,56 @@ module _ (kept others : List Kept) (newest : Kept) (is : kept ≡ others ++ newe
   never_found book position low same =
       none_found (texts_of others) newest.number newest.bytes.items (subst IsBook (texts_split kept others newest is) book) position (rw length-map low) same
 
-  -- so its place is put among theirs
-  pub order_newest : (places now : List Place) (hash position i : ℕ) → hash ≡ hash_of newest.bytes.items → position ≡ length others → IsOrder (placed true (texts_of kept)) places
-      → IsGap (texts_of others) (hash, newest.bytes.items) places i → now ≡ insert places i (record { hash = hash; position = position }) → IsOrder (texts_of kept) now
-  order_newest places now hash position i hashed at order gap put =
-      let bytes = newest.bytes.items in
-      let front = texts_of others in
-      let place : ℕ → ℕ → Place = λ h p. record { hash = h; position = p } in
-      let here : length front ≡ position = length-map others (λ (k : Kept). (k.number, k.bytes.items)) ∙ sym at in
-      let grown = IsOrder-grow front places newest.number bytes i (subst (λ ts. IsOrder ts places) placed_others order) (subst (λ h. IsGap front (h, bytes) places i) hashed gap) in
-      subst (λ ts. IsOrder ts now) (sym (texts_split kept others newest is))
-      (subst (IsOrder (front ++ (newest.number, bytes) ∷ [])) (ap (λ h. insert places i (place h (length front))) (sym hashed) ∙ ap (λ p. insert places i (place hash p)) here ∙ sym put) grown)
+  -- so they stand in the runs
+  pub others_stand : (loose : Bool) (runs : List Run) → loose ≡ true → IsInRuns (placed loose (texts_of kept)) runs → IsInRuns (texts_of others) runs
+  others_stand loose runs true_is order = subst (λ ts. IsInRuns ts runs) (ap (λ b. placed b (texts_of kept)) true_is ∙ placed_others) order
+
+-- where the newest stands in no run yet, the others do
+pub stand_placed : (texts : Texts) (runs : List Run) (loose : Option Loose) → StandInRuns texts runs loose → IsInRuns (placed (is_some loose) texts) runs
+stand_placed texts runs None stand = stand
+stand_placed texts runs (Some newest) is = subst (λ ts. IsInRuns ts runs) (sym (ap (placed true) is.last ∙ placed_front is.others (is.number, is.bytes))) is.order
+
+-- its place in its gap is among theirs
+pub newest_placed : (texts : Texts) (runs now : List Run) (newest : Loose) (position : ℕ) → IsLoose texts runs newest → position ≡ length texts - 1
+    → places_of now ≡ insert (places_of runs) (index_of runs newest.gap) (record { hash = newest.hash; position = position }) → IsOrder texts (places_of now)
+newest_placed texts runs now newest position is at put =
+    let front = is.others in
+    let bytes = is.bytes in
+    let places = places_of runs in
+    let i = index_of runs newest.gap in
+    let place : ℕ → ℕ → Place = λ h p. record { hash = h; position = p } in
+    let size : length texts ≡ length front + 1 = ap length is.last ∙ length-append front ((is.number, bytes) ∷ []) in
+    let here : length front ≡ position = omega (arith, size, at) in
+    let grown = IsOrder-grow front places is.number bytes i is.order.order (subst (λ h. IsGap front (h, bytes) places i) is.hash is.gap) in
+    subst (λ ts. IsOrder ts (places_of now)) (sym is.last)
+    (subst (IsOrder (front ++ (is.number, bytes) ∷ [])) (ap (λ h. insert places i (place h (length front))) (sym is.hash) ∙ ap (λ p. insert places i (place newest.hash p)) here ∙ sym put) grown)
 
 -- What a book keeps, and how it stands in order.
 
-abbrev pub IsKept : Texts → Bool → List Run → List To → Type 0
-IsKept texts loose runs tos = IsBook texts × IsInRuns (placed loose texts) runs × AreTos texts tos
+abbrev pub IsKept : Texts → List Run → Option Loose → List To → Type 0
+IsKept texts runs loose tos = IsBook texts × StandInRuns texts runs loose × AreTos texts tos
 
 -- other bytes came last
-pub kept_newest : (old new : Texts) (runs : List Run) (tos : List To) (number hash i : ℕ) (bytes : List ℕ) → IsBook old → IsInRuns old runs → AreTos old tos
-    → ((n : ℕ) → Keeps old n → n < number) → hash ≡ hash_of bytes → IsGap old (hash, bytes) (places_of runs) i → new ≡ old ++ (number, bytes) ∷ [] → IsKept new true runs tos
-kept_newest old new runs tos number hash i bytes book order beside above hashed gap is =
-    let other = text_of-none old bytes (none_in_gap old (places_of runs) bytes i order.order (subst (λ h. IsGap old (h, bytes) (places_of runs) i) hashed gap)) in
-    subst (λ ts. IsKept ts true runs tos) (sym is) (
-      IsBook-grow old number bytes book above other,
-      subst (λ ts. IsInRuns ts runs) (sym (placed_front old (number, bytes))) order,
-      AreTos-grow old number bytes tos beside,
+pub kept_newest : (old new : Texts) (runs : List Run) (tos : List To) (number : ℕ) (bytes : List ℕ) (newest : Loose) → IsBook old → IsInRuns old runs → AreTos old tos
+    → ((n : ℕ) → Keeps old n → n < number) → newest.hash ≡ hash_of bytes → IsGap old (newest.hash, bytes) (places_of runs) (index_of runs newest.gap)
+    → (0 < length runs → IsInside runs newest.gap) → new ≡ old ++ (number, bytes) ∷ [] → IsKept new runs (Some newest) tos
+kept_newest old new runs tos number bytes newest book order beside above hashed gap inside is =
+    let i = index_of runs newest.gap in
+    let other = text_of-none old bytes (none_in_gap old (places_of runs) bytes i order.order (subst (λ h. IsGap old (h, bytes) (places_of runs) i) hashed gap)) in (
+      subst IsBook (sym is) (IsBook-grow old number bytes book above other),
+      record { others = old; number = number; bytes = bytes; last = is; order = order; hash = hashed; gap = gap; inside = inside },
+      subst (λ ts. AreTos ts tos) (sym is) (AreTos-grow old number bytes tos beside),
     )
 
 -- they went again
-pub kept_front : (old new : Texts) (runs : List Run) (tos : List To) (number : ℕ) (bytes : List ℕ) → IsKept old true runs tos → All (λ to. to.number < number) tos
-    → old ≡ new ++ (number, bytes) ∷ [] → IsKept new false runs tos
-kept_front old new runs tos number bytes kept below is =
-    let (book, order, beside) = subst (λ ts. IsKept ts true runs tos) is kept in
-    (IsBook-front new number bytes book, subst (λ ts. IsInRuns ts runs) (placed_front new (number, bytes)) order, AreTos-front new number bytes book tos below beside)
+pub kept_front : (old new : Texts) (runs : List Run) (tos : List To) (number : ℕ) (bytes : List ℕ) (loose : Option Loose) → is_some loose ≡ true → IsKept old runs loose tos
+    → All (λ to. to.number < number) tos → old ≡ new ++ (number, bytes) ∷ [] → IsKept new runs None tos
+kept_front old new runs tos number bytes None some kept below is = absurd (false≢true some)
+kept_front old new runs tos number bytes (Some newest) some kept below is =
+    let (whole, stands, beside) = kept in
+    let book = subst IsBook is whole in
+    let same : stands.others ≡ new = sym (placed_front stands.others (stands.number, stands.bytes)) ∙ ap (placed true) (sym stands.last ∙ is) ∙ placed_front new (number, bytes) in
+    (IsBook-front new number bytes book, subst (λ ts. IsInRuns ts runs) same stands.order, AreTos-front new number bytes book tos below (subst (λ ts. AreTos ts tos) is beside))
 
 -- What is left in order where the newest of the messages that stay gets its place later.
 

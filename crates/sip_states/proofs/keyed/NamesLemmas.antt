@@ -40,11 +40,6 @@ unnamed_more names items i d n low first more has =
       | inr late ↦ more late
     ]
 
--- where they name nothing
-pub silent_more : {S : Type 0} (names : S → List ℕ) (items : List S) (i : ℕ) (d : S) → i < length items → flat_map names (take i items) ≡ [] → names (get_or items i d) ≡ []
-    → flat_map names (take (i + 1) items) ≡ []
-silent_more names items i d low first more = named_more names items i d low ∙ (λ k. first k ++ more k)
-
 -- a state that owes nothing names what its phase does
 pub rest_names : {S : Type 0} (names : S → List ℕ) (x : CodeOwing S) (phase : S) (message : Option ℕ) → x ≡ at_rest phase → option_to_list message ≡ names phase
     → owing_names names x ≡ option_to_list message

@@ -1,31 +1,42 @@
-use Rattle.std.proofs.Common.{◌∙◌, true, subst, arith}
+use Rattle.std.proofs.Common.{◌≡◌, ◌∙◌, [], true, false, ap, subst, length, arith}
+use Rattle.std.proofs.lemmas.Grind.{common_steps}
 use Rattle.std.proofs.lemmas.Option.{slice_get_within}
+use Rattle.std.proofs.lemmas.List.{length-set, nil_from_length}
 use Rattle.indexmap.specs.IndexMap.{values}
-use Rattle.sip_states.specs.inner.Marks.{IsMarked, AreMarked}
-use Rattle.sip_states.proofs.due.AdvanceLemmas.{item_among}
+use Rattle.sip_states.specs.Sweep.{numbers_of}
+use Rattle.sip_states.specs.inner.Marks.{IsMarked}
+use Rattle.sip_states.proofs.keyed.ByMachine.{numbers_appended}
+use Rattle.sip_states.proofs.keyed.NamesLemmas.{names_nothing}
+use Rattle.sip_states.proofs.due.AdvanceLemmas.{item_among, unmarked, not_unmarked}
 use Rattle.sip_states.proofs.tables.unmark_silent.Goals as goal
 
-pub unmark_if_silent-requires-clause-inside : goal.unmark_if_silent-requires-clause-inside
-unmark_if_silent-requires-clause-inside g c =
+pub index-requires : goal.index-requires
+index-requires g c =
     let marks = c.loop-place.marks in
     let index = c.in-Some.index in
     let mark : IsMarked marks index = (c.marked.ensures.members index).0 (item_among _ _ _ _ _ c.get.ensures.lookup c.copied.ensures c.in-Some.is) in
     let low = slice_get_within marks index true mark in
     rw c.loop-place.invariant.same (omega (arith, low, c.loop-place.invariant.long, c.requires.long))
 
-pub unmark_if_silent-requires-clause-long : goal.unmark_if_silent-requires-clause-long
-unmark_if_silent-requires-clause-long g c = rw c.loop-place.invariant.same (c.loop-place.invariant.long ∙ c.requires.long)
+pub unmark-requires : goal.unmark-requires
+unmark-requires g c =
+    let marks = c.loop-place.marks in
+    let index = c.in-Some.index in
+    let mark : IsMarked marks index = (c.marked.ensures.members index).0 (item_among _ _ _ _ _ c.get.ensures.lookup c.copied.ensures c.in-Some.is) in
+    slice_get_within marks index true mark
 
-pub unmark_if_silent-requires-clause-marked : goal.unmark_if_silent-requires-clause-marked
-unmark_if_silent-requires-clause-marked g c = rw c.loop-place.invariant.same c.loop-place.invariant.marked
-
-pub loop-place-preserved : goal.loop-place-preserved
-loop-place-preserved g c =
-    let inv = c.loop-place.invariant in
-    let left = c.unmark_if_silent.ensures in
+pub loop-place-preserved-then-is_empty : goal.loop-place-preserved-then-is_empty
+loop-place-preserved-then-is_empty g c =
+    let marks = c.loop-place.marks in
+    let index = c.in-Some.index in
+    let set = c.index.result.now in
+    let none : length c.names.new.out.items ≡ 0 = grind (arith, common_steps) in
+    let empty : c.names.new.out.items ≡ [] = nil_from_length c.names.new.out.items none in
+    let silent : numbers_of set ≡ [] = names_nothing (numbers_of set) c.clear.new.self.items c.names.new.out.items c.clear.ensures.items empty
+    (numbers_appended set c.clear.new.self.items c.names.new.out.items c.in_ok-names.ensures) in
     record {
-      long = left.long ∙ inv.long;
-      marked = subst (λ sets. AreMarked c.unmark_if_silent.new.marks (values sets)) inv.same left.marked;
-      fewer = λ n mark. inv.fewer n (left.fewer n mark);
-      same = left.same ∙ inv.same;
+      long = ap length c.unmark.ensures ∙ length-set marks index false ∙ c.loop-place.invariant.long;
+      marked = rw c.unmark.ensures (unmarked (λ s. numbers_of s ≡ []) marks (values c.args.sets.now) index set c.loop-place.invariant.marked (rw c.loop-place.invariant.same at c.index.ensures) silent);
+      fewer = λ n mark. c.loop-place.invariant.fewer n (not_unmarked marks index n (subst (λ ms. IsMarked ms n) c.unmark.ensures mark));
+      same = c.trim_at.ensures ∙ c.loop-place.invariant.same;
     }

@@ -6,7 +6,7 @@ use Rattle.sip_states.specs.AnySet.{IsQuietSet}
 use Rattle.sip_states.specs.Sweep.{numbers_of}
 use Rattle.sip_states.specs.Tables.{most_keys}
 use Rattle.sip_states.specs.inner.Marks.{IsMarked}
-use Rattle.sip_states.proofs.due.AdvanceLemmas.{place_among, marked_advance, some_advance, marked_still, always_err}
+use Rattle.sip_states.proofs.due.AdvanceLemmas.{place_among, marked_advance, some_advance, marked_still, always_ok, always_err}
 use Rattle.sip_states.proofs.tables.Tables.advance_all.Goals as goal
 
 pub advance_each-requires-clause-inside : goal.advance_each-requires-clause-inside
@@ -72,11 +72,24 @@ pub returns-clause-ok : goal.returns-clause-ok
 returns-clause-ok g c =
     let up = c.in_ok-advance_each.ensures.ok in
     let sets = c.self.inside.sets in
-    rw (c.unmark_silent.ensures.same, ← c.self.view_is) (record {
+    always_ok c.unmark_silent.result _ (rw (c.unmark_silent.ensures.same, ← c.self.view_is) (record {
       times = refl;
       keys = c.in_ok-advance_each.ensures.keys;
       records = refl;
       long = up.long;
       each = marked_advance c.args.moment c.marked.result.now c.self.inside.marks (values sets) (values c.advance_each.new.sets)
           (c.self.invariant.2 ∙ sym (length-values_of sets.entries)) c.self.invariant.3 c.marked.ensures.members up;
-    })
+    }))
+
+pub returns-clause-err : goal.returns-clause-err
+returns-clause-err g c =
+    let up = c.in_ok-advance_each.ensures.ok in
+    let sets = c.self.inside.sets in
+    always_err c.unmark_silent.result _ (rw (c.unmark_silent.ensures.same, ← c.self.view_is) (record {
+      times = refl;
+      keys = c.in_ok-advance_each.ensures.keys;
+      records = refl;
+      long = up.long;
+      each = λ n a b was is. inl (marked_advance c.args.moment c.marked.result.now c.self.inside.marks (values sets) (values c.advance_each.new.sets)
+          (c.self.invariant.2 ∙ sym (length-values_of sets.entries)) c.self.invariant.3 c.marked.ensures.members up n a b was is);
+    }))

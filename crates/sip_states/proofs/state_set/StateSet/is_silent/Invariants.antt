@@ -1,7 +1,0 @@
-use Rattle.std.proofs.Common.{◌≡◌, [], take}
-use Rattle.std.specs.List.{flat_map}
-use Rattle.sip_machine.specs.Owing.{owing_names}
-use Rattle.sip_states.proofs.state_set.StateSet.is_silent.Given as goal
-
-abbrev pub invariant-loop-at : goal.invariant-loop-at
-invariant-loop-at g l = flat_map (owing_names g.M.Phases.names) (take l.at l.fn.self.states) ≡ []

@@ -16,8 +16,8 @@ move_all-requires-clause-rising c = rw c.placed.ensures (placed_up c.is_some-is_
 pub move_all-requires-clause-short : goal.move_all-requires-clause-short
 move_all-requires-clause-short c = (stand_placed (texts_of c.self.inside.kept.items) c.self.inside.order.items c.self.inside.loose c.self.invariant.1).short
 
-pub loosened-requires-clause-book : goal.loosened-requires-clause-book
-loosened-requires-clause-book c =
+pub loosened-self-inside-requires-clause-book : goal.loosened-self-inside-requires-clause-book
+loosened-self-inside-requires-clause-book c =
     let texts = texts_of c.self.inside.kept.items in
     let numbers = c.args.numbers.now in
     let book = c.self.invariant.0 in
@@ -25,8 +25,8 @@ loosened-requires-clause-book c =
     let is = c.keep_only.ensures ∙ merged_is numbers texts c.requires.rising book.rising kept in
     rw c.deref-2.ensures.value (subst IsBook (sym is) (IsBook-only texts numbers book c.requires.rising kept))
 
-pub loosened-requires-clause-order : goal.loosened-requires-clause-order
-loosened-requires-clause-order c =
+pub loosened-self-inside-requires-clause-order : goal.loosened-self-inside-requires-clause-order
+loosened-self-inside-requires-clause-order c =
     let texts = texts_of c.self.inside.kept.items in
     let loose = c.is_some-is_loose.result in
     let numbers = c.args.numbers.now in
@@ -54,7 +54,7 @@ invariant_of-self c =
     let kept : All (Keeps texts) numbers = rw c.self.view_is c.requires.kept in
     let is = c.keep_only.ensures ∙ merged_is numbers texts c.requires.rising book.rising kept in (
       subst IsBook (sym is) (IsBook-only texts numbers book c.requires.rising kept),
-      rw (c.deref-2.ensures.value, c.deref-3.ensures.value) at c.loosened.ensures,
+      rw (c.deref-2.ensures.value, c.deref-3.ensures.value) at c.loosened-self-inside.ensures,
       subst (λ ts. AreTos ts c.retain.new.self) (sym is) (AreTos-only texts numbers book c.requires.rising kept c.self.inside.tos c.retain.new.self c.self.invariant.2 c.retain.ensures),
     )
 

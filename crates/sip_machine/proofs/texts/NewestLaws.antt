@@ -14,7 +14,7 @@ use Rattle.sip_machine.specs.declared.book.Place.{Place}
 use Rattle.sip_machine.specs.declared.book.Run.{Run}
 use Rattle.sip_machine.specs.declared.tos.To.{To}
 use Rattle.sip_machine.specs.inner.Order.{texts_of, placed, bytes_at, hash_of, places_of, index_of, IsOrder, IsInRuns, IsGap, IsInside, IsLoose, StandInRuns}
-use Rattle.sip_machine.specs.inner.Retain.{number_at, moved}
+use Rattle.sip_machine.specs.inner.Retain.{moved}
 use Rattle.sip_machine.specs.inner.Tos.{AreTos, IsTo, IsToOf}
 use Rattle.sip_machine.proofs.acks.ToLemmas.{AllPairs-take, AreTos-grow}
 use Rattle.sip_machine.proofs.texts.TextLaws.{Contains-nil, Keeps-grow, Keeps-grow_cases, Keeps-added, Keeps-at, text_of-at, text_of-added, text_of-grow, text_of-none, IsBook-grow}

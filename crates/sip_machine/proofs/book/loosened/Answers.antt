@@ -1,4 +1,4 @@
-use Rattle.std.proofs.Common.{◌≡◌, ◌∙◌, ◌++◌, ◌∷◌, [], true, ap, rules}
+use Rattle.std.proofs.Common.{◌≡◌, ◌∙◌, true, ap, rules}
 use Rattle.sip_machine.specs.inner.Order.{texts_of, hash_of}
 use Rattle.sip_machine.proofs.texts.NewestLaws.{texts_split, never_found, others_stand}
 use Rattle.sip_machine.proofs.book.loosened.Goals as goal

@@ -2,7 +2,7 @@
 ghost use Rattle.std.specs.Prelude.{◌+◌, ◌<◌, ◌≤◌, ℕ, OnOk};
 ghost use Rattle.sip_machine.specs.Texts.{Keeps};
 
-use crate::messages::keep;
+use crate::messages::{forget, keep};
 use crate::wants::is;
 use sip_machine::{Book, Params};
 use std::alloc::{AllocError, Global};
@@ -47,6 +47,22 @@ fn keeps_equal_bytes_once(rt: HostRuntime) -> Result<(), Fail> {
     keeps(&rt, &book, 3, Some(b"OPTIONS"));
     keeps(&rt, &book, 5, None);
     keeps(&rt, &book, 8, Some(b""));
+    Ok(())
+}
+
+#[test]
+fn forgets_the_newest_message_alone(rt: HostRuntime) -> Result<(), Fail> {
+    let mut book = Book::new(rt.alloc());
+    keep(&mut book, 3, b"OPTIONS")?;
+    keep(&mut book, 5, b"ACK")?;
+    forget(&mut book, 3, 5);
+    keeps(&rt, &book, 3, Some(b"OPTIONS"));
+    forget(&mut book, 5, 5);
+    keeps(&rt, &book, 5, None);
+    forget(&mut book, 3, 5);
+    keeps(&rt, &book, 3, Some(b"OPTIONS"));
+    is(&rt, book.add(8, b"ACK")?, 8, "it comes again");
+    is(&rt, book.add(9, b"OPTIONS")?, 3, "the first is still kept");
     Ok(())
 }
 

@@ -1,5 +1,5 @@
 //! The messages of a log, each kept once.
-ghost use Rattle.std.specs.Prelude.{◌≡◌, ◌≢◌, ◌<◌, ◌≤◌, ◌⊎◌, ◌↔◌, ◌++◌, ◌∷◌, [], ℕ, length, map, MatchOption, IfSome, IfOk, IfErr, OnOk, OnErr, IsTrue, All, AllPairs};
+ghost use Rattle.std.specs.Prelude.{◌≡◌, ◌≢◌, ◌<◌, ◌≤◌, ◌⊎◌, ◌↔◌, ◌++◌, ◌∷◌, [], ℕ, None, List, length, map, MatchOption, IfNone, IfSome, IfOk, IfErr, OnOk, OnErr, IsTrue, All, AllPairs};
 ghost use Rattle.std.specs.List.{insert, HoldsAt};
 ghost use Rattle.std.specs.List.Sorted.{IsSearchInRange, IsBinarySearchResult};
 ghost use Rattle.sip_machine.specs.Texts.{IsBook, Keeps, text_of};
@@ -7,11 +7,11 @@ ghost use Rattle.sip_machine.specs.Retained.{only};
 ghost use Rattle.sip_message.specs.Reads.{Reads};
 ghost use Rattle.sip_machine.specs.inner.ReadAs.{IsReadAs};
 ghost use Rattle.sip_machine.specs.inner.Tos.{IsToOf, HoldsBetween, count_between};
-ghost use Rattle.sip_machine.specs.inner.Order.{texts_of, bytes_at, key_of, compare, begins_by, places_of, index_of, most_places, IsLed, IsInRuns, IsInside, IsGap};
+ghost use Rattle.sip_machine.specs.inner.Order.{texts_of, placed, bytes_at, key_of, compare, begins_by, places_of, index_of, most_places, IsLed, IsInRuns, StandInRuns, IsInside, IsGap};
 
 mod retain;
 
-use crate::book::retain::{keep_only, move_all};
+use crate::book::retain::{keep_only, lay_aside, move_all};
 use crate::event::is_unsuccessful;
 use crate::hashed::{Hashed, hash};
 use crate::tos::{Holder, Tos};
@@ -24,11 +24,14 @@ use std::marker::Model;
 /// Messages by number: equal bytes have one number. They stand in the order of their numbers, and beside them
 /// their places stand in the order of hash and bytes, in runs, so that few places move for a new one. So a message
 /// is found by its number, and by its bytes, with a logarithm of comparisons, whatever the log is and however the
-/// hashes fall; its bytes are kept once.
+/// hashes fall; its bytes are kept once. The newest one gets its place when the next one comes, so that one which is
+/// forgotten at once never has one.
 #[derive(Debug, Drop)]
 pub struct Book {
     kept: Vec<KeptMessage>,
     order: Vec<PlaceRun>,
+    /// Where the place of the newest message goes, if it stands in no run yet.
+    loose: Option<Loose>,
     /// The To of some of the messages.
     tos: Tos,
     /// Buffers of messages that were forgotten, for those that come.
@@ -58,10 +61,17 @@ struct PlaceRun {
 }
 
 /// Between two places: in this run, before this place of it.
-#[derive(Clone, Copy)]
+#[derive(Clone, Copy, Debug)]
 struct Gap {
     run: usize,
     place: usize,
+}
+
+/// Where the place of the newest message goes, with the hash of its bytes.
+#[derive(Clone, Copy, Debug)]
+struct Loose {
+    hash: u64,
+    gap: Gap,
 }
 
 /// A run with so many places is halved before it takes another one.
@@ -69,14 +79,14 @@ const MOST: usize = 128;
 
 impl Model for Book {
     ghost use Rattle.sip_machine.specs.Texts.{Texts, IsBook};
-    ghost use Rattle.sip_machine.specs.inner.Order.{texts_of, IsInRuns};
+    ghost use Rattle.sip_machine.specs.inner.Order.{texts_of, StandInRuns};
     ghost use Rattle.sip_machine.specs.inner.Tos.{AreTos};
 
     ghost Value = { Texts };
 
     ghost view = { λ b. texts_of b.kept.items };
 
-    ghost invariant = { λ b. IsBook (texts_of b.kept.items) × IsInRuns (texts_of b.kept.items) b.order.items × AreTos (texts_of b.kept.items) b.tos };
+    ghost invariant = { λ b. IsBook (texts_of b.kept.items) × StandInRuns (texts_of b.kept.items) b.order.items b.loose × AreTos (texts_of b.kept.items) b.tos };
 }
 
 impl Book {
@@ -87,6 +97,7 @@ impl Book {
         Book {
             kept: Vec::new(alloc),
             order: Vec::new(alloc),
+            loose: None,
             tos: Tos::new(alloc),
             spare: Vec::new(alloc),
         }
@@ -210,14 +221,32 @@ impl Book {
             ⊎ ((self.new ≡ self.old ++ (entry, bytes.now) ∷ []) × (n ≡ entry))) }
         ensures err { OnErr result (self.new ≡ self.old) }
     {
+        place_newest(&self.kept, &mut self.order, &mut self.loose)?;
         let hash = hash(bytes);
         match find(&self.kept, &self.order, hash, bytes) {
             Ok(position) => Ok(self.kept[position].number),
             Err(gap) => {
                 let bytes = copy(&mut self.spare, self.kept.len(), bytes)?;
-                put(&mut self.kept, &mut self.order, gap, entry, hash, bytes)?;
+                self.kept.push(KeptMessage {
+                    number: entry,
+                    bytes,
+                })?;
+                self.loose = Some(Loose { hash, gap });
                 Ok(entry)
             }
+        }
+    }
+
+    /// Forgets the newest message, if it has this number, and neither its place nor its To stands beside it yet.
+    pub fn forget_newest(&mut self, number: u32)
+        ensures { (self.new ≡ self.old) ⊎ ((bytes : List ℕ) × (self.old ≡ self.new ++ (number, bytes) ∷ [])) }
+    {
+        if self.loose.is_none() || !self.tos.are_below(number) {
+            return;
+        }
+        if let Some(newest) = pop_newest(&mut self.kept, number) {
+            self.loose = None;
+            lay_aside(&mut self.spare, newest.bytes);
         }
     }
 
@@ -234,8 +263,11 @@ impl Book {
         requires kept { All (Keeps self.old) numbers.now }
         ensures { self.new ≡ only numbers.now self.old }
     {
-        move_all(&mut self.order, &self.kept, numbers);
+        let is_loose = self.loose.is_some();
+        let kept = placed(&self.kept, is_loose);
+        move_all(&mut self.order, kept, placed(numbers, is_loose));
         keep_only(&mut self.kept, &mut self.spare, numbers);
+        self.loose = loosened(&self.kept, &self.order, is_loose);
         self.tos.retain(numbers);
     }
 }
@@ -300,33 +332,72 @@ fn copy(spare: &mut Vec<Vec<u8>>, kept: usize, bytes: &[u8]) -> Result<Vec<u8>, 
     Ok(copy)
 }
 
-/// Keeps a message under the number of its entry, with its place in the gap; on an error all is as before.
-fn put(
-    kept: &mut Vec<KeptMessage>,
-    runs: &mut Vec<PlaceRun>,
-    gap: Gap,
-    entry: u32,
-    hash: u64,
-    bytes: Vec<u8>,
-) -> Result<(), AllocError>
-    requires led { All IsLed runs.old.items }
-    requires short { All (λ run. length run.places.items ≤ most_places) runs.old.items }
-    requires inside { 0 < length runs.old.items → IsInside runs.old.items gap }
-    ensures ok { OnOk result ((texts_of kept.new.items ≡ texts_of kept.old.items ++ (entry, bytes.items) ∷ [])
-        × (places_of runs.new.items ≡ insert (places_of runs.old.items) (index_of runs.old.items gap)
-        (record { hash = hash; position = length kept.old.items }))) }
-    ensures err { OnErr result ((kept.new.items ≡ kept.old.items) × (places_of runs.new.items ≡ places_of runs.old.items)) }
-    ensures led { All IsLed runs.new.items }
-    ensures short { All (λ run. length run.places.items ≤ most_places) runs.new.items }
+/// The messages whose places stand in the order, or their numbers: all, or all but the newest, which comes last.
+fn placed<T>(all: &[T], is_loose: bool) -> &[T]
+    ensures { result.now ≡ placed is_loose all.now }
 {
-    kept.reserve(1)?;
-    let position = kept.len();
-    insert(runs, gap, Place { hash, position })?;
-    kept.push(KeptMessage {
-        number: entry,
-        bytes,
-    })?;
+    if is_loose {
+        &all[..all.len().saturating_sub(1)]
+    } else {
+        all
+    }
+}
+
+/// Puts the place of the newest message with the others, if it stands in no run yet. On an error it stands in none.
+fn place_newest(
+    kept: &[KeptMessage],
+    runs: &mut Vec<PlaceRun>,
+    loose: &mut Option<Loose>,
+) -> Result<(), AllocError>
+    requires book { IsBook (texts_of kept.now) }
+    requires order { StandInRuns (texts_of kept.now) runs.old.items loose.old }
+    ensures ok { OnOk result ((loose.new ≡ None) × IsInRuns (texts_of kept.now) runs.new.items) }
+    ensures err { OnErr result (StandInRuns (texts_of kept.now) runs.new.items loose.new) }
+{
+    let Some(newest) = *loose else {
+        return Ok(());
+    };
+    let place = Place {
+        hash: newest.hash,
+        position: kept.len().saturating_sub(1),
+    };
+    if let Err(refused) = insert(runs, newest.gap, place) {
+        *loose = loosened(kept, runs, true);
+        return Err(refused);
+    }
+    *loose = None;
     Ok(())
+}
+
+/// Where the place of the newest message goes, if it stands in no run.
+fn loosened(kept: &[KeptMessage], runs: &[PlaceRun], is_loose: bool) -> Option<Loose>
+    requires book { IsBook (texts_of kept.now) }
+    requires order { IsInRuns (placed is_loose (texts_of kept.now)) runs.now }
+    ensures { StandInRuns (texts_of kept.now) runs.now result }
+{
+    if !is_loose {
+        return None;
+    }
+    let Some((newest, others)) = kept.split_last() else {
+        return None;
+    };
+    let bytes = newest.bytes.as_slice();
+    let hash = hash(bytes);
+    match find(others, runs, hash, bytes) {
+        Ok(_) => None,
+        Err(gap) => Some(Loose { hash, gap }),
+    }
+}
+
+/// Takes the newest message away, if it has this number.
+fn pop_newest(kept: &mut Vec<KeptMessage>, number: u32) -> Option<KeptMessage>
+    ensures none { IfNone result (kept.new.items ≡ kept.old.items) }
+    ensures some { IfSome result (λ newest. (newest.number ≡ number) × (kept.old.items ≡ kept.new.items ++ newest ∷ [])) }
+{
+    match kept.last() {
+        Some(newest) if newest.number == number => kept.pop(),
+        _ => None,
+    }
 }
 
 /// Puts a place into the gap; on an error the places are as before.

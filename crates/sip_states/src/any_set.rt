@@ -1,8 +1,8 @@
 //! The states of one transaction, whichever machine it has.
-ghost use Rattle.std.specs.Prelude.{◌≡◌, ◌↔◌, ◌≤◌, IfOk, IsErrOf, IsTrue, OnErr, OnOk};
+ghost use Rattle.std.specs.Prelude.{◌≡◌, ◌↔◌, ◌≤◌, false, Contains, IfOk, IsErrOf, IsTrue, OnErr, OnOk};
 ghost use Rattle.sip_machine.specs.NumberedEvent.{FitsBook};
 ghost use Rattle.sip_states.specs.AnySet.{moment_of, start_of, IsEmpty, IsKeptSet, IsQuietSet, IsKnownSet, SetWaits, SetTakes, IsSetTooWide, IsAgendaOf};
-ghost use Rattle.sip_states.specs.Sweep.{AppendsNumbers};
+ghost use Rattle.sip_states.specs.Sweep.{AppendsNumbers, numbers_of};
 ghost use Rattle.sip_states.specs.Told.{AreTold};
 
 use crate::state_set::{StateSet, TakeError};
@@ -125,6 +125,13 @@ impl AnySet {
         ensures { OnOk result (AppendsNumbers self.now out.old.items out.new.items) }
     {
         each_machine!(self, set => set.names(out))
+    }
+
+    /// Whether one of its states may name the message with this number.
+    pub fn may_name(&self, number: u32) -> bool
+        ensures { result ≡ false → ¬ Contains (numbers_of self.now) number }
+    {
+        each_machine!(self, set => set.may_name(number))
     }
 
     /// Whether its one state is the one before anything was sent or received, or the one after an end.

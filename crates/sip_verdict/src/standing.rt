@@ -1,9 +1,11 @@
 //! What is kept of the entries of a log that were judged.
-ghost use Rattle.std.specs.Prelude.{◌≡◌, ◌≢◌, ◌≤◌, ◌<◌, ◌+◌, ◌++◌, ◌∷◌, [], ℕ, Bool, None, List, All, AllPairs, Contains, IfOk, IfNone, OnOk, length, string_bytes, ◌↔◌, IfSome, MatchOption};
+ghost use Rattle.std.specs.Prelude.{◌≡◌, ◌≢◌, ◌≤◌, ◌<◌, ◌+◌, ◌++◌, ◌∷◌, [], ℕ, Bool, false, None, List, All, AllPairs, Contains, IfOk, IfNone, OnOk, length, string_bytes, ◌↔◌, IfSome, MatchOption};
 ghost use Rattle.std.specs.Option.{ForSome, option_copied};
 ghost use Rattle.sip_standard.specs.Key.{KeyParts};
 ghost use Rattle.sip_standard.specs.Times.{last_moment};
 ghost use Rattle.sip_machine.specs.Texts.{Keeps};
+ghost use Rattle.sip_states.specs.AnySet.{IsKnownSet};
+ghost use Rattle.sip_states.specs.Sweep.{numbers_of};
 ghost use Rattle.sip_states.specs.Tables.{HasNumber, IsGiven, due_of, most_keys};
 ghost use Rattle.sip_standard.specs.LogSays.{most_entries};
 ghost use Rattle.sip_standard.specs.LogEntry.{Item};
@@ -20,7 +22,7 @@ ghost use Rattle.sip_verdict.specs.Surveys.{IsStillNamed};
 ghost use Rattle.sip_verdict.specs.inner.Forgetting.{AreQuietIfOver};
 ghost use Rattle.sip_verdict.specs.inner.Surveying.{TablesSurvey};
 ghost use Rattle.sip_verdict.specs.inner.Tracking.{IsJudged};
-ghost use Rattle.sip_verdict.specs.inner.TablesTracking.{key_keeping, transactions_of, TablesTrack, TablesTrackBefore, AreTold, TouchesEach, HaveNumbers, hearers, MayPass, MayHear, AreOnRecord, AllAreOnRecord, MayTake};
+ghost use Rattle.sip_verdict.specs.inner.TablesTracking.{key_keeping, transactions_of, TablesTrack, TablesTrackBefore, AreTold, LeavesOthers, OthersAre, NamesNot, IsForgotten, TouchesEach, HaveNumbers, hearers, MayPass, MayHear, AreOnRecord, AllAreOnRecord, MayTake};
 
 use crate::concerned::Concerned;
 use crate::observing::{Observed, observe};
@@ -67,6 +69,21 @@ pub(crate) fn touch_each<H: BuildHasher>(
             Concerned::OwnAndCancelled(own, tables.touch(cancelled)?)
         }
     })
+}
+
+/// Whether one of these transactions may name the message with this number.
+fn may_name<H: BuildHasher>(tables: &Tables<H>, number: u32, concerned: Concerned<u32>) -> bool
+    requires { All (IsGiven tables.now) (each concerned) }
+    ensures { result ≡ false → (is_all concerned ≡ false) × All (NamesNot tables.now number) (each concerned) }
+{
+    match concerned {
+        Concerned::None => false,
+        Concerned::Own(own) => tables.set(own).may_name(number),
+        Concerned::OwnAndCancelled(own, cancelled) => {
+            tables.set(own).may_name(number) || tables.set(cancelled).may_name(number)
+        }
+        Concerned::All => true,
+    }
 }
 
 impl<H: BuildHasher> Standing<H> {
@@ -159,6 +176,7 @@ impl<H: BuildHasher> Standing<H> {
             → AreTold self.old.book self.old.tables.keys moment (option_copied hearing.entry) e
             → TablesTrackBefore self.old.book es e self.old.tables → number ≡ length es + 1
             → IsJudged self.old.tables.times (key_keeping self.new.book self.old.tables.times) es e (transactions_of self.new.tables) verdict) }
+        ensures others { IfOk result (λ verdict. LeavesOthers (option_copied hearing.entry) self.old.tables self.new.tables) }
     {
         let outcome = pass_all(&mut self.tables, &self.book, moment, hearing)?;
         Ok(match outcome {
@@ -195,6 +213,43 @@ impl<H: BuildHasher> Standing<H> {
         Ok(self.take(alloc, entry)?.verdict)
     }
 
+    /// Judges the entry that comes next, with the verdict if it is in trouble. Its message is not kept if no transaction names it.
+    pub(crate) fn judge(
+        &mut self,
+        alloc: Global,
+        entry: &Entry,
+    ) -> Result<Option<Verdict>, AllocError>
+        requires limit { entry.now.moment ≤ last_moment }
+        requires count { entry.now.number ≤ most_entries }
+        requires may { MayTake self.old.book self.old.tables entry.now.number entry.now.moment }
+        ensures times { OnOk result (self.new.tables.times ≡ self.old.tables.times) }
+        ensures may { IfOk result (λ verdict. IfNone verdict (MayTake self.new.book self.new.tables (entry.now.number + 1) entry.now.moment)) }
+        ensures keyless { OnOk result (ConcernsNone (item entry.now) → All (Contains self.old.book) self.new.book) }
+        ensures judged { IfOk result (λ verdict. (es : List (Observation KeyParts)) → TablesTrack self.old.book es self.old.tables
+            → entry.now.number ≡ length es + 1 → newest_moment es ≤ entry.now.moment
+            → (e : Observation KeyParts) × Sees es (item entry.now) e
+            × IsJudged self.old.tables.times (key_keeping self.new.book self.old.tables.times) es e (transactions_of self.new.tables) verdict) }
+    {
+        let taken = self.take(alloc, entry)?;
+        if let Some(verdict) = taken.verdict {
+            return Ok(Some(verdict));
+        }
+        self.forget(entry.number, taken.concerned);
+        Ok(None)
+    }
+
+    /// Forgets the message with this number, if it is the newest and none of these transactions names it. No other one does.
+    fn forget(&mut self, number: u32, concerned: Concerned<u32>)
+        requires given { All (IsGiven self.old.tables) (each concerned) }
+        requires others { OthersAre (λ set. ¬ Contains (numbers_of set) number) concerned self.old.tables }
+        ensures tables { self.new.tables ≡ self.old.tables }
+        ensures book { IsForgotten self.old.tables.sets number self.old.book self.new.book }
+    {
+        if !may_name(&self.tables, number, concerned) {
+            self.book.forget_newest(number);
+        }
+    }
+
     /// Judges the entry that comes next, and lists the transactions that it concerns, if it is in no trouble.
     pub(crate) fn list(&mut self, alloc: Global, entry: &Entry) -> Result<Listing, AllocError>
         requires limit { entry.now.moment ≤ last_moment }
@@ -222,6 +277,7 @@ impl<H: BuildHasher> Standing<H> {
         ensures may { IfOk result (λ taken. IfNone taken.verdict (MayTake self.new.book self.new.tables (entry.now.number + 1) entry.now.moment)) }
         ensures numbered { IfOk result (λ taken. IfNone taken.verdict (StaysNumbered (item entry.now) entry.now.number self.old.book self.new.book)) }
         ensures given { IfOk result (λ taken. All (IsGiven self.new.tables) (each taken.concerned)) }
+        ensures others { IfOk result (λ taken. OthersAre (IsKnownSet self.old.book) taken.concerned self.new.tables) }
         ensures keyless { OnOk result (ConcernsNone (item entry.now) → self.new.book ≡ self.old.book) }
         ensures judged { IfOk result (λ taken. (es : List (Observation KeyParts)) → TablesTrack self.old.book es self.old.tables
             → entry.now.number ≡ length es + 1 → newest_moment es ≤ entry.now.moment

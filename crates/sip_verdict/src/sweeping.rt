@@ -41,7 +41,7 @@ pub(crate) fn judge_next<H: BuildHasher>(
         → (e : Observation KeyParts) × Sees es (item entry.now) e
         × AreFollowedOn standing.new.book standing.new.tables left.new es e verdict) }
 {
-    if let Some(verdict) = standing.entry(alloc, entry)? {
+    if let Some(verdict) = standing.judge(alloc, entry)? {
         return Ok(Some(verdict));
     }
     if standing.kept() <= 2 * *left + SPARE {

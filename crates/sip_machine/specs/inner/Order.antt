@@ -1,4 +1,4 @@
-use Rattle.std.specs.Prelude.{◌≡◌, ◌<◌, ◌≤◌, ◌+◌, ℕ, Bool, List, [], All, AllPairs, Contains, map, length, take, slice_index_or}
+use Rattle.std.specs.Prelude.{◌≡◌, ◌<◌, ◌≤◌, ◌+◌, ◌-◌, ◌++◌, ◌∷◌, ℕ, Bool, true, false, Option, Some, None, List, [], All, AllPairs, Contains, map, length, take, slice_index_or}
 use Rattle.std.specs.declared.cmp.Ordering.{Ordering}
 use Rattle.std.specs.declared.cmp.Ordering.TheVariants.{Less, Greater}
 use Rattle.std.specs.Ordering.{nat_cmp, ordering_then, is_le}
@@ -10,12 +10,18 @@ use Rattle.sip_machine.specs.declared.book.KeptMessage.{KeptMessage}
 use Rattle.sip_machine.specs.declared.book.Place.{Place}
 use Rattle.sip_machine.specs.declared.book.PlaceRun.{PlaceRun}
 use Rattle.sip_machine.specs.declared.book.Gap.{Gap}
+use Rattle.sip_machine.specs.declared.book.Loose.{Loose}
 
 -- How a book finds equal bytes.
 
 -- what the kept messages are
 abbrev pub texts_of : List KeptMessage → Texts
 texts_of kept = map (λ k. (k.number, k.bytes.items)) kept
+
+-- the messages whose places stand in the order, or their numbers: all, or all but the newest, which comes last
+abbrev pub placed : {X : Type 0} → Bool → List X → List X
+placed false all = all
+placed true all = take (length all - 1) all
 
 -- the hash of these bytes, by the first 256 of them
 abbrev pub hash_of : List ℕ → ℕ
@@ -79,3 +85,19 @@ index_of runs gap = length (places_of (take gap.run runs)) + gap.place
 pub record IsInside (runs : List PlaceRun) (gap : Gap) : Type 0 where
   pub run : gap.run < length runs
   pub place : HoldsAt (λ run. gap.place ≤ length run.places.items) runs gap.run
+
+-- the newest message has no place in the runs yet: it goes into this gap
+pub record IsLoose (texts : Texts) (runs : List PlaceRun) (newest : Loose) : Type 0 where
+  pub others : Texts
+  pub number : ℕ
+  pub bytes : List ℕ
+  pub last : texts ≡ others ++ (number, bytes) ∷ []
+  pub order : IsInRuns others runs
+  pub hash : newest.hash ≡ hash_of bytes
+  pub gap : IsGap others (newest.hash, bytes) (places_of runs) (index_of runs newest.gap)
+  pub inside : 0 < length runs → IsInside runs newest.gap
+
+-- the messages stand in the runs, all or all but the newest
+abbrev pub StandInRuns : Texts → List PlaceRun → Option Loose → Type 0
+StandInRuns texts runs None = IsInRuns texts runs
+StandInRuns texts runs (Some newest) = IsLoose texts runs newest

@@ -106,3 +106,10 @@ fn set_aside(kept: &mut Vec<KeptMessage>, spare: &mut Vec<Vec<u8>>, left: usize)
         }
     }
 }
+
+/// Sets the buffer of a message aside that was forgotten.
+pub(super) fn lay_aside(spare: &mut Vec<Vec<u8>>, bytes: Vec<u8>) {
+    if spare.len() < MORE {
+        let _ = spare.push(bytes);
+    }
+}

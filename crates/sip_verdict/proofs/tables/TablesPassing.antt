@@ -231,3 +231,41 @@ hears_more texts event [] n t u v before mid one (same, fine) last =
     (v, one, subst (λ x. HearsOne texts event n x v one) same last, (refl, ap (λ o. first_of o one) fine))
 hears_more texts event (m ∷ ns) n t u v before mid one (between, first, hears, rest) last =
     (between, first, hears, hears_more texts event ns n between u v (first_of before first) mid one rest last)
+
+-- Those that do not hear it.
+
+-- the element at a place stays where another one is set
+set-other : {A : Type 0} (xs : List A) (i n : ℕ) (a : A) → n ≢ i → slice_get (set xs i a) n ≡ slice_get xs n
+set-other [] i n a other = refl
+set-other (x ∷ xs) zero zero a other = absurd (other refl)
+set-other (x ∷ xs) zero (suc n) a other = refl
+set-other (x ∷ xs) (suc i) zero a other = refl
+set-other (x ∷ xs) (suc i) (suc n) a other = set-other xs i n a (λ same. other (ap suc same))
+
+-- a number that is not among some is neither the first nor among the rest
+among_none : (n number : ℕ) (ns : List ℕ) → is_among (number ∷ ns) n ≡ false → (n ≢ number) × (is_among ns n ≡ false)
+among_none n number ns h = (λ same. false≢true (sym h ∙ among_first n number ns same), go (is_among ns n) refl)
+  where
+    go : (b : Bool) → is_among ns n ≡ b → b ≡ false
+    go true at = absurd (false≢true (sym h ∙ among_rest n number ns at))
+    go false at = refl
+
+-- so its set stays as it is
+pub hears_others : (texts : Texts) (event : NumberedEvent) (ns : List ℕ) (t u : Tabled) (before after : Outcome) → All (IsGiven t) ns → HearsEach texts event ns t before u after
+    → (n : ℕ) → is_among ns (n + 1) ≡ false → slice_get u.sets n ≡ slice_get t.sets n
+hears_others texts event [] t u before after given h n none = ap (λ x. slice_get x.sets n) h.0
+hears_others texts event (m ∷ ns) t u before after given (between, one, first, rest) n none =
+    let (fate, heard, is) = first in
+    let (other, others) = among_none (n + 1) m ns none in
+    let low = (All-head (IsGiven t) m ns given).low in
+    let here : slice_get between.sets n ≡ slice_get t.sets n = ap (λ xs. slice_get xs n) (leaves_sets m heard.after fate t between heard.leaves)
+    ∙ set-other t.sets (m - 1) n heard.after (λ same. other (omega (arith, same, low))) in
+    hears_others texts event ns between u (first_of before one) after (heard_given texts event m t between one first ns (All-tail (IsGiven t) m ns given)) rest n others ∙ here
+
+-- and no set that the event does not concern changes
+pub others_left : (c : Concerned ℕ) (numbers : List ℕ) (n : ℕ) → ((n : ℕ) → is_among numbers n ≡ true → (is_all c || is_among (each c) n) ≡ true) → (is_all c || is_among (each c) n) ≡ false → is_among numbers n ≡ false
+others_left c numbers n heard none = go (is_among numbers n) refl
+  where
+    go : (b : Bool) → is_among numbers n ≡ b → b ≡ false
+    go true at = absurd (false≢true (sym none ∙ heard n at))
+    go false at = refl

@@ -1,4 +1,4 @@
-use Rattle.std.specs.Prelude.{◌≡◌, ◌≢◌, ◌||◌, ◌≤◌, ◌<◌, ◌+◌, ◌-◌, [], ◌∷◌, ℕ, nat_eq, Bool, true, false, Option, Some, None, List, All, AllPairs, IfSome, length, slice_get, ⊤}
+use Rattle.std.specs.Prelude.{◌≡◌, ◌≢◌, ◌||◌, ◌≤◌, ◌<◌, ◌+◌, ◌-◌, ◌⊎◌, ◌++◌, [], ◌∷◌, ℕ, nat_eq, Bool, true, false, Option, Some, None, List, All, AllPairs, Contains, IfSome, length, slice_get, ⊤}
 use Rattle.std.specs.List.{zip, list_any}
 use Rattle.sip_standard.specs.Key.{KeyParts}
 use Rattle.sip_standard.specs.Times.{Times}
@@ -12,6 +12,7 @@ use Rattle.sip_standard.specs.KeyMachine.{MachineKind, machine_of_key}
 use Rattle.sip_states.specs.KeySets.{key_rules, StateOf, set_of}
 use Rattle.sip_states.specs.Meaning.{Meaning}
 use Rattle.sip_states.specs.AnySet.{meaning_of, moment_of, IsKnownSet, IsQuietSet, IsAgendaOf}
+use Rattle.sip_states.specs.Sweep.{numbers_of}
 use Rattle.sip_states.specs.Tables.{Tabled, IsGiven, Touches, with_set, with_record}
 use Rattle.sip_states.specs.declared.any_set.AnySet.{AnySet}
 use Rattle.sip_standard.specs.declared.action.Action.TheVariants.{Restart}
@@ -72,6 +73,14 @@ abbrev pub concerns_number : Option Hearing → ℕ → Bool
 concerns_number None number = false
 concerns_number (Some h) number = is_all h.concerned || is_among (each h.concerned) number
 
+-- a set that the event does not concern stays as it is
+abbrev pub LeavesOthers : Option Hearing → Tabled → Tabled → Type 0
+LeavesOthers hearing old new = (n : ℕ) → concerns_number hearing (n + 1) ≡ false → slice_get new.sets n ≡ slice_get old.sets n
+
+-- what P says of each set but those of these transactions
+abbrev pub OthersAre : (AnySet → Type 0) → Concerned ℕ → Tabled → Type 0
+OthersAre P concerned t = is_all concerned ≡ false → (n : ℕ) (set : AnySet) → is_among (each concerned) (n + 1) ≡ false → slice_get t.sets n ≡ Some set → P set
+
 -- what is observed of an entry of this moment, as far as the key with this number goes: it hears the event, or waits
 pub record IsTold (texts : Texts) (moment : ℕ) (hearing : Option Hearing) (number : ℕ) (key : KeyParts) (e : Observation KeyParts) : Type 0 where
   pub at : e.event.moment ≡ moment
@@ -81,6 +90,14 @@ pub record IsTold (texts : Texts) (moment : ℕ) (hearing : Option Hearing) (num
 -- the entry tells this to each of the keys
 abbrev pub AreTold : Texts → List KeyParts → ℕ → Option Hearing → Observation KeyParts → Type 0
 AreTold texts keys moment hearing e = (n : ℕ) (key : KeyParts) → slice_get keys n ≡ Some key → IsTold texts moment hearing (n + 1) key e
+
+-- the transaction with this number does not name the message
+abbrev pub NamesNot : Tabled → ℕ → ℕ → Type 0
+NamesNot t message number = (set : AnySet) → slice_get t.sets (number - 1) ≡ Some set → ¬ Contains (numbers_of set) message
+
+-- the newest message was forgotten, which no set names, or none was
+abbrev pub IsForgotten : List AnySet → ℕ → Texts → Texts → Type 0
+IsForgotten sets number old new = (new ≡ old) ⊎ ((bytes : List ℕ) × (old ≡ new ++ (number, bytes) ∷ []) × All (λ set. ¬ Contains (numbers_of set) number) sets)
 
 -- these keys were looked up one after another, and have these numbers
 abbrev pub TouchesEach : List KeyParts → List ℕ → Tabled → Tabled → Type 0

@@ -149,7 +149,7 @@ module _ (kept : KeyParts → Bool) (key : KeyParts) (is : kept key ≡ true) wh
   followed_kept texts p es set false (leads, sound) =
       let zip = zip_remembered kept es in (
         subst (λ m. LeadsOf texts p (machine_of_key p.rules key) (events_for key (remembered kept es)) m set) (sym (newest_cut kept 0 es (remembered kept es) zip))
-        (subst (λ events. LeadsOf texts p (machine_of_key p.rules key) events (newest_moment es) set) (sym (events_cut kept key is es (remembered kept es) zip)) leads),
+            (subst (λ events. LeadsOf texts p (machine_of_key p.rules key) events (newest_moment es) set) (sym (events_cut kept key is es (remembered kept es) zip)) leads),
         (sound_cut kept key is p es (remembered kept es) zip).0 sound,
       )
 

@@ -11,7 +11,7 @@ use Rattle.sip_standard.specs.KeyMachine.{MachineKind, machine_of_key, transacti
 use Rattle.sip_standard.specs.Observation.{Observation}
 use Rattle.sip_standard.specs.VerdictOf.{events_for}
 use Rattle.sip_machine.specs.Texts.{Texts, IsBook}
-use Rattle.sip_machine.specs.Rules.{MachineRules, StandFor, Knows}
+use Rattle.sip_machine.specs.Rules.{StandFor, Knows}
 use Rattle.sip_machine.specs.inner.OwingLaws.{owing_apart}
 use Rattle.sip_states.specs.Held.{Held}
 use Rattle.sip_states.specs.Runs.{Wait, RuledRun}

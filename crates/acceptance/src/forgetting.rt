@@ -109,10 +109,7 @@ fn breaches(alloc: Global, found: &[Finding]) -> Result<Vec<(u32, u32)>, AllocEr
 }
 
 /// A survey of the log of these words forgets so, and finds this.
-fn forgets(
-    rt: &(impl Abort + AllocGlobal),
-    (words, behind, left, found): Row,
-) -> Result<(), Fail> {
+fn forgets(rt: &(impl Abort + AllocGlobal), (words, behind, left, found): Row) -> Result<(), Fail> {
     let log = log_of(rt.alloc(), words)?;
     let mut are_left = Vec::new(rt.alloc());
     let mut are_found = Vec::new(rt.alloc());

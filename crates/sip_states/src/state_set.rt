@@ -242,12 +242,7 @@ impl<M: Phases> StateSet<M> {
 }
 
 /// Whether the state at the index may name the message with this number.
-fn state_may_name<M: Phases>(
-    machine: &M,
-    states: &Pool<M::Phase>,
-    at: usize,
-    number: u32,
-) -> bool
+fn state_may_name<M: Phases>(machine: &M, states: &Pool<M::Phase>, at: usize, number: u32) -> bool
     requires { at < length states.now }
     ensures { HoldsAt (λ x. result ≡ false → ¬ Contains (owing_names M.names x) number) states.now at }
 {

@@ -86,16 +86,16 @@ module _ {X : Type 0} where
         let short = length-take-le k ys (let w = k_low in omega (arith, w)) in
         same_lists (take k (swap ys i k)) (take k ys) (long ∙ sym short)
         (λ n d inside.
-            let b = h.behind in
-            let front : n < k = omega (arith, inside, long) in
-            get_or-take k (swap ys i k) n d front ∙ moved.1 n d (λ e. omega (arith, front, b, e)) (λ e. omega (arith, front, e)) ∙ sym (get_or-take k ys n d front))
+        let b = h.behind in
+        let front : n < k = omega (arith, inside, long) in
+        get_or-take k (swap ys i k) n d front ∙ moved.1 n d (λ e. omega (arith, front, b, e)) (λ e. omega (arith, front, e)) ∙ sym (get_or-take k ys n d front))
 
     same_back : drop (i + 1) (swap ys i k) ≡ drop (i + 1) ys
     same_back =
         same_lists (drop (i + 1) (swap ys i k)) (drop (i + 1) ys) (length-drop (i + 1) (swap ys i k) ∙ ap (λ n. n - (i + 1)) swap_long ∙ sym (length-drop (i + 1) ys))
         (λ n d inside.
-            let b = h.behind in
-            get_or-drop (i + 1) (swap ys i k) n d ∙ moved.1 (i + 1 + n) d (λ e. omega (arith, e)) (λ e. omega (arith, b, e)) ∙ sym (get_or-drop (i + 1) ys n d))
+        let b = h.behind in
+        get_or-drop (i + 1) (swap ys i k) n d ∙ moved.1 (i + 1 + n) d (λ e. omega (arith, e)) (λ e. omega (arith, b, e)) ∙ sym (get_or-drop (i + 1) ys n d))
 
     pub keeps_swap : true ≡ get_or flags i true → KeepsInPlace flags xs (swap ys i k) (k + 1) (i + 1)
     keeps_swap flag =

@@ -145,6 +145,17 @@ fn first_is(
     Ok(())
 }
 
+/// Takes the entries of a log, forgets after each all that is over, and tells the first transaction that is left.
+fn takes_and_tells(
+    rt: &impl Abort,
+    surveyed: &mut Surveyed<'_>,
+    found: &mut Vec<Finding>,
+    left: &mut Vec<u32>,
+) -> Result<(), Fail> {
+    takes_and_forgets(rt, surveyed, 0, found, left)?;
+    first_is(rt, &surveyed.survey, (3, "z9hG4bKb"))
+}
+
 /// The server of b has the first number once the client of a is forgotten, and its history is its own. The next entry has the next number.
 #[test]
 fn what_is_left_is_told_by_its_new_number(rt: HostRuntime) -> Result<(), Fail> {
@@ -155,11 +166,9 @@ fn what_is_left_is_told_by_its_new_number(rt: HostRuntime) -> Result<(), Fail> {
     let mut left = Vec::new(rt.alloc());
     let mut found = Vec::new(rt.alloc());
     let mut surveyed = Surveyed::open(rt.alloc(), log.as_str().as_bytes())?;
-    let done = takes_and_forgets(&rt, &mut surveyed, 0, &mut found, &mut left);
-    let told = first_is(&rt, &surveyed.survey, (3, "z9hG4bKb"));
+    let done = takes_and_tells(&rt, &mut surveyed, &mut found, &mut left);
     let end = surveyed.end();
     done?;
-    told?;
     let clean = SurveyEnd::Clean {
         entries: 3,
         transactions: 1,
@@ -212,14 +221,14 @@ fn refused_while_a_survey_forgets(rt: HostRuntime) -> Result<(), Fail> {
     let mut surveyed = Surveyed::open(rt.alloc(), log.as_str().as_bytes())?;
     let done = takes_and_fails(&rt, &mut surveyed, &mut found);
     let end = surveyed.end();
-    if done.is_ok() {
-        let clean = SurveyEnd::Clean {
-            entries: 3,
-            transactions: 1,
-        };
-        holds(&rt, end == Some(clean), "at the end");
-        return Ok(());
+    if let Err(error) = done {
+        holds(&rt, end.is_none(), "of a survey that failed");
+        return Err(error);
     }
-    holds(&rt, end.is_none(), "of a survey that failed");
-    done
+    let clean = SurveyEnd::Clean {
+        entries: 3,
+        transactions: 1,
+    };
+    holds(&rt, end == Some(clean), "at the end");
+    Ok(())
 }

@@ -44,7 +44,7 @@ module _ (texts : Texts) (number : ℕ) (bytes : List ℕ) (book : IsBook (texts
       let other = ap first last_is in
       omega (arith, less, one, other, is)
 
-  -- and none of them has its bytes
+  -- no kept message before the newest has its bytes
   pub newest_other : (n : ℕ) → Keeps texts n → text_of texts n ≢ bytes
   newest_other n keeps same =
       let less = newest_above n keeps in
@@ -66,7 +66,7 @@ module _ (texts : Texts) (number : ℕ) (bytes : List ℕ) (book : IsBook (texts
         (text_of-grow texts number bytes a keeps_a ∙ same ∙ sym (text_of-grow texts number bytes b keeps_b));
   }
 
-  -- so no message before it is found by its bytes
+  -- no message before the newest is found by the bytes of the newest
   pub none_found : (position : ℕ) → position < length texts → bytes_at texts position ≢ bytes
   none_found position low same =
       let x = get_or texts position (0, []) in
@@ -113,7 +113,7 @@ module _ (kept others : List KeptMessage) (newest : KeptMessage) (is : kept ≡ 
   never_found book position low same =
       none_found (texts_of others) newest.number newest.bytes.items (subst IsBook (texts_split kept others newest is) book) position (rw length-map low) same
 
-  -- so they stand in the runs
+  -- the others stand in the runs
   pub others_stand : (loose : Bool) (runs : List PlaceRun) → loose ≡ true → IsInRuns (placed loose (texts_of kept)) runs → IsInRuns (texts_of others) runs
   others_stand loose runs true_is order = subst (λ ts. IsInRuns ts runs) (ap (λ b. placed b (texts_of kept)) true_is ∙ placed_others) order
 
@@ -142,7 +142,7 @@ newest_placed texts runs now newest position is at put =
 abbrev pub IsKept : Texts → List PlaceRun → Option Loose → List To → Type 0
 IsKept texts runs loose tos = IsBook texts × StandInRuns texts runs loose × AreTos texts tos
 
--- other bytes came last
+-- a book keeps bytes that it did not have as its newest message
 pub kept_newest : (old new : Texts) (runs : List PlaceRun) (tos : List To) (number : ℕ) (bytes : List ℕ) (newest : Loose) → IsBook old → IsInRuns old runs → AreTos old tos
     → ((n : ℕ) → Keeps old n → n < number) → newest.hash ≡ hash_of bytes → IsGap old (newest.hash, bytes) (places_of runs) (index_of runs newest.gap)
     → (0 < length runs → IsInside runs newest.gap) → new ≡ old ++ (number, bytes) ∷ [] → IsKept new runs (Some newest) tos
@@ -154,7 +154,7 @@ kept_newest old new runs tos number bytes newest book order beside above hashed 
       subst (λ ts. AreTos ts tos) (sym is) (AreTos-grow old number bytes tos beside),
     )
 
--- they went again
+-- a book keeps what is left of it where the newest message went again
 pub kept_front : (old new : Texts) (runs : List PlaceRun) (tos : List To) (number : ℕ) (bytes : List ℕ) (loose : Option Loose) → is_some loose ≡ true → IsKept old runs loose tos
     → All (λ to. to.number < number) tos → old ≡ new ++ (number, bytes) ∷ [] → IsKept new runs None tos
 kept_front old new runs tos number bytes None some kept below is = absurd (false≢true some)
@@ -232,7 +232,7 @@ placed_texts true kept =
     let text : KeptMessage → ℕ × List ℕ = λ k. (k.number, k.bytes.items) in
     sym (take-map text (length kept - 1) kept) ∙ ap (λ n. take (n - 1) (map text kept)) (sym (length-map kept text))
 
--- so the places stay in order
+-- the places of the messages that stay are in order
 pub retained_order : (loose : Bool) (texts : Texts) (numbers : List ℕ) → IsBook texts → AllPairs (λ a b. a < b) numbers → All (Keeps texts) numbers → (places : List Place)
     → IsOrder (placed loose texts) places → IsOrder (placed loose (only numbers texts)) (filter_map (moved (placed loose texts) (placed loose numbers)) places)
 retained_order false texts numbers book up kept places order = IsOrder-only texts numbers book up kept places order

@@ -23,7 +23,7 @@ pub record CSeqText (text : List ℕ) (number : ℕ) (method : List ℕ) : Type 
   pub is_method : Token method
   pub whole : (Exactly digits then Blanks then Exactly method) text
 
--- the same with the number and the method as a pair
+-- a CSeq value with its number and its method as a pair
 abbrev pub CSeqValue : List ℕ → ℕ × List ℕ → Type 0
 CSeqValue text (number, method) = CSeqText text number method
 

@@ -45,7 +45,7 @@ pub rest_names : {S : Type 0} (names : S → List ℕ) (x : CodeOwing S) (phase 
     → owing_names names x ≡ option_to_list message
 rest_names names x phase message is at = ap (owing_names names) is ∙ append-nil (names phase) ∙ sym at
 
--- and no other number
+-- a state that names one message at most names no other number
 pub only_named : (message : Option ℕ) (number : ℕ) → message ≢ Some number → ¬ Contains (option_to_list message) number
 only_named None number other has = Contains-nil number has
 only_named (Some m) number other has = elim (Contains-cons_cases m [] number has) [ inl same ↦ other (ap Some same) | inr none ↦ Contains-nil number none ]

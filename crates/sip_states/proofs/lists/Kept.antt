@@ -181,7 +181,7 @@ kept_at (false ∷ flags) (y ∷ xs) n x at = kept_at flags xs n x at
 pub all_marked : (marks : List Bool) → All (λ is_marked. is_marked ≡ true) marks → (index : ℕ) (b : Bool) → slice_get marks index ≡ Some b → b ≡ true
 all_marked marks all index b at = sym (get_or_from_slice_get marks index b b at) ∙ all index b (slice_get_within marks index b at)
 
--- and what other marks of as many say is marked here too
+-- what is marked in a list is marked in one as long where all are marked
 pub marked_within : (marks moved : List Bool) → length marks ≡ length moved → All (λ is_marked. is_marked ≡ true) moved → (index : ℕ) → slice_get marks index ≡ Some true → slice_get moved index ≡ Some true
 marked_within marks moved long all index marked =
     let inside = slice_get_within marks index true marked in

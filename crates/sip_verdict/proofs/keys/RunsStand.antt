@@ -20,7 +20,7 @@ abbrev pub AreTooMany : (machine : MachineKind) → (PhaseOf machine → Type 0)
 AreTooMany machine P = (many : List (PhaseOf machine)) × AllPairs (λ x y. x ≢ y) many × (1024 < length many) × All P many
 
 module _ (p : Times) (machine : MachineKind) (events : List MachineEvent) where
-  -- there is a run
+  -- where the machine has a run by its rules, it stands somewhere in the words of the standard
   pub run-stands : (moment : ℕ) → RunsUntil (key_rules p machine) events moment → StandsUntil p machine events moment
   run-stands moment (y, run) = (y, (stands-runs (transaction_of machine).figure (coded_holds machine).is_figure p events moment y).1 run)
 

@@ -41,7 +41,7 @@ pub others_known : (texts : Texts) (concerned : Concerned ℕ) (hearing : Option
 others_known texts concerned hearing t u known leaves apart some n set among at =
     All-place (IsKnownSet texts) t.sets n set (sym (leaves n (apart (n + 1) some among)) ∙ at) known
 
--- so it names none that is not kept
+-- a set names no message whose number is above all that are kept
 pub known_unnamed : (texts : Texts) (number : ℕ) → ((n : ℕ) → Keeps texts n → n < number) → (set : AnySet) → IsKnownSet texts set → ¬ Contains (numbers_of set) number
 known_unnamed texts number below set known has =
     let (machine, s, is) = some_machine set in
@@ -102,7 +102,7 @@ module _ (number : ℕ) (bytes : List ℕ) (new : Texts) where
         StandFor-book m.names m.in_range m.seen (seen_by_names_of machine) old new (AfterRun (key_rules p machine) events e) s.states (agree machine s (unnamed_of machine s set is unnamed) stand.known) stand,
       )
 
-  -- so it is with those of all keys
+  -- sets that do not name the message are ready and stand without it, each beside its key
   module _ (p : Times) (es : List (Observation KeyParts)) (t : Tabled) (unnamed : All (λ set. ¬ Contains (numbers_of set) number) t.sets) where
     unnamed_at : (n : ℕ) (x : KeyParts × AnySet) → slice_get (transactions_of t) n ≡ Some x → ¬ Contains (numbers_of x.1) number
     unnamed_at n x at = All-place (λ set. ¬ Contains (numbers_of set) number) t.sets n x.1 (place-zip t.keys t.sets n x at).1 unnamed
@@ -143,7 +143,7 @@ forgotten_take number old new t next moment (inr (bytes, is, unnamed)) may =
       few = before.few;
     }
 
--- and what is left was kept
+-- what is left where the newest message was forgotten was kept before
 pub forgotten_within : (sets : List AnySet) (number : ℕ) (old new : Texts) → IsForgotten sets number old new → All (Contains old) new
 forgotten_within sets number old new (inl same) = same_within old new same
 forgotten_within sets number old new (inr (bytes, is, unnamed)) k d low =

@@ -250,7 +250,7 @@ among_none n number ns h = (λ same. false≢true (sym h ∙ among_first n numbe
     go true at = absurd (false≢true (sym h ∙ among_rest n number ns at))
     go false at = refl
 
--- so its set stays as it is
+-- the set of a number that is not among the hearers stays as it is
 pub hears_others : (texts : Texts) (event : NumberedEvent) (ns : List ℕ) (t u : Tabled) (before after : Outcome) → All (IsGiven t) ns → HearsEach texts event ns t before u after
     → (n : ℕ) → is_among ns (n + 1) ≡ false → slice_get u.sets n ≡ slice_get t.sets n
 hears_others texts event [] t u before after given h n none = ap (λ x. slice_get x.sets n) h.0
@@ -262,7 +262,7 @@ hears_others texts event (m ∷ ns) t u before after given (between, one, first,
     ∙ set-other t.sets (m - 1) n heard.after (λ same. other (omega (arith, same, low))) in
     hears_others texts event ns between u (first_of before one) after (heard_given texts event m t between one first ns (All-tail (IsGiven t) m ns given)) rest n others ∙ here
 
--- and no set that the event does not concern changes
+-- a number that the event does not concern is not among the hearers
 pub others_left : (c : Concerned ℕ) (numbers : List ℕ) (n : ℕ) → ((n : ℕ) → is_among numbers n ≡ true → (is_all c || is_among (each c) n) ≡ true) → (is_all c || is_among (each c) n) ≡ false → is_among numbers n ≡ false
 others_left c numbers n heard none = go (is_among numbers n) refl
   where

@@ -23,7 +23,7 @@ abbrev pub TellsPast : ℕ → Tabled → Histories → List Bool → Type 0
 TellsPast until t b flags = (n : ℕ) (is_kept : Bool) (set : AnySet) (h : History) → slice_get flags n ≡ Some is_kept → slice_get t.sets n ≡ Some set → slice_get b.each.items n ≡ Some h
     → (is_kept ≡ false) ↔ IsPast until b.restart set h
 
--- and each transaction has a flag
+-- each transaction has a flag, which is false just where it is past
 pub record AreFlags (until : ℕ) (t : Tabled) (b : Histories) (flags : List Bool) : Type 0 where
   pub long : length flags ≡ length t.keys
   pub each : TellsPast until t b flags

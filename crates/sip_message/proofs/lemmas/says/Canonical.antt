@@ -64,7 +64,7 @@ same-form m gs are =
     ap (λ (texts : List (List ℕ)). flat_map with_end (start_text m.start ∷ texts) ++ (crlf ++ m.body))
     (ap (λ (fs : List Field). map field_text (map unfolded_field fs)) are ∙ same-texts gs)
 
--- so it is that of all bytes that are read as the message
+-- the form of a message is that of all bytes that are read as it
 pub reads-canonical : (r : Reading) → IsFormOf r (canon (message_of r.message))
 reads-canonical r bytes reads =
     ((r.message.start, reads.tells.0, r.message.body), reads.tells.1, same-form r.message reads.tells.0 reads.tells.2)

@@ -108,7 +108,7 @@ text-says bytes r text parts = let told = (same-read bytes).to (gives r.message)
 pub text-reads : (bytes : List ℕ) (r : Reading) → MessageText bytes r.message → IsOnly (HasParts r.message.fields) r.parts → Reads bytes r
 text-reads bytes r text parts = record { says = text-says bytes r text parts.is; tells = text-tells bytes r.message text; parts = parts }
 
--- and so is what is kept of them
+-- what is kept of a message is read from some bytes
 pub keeps-reads : {m : Message} {p : Parts} {v f t i c : List ℕ} → Keeps m p v f t i c → (bytes : List ℕ) × Reads bytes (record { message = m; parts = p })
 keeps-reads {m = m} {p = p} k = (k.spelled.0, text-reads k.spelled.0 (record { message = m; parts = p }) k.spelled.1 k.parts)
 

@@ -175,7 +175,7 @@ key_of p es key last (before, e, after, whole, is, none, counts) = by (list_any 
         let all = none_in key es (among-fold key [] (flat_map (λ o. o.keys) es) lacks).1 in
         absurd (false≢true (sym (All-middle (λ o. is_of key o ≡ false) before after e (subst (All (λ o. is_of key o ≡ false)) whole all)) ∙ is))
 
--- there are as many entries
+-- as many entries are remembered as there were
 pub long_kept : (kept : KeyParts → Bool) (es : List (Observation KeyParts)) → length (remembered kept es) ≡ length es
 long_kept kept [] = refl
 long_kept kept (e ∷ es) = ap suc (long_kept kept es)
@@ -225,7 +225,7 @@ module _ (flags : List Bool) (t : Tabled) (long : length flags ≡ length t.keys
         (tracks.each m key set d (kept_at flags t.keys n key at).0 (kept_at flags t.sets n set here).0 (kept_at flags deaf n d is).0);
   }
 
-  -- and so do the histories
+  -- the histories of what is kept are those of what is remembered
   pub histories_kept : (es : List (Observation KeyParts)) (b c : Histories) → t.keys ≡ keys_in es → c.each.items ≡ kept_of flags b.each.items → c.restart ≡ b.restart → AreHistories es b → AreHistories (remembered kept es) c
   histories_kept es b c are items restart h = record {
     long = ap length items ∙ kept_long flags b.each.items t.keys (h.long ∙ ap length (sym are)) ∙ ap length (keys_left es are);
@@ -257,7 +257,7 @@ module _ (flags : List Bool) (t : Tabled) (long : length flags ≡ length t.keys
       by n set (Some limit) on = on
       by n set None on = on
 
-  -- and the next entry may come
+  -- the tables that are left may take the next entry
   pub take_kept : (texts : Texts) (number moment : ℕ) → MayTake texts t number moment → MayTake texts (kept_tables flags t) number moment
   take_kept texts number moment may = record {
     passes = pass_kept texts moment may.passes;
@@ -303,7 +303,7 @@ module _ (flags : List Bool) (t : Tabled) (long : length flags ≡ length t.keys
           (max h.last b.restart, (told.each n key h (ap (λ ks. slice_get ks n) (sym tracks.keys) ∙ at) of).last, past.1),
         )
 
-    -- and so is all that is over, and concerned no later entry
+    -- a transaction that is over, and concerned no later entry, is not kept
     module _ (over_quiet : AreQuietIfOver es t) where
       remembers : (key : KeyParts) → IsOver t.times es key → (last : ℕ) → IsLastOf es key last → last ≤ until → kept key ≡ false
       remembers key over last is_last low =

@@ -141,7 +141,7 @@ module _ (key : KeyParts) where
       λ some. ap (λ g. g.event) sees ∙ sym (ap (λ g. g.event) saw),
     )
 
-    -- and so do all that come
+    -- the entries of both logs are cut alike
     abbrev AreAlike : Entries → Entries → Type 0
     AreAlike es fs = (cs : Entries) × AllZip (IsCutOf (same_key key)) es cs × AllZip (IsCutOf (same_key key)) fs cs
 
@@ -185,14 +185,14 @@ module _ (key : KeyParts) where
     here_same : same_key key key ≡ true
     here_same = (same_key-decides key key).1 refl
 
-    -- the same is found of it at two entries, each after others
+    -- the same is found of the transaction at two entries, each after others
     abbrev Alike : Entries → Observation KeyParts → Entries → Observation KeyParts → Type 0
     Alike front e back f = (Breaks p front e key ↔ Breaks p back f key) × (Widens p front e key ↔ Widens p back f key)
 
     through : (front mid back : Entries) (e c f : Observation KeyParts) → Alike front e mid c → Alike back f mid c → Alike front e back f
     through front mid back e c f a b = ((λ h. b.0.1 (a.0.0 h), λ h. a.0.1 (b.0.0 h)), (λ h. b.1.1 (a.1.0 h), λ h. a.1.1 (b.1.0 h)))
 
-    -- so it is where both have the same mid
+    -- the same is found of it where both are cut to the same entries
     alike_by : (front mid back : Entries) (e c f : Observation KeyParts) → AllZip (IsCutOf (same_key key)) front mid → AllZip (IsCutOf (same_key key)) back mid → IsCutOf (same_key key) e c → IsCutOf (same_key key) f c
         → Alike front e back f
     alike_by front mid back e c f fronts backs first second =
@@ -216,7 +216,7 @@ module _ (key : KeyParts) where
     abbrev kind : MachineKind
     kind = machine_of_key p.rules key
 
-    -- it is idle after the entries, and in no trouble
+    -- the transaction is idle after the entries, and in no trouble
     pub record Rests (es : Entries) : Type 0 where
       pub again : IsIdleAgain kind p (events_for key es) (newest_moment es)
       pub sound : IsSound p es key

@@ -54,7 +54,7 @@ stands_idle f p stays events m x (takes evs e y z stands does) all =
     let idle = stands_idle f p stays evs e.moment y stands (All-front (λ d. d.action ≡ Restart) evs (e ∷ []) all) in
     (restarted f p e z (All-middle (λ d. d.action ≡ Restart) evs [] e all)).0 (subst (λ w. Takes f p w e z) idle does)
 
--- and one stands there after one restart
+-- a run over one restart alone stands in idle
 pub restart_stands : {X : Type 0} (f : Figure X) (p : Times) → ((m : ℕ) → Lasts f p (quiet f.idle) m) → (e : MachineEvent) → e.action ≡ Restart → Stands f p (e ∷ []) e.moment (quiet f.idle)
 restart_stands f p lasts e is = takes [] e (quiet f.idle) (quiet f.idle) (waits [] 0 e.moment (quiet f.idle) begins zero-le (lasts e.moment)) ((restarted f p e (quiet f.idle) is).1 refl)
 

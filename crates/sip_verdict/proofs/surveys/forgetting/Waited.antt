@@ -91,7 +91,7 @@ module _ (texts : Texts) (book : IsBook texts) (p : Times) (machine : MachineKin
         };
       }
 
-  -- it leads to the runs
+  -- a set that has waited leads to the runs
   waited_on : LeadsOf texts p machine events from old → LeadsOf texts p machine events from new
   waited_on leads = let s = stood leads in (s.held, s.is, s.leads)
 
@@ -108,7 +108,7 @@ module _ (texts : Texts) (book : IsBook texts) (p : Times) (machine : MachineKin
       (λ a b a_known b_known same. owing_apart (coded_of machine).names (coded_of machine).seen texts ((coded_holds machine).apart texts) a b book a_known b_known same)
       (RuledRun (key_rules p machine) events moment) y both known s.held.states s.stand
 
-  -- it is quiet where the transaction is idle again, or has ended
+  -- a set that has waited is quiet where the transaction is idle again, or has ended
   idle_quiet : LeadsOf texts p machine events from old → IsIdleAgain machine p events moment → IsQuietSet new
   idle_quiet leads again =
       let s = stood leads in
@@ -179,7 +179,7 @@ module _ (texts : Texts) (book : IsBook texts) (t u : Tabled) (moment : ℕ) (wa
           (follows n old new was here key d (tracks.each n key old d (ap (λ ks. slice_get ks n) (sym waited.keys) ∙ at) was is));
     }
 
-    -- and the set of one that is over is quiet
+    -- the set of a transaction that is over is quiet
     pub waited_over : AreQuietIfOver es u
     waited_over n key new at here over =
         let (old, was) = before n new here in

@@ -12,7 +12,7 @@ ExactlyOne {X = X} R = (x : X) × ∥ IsOnly R x ∥₁
 unfoldable pub the : {X : Type 0} {R : X → Type 0} → ExactlyOne R → X
 the one = one.0
 
--- a coded value of which alone something holds is the only one
+-- there is at most one value of which alone R holds, where values are coded
 pub One-prop : {X : Type 0} → Coded X → (R : X → Type 0) → IsProp (ExactlyOne R)
 One-prop c R u v =
     Σ_prop_path (λ _. ∥∥₁_prop) (∥∥₁_elim u.1 (Coded-set c u.0 v.0) (λ p. ∥∥₁_elim v.1 (Coded-set c u.0 v.0) (λ q. q.only u.0 p.is)))

@@ -17,7 +17,7 @@ returns-in-Some g c d other =
     let unlike : message ≢ Some number = λ same.
     let one : Some named ≡ Some number = sym c.in-Some.is ∙ same in
     let equal : named ≡ number = cc in
-    elim (eqb_tells named number) [ inl yes ↦ false≢true (sym other ∙ yes.0) | inr no ↦ no.1 equal ] in
+    elim (eqb_tells named number) [ inl does ↦ false≢true (sym other ∙ does.0) | inr differs ↦ differs.1 equal ] in
     subst (λ ns. ¬ Contains ns number) (sym is) (only_named message number unlike)
 
 pub returns-in-None : goal.returns-in-None

@@ -19,3 +19,12 @@ pub mod GainLemmas
 pub mod KeepLemmas
 pub mod PayEachLemmas
 pub mod ExpireEachLemmas
+pub mod StrikeLemmas
+pub mod AccountLemmas
+pub mod WithoutLemmas
+pub mod GainedLemmas
+pub mod FindLemmas
+pub mod ExpiringLemmas
+pub mod ToldLemmas
+pub mod SeenLemmas
+pub mod MovedLemmas

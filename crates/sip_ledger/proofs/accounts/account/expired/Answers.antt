@@ -1,0 +1,36 @@
+use Rattle.std.proofs.Common.{◌∙◌, refl}
+use Rattle.std.proofs.Math.Seq.{take-length}
+use Rattle.sip_ledger.specs.inner.Accounts.{must_at, owes_at}
+use Rattle.sip_ledger.proofs.AccountLemmas.{kept-twice}
+use Rattle.sip_ledger.proofs.ExpiringLemmas.{expired-end, expired-rising, expired-start}
+use Rattle.sip_ledger.proofs.accounts.account.expired.Goals as goal
+
+pub loop-place-init : goal.loop-place-init
+loop-place-init c = record {
+  kept = take-length c.args.strikes.now.items;
+  account = c.requires.account;
+  soft = refl;
+  gone = expired-start c.args.moment c.args.gains.now.entries.items c.args.strikes.now.items (must_at c.args.gains.now c.args.account) c.args.account;
+}
+
+pub returns-then-moment-entry-clause-debts : goal.returns-then-moment-entry-clause-debts
+returns-then-moment-entry-clause-debts c =
+    let was = c.loop-place.invariant in
+    expired-rising c.args.gains.now c.args.strikes.now.items c.loop-place.strikes.items c.args.account c.loop-place.left c.args.moment c.loop-place.place was.soft c.requires.gained
+    c.if-gains.true (rw c.entry.ensures at c.if-moment-entry.true) was.gone
+
+pub loop-place-preserved : goal.loop-place-preserved
+loop-place-preserved c =
+    let was = c.loop-place.invariant in
+    let now = c.in_ok-left.ensures in
+    record {
+      kept = kept-twice c.args.strikes.now.items c.loop-place.strikes.items c.expired_at.new.strikes.items was.kept c.expired_at.ensures.kept;
+      account = now.account;
+      soft = now.soft ∙ was.soft;
+      gone = now.gone c.args.account (owes_at c.args.gains.now.entries.items c.args.strikes.now.items c.args.account) was.soft was.gone;
+    }
+
+pub returns-clause-debts : goal.returns-clause-debts
+returns-clause-debts c =
+    let was = c.loop-place.invariant in
+    expired-end c.args.gains.now c.args.strikes.now.items c.loop-place.strikes.items c.args.account c.loop-place.left c.args.moment c.loop-place.place was.soft c.loop-place-test.false was.gone

@@ -1,0 +1,188 @@
+use Rattle.std.specs.Prelude.{◌≡◌, ◌≢◌, ◌==◌, ◌&&◌, ◌||◌, ◌<◌, ◌≤◌, ◌+◌, ℕ, Bool, true, false, not, cond, List, [], ◌∷◌, ◌++◌, All, drop, filter, get_or, length, map, nat_le, nat_lt, set, take}
+use Rattle.std.specs.List.{list_any}
+use Rattle.sip_ledger.specs.declared.debt.Debt.{Debt}
+use Rattle.sip_ledger.specs.declared.debt.Entry.{Entry}
+use Rattle.sip_ledger.specs.declared.accounts.account.Account.{Account}
+use Rattle.sip_ledger.specs.declared.accounts.gains.Gains.{Gains}
+use Rattle.sip_ledger.specs.declared.accounts.strikes.Strike.{Strike}
+use Rattle.sip_ledger.specs.Accounts.{debts_print}
+use Rattle.sip_ledger.specs.Ledgers.{from_to}
+use Rattle.sip_ledger.specs.Rows.{debts_from}
+use Rattle.sip_ledger.specs.inner.Indexes.{holds}
+use Rattle.sip_ledger.specs.inner.Places.{AreRising}
+
+-- Accounts over one list of gains. A place is the number of a gain; from its place on, an account owes what it gained, but for what is struck.
+
+-- the gain at a place
+abbrev pub entry_at : List Entry → ℕ → Entry
+entry_at entries k = get_or entries k (record { message = 0; deadline = 0 })
+
+-- the gains stand under their messages, those that must be sent are among them, and deadlines rise where they are said to
+pub record AreGains (gains : Gains) : Type 0 where
+  pub messages : (m k : ℕ) → holds gains.messages m k ≡ (nat_lt k (length gains.entries.items) && (entry_at gains.entries.items k).message == m)
+  pub musts : (k : ℕ) → holds gains.musts 0 k ≡ true → k < length gains.entries.items
+  pub rises : gains.rises ≡ true → AreRising gains.entries.items
+
+-- the place stands under the debt's message, and among those of what must be sent if it must; no other place moves
+pub record IsNoted (place : ℕ) (debt : Debt) (named must_be named' must_be' : List (ℕ × ℕ)) : Type 0 where
+  pub messages : (m k : ℕ) → holds named' m k ≡ cond (m == debt.message && k == place) true (holds named m k)
+  pub must : holds must_be' 0 place ≡ debt.must
+  pub musts : (k : ℕ) → k ≢ place → holds must_be' 0 k ≡ holds must_be 0 k
+
+-- one more gain
+pub record IsGain (debt : Debt) (old new : Gains) : Type 0 where
+  pub entries : new.entries.items ≡ old.entries.items ++ (record { message = debt.message; deadline = debt.deadline }) ∷ []
+  pub must : holds new.musts 0 (length old.entries.items) ≡ debt.must
+  pub musts : (k : ℕ) → k ≢ length old.entries.items → holds new.musts 0 k ≡ holds old.musts 0 k
+
+-- whether the strike says that a gain of this message at place k is not owed
+abbrev pub is_out : ℕ → ℕ → Strike → Bool
+is_out message k strike = strike.message == message && (nat_le strike.from k && nat_lt k strike.to)
+
+-- whether one of the strikes does
+unfoldable pub is_struck : List Strike → ℕ → ℕ → Bool
+is_struck strikes message k = list_any (is_out message k) strikes
+
+-- the strikes of an account
+abbrev pub strikes_of : List Strike → Account → List Strike
+strikes_of strikes account = from_to account.first account.last strikes
+
+-- whether the account owes what was gained at place k
+unfoldable pub owes_at : List Entry → List Strike → Account → ℕ → Bool
+owes_at entries strikes account k =
+    nat_le account.start k && (nat_lt k account.end && not (is_struck (strikes_of strikes account) (entry_at entries k).message k))
+
+-- whether it must send it
+unfoldable pub must_at : Gains → Account → ℕ → Bool
+must_at gains account k = holds gains.musts 0 k && nat_le account.soft k
+
+-- what it owes
+unfoldable pub account_debts : Gains → List Strike → Account → List Debt
+account_debts gains strikes account = debts_from (owes_at gains.entries.items strikes account) (must_at gains account) 0 gains.entries.items
+
+-- an account lies within the gains and the strikes, begins with a debt, and has the print of its debts
+pub record IsAccount (gains : Gains) (strikes : List Strike) (account : Account) : Type 0 where
+  pub order : account.start ≤ account.end
+  pub end : account.end ≤ length gains.entries.items
+  pub soft : account.soft ≤ length gains.entries.items
+  pub first : account.first ≤ account.last
+  pub last : account.last ≤ length strikes
+  pub bound : (m k : ℕ) → length gains.entries.items ≤ k → is_struck (strikes_of strikes account) m k ≡ false
+  pub begins : account.start < account.end → owes_at gains.entries.items strikes account account.start ≡ true
+  pub print : account.print ≡ debts_print (account_debts gains strikes account)
+
+-- the account owes the same as another one, but for the gain at one place
+pub record IsWithout (place : ℕ) (owes owes' : ℕ → Bool) : Type 0 where
+  pub gone : owes' place ≡ false
+  pub others : (k : ℕ) → k ≢ place → owes' k ≡ owes k
+
+-- all accounts, over gains and strikes
+pub record AreAccounts (gains : Gains) (strikes : List Strike) (accounts : List Account) : Type 0 where
+  pub gained : AreGains gains
+  pub each : All (IsAccount gains strikes) accounts
+
+-- what each owes
+unfoldable pub accounts_debts : Gains → List Strike → List Account → List (List Debt)
+accounts_debts gains strikes accounts = map (account_debts gains strikes) accounts
+
+-- a strike of the gain's message that ends before its place, from where on that message is not gained
+pub record Reaches (entries : List Entry) (place : ℕ) (strike : Strike) : Type 0 where
+  pub message : strike.message ≡ (entry_at entries place).message
+  pub from : strike.from ≤ place
+  pub to : strike.to ≤ place
+  pub between : (k : ℕ) → strike.to ≤ k → k < place → (entry_at entries k).message ≢ (entry_at entries place).message
+
+-- one of the strikes from the first on reaches up to the place, and now ends after it
+pub record Lengthens (entries : List Entry) (place first : ℕ) (old new : List Strike) : Type 0 where
+  pub at : ℕ
+  pub after : first ≤ at
+  pub within : at < length old
+  pub reaches : (s : Strike) → Reaches entries place (get_or old at s)
+  pub longer : (s : Strike) → new ≡ set old at (record { message = (get_or old at s).message; from = (get_or old at s).from; to = place + 1 })
+
+-- whether a send of the message at t pays the gain at a place
+abbrev pub pays_at : List Entry → ℕ → ℕ → ℕ → Bool
+pays_at entries message t k = (entry_at entries k).message == message && nat_le t (entry_at entries k).deadline
+
+-- the first place that is owed and that a send of the message at t pays
+pub record IsFirstPayable (entries : List Entry) (owes : ℕ → Bool) (message t place : ℕ) : Type 0 where
+  pub owed : owes place ≡ true
+  pub pays : pays_at entries message t place ≡ true
+  pub before : (k : ℕ) → k < place → owes k ≡ true → pays_at entries message t k ≡ false
+
+-- the account's strikes that end after its start are written after the others, with one of what was gained at the place
+pub record IsWritten (entries : List Entry) (place : ℕ) (old new : List Strike) (a : Account) : Type 0 where
+  pub kept : take (length old) new ≡ old
+  pub struck : (k : ℕ) → a.start ≤ k → k < length entries →
+      is_struck (drop (length old) new) (entry_at entries k).message k ≡ (is_struck (strikes_of old a) (entry_at entries k).message k || k == place)
+  pub bound : (m k : ℕ) → length entries ≤ k → is_struck (strikes_of old a) m k ≡ false → is_struck (drop (length old) new) m k ≡ false
+
+-- the new account's strikes are those of the old one that reach past its start, and what was gained at the place is struck too
+pub record IsStruckAt (entries : List Entry) (place : ℕ) (old new : List Strike) (a b : Account) : Type 0 where
+  pub start : b.start ≡ a.start
+  pub end : b.end ≡ a.end
+  pub soft : b.soft ≡ a.soft
+  pub print : b.print ≡ a.print
+  pub first : b.first ≤ b.last
+  pub last : b.last ≤ length new
+  pub struck : (k : ℕ) → a.start ≤ k → k < length entries →
+      is_struck (strikes_of new b) (entry_at entries k).message k ≡ (is_struck (strikes_of old a) (entry_at entries k).message k || k == place)
+  pub bound : (m k : ℕ) → length entries ≤ k → is_struck (strikes_of old a) m k ≡ false → is_struck (strikes_of new b) m k ≡ false
+
+-- the same for all places from the account's end up to this one
+pub record IsPassedTo (entries : List Entry) (place : ℕ) (old new : List Strike) (a b : Account) : Type 0 where
+  pub start : b.start ≡ a.start
+  pub end : b.end ≡ a.end
+  pub soft : b.soft ≡ a.soft
+  pub print : b.print ≡ a.print
+  pub first : b.first ≤ b.last
+  pub last : b.last ≤ length new
+  pub struck : (k : ℕ) → a.start ≤ k → k < length entries →
+      is_struck (strikes_of new b) (entry_at entries k).message k ≡ (is_struck (strikes_of old a) (entry_at entries k).message k || (nat_le a.end k && nat_lt k place))
+  pub bound : (m k : ℕ) → length entries ≤ k → is_struck (strikes_of old a) m k ≡ false → is_struck (strikes_of new b) m k ≡ false
+
+-- what was gained at the place is the debt, and the account may owe it after all that it owes
+pub record IsNextGain (gains : Gains) (strikes : List Strike) (account : Account) (debt : Debt) (place : ℕ) : Type 0 where
+  pub within : place < length gains.entries.items
+  pub message : (entry_at gains.entries.items place).message ≡ debt.message
+  pub deadline : (entry_at gains.entries.items place).deadline ≡ debt.deadline
+  pub must : holds gains.musts 0 place ≡ debt.must
+  pub end : account.end ≤ place
+  pub soft : account.soft ≤ place
+  pub free : is_struck (strikes_of strikes account) debt.message place ≡ false
+
+-- all accounts owe what they owed
+pub record KeepsAccounts (old new : Gains) : Type 0 where
+  pub each : (strikes : List Strike) (accounts : List Account) → All (IsAccount old strikes) accounts →
+      All (IsAccount new strikes) accounts × (accounts_debts new strikes accounts ≡ accounts_debts old strikes accounts)
+
+-- what is past has gone up to a place
+pub record IsExpiredTo (t : ℕ) (entries : List Entry) (m o o' : ℕ → Bool) (place : ℕ) : Type 0 where
+  pub gone : (k : ℕ) → k < place → o' k ≡ (o k && (m k || nat_le t (entry_at entries k).deadline))
+  pub later : (k : ℕ) → place ≤ k → o' k ≡ o k
+
+-- two accounts owe the same from a place on
+pub record SharesRest (strikes : List Strike) (one other : Account) (place : ℕ) : Type 0 where
+  pub soft : one.soft ≡ other.soft
+  pub owes : (entries : List Entry) (k : ℕ) → place ≤ k → owes_at entries strikes one k ≡ owes_at entries strikes other k
+
+-- the account's strikes stand among these
+pub record HasStrikes (strikes : List Strike) (a : Account) : Type 0 where
+  pub first : a.first ≤ a.last
+  pub last : a.last ≤ length strikes
+
+-- the account, with those of its strikes that end after its start written after others
+pub record IsMoved (strikes old new : List Strike) (a b : Account) : Type 0 where
+  pub kept : take (length old) new ≡ old
+  pub start : b.start ≡ a.start
+  pub end : b.end ≡ a.end
+  pub soft : b.soft ≡ a.soft
+  pub print : b.print ≡ a.print
+  pub first : b.first ≤ b.last
+  pub last : b.last ≤ length new
+  pub own : strikes_of new b ≡ filter (λ strike. nat_lt a.start strike.to) (strikes_of strikes a)
+
+-- accounts that owe over other strikes what those before them owe
+pub record AreMoved (gains : Gains) (strikes : List Strike) (rows : List Account) (strikes' : List Strike) (rows' : List Account) : Type 0 where
+  pub each : All (IsAccount gains strikes') rows'
+  pub debts : accounts_debts gains strikes' rows' ≡ accounts_debts gains strikes rows

@@ -1,10 +1,10 @@
 -- Accounts over gains and strikes that grow.
 use Rattle.std.proofs.Common.{◌≡◌, ◌≢◌, ℕ, zero, suc, ◌+◌, ◌<◌, ◌≤◌, ◌==◌, ◌&&◌, ◌||◌, Bool, true, false, cond, not, List, [], ◌∷◌, ◌++◌, length, take, drop, get_or, set, map, filter, refl, sym, ap, ap₂, ◌∙◌, subst, inl, inr, arith}
-use Rattle.std.specs.Prelude.{All, nat_le, nat_lt, min}
-use Rattle.std.proofs.lemmas.Bool.{cases_eq, cases_lt, eq-eqb, false_from_ne_true, ne_eqb, true≢false}
+use Rattle.std.specs.Prelude.{All, nat_le, nat_lt}
+use Rattle.std.proofs.lemmas.Bool.{cases_eq, cases_lt, false_from_ne_true, true≢false}
 use Rattle.std.proofs.Math.Bool.{and-false}
 use Rattle.std.proofs.lemmas.Bool.Decides.{nat_tests}
-use Rattle.std.proofs.lemmas.List.{get_or_append_left, get_or-map, get_or_push, length-append, length-map, length-set, length-take, map-append, map-set, take-map, take-take}
+use Rattle.std.proofs.lemmas.List.{get_or_append_left, get_or-map, length-append, length-map, length-take, map-append, map-set, take-map, take-take}
 use Rattle.std.proofs.lemmas.List.Elements.{All-cons, All-get_or, All-head, All-nil, All-push, All-set, All-tail, All-take}
 use Rattle.sip_ledger.specs.declared.debt.Debt.{Debt}
 use Rattle.sip_ledger.specs.declared.debt.Entry.{Entry}
@@ -13,97 +13,14 @@ use Rattle.sip_ledger.specs.declared.accounts.gains.Gains.{Gains}
 use Rattle.sip_ledger.specs.declared.accounts.strikes.Strike.{Strike}
 use Rattle.sip_ledger.specs.Accounts.{debts_print}
 use Rattle.sip_ledger.specs.Rows.{debt_of, debts_from}
-use Rattle.sip_ledger.specs.inner.Accounts.{AreAccounts, AreGains, IsAccount, IsGain, IsNoted, KeepsAccounts, account_debts, accounts_debts, entry_at, is_struck, must_at, owes_at, strikes_of}
+use Rattle.sip_ledger.specs.inner.Accounts.{AreAccounts, AreGains, AreSameGains, IsAccount, IsDropped, IsGain, IsKept, IsLetGo, KeepsAccounts, account_debts, accounts_debts, blank, entries_of, entry_at, is_gone, is_left, is_struck, must_at, owes_at, strikes_of}
 use Rattle.sip_ledger.specs.inner.Indexes.{holds}
-use Rattle.sip_ledger.specs.inner.Places.{AreRising}
 use Rattle.sip_ledger.proofs.ListedLemmas.{listed-same, listed-none}
 use Rattle.sip_ledger.proofs.RowLemmas.{grown-debts}
-
-lt-yes : (m n : ℕ) → m < n → nat_lt m n ≡ true
-lt-yes m n is = grind (arith, nat_tests)
+use Rattle.sip_ledger.proofs.LeftLemmas.{entries-long, left-kept, listed-alike, owed-left, unleft-unowed}
 
 lt-no : (m n : ℕ) → n ≤ m → nat_lt m n ≡ false
 lt-no m n is = grind (arith, nat_tests)
-
--- nothing was gained
-pub none-gained : (gains : Gains) → gains.entries.items ≡ [] → gains.messages ≡ [] → gains.musts ≡ [] → AreGains gains
-unfolding holds
-none-gained gains entries messages musts = record {
-  messages = λ m k. ap (λ l. holds l m k) messages
-      ∙ sym (ap (λ (l : List Entry). nat_lt k (length l) && (entry_at l k).message == m) entries ∙ ap (λ b. b && 0 == m) (lt-no k 0 (omega arith)));
-  musts = λ k is. absurd (true≢false (sym is ∙ ap (λ l. holds l 0 k) musts));
-  rises = λ _ i k e order below. absurd (omega (arith, below, ap length entries));
-}
-
--- where no place stands under the message from here on, nothing of it was gained from here on
-pub unnamed : (gains : Gains) (m k : ℕ) → AreGains gains → holds gains.messages m k ≡ false → k < length gains.entries.items → (entry_at gains.entries.items k).message ≢ m
-unnamed gains m k are none within is =
-    true≢false (sym (are.messages m k ∙ ap₂ (λ a b. a && b) (lt-yes k (length gains.entries.items) within) (eq-eqb (entry_at gains.entries.items k).message m is)) ∙ none)
-
--- no place stands anywhere that nothing was gained at
-pub not-noted : (gains : Gains) (m k : ℕ) → AreGains gains → length gains.entries.items ≤ k → holds gains.messages m k ≡ false
-not-noted gains m k are past = are.messages m k ∙ ap (λ b. b && (entry_at gains.entries.items k).message == m) (lt-no k (length gains.entries.items) past)
-
-pub not-must : (gains : Gains) (k : ℕ) → AreGains gains → length gains.entries.items ≤ k → holds gains.musts 0 k ≡ false
-not-must gains k are past = false_from_ne_true (holds gains.musts 0 k) (λ is. absurd (omega (arith, are.musts k is, past)))
-
--- one more gain is noted
-pub gains-more : (old new : Gains) (debt : Debt) → AreGains old → new.entries.items ≡ old.entries.items ++ (record { message = debt.message; deadline = debt.deadline }) ∷ [] →
-    IsNoted (length old.entries.items) debt old.messages old.musts new.messages new.musts →
-    (new.rises ≡ true → AreRising (old.entries.items ++ (record { message = debt.message; deadline = debt.deadline }) ∷ [])) → AreGains new
-gains-more old new debt are entries noted rises =
-    let xs = old.entries.items in
-    let n = length xs in
-    let e : Entry = record { message = debt.message; deadline = debt.deadline } in
-    let none : Entry = record { message = 0; deadline = 0 } in
-    let long : length new.entries.items ≡ n + 1 = ap length entries ∙ length-append xs (e ∷ []) in
-    record {
-      messages = λ m k. noted.messages m k ∙ elim (cases_lt k n) [
-        | inl early ↦
-            let other : k ≢ n = omega (arith, early) in
-            ap (λ b. cond (m == debt.message && b) true (holds old.messages m k)) (ne_eqb k n other)
-            ∙ ap (λ b. cond b true (holds old.messages m k)) (and-false (m == debt.message))
-            ∙ are.messages m k
-            ∙ ap₂ (λ a b. a && b) (lt-yes k n early ∙ sym (lt-yes k (length new.entries.items) (omega (arith, early, long))))
-            (ap (λ (x : Entry). x.message == m) (sym (get_or_append_left xs (e ∷ []) none k early) ∙ sym (ap (λ l. get_or l k none) entries)))
-        | inr late ↦ elim (cases_eq k n) [
-          | inl here ↦
-              let is : entry_at new.entries.items k ≡ e = ap (λ l. get_or l k none) entries ∙ get_or_push xs e none k (sym here) in
-              ap (λ b. cond (m == debt.message && b) true (holds old.messages m k)) (eq-eqb k n here)
-              ∙ turned (m == debt.message) (debt.message == m) (holds old.messages m k) (not-noted old m k are late) (eq-turned m debt.message)
-              ∙ sym (ap₂ (λ a b. a && b) (lt-yes k (length new.entries.items) (omega (arith, here, long))) (ap (λ (x : Entry). x.message == m) is))
-          | inr other ↦
-              ap (λ b. cond (m == debt.message && b) true (holds old.messages m k)) (ne_eqb k n other)
-              ∙ ap (λ b. cond b true (holds old.messages m k)) (and-false (m == debt.message))
-              ∙ not-noted old m k are late
-              ∙ sym (ap (λ b. b && (entry_at new.entries.items k).message == m) (lt-no k (length new.entries.items) (omega (arith, late, other, long))))
-        ]
-      ];
-      musts = λ k is. elim (cases_eq k n) [
-        | inl here ↦ omega (arith, here, long)
-        | inr other ↦ omega (arith, are.musts k (sym (noted.musts k other) ∙ is), long)
-      ];
-      rises = λ said. subst AreRising (sym entries) (rises said);
-    }
-  where
-    turned : (a b was : Bool) → was ≡ false → a ≡ b → cond (a && true) true was ≡ (true && b)
-    turned true b was none same = same
-    turned false b was none same = none ∙ same
-
-    eq-turned : (m d : ℕ) → (m == d) ≡ (d == m)
-    eq-turned m d = elim (cases_eq m d) [
-      | inl is ↦ eq-eqb m d is ∙ sym (eq-eqb d m (sym is))
-      | inr not ↦ ne_eqb m d not ∙ sym (ne_eqb d m (λ is. not (sym is)))
-    ]
-
--- the gains are as they were, and so is where they stand
-pub gains-same : (old new : Gains) → AreGains old → new.entries.items ≡ old.entries.items → ((m k : ℕ) → holds new.messages m k ≡ holds old.messages m k) → new.musts ≡ old.musts →
-    new.rises ≡ old.rises → AreGains new
-gains-same old new are entries messages musts rises = record {
-  messages = λ m k. messages m k ∙ are.messages m k ∙ sym (ap (λ (l : List Entry). nat_lt k (length l) && (entry_at l k).message == m) entries);
-  musts = λ k is. subst (λ (l : List Entry). k < length l) (sym entries) (are.musts k (sym (ap (λ l. holds l 0 k) musts) ∙ is));
-  rises = λ said. subst AreRising (sym entries) (are.rises (sym rises ∙ said));
-}
 
 -- strikes that were put after the others are no account's that was there
 pub kept-strikes : (old new : List Strike) (a : Account) → take (length old) new ≡ old → a.last ≤ length old → strikes_of new a ≡ strikes_of old a
@@ -116,18 +33,18 @@ pub kept-twice : (a b c : List Strike) → take (length a) b ≡ a → take (len
 kept-twice a b c one two =
     sym (take-take (length a) (length b) c (kept-longer a b one)) ∙ ap (take (length a)) two ∙ one
 
-pub kept-owes : (entries : List Entry) (old new : List Strike) (a : Account) (k : ℕ) → take (length old) new ≡ old → a.last ≤ length old →
-    owes_at entries new a k ≡ owes_at entries old a k
+pub kept-owes : (gains : Gains) (old new : List Strike) (a : Account) (k : ℕ) → take (length old) new ≡ old → a.last ≤ length old →
+    owes_at gains new a k ≡ owes_at gains old a k
 unfolding owes_at
-kept-owes entries old new a k kept last =
-    ap (λ own. nat_le a.start k && (nat_lt k a.end && not (is_struck own (entry_at entries k).message k))) (kept-strikes old new a kept last)
+kept-owes gains old new a k kept last =
+    ap (λ own. nat_le a.start k && (nat_lt k a.end && not (is_gone gains own k))) (kept-strikes old new a kept last)
 
 pub kept-debts : (gains : Gains) (old new : List Strike) (a : Account) → take (length old) new ≡ old → a.last ≤ length old →
     account_debts gains new a ≡ account_debts gains old a
 unfolding account_debts
 kept-debts gains old new a kept last =
-    listed-same (owes_at gains.entries.items new a) (must_at gains a) (owes_at gains.entries.items old a) (must_at gains a) 0 gains.entries.items
-    (λ k from below. (kept-owes gains.entries.items old new a k kept last, refl))
+    listed-same (owes_at gains new a) (must_at gains a) (owes_at gains old a) (must_at gains a) 0 (entries_of gains)
+    (λ k from below. (kept-owes gains old new a k kept last, refl))
 
 pub kept-account : (gains : Gains) (old new : List Strike) (a : Account) → take (length old) new ≡ old → IsAccount gains old a → IsAccount gains new a
 kept-account gains old new a kept is =
@@ -139,7 +56,7 @@ kept-account gains old new a kept is =
       first = is.first;
       last = omega (arith, last, kept-longer old new kept);
       bound = λ m k past. ap (λ own. is_struck own m k) (kept-strikes old new a kept last) ∙ is.bound m k past;
-      begins = λ some. kept-owes gains.entries.items old new a a.start kept last ∙ is.begins some;
+      begins = λ some. kept-owes gains old new a a.start kept last ∙ is.begins some;
       print = is.print ∙ ap debts_print (sym (kept-debts gains old new a kept last));
     }
 
@@ -189,60 +106,188 @@ must-from gains a k high = sym (ap (λ b. holds gains.musts 0 k && b) (le-yes a.
     and-true true = refl
     and-true false = refl
 
--- one gain more: no account that was there has it
-grown-entry : (entries : List Entry) (entry : Entry) (k : ℕ) → k < length entries → entry_at (entries ++ entry ∷ []) k ≡ entry_at entries k
-grown-entry entries entry k within = get_or_append_left entries (entry ∷ []) (record { message = 0; deadline = 0 }) k within
-
-and-absorbs : (a b x y : Bool) → (b ≡ true → x ≡ y) → (a && (b && x)) ≡ (a && (b && y))
-and-absorbs a true x y same = ap (λ z. a && z) (same refl)
-and-absorbs a false x y same = refl
-
-lt-is : (m n : ℕ) → nat_lt m n ≡ true → m < n
-lt-is m n is = grind (arith, nat_tests)
-
-pub grown-owes : (entries : List Entry) (entry : Entry) (strikes : List Strike) (a : Account) (k : ℕ) → a.end ≤ length entries →
-    owes_at (entries ++ entry ∷ []) strikes a k ≡ owes_at entries strikes a k
-unfolding owes_at
-grown-owes entries entry strikes a k end =
-    and-absorbs (nat_le a.start k) (nat_lt k a.end) (not (is_struck (strikes_of strikes a) (entry_at (entries ++ entry ∷ []) k).message k))
-    (not (is_struck (strikes_of strikes a) (entry_at entries k).message k))
-    (λ below. ap (λ (e : Entry). not (is_struck (strikes_of strikes a) e.message k)) (grown-entry entries entry k (omega (arith, lt-is k a.end below, end))))
-
 -- an account owes nothing at its end or after it
 and-false-middle : (a x : Bool) → (a && (false && x)) ≡ false
 and-false-middle true x = refl
 and-false-middle false x = refl
 
-pub past-end : (entries : List Entry) (strikes : List Strike) (a : Account) (k : ℕ) → a.end ≤ k → owes_at entries strikes a k ≡ false
+pub past-end : (gains : Gains) (strikes : List Strike) (a : Account) (k : ℕ) → a.end ≤ k → owes_at gains strikes a k ≡ false
 unfolding owes_at
-past-end entries strikes a k past =
-    ap (λ b. nat_le a.start k && (b && not (is_struck (strikes_of strikes a) (entry_at entries k).message k))) (lt-no k a.end past)
-    ∙ and-false-middle (nat_le a.start k) (not (is_struck (strikes_of strikes a) (entry_at entries k).message k))
+past-end gains strikes a k past =
+    ap (λ b. nat_le a.start k && (b && not (is_gone gains (strikes_of strikes a) k))) (lt-no k a.end past)
+    ∙ and-false-middle (nat_le a.start k) (not (is_gone gains (strikes_of strikes a) k))
 
-pub owed-within : (entries : List Entry) (strikes : List Strike) (a : Account) (k : ℕ) → owes_at entries strikes a k ≡ true → k < a.end
-owed-within entries strikes a k is = elim (cases_lt k a.end) [
+pub owed-within : (gains : Gains) (strikes : List Strike) (a : Account) (k : ℕ) → owes_at gains strikes a k ≡ true → k < a.end
+owed-within gains strikes a k is = elim (cases_lt k a.end) [
   | inl below ↦ below
-  | inr past ↦ absurd (true≢false (sym is ∙ past-end entries strikes a k past))
+  | inr past ↦ absurd (true≢false (sym is ∙ past-end gains strikes a k past))
 ]
 
-pub grown-debts_of : (old new : Gains) (debt : Debt) (strikes : List Strike) (a : Account) → IsGain debt old new → a.end ≤ length old.entries.items →
+-- an account that owes something owes what is kept, from its start on
+pub kept-from : (gains : Gains) (strikes : List Strike) (a : Account) (k : ℕ) → AreGains gains → IsAccount gains strikes a → a.start < a.end → a.start ≤ k → k < a.end → IsKept gains k
+kept-from gains strikes a k are is some low high =
+    let first = left-kept gains a.start are (owed-left gains strikes a a.start (is.begins some)) in
+    let from = first.from in
+    let end = is.end in
+    let count = entries-long gains are.long in
+    record { from = omega (arith, from, low); within = omega (arith, high, end, count) }
+
+-- and so is all that was gained since
+pub kept-passed : (gains : Gains) (strikes : List Strike) (a : Account) (k : ℕ) → AreGains gains → IsAccount gains strikes a → a.start < a.end → a.start ≤ k → k < length (entries_of gains) → IsKept gains k
+kept-passed gains strikes a k are is some low high =
+    let first = left-kept gains a.start are (owed-left gains strikes a a.start (is.begins some)) in
+    let from = first.from in
+    let count = entries-long gains are.long in
+    record { from = omega (arith, from, low); within = omega (arith, high, count) }
+
+-- the same entry, and as much of it left: as much gone
+gone-over : (old new : Gains) (own : List Strike) (k : ℕ) → entry_at (entries_of new) k ≡ entry_at (entries_of old) k → is_left new k ≡ is_left old k → is_gone new own k ≡ is_gone old own k
+unfolding is_gone
+gone-over old new own k entry left = ap₂ (λ (l : Bool) (e : Entry). not l || is_struck own e.message k) left entry
+
+owes-over : (old new : Gains) (strikes : List Strike) (a : Account) (k : ℕ) → entry_at (entries_of new) k ≡ entry_at (entries_of old) k → is_left new k ≡ is_left old k →
+    owes_at new strikes a k ≡ owes_at old strikes a k
+unfolding owes_at
+owes-over old new strikes a k entry left = ap (λ b. nat_le a.start k && (nat_lt k a.end && not b)) (gone-over old new (strikes_of strikes a) k entry left)
+
+left-over : (old new : Gains) (k : ℕ) → entry_at (entries_of new) k ≡ entry_at (entries_of old) k → ((m : ℕ) → holds new.messages m k ≡ holds old.messages m k) → is_left new k ≡ is_left old k
+unfolding is_left
+left-over old new k entry messages = messages (entry_at (entries_of new) k).message ∙ ap (λ (e : Entry). holds old.messages e.message k) entry
+
+not-left : (gains : Gains) (k : ℕ) → ((m : ℕ) → holds gains.messages m k ≡ false) → is_left gains k ≡ false
+unfolding is_left
+not-left gains k none = none (entry_at (entries_of gains) k).message
+
+-- an account owes over other gains what it owed
+pub record OwesAlike (old new : Gains) (strikes : List Strike) (a : Account) : Type 0 where
+  pub owes : (k : ℕ) → owes_at new strikes a k ≡ owes_at old strikes a k
+  pub same : (k : ℕ) → owes_at old strikes a k ≡ true → (entry_at (entries_of new) k ≡ entry_at (entries_of old) k) × (holds new.musts 0 k ≡ holds old.musts 0 k)
+
+over-debts : (old new : Gains) (strikes : List Strike) (a : Account) → length (entries_of new) ≡ length (entries_of old) → OwesAlike old new strikes a →
+    account_debts new strikes a ≡ account_debts old strikes a
+unfolding account_debts must_at
+over-debts old new strikes a long alike =
+    listed-alike (owes_at new strikes a) (must_at new a) (owes_at old strikes a) (must_at old a) 0 (entries_of new) (entries_of old) long
+    (λ j below.
+    let here : 0 + j ≡ j = omega arith in
+    ap (owes_at new strikes a) here ∙ alike.owes j ∙ ap (owes_at old strikes a) (sym here))
+    (λ j below is.
+    let here : 0 + j ≡ j = omega arith in
+    let both = alike.same j (sym (alike.owes j) ∙ ap (owes_at new strikes a) (sym here) ∙ is) in (
+      both.0,
+      ap (λ n. holds new.musts 0 n && nat_le a.soft n) here ∙ ap (λ b. b && nat_le a.soft j) both.1 ∙ ap (λ n. holds old.musts 0 n && nat_le a.soft n) (sym here),
+    ))
+
+over-account : (old new : Gains) (strikes : List Strike) (a : Account) → length (entries_of new) ≡ length (entries_of old) → OwesAlike old new strikes a → IsAccount old strikes a →
+    IsAccount new strikes a
+over-account old new strikes a long alike is =
+    let end = is.end in
+    let soft = is.soft in
+    record {
+      order = is.order;
+      end = omega (arith, end, long);
+      soft = omega (arith, soft, long);
+      first = is.first;
+      last = is.last;
+      bound = λ m k past. is.bound m k (omega (arith, past, long));
+      begins = λ some. alike.owes a.start ∙ is.begins some;
+      print = is.print ∙ ap debts_print (sym (over-debts old new strikes a long alike));
+    }
+
+pub over-all : (old new : Gains) (strikes : List Strike) (rows : List Account) → length (entries_of new) ≡ length (entries_of old) → All (OwesAlike old new strikes) rows →
+    All (IsAccount old strikes) rows → All (IsAccount new strikes) rows × (accounts_debts new strikes rows ≡ accounts_debts old strikes rows)
+unfolding accounts_debts
+over-all old new strikes [] long alike each = (All-nil (IsAccount new strikes), refl)
+over-all old new strikes (a ∷ rows) long alike each =
+    let here = All-head (OwesAlike old new strikes) a rows alike in
+    let rest = over-all old new strikes rows long (All-tail (OwesAlike old new strikes) a rows alike) (All-tail (IsAccount old strikes) a rows each) in (
+      All-cons (IsAccount new strikes) a rows (over-account old new strikes a long here (All-head (IsAccount old strikes) a rows each)) rest.0,
+      ap₂ (λ d ds. d ∷ ds) (over-debts old new strikes a long here) rest.1,
+    )
+
+-- all of them do, as one does
+pub all-alike : (old new : Gains) (strikes : List Strike) (rows : List Account) → ((a : Account) → OwesAlike old new strikes a) → All (OwesAlike old new strikes) rows
+all-alike old new strikes [] each = All-nil (OwesAlike old new strikes)
+all-alike old new strikes (a ∷ rows) each = All-cons (OwesAlike old new strikes) a rows (each a) (all-alike old new strikes rows each)
+
+-- over the same gains
+pub same-keeps : (old new : Gains) → AreSameGains old new → KeepsAccounts old new
+same-keeps old new same = record {
+  each = λ strikes accounts are.
+      over-all old new strikes accounts (ap length same.entries) (all-alike old new strikes accounts (λ a.
+      let entry = λ (k : ℕ). ap (λ l. entry_at l k) same.entries in
+      record {
+        owes = λ k. owes-over old new strikes a k (entry k) (left-over old new k (entry k) (λ m. same.messages m k));
+        same = λ k owed. (entry k, same.musts k);
+      })) are;
+}
+
+-- where one that the account does not owe is let go
+pub let_go-alike : (old new : Gains) (strikes : List Strike) (a : Account) (place : ℕ) → IsLetGo place old new → owes_at old strikes a place ≡ false → OwesAlike old new strikes a
+let_go-alike old new strikes a place gone unowed =
+    let entry = λ (k : ℕ). ap (λ l. entry_at l k) gone.entries in
+    record {
+      owes = λ k. elim (cases_eq k place) [
+        | inl is ↦
+            ap (owes_at new strikes a) is ∙ unleft-unowed new strikes a place (not-left new place gone.here)
+            ∙ sym (ap (owes_at old strikes a) is ∙ unowed)
+        | inr other ↦ owes-over old new strikes a k (entry k) (left-over old new k (entry k) (λ m. gone.others m k other))
+      ];
+      same = λ k owed. elim (cases_eq k place) [
+        | inl is ↦ absurd (true≢false (sym owed ∙ ap (owes_at old strikes a) is ∙ unowed))
+        | inr other ↦ (entry k, gone.musts k other)
+      ];
+    }
+
+-- where those are dropped of which nothing is left
+pub dropped-alike : (old new : Gains) (strikes : List Strike) (a : Account) (place : ℕ) → IsDropped place old new → ((m k : ℕ) → k < place → holds old.messages m k ≡ false) →
+    OwesAlike old new strikes a
+dropped-alike old new strikes a place dropped none =
+    let messages = λ (m k : ℕ). ap (λ l. holds l m k) dropped.messages in
+    record {
+      owes = λ k. elim (cases_lt k place) [
+        | inl early ↦
+            unleft-unowed new strikes a k (not-left new k (λ m. messages m k ∙ none m k early))
+            ∙ sym (unleft-unowed old strikes a k (not-left old k (λ m. none m k early)))
+        | inr above ↦ owes-over old new strikes a k (dropped.entries k above) (left-over old new k (dropped.entries k above) (λ m. messages m k))
+      ];
+      same = λ k owed. elim (cases_lt k place) [
+        | inl early ↦ absurd (true≢false (sym owed ∙ unleft-unowed old strikes a k (not-left old k (λ m. none m k early))))
+        | inr above ↦ (dropped.entries k above, ap (λ l. holds l 0 k) dropped.musts)
+      ];
+    }
+
+-- one gain more: no account that was there has it
+pub grown-owes : (old new : Gains) (debt : Debt) (strikes : List Strike) (a : Account) (k : ℕ) → IsGain debt old new → a.end ≤ length (entries_of old) →
+    owes_at new strikes a k ≡ owes_at old strikes a k
+grown-owes old new debt strikes a k gain end = elim (cases_lt k a.end) [
+  | inl below ↦
+      let e : Entry = record { message = debt.message; deadline = debt.deadline } in
+      let inside : k < length (entries_of old) = omega (arith, below, end) in
+      let other : k ≢ length (entries_of old) = omega (arith, inside) in
+      let entry : entry_at (entries_of new) k ≡ entry_at (entries_of old) k = ap (λ l. entry_at l k) gain.entries ∙ get_or_append_left (entries_of old) (e ∷ []) blank k inside in
+      owes-over old new strikes a k entry (left-over old new k entry (λ m. gain.messages m k other))
+  | inr past ↦ past-end new strikes a k past ∙ sym (past-end old strikes a k past)
+]
+
+pub grown-debts_of : (old new : Gains) (debt : Debt) (strikes : List Strike) (a : Account) → IsGain debt old new → a.end ≤ length (entries_of old) →
     account_debts new strikes a ≡ account_debts old strikes a
 unfolding account_debts must_at
 grown-debts_of old new debt strikes a gain end =
-    let entries = old.entries.items in
+    let entries = entries_of old in
     let entry : Entry = record { message = debt.message; deadline = debt.deadline } in
-    let o = owes_at (entries ++ entry ∷ []) strikes a in
-    ap (λ (l : List Entry). debts_from (owes_at l strikes a) (must_at new a) 0 l) gain.entries
-    ∙ grown-debts entries entry o (must_at new a) (λ k is. omega (arith, owed-within (entries ++ entry ∷ []) strikes a k is, end))
-    ∙ listed-same o (must_at new a) (owes_at entries strikes a) (must_at old a) 0 entries
+    let o = owes_at new strikes a in
+    ap (λ (l : List Entry). debts_from o (must_at new a) 0 l) gain.entries
+    ∙ grown-debts entries entry o (must_at new a) (λ k is. omega (arith, owed-within new strikes a k is, end))
+    ∙ listed-same o (must_at new a) (owes_at old strikes a) (must_at old a) 0 entries
     (λ k from below. let other : k ≢ length entries = omega (arith, below) in
-    (grown-owes entries entry strikes a k end, ap (λ b. b && nat_le a.soft k) (gain.musts k other)))
+    (grown-owes old new debt strikes a k gain end, ap (λ b. b && nat_le a.soft k) (gain.musts k other)))
 
 pub grown-account : (old new : Gains) (debt : Debt) (strikes : List Strike) (a : Account) → IsGain debt old new → IsAccount old strikes a → IsAccount new strikes a
 grown-account old new debt strikes a gain is =
-    let entries = old.entries.items in
+    let entries = entries_of old in
     let entry : Entry = record { message = debt.message; deadline = debt.deadline } in
-    let longer : length new.entries.items ≡ length entries + 1 = ap length gain.entries ∙ length-append entries (entry ∷ []) in
+    let longer : length (entries_of new) ≡ length entries + 1 = ap length gain.entries ∙ length-append entries (entry ∷ []) in
     let end = is.end in
     let soft = is.soft in
     record {
@@ -252,7 +297,7 @@ grown-account old new debt strikes a gain is =
       first = is.first;
       last = is.last;
       bound = λ m k past. is.bound m k (omega (arith, past, longer));
-      begins = λ some. ap (λ l. owes_at l strikes a a.start) gain.entries ∙ grown-owes entries entry strikes a a.start end ∙ is.begins some;
+      begins = λ some. grown-owes old new debt strikes a a.start gain end ∙ is.begins some;
       print = is.print ∙ ap debts_print (sym (grown-debts_of old new debt strikes a gain end));
     }
 
@@ -266,42 +311,6 @@ grown-all old new debt strikes (a ∷ rows) gain each =
       All-cons (IsAccount new strikes) a rows (grown-account old new debt strikes a gain here) rest.0,
       ap₂ (λ d ds. d ∷ ds) (grown-debts_of old new debt strikes a gain here.end) rest.1,
     )
-
--- accounts over the same gains
-same-debts : (old new : Gains) (strikes : List Strike) (a : Account) → new.entries.items ≡ old.entries.items → new.musts ≡ old.musts → account_debts new strikes a ≡ account_debts old strikes a
-unfolding account_debts must_at
-same-debts old new strikes a entries musts =
-    ap₂ (λ (l : List Entry) (m : List (ℕ × ℕ)). debts_from (owes_at l strikes a) (λ k. holds m 0 k && nat_le a.soft k) 0 l) entries musts
-
-same-account : (old new : Gains) (strikes : List Strike) (a : Account) → new.entries.items ≡ old.entries.items → new.musts ≡ old.musts → IsAccount old strikes a → IsAccount new strikes a
-same-account old new strikes a entries musts is =
-    let long : length new.entries.items ≡ length old.entries.items = ap length entries in
-    let end = is.end in
-    let soft = is.soft in
-    record {
-      order = is.order;
-      end = omega (arith, end, long);
-      soft = omega (arith, soft, long);
-      first = is.first;
-      last = is.last;
-      bound = λ m k past. is.bound m k (omega (arith, past, long));
-      begins = λ some. ap (λ l. owes_at l strikes a a.start) entries ∙ is.begins some;
-      print = is.print ∙ ap debts_print (sym (same-debts old new strikes a entries musts));
-    }
-
-same-all : (old new : Gains) (strikes : List Strike) (rows : List Account) → new.entries.items ≡ old.entries.items → new.musts ≡ old.musts → All (IsAccount old strikes) rows →
-    All (IsAccount new strikes) rows × (accounts_debts new strikes rows ≡ accounts_debts old strikes rows)
-unfolding accounts_debts
-same-all old new strikes [] entries musts each = (All-nil (IsAccount new strikes), refl)
-same-all old new strikes (a ∷ rows) entries musts each =
-    let here = All-head (IsAccount old strikes) a rows each in
-    let rest = same-all old new strikes rows entries musts (All-tail (IsAccount old strikes) a rows each) in (
-      All-cons (IsAccount new strikes) a rows (same-account old new strikes a entries musts here) rest.0,
-      ap₂ (λ d ds. d ∷ ds) (same-debts old new strikes a entries musts) rest.1,
-    )
-
-pub same-keeps : (old new : Gains) → new.entries.items ≡ old.entries.items → new.musts ≡ old.musts → KeepsAccounts old new
-same-keeps old new entries musts = record { each = λ strikes accounts are. same-all old new strikes accounts entries musts are }
 
 -- what one of the accounts owes
 pub row-debts : (gains : Gains) (strikes : List Strike) (rows : List Account) (row : ℕ) (a : Account) → row < length rows → a ≡ get_or rows row a →
@@ -322,10 +331,10 @@ debts-length gains strikes rows = length-map rows (account_debts gains strikes)
 pub empty-debts : (gains : Gains) (strikes : List Strike) (a : Account) → a.end ≤ a.start → account_debts gains strikes a ≡ []
 unfolding account_debts owes_at
 empty-debts gains strikes a none =
-    listed-none (owes_at gains.entries.items strikes a) (must_at gains a) 0 gains.entries.items (λ k from below. elim (cases_lt k a.end) [
+    listed-none (owes_at gains strikes a) (must_at gains a) 0 (entries_of gains) (λ k from below. elim (cases_lt k a.end) [
       | inl early ↦
-          ap (λ b. b && (nat_lt k a.end && not (is_struck (strikes_of strikes a) (entry_at gains.entries.items k).message k))) (le-not a.start k (omega (arith, early, none)))
-      | inr past ↦ past-end gains.entries.items strikes a k past
+          ap (λ b. b && (nat_lt k a.end && not (is_gone gains (strikes_of strikes a) k))) (le-not a.start k (omega (arith, early, none)))
+      | inr past ↦ past-end gains strikes a k past
     ])
   where
     le-not : (m n : ℕ) → n < m → nat_le m n ≡ false

@@ -11,7 +11,8 @@ use Rattle.sip_ledger.specs.declared.accounts.gains.Gains.{Gains}
 use Rattle.sip_ledger.specs.declared.accounts.strikes.Strike.{Strike}
 use Rattle.sip_ledger.specs.Debts.{counts_at}
 use Rattle.sip_ledger.specs.Rows.{debts_from}
-use Rattle.sip_ledger.specs.inner.Accounts.{AreGains, IsAccount, IsExpiredTo, IsWithout, account_debts, entry_at, must_at, owes_at}
+use Rattle.sip_ledger.specs.inner.Accounts.{AreGains, IsAccount, IsExpiredTo, IsKept, IsWithout, account_debts, entries_of, entry_at, must_at, owes_at}
+use Rattle.sip_ledger.proofs.LeftLemmas.{entries-long, rising-kept}
 use Rattle.sip_ledger.proofs.ListedLemmas.{listed-counting, listed-same, no_entry}
 use Rattle.sip_ledger.proofs.AccountLemmas.{past-end, soft-must}
 use Rattle.sip_ledger.proofs.WithoutLemmas.{before-start, le-no, le-yes}
@@ -30,10 +31,10 @@ counted t entries m o o' k same counts = same ∙ sym (ap (λ b. o k && b) count
     and-true true = refl
     and-true false = refl
 
-pub expired-start : (t : ℕ) (entries : List Entry) (strikes : List Strike) (m : ℕ → Bool) (a : Account) →
-    IsExpiredTo t entries m (owes_at entries strikes a) (owes_at entries strikes a) a.start
-expired-start t entries strikes m a = record {
-  gone = λ k early. unowed t entries m (owes_at entries strikes a) (owes_at entries strikes a) k refl (before-start entries strikes a k early);
+pub expired-start : (t : ℕ) (gains : Gains) (strikes : List Strike) (m : ℕ → Bool) (a : Account) →
+    IsExpiredTo t (entries_of gains) m (owes_at gains strikes a) (owes_at gains strikes a) a.start
+expired-start t gains strikes m a = record {
+  gone = λ k early. unowed t (entries_of gains) m (owes_at gains strikes a) (owes_at gains strikes a) k refl (before-start gains strikes a k early);
   later = λ k late. refl;
 }
 
@@ -85,40 +86,41 @@ goes t entries m o o' o'' place was late may without = record {
 
 -- all that is past has gone
 finished : (gains : Gains) (old new : List Strike) (a b : Account) (t : ℕ) → b.soft ≡ a.soft →
-    ((k : ℕ) → k < length gains.entries.items → owes_at gains.entries.items new b k ≡ counting t gains.entries.items (must_at gains a) (owes_at gains.entries.items old a) k) →
+    ((k : ℕ) → k < length (entries_of gains) → owes_at gains new b k ≡ counting t (entries_of gains) (must_at gains a) (owes_at gains old a) k) →
     account_debts gains new b ≡ filter (counts_at t) (account_debts gains old a)
 unfolding account_debts
 finished gains old new a b t soft each =
-    listed-same (owes_at gains.entries.items new b) (must_at gains b) (owes_at gains.entries.items new b) (must_at gains a) 0 gains.entries.items (λ k from below. (refl, soft-must gains a b k soft))
-    ∙ listed-counting t (owes_at gains.entries.items old a) (must_at gains a) (owes_at gains.entries.items new b) 0 gains.entries.items
+    listed-same (owes_at gains new b) (must_at gains b) (owes_at gains new b) (must_at gains a) 0 (entries_of gains) (λ k from below. (refl, soft-must gains a b k soft))
+    ∙ listed-counting t (owes_at gains old a) (must_at gains a) (owes_at gains new b) 0 (entries_of gains)
     (λ j e below.
     let here : j ≡ 0 + j = omega arith in
-    subst (λ n. owes_at gains.entries.items new b n ≡ (owes_at gains.entries.items old a n && (must_at gains a n || nat_le t (get_or gains.entries.items j e).deadline))) here
-    (each j below ∙ ap (λ (x : Entry). owes_at gains.entries.items old a j && (must_at gains a j || nat_le t x.deadline)) (get_or_default gains.entries.items j no_entry e below)))
+    subst (λ n. owes_at gains new b n ≡ (owes_at gains old a n && (must_at gains a n || nat_le t (get_or (entries_of gains) j e).deadline))) here
+    (each j below ∙ ap (λ (x : Entry). owes_at gains old a j && (must_at gains a j || nat_le t x.deadline)) (get_or_default (entries_of gains) j no_entry e below)))
 
 pub expired-end : (gains : Gains) (old new : List Strike) (a b : Account) (t place : ℕ) → b.soft ≡ a.soft → b.end ≤ place →
-    IsExpiredTo t gains.entries.items (must_at gains a) (owes_at gains.entries.items old a) (owes_at gains.entries.items new b) place →
+    IsExpiredTo t (entries_of gains) (must_at gains a) (owes_at gains old a) (owes_at gains new b) place →
     account_debts gains new b ≡ filter (counts_at t) (account_debts gains old a)
 expired-end gains old new a b t place soft end is =
     finished gains old new a b t soft (λ k within. elim (cases_lt k place) [
       | inl early ↦ is.gone k early
       | inr late ↦
-          let none = past-end gains.entries.items new b k (omega (arith, late, end)) in
-          unowed t gains.entries.items (must_at gains a) (owes_at gains.entries.items old a) (owes_at gains.entries.items new b) k (is.later k late) (sym (is.later k late) ∙ none)
+          let none = past-end gains new b k (omega (arith, late, end)) in
+          unowed t (entries_of gains) (must_at gains a) (owes_at gains old a) (owes_at gains new b) k (is.later k late) (sym (is.later k late) ∙ none)
     ])
 
 -- where deadlines rise, and this one is not past, no later one is
-pub expired-rising : (gains : Gains) (old new : List Strike) (a b : Account) (t place : ℕ) → b.soft ≡ a.soft → AreGains gains → gains.rises ≡ true → t ≤ (entry_at gains.entries.items place).deadline →
-    IsExpiredTo t gains.entries.items (must_at gains a) (owes_at gains.entries.items old a) (owes_at gains.entries.items new b) place →
+pub expired-rising : (gains : Gains) (old new : List Strike) (a b : Account) (t place : ℕ) → b.soft ≡ a.soft → AreGains gains → gains.rises ≡ true → IsKept gains place →
+    t ≤ (entry_at (entries_of gains) place).deadline → IsExpiredTo t (entries_of gains) (must_at gains a) (owes_at gains old a) (owes_at gains new b) place →
     account_debts gains new b ≡ filter (counts_at t) (account_debts gains old a)
-expired-rising gains old new a b t place soft gained rises early is =
+expired-rising gains old new a b t place soft gained rises kept early is =
     finished gains old new a b t soft (λ k within. elim (cases_lt k place) [
       | inl first ↦ is.gone k first
       | inr late ↦
-          let above = gained.rises rises place k no_entry late within in
-          let counts : (must_at gains a k || nat_le t (entry_at gains.entries.items k).deadline) ≡ true =
-          ap (λ b. must_at gains a k || b) (le-yes t (entry_at gains.entries.items k).deadline (omega (arith, early, above))) ∙ or-true (must_at gains a k) in
-          counted t gains.entries.items (must_at gains a) (owes_at gains.entries.items old a) (owes_at gains.entries.items new b) k (is.later k late) counts
+          let count = entries-long gains gained.long in
+          let above = rising-kept gains place k gained rises kept late (omega (arith, within, count)) in
+          let counts : (must_at gains a k || nat_le t (entry_at (entries_of gains) k).deadline) ≡ true =
+          ap (λ b. must_at gains a k || b) (le-yes t (entry_at (entries_of gains) k).deadline (omega (arith, early, above))) ∙ or-true (must_at gains a k) in
+          counted t (entries_of gains) (must_at gains a) (owes_at gains old a) (owes_at gains new b) k (is.later k late) counts
     ])
   where
     or-true : (b : Bool) → (b || true) ≡ true
@@ -128,6 +130,7 @@ expired-rising gains old new a b t place soft gained rises early is =
 -- an account of which what is past has gone up to a place
 pub record IsExpiring (gains : Gains) (old new : List Strike) (a b : Account) (t place : ℕ) : Type 0 where
   pub kept : take (length old) new ≡ old
+  pub low : a.start ≤ place
   pub account : IsAccount gains new b
   pub soft : b.soft ≡ a.soft
-  pub gone : IsExpiredTo t gains.entries.items (must_at gains a) (owes_at gains.entries.items old a) (owes_at gains.entries.items new b) place
+  pub gone : IsExpiredTo t (entries_of gains) (must_at gains a) (owes_at gains old a) (owes_at gains new b) place

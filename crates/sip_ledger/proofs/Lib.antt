@@ -19,6 +19,7 @@ pub mod GainLemmas
 pub mod KeepLemmas
 pub mod PayEachLemmas
 pub mod ExpireEachLemmas
+pub mod LeftLemmas
 pub mod StrikeLemmas
 pub mod AccountLemmas
 pub mod WithoutLemmas

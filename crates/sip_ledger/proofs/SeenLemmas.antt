@@ -14,7 +14,7 @@ use Rattle.sip_ledger.specs.declared.accounts.strikes.Strike.{Strike}
 use Rattle.sip_ledger.specs.Accounts.{debts_print, owed_in, worth_of}
 use Rattle.sip_ledger.specs.Debts.{is_payable, softened_debt}
 use Rattle.sip_ledger.specs.Rows.{debts_from}
-use Rattle.sip_ledger.specs.inner.Accounts.{AreAccounts, AreGains, IsAccount, IsFirstPayable, KeepsAccounts, account_debts, accounts_debts, must_at, owes_at, pays_at}
+use Rattle.sip_ledger.specs.inner.Accounts.{AreAccounts, AreGains, IsAccount, IsFirstPayable, KeepsAccounts, account_debts, accounts_debts, entries_of, must_at, owes_at, pays_at}
 use Rattle.sip_ledger.proofs.ListedLemmas.{listed-same, listed-softened, no_entry}
 use Rattle.sip_ledger.proofs.RowLemmas.{listed-any, some-debt}
 use Rattle.sip_ledger.proofs.AccountLemmas.{changed, debts-length, empty-debts, kept-all, must-below, over, owed-within, pushed, row-account, row-debts}
@@ -76,7 +76,7 @@ abbrev pub softened_account : ℕ → Account → Account
 softened_account place a = record { start = a.start; end = a.end; soft = place; first = a.first; last = a.last; print = a.print }
 
 soft-owes : (gains : Gains) (strikes : List Strike) (a : Account) (place k : ℕ) →
-    owes_at gains.entries.items strikes (softened_account place a) k ≡ owes_at gains.entries.items strikes a k
+    owes_at gains strikes (softened_account place a) k ≡ owes_at gains strikes a k
 unfolding owes_at
 soft-owes gains strikes a place k = refl
 
@@ -91,18 +91,18 @@ soft-print : (debts : List Debt) → debts_print (map softened_debt debts) ≡ d
 unfolding debts_print
 soft-print debts = ap (λ n. n % 2 ^ 64) (soft-worths debts)
 
-soft-debts : (gains : Gains) (strikes : List Strike) (a : Account) → account_debts gains strikes (softened_account (length gains.entries.items) a) ≡ map softened_debt (account_debts gains strikes a)
+soft-debts : (gains : Gains) (strikes : List Strike) (a : Account) → account_debts gains strikes (softened_account (length (entries_of gains)) a) ≡ map softened_debt (account_debts gains strikes a)
 unfolding account_debts
 soft-debts gains strikes a =
-    let entries = gains.entries.items in
+    let entries = (entries_of gains) in
     let b = softened_account (length entries) a in
-    listed-same (owes_at entries strikes b) (must_at gains b) (owes_at entries strikes a) (λ _. false) 0 entries
+    listed-same (owes_at gains strikes b) (must_at gains b) (owes_at gains strikes a) (λ _. false) 0 entries
     (λ k from below. (soft-owes gains strikes a (length entries) k, sym (must-below gains b k (omega (arith, below)))))
-    ∙ listed-softened (owes_at entries strikes a) (must_at gains a) (λ _. false) 0 entries (λ _. refl)
+    ∙ listed-softened (owes_at gains strikes a) (must_at gains a) (λ _. false) 0 entries (λ _. refl)
 
 pub softened-account : (gains : Gains) (strikes : List Strike) (a : Account) → IsAccount gains strikes a →
-    IsAccount gains strikes (softened_account (length gains.entries.items) a) ×
-    (account_debts gains strikes (softened_account (length gains.entries.items) a) ≡ map softened_debt (account_debts gains strikes a))
+    IsAccount gains strikes (softened_account (length (entries_of gains)) a) ×
+    (account_debts gains strikes (softened_account (length (entries_of gains)) a) ≡ map softened_debt (account_debts gains strikes a))
 softened-account gains strikes a is =
     let debts = soft-debts gains strikes a in (
       record {
@@ -112,7 +112,7 @@ softened-account gains strikes a is =
         first = is.first;
         last = is.last;
         bound = is.bound;
-        begins = λ some. soft-owes gains strikes a (length gains.entries.items) a.start ∙ is.begins some;
+        begins = λ some. soft-owes gains strikes a (length (entries_of gains)) a.start ∙ is.begins some;
         print = is.print ∙ sym (ap debts_print debts ∙ soft-print (account_debts gains strikes a));
       },
       debts,
@@ -125,7 +125,7 @@ nothing-owed gains strikes a is other none =
     let order = is.order in
     let end = is.end in
     let early : a.start < a.end = omega (arith, order, other) in
-    some-debt gains.entries.items (owes_at gains.entries.items strikes a) (must_at gains a) a.start (omega (arith, early, end)) (is.begins early) none
+    some-debt (entries_of gains) (owes_at gains strikes a) (must_at gains a) a.start (omega (arith, early, end)) (is.begins early) none
 
 pub owes-nothing : (gains : Gains) (strikes : List Strike) (a : Account) (debts : List Debt) → IsAccount gains strikes a → account_debts gains strikes a ≡ debts →
     IsTrue (a.start == a.end) ↔ (debts ≡ [])
@@ -145,13 +145,13 @@ none-payable message t (debt ∷ debts) none =
     (none-payable message t debts (All-tail (λ d. ¬ (IsTrue (is_payable message t d))) debt debts none))
 
 pub can-pay : (gains : Gains) (strikes : List Strike) (a : Account) (message t : ℕ) (found : Option ℕ) → IsAccount gains strikes a →
-    IfSome found (IsFirstPayable gains.entries.items (owes_at gains.entries.items strikes a) message t) →
-    IfNone found ((k : ℕ) → owes_at gains.entries.items strikes a k ≡ true → pays_at gains.entries.items message t k ≡ false) →
+    IfSome found (IsFirstPayable (entries_of gains) (owes_at gains strikes a) message t) →
+    IfNone found ((k : ℕ) → owes_at gains strikes a k ≡ true → pays_at (entries_of gains) message t k ≡ false) →
     is_some found ≡ list_any (is_payable message t) (account_debts gains strikes a)
 unfolding account_debts
 can-pay gains strikes a message t (Some place) is some none =
     let end = is.end in
-    sym (listed-any (is_payable message t) gains.entries.items (owes_at gains.entries.items strikes a) (must_at gains a) place
-    (omega (arith, owed-within gains.entries.items strikes a place some.owed, end)) some.owed some.pays)
+    sym (listed-any (is_payable message t) (entries_of gains) (owes_at gains strikes a) (must_at gains a) place
+    (omega (arith, owed-within gains strikes a place some.owed, end)) some.owed some.pays)
 can-pay gains strikes a message t None is some none =
     sym (list_any_none (is_payable message t) (account_debts gains strikes a) (none-payable message t (account_debts gains strikes a) (unpaid-account gains strikes a message t none)))

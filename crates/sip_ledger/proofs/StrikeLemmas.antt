@@ -3,7 +3,7 @@ use Rattle.std.proofs.Common.{◌≡◌, ◌≢◌, ℕ, zero, suc, ◌+◌, ◌
 use Rattle.std.specs.Prelude.{nat_le, nat_lt}
 use Rattle.std.specs.List.{list_any}
 use Rattle.std.proofs.Math.Bool.{or-false, or_assoc, or_comm}
-use Rattle.std.proofs.lemmas.Bool.{cases_eq, cases_lt, ne_eqb}
+use Rattle.std.proofs.lemmas.Bool.{cases_eq, cases_lt, ne_eqb, true≢false}
 use Rattle.std.proofs.lemmas.Bool.Decides.{nat_tests}
 use Rattle.std.proofs.lemmas.List.Folds.{list_any-append, list_any_at}
 use Rattle.std.proofs.lemmas.List.Elements.{filter-append}
@@ -13,7 +13,9 @@ use Rattle.sip_ledger.specs.declared.debt.Entry.{Entry}
 use Rattle.sip_ledger.specs.declared.accounts.account.Account.{Account}
 use Rattle.sip_ledger.specs.declared.accounts.strikes.Strike.{Strike}
 use Rattle.sip_ledger.specs.Ledgers.{from_to}
-use Rattle.sip_ledger.specs.inner.Accounts.{IsStruckAt, IsWritten, Lengthens, Reaches, entry_at, is_struck, strikes_of, is_out}
+use Rattle.sip_ledger.specs.declared.accounts.gains.Gains.{Gains}
+use Rattle.sip_ledger.specs.inner.Accounts.{IsStruckAt, IsWritten, Lengthens, Reaches, entries_of, entry_at, is_left, is_struck, strikes_of, is_out}
+use Rattle.sip_ledger.proofs.LeftLemmas.{held-left}
 
 -- the strikes that end after the start
 abbrev pub ending : ℕ → List Strike → List Strike
@@ -80,37 +82,37 @@ one-out m mp place k here = grind (arith, nat_tests)
 past-out : (m mp from place k : ℕ) → place < k → (mp == m && (nat_le from k && nat_lt k (place + 1))) ≡ false
 past-out m mp from place k past = grind (arith, nat_tests)
 
-pub lengthened : (entries : List Entry) (place k : ℕ) (old : List Strike) (at : ℕ) (s : Strike) → at < length old → Reaches entries place (get_or old at s) →
-    is_struck (set old at (record { message = (get_or old at s).message; from = (get_or old at s).from; to = place + 1 })) (entry_at entries k).message k
-    ≡ (is_struck old (entry_at entries k).message k || k == place)
+pub lengthened : (gains : Gains) (place k : ℕ) (old : List Strike) (at : ℕ) (s : Strike) → at < length old → Reaches gains place (get_or old at s) → is_left gains k ≡ true →
+    is_struck (set old at (record { message = (get_or old at s).message; from = (get_or old at s).from; to = place + 1 })) (entry_at (entries_of gains) k).message k
+    ≡ (is_struck old (entry_at (entries_of gains) k).message k || k == place)
 unfolding is_struck
-lengthened entries place k old at s within reaches =
-    let m = (entry_at entries k).message in
-    let mp = (entry_at entries place).message in
+lengthened gains place k old at s within reaches left =
+    let m = (entry_at (entries_of gains) k).message in
+    let mp = (entry_at (entries_of gains) place).message in
     let was = get_or old at s in
     let longer : Strike = record { message = was.message; from = was.from; to = place + 1 } in
     any-set (is_out m k) (k == place) old at longer within
-    (longer-out m mp was.message was.from was.to place k reaches.message reaches.from reaches.to (λ above below. reaches.between k above below)
-    (λ is. ap (λ n. (entry_at entries n).message) is)
+    (longer-out m mp was.message was.from was.to place k reaches.message reaches.from reaches.to (λ above below same. true≢false (sym (held-left gains mp k same ∙ left) ∙ reaches.between k above below))
+    (λ is. ap (λ n. (entry_at (entries_of gains) n).message) is)
     ∙ ap (λ w. is_out m k w || k == place) (get_or_default old at s longer within))
 
-pub lengthened-bound : (entries : List Entry) (place m k : ℕ) (old : List Strike) (at : ℕ) (s : Strike) → place < k → is_struck old m k ≡ false →
+pub lengthened-bound : (gains : Gains) (place m k : ℕ) (old : List Strike) (at : ℕ) (s : Strike) → place < k → is_struck old m k ≡ false →
     is_struck (set old at (record { message = (get_or old at s).message; from = (get_or old at s).from; to = place + 1 })) m k ≡ false
 unfolding is_struck
-lengthened-bound entries place m k old at s past none =
+lengthened-bound gains place m k old at s past none =
     let was = get_or old at s in
     none-set (is_out m k) old at (record { message = was.message; from = was.from; to = place + 1 }) (past-out m was.message was.from place k past) none
 
-pub added : (entries : List Entry) (place k : ℕ) (old : List Strike) →
-    is_struck (old ++ (record { message = (entry_at entries place).message; from = place; to = place + 1 }) ∷ []) (entry_at entries k).message k
-    ≡ (is_struck old (entry_at entries k).message k || k == place)
+pub added : (gains : Gains) (place k : ℕ) (old : List Strike) →
+    is_struck (old ++ (record { message = (entry_at (entries_of gains) place).message; from = place; to = place + 1 }) ∷ []) (entry_at (entries_of gains) k).message k
+    ≡ (is_struck old (entry_at (entries_of gains) k).message k || k == place)
 unfolding is_struck
-added entries place k old =
-    let m = (entry_at entries k).message in
-    let mp = (entry_at entries place).message in
+added gains place k old =
+    let m = (entry_at (entries_of gains) k).message in
+    let mp = (entry_at (entries_of gains) place).message in
     let s : Strike = record { message = mp; from = place; to = place + 1 } in
     list_any-append (is_out m k) old (s ∷ [])
-    ∙ ap (λ b. list_any (is_out m k) old || b) (or-false (is_out m k s) ∙ one-out m mp place k (λ is. ap (λ n. (entry_at entries n).message) is))
+    ∙ ap (λ b. list_any (is_out m k) old || b) (or-false (is_out m k s) ∙ one-out m mp place k (λ is. ap (λ n. (entry_at (entries_of gains) n).message) is))
 
 pub added-bound : (m mp place k : ℕ) (old : List Strike) → place < k → is_struck old m k ≡ false →
     is_struck (old ++ (record { message = mp; from = place; to = place + 1 }) ∷ []) m k ≡ false
@@ -143,25 +145,25 @@ get-behind (x ∷ xs) ys i (suc j) d is = get-behind xs ys i j d (omega (arith, 
 after-old : (old more : List Strike) → (take (length old) (old ++ more) ≡ old) × (drop (length old) (old ++ more) ≡ more)
 after-old old more = (take-append_seam old more, drop-append_seam old more)
 
-written : (entries : List Entry) (place : ℕ) (old new more : List Strike) (a : Account) → new ≡ old ++ more →
-    ((k : ℕ) → is_struck more (entry_at entries k).message k ≡ (is_struck (ending a.start (strikes_of old a)) (entry_at entries k).message k || k == place)) →
-    ((m k : ℕ) → place < k → is_struck (ending a.start (strikes_of old a)) m k ≡ false → is_struck more m k ≡ false) → place < length entries →
-    IsWritten entries place old new a
-written entries place old new more a is struck bound within =
+written : (gains : Gains) (place : ℕ) (old new more : List Strike) (a : Account) → new ≡ old ++ more →
+    ((k : ℕ) → is_left gains k ≡ true → is_struck more (entry_at (entries_of gains) k).message k ≡ (is_struck (ending a.start (strikes_of old a)) (entry_at (entries_of gains) k).message k || k == place)) →
+    ((m k : ℕ) → place < k → is_struck (ending a.start (strikes_of old a)) m k ≡ false → is_struck more m k ≡ false) → place < length (entries_of gains) →
+    IsWritten gains place old new a
+written gains place old new more a is struck bound within =
     let parts = after-old old more in
     let own = strikes_of old a in
     let rest : drop (length old) new ≡ more = ap (drop (length old)) is ∙ parts.1 in
     record {
       kept = ap (take (length old)) is ∙ parts.0;
-      struck = λ k above below.
-          ap (λ l. is_struck l (entry_at entries k).message k) rest ∙ struck k
-          ∙ ap (λ b. b || k == place) (struck-ending (entry_at entries k).message k a.start own above);
+      struck = λ k above left.
+          ap (λ l. is_struck l (entry_at (entries_of gains) k).message k) rest ∙ struck k left
+          ∙ ap (λ b. b || k == place) (struck-ending (entry_at (entries_of gains) k).message k a.start own above);
       bound = λ m k past none. ap (λ l. is_struck l m k) rest ∙ bound m k (omega (arith, past, within)) (bound-ending m k a.start own none);
     }
 
-pub written-longer : (entries : List Entry) (place : ℕ) (old one new : List Strike) (a : Account) → one ≡ old ++ ending a.start (strikes_of old a) →
-    Lengthens entries place (length old) one new → place < length entries → IsWritten entries place old new a
-written-longer entries place old one new a is l within =
+pub written-longer : (gains : Gains) (place : ℕ) (old one new : List Strike) (a : Account) → one ≡ old ++ ending a.start (strikes_of old a) →
+    Lengthens gains place (length old) one new → place < length (entries_of gains) → IsWritten gains place old new a
+written-longer gains place old one new a is l within =
     let e = ending a.start (strikes_of old a) in
     let s : Strike = record { message = 0; from = 0; to = 0 } in
     let i = l.at - length old in
@@ -171,32 +173,32 @@ written-longer entries place old one new a is l within =
     let was = get_or e i s in
     let longer : Strike = record { message = was.message; from = was.from; to = place + 1 } in
     let same : get_or one l.at s ≡ was = ap (λ n. get_or n l.at s) is ∙ get-behind old e i l.at s here in
-    let reaches : Reaches entries place was = subst (λ w. Reaches entries place w) same (l.reaches s) in
+    let reaches : Reaches gains place was = subst (λ w. Reaches gains place w) same (l.reaches s) in
     let low : i < length e = omega (arith, inside, ap length is, length-append old e, here) in
-    written entries place old new (set e i longer) a
+    written gains place old new (set e i longer) a
     (l.longer s
     ∙ ap (λ (w : Strike). let x : Strike = record { message = w.message; from = w.from; to = place + 1 } in set one l.at x) same
     ∙ ap (λ n. set n l.at longer) is
     ∙ set-behind old e i l.at longer here)
-    (λ k. lengthened entries place k e i s low reaches)
-    (λ m k past none. lengthened-bound entries place m k e i s past none)
+    (λ k left. lengthened gains place k e i s low reaches left)
+    (λ m k past none. lengthened-bound gains place m k e i s past none)
     within
 
-pub written-added : (entries : List Entry) (place : ℕ) (old one new : List Strike) (a : Account) → one ≡ old ++ ending a.start (strikes_of old a) →
-    new ≡ one ++ (record { message = (entry_at entries place).message; from = place; to = place + 1 }) ∷ [] → place < length entries → IsWritten entries place old new a
-written-added entries place old one new a is more within =
+pub written-added : (gains : Gains) (place : ℕ) (old one new : List Strike) (a : Account) → one ≡ old ++ ending a.start (strikes_of old a) →
+    new ≡ one ++ (record { message = (entry_at (entries_of gains) place).message; from = place; to = place + 1 }) ∷ [] → place < length (entries_of gains) → IsWritten gains place old new a
+written-added gains place old one new a is more within =
     let e = ending a.start (strikes_of old a) in
-    let s : Strike = record { message = (entry_at entries place).message; from = place; to = place + 1 } in
-    written entries place old new (e ++ s ∷ []) a
+    let s : Strike = record { message = (entry_at (entries_of gains) place).message; from = place; to = place + 1 } in
+    written gains place old new (e ++ s ∷ []) a
     (more ∙ ap (λ l. l ++ s ∷ []) is ∙ append_assoc old e (s ∷ []))
-    (λ k. added entries place k e)
-    (λ m k past none. added-bound m (entry_at entries place).message place k e past none)
+    (λ k left. added gains place k e)
+    (λ m k past none. added-bound m (entry_at (entries_of gains) place).message place k e past none)
     within
 
 -- an account with strikes that stand after the others
-pub struck-at : (entries : List Entry) (place : ℕ) (old new : List Strike) (a b : Account) → IsWritten entries place old new a →
-    b ≡ record a { first = length old; last = length new } → IsStruckAt entries place old new a b
-struck-at entries place old new a b w is =
+pub struck-at : (gains : Gains) (place : ℕ) (old new : List Strike) (a b : Account) → IsWritten gains place old new a →
+    b ≡ record a { first = length old; last = length new } → IsStruckAt gains place old new a b
+struck-at gains place old new a b w is =
     let longer : length old ≤ length new = omega (arith, ap length w.kept, length-take (length old) new) in
     let whole : strikes_of new b ≡ drop (length old) new = ap (λ (x : Account). strikes_of new x) is ∙ ap (drop (length old)) (take-length new) in
     record {
@@ -206,7 +208,7 @@ struck-at entries place old new a b w is =
       print = ap (λ (x : Account). x.print) is;
       first = subst (λ (x : Account). x.first ≤ x.last) (sym is) longer;
       last = subst (λ (x : Account). x.last ≤ length new) (sym is) (omega arith);
-      struck = λ k above below. ap (λ own. is_struck own (entry_at entries k).message k) whole ∙ w.struck k above below;
+      struck = λ k above left. ap (λ own. is_struck own (entry_at (entries_of gains) k).message k) whole ∙ w.struck k above left;
       bound = λ m k past none. ap (λ own. is_struck own m k) whole ∙ w.bound m k past none;
     }
 

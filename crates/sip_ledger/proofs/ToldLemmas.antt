@@ -13,7 +13,8 @@ use Rattle.sip_ledger.specs.declared.accounts.gains.Gains.{Gains}
 use Rattle.sip_ledger.specs.declared.accounts.strikes.Strike.{Strike}
 use Rattle.sip_ledger.specs.Debts.{debt_deadlines, earliest}
 use Rattle.sip_ledger.specs.Rows.{debt_of, debts_from, IsGap}
-use Rattle.sip_ledger.specs.inner.Accounts.{AreGains, IsAccount, SharesRest, account_debts, entry_at, is_struck, must_at, owes_at, strikes_of}
+use Rattle.sip_ledger.specs.inner.Accounts.{AreGains, IsAccount, SharesRest, account_debts, entries_of, entry_at, is_gone, is_left, is_struck, must_at, owes_at, strikes_of}
+use Rattle.sip_ledger.proofs.LeftLemmas.{entries-long, gone-same, left-kept, owed-left, rising-kept}
 use Rattle.sip_ledger.specs.inner.Indexes.{holds}
 use Rattle.sip_ledger.specs.inner.Places.{AreRising}
 use Rattle.sip_ledger.proofs.ListedLemmas.{back, back-none, back-over, back-same, back-set, earliest-first, earliest-push, front, front-gap, front-next, listed-All, listed-must, listed-none, no_entry, parts}
@@ -21,10 +22,10 @@ use Rattle.sip_ledger.proofs.AccountLemmas.{must-below, must-from, past-end, sof
 use Rattle.sip_ledger.proofs.WithoutLemmas.{before-start, le-yes}
 
 -- all of it: what was owed up to a place is told
-pub front-start : (entries : List Entry) (strikes : List Strike) (m : ℕ → Bool) (a : Account) → a.start ≤ length entries → front (owes_at entries strikes a) m entries a.start ≡ []
-front-start entries strikes m a within =
-    listed-none (owes_at entries strikes a) m 0 (take a.start entries)
-    (λ k from below. before-start entries strikes a k (omega (arith, below, length-take-le a.start entries within)))
+pub front-start : (gains : Gains) (strikes : List Strike) (m : ℕ → Bool) (a : Account) → a.start ≤ length (entries_of gains) → front (owes_at gains strikes a) m (entries_of gains) a.start ≡ []
+front-start gains strikes m a within =
+    listed-none (owes_at gains strikes a) m 0 (take a.start (entries_of gains))
+    (λ k from below. before-start gains strikes a k (omega (arith, below, length-take-le a.start (entries_of gains) within)))
 
 pub front-more : (entries : List Entry) (o m : ℕ → Bool) (at next : ℕ) → at < length entries → o at ≡ true → at < next → next ≤ length entries → IsGap o (at + 1) next →
     front o m entries next ≡ front o m entries at ++ debt_of (entry_at entries at) (m at) ∷ []
@@ -32,30 +33,30 @@ front-more entries o m at next inside is after within gap =
     front-gap o m entries (at + 1) next (omega (arith, after)) within gap
     ∙ front-next o m entries at at no_entry (omega arith) inside (λ j above below. absurd (omega (arith, above, below))) is
 
-pub front-end : (entries : List Entry) (strikes : List Strike) (m : ℕ → Bool) (a : Account) (at : ℕ) → a.end ≤ at → at ≤ length entries →
-    debts_from (owes_at entries strikes a) m 0 entries ≡ front (owes_at entries strikes a) m entries at
-front-end entries strikes m a at end within =
-    let o = owes_at entries strikes a in
-    parts o m entries at within
-    ∙ ap (λ l. front o m entries at ++ l) (back-none o m entries at (λ k past. past-end entries strikes a k (omega (arith, past, end))))
-    ∙ append-nil (front o m entries at)
+pub front-end : (gains : Gains) (strikes : List Strike) (m : ℕ → Bool) (a : Account) (at : ℕ) → a.end ≤ at → at ≤ length (entries_of gains) →
+    debts_from (owes_at gains strikes a) m 0 (entries_of gains) ≡ front (owes_at gains strikes a) m (entries_of gains) at
+front-end gains strikes m a at end within =
+    let o = owes_at gains strikes a in
+    parts o m (entries_of gains) at within
+    ∙ ap (λ l. front o m (entries_of gains) at ++ l) (back-none o m (entries_of gains) at (λ k past. past-end gains strikes a k (omega (arith, past, end))))
+    ∙ append-nil (front o m (entries_of gains) at)
 
 pub all-told : (gains : Gains) (strikes : List Strike) (a : Account) (at : ℕ) → IsAccount gains strikes a → a.end ≤ at → at ≤ a.end →
-    front (owes_at gains.entries.items strikes a) (must_at gains a) gains.entries.items at ≡ account_debts gains strikes a
+    front (owes_at gains strikes a) (must_at gains a) (entries_of gains) at ≡ account_debts gains strikes a
 unfolding account_debts
 all-told gains strikes a at is past within =
     let end = is.end in
-    sym (front-end gains.entries.items strikes (must_at gains a) a at past (omega (arith, within, end)))
+    sym (front-end gains strikes (must_at gains a) a at past (omega (arith, within, end)))
 
 -- beside another one: both lists are the same where what is left of them is
 pub record AreBeside (one other left right : List Debt) : Type 0 where
   pub to : one ≡ other → left ≡ right
   pub from : left ≡ right → one ≡ other
 
-pub beside-start : (entries : List Entry) (strikes : List Strike) (m : ℕ → Bool) (a : Account) → a.start ≤ length entries →
-    debts_from (owes_at entries strikes a) m 0 entries ≡ back (owes_at entries strikes a) m entries a.start
-beside-start entries strikes m a within =
-    parts (owes_at entries strikes a) m entries a.start within ∙ ap (λ l. l ++ back (owes_at entries strikes a) m entries a.start) (front-start entries strikes m a within)
+pub beside-start : (gains : Gains) (strikes : List Strike) (m : ℕ → Bool) (a : Account) → a.start ≤ length (entries_of gains) →
+    debts_from (owes_at gains strikes a) m 0 (entries_of gains) ≡ back (owes_at gains strikes a) m (entries_of gains) a.start
+beside-start gains strikes m a within =
+    parts (owes_at gains strikes a) m (entries_of gains) a.start within ∙ ap (λ l. l ++ back (owes_at gains strikes a) m (entries_of gains) a.start) (front-start gains strikes m a within)
 
 pub back-more : (entries : List Entry) (o m : ℕ → Bool) (at next : ℕ) → at < length entries → o at ≡ true → at < next → next ≤ length entries → IsGap o (at + 1) next →
     back o m entries at ≡ debt_of (entry_at entries at) (m at) ∷ back o m entries next
@@ -85,22 +86,22 @@ beside-longer one other left left' d are first same = none (sym first ∙ are.to
 
 -- two accounts, each at a place where it owes something, or at its end: what is left of both is the same where all of it is
 pub record AreAt (gains : Gains) (strikes : List Strike) (one other : Account) (at beside : ℕ) : Type 0 where
-  pub left : AreBeside (account_debts gains strikes one) (account_debts gains strikes other) (back (owes_at gains.entries.items strikes one) (must_at gains one) gains.entries.items at)
-      (back (owes_at gains.entries.items strikes other) (must_at gains other) gains.entries.items beside)
+  pub left : AreBeside (account_debts gains strikes one) (account_debts gains strikes other) (back (owes_at gains strikes one) (must_at gains one) (entries_of gains) at)
+      (back (owes_at gains strikes other) (must_at gains other) (entries_of gains) beside)
   pub low : one.start ≤ at
   pub low_beside : other.start ≤ beside
   pub end : at ≤ one.end
   pub end_beside : beside ≤ other.end
-  pub owed : at < one.end → owes_at gains.entries.items strikes one at ≡ true
-  pub owed_beside : beside < other.end → owes_at gains.entries.items strikes other beside ≡ true
+  pub owed : at < one.end → owes_at gains strikes one at ≡ true
+  pub owed_beside : beside < other.end → owes_at gains strikes other beside ≡ true
 
 start-debts : (gains : Gains) (strikes : List Strike) (a : Account) → IsAccount gains strikes a →
-    account_debts gains strikes a ≡ back (owes_at gains.entries.items strikes a) (must_at gains a) gains.entries.items a.start
+    account_debts gains strikes a ≡ back (owes_at gains strikes a) (must_at gains a) (entries_of gains) a.start
 unfolding account_debts
 start-debts gains strikes a is =
     let order = is.order in
     let end = is.end in
-    beside-start gains.entries.items strikes (must_at gains a) a (omega (arith, order, end))
+    beside-start gains strikes (must_at gains a) a (omega (arith, order, end))
 
 pub at-start : (gains : Gains) (strikes : List Strike) (one other : Account) → IsAccount gains strikes one → IsAccount gains strikes other →
     AreAt gains strikes one other one.start other.start
@@ -118,36 +119,36 @@ at-start gains strikes one other is is_other =
     }
 
 -- the next place at which an account owes something after this one, or its end
-pub record IsAfter (entries : List Entry) (strikes : List Strike) (a : Account) (at next : ℕ) : Type 0 where
+pub record IsAfter (gains : Gains) (strikes : List Strike) (a : Account) (at next : ℕ) : Type 0 where
   pub within : (at + 1 ≤ next) × (next ≤ a.end)
-  pub before : (k : ℕ) → at + 1 ≤ k → k < next → owes_at entries strikes a k ≡ false
-  pub is : next < a.end → owes_at entries strikes a next ≡ true
+  pub before : (k : ℕ) → at + 1 ≤ k → k < next → owes_at gains strikes a k ≡ false
+  pub is : next < a.end → owes_at gains strikes a next ≡ true
 
-after-more : (gains : Gains) (strikes : List Strike) (a : Account) (at next : ℕ) → IsAccount gains strikes a → at < a.end → owes_at gains.entries.items strikes a at ≡ true →
-    IsAfter gains.entries.items strikes a at next →
-    back (owes_at gains.entries.items strikes a) (must_at gains a) gains.entries.items at
-    ≡ debt_of (entry_at gains.entries.items at) (must_at gains a at) ∷ back (owes_at gains.entries.items strikes a) (must_at gains a) gains.entries.items next
+after-more : (gains : Gains) (strikes : List Strike) (a : Account) (at next : ℕ) → IsAccount gains strikes a → at < a.end → owes_at gains strikes a at ≡ true →
+    IsAfter gains strikes a at next →
+    back (owes_at gains strikes a) (must_at gains a) (entries_of gains) at
+    ≡ debt_of (entry_at (entries_of gains) at) (must_at gains a at) ∷ back (owes_at gains strikes a) (must_at gains a) (entries_of gains) next
 after-more gains strikes a at next is inside owed after =
     let end = is.end in
     let low = after.within.0 in
     let high = after.within.1 in
-    back-more gains.entries.items (owes_at gains.entries.items strikes a) (must_at gains a) at next (omega (arith, inside, end)) owed (omega (arith, low)) (omega (arith, high, end)) after.before
+    back-more (entries_of gains) (owes_at gains strikes a) (must_at gains a) at next (omega (arith, inside, end)) owed (omega (arith, low)) (omega (arith, high, end)) after.before
 
 pub at-more : (gains : Gains) (strikes : List Strike) (one other : Account) (at beside next next_beside : ℕ) → IsAccount gains strikes one → IsAccount gains strikes other →
     AreAt gains strikes one other at beside → at < one.end → beside < other.end →
-    debt_of (entry_at gains.entries.items at) (must_at gains one at) ≡ debt_of (entry_at gains.entries.items beside) (must_at gains other beside) →
-    IsAfter gains.entries.items strikes one at next → IsAfter gains.entries.items strikes other beside next_beside → AreAt gains strikes one other next next_beside
+    debt_of (entry_at (entries_of gains) at) (must_at gains one at) ≡ debt_of (entry_at (entries_of gains) beside) (must_at gains other beside) →
+    IsAfter gains strikes one at next → IsAfter gains strikes other beside next_beside → AreAt gains strikes one other next next_beside
 at-more gains strikes one other at beside next next_beside is is_other are inside inside_beside same after after_beside =
-    let entries = gains.entries.items in
-    let left' = back (owes_at entries strikes one) (must_at gains one) entries next in
-    let right' = back (owes_at entries strikes other) (must_at gains other) entries next_beside in
+    let entries = (entries_of gains) in
+    let left' = back (owes_at gains strikes one) (must_at gains one) entries next in
+    let right' = back (owes_at gains strikes other) (must_at gains other) entries next_beside in
     let low = are.low in
     let low_beside = are.low_beside in
     let above = after.within.0 in
     let above_beside = after_beside.within.0 in
     record {
-      left = beside-more (account_debts gains strikes one) (account_debts gains strikes other) (back (owes_at entries strikes one) (must_at gains one) entries at)
-          (back (owes_at entries strikes other) (must_at gains other) entries beside) left' right' (debt_of (entry_at entries at) (must_at gains one at)) are.left
+      left = beside-more (account_debts gains strikes one) (account_debts gains strikes other) (back (owes_at gains strikes one) (must_at gains one) entries at)
+          (back (owes_at gains strikes other) (must_at gains other) entries beside) left' right' (debt_of (entry_at entries at) (must_at gains one at)) are.left
           (after-more gains strikes one at next is inside (are.owed inside) after)
           (after-more gains strikes other beside next_beside is_other inside_beside (are.owed_beside inside_beside) after_beside ∙ ap (λ d. d ∷ right') (sym same));
       low = omega (arith, low, above);
@@ -159,29 +160,29 @@ at-more gains strikes one other at beside next next_beside is is_other are insid
     }
 
 -- what is left at a place where something is owed is not what is left where that is something else
-back-here : (gains : Gains) (strikes : List Strike) (a : Account) (at : ℕ) → IsAccount gains strikes a → at < a.end → owes_at gains.entries.items strikes a at ≡ true →
-    back (owes_at gains.entries.items strikes a) (must_at gains a) gains.entries.items at
-    ≡ debt_of (entry_at gains.entries.items at) (must_at gains a at) ∷ back (owes_at gains.entries.items strikes a) (must_at gains a) gains.entries.items (at + 1)
+back-here : (gains : Gains) (strikes : List Strike) (a : Account) (at : ℕ) → IsAccount gains strikes a → at < a.end → owes_at gains strikes a at ≡ true →
+    back (owes_at gains strikes a) (must_at gains a) (entries_of gains) at
+    ≡ debt_of (entry_at (entries_of gains) at) (must_at gains a at) ∷ back (owes_at gains strikes a) (must_at gains a) (entries_of gains) (at + 1)
 back-here gains strikes a at is inside owed =
     let end = is.end in
-    back-set (owes_at gains.entries.items strikes a) (must_at gains a) gains.entries.items at no_entry (omega (arith, inside, end)) owed
+    back-set (owes_at gains strikes a) (must_at gains a) (entries_of gains) at no_entry (omega (arith, inside, end)) owed
 
 pub at-apart : (gains : Gains) (strikes : List Strike) (one other : Account) (at beside : ℕ) → IsAccount gains strikes one → IsAccount gains strikes other →
     AreAt gains strikes one other at beside → at < one.end → beside < other.end →
-    debt_of (entry_at gains.entries.items at) (must_at gains one at) ≢ debt_of (entry_at gains.entries.items beside) (must_at gains other beside) →
+    debt_of (entry_at (entries_of gains) at) (must_at gains one at) ≢ debt_of (entry_at (entries_of gains) beside) (must_at gains other beside) →
     account_debts gains strikes one ≢ account_debts gains strikes other
 at-apart gains strikes one other at beside is is_other are inside inside_beside differ =
-    let entries = gains.entries.items in
-    beside-apart (account_debts gains strikes one) (account_debts gains strikes other) (back (owes_at entries strikes one) (must_at gains one) entries at)
-    (back (owes_at entries strikes other) (must_at gains other) entries beside) (back (owes_at entries strikes one) (must_at gains one) entries (at + 1))
-    (back (owes_at entries strikes other) (must_at gains other) entries (beside + 1)) (debt_of (entry_at entries at) (must_at gains one at))
+    let entries = (entries_of gains) in
+    beside-apart (account_debts gains strikes one) (account_debts gains strikes other) (back (owes_at gains strikes one) (must_at gains one) entries at)
+    (back (owes_at gains strikes other) (must_at gains other) entries beside) (back (owes_at gains strikes one) (must_at gains one) entries (at + 1))
+    (back (owes_at gains strikes other) (must_at gains other) entries (beside + 1)) (debt_of (entry_at entries at) (must_at gains one at))
     (debt_of (entry_at entries beside) (must_at gains other beside)) are.left (back-here gains strikes one at is inside (are.owed inside))
     (back-here gains strikes other beside is_other inside_beside (are.owed_beside inside_beside)) differ
 
 -- nothing is left at the end
-back-end : (gains : Gains) (strikes : List Strike) (a : Account) (at : ℕ) → a.end ≤ at → back (owes_at gains.entries.items strikes a) (must_at gains a) gains.entries.items at ≡ []
+back-end : (gains : Gains) (strikes : List Strike) (a : Account) (at : ℕ) → a.end ≤ at → back (owes_at gains strikes a) (must_at gains a) (entries_of gains) at ≡ []
 back-end gains strikes a at past =
-    back-none (owes_at gains.entries.items strikes a) (must_at gains a) gains.entries.items at (λ j above. past-end gains.entries.items strikes a j (omega (arith, above, past)))
+    back-none (owes_at gains strikes a) (must_at gains a) (entries_of gains) at (λ j above. past-end gains strikes a j (omega (arith, above, past)))
 
 pub at-end : (gains : Gains) (strikes : List Strike) (one other : Account) (at beside : ℕ) → IsAccount gains strikes one → IsAccount gains strikes other →
     AreAt gains strikes one other at beside → one.end ≤ at → other.end ≤ beside → account_debts gains strikes one ≡ account_debts gains strikes other
@@ -194,10 +195,10 @@ cons≢nil d ds none = cc
 pub rest-same : (gains : Gains) (strikes : List Strike) (one other : Account) (at beside : ℕ) → AreAt gains strikes one other at beside → at ≡ beside →
     SharesRest strikes one other at → account_debts gains strikes one ≡ account_debts gains strikes other
 rest-same gains strikes one other at beside are here shared =
-    let entries = gains.entries.items in
-    are.left.from (back-same (owes_at entries strikes one) (must_at gains one) (owes_at entries strikes other) (must_at gains other) entries at
-    (λ k above. (shared.owes entries k above, soft-must gains other one k shared.soft))
-    ∙ ap (back (owes_at entries strikes other) (must_at gains other) entries) here)
+    let entries = (entries_of gains) in
+    are.left.from (back-same (owes_at gains strikes one) (must_at gains one) (owes_at gains strikes other) (must_at gains other) entries at
+    (λ k above. (shared.owes gains k above, soft-must gains other one k shared.soft))
+    ∙ ap (back (owes_at gains strikes other) (must_at gains other) entries) here)
 
 -- accounts that end at one place, and of which no strike goes past this one
 pub shares-rest : (strikes : List Strike) (one other : Account) (place : ℕ) → one.end ≡ other.end → one.soft ≡ other.soft → one.start ≤ place → other.start ≤ place →
@@ -206,10 +207,13 @@ pub shares-rest : (strikes : List Strike) (one other : Account) (place : ℕ) �
 unfolding owes_at
 shares-rest strikes one other place end soft start start_other free free_other = record {
   soft = soft;
-  owes = λ entries k above.
-      ap₂ (λ a b. a && (nat_lt k one.end && not b)) (le-yes one.start k (omega (arith, start, above))) (free (entry_at entries k).message k above)
-      ∙ ap (λ n. nat_lt k n && true) end
-      ∙ sym (ap₂ (λ a b. a && (nat_lt k other.end && not b)) (le-yes other.start k (omega (arith, start_other, above))) (free_other (entry_at entries k).message k above));
+  owes = λ gains k above.
+      let m = (entry_at (entries_of gains) k).message in
+      let gone : is_gone gains (strikes_of strikes one) k ≡ is_gone gains (strikes_of strikes other) k =
+      gone-same gains (strikes_of strikes other) (strikes_of strikes one) k (λ left. free m k above ∙ sym (free_other m k above)) in
+      ap₂ (λ a b. a && (nat_lt k one.end && not b)) (le-yes one.start k (omega (arith, start, above))) gone
+      ∙ ap (λ n. nat_lt k n && not (is_gone gains (strikes_of strikes other) k)) end
+      ∙ sym (ap (λ a. a && (nat_lt k other.end && not (is_gone gains (strikes_of strikes other) k))) (le-yes other.start k (omega (arith, start_other, above))));
 }
 
 pub on-true : {P Q : Type 0} (b : Bool) → OnTrue b P → (P → Q) → OnTrue b Q
@@ -220,13 +224,13 @@ on-true false p more = p
 pub at-longer : (gains : Gains) (strikes : List Strike) (one other : Account) (at beside : ℕ) → IsAccount gains strikes one → AreAt gains strikes one other at beside →
     at < one.end → other.end ≤ beside → account_debts gains strikes one ≢ account_debts gains strikes other
 at-longer gains strikes one other at beside is are inside past same =
-    cons≢nil (debt_of (entry_at gains.entries.items at) (must_at gains one at)) (back (owes_at gains.entries.items strikes one) (must_at gains one) gains.entries.items (at + 1))
+    cons≢nil (debt_of (entry_at (entries_of gains) at) (must_at gains one at)) (back (owes_at gains strikes one) (must_at gains one) (entries_of gains) (at + 1))
     (sym (back-here gains strikes one at is inside (are.owed inside)) ∙ are.left.to same ∙ back-end gains strikes other beside past)
 
 pub at-shorter : (gains : Gains) (strikes : List Strike) (one other : Account) (at beside : ℕ) → IsAccount gains strikes other → AreAt gains strikes one other at beside →
     one.end ≤ at → beside < other.end → account_debts gains strikes one ≢ account_debts gains strikes other
 at-shorter gains strikes one other at beside is_other are past inside same =
-    cons≢nil (debt_of (entry_at gains.entries.items beside) (must_at gains other beside)) (back (owes_at gains.entries.items strikes other) (must_at gains other) gains.entries.items (beside + 1))
+    cons≢nil (debt_of (entry_at (entries_of gains) beside) (must_at gains other beside)) (back (owes_at gains strikes other) (must_at gains other) (entries_of gains) (beside + 1))
     (sym (back-here gains strikes other beside is_other inside (are.owed_beside inside)) ∙ sym (are.left.to same) ∙ back-end gains strikes one at past)
 
 -- what the code asks at the end
@@ -298,9 +302,9 @@ least-end entries m from within none =
     ap (λ l. earliest (map (λ (d : Debt). d.deadline) l))
     (parts m m entries from within ∙ ap (λ l. front m m entries from ++ l) (back-none m m entries from none) ∙ append-nil (front m m entries from))
 
--- where deadlines rise, the first one is the least
-pub least-rising : (entries : List Entry) (m : ℕ → Bool) (at : ℕ) → AreRising entries → at < length entries → ((k : ℕ) → k < at → m k ≡ false) → m at ≡ true →
-    Some (entry_at entries at).deadline ≡ earliest (map (λ d. d.deadline) (debts_from m m 0 entries))
+-- where no deadline after it is below it, the first one is the least
+pub least-rising : (entries : List Entry) (m : ℕ → Bool) (at : ℕ) → ((k : ℕ) → at ≤ k → k < length entries → (entry_at entries at).deadline ≤ (entry_at entries k).deadline) →
+    at < length entries → ((k : ℕ) → k < at → m k ≡ false) → m at ≡ true → Some (entry_at entries at).deadline ≡ earliest (map (λ d. d.deadline) (debts_from m m 0 entries))
 least-rising entries m at rising inside none is =
     let d = debt_of (entry_at entries at) (m at) in
     let later = back m m entries (at + 1) in
@@ -317,18 +321,18 @@ least-rising entries m at rising inside none is =
     above j e below =
         let long = length-drop (at + 1) entries in
         let there : at + 1 + j < length entries = omega (arith, below, long, inside) in
-        let first = rising at (at + 1 + j) e (omega arith) there in
+        let first = rising (at + 1 + j) (omega arith) there in
         let same : get_or (drop (at + 1) entries) j e ≡ get_or entries (at + 1 + j) e = get_or-drop (at + 1) entries j e in
-        let here : get_or entries at e ≡ entry_at entries at = get_or_default entries at e no_entry inside in
-        subst (λ (x : Entry). (entry_at entries at).deadline ≤ x.deadline) (sym same) (subst (λ (x : Entry). x.deadline ≤ (get_or entries (at + 1 + j) e).deadline) here first)
+        let here : get_or entries (at + 1 + j) e ≡ entry_at entries (at + 1 + j) = get_or_default entries (at + 1 + j) e no_entry there in
+        subst (λ (x : Entry). (entry_at entries at).deadline ≤ x.deadline) (sym (same ∙ here)) first
 
 -- the least deadline of what an account must send before a place; where deadlines rise there is none so far
 pub record IsLeastTo (gains : Gains) (strikes : List Strike) (a : Account) (from : ℕ) (least : Option ℕ) : Type 0 where
-  pub is : least ≡ least_to gains.entries.items (due (owes_at gains.entries.items strikes a) (must_at gains a)) from
+  pub is : least ≡ least_to (entries_of gains) (due (owes_at gains strikes a) (must_at gains a)) from
   pub low : a.start ≤ from
   pub soft : a.soft ≤ from
-  pub within : from ≤ length gains.entries.items
-  pub none : gains.rises ≡ true → (k : ℕ) → k < from → due (owes_at gains.entries.items strikes a) (must_at gains a) k ≡ false
+  pub within : from ≤ length (entries_of gains)
+  pub none : gains.rises ≡ true → (k : ℕ) → k < from → due (owes_at gains strikes a) (must_at gains a) k ≡ false
 
 and-no : (a b : Bool) → b ≡ false → (a && b) ≡ false
 and-no true b is = is
@@ -342,9 +346,9 @@ unfolding must_at
 unmust gains a k none = no-and (holds gains.musts 0 k) (nat_le a.soft k) none
 
 not-due-before : (gains : Gains) (strikes : List Strike) (a : Account) (from k : ℕ) → from ≤ a.start ⊎ from ≤ a.soft → k < from →
-    due (owes_at gains.entries.items strikes a) (must_at gains a) k ≡ false
-not-due-before gains strikes a from k (inl start) early = no-and (owes_at gains.entries.items strikes a k) (must_at gains a k) (before-start gains.entries.items strikes a k (omega (arith, start, early)))
-not-due-before gains strikes a from k (inr soft) early = and-no (owes_at gains.entries.items strikes a k) (must_at gains a k) (sym (must-below gains a k (omega (arith, soft, early))))
+    due (owes_at gains strikes a) (must_at gains a) k ≡ false
+not-due-before gains strikes a from k (inl start) early = no-and (owes_at gains strikes a k) (must_at gains a k) (before-start gains strikes a k (omega (arith, start, early)))
+not-due-before gains strikes a from k (inr soft) early = and-no (owes_at gains strikes a k) (must_at gains a k) (sym (must-below gains a k (omega (arith, soft, early))))
 
 pub least-first : (gains : Gains) (strikes : List Strike) (a : Account) (from : ℕ) → IsAccount gains strikes a → a.start ≤ from → a.soft ≤ from → from ≤ a.start ⊎ from ≤ a.soft →
     IsLeastTo gains strikes a from None
@@ -352,12 +356,12 @@ least-first gains strikes a from is low soft one =
     let order = is.order in
     let end = is.end in
     let high = is.soft in
-    let within : from ≤ length gains.entries.items = elim one [
+    let within : from ≤ length (entries_of gains) = elim one [
       | inl start ↦ omega (arith, start, order, end)
       | inr softs ↦ omega (arith, softs, high)
     ] in
     record {
-      is = least-start gains.entries.items (due (owes_at gains.entries.items strikes a) (must_at gains a)) from within (λ k early. not-due-before gains strikes a from k one early);
+      is = least-start (entries_of gains) (due (owes_at gains strikes a) (must_at gains a)) from within (λ k early. not-due-before gains strikes a from k one early);
       low = low;
       soft = soft;
       within = within;
@@ -366,19 +370,19 @@ least-first gains strikes a from is low soft one =
 
 -- up to the next place of what must be sent nothing is due
 gap-due : (gains : Gains) (strikes : List Strike) (a : Account) (from at : ℕ) → ((k : ℕ) → from ≤ k → k < at → holds gains.musts 0 k ≡ false) →
-    IsGap (due (owes_at gains.entries.items strikes a) (must_at gains a)) from at
-gap-due gains strikes a from at none k above below = and-no (owes_at gains.entries.items strikes a k) (must_at gains a k) (unmust gains a k (none k above below))
+    IsGap (due (owes_at gains strikes a) (must_at gains a)) from at
+gap-due gains strikes a from at none k above below = and-no (owes_at gains strikes a k) (must_at gains a k) (unmust gains a k (none k above below))
 
-pub least-passed : (gains : Gains) (strikes : List Strike) (a : Account) (from at : ℕ) (least : Option ℕ) → IsLeastTo gains strikes a from least → from ≤ at → at < length gains.entries.items →
-    ((k : ℕ) → from ≤ k → k < at → holds gains.musts 0 k ≡ false) → owes_at gains.entries.items strikes a at ≡ false → IsLeastTo gains strikes a (at + 1) least
+pub least-passed : (gains : Gains) (strikes : List Strike) (a : Account) (from at : ℕ) (least : Option ℕ) → IsLeastTo gains strikes a from least → from ≤ at → at < length (entries_of gains) →
+    ((k : ℕ) → from ≤ k → k < at → holds gains.musts 0 k ≡ false) → owes_at gains strikes a at ≡ false → IsLeastTo gains strikes a (at + 1) least
 least-passed gains strikes a from at least was above inside gap unowed =
-    let m = due (owes_at gains.entries.items strikes a) (must_at gains a) in
+    let m = due (owes_at gains strikes a) (must_at gains a) in
     let low = was.low in
     let soft = was.soft in
-    let here : m at ≡ false = no-and (owes_at gains.entries.items strikes a at) (must_at gains a at) unowed in
+    let here : m at ≡ false = no-and (owes_at gains strikes a at) (must_at gains a at) unowed in
     let free = gap-due gains strikes a from at gap in
     record {
-      is = was.is ∙ sym (least-over gains.entries.items m from (at + 1) (omega (arith, above)) (omega (arith, inside)) (λ k low_k high_k. elim (cases_lt k at) [
+      is = was.is ∙ sym (least-over (entries_of gains) m from (at + 1) (omega (arith, above)) (omega (arith, inside)) (λ k low_k high_k. elim (cases_lt k at) [
         | inl early ↦ free k low_k early
         | inr late ↦ let is : k ≡ at = omega (arith, late, high_k) in ap m is ∙ here
       ]));
@@ -394,20 +398,20 @@ least-passed gains strikes a from at least was above inside gap unowed =
       ];
     }
 
-is-due : (gains : Gains) (strikes : List Strike) (a : Account) (at : ℕ) → a.soft ≤ at → holds gains.musts 0 at ≡ true → owes_at gains.entries.items strikes a at ≡ true →
-    due (owes_at gains.entries.items strikes a) (must_at gains a) at ≡ true
+is-due : (gains : Gains) (strikes : List Strike) (a : Account) (at : ℕ) → a.soft ≤ at → holds gains.musts 0 at ≡ true → owes_at gains strikes a at ≡ true →
+    due (owes_at gains strikes a) (must_at gains a) at ≡ true
 is-due gains strikes a at soft held owed = ap₂ (λ x y. x && y) owed (sym (must-from gains a at soft) ∙ held)
 
-pub least-found : (gains : Gains) (strikes : List Strike) (a : Account) (from at moment : ℕ) (least : Option ℕ) → IsLeastTo gains strikes a from least → from ≤ at → at < length gains.entries.items →
-    ((k : ℕ) → from ≤ k → k < at → holds gains.musts 0 k ≡ false) → holds gains.musts 0 at ≡ true → owes_at gains.entries.items strikes a at ≡ true →
-    Some moment ≡ earliest ((entry_at gains.entries.items at).deadline ∷ option_to_list least) → gains.rises ≡ false → IsLeastTo gains strikes a (at + 1) (Some moment)
+pub least-found : (gains : Gains) (strikes : List Strike) (a : Account) (from at moment : ℕ) (least : Option ℕ) → IsLeastTo gains strikes a from least → from ≤ at → at < length (entries_of gains) →
+    ((k : ℕ) → from ≤ k → k < at → holds gains.musts 0 k ≡ false) → holds gains.musts 0 at ≡ true → owes_at gains strikes a at ≡ true →
+    Some moment ≡ earliest ((entry_at (entries_of gains) at).deadline ∷ option_to_list least) → gains.rises ≡ false → IsLeastTo gains strikes a (at + 1) (Some moment)
 least-found gains strikes a from at moment least was above inside gap held owed is falls =
-    let m = due (owes_at gains.entries.items strikes a) (must_at gains a) in
+    let m = due (owes_at gains strikes a) (must_at gains a) in
     let low = was.low in
     let soft = was.soft in
     record {
-      is = is ∙ ap (λ o. earliest ((entry_at gains.entries.items at).deadline ∷ option_to_list o)) was.is
-          ∙ sym (least-more gains.entries.items m from at above inside (gap-due gains strikes a from at gap) (is-due gains strikes a at (omega (arith, soft, above)) held owed));
+      is = is ∙ ap (λ o. earliest ((entry_at (entries_of gains) at).deadline ∷ option_to_list o)) was.is
+          ∙ sym (least-more (entries_of gains) m from at above inside (gap-due gains strikes a from at gap) (is-due gains strikes a at (omega (arith, soft, above)) held owed));
       low = omega (arith, low, above);
       soft = omega (arith, soft, above);
       within = omega (arith, inside);
@@ -415,18 +419,19 @@ least-found gains strikes a from at moment least was above inside gap held owed 
     }
 
 pub least-first_due : (gains : Gains) (strikes : List Strike) (a : Account) (from at moment : ℕ) (least : Option ℕ) → AreGains gains → IsLeastTo gains strikes a from least → from ≤ at →
-    at < length gains.entries.items → ((k : ℕ) → from ≤ k → k < at → holds gains.musts 0 k ≡ false) → holds gains.musts 0 at ≡ true → owes_at gains.entries.items strikes a at ≡ true →
-    Some moment ≡ earliest ((entry_at gains.entries.items at).deadline ∷ option_to_list least) → gains.rises ≡ true →
+    at < length (entries_of gains) → ((k : ℕ) → from ≤ k → k < at → holds gains.musts 0 k ≡ false) → holds gains.musts 0 at ≡ true → owes_at gains strikes a at ≡ true →
+    Some moment ≡ earliest ((entry_at (entries_of gains) at).deadline ∷ option_to_list least) → gains.rises ≡ true →
     Some moment ≡ earliest (debt_deadlines (account_debts gains strikes a))
 unfolding account_debts
 least-first_due gains strikes a from at moment least gained was above inside gap held owed is rises =
-    let entries = gains.entries.items in
-    let o = owes_at entries strikes a in
+    let entries = (entries_of gains) in
+    let o = owes_at gains strikes a in
     let m = due o (must_at gains a) in
     let soft = was.soft in
     let none : least ≡ None = was.is ∙ sym (least-start entries m from was.within (was.none rises)) in
     is ∙ ap (λ x. earliest ((entry_at entries at).deadline ∷ option_to_list x)) none
-    ∙ least-rising entries m at (gained.rises rises) inside (λ k early. elim (cases_lt k from) [
+    ∙ least-rising entries m at (λ k above_k below. rising-kept gains at k gained rises (left-kept gains at gained (owed-left gains strikes a at owed)) above_k (omega (arith, below, entries-long gains gained.long)))
+    inside (λ k early. elim (cases_lt k from) [
       | inl first ↦ was.none rises k first
       | inr later ↦ gap-due gains strikes a from at gap k later early
     ]) (is-due gains strikes a at (omega (arith, soft, above)) held owed)
@@ -437,12 +442,12 @@ pub least-last : (gains : Gains) (strikes : List Strike) (a : Account) (from at 
     ((k : ℕ) → from ≤ k → k < at → holds gains.musts 0 k ≡ false) → a.end ≤ at → least ≡ earliest (debt_deadlines (account_debts gains strikes a))
 unfolding account_debts
 least-last gains strikes a from at least was gap past =
-    let entries = gains.entries.items in
-    let o = owes_at entries strikes a in
+    let entries = (entries_of gains) in
+    let o = owes_at gains strikes a in
     let m = due o (must_at gains a) in
     was.is
     ∙ sym (least-end entries m from was.within (λ k later. elim (cases_lt k at) [
       | inl early ↦ gap-due gains strikes a from at gap k later early
-      | inr late ↦ no-and (o k) (must_at gains a k) (past-end entries strikes a k (omega (arith, late, past)))
+      | inr late ↦ no-and (o k) (must_at gains a k) (past-end gains strikes a k (omega (arith, late, past)))
     ]))
     ∙ sym (ap earliest (due-deadlines entries o (must_at gains a)))

@@ -8,6 +8,7 @@ ghost use Rattle.sip_ledger.specs.Runs.{AreRuns};
 
 mod account;
 mod gains;
+mod left;
 mod moved;
 mod strikes;
 
@@ -15,6 +16,7 @@ use crate::accounts::account::{
     Account, EMPTY, debts, earliest_must, expired, find, gained, place_for, same, without,
 };
 use crate::accounts::gains::Gains;
+use crate::accounts::left::{drop_front, let_go};
 use crate::accounts::moved::{held, move_all};
 use crate::accounts::strikes::Strike;
 use crate::debt::Debt;
@@ -28,6 +30,8 @@ pub struct Accounts {
     gains: Gains,
     strikes: Vec<Strike>,
     rows: Vec<Account>,
+    /// The message that was paid last, while what was gained of it may stand before what is owed of it.
+    paid: Option<u32>,
 }
 
 impl Model for Accounts {
@@ -51,6 +55,7 @@ impl Accounts {
             gains: Gains::new(alloc),
             strikes: Vec::new(alloc),
             rows: Vec::new(alloc),
+            paid: None,
         }
     }
 
@@ -130,6 +135,7 @@ impl Accounts {
         let account = self.rows[row];
         if let Some(place) = find(&self.gains, &self.strikes, account, message, moment) {
             self.rows[row] = without(&self.gains, &mut self.strikes, account, place)?;
+            self.paid = Some(message);
         }
         Ok(())
     }
@@ -157,7 +163,7 @@ impl Accounts {
         requires { row < length self.old }
         ensures { self.new ≡ set self.old row (map softened_debt (owed_in self.old row)) }
     {
-        let soft = self.gains.entries.len();
+        let soft = self.gains.end;
         self.rows[row] = Account {
             soft,
             ..self.rows[row]
@@ -227,14 +233,42 @@ impl Accounts {
         runs_of(alloc, &debts)
     }
 
-    /// Lets strikes that no row has any more go, where they are half of all. Where there is no memory for it all stays as it is.
+    /// Gives back what no row needs. It is to be called after each step: where many rows pay, what they paid is then looked at
+    /// once.
     pub fn tidy(&mut self, alloc: Global)
+        ensures { self.new ≡ self.old }
+    {
+        self.let_go_paid();
+        self.drop_front();
+        self.thin(alloc);
+    }
+
+    /// Lets the first gains of the message that was paid go, as far as no row owes them.
+    fn let_go_paid(&mut self)
+        ensures { self.new ≡ self.old }
+    {
+        if let Some(message) = self.paid {
+            let_go(&mut self.gains, &self.strikes, &self.rows, message);
+            self.paid = None;
+        }
+    }
+
+    /// Drops the gains before all that is owed, where they are more than half of those that are kept.
+    fn drop_front(&mut self)
+        ensures { self.new ≡ self.old }
+    {
+        drop_front(&mut self.gains, &self.strikes, &self.rows);
+    }
+
+    /// Lets strikes go that no row has, or that strike nothing that is left, where there are twice as many as rows have. Where there
+    /// is no memory for it all stays as it is.
+    fn thin(&mut self, alloc: Global)
         ensures { self.new ≡ self.old }
     {
         if self.strikes.len() / 2 <= held(&self.rows) {
             return;
         }
-        if let Ok(moved) = move_all(alloc, &self.strikes, &self.rows) {
+        if let Ok(moved) = move_all(alloc, &self.gains, &self.strikes, &self.rows) {
             self.strikes = moved.strikes;
             self.rows = moved.rows;
         }

@@ -5,7 +5,8 @@ ghost use Rattle.sip_ledger.specs.Debts.{counts_at, debt_deadlines, earliest};
 ghost use Rattle.sip_ledger.specs.Accounts.{worth_of};
 ghost use Rattle.sip_ledger.specs.Rows.{debt_of};
 ghost use Rattle.sip_ledger.specs.declared.accounts.account.Account.{Account};
-ghost use Rattle.sip_ledger.specs.inner.Accounts.{AreGains, IsAccount, IsExpiredTo, IsFirstPayable, IsNextGain, IsPassedTo, IsWithout, KeepsAccounts, SharesRest, account_debts, entry_at, must_at, owes_at, pays_at, strikes_of};
+ghost use Rattle.sip_ledger.specs.inner.Accounts.{AreGains, IsAccount, IsExpiredTo, IsFirstPayable, IsKept, IsNextGain, IsPassedTo, IsPlaceOf, IsWithout, KeepsAccounts, SharesRest, account_debts, entries_of, entry_at, is_gone, must_at, owes_at, pays_at, strikes_of};
+ghost use Rattle.sip_ledger.specs.inner.Indexes.{holds};
 
 use crate::accounts::gains::Gains;
 use crate::accounts::strikes::{Strike, end_by, put, struck_to};
@@ -46,11 +47,10 @@ pub(crate) fn own(strikes: &[Strike], account: Account) -> &[Strike]
 }
 
 /// Whether the account owes what was gained at the place.
-fn owes(gains: &Gains, strikes: &[Strike], account: Account, place: usize) -> bool
-    requires within { account.end ≤ length gains.now.entries.items }
-    requires first { account.first ≤ account.last }
-    requires last { account.last ≤ length strikes.now }
-    ensures { result ≡ owes_at gains.now.entries.items strikes.now account place }
+pub(crate) fn owes(gains: &Gains, strikes: &[Strike], account: Account, place: usize) -> bool
+    requires gained { AreGains gains.now }
+    requires account { IsAccount gains.now strikes.now account }
+    ensures { result ≡ owes_at gains.now strikes.now account place }
 {
     if place < account.start {
         return false;
@@ -58,21 +58,32 @@ fn owes(gains: &Gains, strikes: &[Strike], account: Account, place: usize) -> bo
     if account.end <= place {
         return false;
     }
-    match struck_to(own(strikes, account), gains.entry(place).message, place) {
-        Some(_) => false,
-        None => true,
+    !is_gone(gains, own(strikes, account), place)
+}
+
+/// Whether what was gained at the place is not left, or is struck.
+fn is_gone(gains: &Gains, strikes: &[Strike], place: usize) -> bool
+    requires gained { AreGains gains.now }
+    requires kept { IsKept gains.now place }
+    ensures { result ≡ is_gone gains.now strikes.now place }
+{
+    if !gains.is_left(place) {
+        return true;
+    }
+    match struck_to(strikes, gains.entry(place).message, place) {
+        Some(_) => true,
+        None => false,
     }
 }
 
 /// The first place from this one on at which the account owes something, or its end.
 fn next(gains: &Gains, strikes: &[Strike], account: Account, from: usize) -> usize
-    requires within { account.end ≤ length gains.now.entries.items }
-    requires first { account.first ≤ account.last }
-    requires last { account.last ≤ length strikes.now }
+    requires gained { AreGains gains.now }
+    requires account { IsAccount gains.now strikes.now account }
     requires from { from ≤ account.end }
     ensures within { (from ≤ result) × (result ≤ account.end) }
-    ensures before { (k : ℕ) → from ≤ k → k < result → owes_at gains.now.entries.items strikes.now account k ≡ false }
-    ensures is { result < account.end → owes_at gains.now.entries.items strikes.now account result ≡ true }
+    ensures before { (k : ℕ) → from ≤ k → k < result → owes_at gains.now strikes.now account k ≡ false }
+    ensures is { result < account.end → owes_at gains.now strikes.now account result ≡ true }
 {
     let mut place = from;
     while place < account.end && !owes(gains, strikes, account, place) {
@@ -105,10 +116,10 @@ pub(crate) fn without(
 ) -> Result<Account, AllocError>
     requires gained { AreGains gains.now }
     requires account { IsAccount gains.now strikes.old.items account }
-    requires owed { owes_at gains.now.entries.items strikes.old.items account place ≡ true }
+    requires owed { owes_at gains.now strikes.old.items account place ≡ true }
     ensures kept { take (length strikes.old.items) strikes.new.items ≡ strikes.old.items }
     ensures account { IfOk result (IsAccount gains.now strikes.new.items) }
-    ensures owed { IfOk result (λ new. IsWithout place (owes_at gains.now.entries.items strikes.old.items account) (owes_at gains.now.entries.items strikes.new.items new)) }
+    ensures owed { IfOk result (λ new. IsWithout place (owes_at gains.now strikes.old.items account) (owes_at gains.now strikes.new.items new)) }
     ensures soft { IfOk result (λ new. new.soft ≡ account.soft) }
 {
     let rest = account.end - place;
@@ -145,8 +156,8 @@ pub(crate) fn find(
 ) -> Option<usize>
     requires gained { AreGains gains.now }
     requires account { IsAccount gains.now strikes.now account }
-    ensures found { IfSome result (IsFirstPayable gains.now.entries.items (owes_at gains.now.entries.items strikes.now account) message moment) }
-    ensures none { IfNone result ((k : ℕ) → owes_at gains.now.entries.items strikes.now account k ≡ true → pays_at gains.now.entries.items message moment k ≡ false) }
+    ensures found { IfSome result (IsFirstPayable (entries_of gains.now) (owes_at gains.now strikes.now account) message moment) }
+    ensures none { IfNone result ((k : ℕ) → owes_at gains.now strikes.now account k ≡ true → pays_at (entries_of gains.now) message moment k ≡ false) }
 {
     let own = own(strikes, account);
     let mut from = account.start;
@@ -187,13 +198,13 @@ fn expired_at(
 ) -> Result<Account, AllocError>
     requires gained { AreGains gains.now }
     requires account { IsAccount gains.now strikes.old.items account }
-    requires place { place < account.end }
+    requires kept { IsKept gains.now place }
     ensures kept { take (length strikes.old.items) strikes.new.items ≡ strikes.old.items }
     ensures account { IfOk result (IsAccount gains.now strikes.new.items) }
     ensures soft { IfOk result (λ new. new.soft ≡ account.soft) }
     ensures gone { IfOk result (λ new. (a : Account) (o : ℕ → Bool) → account.soft ≡ a.soft →
-        IsExpiredTo moment gains.now.entries.items (must_at gains.now a) o (owes_at gains.now.entries.items strikes.old.items account) place →
-        IsExpiredTo moment gains.now.entries.items (must_at gains.now a) o (owes_at gains.now.entries.items strikes.new.items new) (place + 1)) }
+        IsExpiredTo moment (entries_of gains.now) (must_at gains.now a) o (owes_at gains.now strikes.old.items account) place →
+        IsExpiredTo moment (entries_of gains.now) (must_at gains.now a) o (owes_at gains.now strikes.new.items new) (place + 1)) }
 {
     if moment <= gains.entry(place).deadline {
         return Ok(account);
@@ -222,6 +233,9 @@ pub(crate) fn expired(
     ensures account { IfOk result (IsAccount gains.now strikes.new.items) }
     ensures debts { IfOk result (λ new. account_debts gains.now strikes.new.items new ≡ filter (counts_at moment) (account_debts gains.now strikes.old.items account)) }
 {
+    if account.start == account.end {
+        return Ok(account);
+    }
     let mut left = account;
     let mut place = account.start;
     while place < left.end {
@@ -250,7 +264,7 @@ pub(crate) fn place_for(
     if let Some(place) = shared_place(gains, strikes, account, debt) {
         return Ok(place);
     }
-    let place = gains.entries.len();
+    let place = gains.end;
     gains.push(debt)?;
     Ok(place)
 }
@@ -273,9 +287,10 @@ fn shared_place(gains: &Gains, strikes: &[Strike], account: Account, debt: Debt)
 
 /// Whether the account, which ends before the place, can gain the debt there, where its message was gained.
 fn takes(gains: &Gains, strikes: &[Strike], account: Account, debt: Debt, place: usize) -> bool
+    requires gained { AreGains gains.now }
     requires account { IsAccount gains.now strikes.now account }
-    requires within { place < length gains.now.entries.items }
-    requires message { (entry_at gains.now.entries.items place).message ≡ debt.message }
+    requires place { IsPlaceOf gains.now debt.message place }
+    requires left { holds gains.now.messages debt.message place ≡ true }
     requires end { account.end ≤ place }
     requires soft { account.soft ≤ place }
     ensures { OnTrue result (IsNextGain gains.now strikes.now account debt place) }
@@ -300,12 +315,12 @@ fn pass_to(
     place: usize,
 ) -> Result<Account, AllocError>
     requires gained { AreGains gains.now }
+    requires account { IsAccount gains.now strikes.old.items account }
+    requires some { account.start < account.end }
     requires end { account.end ≤ place }
-    requires within { place ≤ length gains.now.entries.items }
-    requires first { account.first ≤ account.last }
-    requires last { account.last ≤ length strikes.old.items }
+    requires within { place ≤ length (entries_of gains.now) }
     ensures kept { take (length strikes.old.items) strikes.new.items ≡ strikes.old.items }
-    ensures passed { IfOk result (IsPassedTo gains.now.entries.items place strikes.old.items strikes.new.items account) }
+    ensures passed { IfOk result (IsPassedTo gains.now place strikes.old.items strikes.new.items account) }
 {
     let mut passed = account;
     for at in account.end..place {
@@ -385,8 +400,9 @@ fn earlier(moment: u64, other: Option<u64>) -> u64
 
 /// What the account owes at a place, as far as it owes something there.
 fn debt_for(gains: &Gains, account: Account, place: usize) -> Debt
-    requires { place < length gains.now.entries.items }
-    ensures { result ≡ debt_of (entry_at gains.now.entries.items place) (must_at gains.now account place) }
+    requires gained { AreGains gains.now }
+    requires kept { IsKept gains.now place }
+    ensures { result ≡ debt_of (entry_at (entries_of gains.now) place) (must_at gains.now account place) }
 {
     let entry = gains.entry(place);
     Debt {
@@ -414,6 +430,7 @@ fn shares_rest(strikes: &[Strike], one: Account, other: Account, place: usize) -
 
 /// Whether two accounts owe the same.
 pub(crate) fn same(gains: &Gains, strikes: &[Strike], one: Account, other: Account) -> bool
+    requires gained { AreGains gains.now }
     requires one { IsAccount gains.now strikes.now one }
     requires other { IsAccount gains.now strikes.now other }
     ensures { IsTrue result ↔ (account_debts gains.now strikes.now one ≡ account_debts gains.now strikes.now other) }
@@ -443,7 +460,8 @@ pub(crate) fn debts(
     strikes: &[Strike],
     account: Account,
 ) -> Result<Vec<Debt>, AllocError>
-    requires { IsAccount gains.now strikes.now account }
+    requires gained { AreGains gains.now }
+    requires account { IsAccount gains.now strikes.now account }
     ensures { IfOk result (λ debts. debts.items ≡ account_debts gains.now strikes.now account) }
 {
     let mut debts = Vec::new(alloc);

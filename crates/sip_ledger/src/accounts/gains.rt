@@ -1,6 +1,6 @@
 //! What the rows gained: one list for all.
-ghost use Rattle.std.specs.Prelude.{◌≡◌, ◌≢◌, ◌<◌, ◌≤◌, ◌++◌, ◌∷◌, ℕ, [], IfSome, IfNone, OnOk, OnErr, length, true, false};
-ghost use Rattle.sip_ledger.specs.inner.Accounts.{AreGains, IsGain, IsNoted, entry_at};
+ghost use Rattle.std.specs.Prelude.{◌≡◌, ◌<◌, ◌≤◌, ◌+◌, ◌==◌, ◌&&◌, ◌++◌, ◌∷◌, ℕ, [], IfSome, IfNone, OnOk, OnErr, cond, drop, length, true, false};
+ghost use Rattle.sip_ledger.specs.inner.Accounts.{AreGains, AreSameGains, IsDropped, IsGain, IsKept, IsLetGo, IsNoted, IsPlaceOf, entries_of, entry_at, is_left};
 ghost use Rattle.sip_ledger.specs.inner.Indexes.{holds};
 ghost use Rattle.sip_ledger.specs.inner.Places.{AreRising};
 
@@ -8,16 +8,18 @@ use crate::debt::{Debt, Entry};
 use crate::index::Index;
 use std::alloc::{AllocError, Global};
 
-/// What was gained, in order. A place is the number of a gain.
+/// What was gained, in order. A place is the number of a gain: it stays when gains before it are dropped.
 #[derive(Debug, Drop)]
 pub(crate) struct Gains {
-    /// The message and the deadline of each gain.
+    /// The message and the deadline of each gain that is kept: of the last ones.
     pub entries: Vec<Entry>,
-    /// The places under the messages.
+    /// How many gains there were.
+    pub end: usize,
+    /// The places of the gains that are left, under the messages.
     pub messages: Index,
     /// The places of what must be sent, under 0.
     pub musts: Index,
-    /// Whether no deadline is below the one before it.
+    /// Whether no deadline is below the one before it, as far as gains are kept.
     pub rises: bool,
 }
 
@@ -25,22 +27,42 @@ impl Gains {
     /// Nothing was gained.
     pub(crate) fn new(alloc: Global) -> Self
         ensures gained { AreGains result }
-        ensures none { result.entries.items ≡ [] }
+        ensures none { entries_of result ≡ [] }
     {
         Gains {
             entries: Vec::new(alloc),
+            end: 0,
             messages: Index::new(alloc),
             musts: Index::new(alloc),
             rises: true,
         }
     }
 
+    /// The first place whose gain is kept.
+    pub(crate) fn first(&self) -> usize
+        requires { AreGains self.now }
+        ensures { result + length self.now.entries.items ≡ self.now.end }
+    {
+        self.end - self.entries.len()
+    }
+
     /// The gain at the place.
     pub(crate) fn entry(&self, place: usize) -> Entry
-        requires { place < length self.now.entries.items }
-        ensures { result ≡ entry_at self.now.entries.items place }
+        requires gained { AreGains self.now }
+        requires kept { IsKept self.now place }
+        ensures { result ≡ entry_at (entries_of self.now) place }
     {
-        self.entries[place]
+        self.entries[place - (self.end - self.entries.len())]
+    }
+
+    /// Whether the gain at the place is left.
+    pub(crate) fn is_left(&self, place: usize) -> bool
+        requires gained { AreGains self.now }
+        requires kept { IsKept self.now place }
+        ensures { result ≡ is_left self.now place }
+    {
+        let message = self.entry(place).message;
+        self.messages.has(u64::from(message), place as u64)
     }
 
     /// Puts a gain after the others. On an error they are as before.
@@ -48,28 +70,33 @@ impl Gains {
         requires { AreGains self.old }
         ensures gained { AreGains self.new }
         ensures ok { OnOk result (IsGain debt self.old self.new) }
-        ensures err { OnErr result ((self.new.entries.items ≡ self.old.entries.items) × (self.new.musts ≡ self.old.musts)) }
+        ensures err { OnErr result (AreSameGains self.old self.new) }
     {
+        if self.end == usize::MAX {
+            return Err(AllocError);
+        }
         let entry = Entry {
             message: debt.message,
             deadline: debt.deadline,
         };
-        let place = self.entries.len() as u64;
+        let place = self.end as u64;
         let rises = rise(&self.entries, self.rises, entry);
         self.entries.reserve(1)?;
         note(&mut self.messages, &mut self.musts, place, debt)?;
         self.rises = rises;
         self.entries.push_reserved(entry);
+        self.end += 1;
         Ok(())
     }
 
-    /// The first place of the message from this one on.
+    /// The first place of the message from this one on that is left.
     pub(crate) fn next(&self, message: u32, from: usize) -> Option<usize>
         requires { AreGains self.now }
-        ensures within { IfSome result (λ at. (from ≤ at) × (at < length self.now.entries.items)) }
-        ensures is { IfSome result (λ at. (entry_at self.now.entries.items at).message ≡ message) }
-        ensures before { IfSome result (λ at. (k : ℕ) → from ≤ k → k < at → (entry_at self.now.entries.items k).message ≢ message) }
-        ensures none { IfNone result ((k : ℕ) → from ≤ k → k < length self.now.entries.items → (entry_at self.now.entries.items k).message ≢ message) }
+        ensures from { IfSome result (λ at. from ≤ at) }
+        ensures is { IfSome result (λ at. IsPlaceOf self.now message at) }
+        ensures left { IfSome result (λ at. holds self.now.messages message at ≡ true) }
+        ensures before { IfSome result (λ at. (k : ℕ) → from ≤ k → k < at → holds self.now.messages message k ≡ false) }
+        ensures none { IfNone result ((k : ℕ) → from ≤ k → holds self.now.messages message k ≡ false) }
     {
         match self.messages.next(u64::from(message), from as u64) {
             Some(at) => Some(at as usize),
@@ -80,7 +107,7 @@ impl Gains {
     /// The first place from this one on of what must be sent.
     pub(crate) fn next_must(&self, from: usize) -> Option<usize>
         requires { AreGains self.now }
-        ensures within { IfSome result (λ at. (from ≤ at) × (at < length self.now.entries.items)) }
+        ensures within { IfSome result (λ at. (from ≤ at) × (at < self.now.end)) }
         ensures is { IfSome result (λ at. holds self.now.musts 0 at ≡ true) }
         ensures before { IfSome result (λ at. (k : ℕ) → from ≤ k → k < at → holds self.now.musts 0 k ≡ false) }
         ensures none { IfNone result ((k : ℕ) → from ≤ k → holds self.now.musts 0 k ≡ false) }
@@ -90,6 +117,41 @@ impl Gains {
             None => None,
         }
     }
+
+    /// Lets the gain at the place go: it is not left any more.
+    pub(crate) fn let_go(&mut self, place: usize)
+        requires gained { AreGains self.old }
+        requires kept { IsKept self.old place }
+        ensures gained { AreGains self.new }
+        ensures gone { IsLetGo place self.old self.new }
+    {
+        let message = self.entry(place).message;
+        self.messages.take(u64::from(message), place as u64);
+        self.musts.take(0, place as u64);
+    }
+
+    /// Drops the gains before the place, of which none is left.
+    pub(crate) fn drop_to(&mut self, place: usize)
+        requires gained { AreGains self.old }
+        requires from { self.old.end ≤ place + length self.old.entries.items }
+        requires within { place ≤ self.old.end }
+        requires none { (m k : ℕ) → k < place → holds self.old.messages m k ≡ false }
+        ensures gained { AreGains self.new }
+        ensures dropped { IsDropped place self.old self.new }
+    {
+        let count = place - (self.end - self.entries.len());
+        drop_first(&mut self.entries, count);
+    }
+}
+
+/// Drops the first entries.
+fn drop_first(entries: &mut Vec<Entry>, count: usize)
+    requires { count ≤ length entries.old.items }
+    ensures { entries.new.items ≡ drop count entries.old.items }
+{
+    let kept = entries.len() - count;
+    entries.copy_within(count.., 0);
+    entries.truncate(kept);
 }
 
 /// Puts the place of a gain under its message, and among those of what must be sent if it must. On an error it stands nowhere.

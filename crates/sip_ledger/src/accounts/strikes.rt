@@ -2,7 +2,7 @@
 ghost use Rattle.std.specs.Prelude.{◌≡◌, ◌<◌, ◌≤◌, ◌++◌, ℕ, true, false, IfOk, IfSome, IfNone, OnOk, OnErr, filter, length, take, nat_lt};
 ghost use Rattle.std.specs.Bool.{OnTrue, OnFalse};
 ghost use Rattle.sip_ledger.specs.Ledgers.{from_to};
-ghost use Rattle.sip_ledger.specs.inner.Accounts.{AreGains, IsStruckAt, IsWritten, Lengthens, Reaches, is_out, is_struck};
+ghost use Rattle.sip_ledger.specs.inner.Accounts.{AreGains, IsKept, IsStruckAt, IsWritten, Lengthens, Reaches, is_out, is_struck};
 
 use crate::accounts::account::Account;
 use crate::accounts::gains::Gains;
@@ -70,12 +70,12 @@ fn copy_some(
     Ok(())
 }
 
-/// Makes one of the strikes from the first on longer so that it strikes what was gained at the place too, and nothing else that was gained, if
+/// Makes one of the strikes from the first on longer so that it strikes what was gained at the place too, and nothing else that is left, if
 /// there is one of its message that reaches up to it.
 fn lengthen(gains: &Gains, strikes: &mut [Strike], first: usize, place: usize) -> bool
     requires gained { AreGains gains.now }
-    requires within { place < length gains.now.entries.items }
-    ensures found { OnTrue result (Lengthens gains.now.entries.items place first strikes.old strikes.new) }
+    requires kept { IsKept gains.now place }
+    ensures found { OnTrue result (Lengthens gains.now place first strikes.old strikes.new) }
     ensures none { OnFalse result (strikes.new ≡ strikes.old) }
 {
     for at in first..strikes.len() {
@@ -87,11 +87,11 @@ fn lengthen(gains: &Gains, strikes: &mut [Strike], first: usize, place: usize) -
     false
 }
 
-/// Whether the strike is of the message that was gained at the place, and ends where nothing else of it was gained before the place.
+/// Whether the strike is of the message that was gained at the place, and ends where nothing else of it is left before the place.
 fn reaches(gains: &Gains, strike: Strike, place: usize) -> bool
     requires gained { AreGains gains.now }
-    requires within { place < length gains.now.entries.items }
-    ensures { OnTrue result (Reaches gains.now.entries.items place strike) }
+    requires kept { IsKept gains.now place }
+    ensures { OnTrue result (Reaches gains.now place strike) }
 {
     if strike.message != gains.entry(place).message || place < strike.from {
         return false;
@@ -110,11 +110,11 @@ pub(crate) fn put(
     place: usize,
 ) -> Result<Account, AllocError>
     requires gained { AreGains gains.now }
-    requires within { place < length gains.now.entries.items }
+    requires kept { IsKept gains.now place }
     requires first { account.first ≤ account.last }
     requires last { account.last ≤ length strikes.old.items }
     ensures kept { take (length strikes.old.items) strikes.new.items ≡ strikes.old.items }
-    ensures struck { IfOk result (IsStruckAt gains.now.entries.items place strikes.old.items strikes.new.items account) }
+    ensures struck { IfOk result (IsStruckAt gains.now place strikes.old.items strikes.new.items account) }
 {
     let first = strikes.len();
     if write(gains, strikes, account, place).is_err() {
@@ -137,10 +137,10 @@ fn write(
     place: usize,
 ) -> Result<(), AllocError>
     requires gained { AreGains gains.now }
-    requires within { place < length gains.now.entries.items }
+    requires kept { IsKept gains.now place }
     requires first { account.first ≤ account.last }
     requires last { account.last ≤ length strikes.old.items }
-    ensures ok { OnOk result (IsWritten gains.now.entries.items place strikes.old.items strikes.new.items account) }
+    ensures ok { OnOk result (IsWritten gains.now place strikes.old.items strikes.new.items account) }
     ensures err { OnErr result (take (length strikes.old.items) strikes.new.items ≡ strikes.old.items) }
 {
     let first = strikes.len();

@@ -8,8 +8,8 @@ index-requires c =
     let s = c.self.inside in
     omega (arith, row-inside s.gains s.strikes.items s.rows.items c.args.self.now c.args.row c.self.view_is c.requires, s.rows.ok.0)
 
-pub debts-requires : goal.debts-requires
-debts-requires c =
+pub debts-requires-clause-account : goal.debts-requires-clause-account
+debts-requires-clause-account c =
     let s = c.self.inside in
     let is = account-at s.gains s.strikes.items s.rows.items c.args.self.now c.args.row c.index.result.now c.self.invariant c.self.view_is c.requires c.index.ensures in
     rw c.deref.ensures.value is.0

@@ -1,7 +1,9 @@
-use Rattle.std.proofs.Common.{◌≡◌, ◌<◌, length, map, set, ap, ◌∙◌, arith}
+use Rattle.std.proofs.Common.{◌≡◌, ◌<◌, length, map, set, ap, sym, ◌∙◌, arith}
 use Rattle.std.proofs.Math.Seq.{take-length}
 use Rattle.sip_ledger.specs.Accounts.{owed_in}
 use Rattle.sip_ledger.specs.Debts.{softened_debt}
+use Rattle.sip_ledger.specs.inner.Accounts.{entries_of}
+use Rattle.sip_ledger.proofs.LeftLemmas.{entries-long}
 use Rattle.sip_ledger.proofs.SeenLemmas.{account-at, changed-to, row-inside, softened-account, softened_account}
 use Rattle.sip_ledger.proofs.accounts.Accounts.soften.Goals as goal
 
@@ -20,8 +22,8 @@ invariant_of-self c =
     let s = c.self.inside in
     let is = account-at s.gains s.strikes.items s.rows.items c.args.self.now c.args.row c.index.result.now c.self.invariant c.self.view_is c.requires c.index.ensures in
     let soft = softened-account s.gains s.strikes.items c.index.result.now is.0 in
-    let long : c.len-soft.result ≡ length s.gains.entries.items = c.len-soft.ensures ∙ s.gains.entries.ok.0 in
-    let changed = changed-to s.gains s.strikes.items s.strikes.items s.rows.items c.args.self.now c.args.row (softened_account (length s.gains.entries.items) c.index.result.now) (map softened_debt (owed_in c.args.self.now c.args.row)) (take-length s.strikes.items) c.self.invariant c.self.view_is soft.0 (soft.1 ∙ ap (map softened_debt) is.1) in
+    let long : s.gains.end ≡ length (entries_of s.gains) = sym (entries-long s.gains c.self.invariant.gained.long) in
+    let changed = changed-to s.gains s.strikes.items s.strikes.items s.rows.items c.args.self.now c.args.row (softened_account (length (entries_of s.gains)) c.index.result.now) (map softened_debt (owed_in c.args.self.now c.args.row)) (take-length s.strikes.items) c.self.invariant c.self.view_is soft.0 (soft.1 ∙ ap (map softened_debt) is.1) in
     rw long changed.0
 
 pub returns : goal.returns
@@ -29,6 +31,6 @@ returns c =
     let s = c.self.inside in
     let is = account-at s.gains s.strikes.items s.rows.items c.args.self.now c.args.row c.index.result.now c.self.invariant c.self.view_is c.requires c.index.ensures in
     let soft = softened-account s.gains s.strikes.items c.index.result.now is.0 in
-    let long : c.len-soft.result ≡ length s.gains.entries.items = c.len-soft.ensures ∙ s.gains.entries.ok.0 in
-    let changed = changed-to s.gains s.strikes.items s.strikes.items s.rows.items c.args.self.now c.args.row (softened_account (length s.gains.entries.items) c.index.result.now) (map softened_debt (owed_in c.args.self.now c.args.row)) (take-length s.strikes.items) c.self.invariant c.self.view_is soft.0 (soft.1 ∙ ap (map softened_debt) is.1) in
+    let long : s.gains.end ≡ length (entries_of s.gains) = sym (entries-long s.gains c.self.invariant.gained.long) in
+    let changed = changed-to s.gains s.strikes.items s.strikes.items s.rows.items c.args.self.now c.args.row (softened_account (length (entries_of s.gains)) c.index.result.now) (map softened_debt (owed_in c.args.self.now c.args.row)) (take-length s.strikes.items) c.self.invariant c.self.view_is soft.0 (soft.1 ∙ ap (map softened_debt) is.1) in
     rw long changed.1

@@ -1,22 +1,24 @@
-use Rattle.std.proofs.Common.{◌≤◌, sym, arith}
-use Rattle.sip_ledger.proofs.AccountLemmas.{past-end}
-use Rattle.sip_ledger.proofs.FindLemmas.{owed-here, struck-unowed}
+use Rattle.std.proofs.Common.{◌≡◌, ◌≤◌, ◌∙◌, ap, not, sym, arith}
+use Rattle.std.specs.Prelude.{Bool, false, true}
+use Rattle.sip_ledger.specs.inner.Accounts.{is_gone, owes_at, strikes_of}
+use Rattle.sip_ledger.proofs.AccountLemmas.{kept-from, past-end}
+use Rattle.sip_ledger.proofs.FindLemmas.{owes-inside}
 use Rattle.sip_ledger.proofs.WithoutLemmas.{before-start}
 use Rattle.sip_ledger.proofs.accounts.account.owes.Goals as goal
 
 pub returns-then-place-account : goal.returns-then-place-account
-returns-then-place-account c = sym (before-start c.args.gains.now.entries.items c.args.strikes.now c.args.account c.args.place c.if-place-account.true)
+returns-then-place-account c = sym (before-start c.args.gains.now c.args.strikes.now c.args.account c.args.place c.if-place-account.true)
 
 pub returns-then-account-place : goal.returns-then-account-place
-returns-then-account-place c = sym (past-end c.args.gains.now.entries.items c.args.strikes.now c.args.account c.args.place c.if-account-place.true)
+returns-then-account-place c = sym (past-end c.args.gains.now c.args.strikes.now c.args.account c.args.place c.if-account-place.true)
 
-pub returns-in-Some : goal.returns-in-Some
-returns-in-Some c =
-    let some = rw (c.own.ensures, c.entry.ensures) at c.in-Some.ensures.some in
-    let here : c.args.place ≤ c.args.place = omega arith in
-    sym (struck-unowed c.args.gains.now.entries.items c.args.strikes.now c.args.account c.args.place (some.1 c.args.place here some.0))
+pub is_gone-requires-clause-kept : goal.is_gone-requires-clause-kept
+is_gone-requires-clause-kept c =
+    let low = c.if-place-account.false in
+    let high = c.if-account-place.false in
+    kept-from c.args.gains.now c.args.strikes.now c.args.account c.args.place c.requires.gained c.requires.account (omega (arith, low, high)) low high
 
-pub returns-in-None : goal.returns-in-None
-returns-in-None c =
-    let none = rw (c.own.ensures, c.entry.ensures) at c.in-None.ensures.none in
-    sym (owed-here c.args.gains.now.entries.items c.args.strikes.now c.args.account c.args.place c.if-place-account.false c.if-account-place.false none)
+pub returns : goal.returns
+returns c =
+    ap not (rw c.own.ensures at c.is_gone.ensures)
+    ∙ sym (owes-inside c.args.gains.now c.args.strikes.now c.args.account c.args.place c.if-place-account.false c.if-account-place.false)

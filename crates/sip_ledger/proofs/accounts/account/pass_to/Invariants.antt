@@ -5,4 +5,4 @@ use Rattle.sip_ledger.proofs.accounts.account.pass_to.Given as goal
 -- what was gained before the index is struck
 abbrev pub invariant-loop-at : goal.invariant-loop-at
 invariant-loop-at l = (take (length l.fn.strikes.items) l.strikes.items ≡ l.fn.strikes.items)
-    × IsPassedTo l.gains.entries.items l.at l.fn.strikes.items l.strikes.items l.fn.account l.passed
+    × IsPassedTo l.gains l.at l.fn.strikes.items l.strikes.items l.fn.account l.passed

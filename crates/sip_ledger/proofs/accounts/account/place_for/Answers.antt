@@ -3,7 +3,7 @@ use Rattle.sip_ledger.proofs.GainedLemmas.{gain-keeps}
 use Rattle.sip_ledger.proofs.accounts.account.place_for.Goals as goal
 
 pub returns-in_err-push-clause-kept : goal.returns-in_err-push-clause-kept
-returns-in_err-push-clause-kept c = same-keeps c.args.gains.now c.push.new.self c.in_err-push.ensures.err.0 c.in_err-push.ensures.err.1
+returns-in_err-push-clause-kept c = same-keeps c.args.gains.now c.push.new.self c.in_err-push.ensures.err
 
 pub returns-clause-kept : goal.returns-clause-kept
 returns-clause-kept c = gain-keeps c.args.gains.now c.push.new.self c.args.debt c.in_ok-push.ensures.ok

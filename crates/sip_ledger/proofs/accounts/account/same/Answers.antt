@@ -1,10 +1,23 @@
 use Rattle.std.proofs.Common.{refl, rules, ◌≡◌, ◌<◌, ◌≤◌, ◌∙◌, sym, arith}
+use Rattle.sip_ledger.proofs.AccountLemmas.{kept-from}
 use Rattle.sip_ledger.proofs.ToldLemmas.{at-more, at-start, end-other, end-same, rest-same}
 use Rattle.sip_ledger.proofs.accounts.account.same.Goals.{then-loop-at-test+else-beside-other, else-loop-at-test}
 use Rattle.sip_ledger.proofs.accounts.account.same.Goals as goal
 
 pub loop-at-init : goal.loop-at-init
 loop-at-init c = at-start c.args.gains.now c.args.strikes.now c.args.one c.args.other c.requires.one c.requires.other
+
+pub debt_for-requires-clause-kept : goal.debt_for-requires-clause-kept
+debt_for-requires-clause-kept c =
+    let low = c.loop-at.invariant.low in
+    let inside = c.loop-at-test.true in
+    kept-from c.args.gains.now c.args.strikes.now c.args.one c.loop-at.at c.requires.gained c.requires.one (omega (arith, low, inside)) low inside
+
+pub debt_for-requires-2-clause-kept : goal.debt_for-requires-2-clause-kept
+debt_for-requires-2-clause-kept c =
+    let low = c.loop-at.invariant.low_beside in
+    let inside = c.if-beside-other.true in
+    kept-from c.args.gains.now c.args.strikes.now c.args.other c.loop-at.beside c.requires.gained c.requires.other (omega (arith, low, inside)) low inside
 
 pub loop-at-preserved : goal.loop-at-preserved
 loop-at-preserved c =

@@ -1,20 +1,19 @@
 use Rattle.std.proofs.Common.{◌≡◌, ◌+◌, ◌≤◌, ◌∙◌, sym, ap, refl, arith}
 use Rattle.sip_ledger.specs.declared.debt.Entry.{Entry}
 use Rattle.sip_ledger.specs.Accounts.{worth_of}
+use Rattle.sip_ledger.proofs.LeftLemmas.{left-kept, owed-left}
 use Rattle.sip_ledger.proofs.AccountLemmas.{owed-within}
 use Rattle.sip_ledger.proofs.WithoutLemmas.{without-first, without-last, without-middle}
 use Rattle.sip_ledger.proofs.accounts.account.without.Goals as goal
 
 pub overflow_sub-rest : goal.overflow_sub-rest
-overflow_sub-rest c = omega (arith, owed-within c.args.gains.now.entries.items c.args.strikes.now.items c.args.account c.args.place c.requires.owed)
+overflow_sub-rest c = omega (arith, owed-within c.args.gains.now c.args.strikes.now.items c.args.account c.args.place c.requires.owed)
 
-pub entry-entry-requires : goal.entry-entry-requires
-entry-entry-requires c =
-    let end = c.requires.account.end in
-    omega (arith, owed-within c.args.gains.now.entries.items c.args.strikes.now.items c.args.account c.args.place c.requires.owed, end)
+pub entry-entry-requires-clause-kept : goal.entry-entry-requires-clause-kept
+entry-entry-requires-clause-kept c = left-kept c.args.gains.now c.args.place c.requires.gained (owed-left c.args.gains.now c.args.strikes.now.items c.args.account c.args.place c.requires.owed)
 
 pub next-start-requires-clause-from : goal.next-start-requires-clause-from
-next-start-requires-clause-from c = omega (arith, owed-within c.args.gains.now.entries.items c.args.strikes.now.items c.args.account c.args.place c.requires.owed)
+next-start-requires-clause-from c = omega (arith, owed-within c.args.gains.now c.args.strikes.now.items c.args.account c.args.place c.requires.owed)
 
 pub returns-then-place-account-clause-account : goal.returns-then-place-account-clause-account
 returns-then-place-account-clause-account c =
@@ -31,21 +30,19 @@ returns-then-place-account-clause-owed c =
 pub returns-then-rest-eq1-clause-account : goal.returns-then-rest-eq1-clause-account
 returns-then-rest-eq1-clause-account c =
     let last : c.args.place + 1 ≡ c.args.account.end =
-    omega (arith, owed-within c.args.gains.now.entries.items c.args.strikes.now.items c.args.account c.args.place c.requires.owed) in
+    omega (arith, owed-within c.args.gains.now c.args.strikes.now.items c.args.account c.args.place c.requires.owed) in
     (without-last c.args.gains.now c.args.strikes.now.items c.args.account c.args.place c.worth.result _ c.requires.account c.requires.owed c.if-place-account.false last
     (c.worth.ensures ∙ ap (λ (e : Entry). worth_of e.message e.deadline) c.entry-entry.ensures) refl).0
 
 pub returns-then-rest-eq1-clause-owed : goal.returns-then-rest-eq1-clause-owed
 returns-then-rest-eq1-clause-owed c =
     let last : c.args.place + 1 ≡ c.args.account.end =
-    omega (arith, owed-within c.args.gains.now.entries.items c.args.strikes.now.items c.args.account c.args.place c.requires.owed) in
+    omega (arith, owed-within c.args.gains.now c.args.strikes.now.items c.args.account c.args.place c.requires.owed) in
     (without-last c.args.gains.now c.args.strikes.now.items c.args.account c.args.place c.worth.result _ c.requires.account c.requires.owed c.if-place-account.false last
     (c.worth.ensures ∙ ap (λ (e : Entry). worth_of e.message e.deadline) c.entry-entry.ensures) refl).1
 
-pub put-requires-clause-within : goal.put-requires-clause-within
-put-requires-clause-within c =
-    let end = c.requires.account.end in
-    omega (arith, owed-within c.args.gains.now.entries.items c.args.strikes.now.items c.args.account c.args.place c.requires.owed, end)
+pub put-requires-clause-kept : goal.put-requires-clause-kept
+put-requires-clause-kept c = left-kept c.args.gains.now c.args.place c.requires.gained (owed-left c.args.gains.now c.args.strikes.now.items c.args.account c.args.place c.requires.owed)
 
 pub returns-clause-account : goal.returns-clause-account
 returns-clause-account c =

@@ -1,7 +1,10 @@
-use Rattle.std.proofs.Common.{true}
-use Rattle.sip_ledger.proofs.AccountLemmas.{none-gained}
+use Rattle.std.proofs.Common.{refl, true}
+use Rattle.sip_ledger.proofs.LeftLemmas.{none-entries, none-gained}
 use Rattle.sip_ledger.proofs.accounts.gains.Gains.new.Goals as goal
 
 pub returns-clause-gained : goal.returns-clause-gained
 returns-clause-gained c =
-    none-gained (record { entries = c.new.result; messages = c.new-2.result; musts = c.new-3.result; rises = true }) c.new.ensures.items c.new-2.ensures c.new-3.ensures
+    none-gained (record { entries = c.new.result; end = 0; messages = c.new-2.result; musts = c.new-3.result; rises = true }) c.new.ensures.items refl c.new-2.ensures c.new-3.ensures
+
+pub returns-clause-none : goal.returns-clause-none
+returns-clause-none c = none-entries (record { entries = c.new.result; end = 0; messages = c.new-2.result; musts = c.new-3.result; rises = true }) c.new.ensures.items refl

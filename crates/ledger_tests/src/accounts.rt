@@ -233,7 +233,7 @@ fn change_rows(
             Ok(())
         }
         _ => {
-            played.accounts.tidy(rt.alloc());
+            played.accounts.tidy();
             Ok(())
         }
     }

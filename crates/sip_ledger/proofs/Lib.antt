@@ -29,3 +29,4 @@ pub mod ExpiringLemmas
 pub mod ToldLemmas
 pub mod SeenLemmas
 pub mod MovedLemmas
+pub mod LetGoLemmas

@@ -235,12 +235,12 @@ impl Accounts {
 
     /// Gives back what no row needs. It is to be called after each step: where many rows pay, what they paid is then looked at
     /// once.
-    pub fn tidy(&mut self, alloc: Global)
+    pub fn tidy(&mut self)
         ensures { self.new ≡ self.old }
     {
         self.let_go_paid();
         self.drop_front();
-        self.thin(alloc);
+        self.thin();
     }
 
     /// Lets the first gains of the message that was paid go, as far as no row owes them.
@@ -262,12 +262,13 @@ impl Accounts {
 
     /// Lets strikes go that no row has, or that strike nothing that is left, where there are twice as many as rows have. Where there
     /// is no memory for it all stays as it is.
-    fn thin(&mut self, alloc: Global)
+    fn thin(&mut self)
         ensures { self.new ≡ self.old }
     {
         if self.strikes.len() / 2 <= held(&self.rows) {
             return;
         }
+        let alloc = *self.strikes.allocator();
         if let Ok(moved) = move_all(alloc, &self.gains, &self.strikes, &self.rows) {
             self.strikes = moved.strikes;
             self.rows = moved.rows;

@@ -260,12 +260,12 @@ impl Accounts {
         drop_front(&mut self.gains, &self.strikes, &self.rows);
     }
 
-    /// Lets strikes go that no row has, or that strike nothing that is left, where there are twice as many as rows have. Where there
+    /// Lets strikes go that no row has, or that strike nothing that is left, where there are four times as many as rows have. Where there
     /// is no memory for it all stays as it is.
     fn thin(&mut self)
         ensures { self.new ≡ self.old }
     {
-        if self.strikes.len() / 2 <= held(&self.rows) {
+        if self.strikes.len() / 4 <= held(&self.rows) {
             return;
         }
         let alloc = *self.strikes.allocator();

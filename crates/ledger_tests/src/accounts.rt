@@ -300,3 +300,46 @@ fn equal_debts_count_as_often_as_they_were_gained(rt: HostRuntime) -> Result<(),
     }
     Ok(())
 }
+
+/// Two rows to which debts come at each moment, and that pay them or let them expire: what was gained long ago is dropped.
+#[test]
+fn what_is_owed_is_told_after_a_long_life(rt: HostRuntime) -> Result<(), Fail> {
+    let mut played = Played::new(&rt)?;
+    played.push_copy(&rt, 0)?;
+    for moment in 0..150_u64 {
+        let debt = Debt {
+            message: u32::try_from(moment % 5).unwrap_or(0),
+            deadline: moment + 3,
+            must: moment % 7 == 0,
+        };
+        played.gain(&rt, 0, debt)?;
+        played.gain(&rt, 1, debt)?;
+        played.pay(&rt, 0, u32::try_from((moment + 3) % 5).unwrap_or(0), moment)?;
+        played.pay(&rt, 1, u32::try_from((moment + 4) % 5).unwrap_or(0), moment)?;
+        played.expire(&rt, 0, moment)?;
+        played.expire(&rt, 1, moment)?;
+        played.accounts.tidy();
+        played.agree(&rt)?;
+    }
+    Ok(())
+}
+
+/// One row that owes many messages, and pays them in a mixed order.
+#[test]
+fn one_row_pays_in_any_order(rt: HostRuntime) -> Result<(), Fail> {
+    let mut played = Played::new(&rt)?;
+    for message in 0..100 {
+        let debt = Debt {
+            message,
+            deadline: 10,
+            must: message % 2 == 0,
+        };
+        played.gain(&rt, 0, debt)?;
+    }
+    for step in 0..100_u32 {
+        played.pay(&rt, 0, step * 37 % 100, 5)?;
+        played.accounts.tidy();
+        played.agree(&rt)?;
+    }
+    Ok(())
+}

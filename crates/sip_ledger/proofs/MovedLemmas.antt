@@ -1,6 +1,7 @@
 -- Accounts whose strikes are written anew owe what they owed.
 use Rattle.std.proofs.Common.{◌≡◌, ℕ, ◌+◌, ◌<◌, ◌≤◌, ◌==◌, ◌&&◌, ◌||◌, Bool, true, false, not, List, [], ◌∷◌, ◌++◌, length, take, drop, get_or, map, filter, refl, sym, ap, ap₂, ◌∙◌, subst, inl, inr, arith}
 use Rattle.std.specs.Prelude.{All, max, nat_le, nat_lt}
+use Rattle.std.specs.Bool.{OnFalse}
 use Rattle.std.specs.List.{list_any}
 use Rattle.std.proofs.Math.Bool.{or-false}
 use Rattle.std.proofs.lemmas.Bool.Decides.{nat_tests}
@@ -177,3 +178,11 @@ moved-more gains strikes old new rows rows' at d b within was moved each =
           ∙ ap₂ (λ l d. l ++ d ∷ []) (kept.1 ∙ was.debts) (moved-debts gains strikes old new a b moved)
           ∙ sym (ap (map (account_debts gains strikes)) (take_more rows at d within) ∙ map-append (account_debts gains strikes) (take at rows) (a ∷ []));
     }
+
+-- where a test fails
+pub on-false : {P : Type 0} (b : Bool) → (b ≡ false → P) → OnFalse b P
+on-false true p = tt
+on-false false p = p refl
+
+pub lt-not : (m n : ℕ) → nat_lt m n ≡ false → n ≤ m
+lt-not m n is = grind (arith, nat_tests)

@@ -1,9 +1,9 @@
 -- What was gained, and what is left of it.
-use Rattle.std.proofs.Common.{◌≡◌, ◌≢◌, ℕ, zero, suc, ◌+◌, ◌-◌, ◌<◌, ◌≤◌, ◌==◌, ◌&&◌, ◌||◌, Bool, true, false, cond, not, List, [], ◌∷◌, ◌++◌, length, drop, get_or, refl, sym, ap, ap₂, ◌∙◌, subst, inl, inr, arith}
+use Rattle.std.proofs.Common.{◌≡◌, ◌≢◌, ℕ, zero, suc, ◌+◌, ◌-◌, ◌^◌, ◌<◌, ◌≤◌, ◌==◌, ◌&&◌, ◌||◌, Bool, true, false, cond, not, List, [], ◌∷◌, ◌++◌, length, drop, get_or, refl, sym, ap, ap₂, ◌∙◌, subst, inl, inr, arith, lit<}
 use Rattle.std.specs.Prelude.{nat_le, nat_lt, replicate}
 use Rattle.std.proofs.lemmas.Bool.{cases_eq, cases_lt, eq-eqb, false_from_ne_true, ne_eqb, true≢false}
 use Rattle.std.proofs.Math.Bool.{and-false}
-use Rattle.std.proofs.lemmas.List.{append_assoc, get_or-append_right, get_or_append_left, get_or-drop, get_or_past, get_or_push, length-append, length-drop, length-replicate}
+use Rattle.std.proofs.lemmas.List.{append_assoc, get_or-append_right, get_or_append_left, get_or-drop, get_or_default, get_or_past, get_or_push, length-append, length-drop, length-replicate}
 use Rattle.sip_ledger.specs.declared.debt.Debt.{Debt}
 use Rattle.sip_ledger.specs.declared.debt.Entry.{Entry}
 use Rattle.sip_ledger.specs.declared.accounts.account.Account.{Account}
@@ -31,6 +31,14 @@ entry-kept gains k long kept =
     let dropped = gains.end - length gains.entries.items in
     let from = kept.from in
     get_or-append_right (replicate dropped blank) gains.entries.items dropped k blank (length-replicate dropped blank) (omega (arith, from, long))
+
+pub entry-index : (gains : Gains) (k i : ℕ) (e : Entry) → length gains.entries.items ≤ gains.end → IsKept gains k → i + (gains.end - length gains.entries.items) ≡ k →
+    e ≡ get_or gains.entries.items i e → e ≡ entry_at (entries_of gains) k
+entry-index gains k i e long kept here is =
+    let from = kept.from in
+    let within = kept.within in
+    let at : i ≡ k - (gains.end - length gains.entries.items) = omega (arith, here) in
+    is ∙ get_or_default gains.entries.items i e blank (omega (arith, here, within, from, long)) ∙ ap (λ n. get_or gains.entries.items n blank) at ∙ sym (entry-kept gains k long kept)
 
 -- what is left is kept
 pub left-place : (gains : Gains) (k : ℕ) → AreGains gains → is_left gains k ≡ true → IsPlaceOf gains (entry_at (entries_of gains) k).message k
@@ -66,6 +74,7 @@ pub none-gained : (gains : Gains) → gains.entries.items ≡ [] → gains.end �
 unfolding holds
 none-gained gains entries end messages musts = record {
   long = omega (arith, ap length entries);
+  small = subst (λ n. n < 2 ^ 64) (sym end) (lit< tt);
   messages = λ m k is. absurd (true≢false (sym is ∙ ap (λ l. holds l m k) messages));
   musts = λ k is. absurd (true≢false (sym is ∙ ap (λ l. holds l 0 k) musts));
   rises = λ _ i k e order below. absurd (omega (arith, below, ap length entries));
@@ -152,9 +161,9 @@ more-entries old new entry long entries end =
 
 -- the gains with one more, which stands under its message
 pub gains-more : (old new : Gains) (debt : Debt) → AreGains old → new.entries.items ≡ old.entries.items ++ (record { message = debt.message; deadline = debt.deadline }) ∷ [] →
-    new.end ≡ old.end + 1 → IsNoted old.end debt old.messages old.musts new.messages new.musts →
+    new.end ≡ old.end + 1 → new.end < 2 ^ 64 → IsNoted old.end debt old.messages old.musts new.messages new.musts →
     (new.rises ≡ true → AreRising (old.entries.items ++ (record { message = debt.message; deadline = debt.deadline }) ∷ [])) → AreGains new × IsGain debt old new
-gains-more old new debt are entries end noted rises =
+gains-more old new debt are entries end small noted rises =
     let n = old.end in
     let e : Entry = record { message = debt.message; deadline = debt.deadline } in
     let long = are.long in
@@ -168,6 +177,7 @@ gains-more old new debt are entries end noted rises =
         ∙ ap (λ b. cond b true (holds old.messages m k)) (and-false (m == debt.message)) in (
       record {
         long = omega (arith, some, end, long);
+        small = small;
         messages = λ m k is. elim (cases_eq k n) [
           | inl there ↦
               let same : m ≡ debt.message = named m k there is in
@@ -221,6 +231,7 @@ gains-same old new are entries end messages musts rises =
     let long = are.long in (
       record {
         long = omega (arith, some, end, long);
+        small = subst (λ n. n < 2 ^ 64) (sym end) are.small;
         messages = λ m k is.
             let was = are.messages m k (sym (messages m k) ∙ is) in
             let from = was.kept.from in
@@ -247,6 +258,7 @@ gains-let_go old new place are entries end rises messages musts =
     let m0 = (entry_at (entries_of old) place).message in (
       record {
         long = omega (arith, some, end, long);
+        small = subst (λ n. n < 2 ^ 64) (sym end) are.small;
         messages = λ m k is.
             let was = are.messages m k (fewer (m == m0 && k == place) (holds old.messages m k) (sym (messages m k) ∙ is)) in
             let from = was.kept.from in
@@ -304,6 +316,7 @@ gains-dropped old new place count are here within entries end messages musts ris
     ] in (
       record {
         long = short;
+        small = subst (λ n. n < 2 ^ 64) (sym end) are.small;
         messages = λ m k is.
             let held = sym (ap (λ l. holds l m k) messages) ∙ is in
             let was = are.messages m k held in

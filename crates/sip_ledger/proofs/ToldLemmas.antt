@@ -13,11 +13,11 @@ use Rattle.sip_ledger.specs.declared.accounts.gains.Gains.{Gains}
 use Rattle.sip_ledger.specs.declared.accounts.strikes.Strike.{Strike}
 use Rattle.sip_ledger.specs.Debts.{debt_deadlines, earliest}
 use Rattle.sip_ledger.specs.Rows.{debt_of, debts_from, IsGap}
-use Rattle.sip_ledger.specs.inner.Accounts.{AreGains, IsAccount, SharesRest, account_debts, entries_of, entry_at, is_gone, is_left, is_struck, must_at, owes_at, strikes_of}
+use Rattle.sip_ledger.specs.inner.Accounts.{AreAlike, AreGains, IsAccount, SharesRest, account_debts, entries_of, entry_at, is_gone, is_left, is_struck, must_at, owes_at, strikes_of}
 use Rattle.sip_ledger.proofs.LeftLemmas.{entries-long, gone-same, left-kept, owed-left, rising-kept}
 use Rattle.sip_ledger.specs.inner.Indexes.{holds}
 use Rattle.sip_ledger.specs.inner.Places.{AreRising}
-use Rattle.sip_ledger.proofs.ListedLemmas.{back, back-none, back-over, back-same, back-set, earliest-first, earliest-push, front, front-gap, front-next, listed-All, listed-must, listed-none, no_entry, parts}
+use Rattle.sip_ledger.proofs.ListedLemmas.{back, back-none, back-over, back-same, back-set, earliest-first, earliest-push, front, front-gap, front-next, listed-All, listed-must, listed-none, listed-same, no_entry, parts}
 use Rattle.sip_ledger.proofs.AccountLemmas.{must-below, must-from, past-end, soft-must}
 use Rattle.sip_ledger.proofs.WithoutLemmas.{before-start, le-yes}
 
@@ -199,6 +199,16 @@ rest-same gains strikes one other at beside are here shared =
     are.left.from (back-same (owes_at gains strikes one) (must_at gains one) (owes_at gains strikes other) (must_at gains other) entries at
     (λ k above. (shared.owes gains k above, soft-must gains other one k shared.soft))
     ∙ ap (back (owes_at gains strikes other) (must_at gains other) entries) here)
+
+-- accounts that begin and end alike and have the same strikes
+pub alike-debts : (gains : Gains) (strikes : List Strike) (one other : Account) → AreAlike strikes one other → account_debts gains strikes one ≡ account_debts gains strikes other
+unfolding account_debts owes_at
+alike-debts gains strikes one other alike =
+    listed-same (owes_at gains strikes one) (must_at gains one) (owes_at gains strikes other) (must_at gains other) 0 (entries_of gains) (λ k from below. (
+      ap₂ (λ s e. nat_le s k && (nat_lt k e && not (is_gone gains (strikes_of strikes one) k))) alike.start alike.end
+      ∙ ap (λ own. nat_le other.start k && (nat_lt k other.end && not (is_gone gains own k))) alike.own,
+      soft-must gains other one k alike.soft,
+    ))
 
 -- accounts that end at one place, and of which no strike goes past this one
 pub shares-rest : (strikes : List Strike) (one other : Account) (place : ℕ) → one.end ≡ other.end → one.soft ≡ other.soft → one.start ≤ place → other.start ≤ place →

@@ -1,4 +1,4 @@
-use Rattle.std.specs.Prelude.{◌≡◌, ◌≢◌, ◌==◌, ◌&&◌, ◌||◌, ◌<◌, ◌≤◌, ◌+◌, ◌-◌, ℕ, Bool, true, false, not, cond, List, [], ◌∷◌, ◌++◌, All, drop, get_or, length, map, nat_le, nat_lt, replicate, set, take}
+use Rattle.std.specs.Prelude.{◌≡◌, ◌≢◌, ◌==◌, ◌&&◌, ◌||◌, ◌<◌, ◌≤◌, ◌+◌, ◌-◌, ◌^◌, ℕ, Bool, true, false, not, cond, List, [], ◌∷◌, ◌++◌, All, drop, get_or, length, map, nat_le, nat_lt, replicate, set, take}
 use Rattle.std.specs.List.{list_any}
 use Rattle.sip_ledger.specs.declared.debt.Debt.{Debt}
 use Rattle.sip_ledger.specs.declared.debt.Entry.{Entry}
@@ -42,6 +42,7 @@ pub record IsPlaceOf (gains : Gains) (m k : ℕ) : Type 0 where
 -- what stands under a message are gains of it, what must be sent was gained, and deadlines rise where they are said to
 pub record AreGains (gains : Gains) : Type 0 where
   pub long : length gains.entries.items ≤ gains.end
+  pub small : gains.end < 2 ^ 64
   pub messages : (m k : ℕ) → holds gains.messages m k ≡ true → IsPlaceOf gains m k
   pub musts : (k : ℕ) → holds gains.musts 0 k ≡ true → k < gains.end
   pub rises : gains.rises ≡ true → AreRising gains.entries.items
@@ -227,6 +228,13 @@ pub record IsClearedTo (place : ℕ) (strikes : List Strike) (rows : List Accoun
 -- each account that owes something starts at the place or after it
 abbrev pub StartFrom : ℕ → List Account → Type 0
 StartFrom place rows = All (λ a. a.start < a.end → place ≤ a.start) rows
+
+-- two accounts begin and end alike, and their strikes are the same
+pub record AreAlike (strikes : List Strike) (one other : Account) : Type 0 where
+  pub start : one.start ≡ other.start
+  pub end : one.end ≡ other.end
+  pub soft : one.soft ≡ other.soft
+  pub own : strikes_of strikes one ≡ strikes_of strikes other
 
 -- two accounts owe the same from a place on
 pub record SharesRest (strikes : List Strike) (one other : Account) (place : ℕ) : Type 0 where

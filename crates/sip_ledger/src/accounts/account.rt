@@ -5,11 +5,11 @@ ghost use Rattle.sip_ledger.specs.Debts.{counts_at, debt_deadlines, earliest};
 ghost use Rattle.sip_ledger.specs.Accounts.{worth_of};
 ghost use Rattle.sip_ledger.specs.Rows.{debt_of};
 ghost use Rattle.sip_ledger.specs.declared.accounts.account.Account.{Account};
-ghost use Rattle.sip_ledger.specs.inner.Accounts.{AreGains, IsAccount, IsExpiredTo, IsFirstPayable, IsKept, IsNextGain, IsPassedTo, IsPlaceOf, IsWithout, KeepsAccounts, SharesRest, account_debts, entries_of, entry_at, is_gone, must_at, owes_at, pays_at, strikes_of};
+ghost use Rattle.sip_ledger.specs.inner.Accounts.{AreAlike, AreGains, IsAccount, IsExpiredTo, IsFirstPayable, IsKept, IsNextGain, IsPassedTo, IsPlaceOf, IsWithout, KeepsAccounts, SharesRest, account_debts, entries_of, entry_at, is_gone, must_at, owes_at, pays_at, strikes_of};
 ghost use Rattle.sip_ledger.specs.inner.Indexes.{holds};
 
 use crate::accounts::gains::Gains;
-use crate::accounts::strikes::{Strike, end_by, put, struck_to};
+use crate::accounts::strikes::{Strike, are_same, end_by, put, struck_to};
 use crate::debt::Debt;
 use std::alloc::{AllocError, Global};
 
@@ -412,6 +412,23 @@ fn debt_for(gains: &Gains, account: Account, place: usize) -> Debt
     }
 }
 
+/// Whether the accounts begin and end alike and have the same strikes, so that they owe the same.
+fn is_alike(strikes: &[Strike], one: Account, other: Account) -> bool
+    requires first { one.first ≤ one.last }
+    requires last { one.last ≤ length strikes.now }
+    requires first_other { other.first ≤ other.last }
+    requires last_other { other.last ≤ length strikes.now }
+    ensures { OnTrue result (AreAlike strikes.now one other) }
+{
+    if one.start != other.start || one.end != other.end {
+        return false;
+    }
+    if one.soft != other.soft {
+        return false;
+    }
+    are_same(own(strikes, one), own(strikes, other))
+}
+
 /// Whether the accounts are known to owe the same from the place on.
 fn shares_rest(strikes: &[Strike], one: Account, other: Account, place: usize) -> bool
     requires first { one.first ≤ one.last }
@@ -437,6 +454,9 @@ pub(crate) fn same(gains: &Gains, strikes: &[Strike], one: Account, other: Accou
 {
     if one.print != other.print {
         return false;
+    }
+    if is_alike(strikes, one, other) {
+        return true;
     }
     let mut at = one.start;
     let mut beside = other.start;

@@ -9,7 +9,7 @@ use crate::accounts::gains::Gains;
 use std::alloc::AllocError;
 
 /// Of this message nothing is owed at the places from one up to another.
-#[derive(Clone, Copy, Debug)]
+#[derive(Clone, Copy, Debug, PartialEq, Eq)]
 pub(crate) struct Strike {
     pub message: u32,
     pub from: usize,
@@ -34,6 +34,21 @@ fn strikes_out(strike: Strike, message: u32, place: usize) -> bool
     ensures { result ≡ is_out message place strike }
 {
     strike.message == message && strike.from <= place && place < strike.to
+}
+
+/// Whether the strikes are the same, in the same order.
+pub(crate) fn are_same(one: &[Strike], other: &[Strike]) -> bool
+    ensures { OnTrue result (one.now ≡ other.now) }
+{
+    if one.len() != other.len() {
+        return false;
+    }
+    for at in 0..one.len() {
+        if one[at] != other[at] {
+            return false;
+        }
+    }
+    true
 }
 
 /// Whether none of the strikes goes past the place.

@@ -1,8 +1,8 @@
-use Rattle.std.proofs.Common.{◌≡◌, ◌<◌, length, map, set, ap, sym, ◌∙◌, arith}
+use Rattle.std.proofs.Common.{◌≡◌, ◌<◌, length, map, set, ap, subst, sym, ◌∙◌, arith}
 use Rattle.std.proofs.Math.Seq.{take-length}
 use Rattle.sip_ledger.specs.Accounts.{owed_in}
 use Rattle.sip_ledger.specs.Debts.{softened_debt}
-use Rattle.sip_ledger.specs.inner.Accounts.{entries_of}
+use Rattle.sip_ledger.specs.inner.Accounts.{AreAccounts, accounts_debts, entries_of}
 use Rattle.sip_ledger.proofs.LeftLemmas.{entries-long}
 use Rattle.sip_ledger.proofs.SeenLemmas.{account-at, changed-to, row-inside, softened-account, softened_account}
 use Rattle.sip_ledger.proofs.accounts.Accounts.soften.Goals as goal
@@ -24,7 +24,7 @@ invariant_of-self c =
     let soft = softened-account s.gains s.strikes.items c.index.result.now is.0 in
     let long : s.gains.end ≡ length (entries_of s.gains) = sym (entries-long s.gains c.self.invariant.gained.long) in
     let changed = changed-to s.gains s.strikes.items s.strikes.items s.rows.items c.args.self.now c.args.row (softened_account (length (entries_of s.gains)) c.index.result.now) (map softened_debt (owed_in c.args.self.now c.args.row)) (take-length s.strikes.items) c.self.invariant c.self.view_is soft.0 (soft.1 ∙ ap (map softened_debt) is.1) in
-    rw long changed.0
+    subst (λ n. AreAccounts s.gains s.strikes.items (set s.rows.items c.args.row (softened_account n c.index.result.now))) (sym long) changed.0
 
 pub returns : goal.returns
 returns c =
@@ -33,4 +33,4 @@ returns c =
     let soft = softened-account s.gains s.strikes.items c.index.result.now is.0 in
     let long : s.gains.end ≡ length (entries_of s.gains) = sym (entries-long s.gains c.self.invariant.gained.long) in
     let changed = changed-to s.gains s.strikes.items s.strikes.items s.rows.items c.args.self.now c.args.row (softened_account (length (entries_of s.gains)) c.index.result.now) (map softened_debt (owed_in c.args.self.now c.args.row)) (take-length s.strikes.items) c.self.invariant c.self.view_is soft.0 (soft.1 ∙ ap (map softened_debt) is.1) in
-    rw long changed.1
+    subst (λ n. accounts_debts s.gains s.strikes.items (set s.rows.items c.args.row (softened_account n c.index.result.now)) ≡ set c.args.self.now c.args.row (map softened_debt (owed_in c.args.self.now c.args.row))) (sym long) changed.1

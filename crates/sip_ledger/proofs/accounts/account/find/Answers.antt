@@ -1,7 +1,7 @@
 use Rattle.std.proofs.Common.{◌<◌, ◌≤◌, length, sym, ◌∙◌, true≢false, arith}
 use Rattle.sip_ledger.specs.inner.Accounts.{entries_of, owes_at}
 use Rattle.sip_ledger.proofs.AccountLemmas.{owed-within}
-use Rattle.sip_ledger.proofs.FindLemmas.{first-payable, none-pays_struck, none-pays_to}
+use Rattle.sip_ledger.proofs.FindLemmas.{first-payable, none-pays_late, none-pays_struck, none-pays_to}
 use Rattle.sip_ledger.proofs.WithoutLemmas.{before-start}
 use Rattle.sip_ledger.proofs.accounts.account.find.Goals as goal
 
@@ -48,3 +48,15 @@ returns-clause-none c = λ k owed.
     let within = owed-within g c.args.strikes.now c.args.account k owed in
     let end = c.requires.account.end in
     none-pays_to g c.args.strikes.now c.args.account c.args.message c.args.moment c.loop-place.from (length (entries_of g)) c.loop-place.invariant.1 (λ j low high. c.in_default.ensures.none j low) k (omega (arith, within, end)) owed
+
+pub loop-place-preserved : goal.loop-place-preserved
+loop-place-preserved c =
+    let g = c.args.gains.now in
+    let s = c.args.strikes.now in
+    let a = c.args.account in
+    let order = c.in-Some.ensures.from in
+    let start = c.loop-place.invariant.0 in (
+      omega (arith, order, start),
+      none-pays_late (entries_of g) (owes_at g s a) c.args.message c.args.moment c.in-Some.place
+          (none-pays_to g s a c.args.message c.args.moment c.loop-place.from c.in-Some.place c.loop-place.invariant.1 c.in-Some.ensures.before) (rw c.entry.ensures at c.if-moment-entry.false),
+    )

@@ -1,6 +1,6 @@
 use Rattle.std.proofs.Common.{refl, rules, ◌≡◌, ◌<◌, ◌≤◌, ◌∙◌, sym, arith}
 use Rattle.sip_ledger.proofs.AccountLemmas.{kept-from}
-use Rattle.sip_ledger.proofs.ToldLemmas.{at-more, at-start, end-other, end-same, rest-same}
+use Rattle.sip_ledger.proofs.ToldLemmas.{alike-debts, at-more, at-start, end-other, end-same, rest-same}
 use Rattle.sip_ledger.proofs.accounts.account.same.Goals.{then-loop-at-test+else-beside-other, else-loop-at-test}
 use Rattle.sip_ledger.proofs.accounts.account.same.Goals as goal
 
@@ -13,11 +13,14 @@ debt_for-requires-clause-kept c =
     let inside = c.loop-at-test.true in
     kept-from c.args.gains.now c.args.strikes.now c.args.one c.loop-at.at c.requires.gained c.requires.one (omega (arith, low, inside)) low inside
 
-pub debt_for-requires-2-clause-kept : goal.debt_for-requires-2-clause-kept
-debt_for-requires-2-clause-kept c =
+pub debt_for-requires-in-loop-at-clause-kept : goal.debt_for-requires-in-loop-at-clause-kept
+debt_for-requires-in-loop-at-clause-kept c =
     let low = c.loop-at.invariant.low_beside in
     let inside = c.if-beside-other.true in
     kept-from c.args.gains.now c.args.strikes.now c.args.other c.loop-at.beside c.requires.gained c.requires.other (omega (arith, low, inside)) low inside
+
+pub returns-then-is_alike : goal.returns-then-is_alike
+returns-then-is_alike c = (λ _. alike-debts c.args.gains.now c.args.strikes.now c.args.one c.args.other c.if-is_alike.ensures, λ _. refl)
 
 pub loop-at-preserved : goal.loop-at-preserved
 loop-at-preserved c =

@@ -1,7 +1,7 @@
 use Rattle.std.proofs.Common.{◌≡◌, ◌+◌, ◌≤◌, ◌∙◌, sym, ap, refl, arith}
 use Rattle.sip_ledger.specs.declared.debt.Entry.{Entry}
 use Rattle.sip_ledger.specs.Accounts.{worth_of}
-use Rattle.sip_ledger.proofs.LeftLemmas.{left-kept, owed-left}
+use Rattle.sip_ledger.proofs.LeftLemmas.{entries-long, left-kept, owed-left}
 use Rattle.sip_ledger.proofs.AccountLemmas.{owed-within}
 use Rattle.sip_ledger.proofs.WithoutLemmas.{without-first, without-last, without-middle}
 use Rattle.sip_ledger.proofs.accounts.account.without.Goals as goal
@@ -53,3 +53,11 @@ pub returns-clause-owed : goal.returns-clause-owed
 returns-clause-owed c =
     (without-middle c.args.gains.now c.args.strikes.now.items c.put.new.strikes.items c.args.account c.in_ok-struck.struck c.args.place c.worth.result _ c.requires.account c.requires.owed
     c.if-place-account.false c.in_ok-struck.ensures.struck (c.worth.ensures ∙ ap (λ (e : Entry). worth_of e.message e.deadline) c.entry-entry.ensures) refl).1
+
+pub overflow_add-place : goal.overflow_add-place
+overflow_add-place c =
+    let within = owed-within c.args.gains.now c.args.strikes.now.items c.args.account c.args.place c.requires.owed in
+    let end = c.requires.account.end in
+    let count = entries-long c.args.gains.now c.requires.gained.long in
+    let small = c.requires.gained.small in
+    omega (arith, within, end, count, small)

@@ -28,3 +28,9 @@ loop-place-smaller c =
     let within = c.in-Some.ensures.is.kept.within in
     let from = c.in-Some.ensures.from in
     omega (arith, end, within, from)
+
+pub overflow_add-from : goal.overflow_add-from
+overflow_add-from c =
+    let within = c.in-Some.ensures.is.kept.within in
+    let small = c.loop-place.invariant.accounts.gained.small in
+    omega (arith, within, small)

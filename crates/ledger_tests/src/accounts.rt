@@ -227,7 +227,7 @@ fn change_rows(
             played.truncate();
             Ok(())
         }
-        5 if played.lists.len() > 8 => played.keep_some(rt),
+        5 if played.lists.len() > 3 => played.keep_some(rt),
         6 if chance.below(8) == 0 => {
             played.clear(rt, row);
             Ok(())

@@ -173,8 +173,8 @@ gains-more old new debt are entries end small noted rises =
     let some : length new.entries.items ≡ length old.entries.items + 1 = ap length entries ∙ longer in
     let here : entry_at (entries_of new) n ≡ e = ap (λ l. entry_at l n) all ∙ get_or_push (entries_of old) e blank n count in
     let others : (m k : ℕ) → k ≢ n → holds new.messages m k ≡ holds old.messages m k = λ m k other.
-        noted.messages m k ∙ ap (λ b. cond (m == debt.message && b) true (holds old.messages m k)) (ne_eqb k n other)
-        ∙ ap (λ b. cond b true (holds old.messages m k)) (and-false (m == debt.message)) in (
+    noted.messages m k ∙ ap (λ b. cond (m == debt.message && b) true (holds old.messages m k)) (ne_eqb k n other)
+    ∙ ap (λ b. cond b true (holds old.messages m k)) (and-false (m == debt.message)) in (
       record {
         long = omega (arith, some, end, long);
         small = small;
@@ -356,11 +356,11 @@ listed-alike o m o' m' i (x ∷ xs) [] long same alike = absurd (omega (arith, l
 listed-alike o m o' m' i (x ∷ xs) (y ∷ ys) long same alike =
     let none : i + 0 ≡ i = omega arith in
     let rest = listed-alike o m o' m' (i + 1) xs ys (omega (arith, long))
-        (λ j below. let next : i + 1 + j ≡ i + suc j = omega arith in ap o next ∙ same (suc j) (omega (arith, below)) ∙ ap o' (sym next))
-        (λ j below is.
-        let next : i + 1 + j ≡ i + suc j = omega arith in
-        let both = alike (suc j) (omega (arith, below)) (ap o (sym next) ∙ is) in
-        (both.0, ap m next ∙ both.1 ∙ ap m' (sym next))) in
+    (λ j below. let next : i + 1 + j ≡ i + suc j = omega arith in ap o next ∙ same (suc j) (omega (arith, below)) ∙ ap o' (sym next))
+    (λ j below is.
+    let next : i + 1 + j ≡ i + suc j = omega arith in
+    let both = alike (suc j) (omega (arith, below)) (ap o (sym next) ∙ is) in
+    (both.0, ap m next ∙ both.1 ∙ ap m' (sym next))) in
     by (o i) (o' i) (ap o (sym none) ∙ same 0 (omega arith) ∙ ap o' none)
     (λ is. let both = alike 0 (omega arith) (ap o none ∙ is) in (both.0, ap m (sym none) ∙ both.1 ∙ ap m' none))
     (debts_from o m (i + 1) xs) (debts_from o' m' (i + 1) ys) rest

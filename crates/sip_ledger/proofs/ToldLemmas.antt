@@ -206,7 +206,7 @@ unfolding account_debts owes_at
 alike-debts gains strikes one other alike =
     listed-same (owes_at gains strikes one) (must_at gains one) (owes_at gains strikes other) (must_at gains other) 0 (entries_of gains) (λ k from below. (
       ap₂ (λ s e. nat_le s k && (nat_lt k e && not (is_gone gains (strikes_of strikes one) k))) alike.start alike.end
-      ∙ ap (λ own. nat_le other.start k && (nat_lt k other.end && not (is_gone gains own k))) alike.own,
+          ∙ ap (λ own. nat_le other.start k && (nat_lt k other.end && not (is_gone gains own k))) alike.own,
       soft-must gains other one k alike.soft,
     ))
 

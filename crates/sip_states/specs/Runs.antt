@@ -1,9 +1,9 @@
-use Rattle.std.specs.Prelude.{◌≡◌, ◌≢◌, ◌≤◌, ◌<◌, ◌↔◌, ℕ, Option, List, [], ◌∷◌, ◌++◌, length, map, All, AllPairs}
+use Rattle.std.specs.Prelude.{◌≡◌, ◌≢◌, ◌≤◌, ◌<◌, ◌↔◌, ℕ, Option, List, [], ◌∷◌, length, map, All, AllPairs}
 use Rattle.sip_machine.specs.Limits.{IsWithin}
 use Rattle.sip_standard.specs.MachineEvent.{MachineEvent}
 use Rattle.sip_machine.specs.Rules.{Rules, Waits, Hide}
 
--- a step of a run: an end at any moment, or an event
+-- a step: an end at any moment, or an event
 pub data Step : Type 0 where
   Hides : ℕ → Step
   Takes : MachineEvent → Step
@@ -29,12 +29,6 @@ pub record Reaches {X : Type 0} (r : Rules X) (x : X) (h : ℕ) (steps : List St
   pub reached : last ≤ m
   pub waits : Waits r y m
 
--- the events that the steps take, in order
-abbrev pub taken : List Step → List MachineEvent
-taken [] = []
-taken (Hides h ∷ steps) = taken steps
-taken (Takes e ∷ steps) = e ∷ taken steps
-
 -- one can stand in y at m after starting in a state of S at h and taking hidden steps alone
 pub record Wait {X : Type 0} (r : Rules X) (S : X → Type 0) (h m : ℕ) (y : X) : Type 0 where
   pub start : X
@@ -47,18 +41,6 @@ pub record RunGives {X : Type 0} (r : Rules X) (S : X → Type 0) (e : MachineEv
   pub before : X
   pub among : S before
   pub takes : r.Take before e y
-
--- a run takes just these events, in order, from the first state at moment 0, and stands in y at m
-pub record RuledRun {X : Type 0} (r : Rules X) (events : List MachineEvent) (m : ℕ) (y : X) : Type 0 where
-  pub steps : List Step
-  pub stands : Reaches r r.first 0 steps y m
-  pub takes : taken steps ≡ events
-
--- y is the last state of a run over these events and e, whose last step is that of e
-pub record AfterRun {X : Type 0} (r : Rules X) (events : List MachineEvent) (e : MachineEvent) (y : X) : Type 0 where
-  pub steps : List Step
-  pub goes : Goes r r.first 0 (steps ++ Takes e ∷ []) y e.moment
-  pub takes : taken steps ≡ events
 
 -- a wait from S at h can last until exactly the moments that are within the limit
 abbrev pub IsAgenda : {X : Type 0} → Rules X → (X → Type 0) → ℕ → Option ℕ → Type 0

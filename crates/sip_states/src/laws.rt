@@ -11,7 +11,7 @@ ghost use Rattle.sip_standard.specs.Kind.{IsFinal};
 ghost use Rattle.sip_standard.specs.Times.{Times};
 ghost use Rattle.sip_standard.specs.KeyMachine.{MachineKind, machine_of, transaction_of};
 ghost use Rattle.sip_states.specs.KeySets.{PhaseOf, key_rules};
-ghost use Rattle.sip_states.specs.Runs.{Wait, RunGives, RuledRun, AfterRun};
+ghost use Rattle.sip_states.specs.Runs.{Wait, RunGives};
 ghost use Rattle.sip_standard.specs.Stands.{Stands, StandsAfter};
 ghost use Rattle.sip_standard.specs.declared.role.Role.TheVariants.{Client, Server};
 ghost use Rattle.sip_standard.specs.declared.action.Action.TheVariants.{Sent, Received};
@@ -19,14 +19,6 @@ ghost use Rattle.sip_standard.specs.declared.rules.Rules.{Rules as BuiltBy};
 ghost use Rattle.sip_standard.specs.declared.rules.Rules.TheVariants.{R6026};
 
 use sip_machine::Machine;
-
-/// A run by the rules of a machine is one in the words of the standard, and an event leads from it to the same states.
-pub fn a_run_by_rules_stands()
-    ensures stands { (p : Times) (machine : MachineKind) (events : List MachineEvent) (m : ℕ) (y : PhaseOf machine) →
-        RuledRun (key_rules p machine) events m y ↔ Stands (transaction_of machine).figure p events m y }
-    ensures after { (p : Times) (machine : MachineKind) (events : List MachineEvent) (e : MachineEvent) (y : PhaseOf machine) →
-        AfterRun (key_rules p machine) events e y ↔ StandsAfter (transaction_of machine).figure p events e y }
-{}
 
 /// One wait or two lead to the same states.
 pub fn in_one_wait_or_two<M: Machine>(_machine: &M)
@@ -37,17 +29,17 @@ pub fn in_one_wait_or_two<M: Machine>(_machine: &M)
 
 /// The last states of runs are exactly what waiting and then stepping gives: from the first state at
 /// moment 0, and from the last states at the event before.
-pub fn by_waiting_and_stepping<M: Machine>(_machine: &M)
-    ensures first { (e : MachineEvent) (y : M.Seen) → AfterRun (M.rules _machine.now) [] e y
-        ↔ RunGives (M.rules _machine.now) (Wait (M.rules _machine.now) (λ x. x ≡ (M.rules _machine.now).first) 0 e.moment) e y }
-    ensures next { (events : List MachineEvent) (e f : MachineEvent) (y : M.Seen) → AfterRun (M.rules _machine.now) (events ++ e ∷ []) f y
-        ↔ RunGives (M.rules _machine.now) (Wait (M.rules _machine.now) (AfterRun (M.rules _machine.now) events e) e.moment f.moment) f y }
+pub fn by_waiting_and_stepping()
+    ensures first { (p : Times) (machine : MachineKind) (e : MachineEvent) (y : PhaseOf machine) → StandsAfter (transaction_of machine).figure p [] e y
+        ↔ RunGives (key_rules p machine) (Wait (key_rules p machine) (λ x. x ≡ (key_rules p machine).first) 0 e.moment) e y }
+    ensures next { (p : Times) (machine : MachineKind) (events : List MachineEvent) (e f : MachineEvent) (y : PhaseOf machine) → StandsAfter (transaction_of machine).figure p (events ++ e ∷ []) f y
+        ↔ RunGives (key_rules p machine) (Wait (key_rules p machine) (StandsAfter (transaction_of machine).figure p events e) e.moment f.moment) f y }
 {}
 
 /// A run over some events holds one over the first of them, which stands at any moment from those to the others.
-pub fn a_run_holds_one_over_fewer_events<M: Machine>(_machine: &M)
-    ensures { (events more : List MachineEvent) (m n : ℕ) (y : M.Seen) → All (λ e. e.moment ≤ m) events → All (λ e. m ≤ e.moment) more → m ≤ n →
-        RuledRun (M.rules _machine.now) (events ++ more) n y → (x : M.Seen) × RuledRun (M.rules _machine.now) events m x }
+pub fn a_run_holds_one_over_fewer_events()
+    ensures { (p : Times) (machine : MachineKind) (events more : List MachineEvent) (m n : ℕ) (y : PhaseOf machine) → All (λ e. e.moment ≤ m) events → All (λ e. m ≤ e.moment) more → m ≤ n →
+        Stands (transaction_of machine).figure p (events ++ more) n y → (x : PhaseOf machine) × Stands (transaction_of machine).figure p events m x }
 {}
 
 /// After the final response to its INVITE a client sends nothing but ACK and CANCEL (RFC 3261 sections 17.1.1.2, 17.1.1.3 and 9.1),

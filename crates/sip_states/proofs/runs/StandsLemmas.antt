@@ -13,8 +13,10 @@ use Rattle.sip_machine.specs.inner.DebtLaws.{All-front, All-back}
 use Rattle.sip_machine.specs.inner.OwesLaws.{IsWithin-owed}
 use Rattle.sip_machine.specs.inner.FigureLaws.{rules_lawful}
 use Rattle.sip_standard.specs.Stands.{Stands, begins, waits, ends, takes, StandsAfter}
-use Rattle.sip_states.specs.Runs.{Step, Hides, Takes, Goes, taken, RuledRun, AfterRun}
+use Rattle.sip_states.specs.Runs.{Step, Hides, Takes, Goes}
+use Rattle.sip_states.specs.inner.Ruled.{taken, RuledRun, AfterRun}
 use Rattle.sip_states.proofs.sets.Waiting.{IsWithin-none, Wait-stay}
+use Rattle.sip_states.proofs.runs.FewerLemmas.{Run-fewer}
 use Rattle.sip_states.proofs.runs.RunLemmas.{taken-append, Goes-push, Run-wait, After-run}
 
 -- a moment is past no close of a window exactly if it is not past the one that it may have
@@ -134,3 +136,9 @@ module _ {X : Type 0} (f : Figure X) (is : IsFigure f) (p : Times) where
         let gives = (After-run (rules_of f p) events e y).0 after in
         (gives.before, run-stands events e.moment gives.before gives.among, gives.takes.1),
   )
+
+  -- a run over events and more holds one over the events, which stands at any moment between them
+  pub stands-fewer : (events more : List MachineEvent) (m n : ℕ) (y : Owing X) → All (λ e. e.moment ≤ m) events → All (λ e. m ≤ e.moment) more → m ≤ n → Stands f p (events ++ more) n y → (x : Owing X) × Stands f p events m x
+  stands-fewer events more m n y low high to stands =
+      let (x, run) = Run-fewer (rules_of f p) events more m n y low high to (stands-run (events ++ more) n y stands) in
+      (x, run-stands events m x run)

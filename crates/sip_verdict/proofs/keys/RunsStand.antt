@@ -6,7 +6,8 @@ use Rattle.sip_standard.specs.MachineEvent.{MachineEvent}
 use Rattle.sip_standard.specs.KeyMachine.{MachineKind, transaction_of}
 use Rattle.sip_standard.specs.Stands.{Stands, StandsAfter}
 use Rattle.sip_states.specs.KeySets.{PhaseOf, coded_holds, key_rules}
-use Rattle.sip_states.specs.Runs.{AfterRun, IsWide}
+use Rattle.sip_states.specs.Runs.{IsWide}
+use Rattle.sip_states.specs.inner.Ruled.{AfterRun}
 use Rattle.sip_states.proofs.runs.StandsLemmas.{stands-runs, behind-after}
 use Rattle.sip_verdict.specs.inner.Stepping.{RunsUntil}
 

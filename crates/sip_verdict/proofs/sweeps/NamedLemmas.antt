@@ -10,7 +10,8 @@ use Rattle.sip_machine.specs.Owes.{owes_seen, owes_names}
 use Rattle.sip_standard.specs.MachineEvent.{MachineEvent}
 use Rattle.sip_machine.specs.Rules.{Rules, IsLawful, StandFor}
 use Rattle.sip_machine.proofs.texts.TextLaws.{Contains-nil, Contains-cons_cases}
-use Rattle.sip_states.specs.Runs.{Wait, RuledRun}
+use Rattle.sip_states.specs.Runs.{Wait}
+use Rattle.sip_states.specs.inner.Ruled.{RuledRun}
 use Rattle.sip_standard.specs.KeyMachine.{MachineKind}
 use Rattle.sip_states.specs.KeySets.{coded_of, coded_holds, StateOf}
 use Rattle.sip_states.specs.AnySet.{meaning_of}

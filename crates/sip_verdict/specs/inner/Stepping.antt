@@ -4,7 +4,8 @@ use Rattle.sip_standard.specs.MachineEvent.{MachineEvent}
 use Rattle.sip_machine.specs.Rules.{Rules}
 use Rattle.sip_verdict.specs.declared.passing.Fate.{Fate}
 use Rattle.sip_verdict.specs.declared.passing.Fate.TheVariants.{Runs, NoRun, TooWide}
-use Rattle.sip_states.specs.Runs.{RuledRun, AfterRun, IsWide}
+use Rattle.sip_states.specs.Runs.{IsWide}
+use Rattle.sip_states.specs.inner.Ruled.{RuledRun, AfterRun}
 use Rattle.sip_states.specs.Held.{Held}
 use Rattle.sip_verdict.specs.inner.Leads.{Leads}
 

@@ -1,10 +1,10 @@
 -- What a survey that takes the entries of a log as they come stands for.
-use Rattle.std.specs.Prelude.{◌≡◌, ◌≢◌, ◌≤◌, ◌+◌, ℕ, Bool, true, false, List, ◌++◌, Option, Some, None, Result, Err, Contains, length, max, slice_get}
+use Rattle.std.specs.Prelude.{◌≡◌, ◌≢◌, ◌≤◌, ◌<◌, ◌+◌, ◌^◌, ℕ, Bool, true, false, List, ◌++◌, Option, Some, None, Result, Err, Contains, length, max, slice_get}
 use Rattle.sip_standard.specs.Key.{KeyParts}
-use Rattle.sip_standard.specs.Times.{Times}
+use Rattle.sip_standard.specs.Times.{Times, last_moment}
 use Rattle.sip_machine.specs.Texts.{Texts}
 use Rattle.sip_states.specs.Runs.{RuledRun}
-use Rattle.sip_states.specs.Tables.{Tabled}
+use Rattle.sip_states.specs.Tables.{Tabled, most_keys}
 use Rattle.sip_verdict.specs.declared.step_error.StepError.{StepError}
 use Rattle.sip_verdict.specs.declared.survey_end.SurveyEnd.{SurveyEnd}
 use Rattle.sip_standard.specs.Observation.{Observation}
@@ -75,6 +75,14 @@ pub record SurveysFor (s : Surveying) (es : List (Observation KeyParts)) : Type 
   pub moment : s.moment ≡ newest_moment es
   pub follows : AreSurveyed s.texts s.tables s.deaf s.left es
   pub histories : AreHistories es s.histories
+
+-- an entry of this number and moment may come after one of the number count and the moment last, to a survey of so many transactions: it may begin two more
+pub record MayFollow (count last transactions number moment : ℕ) : Type 0 where
+  pub next : number ≡ count + 1
+  pub order : last ≤ moment
+  pub within : number < 2 ^ 32
+  pub limit : moment ≤ last_moment
+  pub room : transactions + 2 ≤ most_keys
 
 -- what a survey can answer: after a failure that it failed
 abbrev pub MayAnswer : Bool → Result Unit StepError → Type 0

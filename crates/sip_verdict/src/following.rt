@@ -1,5 +1,5 @@
 //! A survey that takes the entries of a log as they come.
-ghost use Rattle.std.specs.Prelude.{◌≡◌, ◌<◌, ◌-◌, ◌↔◌, ◌++◌, ◌∷◌, [], Bool, false, List, Some, All, Contains, IfSome, IsSomeAnd, IsTrue, OnOk, OnErr, length, slice_get};
+ghost use Rattle.std.specs.Prelude.{◌≡◌, ◌≤◌, ◌<◌, ◌+◌, ◌-◌, ◌↔◌, ◌++◌, ◌∷◌, [], Bool, false, List, Some, All, Contains, IfSome, IsSomeAnd, IsTrue, OnOk, OnErr, length, slice_get};
 ghost use Rattle.std.specs.Result.{is_err};
 ghost use Rattle.sip_standard.specs.Key.{KeyParts};
 ghost use Rattle.sip_log.specs.Told.{item};
@@ -12,8 +12,7 @@ ghost use Rattle.sip_verdict.specs.SurveyOf.{AreFoundAt};
 ghost use Rattle.sip_verdict.specs.Forgetting.{ForgetsUpTo, remembered};
 ghost use Rattle.sip_verdict.specs.Named.{AreMany};
 ghost use Rattle.sip_verdict.specs.SurveyText.{IsFirstOf, IsLastOf};
-ghost use Rattle.sip_verdict.specs.Judging.{MayComeNext};
-ghost use Rattle.sip_verdict.specs.Surveys.{AreFewKept, IsStillNamed, MayAnswer, SurveysFor, end_after};
+ghost use Rattle.sip_verdict.specs.Surveys.{AreFewKept, IsStillNamed, MayAnswer, MayFollow, SurveysFor, end_after};
 
 use crate::entries::find_next;
 use crate::finding::Finding;
@@ -21,7 +20,7 @@ use crate::forgetting::{Newest, forget};
 use crate::histories::Histories;
 use crate::standing::Standing;
 use crate::step_error::StepError;
-use crate::stream::may_come_next;
+use crate::stream::LAST_MOMENT;
 use crate::survey_end::SurveyEnd;
 use crate::transaction::Transaction;
 use crate::troubled::Troubled;
@@ -46,8 +45,7 @@ pub struct Survey<H: BuildHasher> {
 }
 
 impl<H: BuildHasher> Model for Survey<H> {
-    ghost use Rattle.std.specs.Prelude.{◌≡◌, ◌≤◌, ◌+◌, [], false};
-    ghost use Rattle.sip_standard.specs.LogSays.{most_entries};
+    ghost use Rattle.std.specs.Prelude.{◌≡◌, ◌≤◌, ◌+◌, ◌^◌, [], false};
     ghost use Rattle.sip_verdict.specs.Surveys.{Surveying};
     ghost use Rattle.sip_verdict.specs.inner.TablesTracking.{MayTake};
     ghost use Rattle.sip_verdict.specs.inner.Surveying.{AreWatched, IsFresh};
@@ -57,7 +55,22 @@ impl<H: BuildHasher> Model for Survey<H> {
     ghost view = { λ s. record { number = s.number; moment = s.moment; texts = s.standing.book; tables = s.standing.tables; deaf = s.troubled.deaf.items; histories = s.histories; left = s.left; failed = s.failed } };
 
     ghost invariant = { λ s. s.failed ≡ false → MayTake s.standing.book s.standing.tables (s.number + 1) s.moment × AreWatched [] s.standing.tables s.troubled
-        × IsFresh s.troubled × (s.left ≤ most_entries + 1) × (s.number ≤ most_entries) };
+        × IsFresh s.troubled × (s.left ≤ 2 ^ 32) };
+}
+
+/// The most transactions that there can be at a time.
+const MOST_TRANSACTIONS: u32 = 2_000_000;
+
+/// Whether the entry may come after one of this number and moment, where there are so many transactions.
+fn may_follow(number: u32, moment: u64, transactions: u32, entry: &Entry) -> bool
+    ensures { IsTrue result ↔ MayFollow number moment transactions entry.now.number entry.now.moment }
+{
+    if entry.number == 0 || entry.number - 1 != number {
+        return false;
+    }
+    moment <= entry.moment
+        && entry.moment <= LAST_MOMENT
+        && transactions <= MOST_TRANSACTIONS - 2
 }
 
 impl<H: BuildHasher + Drop> Survey<H> {
@@ -65,6 +78,7 @@ impl<H: BuildHasher + Drop> Survey<H> {
     pub fn new(alloc: Global, params: Params, hasher: H) -> Survey<H>
         ensures stands { SurveysFor result [] }
         ensures times { result.tables.times ≡ params }
+        ensures none { result.tables.keys ≡ [] }
     {
         Survey {
             alloc,
@@ -78,19 +92,20 @@ impl<H: BuildHasher + Drop> Survey<H> {
         }
     }
 
-    /// Whether the entry may come next: its number is one above that of the entry before, counted from 1, its moment is not
-    /// below that one's, and both are within the limits of a log. After an error any entry may.
+    /// Whether the entry may come next: its number is one above that of the entry before, counted from 1, its moment is not below that
+    /// one's and not after the last of a log, and two more transactions have room: there are at most 2,000,000. After an error any entry
+    /// may.
     pub fn may_take(&self, entry: &Entry) -> bool
-        ensures { IsTrue result ↔ (self.now.failed ≡ false → MayComeNext self.now.number self.now.moment entry.now.number entry.now.moment) }
+        ensures { IsTrue result ↔ (self.now.failed ≡ false → MayFollow self.now.number self.now.moment (length self.now.tables.keys) entry.now.number entry.now.moment) }
     {
-        self.failed || may_come_next(self.number, self.moment, entry)
+        self.failed || may_follow(self.number, self.moment, self.standing.transactions(), entry)
     }
 
     /// Judges the next entry, and appends what is found at it: the fault of its message, then the transactions that break by number,
     /// then those that are followed no further by number. Each transaction is found once. After an error every call answers
     /// `StepError::Failed`, and appends nothing.
     pub fn entry(&mut self, entry: &Entry, found: &mut Vec<Finding>) -> Result<(), StepError>
-        requires { self.old.failed ≡ false → MayComeNext self.old.number self.old.moment entry.now.number entry.now.moment }
+        requires { self.old.failed ≡ false → MayFollow self.old.number self.old.moment (length self.old.tables.keys) entry.now.number entry.now.moment }
         ensures found { OnOk result ((es : List (Observation KeyParts)) → SurveysFor self.old es
             → (e : Observation KeyParts) × (here : List Finding) × message_reading.Observes es (item entry.now) e
             × AreFoundAt self.old.tables.times es e here × (found.new.items ≡ found.old.items ++ here) × SurveysFor self.new (es ++ e ∷ [])) }
@@ -99,6 +114,7 @@ impl<H: BuildHasher + Drop> Survey<H> {
         ensures newest { OnOk result ((self.new.number ≡ entry.now.number) × (self.new.moment ≡ entry.now.moment)) }
         ensures front { OnErr result ((more : List Finding) × (found.new.items ≡ found.old.items ++ more)) }
         ensures keyless { OnOk result (ConcernsNone (item entry.now) → All (Contains self.old.texts) self.new.texts) }
+        ensures keys { OnOk result (length self.new.tables.keys ≤ length self.old.tables.keys + 2) }
         ensures times { OnOk result (self.new.tables.times ≡ self.old.tables.times) }
     {
         if self.failed {

@@ -16,7 +16,7 @@ use Rattle.sip_verdict.specs.Keyed.{keys_of}
 use Rattle.sip_verdict.specs.Verdicts.{IsTrouble}
 use Rattle.sip_standard.specs.VerdictOf.{IsVerdictOf}
 use Rattle.sip_verdict.specs.MessageReading.{key_machines, message_reading}
-use Rattle.sip_verdict.specs.Judging.{Judging, StandsFor, MayComeNext, IsNext}
+use Rattle.sip_verdict.specs.Judging.{Judging, StandsFor, IsNext}
 use Rattle.sip_verdict.specs.inner.Sweeping.{AreFollowedOn, StandsForRead}
 use Rattle.sip_verdict.specs.inner.TablesTracking.{MayTake}
 use Rattle.sip_verdict.specs.inner.Walking.{HasRead}
@@ -30,8 +30,8 @@ use Rattle.sip_verdict.proofs.sweeps.FollowedLemmas.{observed_moment, followed_k
 use Rattle.sip_log.specs.Reading as log
 
 -- an entry may be taken that may come next
-pub may_take_next : (texts : Texts) (t : Tabled) (count last number moment : ℕ) → MayComeNext count last number moment → MayTake texts t (count + 1) last → MayTake texts t number moment
-may_take_next texts t count last number moment next may = subst (λ n. MayTake texts t n moment) (sym next.next) (may_later texts t (count + 1) last moment next.order may)
+pub may_take_next : (texts : Texts) (t : Tabled) (count last number moment : ℕ) → number ≡ count + 1 → last ≤ moment → MayTake texts t (count + 1) last → MayTake texts t number moment
+may_take_next texts t count last number moment next order may = subst (λ n. MayTake texts t n moment) (sym next) (may_later texts t (count + 1) last moment order may)
 
 -- the verdict where all entries are legal
 pub legal_is : (j : Judging) (es : List (Observation KeyParts)) → StandsFor j es → length j.tables.sets ≡ length j.tables.keys → (count many : ℕ) → count ≡ j.number → many ≡ length j.tables.keys

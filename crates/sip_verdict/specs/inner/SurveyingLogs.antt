@@ -103,13 +103,14 @@ pub record IsWritten (part : Option PartOf) (input : List ℕ) (summary : Summar
   pub sums : SumsUp found summary
   pub written : Appends before after text
 
--- the survey goes on, and took all entries that were read up to this place
+-- the survey goes on, and took all entries that were read up to this place, with each of which at most two transactions came
 pub record IsSurveyAt (s : Surveying) (place : Place) : Type 0 where
   pub on : place.stage ≡ entries
   pub goes_on : s.failed ≡ false
   pub counts : s.number ≡ place.count
   pub newest : s.moment ≡ place.last
   pub few : place.count ≤ most_entries
+  pub room : length s.tables.keys ≤ place.count + place.count
 
 -- the survey stands for the entries that were read of the input, as they are taken, and this was found at them: with what is found at those that are left it is found at all
 pub record SurveysRead (part : Option PartOf) (s : Surveying) (found : List Finding) (start : Option (List ℕ)) (now : log.ReaderState) : Type 0 where

@@ -29,6 +29,7 @@ loop-found-preserved g c =
         counts = taken.newest.0 ∙ sym moves.2;
         newest = taken.newest.1 ∙ sym moves.3;
         few = (let number = moves.1.number_is in let count = moves.2 in let low = moves.4 in omega arith);
+        room = (let number = moves.1.number_is in let count = moves.2 in let more = taken.keys in let room = l.invariant.at.room in omega arith);
       };
       counts_are = sym taken.newest.0;
       told = λ start reads.

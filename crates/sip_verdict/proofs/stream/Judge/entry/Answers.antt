@@ -10,7 +10,7 @@ judge_next-requires-clause-may g c =
     let e = c.args.entry.now in
     let is = c.self.view_is in
     let next = subst (λ j. MayComeNext j.number j.moment e.number e.moment) (sym is) (c.requires (ap (λ j. j.stage) (sym is) ∙ c.in-Open.is)) in
-    may_take_next s.standing.book s.standing.tables s.number s.moment e.number e.moment next (c.self.invariant c.in-Open.is).0
+    may_take_next s.standing.book s.standing.tables s.number s.moment e.number e.moment next.next next.order (c.self.invariant c.in-Open.is).0
 
 pub returns-in-Ok-None-clause-judged : goal.returns-in-Ok-None-clause-judged
 returns-in-Ok-None-clause-judged g c es stands =

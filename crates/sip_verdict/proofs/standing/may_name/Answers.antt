@@ -16,5 +16,4 @@ returns-in-Own g c none =
     let own = c.in-Own.own in
     let names = NamesNot t c.args.number in
     subst (λ x. (is_all x ≡ false) × All names (each x)) (sym c.in-Own.is)
-        (refl, All-cons names own [] (names_not c.args.number own t c.set.result.now c.set.ensures (c.may_name.ensures none)) (All-nil names))
-
+    (refl, All-cons names own [] (names_not c.args.number own t c.set.result.now c.set.ensures (c.may_name.ensures none)) (All-nil names))

@@ -8,12 +8,12 @@ use Rattle.sip_verdict.specs.SurveyText.{SumsUp}
 use Rattle.sip_survey_program.specs.Answers.{IsSurveyFor, IsSurveyed}
 use Rattle.sip_survey_program.specs.Status.{status_of}
 
-pub answered : (part : Option PartOf) (left input before after : Option (List ℕ)) (s : Summary) (status : ℕ) → left ≡ input
-    → IfSome left (λ bytes. (found : List Finding) × (text : List ℕ) × IsSurveyFor part bytes found s.end text × SumsUp found s × Appends before after text)
-    → ((found : List Finding) → SumsUp found s → status ≡ status_of found s.end) → IsSurveyed part input before after status
-answered part left input before after s status same written counts = subst (λ log. IsSurveyed part log before after status) same (by left written)
+pub answered : (forget : Option ℕ) (part : Option PartOf) (left input before after : Option (List ℕ)) (s : Summary) (status : ℕ) → left ≡ input
+    → IfSome left (λ bytes. (found : List Finding) × (text : List ℕ) × IsSurveyFor forget part bytes found s.end text × SumsUp found s × Appends before after text)
+    → ((found : List Finding) → SumsUp found s → status ≡ status_of found s.end) → IsSurveyed forget part input before after status
+answered forget part left input before after s status same written counts = subst (λ log. IsSurveyed forget part log before after status) same (by left written)
   where
-    by : (log : Option (List ℕ)) → IfSome log (λ bytes. (found : List Finding) × (text : List ℕ) × IsSurveyFor part bytes found s.end text × SumsUp found s × Appends before after text)
-        → IsSurveyed part log before after status
+    by : (log : Option (List ℕ)) → IfSome log (λ bytes. (found : List Finding) × (text : List ℕ) × IsSurveyFor forget part bytes found s.end text × SumsUp found s × Appends before after text)
+        → IsSurveyed forget part log before after status
     by None none = tt
     by (Some bytes) (found, text, told, sums, appends) = (found, s.end, text, told, appends, counts found sums)

@@ -1,5 +1,5 @@
 -- A survey that forgets nothing is one of those that may forget.
-use Rattle.std.proofs.Common.{◌≡◌, ◌+◌, ◌∙◌, inl, inr, ℕ, suc, Option, Some, None, MatchOption, List, [], ◌∷◌, ◌++◌, Contains, length, take, if◌then◌else◌, refl, sym, ap, subst, arith, append_assoc, length-append}
+use Rattle.std.proofs.Common.{◌≡◌, ◌∙◌, inl, inr, ℕ, suc, Option, Some, None, MatchOption, List, [], ◌∷◌, ◌++◌, Contains, length, take, if◌then◌else◌, refl, sym, ap, subst, arith, append_assoc, length-append}
 use Rattle.std.proofs.lemmas.List.{append-nil, take_at}
 use Rattle.sip_standard.specs.Key.{KeyParts}
 use Rattle.sip_standard.specs.Times.{Times}
@@ -79,11 +79,11 @@ never_after age p es (item ∷ items) close found end (f ∷ after) lines (e, he
     )
 
 pub never_whole : (age : ℕ) (input : List ℕ) (found : List Finding) (end : SurveyEnd) (text : List ℕ) → IsToldOf input found end text → IsToldForgetting age None input found end text
-never_whole age input found end text (inl (lacks, none, ended), es, inl (also, empty), lines, are, whole) =
+never_whole age input found end text (inl (lacks, none, ended), (es, inl (also, empty), (lines, are, whole))) =
     inl (lacks, none, ended, whole ∙ ap (λ l. l ++ end_text end (length found)) (subst (λ fs. IsTextOf es fs lines) none are) ∙ ap (λ fs. end_text end (length fs)) none)
-never_whole age input found end text (inl (lacks, none, ended), es, inr (q, others, last, says, seen), told) = absurd (lacks says.format q _ says.header)
-never_whole age input found end text (inr (p, items, close, says, is), es, inl (lacks, empty), told) = absurd (lacks says.format p _ says.header)
-never_whole age input found end text (inr (p, items, close, says, is), es, inr (q, others, last, say, seen), lines, are, whole) =
+never_whole age input found end text (inl (lacks, none, ended), (es, inr (q, others, last, says, seen), told)) = absurd (lacks says.format q _ says.header)
+never_whole age input found end text (inr (p, items, close, says, is), (es, inl (lacks, empty), told)) = absurd (lacks says.format p _ says.header)
+never_whole age input found end text (inr (p, items, close, says, is), (es, inr (q, others, last, say, seen), (lines, are, whole))) =
     let saw : AreSeen [] items es = says_same (λ r xs a. AreSeen [] xs es) input p q items others close last says say seen in
     inr (p, items, close, items, lines, says, refl, never_after age p [] items close found end es lines is saw are, whole)
 
@@ -110,10 +110,10 @@ part_one part (item ∷ items) (x ∷ cuts) (y ∷ others) (one, is) (other, are
     ap (λ z. z ∷ cuts) (item_one part item x y one other) ∙ ap (λ zs. y ∷ zs) (part_one part items cuts others is are)
 
 pub never_part : (age : ℕ) (part : PartOf) (input : List ℕ) (found : List Finding) (end : SurveyEnd) (text : List ℕ) → IsPartToldOf part input found end text → IsToldForgetting age (Some part) input found end text
-never_part age part input found end text (inl (lacks, none, ended), es, inl (also, empty), lines, are, whole) =
+never_part age part input found end text (inl (lacks, none, ended), (es, inl (also, empty), (lines, are, whole))) =
     inl (lacks, none, ended, whole ∙ ap (λ l. l ++ end_text end (length found)) (subst (λ fs. IsTextOf es fs lines) none are) ∙ ap (λ fs. end_text end (length fs)) none)
-never_part age part input found end text (inl (lacks, none, ended), es, inr (q, others, last, taken, says, cut, seen), told) = absurd (lacks says.format q _ says.header)
-never_part age part input found end text (inr (p, items, close, cuts, says, cut, is), es, inl (lacks, empty), told) = absurd (lacks says.format p _ says.header)
-never_part age part input found end text (inr (p, items, close, cuts, says, cut, is), es, inr (q, others, last, taken, say, part_of, seen), lines, are, whole) =
+never_part age part input found end text (inl (lacks, none, ended), (es, inr (q, others, last, taken, says, cut, seen), told)) = absurd (lacks says.format q _ says.header)
+never_part age part input found end text (inr (p, items, close, cuts, says, cut, is), (es, inl (lacks, empty), told)) = absurd (lacks says.format p _ says.header)
+never_part age part input found end text (inr (p, items, close, cuts, says, cut, is), (es, inr (q, others, last, taken, say, part_of, seen), (lines, are, whole))) =
     let same : taken ≡ cuts = part_one part items taken cuts (says_same (λ r xs a. IsPartLog part xs taken) input p q items others close last says say part_of) cut in
     inr (p, items, close, cuts, lines, says, cut, never_after age p [] cuts close found end es lines is (subst (λ xs. AreSeen [] xs es) same seen) are, whole)

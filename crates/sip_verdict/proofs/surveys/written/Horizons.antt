@@ -1,5 +1,5 @@
 -- The horizon of a survey that forgets, where entries come and where some are forgotten.
-use Rattle.std.proofs.Common.{◌≡◌, ◌≤◌, ◌+◌, ◌⊎◌, ◌∙◌, inl, inr, ℕ, Bool, List, [], ◌∷◌, ◌++◌, length, take, sym, ap, arith, length-append}
+use Rattle.std.proofs.Common.{◌≡◌, ◌≢◌, ◌≤◌, ◌+◌, ◌⊎◌, ◌∙◌, inl, inr, ℕ, Bool, List, [], ◌∷◌, ◌++◌, length, take, sym, ap, arith, length-append}
 use Rattle.std.specs.Prelude.{filter}
 use Rattle.std.proofs.lemmas.List.{take-append-le, take_all, take-map}
 use Rattle.sip_standard.specs.Key.{KeyParts}
@@ -83,3 +83,11 @@ horizon_left m n es are age until number moment =
     by : (m.until ≡ 0) ⊎ IsLongAgo m.age m.until es → (n.until ≡ 0) ⊎ IsLongAgo n.age n.until es
     by (inl none) = inl (until ∙ none)
     by (inr ago) = let before = ap (λ i. newest_moment (take i es)) until in inr (omega (arith, before, age, ago))
+
+-- where some may be forgotten, what is up to there came long ago
+pub came_long_ago : (m : Horizon) (es : List (Observation KeyParts)) → IsHorizonOf m es → m.until ≢ 0 → IsLongAgo m.age m.until es
+came_long_ago m es are some = by are.long_ago
+  where
+    by : (m.until ≡ 0) ⊎ IsLongAgo m.age m.until es → IsLongAgo m.age m.until es
+    by (inl none) = absurd (some none)
+    by (inr ago) = ago

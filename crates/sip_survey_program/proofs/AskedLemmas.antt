@@ -25,7 +25,7 @@ Forgetting asked forget = forget_words forget ++ part_words asked.part ++ log_wo
 -- words that do not begin so have it forget nothing
 pub without_forget : (words : List (List ℕ)) (r : Option Asked) → begin_with (codes "--forget") words ≡ false → IsRestFor None words r → IsAskedBy words r
 without_forget words (Some asked) other (is, part, none) =
-    (is ∙ ap (Forgetting asked) (sym none), part, subst (λ o. IfSome o (λ age. age < 2 ^ 32)) (sym none) tt)
+    (is ∙ ap (Forgetting asked) (sym none), (part, subst (λ o. IfSome o (λ age. age < 2 ^ 32)) (sym none) tt))
 without_forget words None other never = λ asked can same. by asked can same asked.forget refl
   where
     by : (asked : Asked) → CanBeNamed asked → words ≡ words_for asked → (forget : Option ℕ) → asked.forget ≡ forget → ⊥
@@ -60,8 +60,7 @@ forgets asked second more same =
 pub with_forget : (words : List (List ℕ)) (second : List ℕ) (more : List (List ℕ)) (age : ℕ) (r : Option Asked) → words ≡ codes "--forget" ∷ second ∷ more → age < 2 ^ 32 → second ≡ decimal age → IsRestFor (Some age) more r → IsAskedBy words r
 with_forget words second more age (Some asked) whole low next (is, part, forget) = (
   whole ∙ ap (λ w. codes "--forget" ∷ w ∷ more) next ∙ ap (λ ws. codes "--forget" ∷ decimal age ∷ ws) is ∙ ap (Forgetting asked) (sym forget),
-  part,
-  subst (λ o. IfSome o (λ n. n < 2 ^ 32)) (sym forget) low,
+  (part, subst (λ o. IfSome o (λ n. n < 2 ^ 32)) (sym forget) low),
 )
 with_forget words second more age None whole low next never = λ asked can same. never asked can.0 (forgets asked second more (sym whole ∙ same)).others
 

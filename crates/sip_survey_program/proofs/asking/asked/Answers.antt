@@ -4,8 +4,8 @@ use Rattle.sip_survey_program.specs.Asked.{IsRestFor, begin_with}
 use Rattle.sip_survey_program.proofs.AskedLemmas.{no_forget, split_first, with_forget, without_forget}
 use Rattle.sip_survey_program.proofs.asking.asked.Goals as goal
 
-pub returns-then : goal.returns-then
-returns-then c =
+pub returns-then-not-names_forget : goal.returns-then-not-names_forget
+returns-then-not-names_forget c =
     let other : begin_with (codes "--forget") (map string_bytes c.args.words.now) ≡ false = search rules in
     without_forget (map string_bytes c.args.words.now) c.rest_of.result other c.rest_of.ensures
 
@@ -22,5 +22,5 @@ returns c =
     let names : begin_with (codes "--forget") (map string_bytes words) ≡ true = search rules in
     let split = split_first string_bytes (codes "--forget") words c.index-words-1.result names c.index-words-1.is in
     let age = c.in_ok-age.ensures in
-    with_forget (map string_bytes words) _ _ c.in_ok-age.age c.rest_of.result split age.0 (sym c.as_str.ensures.value ∙ age.1)
-    (subst (λ ws. IsRestFor _ ws c.rest_of.result) (ap (map string_bytes) (take_rest words 2)) c.rest_of.ensures)
+    with_forget (map string_bytes words) _ _ c.in_ok-age.age c.rest_of-2.result split age.0 (sym c.as_str.ensures.value ∙ age.1)
+    (subst (λ ws. IsRestFor _ ws c.rest_of-2.result) (ap (map string_bytes) (take_rest words 2)) c.rest_of-2.ensures)

@@ -1,4 +1,4 @@
-use Rattle.std.proofs.Common.{◌≡◌, ◌∙◌, true, false, codes, drop, map, string_bytes, sym, ap, subst, rules}
+use Rattle.std.proofs.Common.{◌≡◌, ◌∙◌, true, false, Some, codes, drop, map, string_bytes, sym, ap, subst, rules}
 use Rattle.std.proofs.lemmas.List.{take_rest}
 use Rattle.sip_survey_program.specs.Asked.{IsRestFor, begin_with}
 use Rattle.sip_survey_program.proofs.AskedLemmas.{no_forget, split_first, with_forget, without_forget}
@@ -23,4 +23,4 @@ returns c =
     let split = split_first string_bytes (codes "--forget") words c.index-words-1.result names c.index-words-1.is in
     let age = c.in_ok-age.ensures in
     with_forget (map string_bytes words) _ _ c.in_ok-age.age c.rest_of-2.result split age.0 (sym c.as_str.ensures.value ∙ age.1)
-    (subst (λ ws. IsRestFor _ ws c.rest_of-2.result) (ap (map string_bytes) (take_rest words 2)) c.rest_of-2.ensures)
+    (subst (λ ws. IsRestFor (Some c.in_ok-age.age) ws c.rest_of-2.result) (ap (map string_bytes) (take_rest words 2)) c.rest_of-2.ensures)

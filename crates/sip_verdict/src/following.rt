@@ -168,6 +168,14 @@ impl<H: BuildHasher + Drop> Survey<H> {
         }
     }
 
+    /// How many transactions there are that it did not forget.
+    pub fn transactions(&self) -> u32
+        ensures transactions { result ≡ length self.now.tables.keys }
+        ensures are { (es : List (Observation KeyParts)) → SurveysFor self.now es → result ≡ length (keys_in es) }
+    {
+        self.standing.transactions()
+    }
+
     /// How a log ends that ends after these entries: with how many they are, and how many transactions. None after an error.
     pub fn end(&self) -> Option<SurveyEnd>
         ensures end { result ≡ end_after self.now.number (length self.now.tables.keys) self.now.failed }

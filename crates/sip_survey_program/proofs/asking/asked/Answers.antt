@@ -1,4 +1,4 @@
-use Rattle.std.proofs.Common.{◌≡◌, ◌∙◌, true, false, Some, codes, drop, map, string_bytes, sym, ap, subst, rules}
+use Rattle.std.proofs.Common.{◌≡◌, ◌∙◌, true, false, Some, codes, map, string_bytes, sym, ap, subst, rules}
 use Rattle.std.proofs.lemmas.List.{take_rest}
 use Rattle.sip_survey_program.specs.Asked.{IsRestFor, begin_with}
 use Rattle.sip_survey_program.proofs.AskedLemmas.{no_forget, split_first, with_forget, without_forget}

@@ -1,4 +1,4 @@
-use Rattle.std.proofs.Common.{◌≡◌, List, ℕ, IfSome, map, string_bytes, rules}
+use Rattle.std.proofs.Common.{◌≡◌, IfSome, map, string_bytes, rules}
 use Rattle.sip_survey_program.proofs.Answered.{answered_to}
 use Rattle.sip_survey_program.proofs.running.run.Goals as goal
 

@@ -14,7 +14,7 @@ use Rattle.sip_verdict.specs.declared.finding.Finding.{Finding}
 use Rattle.sip_verdict.specs.declared.finding.Finding.TheVariants.{Malformed, Breach, Undecided}
 use Rattle.sip_verdict.specs.declared.survey_end.SurveyEnd.{SurveyEnd}
 use Rattle.sip_verdict.specs.ForgettingText.{IsToldAfter, IsToldForgetting}
-use Rattle.sip_verdict.specs.SurveyOf.{AreFoundAt, IsFoundAt, IsSurveyAfter}
+use Rattle.sip_verdict.specs.SurveyOf.{IsFoundAt, IsSurveyAfter}
 use Rattle.sip_verdict.specs.SurveyParts.{IsPartItem, IsPartLog, IsPartToldOf}
 use Rattle.sip_verdict.specs.SurveyText.{IsTextOf, IsToldOf, end_text, entry_of}
 use Rattle.sip_verdict.proofs.verdicts.MessageUnique.{observes_one}

@@ -196,20 +196,22 @@ fn forgets_or_fails(
     Err(error)
 }
 
-/// Takes the entries of a log, and forgets after each all that is over.
+/// Takes the entries of a log, and forgets after each all that is over, until the survey fails there.
 fn takes_and_fails(
     rt: &impl Abort,
     surveyed: &mut Surveyed<'_>,
     found: &mut Vec<Finding>,
-) -> Result<(), Fail> {
+) -> Result<Option<StepError>, Fail> {
     for _ in 0..100 {
         let Some(entry) = surveyed.next()? else {
             break;
         };
         take(rt, &mut surveyed.survey, &entry, found)?;
-        forgets_or_fails(rt, &mut surveyed.survey, entry.number)?;
+        if let Err(error) = forgets_or_fails(rt, &mut surveyed.survey, entry.number) {
+            return Ok(Some(error));
+        }
     }
-    Ok(())
+    Ok(None)
 }
 
 /// `tests/growths` refuses each growth in turn. A survey that failed has no end, and one that did not has the server of b alone.
@@ -219,16 +221,16 @@ fn refused_while_a_survey_forgets(rt: HostRuntime) -> Result<(), Fail> {
     let log = log_of(rt.alloc(), words)?;
     let mut found = Vec::new(rt.alloc());
     let mut surveyed = Surveyed::open(rt.alloc(), log.as_str().as_bytes())?;
-    let done = takes_and_fails(&rt, &mut surveyed, &mut found);
+    let failed = takes_and_fails(&rt, &mut surveyed, &mut found);
     let end = surveyed.end();
-    if let Err(error) = done {
-        holds(&rt, end.is_none(), "of a survey that failed");
-        return Err(error);
-    }
-    let clean = SurveyEnd::Clean {
-        entries: 3,
-        transactions: 1,
+    let Some(error) = failed? else {
+        let clean = SurveyEnd::Clean {
+            entries: 3,
+            transactions: 1,
+        };
+        holds(&rt, end == Some(clean), "at the end");
+        return Ok(());
     };
-    holds(&rt, end == Some(clean), "at the end");
-    Ok(())
+    holds(&rt, end.is_none(), "of a survey that failed");
+    Err(error.into())
 }

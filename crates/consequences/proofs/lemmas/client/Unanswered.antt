@@ -17,7 +17,8 @@ use Rattle.sip_standard.specs.Figure.{Figure, keeps, gains, Owing, quiet, Emits,
 use Rattle.sip_standard.specs.InviteClient.{InviteClientPhase, Idle, Ended, Calling, Proceeding, Accepted, Completed, Sends, ends_refused}
 use Rattle.sip_standard.specs.Stands.{Stands, StandsAfter}
 use Rattle.consequences.specs.Events.{SendsRequest, GetsResponse, IsAnyCode, IsRefused, IsRestart}
-use Rattle.consequences.proofs.lemmas.run.Lists.{any-last, any-earlier, any-none, All-front, All-last}
+use Rattle.sip_machine.specs.inner.DebtLaws.{All-front}
+use Rattle.consequences.proofs.lemmas.run.Lists.{any-last, any-earlier, any-none, All-last}
 use Rattle.consequences.proofs.lemmas.client.Once.{IsInvited, invites-once, over-emits, over-steps}
 use Rattle.consequences.proofs.lemmas.run.Running.{Runs, IsKept, left_at, step-of, stands-run, Cut, cut, run-keeps}
 use Rattle.consequences.proofs.lemmas.client.InviteClients.{Row, Receiving, client, IsDone, Answers, IsReceiving, pays-nothing, sends-idle, sends-calling, sends-proceeding, sends-accepted, sends-completed, sends-ended}

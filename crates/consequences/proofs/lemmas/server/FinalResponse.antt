@@ -20,8 +20,9 @@ use Rattle.sip_standard.specs.Stands.{StandsAfter}
 use Rattle.consequences.specs.Events.{GetsRequest, IsResponse, SendsResponse, IsRestart}
 use Rattle.consequences.specs.Servers.{BeginNoneAnew}
 use Rattle.consequences.proofs.lemmas.server.Asleep.{nothing-to-pay}
-use Rattle.consequences.proofs.lemmas.run.Lists.{any-last, any-earlier, any-none, All-front, All-last}
-use Rattle.consequences.proofs.lemmas.server.Said.{IsOut, IsSaid, IsSaidLast, all-without, all-first, said-later, said-last-later, not-provisional, not-said}
+use Rattle.sip_machine.specs.inner.DebtLaws.{All-front, All-without}
+use Rattle.consequences.proofs.lemmas.run.Lists.{any-last, any-earlier, any-none, All-last}
+use Rattle.consequences.proofs.lemmas.server.Said.{IsOut, IsSaid, IsSaidLast, all-first, said-later, said-last-later, not-provisional, not-said}
 use Rattle.consequences.proofs.lemmas.run.Running.{IsKept, left_at, step-of, stands-run, Cut, cut, run-keeps}
 use Rattle.consequences.proofs.lemmas.server.InviteServers.{Row, IsServer, ReceivedRow, comes, again, again_after, acknowledged, received-row, SentRow, provisional, success, unsuccessful, success_again, repeats, sent-row}
 
@@ -94,7 +95,7 @@ module _ {X : Type 0} (f : Figure X) (p : Times) (held : InviteServerPhase → X
     opens-without P Idle owes left pays opens = absurd (nothing-to-pay P left (subst (λ os. IsWithoutFirst P os left) opens pays))
     opens-without P (Proceeding reliable set last) owes left pays opens =
         let later = opens-later es (e ∷ []) e.moment e.moment (Proceeding reliable set last) owes (omega arith) opens in
-        (later.0, all-without P (λ o. (o.deadline ≤ close_at p e.moment 0) × IsSaid Now o.message) owes left pays later.1)
+        (later.0, All-without P (λ o. (o.deadline ≤ close_at p e.moment 0) × IsSaid Now o.message) owes left pays later.1)
     opens-without P x owes left pays opens = absurd opens
 
     opens-emits : (x : InviteServerPhase) (owes : List Owed) (y : Owing X) → IsOut e → ¬ (SendsResponse IsFinal e) → Opens es e.moment x owes → Emits f p e (record { phase = held x; owes = owes }) y
@@ -226,7 +227,7 @@ module _ {X : Type 0} (f : Figure X) (p : Times) (held : InviteServerPhase → X
       closes-pays P x owes left pays closes =
           closes-later es (e ∷ []) e.moment e.moment x left (omega arith)
           (closes-fewer es e.moment x owes left (λ none. absurd (nothing-to-pay P left (subst (λ os. IsWithoutFirst P os left) none pays)))
-          (λ old. all-without P (λ o. (IsBad × (o.message ≡ final.text)) ⊎ ((o.deadline ≤ close_at p final.moment 0) × IsSaid before o.message)) owes left pays old) closes)
+          (λ old. All-without P (λ o. (IsBad × (o.message ≡ final.text)) ⊎ ((o.deadline ≤ close_at p final.moment 0) × IsSaid before o.message)) owes left pays old) closes)
 
       closes-emits : (x : InviteServerPhase) (owes : List Owed) (y : Owing X) → Closes es e.moment x owes → Emits f p e (record { phase = held x; owes = owes }) y
           → IsAllowed e × HoldsIn (Closes (es ++ e ∷ []) e.moment) y

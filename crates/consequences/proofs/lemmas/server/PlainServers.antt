@@ -19,8 +19,9 @@ use Rattle.sip_standard.specs.PlainServer.{PlainServerPhase, Idle, Trying, Proce
 use Rattle.sip_standard.specs.Stands.{Stands}
 use Rattle.consequences.specs.Events.{GetsAnyRequest, SendsResponse, SendsBytes, IsRestart}
 use Rattle.consequences.proofs.lemmas.server.Asleep.{nothing-to-pay}
-use Rattle.consequences.proofs.lemmas.run.Lists.{any-last, any-earlier, any-none, All-front, All-last}
-use Rattle.consequences.proofs.lemmas.server.Said.{IsOut, IsSaid, all-without, all-first, said-later, not-provisional, not-said}
+use Rattle.sip_machine.specs.inner.DebtLaws.{All-front, All-without}
+use Rattle.consequences.proofs.lemmas.run.Lists.{any-last, any-earlier, any-none, All-last}
+use Rattle.consequences.proofs.lemmas.server.Said.{IsOut, IsSaid, all-first, said-later, not-provisional, not-said}
 use Rattle.consequences.proofs.lemmas.run.MustSend.{still-owed, other-paid, more-owed, no-end, in-time}
 use Rattle.consequences.proofs.lemmas.run.Running.{IsKept, left_at, step-of, stands-run, Cut, cut, run-keeps}
 
@@ -100,7 +101,7 @@ module _ (p : Times) where
     opens-without : (P : Owed → Type 0) (x : PlainServerPhase) (owes left : List Owed) → IsWithoutFirst P owes left → Opens es x owes → Opens Now x left
     opens-without P x owes left pays opens =
         opens-later es (e ∷ []) x left
-        (opens-fewer es x owes left (λ none. absurd (nothing-to-pay P left (subst (λ os. IsWithoutFirst P os left) none pays))) (λ said. all-without P (λ o. IsSaid es o.message) owes left pays said) opens)
+        (opens-fewer es x owes left (λ none. absurd (nothing-to-pay P left (subst (λ os. IsWithoutFirst P os left) none pays))) (λ said. All-without P (λ o. IsSaid es o.message) owes left pays said) opens)
 
     opens-emits : (x : PlainServerPhase) (owes : List Owed) (y : Owing PlainServerPhase) → IsOut e → ¬ (SendsResponse IsFinal e) → Opens es x owes → Emits f p e (record { phase = x; owes = owes }) y → Is (Opens Now) y
     opens-emits x owes y out never opens (inl (row, is_row, to)) = rw to (opens-sent x e.kind row owes out refl never opens is_row)

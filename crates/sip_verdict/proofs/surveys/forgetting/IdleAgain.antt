@@ -1,8 +1,9 @@
 -- A transaction that is surely idle again is as new.
-use Rattle.std.proofs.Common.{◌≡◌, ◌≤◌, ◌<◌, ◌↔◌, ◌⊎◌, inl, inr, ℕ, List, [], ◌∷◌, ◌++◌, All, refl, sym, ap, ◌∙◌, subst, arith, append_assoc, append-nil, zero-le, length-append}
+use Rattle.std.proofs.Common.{◌≡◌, ◌≤◌, ◌<◌, ◌↔◌, ◌⊎◌, inl, inr, ℕ, List, [], ◌∷◌, ◌++◌, All, refl, sym, ap, ◌∙◌, subst, arith, append_assoc, append-nil, zero-le}
 use Rattle.std.proofs.Math.Decide.{dec_le}
-use Rattle.std.proofs.lemmas.List.{same_from_push, get_or_append_left}
+use Rattle.std.proofs.lemmas.List.{same_from_push}
 use Rattle.std.proofs.lemmas.List.Elements.{All-nil, All-weaker, All-push}
+use Rattle.sip_machine.specs.inner.DebtLaws.{All-front}
 use Rattle.sip_standard.specs.Times.{Times}
 use Rattle.sip_standard.specs.MachineEvent.{MachineEvent}
 use Rattle.sip_standard.specs.Figure.{Figure, Owing, quiet, Lasts, MayEnd}
@@ -18,9 +19,6 @@ IsTo m e = e.moment ≤ m
 
 abbrev IsFrom : ℕ → MachineEvent → Type 0
 IsFrom m e = m ≤ e.moment
-
-All-front : {X : Type 0} (P : X → Type 0) (xs : List X) (x : X) → All P (xs ++ x ∷ []) → All P xs
-All-front P xs x all k d low = subst P (get_or_append_left xs (x ∷ []) d k low) (all k d (let long = length-append xs (x ∷ []) in omega (arith, low, long)))
 
 module _ {X : Type 0} (f : Figure X) (p : Times) (lasts : (m : ℕ) → Lasts f p (quiet f.idle) m) (has_no_end : (m : ℕ) → ¬ (MayEnd f p (quiet f.idle) m)) where
   -- no event of a run is after where it stands
@@ -50,7 +48,7 @@ module _ {X : Type 0} (f : Figure X) (p : Times) (lasts : (m : ℕ) → Lasts f 
         go (no early) both = absurd (has_no_end h (subst (λ z. MayEnd f p z h) (both.1 (omega (arith, early))).1 may))
     on more k y (takes evs e x z stands does) from =
         let last : m ≤ e.moment = All-middle (IsFrom m) evs [] e from in
-        let before = (on evs e.moment x stands (All-front (IsFrom m) evs e from)).0 last in
+        let before = (on evs e.moment x stands (All-front (IsFrom m) evs (e ∷ []) from)).0 last in
         (λ high. subst (λ es. Stands f p es e.moment z) (append_assoc old evs (e ∷ [])) (takes (old ++ evs) e x z before does), λ low. absurd (omega (arith, low, last)))
 
   module _ (old : List MachineEvent) (m : ℕ) (only : (x : Owing X) → Stands f p old m x → x ≡ quiet f.idle) (past : All (IsTo m) old) where
@@ -96,7 +94,7 @@ module _ {X : Type 0} (f : Figure X) (p : Times) (lasts : (m : ℕ) → Lasts f 
             subst (λ es. Stands f p es e.moment z) (sym nil) (subst (Stands f p [] e.moment) (sym (only z here)) (new e.moment))
         go (inr (front, d, are)) before =
             let both = same_from_push evs (old ++ front) e d (is ∙ ap (λ ys. old ++ ys) are ∙ sym (append_assoc old front (d ∷ []))) in
-            let later : All (IsFrom m) front = All-front (IsFrom m) front d (subst (All (IsFrom m)) are from) in
+            let later : All (IsFrom m) front = All-front (IsFrom m) front (d ∷ []) (subst (All (IsFrom m)) are from) in
             subst (λ es. Stands f p es e.moment z) (sym are) (subst (λ g. Stands f p (front ++ g ∷ []) e.moment z) both.1 (takes front e x z (before front both.0 later) does))
 
 -- a transaction that is idle again is as new

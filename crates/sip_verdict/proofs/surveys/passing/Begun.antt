@@ -12,6 +12,7 @@ use Rattle.sip_states.specs.AnySet.{start_of}
 use Rattle.sip_states.specs.Tables.{Tabled, Touches}
 use Rattle.sip_states.specs.declared.any_set.AnySet.{AnySet}
 use Rattle.sip_states.proofs.lists.Listed.{Contains-none}
+use Rattle.sip_states.proofs.lists.Places.{push_place}
 use Rattle.sip_verdict.specs.declared.troubled.Troubled.{Troubled}
 use Rattle.sip_standard.specs.Observation.{Observation}
 use Rattle.sip_standard.specs.VerdictOf.{keys_in, events_for}
@@ -22,7 +23,7 @@ use Rattle.sip_verdict.specs.inner.Surveying.{IsFresh, IsFollowed, TablesSurvey,
 use Rattle.sip_verdict.proofs.keys.Keys.{cond_true, cond_false, contains-among, not_among, new_key}
 use Rattle.sip_verdict.proofs.tables.TablesPassing.{All-place}
 use Rattle.sip_verdict.proofs.keys.QuietSets.{leads_later}
-use Rattle.sip_verdict.proofs.tables.TablesTouching.{starts, push-place}
+use Rattle.sip_verdict.proofs.tables.TablesTouching.{starts}
 use Rattle.sip_verdict.proofs.surveys.found.Sound.{idle_runs}
 use Rattle.sip_verdict.proofs.surveys.passing.Unheard.{unheard_narrow}
 
@@ -51,7 +52,7 @@ module _ (old t : Tabled) (h : AreMore old t) (k : KeyParts) (n : ℕ) where
     long = (let a = length-append t.sets (start_of t.times k ∷ []) in let b = length-append t.keys (k ∷ []) in let same = h.long in omega arith);
     few = (let b = length-append t.keys (k ∷ []) in let low = h.few in omega arith);
     among = λ key has. Contains-append_left t.keys (k ∷ []) key (h.among key has);
-    each = λ i key s at here. by i key s (push-place t.keys k i key at) (push-place t.sets (start_of t.times k) i s here);
+    each = λ i key s at here. by i key s (push_place t.keys k i key at) (push_place t.sets (start_of t.times k) i s here);
   })
     where
       by : (i : ℕ) (key : KeyParts) (s : AnySet) → (slice_get t.keys i ≡ Some key) ⊎ ((i ≡ length t.keys) × (k ≡ key)) → (slice_get t.sets i ≡ Some s) ⊎ ((i ≡ length t.sets) × (start_of t.times k ≡ s))

@@ -72,7 +72,7 @@ named_of machine texts x =
     ap₂ (λ of_phase owed. of_phase ++ owed) ((coded_holds machine).named texts x.phase) (owed_named texts x.owes)
     ∙ sym (map-append (text_of texts) ((coded_of machine).names x.phase) (owes_names x.owes))
 
--- the first and the ended state name nothing
+-- the first state names nothing
 pub first_silent : (machine : MachineKind) (p : Times) → messages_of machine ((meaning_of machine).rules p).first ≡ []
 first_silent machine p = ap (λ messages. messages ++ []) (coded_holds machine).idle_silent
 

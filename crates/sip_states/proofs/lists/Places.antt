@@ -42,3 +42,8 @@ pub set_twice : {A : Type 0} (xs : List A) (i : ℕ) (a b : A) → slice_set (sl
 set_twice [] i a b = refl
 set_twice (x ∷ xs) zero a b = refl
 set_twice (x ∷ xs) (suc i) a b = ap (λ ys. x ∷ ys) (set_twice xs i a b)
+
+-- an element in the middle of a list stands at the place after those before it
+pub middle_place : {A : Type 0} (before : List A) (x : A) (rest : List A) → slice_get (before ++ x ∷ rest) (length before) ≡ Some x
+middle_place [] x rest = refl
+middle_place (u ∷ before) x rest = middle_place before x rest

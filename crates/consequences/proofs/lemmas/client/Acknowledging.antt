@@ -24,9 +24,7 @@ use Rattle.consequences.proofs.lemmas.run.MustSend.{still-owed, other-paid, more
 use Rattle.consequences.proofs.lemmas.run.Running.{IsKept, left_at, step-of, stands-run, Cut, cut, run-keeps}
 use Rattle.consequences.proofs.lemmas.client.InviteClients.{Row, Receiving, client, Answers, IsReceiving, pays-completed, sends-calling, sends-proceeding, sends-completed}
 use Rattle.consequences.proofs.lemmas.client.Unanswered.{CallsFrom, begins-calling}
-
-codes-are-one : (a b : ℕ) → Response a ≡ Response b → a ≡ b
-codes-are-one a b same = cc
+use Rattle.consequences.proofs.lemmas.server.Said.{codes-are-one}
 
 module _ (R : Receiving) (is : IsReceiving R) (p : Times) (invite : MachineEvent) where
   abbrev f : Figure InviteClientPhase

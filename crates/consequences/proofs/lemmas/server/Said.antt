@@ -38,15 +38,16 @@ pub said-last-later : (es more : List MachineEvent) (last : Option (List ℕ)) �
 said-last-later es more None said = tt
 said-last-later es more (Some last) said = said-later es more last said
 
+-- a response has one code
+pub codes-are-one : (a b : ℕ) → Response a ≡ Response b → a ≡ b
+codes-are-one a b same = cc
+
 -- a final response is none of them, where the same bytes are the same message
 module _ (before : List MachineEvent) (final : MachineEvent) (is_final : SendsResponse IsFinal final) (one_kind : All (λ g. g.text ≡ final.text → g.kind ≡ final.kind) before) where
   -- it is no provisional one
   pub not-provisional : (code : ℕ) → final.kind ≡ Response code → ¬ (IsProvisional code)
   not-provisional code kind is_provisional = by is_final.1
     where
-      codes-are-one : (a b : ℕ) → Response a ≡ Response b → a ≡ b
-      codes-are-one a b same = cc
-
       by : ¬ (IsResponse IsFinal final)
       by (other, is_other, (low, high)) =
           let same : other ≡ code = codes-are-one other code (sym is_other ∙ kind) in

@@ -17,7 +17,7 @@ use Rattle.sip_machine.specs.inner.DebtLaws.{All-without}
 use Rattle.consequences.specs.Events.{IsResponse, SendsResponse}
 use Rattle.consequences.specs.Tolerance.{AreOneKind}
 use Rattle.consequences.proofs.lemmas.server.Asleep.{nothing-to-pay}
-use Rattle.consequences.proofs.lemmas.server.Said.{IsOut, IsSaid, said-later}
+use Rattle.consequences.proofs.lemmas.server.Said.{IsOut, IsSaid, said-later, codes-are-one}
 use Rattle.consequences.proofs.lemmas.run.Lists.{any-last, any-earlier}
 use Rattle.consequences.proofs.lemmas.run.Running.{IsKept, left_at, stands-run, run-keeps}
 use Rattle.consequences.proofs.lemmas.tolerance.Sorted.{same-bytes}
@@ -140,9 +140,6 @@ module _ (p : Times) where
     where
       same : g.kind ≡ h.kind
       same = one g h (i, i-low, i-at) (j, j-low, j-at) (g-text ∙ sym h-text)
-
-      codes-are-one : (a b : ℕ) → Response a ≡ Response b → a ≡ b
-      codes-are-one a b is = cc
 
       by : (a b : ℕ) → g.kind ≡ Response a → h.kind ≡ Response b → IsFinal a → ¬ (IsProvisional b)
       by a b g-kind h-kind final_code provisional_code =

@@ -33,7 +33,7 @@ use Rattle.sip_verdict.specs.inner.Histories.{SpellsBranch, Notes, NotesEach}
 use Rattle.sip_verdict.specs.inner.TablesTracking.{TouchesEach, is_among}
 use Rattle.sip_verdict.proofs.judges.ObservingLemmas.{no_keys, went}
 use Rattle.sip_verdict.proofs.keys.Keys.{among-fold, contains-among, not_among, or_false, keys_in-push, keys_in-none, keys_in-all}
-use Rattle.sip_verdict.proofs.verdicts.MessageUnique.{fault_says_none, one_said}
+use Rattle.sip_verdict.proofs.verdicts.MessageUnique.{fault_says_none}
 use Rattle.sip_verdict.proofs.surveys.passing.Begun.{AreMore, more_each, none_more, touched_keys}
 use Rattle.sip_verdict.proofs.tables.TablesPassing.{at_place}
 use Rattle.sip_verdict.proofs.tables.TablesTouching.{have_numbers, same_numbers}
@@ -305,7 +305,7 @@ led_spells text branch led s says = subst (λ o. IfSome o (λ spelled. branch �
 
 -- of a message that is read, the branch of its top Via is the one that it spells
 pub read_spells : (text : List ℕ) (r : Said) (branch : Option (List ℕ)) (spelled : List ℕ) → Says text (gives r) → r.via.branch ≡ branch → IfSome branch (λ b. spelled ≡ b) → SpellsBranch text spelled
-read_spells text r branch spelled says is told s other = by s.via.branch (ap (λ x. x.via.branch) (one_said text s r other says) ∙ is)
+read_spells text r branch spelled says is told s other = by s.via.branch (ap (λ x. x.via.branch) (said-one text s r other says) ∙ is)
   where
     by : (o : Option (List ℕ)) → o ≡ branch → IfSome o (λ b. spelled ≡ b)
     by o same = subst (λ x. IfSome x (λ b. spelled ≡ b)) (sym same) told

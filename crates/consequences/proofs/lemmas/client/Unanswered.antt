@@ -110,6 +110,19 @@ module _ (R : Receiving) (is : IsReceiving R) (p : Times) where
       by phase owes from (inr (inr (stays, same))) = absurd stays
       by phase owes from (inl row) = absurd from
 
+  -- what a client that calls receives with a row is a response of some code
+  response-came : (es : List MachineEvent) (e : MachineEvent) (w : Waiting) (row : Row) → e.action ≡ Received → R p (Calling w) e.kind e row → Any (GetsResponse IsAnyCode) (es ++ e ∷ [])
+  response-came es e w row was is_row = by (is.calling p w e.kind e row is_row)
+    where
+      any : (code : ℕ) → (IsProvisional code × (row ≡ (Proceeding w.reliable w.request None, keeps))) ⊎ (IsSuccess code × IsDone row.0)
+          ⊎ (IsUnsuccessful code × (row ≡ (Completed w.reliable w.request e.moment, gains true e.text))) → IsAnyCode code
+      any code (inl h) = (h.0.0, omega (arith, h.0.1))
+      any code (inr (inl h)) = (omega (arith, h.0.0), omega (arith, h.0.1))
+      any code (inr (inr h)) = (omega (arith, h.0.0), h.0.1)
+
+      by : Answers w.reliable w.request e.kind e row → Any (GetsResponse IsAnyCode) (es ++ e ∷ [])
+      by (code, kind, leads) = any-last (GetsResponse IsAnyCode) es e (was, (code, kind, any code leads))
+
   module _ (invite : MachineEvent) where
     -- a response came, a message was refused, the element started again, or timer B may have fired
     abbrev Over : List MachineEvent → ℕ → Type 0
@@ -128,18 +141,6 @@ module _ (R : Receiving) (is : IsReceiving R) (p : Times) where
     calls-ends es h (Calling w) owes calls may = inr (inr (subst (λ m. open_at p m (64 * p.t1) ≤ h) calls.0 may.0))
     calls-ends es h x owes calls may = absurd calls
 
-    calls-received : (es : List MachineEvent) (e : MachineEvent) (w : Waiting) (row : Row) → e.action ≡ Received → R p (Calling w) e.kind e row → Over (es ++ e ∷ []) e.moment
-    calls-received es e w row was is_row = by (is.calling p w e.kind e row is_row)
-      where
-        any : (code : ℕ) → (IsProvisional code × (row ≡ (Proceeding w.reliable w.request None, keeps))) ⊎ (IsSuccess code × IsDone row.0)
-            ⊎ (IsUnsuccessful code × (row ≡ (Completed w.reliable w.request e.moment, gains true e.text))) → IsAnyCode code
-        any code (inl h) = (h.0.0, omega (arith, h.0.1))
-        any code (inr (inl h)) = (omega (arith, h.0.0), omega (arith, h.0.1))
-        any code (inr (inr h)) = (omega (arith, h.0.0), h.0.1)
-
-        by : Answers w.reliable w.request e.kind e row → Over (es ++ e ∷ []) e.moment
-        by (code, kind, leads) = inl (any-last (GetsResponse IsAnyCode) es e (was, (code, kind, any code leads)))
-
     calls-emits : (es : List MachineEvent) (e : MachineEvent) (x : InviteClientPhase) (owes : List Owed) (y : Owing InviteClientPhase) → CallsFrom invite x
         → Emits f p e (record { phase = x; owes = owes }) y → (e.kind ≡ Request Invite) × CallsFrom invite y.phase
     calls-emits es e x owes y calls (inr (inl (left, pays, to))) =
@@ -150,7 +151,7 @@ module _ (R : Receiving) (is : IsReceiving R) (p : Times) where
 
     calls-steps : (a : Action) (es : List MachineEvent) (e : MachineEvent) (x : InviteClientPhase) (owes : List Owed) (y : Owing InviteClientPhase) → e.action ≡ a → CallsFrom invite x
         → Steps f p a e (record { phase = x; owes = owes }) y → Calls (es ++ e ∷ []) e.moment y
-    calls-steps Received es e (Calling w) owes y was calls (inl (row, is_row, to)) = inr (calls-received es e w row was is_row)
+    calls-steps Received es e (Calling w) owes y was calls (inl (row, is_row, to)) = inr (inl (response-came es e w row was is_row))
     calls-steps Received es e x owes y was calls (inl row) = absurd calls
     calls-steps Received es e x owes y was calls (inr (none, same)) = inl (rw same calls)
     calls-steps Sent es e x owes y was calls emits = inl (calls-emits es e x owes y calls emits).1
@@ -294,18 +295,6 @@ module _ (R : Receiving) (is : IsReceiving R) (p : Times) where
     abbrev Waits : List MachineEvent → ℕ → Owing InviteClientPhase → Type 0
     Waits es m y = CallsBy moment y.phase ⊎ (y ≡ quiet Ended) ⊎ Any (GetsResponse IsAnyCode) es
 
-    waits-received : (es : List MachineEvent) (e : MachineEvent) (w : Waiting) (row : Row) → e.action ≡ Received → R p (Calling w) e.kind e row → Any (GetsResponse IsAnyCode) (es ++ e ∷ [])
-    waits-received es e w row was is_row = by (is.calling p w e.kind e row is_row)
-      where
-        any : (code : ℕ) → (IsProvisional code × (row ≡ (Proceeding w.reliable w.request None, keeps))) ⊎ (IsSuccess code × IsDone row.0)
-            ⊎ (IsUnsuccessful code × (row ≡ (Completed w.reliable w.request e.moment, gains true e.text))) → IsAnyCode code
-        any code (inl h) = (h.0.0, omega (arith, h.0.1))
-        any code (inr (inl h)) = (omega (arith, h.0.0), omega (arith, h.0.1))
-        any code (inr (inr h)) = (omega (arith, h.0.0), h.0.1)
-
-        by : Answers w.reliable w.request e.kind e row → Any (GetsResponse IsAnyCode) (es ++ e ∷ [])
-        by (code, kind, leads) = any-last (GetsResponse IsAnyCode) es e (was, (code, kind, any code leads))
-
     waits-emits : (e : MachineEvent) (x : InviteClientPhase) (owes : List Owed) (y : Owing InviteClientPhase) → CallsBy moment x → Emits f p e (record { phase = x; owes = owes }) y → CallsBy moment y.phase
     waits-emits e (Calling w) owes y calls (inl (row, is_row, to)) = rw (to, (sends-calling p w e.kind e row is_row).2) calls
     waits-emits e x owes y calls (inl row) = absurd calls
@@ -319,7 +308,7 @@ module _ (R : Receiving) (is : IsReceiving R) (p : Times) where
 
     waits-steps : (a : Action) (es : List MachineEvent) (e : MachineEvent) (x : InviteClientPhase) (owes : List Owed) (y : Owing InviteClientPhase) → e.action ≡ a → CallsBy moment x
         → Steps f p a e (record { phase = x; owes = owes }) y → Waits (es ++ e ∷ []) e.moment y
-    waits-steps Received es e (Calling w) owes y was calls (inl (row, is_row, to)) = inr (inr (waits-received es e w row was is_row))
+    waits-steps Received es e (Calling w) owes y was calls (inl (row, is_row, to)) = inr (inr (response-came es e w row was is_row))
     waits-steps Received es e x owes y was calls (inl row) = absurd calls
     waits-steps Received es e x owes y was calls (inr (none, same)) = inl (rw same calls)
     waits-steps Sent es e x owes y was calls emits = inl (waits-emits e x owes y calls emits)

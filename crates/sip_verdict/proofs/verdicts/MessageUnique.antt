@@ -4,7 +4,7 @@ use Rattle.std.specs.Prelude.{option_to_list}
 use Rattle.sip_standard.specs.declared.fault.Fault.{Fault}
 use Rattle.sip_standard.specs.Outcome.{Outcome, gives, stops}
 use Rattle.sip_standard.specs.Says.{Said, Says}
-use Rattle.sip_message.proofs.lemmas.says.Reading.{says-one, says-no_fault}
+use Rattle.sip_message.proofs.lemmas.says.Reading.{says-one, said-one, says-no_fault}
 use Rattle.sip_standard.specs.declared.role.Direction.{Direction}
 use Rattle.sip_standard.specs.Key.{KeyParts}
 use Rattle.sip_standard.specs.Concerns.{Concerns, lacks_cookie, own_key, cancelled_key}

@@ -27,6 +27,7 @@ use Rattle.sip_verdict.specs.declared.histories.History.{History}
 use Rattle.sip_standard.specs.Observation.{Observation, ObservesMessage, has_fault, has_no_cookie, is_heard, silent_observation}
 use Rattle.sip_verdict.specs.inner.Keyed.{with_key}
 use Rattle.sip_standard.specs.VerdictOf.{keys_in, Sees}
+use Rattle.sip_message.proofs.lemmas.says.Reading.{said-one}
 use Rattle.sip_verdict.specs.SurveyText.{is_of, IsFirstOf, IsLastOf}
 use Rattle.sip_verdict.specs.Surveys.{IsHistoryOf, AreHistories}
 use Rattle.sip_verdict.specs.inner.Histories.{SpellsBranch, Notes, NotesEach}

@@ -11,8 +11,7 @@ use Rattle.sip_standard.specs.StartLine.{StartLine, request}
 use Rattle.sip_standard.specs.Solid.{solid}
 use Rattle.sip_standard.specs.Outcome.{gives}
 use Rattle.sip_standard.specs.Says.{Said, Says}
-use Rattle.sip_message.proofs.lemmas.message.Outcome.{given}
-use Rattle.sip_message.proofs.lemmas.says.Reading.{says-one}
+use Rattle.sip_message.proofs.lemmas.says.Reading.{said-one}
 use Rattle.sip_standard.specs.AckOf.{IsAckLine, IsAckOf, AckOf}
 
 -- a request whose method is ACK, and another with the same URI
@@ -55,13 +54,9 @@ along a a' i i' r r' p q s is =
     let R : Said → Type 0 = λ z. IsAckOf a i z in
     subst R s (subst Q q (subst P p is))
 
--- bytes say one message
-said-same : (bytes : List ℕ) (s t : Said) → Says bytes (gives s) → Says bytes (gives t) → s ≡ t
-said-same bytes s t one other = given (says-one bytes (gives s) (gives t) one other)
-
 -- texts are so related exactly if what they say is
 pub ack-of_says : (ack invite response : List ℕ) (a i r : Said) → Says ack (gives a) → Says invite (gives i) → Says response (gives r) → AckOf ack invite response ↔ IsAckOf a i r
 ack-of_says ack invite response a i r says_a says_i says_r = (
-  λ of. along a of.0 i of.1 r of.2 (said-same ack of.0 a of.3 says_a) (said-same invite of.1 i of.4 says_i) (said-same response of.2 r of.5 says_r) of.6,
+  λ of. along a of.0 i of.1 r of.2 (said-one ack of.0 a of.3 says_a) (said-one invite of.1 i of.4 says_i) (said-one response of.2 r of.5 says_r) of.6,
   λ is. (a, i, r, says_a, says_i, says_r, is),
 )

@@ -8,7 +8,6 @@ use Rattle.sip_machine.specs.Owing.{CodeOwing, owing_seen, owing_names}
 use Rattle.sip_machine.specs.Told.{told_of, field_message, messages_told}
 use Rattle.sip_standard.specs.Told.{ToldField, Told, Flag, Number, Message, field_by, told_by}
 use Rattle.sip_machine.specs.inner.DebtLaws.{All-front, All-back}
-use Rattle.sip_standard.specs.KeyMachine.{MachineKind, OfInviteClient, OfPlainClient, OfInviteServer, OfPlainServer, OfInviteClient3261, OfInviteServer3261}
 use Rattle.sip_states.specs.KeySets.{coded_of}
 use Rattle.sip_states.proofs.keyed.KeySetLaws.{of_machine, to_machine}
 use Rattle.sip_states.specs.Told.{Saying, said_state, meant, AreToldAs, AreTold}
@@ -69,25 +68,15 @@ module _ (number : List ℕ → ℕ) (texts : Texts) where
         ap₂ (λ line lines. line ∷ lines) (state_told x state first (All-head (λ x. Tells number texts (owing_names names x)) x xs tells))
         (states_told xs states more (All-tail (λ x. Tells number texts (owing_names names x)) x xs tells))
 
--- the words of a machine's phases are those by which the code tells them
-words_are : (machine : MachineKind) → (coded_of machine).told ≡ words_of machine
-words_are OfInviteClient = refl
-words_are OfPlainClient = refl
-words_are OfInviteServer = refl
-words_are OfPlainServer = refl
-words_are OfInviteClient3261 = refl
-words_are OfInviteServer3261 = refl
-
 -- the lines of the words that tell a set list it
 pub listed : (set : AnySet) (states : List ToldState) (lines : List (List ℕ)) → AreTold set states → AreInOrder (map state_line states) lines → Lists set lines
 listed set states lines are in_order = λ number texts tells.
     let (machine, s, is) = some_machine set in
     let c = coded_of machine in
     let words = words_of machine in
-    let told = of_machine (λ kind held. AreToldAs (coded_of kind).told (coded_of kind).seen (coded_of kind).names held.states states) machine s
+    let told = of_machine (λ kind held. AreToldAs (words_of kind) (coded_of kind).seen (coded_of kind).names held.states states) machine s
     (subst (λ x. AreTold x states) is are) in
-    let told_so = subst (λ ws. AreToldAs ws c.seen c.names s.states states) (words_are machine) told in
     let known = of_set (λ X M S m s. All (λ x. Tells number texts (m.names x)) s.states) machine s (subst (TellsSet number texts) is tells) in
-    let same = states_told number texts words c.seen c.names s.states states (told_so texts) known in
+    let same = states_told number texts words c.seen c.names s.states states (told texts) known in
     subst (λ x. AreLinesOfSet number texts x lines) (sym is)
     (to_machine (λ kind held. AreLinesOfHeld number texts kind held lines) machine s (subst (λ ts. AreInOrder ts lines) (sym same) in_order))

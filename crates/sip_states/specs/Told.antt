@@ -5,6 +5,7 @@ use Rattle.sip_ledger.specs.Runs.{debts_in}
 use Rattle.sip_machine.specs.Texts.{Texts, text_of}
 use Rattle.sip_machine.specs.Told.{told_of, messages_told}
 use Rattle.sip_standard.specs.Told.{Told, told_by}
+use Rattle.sip_standard.specs.PhaseWords.{words_of}
 use Rattle.sip_machine.specs.Owing.{CodeOwing}
 use Rattle.sip_states.specs.KeySets.{coded_of, by_machine}
 use Rattle.sip_states.specs.declared.any_set.AnySet.{AnySet}
@@ -29,4 +30,4 @@ module _ {S X : Type 0} (words : X → Told (List ℕ)) (seen : Texts → S → 
 
 -- these are the states of the set in words
 abbrev pub AreTold : AnySet → List ToldState → Type 0
-AreTold set told = by_machine (λ machine s. AreToldAs (coded_of machine).told (coded_of machine).seen (coded_of machine).names s.states told) set
+AreTold set told = by_machine (λ machine s. AreToldAs (words_of machine) (coded_of machine).seen (coded_of machine).names s.states told) set

@@ -6,13 +6,14 @@ use Rattle.sip_standard.specs.Stands.{Stands}
 use Rattle.sip_standard.specs.KeyMachine.{MachineKind, machine_of_key, transaction_of}
 use Rattle.sip_standard.specs.Observation.{Observation}
 use Rattle.sip_standard.specs.VerdictOf.{events_for}
+use Rattle.sip_standard.specs.PhaseWords.{words_of}
 use Rattle.sip_machine.specs.Told.{messages_told}
-use Rattle.sip_states.specs.KeySets.{PhaseOf, coded_of}
+use Rattle.sip_states.specs.KeySets.{PhaseOf}
 use Rattle.sip_verdict.specs.Entries.{newest_moment}
 
 -- the messages that a state names: those that its phase tells, and what is owed
 abbrev pub messages_of : (machine : MachineKind) → PhaseOf machine → List (List ℕ)
-messages_of machine x = messages_told ((coded_of machine).told x.phase) ++ map (λ owed. owed.message) x.owes
+messages_of machine x = messages_told (words_of machine x.phase) ++ map (λ owed. owed.message) x.owes
 
 -- the messages that a state of the machine of this key names
 abbrev pub key_messages : (p : Times) (key : KeyParts) → PhaseOf (machine_of_key p.rules key) → List (List ℕ)

@@ -10,6 +10,7 @@ use Rattle.std.proofs.lemmas.List.Elements.{All-same, All-push, All-set, All-fil
 use Rattle.std.proofs.lemmas.List.Kept.{AllPairs-cons}
 use Rattle.std.proofs.lemmas.List.Concat.{flat_map-append}
 use Rattle.std.specs.declared.cmp.Ordering.TheVariants.{Less}
+use Rattle.sip_standard.proofs.Few.{AllPairs-head, AllPairs-tail}
 use Rattle.sip_machine.specs.Texts.{Texts, IsBook, Keeps, text_of}
 use Rattle.sip_machine.specs.Retained.{only}
 use Rattle.sip_machine.specs.declared.book.Place.{Place}
@@ -19,13 +20,6 @@ use Rattle.sip_machine.specs.inner.Retain.{number_at, place_among, moved, merged
 use Rattle.sip_machine.proofs.texts.TextLaws.{Contains-nil, Contains-cons_cases, text_of-same, text_of-other, text_of-at, Keeps-at}
 
 -- Lists that rise.
-
--- the first of a rising list is below each of the rest
-pub first_below : {X : Type 0} (R : X → X → Type 0) (x : X) (xs : List X) → AllPairs R (x ∷ xs) → All (R x) xs
-first_below R x xs pairs k d low = pairs 0 (suc k) d (omega arith) (omega arith)
-
-pub rest_pairs : {X : Type 0} (R : X → X → Type 0) (x : X) (xs : List X) → AllPairs R (x ∷ xs) → AllPairs R xs
-rest_pairs R x xs pairs i j d lt low = pairs (suc i) (suc j) d (omega arith) (omega arith)
 
 -- numbers that rise never fall
 pub never_falls : (numbers : List ℕ) → AllPairs (λ a b. a < b) numbers → (i j : ℕ) → i ≤ j → j < length numbers → get_or numbers i 0 ≤ get_or numbers j 0
@@ -37,7 +31,7 @@ pub below_rest : (t : ℕ × List ℕ) (ts : Texts) → AllPairs (λ a b. a.0 < 
 below_rest t ts rising n keeps =
     let low : keeps.0 < length ts = rw length-map at keeps.1 in
     let at : get_or (map (λ k. k.0) ts) keeps.0 n ≡ (get_or ts keeps.0 t).0 = get_or-map (λ k. k.0) ts keeps.0 t n low in
-    let here = first_below (λ a b. a.0 < b.0) t ts rising keeps.0 t low in
+    let here = AllPairs-head (λ a b. a.0 < b.0) t ts rising keeps.0 t low in
     omega (arith, here, at, keeps.2)
 
 -- an element is mapped
@@ -68,19 +62,19 @@ merged_is [] (t ∷ ts) up rising kept = refl
 merged_is (n ∷ ns) (t ∷ ts) up rising kept =
     elim (eqb_tells t.0 n) [
       | inl same ↦
-          let apart : All (λ m. t.0 ≢ m) ns = All-weaker (λ m. n < m) (λ m. t.0 ≢ m) (λ m low e. absurd (omega (arith, low, e, same.1))) ns (first_below (λ a b. a < b) n ns up) in
+          let apart : All (λ m. t.0 ≢ m) ns = All-weaker (λ m. n < m) (λ m. t.0 ≢ m) (λ m low e. absurd (omega (arith, low, e, same.1))) ns (AllPairs-head (λ a b. a < b) n ns up) in
           let later : All (Keeps ts) ns = λ k d low. keeps_rest t ts (get_or ns k d) (apart k d low) (All-tail (Keeps (t ∷ ts)) n ns kept k d low) in
-          let rest = merged_is ns ts (rest_pairs (λ a b. a < b) n ns up) (rest_pairs (λ a b. a.0 < b.0) t ts rising) later ∙ sym (only_rest t ts ns apart) in
+          let rest = merged_is ns ts (AllPairs-tail (λ a b. a < b) n ns up) (AllPairs-tail (λ a b. a.0 < b.0) t ts rising) later ∙ sym (only_rest t ts ns apart) in
           let first : t ≡ (n, text_of (t ∷ ts) n) = (λ i. (same.1 i, sym (text_of-same t.0 t.1 ts n same.1) i)) in
           cond-true (nat_eq t.0 n) (t ∷ merged ns ts) (merged (n ∷ ns) ts) same.0 ∙ (λ i. first i ∷ rest i)
       | inr other ↦
           let here : Keeps ts n = keeps_rest t ts n other.1 (All-head (Keeps (t ∷ ts)) n ns kept) in
           let under : t.0 < n = below_rest t ts rising n here in
           let apart : All (λ m. t.0 ≢ m) (n ∷ ns) =
-          All-cons (λ m. t.0 ≢ m) n ns other.1 (All-weaker (λ m. n < m) (λ m. t.0 ≢ m) (λ m low e. absurd (omega (arith, low, e, under))) ns (first_below (λ a b. a < b) n ns up)) in
+          All-cons (λ m. t.0 ≢ m) n ns other.1 (All-weaker (λ m. n < m) (λ m. t.0 ≢ m) (λ m low e. absurd (omega (arith, low, e, under))) ns (AllPairs-head (λ a b. a < b) n ns up)) in
           let later : All (Keeps ts) (n ∷ ns) = λ k d low. keeps_rest t ts (get_or (n ∷ ns) k d) (apart k d low) (kept k d low) in
           cond-false (nat_eq t.0 n) (t ∷ merged ns ts) (merged (n ∷ ns) ts) other.0
-          ∙ merged_is (n ∷ ns) ts up (rest_pairs (λ a b. a.0 < b.0) t ts rising) later ∙ sym (only_rest t ts (n ∷ ns) apart)
+          ∙ merged_is (n ∷ ns) ts up (AllPairs-tail (λ a b. a.0 < b.0) t ts rising) later ∙ sym (only_rest t ts (n ∷ ns) apart)
     ]
 
 -- Where a number stands among numbers.
@@ -92,9 +86,9 @@ place_at (m ∷ ms) zero d up low = cond-true (nat_eq m m) (Some 0) (option_map 
 place_at (m ∷ ms) (suc i) d up low =
     let within : i < length ms = omega arith in
     let n = get_or ms i d in
-    let under : m < n = first_below (λ a b. a < b) m ms up i d within in
+    let under : m < n = AllPairs-head (λ a b. a < b) m ms up i d within in
     cond-false (nat_eq m n) (Some 0) (option_map suc (place_among ms n)) (grind (arith, nat_tests))
-    ∙ ap (option_map suc) (place_at ms i d (rest_pairs (λ a b. a < b) m ms up) within)
+    ∙ ap (option_map suc) (place_at ms i d (AllPairs-tail (λ a b. a < b) m ms up) within)
 
 -- what is none of them stands nowhere
 pub place_none : (numbers : List ℕ) (n : ℕ) → All (λ m. m ≢ n) numbers → place_among numbers n ≡ None
@@ -149,8 +143,8 @@ module _ {X Y : Type 0} (f : X → Option Y) where
       → ((x u : X) (y v : Y) → f x ≡ Some y → f u ≡ Some v → P x → P u → R x u → S y v) → (xs : List X) → All P xs → AllPairs R xs → AllPairs S (filter_map f xs)
   AllPairs-filter_map P R S so [] all pairs = λ i j d lt low. absurd (omega arith)
   AllPairs-filter_map P R S so (x ∷ xs) all pairs =
-      pairs_step P R S so x xs (All-head P x xs all) (λ k d low. (All-tail P x xs all k d low, first_below R x xs pairs k d low))
-      (AllPairs-filter_map P R S so xs (All-tail P x xs all) (rest_pairs R x xs pairs)) (f x) refl
+      pairs_step P R S so x xs (All-head P x xs all) (λ k d low. (All-tail P x xs all k d low, AllPairs-head R x xs pairs k d low))
+      (AllPairs-filter_map P R S so xs (All-tail P x xs all) (AllPairs-tail R x xs pairs)) (f x) refl
 
   contains_step : (u x : X) (xs : List X) (y : Y) → f x ≡ Some y → (Contains xs x → Contains (filter_map f xs) y) → (o : Option Y) → f u ≡ o → (u ≡ x) ⊎ Contains xs x
       → Contains (cons_option o (filter_map f xs)) y

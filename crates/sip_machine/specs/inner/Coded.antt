@@ -13,7 +13,7 @@ use Rattle.sip_machine.specs.Owing.{CodeOwing}
 -- How the code has a transaction.
 
 -- the phases of the code, whose messages are numbers of a book: what a phase stands for, what it names, which are
--- in range, the one before anything was sent or received, and the one after an end; and a phase in words
+-- in range, the one before anything was sent or received, and the one after an end
 pub record Coded (Phase : Type 0) : Type 1 where
   pub Code : Type 0
   pub seen : Texts → Code → Phase
@@ -21,7 +21,6 @@ pub record Coded (Phase : Type 0) : Type 1 where
   pub InRange : Code → Type 0
   pub idle : Code
   pub ended : Code
-  pub told : Phase → Told (List ℕ)
 
 -- the state of the code before anything was sent or received
 abbrev pub idle_state : {Phase : Type 0} (c : Coded Phase) → CodeOwing c.Code
@@ -64,22 +63,22 @@ module _ {X S : Type 0} (f : Figure X) (seen : Texts → S → X) where
   abbrev pub SameCloses : Type 0
   SameCloses = (a b : Texts) (p : Times) (x : S) → closes_at f p (seen a x) ≡ closes_at f p (seen b x)
 
--- what holds of a figure and of its phases as the code has them: it is lawful; what each of the words above says; the idle and the ended phase stand for
--- those of the figure, which are the same one or are not, name no message and are in range
-pub record IsCoded {X : Type 0} (f : Figure X) (c : Coded X) : Type 0 where
+-- what holds of a figure, of the words of its phases and of its phases as the code has them: the figure is lawful; what each of the words above says; the
+-- idle and the ended phase stand for those of the figure, which are the same one or are not, name no message and are in range
+pub record IsCoded {X : Type 0} (f : Figure X) (told : X → Told (List ℕ)) (c : Coded X) : Type 0 where
   pub is_figure : IsFigure f
   pub apart : AreApart c.seen c.names
   pub by_names : StandByNames c.seen c.names
   pub window_same : SameWindow f c.seen
   pub closes_same : SameCloses f c.seen
-  pub named : TellNames c.seen c.names c.told
+  pub named : TellNames c.seen c.names told
   pub idle_is : (texts : Texts) → c.seen texts c.idle ≡ f.idle
   pub ended_is : (texts : Texts) → c.seen texts c.ended ≡ f.ended
   pub ended_decided : (f.ended ≡ f.idle) ⊎ (f.ended ≢ f.idle)
   pub idle_fits : (c.names c.idle ≡ []) × c.InRange c.idle
   pub ended_fits : (c.names c.ended ≡ []) × c.InRange c.ended
-  pub idle_silent : messages_told (c.told f.idle) ≡ []
-  pub ended_silent : messages_told (c.told f.ended) ≡ []
+  pub idle_silent : messages_told (told f.idle) ≡ []
+  pub ended_silent : messages_told (told f.ended) ≡ []
 
 -- what `IsCoded` says of a figure and its phases, of the ghosts of a machine M of the code
 pub record HasPhases {X S M : Type 0} (f : Figure X) (seen : Texts → S → X) (names : S → List ℕ) (InRange : S → Type 0) (idle ended : M → S) : Type 0 where
@@ -93,7 +92,7 @@ pub record HasPhases {X S M : Type 0} (f : Figure X) (seen : Texts → S → X) 
   pub idle_fits : (m : M) → (names (idle m) ≡ []) × InRange (idle m)
   pub ended_fits : (m : M) → (names (ended m) ≡ []) × InRange (ended m)
 
-pub has_phases : {X M : Type 0} {f : Figure X} {c : Coded X} → IsCoded f c → HasPhases f c.seen c.names c.InRange (λ (m : M). c.idle) (λ (m : M). c.ended)
+pub has_phases : {X M : Type 0} {f : Figure X} {told : X → Told (List ℕ)} {c : Coded X} → IsCoded f told c → HasPhases f c.seen c.names c.InRange (λ (m : M). c.idle) (λ (m : M). c.ended)
 has_phases is =
     record {
       is_figure = is.is_figure;

@@ -6,7 +6,6 @@ use Rattle.sip_machine.specs.Texts.{Texts, text_of}
 use Rattle.sip_machine.specs.inner.Waiting.{waiting_seen, WaitingInRange}
 use Rattle.sip_machine.specs.inner.Coded.{Coded}
 use Rattle.sip_standard.specs.InviteClient.{InviteClientPhase, Idle, Ended, Calling, Proceeding, Accepted, Completed}
-use Rattle.sip_standard.specs.PhaseWords.{invite_client_told}
 pub mod Laws
 
 -- The phases of the code, whose messages are numbers of a book.
@@ -45,5 +44,4 @@ invite_client_coded =
       InRange = InviteClientInRange;
       idle = code.Idle;
       ended = code.Ended;
-      told = invite_client_told;
     }

@@ -6,7 +6,6 @@ use Rattle.sip_standard.specs.Times.{last_moment}
 use Rattle.sip_machine.specs.Texts.{Texts, text_of}
 use Rattle.sip_machine.specs.inner.Coded.{Coded}
 use Rattle.sip_standard.specs.InviteServer.{InviteServerPhase, Idle, Proceeding, Accepted, Completed, Confirmed}
-use Rattle.sip_standard.specs.PhaseWords.{invite_server_told}
 pub mod Laws
 
 -- The phases of the code, whose messages are numbers of a book.
@@ -43,5 +42,4 @@ invite_server_coded =
       InRange = InviteServerInRange;
       idle = code.Idle;
       ended = code.Idle;
-      told = invite_server_told;
     }

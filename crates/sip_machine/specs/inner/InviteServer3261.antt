@@ -6,7 +6,6 @@ use Rattle.sip_machine.specs.Texts.{Texts}
 use Rattle.sip_machine.specs.inner.InviteServer.{invite_server_seen, invite_server_names, InviteServerInRange}
 use Rattle.sip_machine.specs.inner.Coded.{Coded}
 use Rattle.sip_standard.specs.InviteServer3261.{In, InviteServer3261Phase, Passed}
-use Rattle.sip_standard.specs.PhaseWords.{invite_server_3261_told}
 pub mod Laws
 
 -- The phases of the code, whose messages are numbers of a book.
@@ -36,5 +35,4 @@ invite_server_3261_coded =
       InRange = InviteServer3261InRange;
       idle = code.In code_phase.Idle false;
       ended = code.In code_phase.Idle false;
-      told = invite_server_3261_told;
     }

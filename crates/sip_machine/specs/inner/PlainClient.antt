@@ -6,7 +6,6 @@ use Rattle.sip_machine.specs.Texts.{Texts}
 use Rattle.sip_machine.specs.inner.Waiting.{waiting_seen, WaitingInRange}
 use Rattle.sip_machine.specs.inner.Coded.{Coded}
 use Rattle.sip_standard.specs.PlainClient.{PlainClientPhase, Idle, Ended, Trying, Proceeding, Completed}
-use Rattle.sip_standard.specs.PhaseWords.{plain_client_told}
 pub mod Laws
 
 -- The phases of the code, whose messages are numbers of a book.
@@ -42,5 +41,4 @@ plain_client_coded =
       InRange = PlainClientInRange;
       idle = code.Idle;
       ended = code.Ended;
-      told = plain_client_told;
     }

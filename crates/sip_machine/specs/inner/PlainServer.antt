@@ -5,7 +5,6 @@ use Rattle.sip_standard.specs.Times.{last_moment}
 use Rattle.sip_machine.specs.Texts.{Texts, text_of}
 use Rattle.sip_machine.specs.inner.Coded.{Coded}
 use Rattle.sip_standard.specs.PlainServer.{PlainServerPhase, Idle, Trying, Proceeding, Completed}
-use Rattle.sip_standard.specs.PhaseWords.{plain_server_told}
 pub mod Laws
 
 -- The phases of the code, whose messages are numbers of a book.
@@ -38,5 +37,4 @@ plain_server_coded =
       InRange = PlainServerInRange;
       idle = code.Idle;
       ended = code.Idle;
-      told = plain_server_told;
     }

@@ -5,7 +5,7 @@ use Rattle.std.specs.Result.{is_ok}
 use Rattle.std.specs.Slice.{IsItemAt}
 use Rattle.std.specs.Borrow.{Bor}
 use Rattle.std.proofs.lemmas.Bool.{ltb-true}
-use Rattle.std.proofs.lemmas.Option.{slice_get_within, slice_get-get_or}
+use Rattle.std.proofs.lemmas.Option.{same_Some, slice_get_within, slice_get-get_or}
 use Rattle.std.proofs.lemmas.List.{length-set, length-map, get_or-map, length-take-le, get_or-take, get_or_default}
 use Rattle.std.proofs.lemmas.List.Elements.{Contains-push, Contains-push_cases, Contains-append_left, Contains-append_right, Contains-get_or}
 use Rattle.sip_standard.specs.Key.{KeyParts}
@@ -16,30 +16,13 @@ use Rattle.sip_states.specs.AnySet.{SetWaits, moment_of, start_of, IsQuietSet}
 use Rattle.sip_states.specs.Tables.{Tabled, IsGiven}
 use Rattle.sip_states.specs.Restarting.{AreToRestart}
 use Rattle.sip_states.proofs.lists.Listed.{Contains-map}
+use Rattle.sip_states.proofs.lists.Places.{set_place, set_other, set_here, set_still, push_place}
 use Rattle.sip_states.specs.Sweep.{numbers_of, IsAdvanced, AppendsNamed}
 use Rattle.sip_states.specs.inner.Marks.{IsMarked, ElseHolds, AreMarked}
 use Rattle.sip_states.specs.inner.Advance.{AdvancesAt}
 use Rattle.sip_states.specs.declared.any_set.AnySet.{AnySet}
 use Rattle.sip_states.proofs.keyed.NamesLemmas.{Contains-flat_map, Contains-from_flat_map}
 use Rattle.sip_states.proofs.keyed.ByMachine.{start_silent, start_is_quiet}
-
--- the element at a place, where another was put at one
-pub set_place : {A : Type 0} (xs : List A) (i n : ℕ) (a x : A) → slice_get (slice_set xs i a) n ≡ Some x → ((n ≡ i) × (a ≡ x)) ⊎ ((n ≢ i) × (slice_get xs n ≡ Some x))
-set_place [] i n a x at = absurd cc
-set_place (u ∷ xs) zero zero a x at = inl (refl, cc)
-set_place (u ∷ xs) zero (suc n) a x at = inr (λ same. omega (arith, same), at)
-set_place (u ∷ xs) (suc i) zero a x at = inr (λ same. omega (arith, same), at)
-set_place (u ∷ xs) (suc i) (suc n) a x at =
-    elim (set_place xs i n a x at) [ inl h ↦ inl (ap suc h.0, h.1) | inr h ↦ inr (λ same. h.0 (omega (arith, same)), h.1) ]
-
--- an element that stands there already
-set_still : {A : Type 0} (xs : List A) (i : ℕ) (a : A) → slice_get xs i ≡ Some a → slice_set xs i a ≡ xs
-set_still [] i a at = absurd cc
-set_still (u ∷ xs) zero a at = (let same : u ≡ a = cc in (λ k. sym same k ∷ xs))
-set_still (u ∷ xs) (suc i) a at = (λ k. u ∷ set_still xs i a at k)
-
-same_of_some : {A : Type 0} (a b : A) → Some a ≡ Some b → a ≡ b
-same_of_some a b h = cc
 
 -- Sets that wait.
 
@@ -103,7 +86,7 @@ pub item_among : (xs : List ℕ) (i : ℕ) (r : Option (Bor ℕ)) (o : Option �
 item_among xs i None o x item copied is = (let no : Some x ≡ None = sym is ∙ copied in absurd cc)
 item_among xs i (Some b) o x item copied is =
     let low : i < length xs = ltb-true i (length xs) (sym item.0) in
-    let same : b.now ≡ x = same_of_some b.now x (sym copied ∙ is) in
+    let same : b.now ≡ x = same_Some b.now x (sym copied ∙ is) in
     (i, low, get_or_default xs i x b.now low ∙ sym item.1 ∙ same)
 
 -- what is at a place is in the list
@@ -155,23 +138,16 @@ marked_still P moment indices marks old new are some up n set at mark =
     let long = up.long in
     let was : slice_get old n ≡ Some (get_or old n set) = slice_get-get_or old n set (omega arith) in
     elim (up.each n (get_or old n set) set was at) [
-      | inl waited ↦ absurd (true≢false (same_of_some true false (sym (some n waited.0) ∙ mark)))
+      | inl waited ↦ absurd (true≢false (same_Some true false (sym (some n waited.0) ∙ mark)))
       | inr same ↦ subst P (sym same.1) (are n (get_or old n set) was mark)
     ]
-
--- the element at a place, where one more was put after
-push_place : {A : Type 0} (xs : List A) (n : ℕ) (a x : A) → slice_get (xs ++ a ∷ []) n ≡ Some x → (slice_get xs n ≡ Some x) ⊎ ((n ≡ length xs) × (a ≡ x))
-push_place [] zero a x at = inr (refl, cc)
-push_place [] (suc n) a x at = absurd cc
-push_place (u ∷ xs) zero a x at = inl at
-push_place (u ∷ xs) (suc n) a x at = elim (push_place xs n a x at) [ inl h ↦ inl h | inr h ↦ inr (ap suc h.0, h.1) ]
 
 -- one more of which it holds needs no mark
 pub marked_push : (P : AnySet → Type 0) (marks : List Bool) (sets : List AnySet) (set : AnySet) → length marks ≡ length sets → ElseHolds P marks sets → P set
     → ElseHolds P (marks ++ false ∷ []) (sets ++ set ∷ [])
 marked_push P marks sets set long are silent n other at mark =
-    elim (push_place sets n set other at) [
-      | inl old ↦ elim (push_place marks n false false mark) [
+    elim (push_place sets set n other at) [
+      | inl old ↦ elim (push_place marks false n false mark) [
         | inl was ↦ are n other old was
         | inr new ↦ (let low = slice_get_within sets n other old in absurd (omega (arith, long, low, new.0)))
       ]
@@ -191,7 +167,7 @@ pub unmarked : (P : AnySet → Type 0) (marks : List Bool) (sets : List AnySet) 
     → ElseHolds P (slice_set marks index false) sets
 unmarked P marks sets index set are at silent n other is mark =
     elim (set_place marks index n false false mark) [
-      | inl here ↦ subst P (same_of_some set other (sym at ∙ ap (slice_get sets) (sym here.0) ∙ is)) silent
+      | inl here ↦ subst P (same_Some set other (sym at ∙ ap (slice_get sets) (sym here.0) ∙ is)) silent
       | inr was ↦ are n other is was.1
     ]
 
@@ -207,7 +183,7 @@ AreAmong marks moved = (index : ℕ) → IsMarked marks index → IsMarked moved
 -- one list of marks lies within another with one more index too that neither marks
 pub within_push : (marks moved : List Bool) → length marks ≡ length moved → AreAmong marks moved → AreAmong (marks ++ false ∷ []) (moved ++ false ∷ [])
 within_push marks moved long within index mark =
-    elim (push_place marks index false true mark) [
+    elim (push_place marks false index true mark) [
       | inl old ↦ slice_get-push moved false index true (within index old)
       | inr new ↦ absurd (true≢false (sym new.1))
     ]
@@ -221,21 +197,10 @@ within_push marks moved long within index mark =
 pub within_set : (marks moved : List Bool) (at : ℕ) (b : Bool) → length marks ≡ length moved → AreAmong marks moved → AreAmong (slice_set marks at b) (slice_set moved at b)
 within_set marks moved at b long within index mark =
     elim (set_place marks at index b true mark) [
-      | inl here ↦ subst (λ n. slice_get (slice_set moved at b) n ≡ Some true) (sym here.0) (set_at moved at b true here.1 (let low = slice_get_within (slice_set marks at b) index true mark in let size = length-set marks at b in omega (arith, here.0, low, size, long)))
+      | inl here ↦ subst (λ n. slice_get (slice_set moved at b) n ≡ Some true) (sym here.0)
+          (set_here moved at b (let low = slice_get_within (slice_set marks at b) index true mark in let size = length-set marks at b in omega (arith, here.0, low, size, long)) ∙ ap Some here.1)
       | inr other ↦ set_other moved at index b true other.0 (within index other.1)
     ]
-  where
-    set_at : (xs : List Bool) (n : ℕ) (a x : Bool) → a ≡ x → n < length xs → slice_get (slice_set xs n a) n ≡ Some x
-    set_at [] n a x is low = absurd (omega arith)
-    set_at (u ∷ xs) zero a x is low = ap Some is
-    set_at (u ∷ xs) (suc n) a x is low = set_at xs n a x is (omega arith)
-
-    set_other : (xs : List Bool) (i n : ℕ) (a x : Bool) → n ≢ i → slice_get xs n ≡ Some x → slice_get (slice_set xs i a) n ≡ Some x
-    set_other [] i n a x differ at = absurd cc
-    set_other (u ∷ xs) zero zero a x differ at = absurd (differ refl)
-    set_other (u ∷ xs) zero (suc n) a x differ at = at
-    set_other (u ∷ xs) (suc i) zero a x differ at = at
-    set_other (u ∷ xs) (suc i) (suc n) a x differ at = set_other xs i n a x (λ same. differ (ap suc same)) at
 
 -- the set that a key starts with names nothing
 pub start_names : (p : Times) (key : KeyParts) → numbers_of (start_of p key) ≡ []
@@ -277,7 +242,7 @@ numbers_at (set ∷ sets) (suc index) = numbers_at sets index
 
 pub numbers_at-is : (sets : List AnySet) (index : ℕ) (set : AnySet) → slice_get sets index ≡ Some set → numbers_at sets index ≡ numbers_of set
 numbers_at-is [] index set at = absurd cc
-numbers_at-is (s ∷ sets) zero set at = ap numbers_of (same_of_some s set at)
+numbers_at-is (s ∷ sets) zero set at = ap numbers_of (same_Some s set at)
 numbers_at-is (s ∷ sets) (suc index) set at = numbers_at-is sets index set at
 
 -- it is among those of all

@@ -3,6 +3,7 @@ use Rattle.std.specs.Prelude.{◌≡◌, [], ◌∷◌}
 use Rattle.std.proofs.Common.{refl}
 use Rattle.sip_standard.specs.Times.{Times}
 use Rattle.sip_standard.specs.KeyMachine.{MachineKind, OfInviteClient, OfPlainClient, OfInviteServer, OfPlainServer, OfInviteClient3261, OfInviteServer3261, transaction_of}
+use Rattle.sip_standard.specs.PhaseWords.{words_of}
 use Rattle.sip_machine.specs.inner.Coded.{IsCoded, idle_state}
 use Rattle.sip_machine.specs.inner.InviteClient.Laws.{invite_client_is_coded}
 use Rattle.sip_machine.specs.inner.PlainClient.Laws.{plain_client_is_coded}
@@ -16,7 +17,7 @@ use Rattle.sip_states.specs.declared.any_set.AnySet.TheVariants.{InviteClient, P
 use Rattle.sip_states.specs.KeySets.{coded_of, StateOf, set_of, held_of, by_machine, by_one_machine, start_of_machine}
 
 -- the code has each machine as it is
-pub coded_holds : (machine : MachineKind) → IsCoded (transaction_of machine).figure (coded_of machine)
+pub coded_holds : (machine : MachineKind) → IsCoded (transaction_of machine).figure (words_of machine) (coded_of machine)
 coded_holds OfInviteClient = invite_client_is_coded
 coded_holds OfPlainClient = plain_client_is_coded
 coded_holds OfInviteServer = invite_server_is_coded

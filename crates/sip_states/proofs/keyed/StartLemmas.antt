@@ -12,7 +12,7 @@ use Rattle.sip_states.specs.Meaning.{HasAgenda}
 use Rattle.sip_states.specs.AnySet.{IsAgendaOf, meaning_of, start_of}
 use Rattle.sip_states.specs.declared.any_set.AnySet.{AnySet}
 use Rattle.sip_states.specs.inner.Marks.{ElseHolds}
-use Rattle.sip_states.proofs.due.AdvanceLemmas.{set_place}
+use Rattle.sip_states.proofs.lists.Places.{set_place}
 use Rattle.sip_states.proofs.keyed.ByMachine.{first_of, to_set}
 use Rattle.sip_states.proofs.keyed.QuietLemmas.{quiet_still, waits_still}
 

@@ -13,6 +13,8 @@ use Rattle.sip_machine.specs.inner.DebtLaws.{All-front, All-back}
 use Rattle.sip_machine.specs.inner.OwesLaws.{IsWithin-owed}
 use Rattle.sip_machine.specs.inner.FigureLaws.{rules_lawful}
 use Rattle.sip_standard.specs.Stands.{Stands, begins, waits, ends, takes, StandsAfter}
+use Rattle.sip_standard.specs.KeyMachine.{MachineKind, transaction_of}
+use Rattle.sip_states.proofs.keyed.KeySetLaws.{coded_holds}
 use Rattle.sip_states.specs.Runs.{Step, Hides, Takes, Goes, taken, RuledRun, AfterRun}
 use Rattle.sip_states.proofs.sets.Waiting.{IsWithin-none, Wait-stay}
 use Rattle.sip_states.proofs.runs.RunLemmas.{taken-append, Goes-push, Run-wait, After-run}
@@ -40,7 +42,7 @@ open-owed h false window opening = (refl, opening)
 
 module _ {X : Type 0} (f : Figure X) (is : IsFigure f) (p : Times) where
   -- a state lasts as long as it waits
-  lasts-waits : (x : Owing X) (h : ℕ) → Lasts f p x h ↔ Waits (rules_of f p) x h
+  pub lasts-waits : (x : Owing X) (h : ℕ) → Lasts f p x h ↔ Waits (rules_of f p) x h
   lasts-waits x h =
       let owed = IsWithin-owed h (closes_at f p x.phase) x.owes in
       let closes = closes-within h (f.window p x.phase) in (
@@ -120,6 +122,10 @@ module _ {X : Type 0} (f : Figure X) (is : IsFigure f) (p : Times) where
       (Wait-stay r (AfterRun r events e) e.moment e.moment y
       (record { among = (After-run r events e y).1 (record { before = x; among = run; takes = taking }); reached = omega arith; waits = (rules_lawful f is p).fresh x e y taking }))
 
+  -- what stands at a moment lasts until then
+  pub stands-lasts : (events : List MachineEvent) (m : ℕ) (y : Owing X) → Stands f p events m y → Lasts f p y m
+  stands-lasts events m y stands = (lasts-waits y m).1 (stands-run events m y stands).stands.waits
+
   pub stands-runs : (events : List MachineEvent) (m : ℕ) (y : Owing X) → Stands f p events m y ↔ RuledRun (rules_of f p) events m y
   stands-runs events m y = (stands-run events m y, run-stands events m y)
 
@@ -134,3 +140,8 @@ module _ {X : Type 0} (f : Figure X) (is : IsFigure f) (p : Times) where
         let gives = (After-run (rules_of f p) events e y).0 after in
         (gives.before, run-stands events e.moment gives.before gives.among, gives.takes.1),
   )
+
+-- what stands at a moment lasts until then, whichever machine it is of
+pub what_stands_lasts : (machine : MachineKind) (p : Times) (events : List MachineEvent) (m : ℕ) (x : Owing (transaction_of machine).Phase)
+    → Stands (transaction_of machine).figure p events m x → Lasts (transaction_of machine).figure p x m
+what_stands_lasts machine p = stands-lasts (transaction_of machine).figure (coded_holds machine).is_figure p

@@ -5,7 +5,7 @@ use Rattle.std.specs.Cmp.{unsigned_Decides}
 use Rattle.std.proofs.lemmas.List.{take_more, take_all}
 use Rattle.sip_states.proofs.lists.Listed.{Contains-here, Contains-there}
 use Rattle.std.proofs.lemmas.Bool.{false≢true}
-use Rattle.std.proofs.lemmas.Option.{slice_get_within, get_or_from_slice_get}
+use Rattle.std.proofs.lemmas.Option.{same_Some, slice_get_within, get_or_from_slice_get}
 use Rattle.std.proofs.lemmas.List.Elements.{All-nil, All-cons, All-weaker}
 use Rattle.sip_standard.specs.Key.{KeyParts}
 use Rattle.sip_standard.specs.Times.{Times, last_moment}
@@ -261,10 +261,6 @@ module _ (verdict : Option Verdict) (old mid last : Texts) (number : ℕ) (bytes
         subst (λ ks. HaveNumbers v.keys (up_to (length v.keys)) ks) (same ∙ sym keys) (have_all v.keys),
       )
 
--- two options that are the same hold the same
-pub same_some : {A : Type 0} (a b : A) → Some a ≡ Some b → a ≡ b
-same_some a b h = cc
-
 -- a number at a place is that of the key there
 number_at : (all : List KeyParts) (ns : List ℕ) (ks : List KeyParts) → HaveNumbers all ns ks → (i d : ℕ) → i < length ns → (k : KeyParts) × (slice_get ks i ≡ Some k) × (slice_get all (get_or ns i d - 1) ≡ Some k)
 number_at all [] ks h i d low = absurd (omega arith)
@@ -278,7 +274,7 @@ numbers_differ all ns ks have apart i j d less low same =
     let (a, a_at, a_there) = number_at all ns ks have i d (omega arith) in
     let (b, b_at, b_there) = number_at all ns ks have j d low in
     let both : Some a ≡ Some b = sym a_there ∙ ap (λ n. slice_get all (n - 1)) same ∙ b_there in
-    apart i j a less (slice_get_within ks j b b_at) (get_or_from_slice_get ks i a a a_at ∙ same_some a b both ∙ sym (get_or_from_slice_get ks j b a b_at))
+    apart i j a less (slice_get_within ks j b b_at) (get_or_from_slice_get ks i a a a_at ∙ same_Some a b both ∙ sym (get_or_from_slice_get ks j b a b_at))
 
 -- an event may be heard by the numbers of the keys
 pub may_hear : (texts : Texts) (moment : ℕ) (event : NumberedEvent) (concerned : Concerned KeyParts) (numbers : Concerned ℕ) (t u : Tabled) → TouchesEach (each concerned) (each numbers) t u → FitsBook texts event

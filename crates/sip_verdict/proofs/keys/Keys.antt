@@ -2,7 +2,7 @@
 use Rattle.std.proofs.Common.{◌≡◌, zero, suc, Bool, true, false, cond, ◌||◌, List, [], ◌∷◌, ◌++◌, All, Contains, map, refl, sym, ap, ◌∙◌, arith}
 use Rattle.std.specs.Prelude.{filter, fold, flat_map}
 use Rattle.std.specs.List.{list_any}
-use Rattle.std.proofs.lemmas.Bool.{false≢true}
+use Rattle.std.proofs.lemmas.Bool.{false≢true, cond-true}
 use Rattle.std.proofs.lemmas.List.{map-append, append-nil}
 use Rattle.std.proofs.lemmas.List.Elements.{filter-append, All-head, All-tail, Contains-get_or}
 use Rattle.std.proofs.lemmas.List.Folds.{list_any-append}
@@ -14,14 +14,6 @@ use Rattle.sip_standard.specs.Observation.{Observation}
 use Rattle.sip_standard.specs.VerdictOf.{keys_in, events_for}
 use Rattle.sip_verdict.specs.Entries.{newest_moment}
 use Rattle.sip_verdict.specs.inner.Keyed.{with_key, concerns}
-
--- a test decides between two values
-pub cond_false : {A : Type 0} (b : Bool) (x y : A) → b ≡ false → cond b x y ≡ y
-cond_false b x y e = ap (λ t. cond t x y) e
-
--- a test that holds decides for the first value
-pub cond_true : {A : Type 0} (b : Bool) (x y : A) → b ≡ true → cond b x y ≡ x
-cond_true b x y e = ap (λ t. cond t x y) e
 
 -- neither is true where their disjunction is not
 pub or_false : (a b : Bool) → (a || b) ≡ false → (a ≡ false) × (b ≡ false)
@@ -77,7 +69,7 @@ contains-among key (k ∷ keys) (suc n, lt, h) = or_true (same_key key k) (list_
 known_keys : (keys more : List KeyParts) → All (Contains keys) more → fold with_key keys more ≡ keys
 known_keys keys [] among = refl
 known_keys keys (key ∷ more) among =
-    ap (λ ks. fold with_key ks more) (cond_true (list_any (same_key key) keys) keys (keys ++ key ∷ []) (contains-among key keys (All-head (Contains keys) key more among)))
+    ap (λ ks. fold with_key ks more) (cond-true (list_any (same_key key) keys) keys (keys ++ key ∷ []) (contains-among key keys (All-head (Contains keys) key more among)))
     ∙ known_keys keys more (All-tail (Contains keys) key more among)
 
 -- an entry that concerns the keys of those before it brings none

@@ -71,7 +71,8 @@ none_named p = record {
 
 -- What is observed of an entry has its moment.
 
-heard_moment : (direction : Direction) (i : Item) (e : Observation KeyParts) → ObservesMessage direction i e → e.event.moment ≡ i.moment
+-- a message is seen at the moment of its entry
+pub heard_moment : (direction : Direction) (i : Item) (e : Observation KeyParts) → ObservesMessage direction i e → e.event.moment ≡ i.moment
 heard_moment direction i e (has_fault fault has is) = ap (λ x. x.event.moment) is
 heard_moment direction i e (has_no_cookie r reads lacks is) = ap (λ x. x.event.moment) is
 heard_moment direction i e (is_heard r keys reads fine concerns is) = ap (λ x. x.event.moment) is

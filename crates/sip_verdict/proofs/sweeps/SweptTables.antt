@@ -22,7 +22,7 @@ use Rattle.sip_verdict.specs.inner.Tracking.{IsReady, Tracks}
 use Rattle.sip_verdict.specs.inner.TablesTracking.{key_keeping, transactions_of, TablesTrack, MayPass, IsOnRecord, AllAreOnRecord}
 use Rattle.sip_states.proofs.keyed.ByMachine.{some_machine, moment_is, numbers_are, of_set, to_set, of_sets}
 use Rattle.sip_verdict.proofs.tables.TablesPassing.{at_place, All-place, All-places, zip-place, place-zip, keys_are}
-use Rattle.sip_verdict.proofs.sweeps.NamedLemmas.{Contains-flat_map, Contains-from_flat_map}
+use Rattle.sip_states.proofs.keyed.NamesLemmas.{Contains-flat_map, Contains-from_flat_map}
 use Rattle.sip_verdict.proofs.sweeps.SweptSets.{swept_leads, swept_agenda}
 
 -- numbers that were appended to none
@@ -90,6 +90,7 @@ module _ (texts : Texts) (book : IsBook texts) (t u : Tabled) (moment : ℕ) (ad
         only-Keeps texts numbers book up kept number (within n new at number (subst (λ ns. Contains ns number) (sym (ap numbers_of is ∙ numbers_are machine s)) has))) in
         subst (IsKnownSet (only numbers texts)) (sym is) (to_set (λ X M S m s. IsKnown m (only numbers texts) s) machine s known))
 
+    -- after the sweep the sets may pass an entry at the moment
     pub swept_may : MayPass (only numbers texts) u moment
     swept_may = record { order = swept_order; known = swept_known; long = advances.long ∙ may.long ∙ sym (ap length advances.keys) }
 

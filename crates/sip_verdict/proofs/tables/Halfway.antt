@@ -18,6 +18,7 @@ use Rattle.sip_states.specs.AnySet.{moment_of}
 use Rattle.sip_states.specs.Agenda.{is_overdue}
 use Rattle.sip_states.specs.Tables.{Tabled, IsGiven, due_of}
 use Rattle.sip_states.specs.declared.any_set.AnySet.{AnySet}
+use Rattle.sip_states.proofs.lists.Places.{set_place}
 use Rattle.sip_verdict.specs.declared.passing.Fate.{Fate}
 use Rattle.sip_verdict.specs.declared.passing.Fate.TheVariants.{Runs, NoRun, TooWide}
 use Rattle.sip_verdict.specs.declared.passing.Hearing.{Hearing}
@@ -35,7 +36,7 @@ use Rattle.sip_verdict.proofs.verdicts.Outcomes.{IsFirstAmong, Says, says_fewer,
 use Rattle.sip_verdict.proofs.keys.Overdue.{overdue_none, in_time_some}
 use Rattle.sip_verdict.proofs.keys.QuietSets.{leads_later, quiet_stepped}
 use Rattle.sip_verdict.proofs.keys.Stepped.{own_passed, other_passed, run_still}
-use Rattle.sip_verdict.proofs.tables.TablesPassing.{at_place, All-place, All-places, zip-place, place-zip, set-place, keys_are, among_not, among_first, among_rest, first_apart, leaves_keys, leaves_sets, heard_given}
+use Rattle.sip_verdict.proofs.tables.TablesPassing.{at_place, All-place, All-places, zip-place, place-zip, keys_are, among_not, among_first, among_rest, first_apart, leaves_keys, leaves_sets, heard_given}
 
 -- where no index passes, no element does
 pub All-position_None : {X : Type 0} (p : X → Bool) (xs : List X) → position p xs ≡ None → All (λ x. ¬ (IsTrue (p x))) xs
@@ -132,7 +133,7 @@ module _ (texts : Texts) (p : Times) (es : List (Observation KeyParts)) (e : Obs
 
     -- the others are as they were
     other : (n : ℕ) (s : AnySet) → slice_get u.sets n ≡ Some s → ((n ≡ place) × (own.after ≡ s)) ⊎ ((n ≢ place) × (slice_get t.sets n ≡ Some s))
-    other n s at = set-place t.sets place n own.after s (ap (λ xs. slice_get xs n) (sym (leaves_sets number own.after fate t u own.leaves)) ∙ at)
+    other n s at = set_place t.sets place n own.after s (ap (λ xs. slice_get xs n) (sym (leaves_sets number own.after fate t u own.leaves)) ∙ at)
 
     no_more : (n : ℕ) → is_among ns (n + 1) ≡ false → (is_among (number ∷ ns) (n + 1) ≡ false) ⊎ (n ≡ place)
     no_more n none = elim (among_not (n + 1) number ns none) [ inl old ↦ inl old | inr same ↦ inr (omega (arith, next, same)) ]

@@ -35,7 +35,8 @@ use Rattle.sip_verdict.specs.inner.Tracking.{IsReady}
 use Rattle.sip_verdict.proofs.keys.Keys.{among-contains, new_key}
 use Rattle.sip_states.proofs.keyed.ByMachine.{lawful_of, moment_is, numbers_are, of_sets}
 use Rattle.sip_verdict.proofs.tables.TablesPassing.{at_place, All-place, zip-place, keys_are}
-use Rattle.sip_verdict.proofs.sweeps.NamedLemmas.{RunNames, IsNumberOf, waited_names, silent_names, named_of, first_silent, ended_silent, Contains-flat_map, Contains-from_flat_map}
+use Rattle.sip_states.proofs.keyed.NamesLemmas.{Contains-flat_map, Contains-from_flat_map}
+use Rattle.sip_verdict.proofs.sweeps.NamedLemmas.{RunNames, IsNumberOf, waited_names, silent_names, named_of, first_silent, ended_silent}
 
 -- a run over no event stands in the first state
 stays_first : {X : Type 0} (r : MachineRules X) → IsLawful r → (m : ℕ) (y : X) → RuledRun r [] m y → y ≡ r.first
@@ -111,6 +112,7 @@ module _ (texts : Texts) (book : IsBook texts) (p : Times) (moment : ℕ) where
       λ h. absurd (Contains-none h.0 (subst (λ ns. Contains ns h.0) (ap numbers_of same ∙ silent) h.1)),
     )
 
+    -- what runs of the key name is what the set names that has waited
     pub key_named : IsAdvanced moment old new → StandsNaming p machine events moment text ↔ IsNumberOf texts (numbers_of new) text
     key_named advanced = iff_trans (names_stand p machine events moment text) (by_set advanced)
 
@@ -143,6 +145,7 @@ module _ (texts : Texts) (book : IsBook texts) (p : Times) (moment : ℕ) where
         let (number, has, text_is) = (at_key n key old new at here there text).0 named in
         (number, Contains-flat_map numbers_of u.sets new number (n, slice_get_within u.sets n new there, get_or_from_slice_get u.sets n new new there) has, text_is)
 
+    -- the texts that are named in the log are those of the messages that the sets name
     pub tables_named : (text : List ℕ) → IsNamed p es text ↔ IsNumberOf texts (flat_map numbers_of u.sets) text
     tables_named text = (
       λ h. from_key h.key text (h.state, subst (λ n. Stands (transaction_of (machine_of_key p.rules h.key)).figure p (events_for h.key es) n h.state) newest h.stands, h.names)

@@ -26,6 +26,7 @@ use Rattle.sip_verdict.specs.inner.Concerned.{each, is_all}
 use Rattle.sip_verdict.proofs.keys.Keys.{contains-among}
 use Rattle.sip_verdict.proofs.keys.Leading.{Leads-start}
 use Rattle.sip_states.proofs.keyed.ByMachine.{first_of, first_is_of, first_knows, moment_is, to_set}
+use Rattle.sip_states.proofs.lists.Places.{push_place}
 use Rattle.sip_verdict.proofs.tables.TablesPassing.{keys_are, among_first, among_rest}
 use Rattle.sip_verdict.proofs.tables.TrackingLemmas.{AreKept, kept_touched}
 
@@ -86,19 +87,12 @@ touches_may texts moment ks ns old new may h = touches_elim (λ t. MayPass texts
       long = long_more t key m.long;
     }
 
--- an element of a list with one more
-pub push-place : {A : Type 0} (xs : List A) (a : A) (n : ℕ) (x : A) → slice_get (xs ++ a ∷ []) n ≡ Some x → (slice_get xs n ≡ Some x) ⊎ ((n ≡ length xs) × (a ≡ x))
-push-place [] a zero x at = inr (refl, cc)
-push-place [] a (suc n) x at = absurd cc
-push-place (u ∷ xs) a zero x at = inl at
-push-place (u ∷ xs) a (suc n) x at = elim (push-place xs a n x at) [ inl h ↦ inl h | inr h ↦ inr (ap suc h.0, h.1) ]
-
 -- each last moment stays on record, and there is none yet of a key that waits
 module _ (waits : List ℕ) where
   with_key_recorded : (key : KeyParts) (number : ℕ) (old : Tabled) → length old.sets ≡ length old.keys → number ≡ length old.keys + 1 → is_among waits number ≡ true → AreOnRecord waits old → AreOnRecord waits (with_key old key)
   with_key_recorded key number old long counts waiting h = record {
     long = length-append old.records (None ∷ []) ∙ ap (λ i. i + 1) h.long ∙ sym (length-append old.keys (key ∷ []));
-    each = λ i s r at here. go i s r (push-place old.sets (start_of old.times key) i s at) (push-place old.records None i r here);
+    each = λ i s r at here. go i s r (push_place old.sets (start_of old.times key) i s at) (push_place old.records None i r here);
   }
     where
       go : (i : ℕ) (s : AnySet) (r : Option (Option ℕ)) → (slice_get old.sets i ≡ Some s) ⊎ ((i ≡ length old.sets) × (start_of old.times key ≡ s))

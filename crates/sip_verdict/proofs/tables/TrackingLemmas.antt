@@ -4,6 +4,7 @@ use Rattle.std.specs.Prelude.{fold}
 use Rattle.std.specs.List.{list_any}
 use Rattle.std.proofs.lemmas.List.{map-append}
 use Rattle.std.proofs.lemmas.List.Elements.{All-nil, All-map, All-weaker, All-push}
+use Rattle.std.proofs.lemmas.Bool.{cond-true, cond-false}
 use Rattle.sip_standard.specs.declared.verdict.Verdict.TheVariants.{Breach, Undecided}
 use Rattle.sip_standard.specs.Observation.{Observation}
 use Rattle.sip_standard.specs.VerdictOf.{keys_in, RunsOver, IsWideAt, IsFirstKey, HasTrouble}
@@ -13,7 +14,7 @@ use Rattle.sip_verdict.specs.inner.Keyed.{with_key}
 use Rattle.sip_standard.specs.Key.{KeyParts, same_key}
 use Rattle.sip_standard.specs.Times.{Times}
 use Rattle.sip_verdict.specs.inner.Tracking.{Keeping, IsReady, IsStanding, Tracks, TracksBefore, GoesOn, IsTouched}
-use Rattle.sip_verdict.proofs.keys.Keys.{cond_true, cond_false, new_key, contains-among, not_among, among-with_key, keys_in-push, keys_in-none, keys_in-all}
+use Rattle.sip_verdict.proofs.keys.Keys.{new_key, contains-among, not_among, among-with_key, keys_in-push, keys_in-none, keys_in-all}
 use Rattle.sip_verdict.proofs.verdicts.Unique.{good-nil, good-push}
 
 -- the transactions have these keys, among which are those of the entries, and lead to the runs over the entries
@@ -37,7 +38,7 @@ module _ {T : Type 0} (k : Keeping T) (es : List (Observation KeyParts)) where
     }
       where
         known : with_key keys (k.key fresh) ≡ keys
-        known = cond_true (list_any (same_key (k.key fresh)) keys) keys (keys ++ k.key fresh ∷ [])
+        known = cond-true (list_any (same_key (k.key fresh)) keys) keys (keys ++ k.key fresh ∷ [])
             (contains-among (k.key fresh) keys (subst (λ ks. Contains ks (k.key fresh)) kept.keys h.1))
     kept_touched (inr h) = record {
       keys = ap (map k.key) h.1 ∙ map-append k.key old (fresh ∷ []) ∙ ap (λ ks. ks ++ k.key fresh ∷ []) kept.keys ∙ sym unknown;
@@ -50,7 +51,7 @@ module _ {T : Type 0} (k : Keeping T) (es : List (Observation KeyParts)) where
         none = not_among (k.key fresh) keys (λ there. h.0 (subst (λ ks. Contains ks (k.key fresh)) (sym kept.keys) there))
 
         unknown : with_key keys (k.key fresh) ≡ keys ++ k.key fresh ∷ []
-        unknown = cond_false (list_any (same_key (k.key fresh)) keys) keys (keys ++ k.key fresh ∷ []) none
+        unknown = cond-false (list_any (same_key (k.key fresh)) keys) keys (keys ++ k.key fresh ∷ []) none
 
 module _ {T : Type 0} (p : Times) (k : Keeping T) where
   -- no transaction is kept of no entry

@@ -18,7 +18,7 @@ use Rattle.consequences.specs.Events.{SendsRequest, GetsResponse, IsRefused, IsR
 use Rattle.consequences.specs.Machines.{figure_of, StateOf}
 use Rattle.consequences.proofs.lemmas.client.Acknowledging.{acknowledged}
 use Rattle.consequences.proofs.lemmas.client.InviteClients.{receives_6026, receives_3261}
-use Rattle.consequences.proofs.lemmas.run.Lasting.{what_stands_lasts}
+use Rattle.sip_states.proofs.runs.StandsLemmas.{what_stands_lasts}
 use Rattle.consequences.proofs.lemmas.run.Lists.{any-none}
 use Rattle.consequences.proofs.invite_client.an_unsuccessful_response_is_acknowledged.Goals as goal
 

@@ -1,6 +1,7 @@
 -- An INVITE client before a response has come: it sends no CANCEL, and ends by timer B.
 use Rattle.std.proofs.Common.{◌≡◌, ◌≤◌, ◌<◌, ◌*◌, ◌⊎◌, inl, inr, ℕ, Bool, true, false, Some, None, List, [], ◌∷◌, ◌++◌, All, refl, sym, ap, subst, ◌∙◌, arith}
 use Rattle.std.specs.List.{Any}
+use Rattle.std.proofs.lemmas.List.{append-nil}
 use Rattle.sip_standard.specs.declared.action.Action.{Action}
 use Rattle.sip_standard.specs.declared.action.Action.TheVariants.{Sent, Received, Failed, Mark, Restart}
 use Rattle.sip_standard.specs.declared.kind.Method.TheVariants.{Invite, Ack, Cancel}
@@ -16,9 +17,10 @@ use Rattle.sip_standard.specs.Figure.{Figure, keeps, gains, Owing, quiet, Emits,
 use Rattle.sip_standard.specs.InviteClient.{InviteClientPhase, Idle, Ended, Calling, Proceeding, Accepted, Completed, Sends, ends_refused}
 use Rattle.sip_standard.specs.Stands.{Stands, StandsAfter}
 use Rattle.consequences.specs.Events.{SendsRequest, GetsResponse, IsAnyCode, IsRefused, IsRestart}
-use Rattle.consequences.proofs.lemmas.run.Lists.{any-last, any-earlier, any-none, All-front, All-last}
+use Rattle.sip_machine.specs.inner.DebtLaws.{All-front}
+use Rattle.consequences.proofs.lemmas.run.Lists.{any-last, any-earlier, any-none, All-last}
 use Rattle.consequences.proofs.lemmas.client.Once.{IsInvited, invites-once, over-emits, over-steps}
-use Rattle.consequences.proofs.lemmas.run.Running.{Runs, IsKept, left_at, step-of, stands-run, Cut, cut, run-keeps, append-none}
+use Rattle.consequences.proofs.lemmas.run.Running.{Runs, IsKept, left_at, step-of, stands-run, Cut, cut, run-keeps}
 use Rattle.consequences.proofs.lemmas.client.InviteClients.{Row, Receiving, client, IsDone, Answers, IsReceiving, pays-nothing, sends-idle, sends-calling, sends-proceeding, sends-accepted, sends-completed, sends-ended}
 
 no-cancel : ¬ (Request Invite ≡ Request Cancel)
@@ -108,6 +110,19 @@ module _ (R : Receiving) (is : IsReceiving R) (p : Times) where
       by phase owes from (inr (inr (stays, same))) = absurd stays
       by phase owes from (inl row) = absurd from
 
+  -- what a client that calls receives with a row is a response of some code
+  response-came : (es : List MachineEvent) (e : MachineEvent) (w : Waiting) (row : Row) → e.action ≡ Received → R p (Calling w) e.kind e row → Any (GetsResponse IsAnyCode) (es ++ e ∷ [])
+  response-came es e w row was is_row = by (is.calling p w e.kind e row is_row)
+    where
+      any : (code : ℕ) → (IsProvisional code × (row ≡ (Proceeding w.reliable w.request None, keeps))) ⊎ (IsSuccess code × IsDone row.0)
+          ⊎ (IsUnsuccessful code × (row ≡ (Completed w.reliable w.request e.moment, gains true e.text))) → IsAnyCode code
+      any code (inl h) = (h.0.0, omega (arith, h.0.1))
+      any code (inr (inl h)) = (omega (arith, h.0.0), omega (arith, h.0.1))
+      any code (inr (inr h)) = (omega (arith, h.0.0), h.0.1)
+
+      by : Answers w.reliable w.request e.kind e row → Any (GetsResponse IsAnyCode) (es ++ e ∷ [])
+      by (code, kind, leads) = any-last (GetsResponse IsAnyCode) es e (was, (code, kind, any code leads))
+
   module _ (invite : MachineEvent) where
     -- a response came, a message was refused, the element started again, or timer B may have fired
     abbrev Over : List MachineEvent → ℕ → Type 0
@@ -126,18 +141,6 @@ module _ (R : Receiving) (is : IsReceiving R) (p : Times) where
     calls-ends es h (Calling w) owes calls may = inr (inr (subst (λ m. open_at p m (64 * p.t1) ≤ h) calls.0 may.0))
     calls-ends es h x owes calls may = absurd calls
 
-    calls-received : (es : List MachineEvent) (e : MachineEvent) (w : Waiting) (row : Row) → e.action ≡ Received → R p (Calling w) e.kind e row → Over (es ++ e ∷ []) e.moment
-    calls-received es e w row was is_row = by (is.calling p w e.kind e row is_row)
-      where
-        any : (code : ℕ) → (IsProvisional code × (row ≡ (Proceeding w.reliable w.request None, keeps))) ⊎ (IsSuccess code × IsDone row.0)
-            ⊎ (IsUnsuccessful code × (row ≡ (Completed w.reliable w.request e.moment, gains true e.text))) → IsAnyCode code
-        any code (inl h) = (h.0.0, omega (arith, h.0.1))
-        any code (inr (inl h)) = (omega (arith, h.0.0), omega (arith, h.0.1))
-        any code (inr (inr h)) = (omega (arith, h.0.0), h.0.1)
-
-        by : Answers w.reliable w.request e.kind e row → Over (es ++ e ∷ []) e.moment
-        by (code, kind, leads) = inl (any-last (GetsResponse IsAnyCode) es e (was, (code, kind, any code leads)))
-
     calls-emits : (es : List MachineEvent) (e : MachineEvent) (x : InviteClientPhase) (owes : List Owed) (y : Owing InviteClientPhase) → CallsFrom invite x
         → Emits f p e (record { phase = x; owes = owes }) y → (e.kind ≡ Request Invite) × CallsFrom invite y.phase
     calls-emits es e x owes y calls (inr (inl (left, pays, to))) =
@@ -148,7 +151,7 @@ module _ (R : Receiving) (is : IsReceiving R) (p : Times) where
 
     calls-steps : (a : Action) (es : List MachineEvent) (e : MachineEvent) (x : InviteClientPhase) (owes : List Owed) (y : Owing InviteClientPhase) → e.action ≡ a → CallsFrom invite x
         → Steps f p a e (record { phase = x; owes = owes }) y → Calls (es ++ e ∷ []) e.moment y
-    calls-steps Received es e (Calling w) owes y was calls (inl (row, is_row, to)) = inr (calls-received es e w row was is_row)
+    calls-steps Received es e (Calling w) owes y was calls (inl (row, is_row, to)) = inr (inl (response-came es e w row was is_row))
     calls-steps Received es e x owes y was calls (inl row) = absurd calls
     calls-steps Received es e x owes y was calls (inr (none, same)) = inl (rw same calls)
     calls-steps Sent es e x owes y was calls emits = inl (calls-emits es e x owes y calls emits).1
@@ -161,7 +164,7 @@ module _ (R : Receiving) (is : IsReceiving R) (p : Times) where
       where
         as_it_waits : (es : List MachineEvent) (h m : ℕ) (x : Owing InviteClientPhase) → Calls es h x → h ≤ m → Lasts f p x m → Calls es m x
         as_it_waits es h m x (inl calls) low lasts = inl calls
-        as_it_waits es h m x (inr over) low lasts = inr (subst (λ fs. Over fs m) (append-none es) (over-later es [] h m low over))
+        as_it_waits es h m x (inr over) low lasts = inr (subst (λ fs. Over fs m) (append-nil es) (over-later es [] h m low over))
 
         as_it_ends : (es : List MachineEvent) (h : ℕ) (x : Owing InviteClientPhase) → Calls es h x → MayEnd f p x h → Calls es h (quiet Ended)
         as_it_ends es h x (inl calls) may = inr (calls-ends es h x.phase x.owes calls may)
@@ -292,18 +295,6 @@ module _ (R : Receiving) (is : IsReceiving R) (p : Times) where
     abbrev Waits : List MachineEvent → ℕ → Owing InviteClientPhase → Type 0
     Waits es m y = CallsBy moment y.phase ⊎ (y ≡ quiet Ended) ⊎ Any (GetsResponse IsAnyCode) es
 
-    waits-received : (es : List MachineEvent) (e : MachineEvent) (w : Waiting) (row : Row) → e.action ≡ Received → R p (Calling w) e.kind e row → Any (GetsResponse IsAnyCode) (es ++ e ∷ [])
-    waits-received es e w row was is_row = by (is.calling p w e.kind e row is_row)
-      where
-        any : (code : ℕ) → (IsProvisional code × (row ≡ (Proceeding w.reliable w.request None, keeps))) ⊎ (IsSuccess code × IsDone row.0)
-            ⊎ (IsUnsuccessful code × (row ≡ (Completed w.reliable w.request e.moment, gains true e.text))) → IsAnyCode code
-        any code (inl h) = (h.0.0, omega (arith, h.0.1))
-        any code (inr (inl h)) = (omega (arith, h.0.0), omega (arith, h.0.1))
-        any code (inr (inr h)) = (omega (arith, h.0.0), h.0.1)
-
-        by : Answers w.reliable w.request e.kind e row → Any (GetsResponse IsAnyCode) (es ++ e ∷ [])
-        by (code, kind, leads) = any-last (GetsResponse IsAnyCode) es e (was, (code, kind, any code leads))
-
     waits-emits : (e : MachineEvent) (x : InviteClientPhase) (owes : List Owed) (y : Owing InviteClientPhase) → CallsBy moment x → Emits f p e (record { phase = x; owes = owes }) y → CallsBy moment y.phase
     waits-emits e (Calling w) owes y calls (inl (row, is_row, to)) = rw (to, (sends-calling p w e.kind e row is_row).2) calls
     waits-emits e x owes y calls (inl row) = absurd calls
@@ -317,7 +308,7 @@ module _ (R : Receiving) (is : IsReceiving R) (p : Times) where
 
     waits-steps : (a : Action) (es : List MachineEvent) (e : MachineEvent) (x : InviteClientPhase) (owes : List Owed) (y : Owing InviteClientPhase) → e.action ≡ a → CallsBy moment x
         → Steps f p a e (record { phase = x; owes = owes }) y → Waits (es ++ e ∷ []) e.moment y
-    waits-steps Received es e (Calling w) owes y was calls (inl (row, is_row, to)) = inr (inr (waits-received es e w row was is_row))
+    waits-steps Received es e (Calling w) owes y was calls (inl (row, is_row, to)) = inr (inr (response-came es e w row was is_row))
     waits-steps Received es e x owes y was calls (inl row) = absurd calls
     waits-steps Received es e x owes y was calls (inr (none, same)) = inl (rw same calls)
     waits-steps Sent es e x owes y was calls emits = inl (waits-emits e x owes y calls emits)
@@ -340,6 +331,7 @@ module _ (R : Receiving) (is : IsReceiving R) (p : Times) where
 
   -- timer B, section 17.1.1.2, where what stands lasts
   module _ (lasts : (events : List MachineEvent) (m : ℕ) (x : Owing InviteClientPhase) → Stands f p events m x → Lasts f p x m) where
+    -- an INVITE that has no response is over once timer B has to have fired
     pub over-by-timer-b : (before after : List MachineEvent) (invite : MachineEvent) (m : ℕ) (y : Owing InviteClientPhase) → SendsRequest Invite invite →
         All (λ g. ¬ (GetsResponse IsAnyCode g)) after → Stands f p (before ++ invite ∷ after) m y → close_at p invite.moment (64 * p.t1) < m → y ≡ quiet Ended
     over-by-timer-b before after invite m y sent unanswered stands late =
@@ -360,6 +352,7 @@ module _ (R : Receiving) (is : IsReceiving R) (p : Times) where
             let calls = invite-calls invite found.from.phase (left_at invite found.from) found.to sent.1 began (step-of f p Sent invite found.from found.to sent.0 found.step) in
             by (run-keeps f p (Waits invite.moment) (waits-kept invite.moment) after found.to invite.moment m y (inl calls) found.goes)
 
+    -- once timer B has to have fired for an INVITE that has no response, CANCEL alone is sent
     pub silent-after-timer-b : (before after : List MachineEvent) (invite e : MachineEvent) (y : Owing InviteClientPhase) → SendsRequest Invite invite →
         All (λ g. ¬ (GetsResponse IsAnyCode g)) after → e.action ≡ Sent → StandsAfter f p (before ++ invite ∷ after) e y → close_at p invite.moment (64 * p.t1) < e.moment → e.kind ≡ Request Cancel
     silent-after-timer-b before after invite e y sent unanswered is_sent (x, stands, take) late =

@@ -14,7 +14,8 @@ use Rattle.sip_standard.specs.InviteServer as corrected
 use Rattle.sip_standard.specs.InviteServer3261 as without
 use Rattle.sip_standard.specs.PlainServer as plain
 use Rattle.consequences.specs.Events.{IsRestart}
-use Rattle.consequences.proofs.lemmas.run.Lists.{All-front, All-last}
+use Rattle.sip_machine.specs.inner.DebtLaws.{All-front}
+use Rattle.consequences.proofs.lemmas.run.Lists.{All-last}
 use Rattle.consequences.proofs.lemmas.run.Running.{Runs, IsKept, step-of, run-keeps}
 
 -- in its idle phase, which is the ended one, a server has no timer, sends nothing, and leaves only for a request that wakes it

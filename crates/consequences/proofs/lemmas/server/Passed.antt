@@ -16,9 +16,11 @@ use Rattle.sip_standard.specs.Stands.{StandsAfter}
 use Rattle.consequences.specs.Events.{GetsRequest, IsResponse, SendsResponse}
 use Rattle.consequences.proofs.lemmas.server.Asleep.{IsInvite, nothing-to-pay, without-asleep, asleep-emits, asleep-steps}
 use Rattle.consequences.proofs.lemmas.server.InviteServers.{first_in, is-server-3261}
-use Rattle.consequences.proofs.lemmas.run.Lists.{All-front, All-last}
+use Rattle.sip_machine.specs.inner.DebtLaws.{All-front}
+use Rattle.consequences.proofs.lemmas.run.Lists.{All-last}
 use Rattle.consequences.proofs.lemmas.run.Running.{IsKept, left_at, step-of, stands-run, Cut, cut, run-keeps}
 use Rattle.consequences.proofs.lemmas.server.FinalResponse.{HoldsIn, Opens, BeforeFinal, before-final-kept, opens-left, final-paid}
+use Rattle.consequences.proofs.lemmas.server.Said.{codes-are-one}
 
 abbrev f : Figure InviteServer3261Phase
 f = invite_server_3261
@@ -82,9 +84,6 @@ module _ (p : Times) where
         → Sends p (first_in x) k final row → row ≡ (Passed, drops)
     success-row (Proceeding reliable set last) (Response code) row owes opens (other, kind, success) here (inl h) = h.1
     success-row (Proceeding reliable set last) (Response code) row owes opens (other, kind, success) here (inr h) = absurd (h.0 (subst IsSuccess (codes-are-one other code (sym kind ∙ here)) success))
-      where
-        codes-are-one : (a b : ℕ) → Response a ≡ Response b → a ≡ b
-        codes-are-one a b same = cc
     success-row (Proceeding reliable set last) (Request method) row owes opens success here h = absurd h
     success-row Idle k row owes opens success here h = absurd h
     success-row x k row owes opens success here h = absurd opens

@@ -12,7 +12,7 @@ use Rattle.sip_standard.specs.PlainServer.{plain_server}
 use Rattle.sip_standard.specs.KeyMachine.{MachineKind, OfInviteClient, OfPlainClient, OfInviteServer, OfPlainServer, OfInviteClient3261, OfInviteServer3261, transaction_of}
 use Rattle.sip_standard.specs.Stands.{Stands}
 use Rattle.consequences.specs.Tolerance.{tolerant, AreOneKind}
-use Rattle.consequences.proofs.lemmas.run.Lasting.{what_stands_lasts}
+use Rattle.sip_states.proofs.runs.StandsLemmas.{what_stands_lasts}
 use Rattle.consequences.proofs.lemmas.tolerance.Sorted.{MayIn, MayIn3261, client-sorted, client-3261-sorted, plain-client-sorted, server-sorted, server-3261-sorted}
 use Rattle.consequences.proofs.lemmas.tolerance.SortedPlainServer.{May, plain-server-sorted}
 use Rattle.consequences.proofs.lemmas.tolerance.Steady.{client-steady, client-3261-steady, plain-client-steady, server-steady, server-3261-steady, plain-server-steady}

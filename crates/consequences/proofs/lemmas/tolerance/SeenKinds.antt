@@ -16,6 +16,7 @@ use Rattle.sip_standard.specs.Outcome.{gives}
 use Rattle.sip_standard.specs.Says.{Said, Says}
 use Rattle.sip_standard.specs.Observation.{Observation, direction_of, silent_observation, ObservesMessage, has_fault, has_no_cookie, is_heard}
 use Rattle.sip_standard.specs.VerdictOf.{keys_in, events_for}
+use Rattle.sip_message.proofs.lemmas.says.Reading.{said-one}
 use Rattle.consequences.specs.Front.{AreSeen}
 use Rattle.consequences.specs.Tolerance.{AreOneKind}
 
@@ -64,17 +65,16 @@ events-known key (e ∷ es) known = by (list_any (same_key key) e.keys) refl (ev
     by true is later = All-cons HasItsKind e.event (events_for key es) (its is (All-head IsKnown e es known)) later
     by false is later = later
 
--- where bytes say one message
-module _ (one_said : (text : List ℕ) (s t : Said) → Says text (gives s) → Says text (gives t) → s ≡ t) where
-  two-kinds : (a b : MachineEvent) → HasItsKind a → HasItsKind b → a.text ≡ b.text → a.kind ≡ b.kind
-  two-kinds a b (inl silent) (inl quiet) same = silent.1 ∙ sym quiet.1
-  two-kinds a b (inl silent) (inr (s, says, kind, long)) same = absurd (omega (arith, long, ap length (sym same ∙ silent.0)))
-  two-kinds a b (inr (s, says, kind, long)) (inl quiet) same = absurd (omega (arith, long, ap length (same ∙ quiet.0)))
-  two-kinds a b (inr (s, says, kind, long)) (inr (t, tells, other, low)) same =
-      kind ∙ ap (λ r. kind_of r.start) (one_said b.text s t (subst (λ text. Says text (gives s)) same says) tells) ∙ sym other
+-- events that have the kind that their bytes say are of one kind where they have the same bytes
+two-kinds : (a b : MachineEvent) → HasItsKind a → HasItsKind b → a.text ≡ b.text → a.kind ≡ b.kind
+two-kinds a b (inl silent) (inl quiet) same = silent.1 ∙ sym quiet.1
+two-kinds a b (inl silent) (inr (s, says, kind, long)) same = absurd (omega (arith, long, ap length (sym same ∙ silent.0)))
+two-kinds a b (inr (s, says, kind, long)) (inl quiet) same = absurd (omega (arith, long, ap length (same ∙ quiet.0)))
+two-kinds a b (inr (s, says, kind, long)) (inr (t, tells, other, low)) same =
+    kind ∙ ap (λ r. kind_of r.start) (said-one b.text s t (subst (λ text. Says text (gives s)) same says) tells) ∙ sym other
 
-  -- the events of a transaction with equal bytes are of one kind
-  pub events-are-of-one-kind : (format : Format) (items : List Item) (es : List (Observation KeyParts)) (key : KeyParts) → InOrder format 0 items → AreSeen [] items es → AreOneKind (events_for key es)
-  events-are-of-one-kind format items es key order seen a b in-a in-b same =
-      let known = events-known key es (all-known format 0 [] items es order seen) in
-      two-kinds a b (All-contains HasItsKind (events_for key es) a known in-a) (All-contains HasItsKind (events_for key es) b known in-b) same
+-- the events of a transaction with equal bytes are of one kind
+pub events-are-of-one-kind : (format : Format) (items : List Item) (es : List (Observation KeyParts)) (key : KeyParts) → InOrder format 0 items → AreSeen [] items es → AreOneKind (events_for key es)
+events-are-of-one-kind format items es key order seen a b in-a in-b same =
+    let known = events-known key es (all-known format 0 [] items es order seen) in
+    two-kinds a b (All-contains HasItsKind (events_for key es) a known in-a) (All-contains HasItsKind (events_for key es) b known in-b) same

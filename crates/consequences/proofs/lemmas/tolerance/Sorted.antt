@@ -19,8 +19,8 @@ use Rattle.sip_standard.specs.InviteClient3261 as client_3261
 use Rattle.sip_standard.specs.PlainClient as plain
 use Rattle.sip_standard.specs.InviteServer as server
 use Rattle.sip_standard.specs.InviteServer3261 as server_3261
+use Rattle.sip_machine.specs.inner.DebtLaws.{All-without}
 use Rattle.consequences.proofs.lemmas.server.Asleep.{nothing-to-pay}
-use Rattle.consequences.proofs.lemmas.server.Said.{all-without}
 use Rattle.consequences.proofs.lemmas.run.Running.{IsKept, left_at, stands-run, run-keeps}
 use Rattle.consequences.proofs.lemmas.tolerance.Wider.{IsSorted}
 
@@ -63,7 +63,7 @@ module _ {X : Type 0} (f : Figure X) (p : Times) (firm : AreFirm f p) where
 
   must-emits : (e : MachineEvent) (x y : Owing X) → AllMust x.owes → Emits f p e x y → AllMust y.owes
   must-emits e x y all (inl (row, is_row, to)) = rw to (must-changed e.moment row.1 x.owes (firm.sent x.phase e.kind e row is_row) all)
-  must-emits e x y all (inr (inl (left, pays, to))) = rw to (all-without _ (λ o. o.must ≡ true) x.owes left pays all)
+  must-emits e x y all (inr (inl (left, pays, to))) = rw to (All-without {X = Owed} _ (λ o. o.must ≡ true) x.owes left pays all)
   must-emits e x y all (inr (inr (stays, same))) = rw same all
 
   must-fails : (ends : Bool) (e : MachineEvent) (x y : Owing X) → AllMust x.owes → Fails ends f p e x y → AllMust y.owes
@@ -193,10 +193,10 @@ module _ (p : Times) where
 
   sorted-without : (P : Owed → Type 0) (x : server.InviteServerPhase) (owes left : List Owed) → IsWithoutFirst P owes left → AreSorted x owes → AreSorted x left
   sorted-without P server.Idle owes left pays sorted = absurd (nothing-to-pay P left (subst (λ os. IsWithoutFirst P os left) sorted pays))
-  sorted-without P (server.Proceeding reliable set last) owes left pays sorted = all-without P IsTold owes left pays sorted
-  sorted-without P (server.Accepted set) owes left pays sorted = all-without P (λ o. o.must ≡ false) owes left pays sorted
-  sorted-without P (server.Completed reliable final set repeat interval) owes left pays sorted = all-without P (λ o. o.must ≡ false) owes left pays sorted
-  sorted-without P (server.Confirmed reliable set) owes left pays sorted = all-without P (λ o. o.must ≡ false) owes left pays sorted
+  sorted-without P (server.Proceeding reliable set last) owes left pays sorted = All-without P IsTold owes left pays sorted
+  sorted-without P (server.Accepted set) owes left pays sorted = All-without P (λ o. o.must ≡ false) owes left pays sorted
+  sorted-without P (server.Completed reliable final set repeat interval) owes left pays sorted = All-without P (λ o. o.must ≡ false) owes left pays sorted
+  sorted-without P (server.Confirmed reliable set) owes left pays sorted = All-without P (λ o. o.must ≡ false) owes left pays sorted
 
   sorted-received : (x : server.InviteServerPhase) (k : Kind) (e : MachineEvent) (row : server.InviteServerPhase × Change) (owes : List Owed) → AreSorted x owes → server.Receives p x k e row → AreSorted row.0 (changed p e.moment row.1 owes)
   sorted-received server.Idle (Request Invite) e row owes sorted h = rw (h, sorted) (All-nil IsTold)

@@ -13,10 +13,11 @@ use Rattle.sip_standard.specs.Provisional.{Is100}
 use Rattle.sip_standard.specs.Debts.{Owed, softened, IsWithoutFirst}
 use Rattle.sip_standard.specs.Figure.{Change, Owing, changed, quiet, Emits, Steps}
 use Rattle.sip_standard.specs.PlainServer.{PlainServerPhase, Idle, Trying, Proceeding, Completed, Receives, Sends, plain_server}
+use Rattle.sip_machine.specs.inner.DebtLaws.{All-without}
 use Rattle.consequences.specs.Events.{IsResponse, SendsResponse}
 use Rattle.consequences.specs.Tolerance.{AreOneKind}
 use Rattle.consequences.proofs.lemmas.server.Asleep.{nothing-to-pay}
-use Rattle.consequences.proofs.lemmas.server.Said.{IsOut, IsSaid, said-later, all-without}
+use Rattle.consequences.proofs.lemmas.server.Said.{IsOut, IsSaid, said-later, codes-are-one}
 use Rattle.consequences.proofs.lemmas.run.Lists.{any-last, any-earlier}
 use Rattle.consequences.proofs.lemmas.run.Running.{IsKept, left_at, stands-run, run-keeps}
 use Rattle.consequences.proofs.lemmas.tolerance.Sorted.{same-bytes}
@@ -69,8 +70,8 @@ sorted-left es (Completed reliable final set) owes test sorted = (sorted.0, All-
 sorted-without : (P : Owed → Type 0) (es : List MachineEvent) (x : PlainServerPhase) (owes left : List Owed) → IsWithoutFirst P owes left → AreSorted es x owes → AreSorted es x left
 sorted-without P es Idle owes left pays sorted = absurd (nothing-to-pay P left (subst (λ os. IsWithoutFirst P os left) sorted pays))
 sorted-without P es (Trying reliable) owes left pays sorted = absurd (nothing-to-pay P left (subst (λ os. IsWithoutFirst P os left) sorted pays))
-sorted-without P es (Proceeding reliable last) owes left pays sorted = (sorted.0, all-without P (IsTold es) owes left pays sorted.1)
-sorted-without P es (Completed reliable final set) owes left pays sorted = (sorted.0, all-without P (IsFinalOr es final) owes left pays sorted.1)
+sorted-without P es (Proceeding reliable last) owes left pays sorted = (sorted.0, All-without P (IsTold es) owes left pays sorted.1)
+sorted-without P es (Completed reliable final set) owes left pays sorted = (sorted.0, All-without P (IsFinalOr es final) owes left pays sorted.1)
 
 soft : (es : List MachineEvent) (final : List ℕ) (owes : List Owed) → All (λ o. IsSaid es o.message) owes → All (IsFinalOr es final) (softened owes)
 soft es final [] all = All-nil (IsFinalOr es final)
@@ -139,9 +140,6 @@ module _ (p : Times) where
     where
       same : g.kind ≡ h.kind
       same = one g h (i, i-low, i-at) (j, j-low, j-at) (g-text ∙ sym h-text)
-
-      codes-are-one : (a b : ℕ) → Response a ≡ Response b → a ≡ b
-      codes-are-one a b is = cc
 
       by : (a b : ℕ) → g.kind ≡ Response a → h.kind ≡ Response b → IsFinal a → ¬ (IsProvisional b)
       by a b g-kind h-kind final_code provisional_code =

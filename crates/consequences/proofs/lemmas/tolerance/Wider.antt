@@ -13,8 +13,9 @@ use Rattle.sip_standard.specs.MachineEvent.{MachineEvent}
 use Rattle.sip_standard.specs.Debts.{Owed, softened, IsWithoutFirst}
 use Rattle.sip_standard.specs.Figure.{Figure, Change, keeps, softens, drops, gains, Owing, changed, quiet, Emits, Fails, Steps, Takes, Lasts, MayEnd}
 use Rattle.sip_standard.specs.Stands.{Stands, begins, waits, ends, takes}
+use Rattle.sip_states.proofs.lists.Listed.{Contains-there}
 use Rattle.consequences.specs.Tolerance.{tolerant, AreOneKind}
-use Rattle.consequences.proofs.lemmas.run.Lists.{contains-here, contains-later}
+use Rattle.consequences.proofs.lemmas.run.Lists.{contains-here}
 use Rattle.consequences.proofs.lemmas.run.Running.{left_at}
 
 -- the second list holds the debts of the first, later, and perhaps more that may be sent
@@ -145,11 +146,11 @@ module _ (S : List ℕ → Type 0) (t : ℕ) where
       let low = pays.1 in (ns, here n ns (subst S (sym message) pays.0, omega (arith, low, deadline)), rest)
   also-pays _ _ _ (passes o os left never without) (both o' n os' ns message must deadline rest) fresh opens tell apart =
       let more = also-pays os left ns without rest (All-tail (λ o. t ≤ o.deadline) o os fresh) (All-tail (λ n. t ≤ n.deadline) n ns opens) (All-tail (λ n. n.must ≡ false → Dec (S n.message)) n ns tell)
-      (λ k among may pays. All-tail (λ j. S j.message → j.must ≡ false) n ns (apart k (contains-later n ns k among) may pays)) in
+      (λ k among may pays. All-tail (λ j. S j.message → j.must ≡ false) n ns (apart k (Contains-there n ns k among) may pays)) in
       (n ∷ more.0, passes n ns more.0 (λ pays. never (subst S message pays.0, All-head (λ o. t ≤ o.deadline) o os fresh)) more.1, both o n left more.0 message must deadline more.2)
   also-pays os left _ without (extra n os' ns may rest) fresh opens tell apart = by (All-head (λ n. n.must ≡ false → Dec (S n.message)) n ns tell may) (also-pays os left ns without rest fresh
       (All-tail (λ n. t ≤ n.deadline) n ns opens) (All-tail (λ n. n.must ≡ false → Dec (S n.message)) n ns tell)
-      (λ k among may pays. All-tail (λ j. S j.message → j.must ≡ false) n ns (apart k (contains-later n ns k among) may pays)))
+      (λ k among may pays. All-tail (λ j. S j.message → j.must ≡ false) n ns (apart k (Contains-there n ns k among) may pays)))
     where
       by : Dec (S n.message) → (others : List Owed) × Without Pays ns others × Later left others → (others : List Owed) × Without Pays (n ∷ ns) others × Later left others
       by (yes pays) more = (

@@ -114,7 +114,7 @@ invite_client_named texts code.Idle = refl
 invite_client_named texts x = refl
 
 -- the code has it as it is
-pub invite_client_is_coded : IsCoded invite_client invite_client_coded
+pub invite_client_is_coded : IsCoded invite_client invite_client_told invite_client_coded
 invite_client_is_coded =
     record {
       is_figure = invite_client_is_figure;

@@ -7,6 +7,7 @@ use Rattle.sip_standard.specs.Kind.{IsSuccess}
 use Rattle.sip_machine.specs.FigureRules.{IsFigure}
 use Rattle.sip_standard.specs.InviteClient.{InviteClientPhase, Calling, Proceeding, Completed}
 use Rattle.sip_standard.specs.InviteClient3261.{Receives, invite_client_3261}
+use Rattle.sip_standard.specs.PhaseWords.{invite_client_told}
 use Rattle.sip_machine.specs.inner.InviteClient3261.{invite_client_3261_coded}
 use Rattle.sip_machine.specs.inner.Coded.{IsCoded, LeadOn}
 use Rattle.sip_machine.specs.inner.InviteClient.Laws.{timer_d_starts, invite_client_is_figure, invite_client_is_coded}
@@ -43,7 +44,7 @@ invite_client_3261_is_figure =
     }
 
 -- the code has it as it is
-pub invite_client_3261_is_coded : IsCoded invite_client_3261 invite_client_3261_coded
+pub invite_client_3261_is_coded : IsCoded invite_client_3261 invite_client_told invite_client_3261_coded
 invite_client_3261_is_coded =
     record {
       is_figure = invite_client_3261_is_figure;

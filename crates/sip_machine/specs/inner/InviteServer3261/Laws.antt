@@ -135,7 +135,7 @@ invite_server_3261_named texts (code.In (code_phase.Proceeding reliable set None
 invite_server_3261_named texts (code.In phase again) = refl
 
 -- the code has it as it is
-pub invite_server_3261_is_coded : IsCoded invite_server_3261 invite_server_3261_coded
+pub invite_server_3261_is_coded : IsCoded invite_server_3261 invite_server_3261_told invite_server_3261_coded
 invite_server_3261_is_coded =
     record {
       is_figure = invite_server_3261_is_figure;

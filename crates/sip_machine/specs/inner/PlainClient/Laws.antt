@@ -91,7 +91,7 @@ plain_client_named texts code.Idle = refl
 plain_client_named texts x = refl
 
 -- the code has it as it is
-pub plain_client_is_coded : IsCoded plain_client plain_client_coded
+pub plain_client_is_coded : IsCoded plain_client plain_client_told plain_client_coded
 plain_client_is_coded =
     record {
       is_figure = plain_client_is_figure;

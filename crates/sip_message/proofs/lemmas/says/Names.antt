@@ -3,7 +3,7 @@ use Rattle.std.proofs.Common.{◌≡◌, ℕ, Bool, true, false, cond, ◌||◌,
 use Rattle.std.specs.Bool.{Decides}
 use Rattle.std.specs.Prelude.{bytes_eq, codes}
 use Rattle.std.specs.List.{AllByRecursion}
-use Rattle.std.proofs.lemmas.Bool.{both_ways}
+use Rattle.std.proofs.lemmas.Bool.{both_ways, cond-false}
 use Rattle.std.proofs.lemmas.Slice.Eq.{bytes_eq-Decides}
 use Rattle.sip_standard.specs.Case.{folded}
 use Rattle.sip_message.specs.declared.name.Known.{Known}
@@ -36,9 +36,6 @@ miss f s differs = at (bytes_eq f s) (bytes_eq-Decides f s)
     at true is = absurd (differs (is.0 refl))
     at false is = refl
 
-skip : {X : Type 0} (b : Bool) (x y : X) → b ≡ false → cond b x y ≡ y
-skip b x y is = ap (λ z. cond z x y) is
-
 neither : (a b : Bool) → a ≡ false → b ≡ false → (a || b) ≡ false
 neither a b a_is b_is = ap (λ z. z || b) a_is ∙ b_is
 
@@ -57,8 +54,8 @@ IsForeign f = AllByRecursion (λ s. f ≡ s.0 → ⊥) spellings
 -- is a name in full
 foreign-name : (f : List ℕ) → IsForeign f → full_name f ≡ f
 foreign-name f (via, (v, (from, (f_, (to, (t, (call_id, (i, (cseq, (content_length, (l, (contact, (m, (content_encoding, (e, (content_type, (c, (subject, (s, (supported, (k, (route, end)))))))))))))))))))))) =
-    skip (bytes_eq f (codes "v")) _ _ (miss f _ v) ∙ skip (bytes_eq f (codes "f")) _ _ (miss f _ f_) ∙ skip (bytes_eq f (codes "t")) _ _ (miss f _ t)
-    ∙ skip (bytes_eq f (codes "i")) _ _ (miss f _ i) ∙ skip (bytes_eq f (codes "l")) _ _ (miss f _ l)
+    cond-false (bytes_eq f (codes "v")) _ _ (miss f _ v) ∙ cond-false (bytes_eq f (codes "f")) _ _ (miss f _ f_) ∙ cond-false (bytes_eq f (codes "t")) _ _ (miss f _ t)
+    ∙ cond-false (bytes_eq f (codes "i")) _ _ (miss f _ i) ∙ cond-false (bytes_eq f (codes "l")) _ _ (miss f _ l)
 
 -- the value of a field with a foreign name is not looked into
 foreign-row : (f v : List ℕ) → IsForeign f → Ways (Row (other f) v) (RowSays f v)

@@ -164,6 +164,10 @@ says-one bytes (stops f) (gives s) one other =
 says-one bytes (stops f) (stops g) one other =
     ap (λ x. stops x) (fault_is (one-read bytes (stops f) (stops g) (says-fault bytes f one) (says-fault bytes g other)))
 
+-- bytes say one message
+pub said-one : (bytes : List ℕ) (s t : Said) → Says bytes (gives s) → Says bytes (gives t) → s ≡ t
+said-one bytes s t one other = given (says-one bytes (gives s) (gives t) one other)
+
 -- a message and a fault are not said of the same bytes
 pub says-no_fault : (bytes : List ℕ) (s : Said) (f : Fault) → Says bytes (gives s) → Says bytes (stops f) → ⊥
 says-no_fault bytes s f one other = no_value (says-one bytes (gives s) (stops f) one other)

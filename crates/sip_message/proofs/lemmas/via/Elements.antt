@@ -1,5 +1,5 @@
 -- The elements of Via fields, one after another.
-use Rattle.std.proofs.Common.{◌≡◌, ℕ, zero, suc, ◌+◌, ◌<◌, List, [], ◌∷◌, ◌++◌, length, drop, map, cond, slice_index_or, add-one, Bool, true, false, Option, None, Some, inl, inr, refl, sym, ap, ◌∙◌, subst, arith}
+use Rattle.std.proofs.Common.{◌≡◌, ℕ, zero, suc, ◌+◌, ◌<◌, List, [], ◌∷◌, ◌++◌, length, drop, map, cond, slice_index_or, add-one, true, false, Option, None, Some, inl, inr, refl, sym, ap, ◌∙◌, subst, arith}
 use Rattle.std.proofs.Math.Logic.{∥∥₁_elim}
 use Rattle.std.specs.Coded.{Coded, Coded-set}
 use Rattle.std.proofs.lemmas.List.{append_assoc, length-append}
@@ -16,6 +16,7 @@ use Rattle.sip_message.specs.inner.Only.{ExactlyOne, the, One-prop}
 use Rattle.std.specs.Prelude.{MatchOption, ⊤}
 use Rattle.std.specs.Borrow.{Bor}
 use Rattle.std.specs.Iterator.{YieldsFirstBy, MakesProgress, item_count}
+use Rattle.std.proofs.lemmas.Bool.{cond-true, cond-false}
 use Rattle.sip_message.specs.Elements.{Element, values, MoreElements, ElementsText, AreElements}
 use Rattle.sip_message.specs.inner.ElementFronts.{AreLeft, NextText, EndsElement, ViaFront}
 use Rattle.sip_message.specs.inner.Codes.{elements_code}
@@ -29,12 +30,6 @@ values-suc known (x ∷ xs) (suc i) d below = values-suc known xs i d (omega (ar
 
 values-at : (known : Known) (xs : List Code) (i : ℕ) (d : Code) → i < length xs → values known (drop i (map field_parts xs)) ≡ cond (is_name_of known (name_parts (slice_index_or xs i d).name)) ((slice_index_or xs i d).value.now ∷ values known (drop (i + 1) (map field_parts xs))) (values known (drop (i + 1) (map field_parts xs)))
 values-at known xs i d below = rw add-one (values-suc known xs i d below)
-
-cond-true : {X : Type 0} (b : Bool) (x y : X) → b ≡ true → cond b x y ≡ x
-cond-true b x y is = ap (λ z. cond z x y) is
-
-cond-false : {X : Type 0} (b : Bool) (x y : X) → b ≡ false → cond b x y ≡ y
-cond-false b x y is = ap (λ z. cond z x y) is
 
 -- a field of the name
 pub values-found : (known : Known) (xs : List Code) (i : ℕ) (d : Code) → i < length xs → is_name_of known (name_parts (slice_index_or xs i d).name) ≡ true → values known (drop i (map field_parts xs)) ≡ (slice_index_or xs i d).value.now ∷ values known (drop (i + 1) (map field_parts xs))

@@ -1,9 +1,10 @@
 use Rattle.std.proofs.Common.{None, ap, inl, refl, ◌∙◌, subst, arith}
+use Rattle.std.proofs.lemmas.Option.{same_Some}
 use Rattle.sip_machine.specs.Texts.{Keeps}
 use Rattle.sip_log.specs.Told.{item}
 use Rattle.sip_verdict.specs.inner.Concerned.{each}
 use Rattle.sip_verdict.specs.inner.TablesTracking.{MayHear}
-use Rattle.sip_verdict.proofs.judges.StandingLemmas.{grown_may, few_keys, may_hear, may_next, same_some}
+use Rattle.sip_verdict.proofs.judges.StandingLemmas.{grown_may, few_keys, may_hear, may_next}
 use Rattle.sip_verdict.proofs.tables.TablesTouching.{touches_may}
 use Rattle.sip_verdict.proofs.verdicts.MessageUnique.{observes_one}
 use Rattle.sip_verdict.proofs.surveys.kept.Histories.{silent_histories, restart_histories, heard_histories, message_says, touched_low}
@@ -21,7 +22,7 @@ pub pass_each-requires-in-Heard-clause-hear : goal.pass_each-requires-in-Heard-c
 pass_each-requires-in-Heard-clause-hear g c =
     let e = c.args.entry.now in
     let is_heard = rw c.in-Heard.is at c.in_ok-told.ensures.heard in
-    λ h is. subst (MayHear c.observe.new.book c.touch_each.new.tables e.moment) (ap (λ b. b.now) (same_some _ h is))
+    λ h is. subst (MayHear c.observe.new.book c.touch_each.new.tables e.moment) (ap (λ b. b.now) (same_Some _ h is))
     (may_hear c.observe.new.book e.moment c.in-Heard.event c.in-Heard.concerned c.in_ok-concerned-in-Heard.concerned c.args.standing.now.tables c.touch_each.new.tables c.in_ok-concerned-in-Heard.ensures.touched
     is_heard.0 is_heard.1 is_heard.2 (c.in_ok-concerned-in-Heard.ensures.same ∙ is_heard.3))
 

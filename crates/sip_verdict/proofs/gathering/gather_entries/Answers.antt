@@ -1,8 +1,8 @@
 use Rattle.std.proofs.Common.{◌∙◌, None, refl, sym, subst, rules, arith}
+use Rattle.std.proofs.lemmas.Option.{same_Some}
 use Rattle.sip_log.specs.Reading as log
 use Rattle.sip_log.specs.Reading.{beside_source}
 use Rattle.sip_verdict.specs.inner.SurveyingLogs.{SurveysRead}
-use Rattle.sip_verdict.proofs.judges.StandingLemmas.{same_some}
 use Rattle.sip_verdict.proofs.surveys.written.Gathering.{gathered_on, gathered_end, gathered_stop}
 use Rattle.sip_verdict.proofs.gathering.gather_entries.Goals as goal
 
@@ -43,7 +43,7 @@ returns-in-End-clause-survey g c start reads =
     let old : log.ReaderState = beside_source l.progress (g.R.Source.left l.reader) (g.R.Source.has_failed l.reader) in
     let read = l.invariant.told start reads in
     let logs = (rw c.in-End.is at c.in_ok-entry.ensures.gives) start l.survey.tables.times read.items read.read in
-    gathered_end None start old l.survey l.found.items read c.unwrap.result (same_some _ _ (sym c.unwrap.ensures ∙ c.end.ensures.clean read.es read.follows)) logs
+    gathered_end None start old l.survey l.found.items read c.unwrap.result (same_Some _ _ (sym c.unwrap.ensures ∙ c.end.ensures.clean read.es read.follows)) logs
 
 pub returns-in-Fault-clause-survey : goal.returns-in-Fault-clause-survey
 returns-in-Fault-clause-survey g c start reads =

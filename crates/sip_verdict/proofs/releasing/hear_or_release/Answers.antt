@@ -1,7 +1,8 @@
 use Rattle.std.proofs.Common.{◌≤◌, ◌-◌, inl, inr, Some, refl, ap, ◌∙◌, subst}
 use Rattle.std.proofs.lemmas.Result.{on_ok_weaker}
 use Rattle.sip_states.specs.AnySet.{moment_of, start_of, IsKnownSet, IsEmpty}
-use Rattle.sip_verdict.proofs.tables.TablesPassing.{All-place, set-place, settles_leaves}
+use Rattle.sip_states.proofs.lists.Places.{set_place}
+use Rattle.sip_verdict.proofs.tables.TablesPassing.{All-place, settles_leaves}
 use Rattle.sip_verdict.proofs.surveys.passing.Watching.{watched_on, watched_off, watched_deaf, passes_with, passes_anew, anew_sets}
 use Rattle.sip_verdict.proofs.surveys.passing.Hearing.{deaf_on, heard_on, heard_broken, heard_wide}
 use Rattle.sip_verdict.proofs.releasing.hear_or_release.Goals as goal
@@ -21,7 +22,7 @@ hear-requires-clause-known g c = All-place (IsKnownSet c.args.book.now) c.args.t
 
 pub settle-requires-clause-state : goal.settle-requires-clause-state
 settle-requires-clause-state g c = λ set at.
-    elim (set-place c.args.tables.now.sets (c.args.number - 1) (c.args.number - 1) c.hear.new.set set at) [
+    elim (set_place c.args.tables.now.sets (c.args.number - 1) (c.args.number - 1) c.hear.new.set set at) [
       | inl h ↦ subst (λ s. ¬ IsEmpty s) h.1 (c.in_ok-hear.ensures.some c.in-Runs.is)
       | inr h ↦ absurd (h.0 refl)
     ]

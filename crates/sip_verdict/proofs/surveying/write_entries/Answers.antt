@@ -1,6 +1,7 @@
 use Rattle.std.proofs.Common.{◌≡◌, ◌+◌, ◌∙◌, List, [], ◌++◌, refl, sym, subst, rules, arith}
 use Rattle.std.specs.Io.KnownBytes.{Appends}
 use Rattle.std.specs.Option.{option_copied}
+use Rattle.std.proofs.lemmas.Option.{same_Some}
 use Rattle.sip_log.specs.Reading as log
 use Rattle.sip_log.specs.Reading.{beside_source}
 use Rattle.sip_verdict.specs.declared.finding.Finding.{Finding}
@@ -8,7 +9,6 @@ use Rattle.sip_verdict.specs.declared.survey_end.SurveyEnd.TheVariants.{LogFault
 use Rattle.sip_verdict.specs.SurveyText.{end_text}
 use Rattle.sip_verdict.specs.inner.SurveyingLogs.{AreLinesBy}
 use Rattle.sip_verdict.proofs.surveys.written.Writing.{told_none, told_nothing, told_more, summed, surveys_on, surveys_end, surveys_stop}
-use Rattle.sip_verdict.proofs.judges.StandingLemmas.{same_some}
 use Rattle.sip_verdict.proofs.surveying.write_entries.Goals as goal
 
 pub loop-found-init : goal.loop-found-init
@@ -76,7 +76,7 @@ returns-in-End-clause-surveyed g c =
     let so = told.3 start reads in
     let read = so.read in
     let logs = (rw c.in-End.is at c.in_ok-entry.ensures.gives) start l.survey.tables.times read.items read.read in
-    let is = same_some _ _ (sym c.unwrap.ensures ∙ c.end.ensures.clean read.es read.follows) in
+    let is = same_Some _ _ (sym c.unwrap.ensures ∙ c.end.ensures.clean read.es read.follows) in
     surveys_end part start old l.survey told.0 told.1 so l.counts summary before mid after told.2 findings undecided (end ∙ is) (subst (λ e. Appends mid after (end_text e l.counts.findings)) is last) logs)
 
 pub returns-in-Fault-clause-surveyed : goal.returns-in-Fault-clause-surveyed

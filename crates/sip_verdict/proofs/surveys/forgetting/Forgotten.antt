@@ -1,5 +1,5 @@
 -- What a survey keeps, where some of its transactions are forgotten.
-use Rattle.std.proofs.Common.{◌≡◌, ◌≢◌, ◌≤◌, ◌<◌, ◌↔◌, ◌+◌, ◌⊎◌, inl, inr, ℕ, zero, suc, Bool, true, false, cond, Option, Some, None, List, [], ◌∷◌, ◌++◌, All, AllPairs, Contains, length, map, slice_get, refl, sym, ap, ap₂, ◌∙◌, subst, arith, append-nil, append_assoc, length-append, true≢false}
+use Rattle.std.proofs.Common.{◌≡◌, ◌≢◌, ◌≤◌, ◌↔◌, ◌+◌, ◌⊎◌, inl, inr, ℕ, zero, suc, Bool, true, false, cond, Option, Some, None, List, [], ◌∷◌, ◌++◌, All, AllPairs, length, slice_get, refl, sym, ap, ◌∙◌, subst, arith, append-nil, append_assoc, length-append, true≢false}
 use Rattle.std.specs.Prelude.{filter, flat_map, max, not, IsTrue}
 use Rattle.std.specs.List.{list_any}
 use Rattle.std.proofs.lemmas.Bool.{false≢true}
@@ -19,12 +19,12 @@ use Rattle.sip_states.specs.Tables.{Tabled}
 use Rattle.sip_states.specs.Kept.{kept_of, kept_tables}
 use Rattle.sip_states.specs.declared.any_set.AnySet.{AnySet}
 use Rattle.sip_states.proofs.lists.Kept.{place_of, kept_at, kept_long, kept_few}
+use Rattle.sip_states.proofs.lists.Places.{push_place}
 use Rattle.sip_verdict.specs.declared.histories.Histories.{Histories}
 use Rattle.sip_verdict.specs.declared.histories.History.{History}
 use Rattle.sip_verdict.specs.declared.troubled.Troubled.{Troubled}
 use Rattle.sip_verdict.specs.Forgetting.{remembered, IsOver, ForgetsUpTo}
 use Rattle.sip_verdict.specs.Entries.{newest_moment}
-use Rattle.sip_verdict.specs.SurveyOf.{IsSound}
 use Rattle.sip_verdict.specs.SurveyText.{is_of, IsFirstOf, IsLastOf}
 use Rattle.sip_verdict.specs.Surveys.{IsHistoryOf, AreHistories}
 use Rattle.sip_verdict.specs.inner.Forgetting.{IsPast, AreFlags, AreQuietIfOver, TellsPast}
@@ -83,22 +83,11 @@ filter_flags test (true ∷ flags) (k ∷ keys) long says =
 filter_flags test (false ∷ flags) (k ∷ keys) long says =
     ap (λ t. cond t (k ∷ filter test keys) (filter test keys)) (says 0 k false refl refl) ∙ filter_flags test flags keys (omega (arith, long)) (λ n key b at flag. says (suc n) key b at flag)
 
--- the element after the others, or one of them
-pushed_at : {A : Type 0} (xs : List A) (x : A) (n : ℕ) (y : A) → slice_get (xs ++ x ∷ []) n ≡ Some y → (slice_get xs n ≡ Some y) ⊎ ((n ≡ length xs) × (x ≡ y))
-pushed_at [] x zero y at = inr (refl, cc)
-pushed_at [] x (suc n) y at = absurd cc
-pushed_at (z ∷ xs) x zero y at = inl at
-pushed_at {A} (z ∷ xs) x (suc n) y at = go (pushed_at xs x n y at)
-  where
-    go : (slice_get xs n ≡ Some y) ⊎ ((n ≡ length xs) × (x ≡ y)) → (slice_get xs n ≡ Some y) ⊎ ((suc n ≡ suc (length xs)) × (x ≡ y))
-    go (inl h) = inl h
-    go (inr h) = inr (ap suc h.0, h.1)
-
 -- one flag more
 pub flags_more : (until : ℕ) (t : Tabled) (b : Histories) (flags : List Bool) (is_past : Bool)
     → ((set : AnySet) (h : History) → slice_get t.sets (length flags) ≡ Some set → slice_get b.each.items (length flags) ≡ Some h → IsTrue is_past ↔ IsPast until b.restart set h)
     → TellsPast until t b flags → TellsPast until t b (flags ++ not is_past ∷ [])
-flags_more until t b flags is_past says each n is_kept set h flag at of = go (pushed_at flags (not is_past) n is_kept flag)
+flags_more until t b flags is_past says each n is_kept set h flag at of = go (push_place flags (not is_past) n is_kept flag)
   where
     turned : (past : Bool) → (not past ≡ false) ↔ IsTrue past
     turned true = (λ e. refl, λ e. refl)

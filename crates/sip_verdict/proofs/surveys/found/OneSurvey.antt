@@ -28,14 +28,10 @@ after_one p es (item ∷ items) close fs gs end fin (e, here, later, sees, is, a
     let rest = after_one p (es ++ e ∷ []) items close later last end fin more (subst (λ g. IsSurveyAfter p (es ++ g ∷ []) items close last fin) (sym same) left) in
     (is ∙ ap₂ (λ xs ys. xs ++ ys) same_here rest.0 ∙ sym are, rest.1)
 
--- an input says one log
-pub says_one : (input : List ℕ) (p q : Times) (xs ys : List Item) (a b : LogEnd) → LogSays input p xs a → LogSays input q ys b → (p ≡ q) × (xs ≡ ys) × (a ≡ b)
-says_one input p q xs ys a b one other = log_is_one input p q xs ys a b one other
-
 -- what is true of the one log of an input is true of the other
 pub says_same : (P : Times → List Item → LogEnd → Type 0) (input : List ℕ) (p q : Times) (xs ys : List Item) (a b : LogEnd) → LogSays input p xs a → LogSays input q ys b → P q ys b → P p xs a
 says_same P input p q xs ys a b one other holds =
-    let same = says_one input p q xs ys a b one other in
+    let same = log_is_one input p q xs ys a b one other in
     subst (λ r. P r xs a) (sym same.0) (subst (λ r. P q r a) (sym same.1) (subst (P q ys) (sym same.2) holds))
 
 -- two surveys of an input are the same

@@ -21,21 +21,23 @@ use Rattle.sip_standard.specs.Says.{Said, Says}
 use Rattle.sip_part.specs.Led.{led_branch}
 use Rattle.sip_part.proofs.Fields.{led_found}
 use Rattle.sip_states.specs.Tables.{Tabled, Touches}
+use Rattle.sip_states.proofs.lists.Places.{set_place, push_place}
 use Rattle.sip_verdict.specs.declared.histories.Histories.{Histories}
 use Rattle.sip_verdict.specs.declared.histories.History.{History}
 use Rattle.sip_standard.specs.Observation.{Observation, ObservesMessage, has_fault, has_no_cookie, is_heard, silent_observation}
 use Rattle.sip_verdict.specs.inner.Keyed.{with_key}
 use Rattle.sip_standard.specs.VerdictOf.{keys_in, Sees}
+use Rattle.sip_message.proofs.lemmas.says.Reading.{said-one}
 use Rattle.sip_verdict.specs.SurveyText.{is_of, IsFirstOf, IsLastOf}
 use Rattle.sip_verdict.specs.Surveys.{IsHistoryOf, AreHistories}
 use Rattle.sip_verdict.specs.inner.Histories.{SpellsBranch, Notes, NotesEach}
 use Rattle.sip_verdict.specs.inner.TablesTracking.{TouchesEach, is_among}
 use Rattle.sip_verdict.proofs.judges.ObservingLemmas.{no_keys, went}
 use Rattle.sip_verdict.proofs.keys.Keys.{among-fold, contains-among, not_among, or_false, keys_in-push, keys_in-none, keys_in-all}
-use Rattle.sip_verdict.proofs.verdicts.MessageUnique.{fault_says_none, one_said}
+use Rattle.sip_verdict.proofs.verdicts.MessageUnique.{fault_says_none}
 use Rattle.sip_verdict.proofs.surveys.passing.Begun.{AreMore, more_each, none_more, touched_keys}
-use Rattle.sip_verdict.proofs.tables.TablesPassing.{at_place, set-place}
-use Rattle.sip_verdict.proofs.tables.TablesTouching.{have_numbers, push-place, same_numbers}
+use Rattle.sip_verdict.proofs.tables.TablesPassing.{at_place}
+use Rattle.sip_verdict.proofs.tables.TablesTouching.{have_numbers, same_numbers}
 
 -- what is observed of entries
 abbrev pub Entries : Type 0
@@ -149,7 +151,7 @@ module _ (entry : ℕ) (text : List ℕ) where
   )
 
   note_at : (n : ℕ) (old new : List History) → 0 < n → n ≤ length old + 1 → Notes entry text n old new → (i : ℕ) (h : History) → slice_get new i ≡ Some h → IsAt entry text old i h (nat_eq (i + 1) n)
-  note_at n old new low high (inl note) i h here = by (nat_eq (i + 1) n) refl (set-place old (n - 1) i note.after h (ap (λ hs. slice_get hs i) (sym note.is) ∙ here))
+  note_at n old new low high (inl note) i h here = by (nat_eq (i + 1) n) refl (set_place old (n - 1) i note.after h (ap (λ hs. slice_get hs i) (sym note.is) ∙ here))
     where
       by : (b : Bool) → nat_eq (i + 1) n ≡ b → ((i ≡ n - 1) × (note.after ≡ h)) ⊎ ((i ≢ n - 1) × (slice_get old i ≡ Some h)) → IsAt entry text old i h b
       by true same (inl (at, is)) = (
@@ -159,7 +161,7 @@ module _ (entry : ℕ) (text : List ℕ) where
       by true same (inr (other, was)) = absurd (other (omega (arith, (unsigned_Decides (i + 1) n).0 same)))
       by false other (inl (at, is)) = absurd (false≢true (sym other ∙ (unsigned_Decides (i + 1) n).1 (omega (arith, at, low))))
       by false other (inr (differs, was)) = was
-  note_at n old new low high (inr note) i h here = by (nat_eq (i + 1) n) refl (push-place old note.begun i h (ap (λ hs. slice_get hs i) (sym note.is) ∙ here))
+  note_at n old new low high (inr note) i h here = by (nat_eq (i + 1) n) refl (push_place old note.begun i h (ap (λ hs. slice_get hs i) (sym note.is) ∙ here))
     where
       by : (b : Bool) → nat_eq (i + 1) n ≡ b → (slice_get old i ≡ Some h) ⊎ ((i ≡ length old) × (note.begun ≡ h)) → IsAt entry text old i h b
       by true same (inl was) = (let within = slice_get_within old i h was in let beyond = note.beyond in absurd (omega (arith, (unsigned_Decides (i + 1) n).0 same)))
@@ -304,7 +306,7 @@ led_spells text branch led s says = subst (λ o. IfSome o (λ spelled. branch �
 
 -- of a message that is read, the branch of its top Via is the one that it spells
 pub read_spells : (text : List ℕ) (r : Said) (branch : Option (List ℕ)) (spelled : List ℕ) → Says text (gives r) → r.via.branch ≡ branch → IfSome branch (λ b. spelled ≡ b) → SpellsBranch text spelled
-read_spells text r branch spelled says is told s other = by s.via.branch (ap (λ x. x.via.branch) (one_said text s r other says) ∙ is)
+read_spells text r branch spelled says is told s other = by s.via.branch (ap (λ x. x.via.branch) (said-one text s r other says) ∙ is)
   where
     by : (o : Option (List ℕ)) → o ≡ branch → IfSome o (λ b. spelled ≡ b)
     by o same = subst (λ x. IfSome x (λ b. spelled ≡ b)) (sym same) told

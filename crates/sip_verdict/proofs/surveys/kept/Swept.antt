@@ -21,7 +21,8 @@ use Rattle.sip_verdict.specs.Surveys.{IsStillNamed}
 use Rattle.sip_verdict.specs.inner.TablesTracking.{LeadsOf, MayPass}
 use Rattle.sip_verdict.specs.inner.Surveying.{IsFollowed, TablesSurvey}
 use Rattle.sip_verdict.proofs.keys.Keys.{among-contains, new_key}
-use Rattle.sip_verdict.proofs.sweeps.NamedLemmas.{IsNumberOf, Contains-flat_map, Contains-from_flat_map}
+use Rattle.sip_states.proofs.keyed.NamesLemmas.{Contains-flat_map, Contains-from_flat_map}
+use Rattle.sip_verdict.proofs.sweeps.NamedLemmas.{IsNumberOf}
 use Rattle.sip_verdict.proofs.tables.NamedTables.{no_events_silent, key_named, many_texts, StandsNaming}
 use Rattle.sip_verdict.proofs.sweeps.SweptSets.{swept_leads}
 use Rattle.sip_verdict.proofs.sweeps.SweptTables.{before, within}
@@ -47,6 +48,7 @@ module _ (texts : Texts) (book : IsBook texts) (t u : Tabled) (moment : ℕ) (ad
   follows n old new was is key true (h, unsound) = (leads n old new was is key [] h, unsound)
   follows n old new was is key false (h, sound) = (leads n old new was is key (events_for key es) h, sound)
 
+  -- after the sweep the tables follow the same entries
   pub swept_survey : TablesSurvey (only numbers texts) es u deaf
   swept_survey = record {
     order = tracks.order;

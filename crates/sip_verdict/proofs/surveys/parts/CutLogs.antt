@@ -8,28 +8,23 @@ use Rattle.sip_standard.specs.Times.{Times}
 use Rattle.sip_standard.specs.LogEntry.{Item}
 use Rattle.sip_standard.specs.declared.action.Action.{Action}
 use Rattle.sip_standard.specs.declared.action.Action.TheVariants.{Sent, Received, Failed, Mark, Restart}
-use Rattle.sip_standard.specs.declared.role.Direction.{Direction}
 use Rattle.sip_standard.specs.declared.role.Direction.TheVariants as way
-use Rattle.sip_standard.specs.Observation.{Observation, direction_of, silent_observation, ObservesMessage, has_fault, has_no_cookie, is_heard}
+use Rattle.sip_standard.specs.Observation.{Observation, direction_of, silent_observation, ObservesMessage}
 use Rattle.sip_standard.specs.Seen.{AreSeen}
 use Rattle.sip_standard.specs.VerdictOf.{keys_in, Sees}
 use Rattle.sip_verdict.specs.SurveyLaws.{IsCutOf, StaysOrIsMark, IsCutLog, Keeps}
 use Rattle.sip_verdict.proofs.surveys.parts.Cutting.{keys_cut, zip_push, same_trouble}
+use Rattle.sip_verdict.proofs.sweeps.FollowedLemmas.{heard_moment}
 
 -- what is seen of an item with which this was done
 abbrev pub SeenAs : List (Observation KeyParts) → Item → Observation KeyParts → Action → Type 0
 SeenAs es item e a = MatchOption (direction_of a) (e ≡ silent_observation a item.moment (keys_in es)) (λ direction. ObservesMessage direction item e)
 
-observes_moment : (direction : Direction) (item : Item) (e : Observation KeyParts) → ObservesMessage direction item e → e.event.moment ≡ item.moment
-observes_moment direction item e (has_fault fault says is) = ap (λ f. f.event.moment) is
-observes_moment direction item e (has_no_cookie s says lacks is) = ap (λ f. f.event.moment) is
-observes_moment direction item e (is_heard s keys says has concerns is) = ap (λ f. f.event.moment) is
-
 -- an item is seen at its own moment
 pub seen_moment : (es : List (Observation KeyParts)) (item : Item) (e : Observation KeyParts) (a : Action) → SeenAs es item e a → e.event.moment ≡ item.moment
-seen_moment es item e Sent sees = observes_moment way.Sent item e sees
-seen_moment es item e Received sees = observes_moment way.Received item e sees
-seen_moment es item e Failed sees = observes_moment way.Sent item e sees
+seen_moment es item e Sent sees = heard_moment way.Sent item e sees
+seen_moment es item e Received sees = heard_moment way.Received item e sees
+seen_moment es item e Failed sees = heard_moment way.Sent item e sees
 seen_moment es item e Mark sees = ap (λ f. f.event.moment) sees
 seen_moment es item e Restart sees = ap (λ f. f.event.moment) sees
 

@@ -5,6 +5,7 @@ use Rattle.std.specs.List.{list_any}
 use Rattle.std.proofs.lemmas.Option.{slice_get_within, get_or_from_slice_get}
 use Rattle.std.proofs.lemmas.List.{append-nil}
 use Rattle.std.proofs.lemmas.List.Elements.{Contains-append_left}
+use Rattle.std.proofs.lemmas.Bool.{cond-true, cond-false}
 use Rattle.sip_standard.specs.Key.{KeyParts, same_key}
 use Rattle.sip_machine.specs.Texts.{Texts}
 use Rattle.sip_standard.specs.KeyMachine.{machine_of_key}
@@ -12,6 +13,7 @@ use Rattle.sip_states.specs.AnySet.{start_of}
 use Rattle.sip_states.specs.Tables.{Tabled, Touches}
 use Rattle.sip_states.specs.declared.any_set.AnySet.{AnySet}
 use Rattle.sip_states.proofs.lists.Listed.{Contains-none}
+use Rattle.sip_states.proofs.lists.Places.{push_place}
 use Rattle.sip_verdict.specs.declared.troubled.Troubled.{Troubled}
 use Rattle.sip_standard.specs.Observation.{Observation}
 use Rattle.sip_standard.specs.VerdictOf.{keys_in, events_for}
@@ -19,10 +21,10 @@ use Rattle.sip_verdict.specs.Entries.{newest_moment}
 use Rattle.sip_verdict.specs.inner.Keyed.{with_key}
 use Rattle.sip_verdict.specs.inner.TablesTracking.{LeadsOf, TouchesEach}
 use Rattle.sip_verdict.specs.inner.Surveying.{IsFresh, IsFollowed, TablesSurvey, IsPassing, ArePassing, any}
-use Rattle.sip_verdict.proofs.keys.Keys.{cond_true, cond_false, contains-among, not_among, new_key}
+use Rattle.sip_verdict.proofs.keys.Keys.{contains-among, not_among, new_key}
 use Rattle.sip_verdict.proofs.tables.TablesPassing.{All-place}
 use Rattle.sip_verdict.proofs.keys.QuietSets.{leads_later}
-use Rattle.sip_verdict.proofs.tables.TablesTouching.{starts, push-place}
+use Rattle.sip_verdict.proofs.tables.TablesTouching.{starts}
 use Rattle.sip_verdict.proofs.surveys.found.Sound.{idle_runs}
 use Rattle.sip_verdict.proofs.surveys.passing.Unheard.{unheard_narrow}
 
@@ -51,7 +53,7 @@ module _ (old t : Tabled) (h : AreMore old t) (k : KeyParts) (n : ℕ) where
     long = (let a = length-append t.sets (start_of t.times k ∷ []) in let b = length-append t.keys (k ∷ []) in let same = h.long in omega arith);
     few = (let b = length-append t.keys (k ∷ []) in let low = h.few in omega arith);
     among = λ key has. Contains-append_left t.keys (k ∷ []) key (h.among key has);
-    each = λ i key s at here. by i key s (push-place t.keys k i key at) (push-place t.sets (start_of t.times k) i s here);
+    each = λ i key s at here. by i key s (push_place t.keys k i key at) (push_place t.sets (start_of t.times k) i s here);
   })
     where
       by : (i : ℕ) (key : KeyParts) (s : AnySet) → (slice_get t.keys i ≡ Some key) ⊎ ((i ≡ length t.keys) × (k ≡ key)) → (slice_get t.sets i ≡ Some s) ⊎ ((i ≡ length t.sets) × (start_of t.times k ≡ s))
@@ -76,11 +78,11 @@ more_each old (k ∷ ks) (n ∷ ns) t u h (between, one, rest) = more_each old k
 touched_key : (k : KeyParts) (n : ℕ) (t u : Tabled) → Touches k n t u → u.keys ≡ with_key t.keys k
 touched_key k n t u (inl (has, same)) =
     ap (λ x. x.keys) same
-    ∙ sym (cond_true (list_any (same_key k) t.keys) t.keys (t.keys ++ k ∷ [])
+    ∙ sym (cond-true (list_any (same_key k) t.keys) t.keys (t.keys ++ k ∷ [])
     (contains-among k t.keys (n - 1, slice_get_within t.keys (n - 1) k has.1, get_or_from_slice_get t.keys (n - 1) k k has.1)))
 touched_key k n t u (inr (new, counts, is)) =
     ap (λ x. x.keys) is
-    ∙ sym (cond_false (list_any (same_key k) t.keys) t.keys (t.keys ++ k ∷ []) (not_among k t.keys (λ (i, low, same). new i k low same)))
+    ∙ sym (cond-false (list_any (same_key k) t.keys) t.keys (t.keys ++ k ∷ []) (not_among k t.keys (λ (i, low, same). new i k low same)))
 
 -- after keys were looked up the keys are those that there were, and each new one once
 pub touched_keys : (ks : List KeyParts) (ns : List ℕ) (t u : Tabled) → TouchesEach ks ns t u → u.keys ≡ fold with_key t.keys ks

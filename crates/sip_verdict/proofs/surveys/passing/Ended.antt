@@ -17,6 +17,7 @@ use Rattle.sip_verdict.specs.inner.TablesTracking.{LeadsOf, is_among}
 use Rattle.sip_verdict.specs.inner.Surveying.{IsNumberOf, IsFollowed, IsOrdered, TablesSurvey, IsPassing, ArePassing, AreAscending}
 use Rattle.sip_verdict.proofs.keys.Keys.{newest_moment-push}
 use Rattle.sip_states.proofs.lists.Listed.{Contains-none, Contains-cons}
+use Rattle.sip_states.proofs.lists.Places.{middle_place}
 use Rattle.sip_verdict.proofs.keys.FewerEntries.{newest-to}
 use Rattle.sip_verdict.proofs.tables.TablesPassing.{at_place}
 use Rattle.sip_verdict.proofs.surveys.found.Numbers.{AreNumbers}
@@ -49,11 +50,6 @@ split_at [] i x at = absurd cc
 split_at (u ∷ xs) zero x at = ([], xs, (let same : u ≡ x = cc in ap (λ y. y ∷ xs) same), refl)
 split_at (u ∷ xs) (suc i) x at = let (before, rest, is, long) = split_at xs i x at in (u ∷ before, rest, ap (λ ys. u ∷ ys) is, ap suc long)
 
--- an element in the middle of a list stands at the place after those before it
-at_split : {A : Type 0} (before : List A) (x : A) (rest : List A) → slice_get (before ++ x ∷ rest) (length before) ≡ Some x
-at_split [] x rest = refl
-at_split (u ∷ before) x rest = at_split before x rest
-
 module _ (P : KeyParts → Type 0) (keys : List KeyParts) where
   -- a number and its key
   number_holds : (n : ℕ) → IsNumberOf P keys n → HoldsOf P keys n
@@ -62,7 +58,7 @@ module _ (P : KeyParts → Type 0) (keys : List KeyParts) where
   holds_at : (n : ℕ) → HoldsOf P keys n → (key : KeyParts) × (slice_get keys (n - 1) ≡ Some key) × P key × (n - 1 + 1 ≡ n)
   holds_at n (before, key, rest, is, holds, number) =
       let place : length before ≡ n - 1 = omega (arith, number) in
-      (key, ap (λ ks. slice_get ks (n - 1)) is ∙ subst (λ i. slice_get (before ++ key ∷ rest) i ≡ Some key) place (at_split before key rest), holds, omega (arith, number))
+      (key, ap (λ ks. slice_get ks (n - 1)) is ∙ subst (λ i. slice_get (before ++ key ∷ rest) i ≡ Some key) place (middle_place before key rest), holds, omega (arith, number))
 
 module _ (texts : Texts) (es : List (Observation KeyParts)) (e : Observation KeyParts) (t : Tabled) (b : Troubled) (p : Times) (order : IsOrdered es) (late : newest_moment es ≤ e.event.moment)
     (keys : t.keys ≡ keys_in (es ++ e ∷ [])) (sets : length t.sets ≡ length t.keys) (long : length b.deaf.items ≡ length t.keys) (h : ArePassing texts p es e (is_among []) t b) where

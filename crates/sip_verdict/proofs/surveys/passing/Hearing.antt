@@ -12,6 +12,7 @@ use Rattle.sip_states.specs.Agenda.{is_overdue}
 use Rattle.sip_states.specs.AnySet.{moment_of, start_of}
 use Rattle.sip_states.specs.Tables.{Tabled, IsGiven}
 use Rattle.sip_states.specs.declared.any_set.AnySet.{AnySet}
+use Rattle.sip_states.proofs.lists.Places.{set_place}
 use Rattle.sip_verdict.specs.declared.passing.Fate.{Fate}
 use Rattle.sip_verdict.specs.declared.passing.Fate.TheVariants.{Runs, NoRun, TooWide}
 use Rattle.sip_verdict.specs.declared.troubled.Troubled.{Troubled}
@@ -24,7 +25,7 @@ use Rattle.sip_verdict.specs.inner.Tracking.{Keeping, IsReady, GoesOn, IsPassed}
 use Rattle.sip_verdict.specs.inner.TablesTracking.{LeadsOf, StandsOf, key_keeping, is_among, MayPass}
 use Rattle.sip_verdict.specs.inner.Surveying.{AreWatched, IsPassing, ArePassing, AreConcerned, any}
 use Rattle.sip_verdict.proofs.keys.KeyPassing.{heard_left, overdue_breaks}
-use Rattle.sip_verdict.proofs.tables.TablesPassing.{at_place, All-place, set-place, among_first}
+use Rattle.sip_verdict.proofs.tables.TablesPassing.{at_place, All-place, among_first}
 use Rattle.sip_verdict.proofs.tables.TablesTouching.{starts}
 use Rattle.sip_verdict.proofs.surveys.passing.Passing.{among_cons, same_at, passed_on, released_broken, released_wide, stays}
 
@@ -34,7 +35,7 @@ module _ (texts : Texts) (p q : Times) (moment : ℕ) (t u : Tabled) (number : �
   -- the set at a place is the one that starts anew, or the one that was there
   pub begins_anew : (n : ℕ) (s : AnySet) → slice_get u.sets n ≡ Some s → ((n ≡ number - 1) × ((key : KeyParts) → slice_get t.keys (number - 1) ≡ Some key → LeadsOf texts p (machine_of_key p.rules key) [] moment s))
       ⊎ ((n ≢ number - 1) × (slice_get t.sets n ≡ Some s))
-  begins_anew n s here = by (set-place t.sets (number - 1) n (start_of q own) s (ap (λ xs. slice_get xs n) (sym sets) ∙ here))
+  begins_anew n s here = by (set_place t.sets (number - 1) n (start_of q own) s (ap (λ xs. slice_get xs n) (sym sets) ∙ here))
     where
       by : ((n ≡ number - 1) × (start_of q own ≡ s)) ⊎ ((n ≢ number - 1) × (slice_get t.sets n ≡ Some s))
           → ((n ≡ number - 1) × ((key : KeyParts) → slice_get t.keys (number - 1) ≡ Some key → LeadsOf texts p (machine_of_key p.rules key) [] moment s)) ⊎ ((n ≢ number - 1) × (slice_get t.sets n ≡ Some s))

@@ -9,6 +9,7 @@ use Rattle.sip_machine.specs.Texts.{Texts}
 use Rattle.sip_standard.specs.KeyMachine.{machine_of_key}
 use Rattle.sip_states.specs.Tables.{Tabled, IsGiven}
 use Rattle.sip_states.specs.declared.any_set.AnySet.{AnySet}
+use Rattle.sip_states.proofs.lists.Places.{set_place}
 use Rattle.sip_verdict.specs.declared.troubled.Troubled.{Troubled}
 use Rattle.sip_standard.specs.Observation.{Observation}
 use Rattle.sip_standard.specs.VerdictOf.{RunsOver}
@@ -16,7 +17,7 @@ use Rattle.sip_verdict.specs.SurveyOf.{IsSound, Breaks, Widens}
 use Rattle.sip_verdict.specs.inner.Tracking.{Keeping, IsReady, GoesOn}
 use Rattle.sip_verdict.specs.inner.TablesTracking.{LeadsOf, key_keeping, is_among}
 use Rattle.sip_verdict.specs.inner.Surveying.{IsNumberOf, IsPassing, ArePassing}
-use Rattle.sip_verdict.proofs.tables.TablesPassing.{at_place, set-place}
+use Rattle.sip_verdict.proofs.tables.TablesPassing.{at_place}
 
 -- a number is among some or it is the first of them
 pub among_cons : (n number : ℕ) (ns : List ℕ) → n ≢ number → is_among (number ∷ ns) n ≡ is_among ns n
@@ -65,7 +66,7 @@ module _ (texts : Texts) (p : Times) (es : List (Observation KeyParts)) (e : Obs
       passed_on done goes = record {
         broken = λ n has. number_still (Breaks p es e) t.keys u.keys n keys (h.broken n has);
         wide = λ n has. number_still (λ key. Widens p es e key × RunsOver p (es ++ e ∷ []) key) t.keys u.keys n keys (h.wide n has);
-        each = λ n key s d at here is. one n key s d (ap (λ ks. slice_get ks n) (sym keys) ∙ at) is (set-place t.sets place n after s (ap (λ xs. slice_get xs n) (sym sets) ∙ here));
+        each = λ n key s d at here is. one n key s d (ap (λ ks. slice_get ks n) (sym keys) ∙ at) is (set_place t.sets place n after s (ap (λ xs. slice_get xs n) (sym sets) ∙ here));
       }
         where
           own : (n : ℕ) (key : KeyParts) (s : AnySet) (d : Bool) → slice_get t.keys n ≡ Some key → n ≡ place → after ≡ s → false ≡ d → IsPassing texts p es e w b (n + 1) key s d
@@ -90,7 +91,7 @@ module _ (texts : Texts) (p : Times) (es : List (Observation KeyParts)) (e : Obs
       released more among broken wide = record {
         broken = broken;
         wide = wide;
-        each = λ n key s d at here is. one n key s d (ap (λ ks. slice_get ks n) (sym keys) ∙ at) (set-place b.deaf.items place n true d (ap (λ xs. slice_get xs n) (sym deaf) ∙ is)) (sets n s here);
+        each = λ n key s d at here is. one n key s d (ap (λ ks. slice_get ks n) (sym keys) ∙ at) (set_place b.deaf.items place n true d (ap (λ xs. slice_get xs n) (sym deaf) ∙ is)) (sets n s here);
       }
         where
           own : (n : ℕ) (key : KeyParts) (s : AnySet) (d : Bool) → slice_get t.keys n ≡ Some key → n ≡ place → true ≡ d

@@ -1,42 +1,20 @@
 -- What is on record of the transactions of a survey, and that an entry may pass them.
-use Rattle.std.proofs.Common.{◌≡◌, ◌≢◌, ◌≤◌, ◌<◌, ◌+◌, ◌-◌, ◌⊎◌, inl, inr, ℕ, zero, suc, true, false, Option, Some, None, List, [], ◌∷◌, All, length, slice_get, slice_set, refl, sym, ap, ◌∙◌, subst, true≢false, arith}
+use Rattle.std.proofs.Common.{◌≡◌, ◌≢◌, ◌≤◌, ◌<◌, ◌+◌, ◌-◌, ◌⊎◌, inl, inr, ℕ, true, false, Option, Some, None, List, ◌∷◌, All, length, slice_get, slice_set, sym, ap, ◌∙◌, subst, true≢false, arith}
 use Rattle.std.proofs.lemmas.List.{length-set}
 use Rattle.std.proofs.lemmas.List.Elements.{All-set}
+use Rattle.std.proofs.lemmas.Option.{same_Some}
 use Rattle.sip_standard.specs.Key.{KeyParts}
 use Rattle.sip_standard.specs.Times.{Times}
 use Rattle.sip_machine.specs.Texts.{Texts}
 use Rattle.sip_states.specs.AnySet.{moment_of, start_of, IsAgendaOf, IsKnownSet}
 use Rattle.sip_states.specs.Tables.{Tabled, IsGiven}
 use Rattle.sip_states.specs.declared.any_set.AnySet.{AnySet}
+use Rattle.sip_states.proofs.lists.Places.{set_place, set_other, set_here, set_twice}
 use Rattle.sip_verdict.specs.declared.troubled.Troubled.{Troubled}
 use Rattle.sip_verdict.specs.inner.TablesTracking.{is_among, IsOnRecord, MayPass}
 use Rattle.sip_verdict.specs.inner.Surveying.{AreWatched}
-use Rattle.sip_verdict.proofs.tables.TablesPassing.{set-place, among_one, among_rest, settled, recorded_more}
+use Rattle.sip_verdict.proofs.tables.TablesPassing.{among_one, among_rest, settled, recorded_more}
 use Rattle.sip_verdict.proofs.tables.TablesTouching.{start_at, start_known}
-
--- a place that is written twice
-set_twice : {A : Type 0} (xs : List A) (i : ℕ) (a b : A) → slice_set (slice_set xs i a) i b ≡ slice_set xs i b
-set_twice [] i a b = refl
-set_twice (x ∷ xs) zero a b = refl
-set_twice (x ∷ xs) (suc i) a b = ap (λ ys. x ∷ ys) (set_twice xs i a b)
-
--- what was written is there
-set_here : {A : Type 0} (xs : List A) (i : ℕ) (a : A) → i < length xs → slice_get (slice_set xs i a) i ≡ Some a
-set_here [] i a low = absurd (omega arith)
-set_here (x ∷ xs) zero a low = refl
-set_here (x ∷ xs) (suc i) a low = set_here xs i a (omega arith)
-
--- the elements at other places are as they were
-set_other : {A : Type 0} (xs : List A) (i n : ℕ) (a x : A) → n ≢ i → slice_get xs n ≡ Some x → slice_get (slice_set xs i a) n ≡ Some x
-set_other [] i n a x differ at = absurd cc
-set_other (u ∷ xs) zero zero a x differ at = absurd (differ refl)
-set_other (u ∷ xs) zero (suc n) a x differ at = at
-set_other (u ∷ xs) (suc i) zero a x differ at = at
-set_other (u ∷ xs) (suc i) (suc n) a x differ at = set_other xs i n a x (λ same. differ (ap suc same)) at
-
--- two values at one place are one
-same_some : {A : Type 0} (x y : A) → Some x ≡ Some y → x ≡ y
-same_some x y h = cc
 
 -- nothing on record is no record
 none_some : {A : Type 0} (x : A) → Some None ≡ Some (Some x) → ⊥
@@ -56,7 +34,7 @@ module _ (t : Tabled) (b : Troubled) (number : ℕ) (waits : List ℕ) (given : 
     long = h.long ∙ ap length (sym keys);
     recorded = settled t number waits given.low after limit agenda h.recorded u keys sets records;
     silent = λ n deaf. ap (λ rs. slice_get rs n) records
-        ∙ set_other t.records place n (Some limit) (Some None) (λ same. true≢false (same_some true false (sym deaf ∙ ap (slice_get b.deaf.items) same ∙ hearing))) (h.silent n deaf);
+        ∙ set_other t.records place n (Some limit) (Some None) (λ same. true≢false (same_Some true false (sym deaf ∙ ap (slice_get b.deaf.items) same ∙ hearing))) (h.silent n deaf);
   }
 
   -- it is in trouble
@@ -79,7 +57,7 @@ module _ (t : Tabled) (b : Troubled) (number : ℕ) (waits : List ℕ) (given : 
   watched_off u c after agenda deaf keys sets records = record {
     long = ap length deaf ∙ length-set b.deaf.items place true ∙ h.long ∙ ap length (sym keys);
     recorded = settled t number waits given.low after None agenda h.recorded u keys sets records;
-    silent = λ n is. ap (λ rs. slice_get rs n) records ∙ one n (set-place b.deaf.items place n true true (ap (λ ds. slice_get ds n) (sym deaf) ∙ is));
+    silent = λ n is. ap (λ rs. slice_get rs n) records ∙ one n (set_place b.deaf.items place n true true (ap (λ ds. slice_get ds n) (sym deaf) ∙ is));
   }
     where
       one : (n : ℕ) → ((n ≡ place) × (true ≡ true)) ⊎ ((n ≢ place) × (slice_get b.deaf.items n ≡ Some true)) → slice_get (slice_set t.records place (Some None)) n ≡ Some (Some None)

@@ -1,6 +1,7 @@
 -- What is found at the entries of a log, one after another, and what it comes to when the log ends.
 use Rattle.std.proofs.Common.{◌≡◌, ◌+◌, ◌∙◌, inl, inr, ℕ, Option, Some, None, IfSome, List, [], ◌∷◌, ◌++◌, length, refl, sym, ap, subst, append_assoc, arith}
 use Rattle.std.proofs.lemmas.List.{append-nil}
+use Rattle.std.proofs.lemmas.Option.{same_Some}
 use Rattle.sip_standard.specs.Key.{KeyParts}
 use Rattle.sip_standard.specs.Times.{Times}
 use Rattle.sip_part.specs.Part.{PartOf}
@@ -24,7 +25,6 @@ use Rattle.sip_verdict.specs.Surveys.{Surveying, SurveysFor}
 use Rattle.sip_verdict.specs.SurveyParts.{IsPartLog}
 use Rattle.sip_verdict.specs.inner.SurveyingLogs.{AreTaken, IsSurveyIn, IsTaken, SurveysRead, IsToldIn}
 use Rattle.sip_verdict.specs.inner.Walking.{HasRead}
-use Rattle.sip_verdict.proofs.judges.StandingLemmas.{same_some}
 use Rattle.sip_verdict.proofs.judges.JudgingLemmas.{seen-push}
 use Rattle.sip_verdict.specs.SurveyText.{IsSurveyText, end_text}
 use Rattle.sip_log.specs.Reading as log
@@ -135,9 +135,9 @@ module _ (part : Option PartOf) (start : Option (List ℕ)) (now : log.ReaderSta
 -- an entry in trouble has a number
 trouble-counted : (p : Times) (front : List (Observation KeyParts)) (e : Observation KeyParts) (v : Verdict) → HasTrouble p front e v → trouble_of v ≡ Some 0 → ⊥
 trouble-counted p front e (Legal entries transactions) is none = is
-trouble-counted p front e (Malformed entry fault) (at, has) none = let same = same_some entry 0 none in omega (arith, at, same)
-trouble-counted p front e (Breach entry transaction) (at, formed, first) none = let same = same_some entry 0 none in omega (arith, at, same)
-trouble-counted p front e (Undecided entry transaction) (at, formed, runs, first) none = let same = same_some entry 0 none in omega (arith, at, same)
+trouble-counted p front e (Malformed entry fault) (at, has) none = let same = same_Some entry 0 none in omega (arith, at, same)
+trouble-counted p front e (Breach entry transaction) (at, formed, first) none = let same = same_Some entry 0 none in omega (arith, at, same)
+trouble-counted p front e (Undecided entry transaction) (at, formed, runs, first) none = let same = same_Some entry 0 none in omega (arith, at, same)
 trouble-counted p front e (FaultOfLog entry reason) is none = is
 
 -- nothing is no number
@@ -147,7 +147,7 @@ none-some n same = cc
 -- the verdict of entries is of none before the first
 counted : (p : Times) (es : List (Observation KeyParts)) (items : List Item) (close : LogEnd) (v : Verdict) → IsVerdictAfter p es items close v → trouble_of v ≡ Some 0 → ⊥
 counted p es [] Clean v is none = none-some 0 (sym (ap trouble_of is) ∙ none)
-counted p es [] (Stops fault) v is none = let same = same_some (length es + 1) 0 (sym (ap trouble_of is) ∙ none) in omega (arith, same)
+counted p es [] (Stops fault) v is none = let same = same_Some (length es + 1) 0 (sym (ap trouble_of is) ∙ none) in omega (arith, same)
 counted p es (item ∷ items) close v (e, sees, inl trouble) none = trouble-counted p es e v trouble none
 counted p es (item ∷ items) close v (e, sees, inr (formed, runs, narrow, more)) none = counted p (es ++ e ∷ []) items close v more none
 

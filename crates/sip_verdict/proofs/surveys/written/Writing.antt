@@ -31,6 +31,7 @@ use Rattle.std.specs.Option.{ok_or}
 use Rattle.sip_verdict.specs.declared.finding.Finding.TheVariants.{Malformed, Breach, Undecided}
 use Rattle.sip_verdict.specs.declared.transaction.Transaction.{Transaction}
 use Rattle.sip_standard.specs.Rendering.{rendered}
+use Rattle.sip_states.proofs.lists.Places.{middle_place}
 use Rattle.sip_log.specs.Reading as log
 use Rattle.sip_verdict.specs.declared.survey_end.SurveyEnd.TheVariants as ended
 
@@ -75,10 +76,6 @@ lines_push s (g ∷ found) f text line (first, more, first_is, are, whole) is =
     (first, more ++ line, first_is, lines_push s found f more line are is, ap (λ t. t ++ line) whole ∙ append_assoc first more line)
 
 -- the line that is written is that of the finding
-at_place : {A : Type 0} (before : List A) (a : A) (rest : List A) → slice_get (before ++ a ∷ rest) (length before) ≡ Some a
-at_place [] a rest = refl
-at_place (b ∷ before) a rest = at_place before a rest
-
 line_with-told : (s : Surveying) (f : Finding) (number : ℕ) (told : Option Transaction) (line : List ℕ) → Tells s number told → line ≡ line_with f told → (es : List (Observation KeyParts)) → SurveysFor s es
     → (P : KeyParts → Type 0) → HoldsOf P (keys_in es) number
     → (words : List ℕ) × HoldsOf (AreWordsOf es words) (keys_in es) number × (line ≡ rendered (verdict_of f) ++ words ++ line_feed ∷ [])
@@ -86,7 +83,7 @@ line_with-told s f number told line tells is es stands P (before, key, rest, who
     by told (subst (λ o. IfSome o (λ k. IsSomeAnd told (λ t. (t.key.now ≡ k) × IsFirstOf es k t.first t.branch.now × IsLastOf es k t.last))) at (tells es stands (omega (arith, counts)))) is
   where
     at : slice_get (keys_in es) (number - 1) ≡ Some key
-    at = ap (slice_get (keys_in es)) (let n : number - 1 ≡ length before = omega (arith, counts) in n) ∙ ap (λ ks. slice_get ks (length before)) whole ∙ at_place before key rest
+    at = ap (slice_get (keys_in es)) (let n : number - 1 ≡ length before = omega (arith, counts) in n) ∙ ap (λ ks. slice_get ks (length before)) whole ∙ middle_place before key rest
 
     by : (o : Option Transaction) → IsSomeAnd o (λ t. (t.key.now ≡ key) × IsFirstOf es key t.first t.branch.now × IsLastOf es key t.last) → line ≡ line_with f o
         → (words : List ℕ) × HoldsOf (AreWordsOf es words) (keys_in es) number × (line ≡ rendered (verdict_of f) ++ words ++ line_feed ∷ [])

@@ -1,14 +1,13 @@
 //! The line at which an entry begins.
-ghost use Rattle.std.specs.Prelude.{◌≡◌, ◌↔◌, ℕ, MatchOption, IsTrue};
+ghost use Rattle.std.specs.Prelude.{◌≡◌, ◌↔◌, ◌∷◌, ℕ, List, MatchOption, IsTrue};
 ghost use Rattle.sip_standard.specs.declared.action.Action.{Action};
 ghost use Rattle.sip_log.specs.inner.Number.{cut};
 ghost use Rattle.sip_standard.specs.LogEntry.{HasMessage, IsOf, IsWithinLimits};
-ghost use Rattle.sip_log.specs.inner.Spelling.{letter};
+ghost use Rattle.sip_log.specs.inner.Spelling.{letter, space};
 ghost use Rattle.sip_log.specs.inner.Line.{Numbers, HeadLine, cut_head, head_of, moment_of, KeepsLimits};
 ghost use Rattle.sip_log.specs.inner.Line as log;
 
-use crate::number::number;
-use memchr::memchr;
+use crate::number::{digits, is_plain, number};
 use sip_standard::Format;
 use sip_times::Action;
 
@@ -91,15 +90,28 @@ fn action_of(format: Format, byte: u8) -> Option<Action>
     }
 }
 
+/// What stands after the blank that the text begins with, if it begins with one.
+fn past_blank(text: &[u8]) -> Option<&[u8]>
+    ensures { MatchOption result ((rest : List ℕ) → ¬ (text.now ≡ space ∷ rest)) (λ r. text.now ≡ space ∷ r.now) }
+{
+    let [b' ', rest @ ..] = text else {
+        return None;
+    };
+    Some(rest)
+}
+
 /// Reads a moment, a blank and a length.
 fn read_numbers(text: &[u8]) -> Option<(u64, u64)>
     ensures { MatchOption result
         ((moment len : ℕ) → ¬ (Numbers text.now moment len))
         (λ r. (moment : ℕ) × (len : ℕ) × Numbers text.now moment len × (r.0 ≡ cut moment) × (r.1 ≡ cut len)) }
 {
-    let blank = memchr(b' ', text)?;
-    let moment = number(&text[..blank])?;
-    let len = number(&text[blank + 1..])?;
+    let (moment, at) = digits(text);
+    if !is_plain(&text[..at]) {
+        return None;
+    }
+    let rest = past_blank(&text[at..])?;
+    let len = number(rest)?;
     Some((moment, len))
 }
 

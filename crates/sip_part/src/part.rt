@@ -5,6 +5,7 @@ ghost use Rattle.sip_part.specs.Led.{led_branch};
 ghost use Rattle.sip_part.specs.Part.{PartOf, TellsBranch, compared, falls_into, fnv1a};
 
 use crate::led::led_branch;
+use crate::lower::lower;
 use sip_message::{Message, ReadError};
 use std::alloc::{AllocError, Global};
 use std::marker::Model;
@@ -86,7 +87,7 @@ fn fnv1a(text: &[u8]) -> u32
 {
     let mut sum: u32 = 2_166_136_261;
     for byte in text {
-        sum = (sum ^ u32::from(byte.to_ascii_lowercase())).wrapping_mul(16_777_619);
+        sum = (sum ^ u32::from(lower(*byte))).wrapping_mul(16_777_619);
     }
     sum
 }

@@ -47,6 +47,7 @@ pub(crate) fn read_header<R: Source>(
 }
 
 /// Reads on after the header or an entry, into the buffer.
+#[inline(always)]
 pub(crate) fn read_next<R: Source>(
     progress: &mut Progress,
     buffer: Vec<u8>,

@@ -98,6 +98,7 @@ fn survey_in<R: Source, W: Sink, H: BuildHasher + Drop>(
 }
 
 /// Leaves of an entry its moment alone, where it has a message that does not fall into the part.
+#[inline(always)]
 pub(crate) fn cut_to(
     alloc: Global,
     part: Option<&Part>,
@@ -163,6 +164,7 @@ fn write_entries<R: Source, W: Sink, H: BuildHasher + Drop>(
 }
 
 /// Writes a line for each of the findings of the newest entry, and counts them.
+#[inline(always)]
 pub(crate) fn put_findings<W: Sink, H: BuildHasher + Drop>(
     alloc: Global,
     writer: &mut W,

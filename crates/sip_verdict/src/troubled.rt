@@ -1,5 +1,5 @@
 //! Which transactions are in trouble.
-ghost use Rattle.std.specs.Prelude.{◌≡◌, ◌<◌, ◌≤◌, ◌-◌, ◌++◌, ◌∷◌, [], Bool, List, Some, true, false, All, OnOk, length, map, slice_get, slice_set};
+ghost use Rattle.std.specs.Prelude.{◌≡◌, ◌↔◌, ◌<◌, ◌≤◌, ◌-◌, ◌++◌, ◌∷◌, [], Bool, List, Some, true, false, All, IsTrue, OnOk, length, map, slice_get, slice_set};
 ghost use Rattle.sip_states.specs.Kept.{kept_of};
 ghost use Rattle.sip_verdict.specs.declared.finding.Finding.{Finding};
 ghost use Rattle.sip_verdict.specs.declared.finding.Finding.TheVariants.{Breach, Undecided};
@@ -88,6 +88,13 @@ impl Troubled {
         Ok(())
     }
 
+    /// Whether nothing came into trouble yet at the entry in hand.
+    fn is_fresh(&self) -> bool
+        ensures { IsTrue result ↔ IsFresh self.now }
+    {
+        self.broken.is_empty() && self.wide.is_empty()
+    }
+
     /// Appends what came into trouble at the entry, the breaches by number and then what is followed no further by number. The next
     /// entry is in hand then.
     pub(crate) fn tell(&mut self, entry: u32, found: &mut Vec<Finding>) -> Result<(), AllocError>
@@ -96,6 +103,9 @@ impl Troubled {
         ensures fresh { OnOk result (IsFresh self.new) }
         ensures front { (more : List Finding) × (found.new.items ≡ found.old.items ++ more) }
     {
+        if self.is_fresh() {
+            return Ok(());
+        }
         keep_ascending(&mut self.broken);
         keep_ascending(&mut self.wide);
         push_breaches(entry, self.broken.as_slice(), found)?;

@@ -1,9 +1,13 @@
-use Rattle.std.specs.Prelude.{◌≡◌, ℕ, List, length, min, slice_index}
+use Rattle.std.specs.Prelude.{◌≡◌, ◌<◌, ℕ, List, length, min, slice_index}
 use Rattle.std.specs.Str.Parse.{IsNumeral, digits_value}
 
 -- the digit 0 in ASCII
 abbrev pub digit_zero : ℕ
 digit_zero = 48
+
+-- digits that are a number: one, or more of which the first is not 0
+abbrev pub IsPlain : List ℕ → Type 0
+IsPlain text = (0 < length text) × (slice_index text 0 ≡ digit_zero → length text ≡ 1)
 
 -- N of a log: 0, or a digit 1 to 9 and any further digits
 pub record IsNumber (text : List ℕ) (n : ℕ) : Type 0 where

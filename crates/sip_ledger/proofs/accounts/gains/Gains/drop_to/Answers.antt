@@ -1,0 +1,32 @@
+use Rattle.std.proofs.Common.{◌≡◌, ◌≤◌, ◌-◌, ◌+◌, length, refl, sym, subst, ◌∙◌, arith}
+use Rattle.sip_ledger.specs.declared.accounts.gains.Gains.{Gains}
+use Rattle.sip_ledger.proofs.places.FlagLemmas.{flags-dropped}
+use Rattle.sip_ledger.proofs.places.LeftLemmas.{gains-dropped}
+use Rattle.sip_ledger.proofs.accounts.gains.Gains.drop_to.Goals as goal
+
+pub drop_first-2-requires : goal.drop_first-2-requires
+drop_first-2-requires c = ?
+
+pub returns-clause-gained : goal.returns-clause-gained
+returns-clause-gained c =
+    let g = c.args.self.now in
+    let new : Gains = record { entries = c.drop_first.new.entries; flags = c.drop_first-2.new.entries; end = g.end; messages = g.messages; musts = g.musts; rises = g.rises } in
+    let len : c.len.result ≡ length g.entries.items = c.len.ensures ∙ g.entries.ok.0 in
+    let long = c.requires.gained.long in
+    let from = c.requires.from in
+    let count = c.args.place - (g.end - c.len.result) in
+    let here = omega (arith, len, long, from) in
+    (gains-dropped g new c.args.place count c.requires.gained here c.requires.within c.drop_first.ensures refl refl refl refl c.requires.none
+    (flags-dropped g new c.args.place count c.requires.gained.flags long here c.requires.within c.drop_first.ensures c.drop_first-2.ensures refl)).0
+
+pub returns-clause-dropped : goal.returns-clause-dropped
+returns-clause-dropped c =
+    let g = c.args.self.now in
+    let new : Gains = record { entries = c.drop_first.new.entries; flags = c.drop_first-2.new.entries; end = g.end; messages = g.messages; musts = g.musts; rises = g.rises } in
+    let len : c.len.result ≡ length g.entries.items = c.len.ensures ∙ g.entries.ok.0 in
+    let long = c.requires.gained.long in
+    let from = c.requires.from in
+    let count = c.args.place - (g.end - c.len.result) in
+    let here = omega (arith, len, long, from) in
+    (gains-dropped g new c.args.place count c.requires.gained here c.requires.within c.drop_first.ensures refl refl refl refl c.requires.none
+    (flags-dropped g new c.args.place count c.requires.gained.flags long here c.requires.within c.drop_first.ensures c.drop_first-2.ensures refl)).1

@@ -26,7 +26,7 @@ lt-no m n is = grind (arith, nat_tests)
 pub kept-strikes : (old new : List Strike) (a : Account) → take (length old) new ≡ old → a.last ≤ length old → strikes_of new a ≡ strikes_of old a
 kept-strikes old new a kept last = ap (drop a.first) (sym (take-take a.last (length old) new last) ∙ ap (take a.last) kept)
 
-kept-longer : (old new : List Strike) → take (length old) new ≡ old → length old ≤ length new
+pub kept-longer : (old new : List Strike) → take (length old) new ≡ old → length old ≤ length new
 kept-longer old new kept = omega (arith, ap length kept, length-take (length old) new)
 
 pub kept-twice : (a b c : List Strike) → take (length a) b ≡ a → take (length b) c ≡ b → take (length a) c ≡ a

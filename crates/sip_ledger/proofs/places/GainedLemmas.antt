@@ -2,9 +2,7 @@
 use Rattle.std.proofs.Common.{◌≡◌, ◌≢◌, ℕ, zero, suc, ◌+◌, ◌<◌, ◌≤◌, ◌%◌, ◌^◌, ◌==◌, ◌&&◌, ◌||◌, Bool, true, false, not, List, [], ◌∷◌, ◌++◌, length, take, drop, get_or, refl, sym, ap, ap₂, ◌∙◌, subst, inl, inr, arith}
 use Rattle.std.specs.Prelude.{All, nat_le, nat_lt}
 use Rattle.std.specs.List.{sum_by}
-use Rattle.std.proofs.Math.Bool.{or-false}
-use Rattle.std.proofs.lemmas.Bool.{cases_eq, cases_lt, eq-eqb, ne_eqb}
-use Rattle.std.proofs.lemmas.Bool.Decides.{nat_tests}
+use Rattle.std.proofs.lemmas.Bool.{cases_lt}
 use Rattle.std.proofs.lemmas.List.{get_or_push, length-append}
 use Rattle.std.proofs.lemmas.List.Sums.{sum_by_push}
 use Rattle.std.proofs.Math.Nat.{mod-add-mod}
@@ -15,7 +13,7 @@ use Rattle.sip_ledger.specs.declared.accounts.gains.Gains.{Gains}
 use Rattle.sip_ledger.specs.declared.accounts.strikes.Strike.{Strike}
 use Rattle.sip_ledger.specs.Accounts.{debts_print, worth_of}
 use Rattle.sip_ledger.specs.Rows.{debt_of, debts_from}
-use Rattle.sip_ledger.specs.inner.Accounts.{AreGains, IsAccount, IsGain, IsNextGain, IsPassedTo, IsStruckAt, KeepsAccounts, account_debts, accounts_debts, entries_of, entry_at, is_gone, is_left, is_struck, must_at, owes_at, strikes_of}
+use Rattle.sip_ledger.specs.inner.Accounts.{IsAccount, IsGain, IsNextGain, IsStruck, KeepsAccounts, account_debts, accounts_debts, entries_of, entry_at, is_gone, is_left, is_struck, must_at, owes_at, strikes_of}
 use Rattle.sip_ledger.specs.inner.Indexes.{holds}
 use Rattle.sip_ledger.proofs.debts.ListedLemmas.{listed-none}
 use Rattle.sip_ledger.proofs.grids.RowLemmas.{gained-debts}
@@ -115,48 +113,8 @@ no-more true true = refl
 no-more true false = refl
 no-more false y = refl
 
-ends : (w e : Bool) → ((w || (e && false)) || true) ≡ (w || (true && true))
-ends true e = refl
-ends false true = refl
-ends false false = refl
-
--- one more place is passed
-pub passed-more : (gains : Gains) (at : ℕ) (old one new : List Strike) (a p q : Account) → IsPassedTo gains at old one a p → IsStruckAt gains at one new p q → a.end ≤ at →
-    at < length (entries_of gains) → IsPassedTo gains (at + 1) old new a q
-passed-more gains at old one new a p q was now low inside =
-    let same = was.start in
-    record {
-      start = now.start ∙ was.start;
-      end = now.end ∙ was.end;
-      soft = now.soft ∙ was.soft;
-      print = now.print ∙ was.print;
-      first = now.first;
-      last = now.last;
-      struck = λ k from left.
-          now.struck k (omega (arith, from, same)) left
-          ∙ ap (λ b. b || k == at) (was.struck k from left)
-          ∙ joined k (is_struck (strikes_of old a) (entry_at (entries_of gains) k).message k);
-      bound = λ m k past none. now.bound m k past (was.bound m k past none);
-    }
-  where
-    joined : (k : ℕ) (w : Bool) → ((w || (nat_le a.end k && nat_lt k at)) || k == at) ≡ (w || (nat_le a.end k && nat_lt k (at + 1)))
-    joined k w = elim (cases_eq k at) [
-      | inl here ↦
-          ap₂ (λ x y. (w || (nat_le a.end k && x)) || y) (lt-no k at (omega (arith, here))) (eq-eqb k at here)
-          ∙ ends w (nat_le a.end k)
-          ∙ sym (ap₂ (λ x y. w || (x && y)) (le-yes a.end k (omega (arith, low, here))) (lt-yes k (at + 1) (omega (arith, here))))
-      | inr other ↦ elim (cases_lt k at) [
-        | inl early ↦
-            ap₂ (λ x y. (w || (nat_le a.end k && x)) || y) (lt-yes k at early) (ne_eqb k at other) ∙ or-false (w || (nat_le a.end k && true))
-            ∙ sym (ap (λ x. w || (nat_le a.end k && x)) (lt-yes k (at + 1) (omega (arith, early))))
-        | inr late ↦
-            ap₂ (λ x y. (w || (nat_le a.end k && x)) || y) (lt-no k at late) (ne_eqb k at other) ∙ or-false (w || (nat_le a.end k && false))
-            ∙ sym (ap (λ x. w || (nat_le a.end k && x)) (lt-no k (at + 1) (omega (arith, late, other))))
-      ]
-    ]
-
 -- the other places of an account that passed what was gained before the place
-passed-others : (gains : Gains) (old new : List Strike) (a p b : Account) (place k : ℕ) → IsPassedTo gains place old new a p → a.end ≤ length (entries_of gains) → a.end ≤ place →
+passed-others : (gains : Gains) (old new : List Strike) (a p b : Account) (place k : ℕ) → IsStruck gains a.end place old new a p → a.end ≤ length (entries_of gains) → a.end ≤ place →
     place < length (entries_of gains) → b.start ≡ a.start → b.end ≡ place + 1 → strikes_of new b ≡ strikes_of new p → k ≢ place → owes_at gains new b k ≡ owes_at gains old a k
 unfolding owes_at
 passed-others gains old new a p b place k passed within low inside start end own other =
@@ -187,7 +145,7 @@ passed-others gains old new a p b place k passed within low inside start end own
 
 -- an account that passed what was gained before the place, and owes what was gained there
 pub more-gain : (gains : Gains) (old new : List Strike) (a p b : Account) (debt : Debt) (place : ℕ) → IsAccount gains old a → IsNextGain gains old a debt place → a.start ≢ a.end →
-    IsPassedTo gains place old new a p → b ≡ record p { end = place + 1; print = b.print } → b.print ≡ (a.print + worth_of debt.message debt.deadline) % 2 ^ 64 →
+    IsStruck gains a.end place old new a p → b ≡ record p { end = place + 1; print = b.print } → b.print ≡ (a.print + worth_of debt.message debt.deadline) % 2 ^ 64 →
     IsAccount gains new b × (account_debts gains new b ≡ account_debts gains old a ++ debt ∷ [])
 unfolding owes_at
 more-gain gains old new a p b debt place is next some passed same print =

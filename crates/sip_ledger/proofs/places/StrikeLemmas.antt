@@ -8,13 +8,13 @@ use Rattle.std.proofs.lemmas.Bool.Decides.{nat_tests}
 use Rattle.std.proofs.lemmas.List.Folds.{list_any-append, list_any_at}
 use Rattle.std.proofs.lemmas.List.Elements.{filter-append}
 use Rattle.std.proofs.Math.Seq.{take-append_seam, drop-append_seam, take-length}
-use Rattle.std.proofs.lemmas.List.{append_assoc, drop_all, drop-append-le, get_or_default, length-append, length-take, length-take-le, take_more}
+use Rattle.std.proofs.lemmas.List.{drop_all, drop-append-le, drop-set-add, get_or_default, get_or-drop, length-drop, length-take, length-take-le, take-append-le, take-set-le, take_more}
 use Rattle.sip_ledger.specs.declared.debt.Entry.{Entry}
 use Rattle.sip_ledger.specs.declared.accounts.account.Account.{Account}
 use Rattle.sip_ledger.specs.declared.accounts.strikes.Strike.{Strike}
 use Rattle.sip_ledger.specs.Ledgers.{from_to}
 use Rattle.sip_ledger.specs.declared.accounts.gains.Gains.{Gains}
-use Rattle.sip_ledger.specs.inner.Accounts.{IsStruckAt, IsWritten, Lengthens, Reaches, entries_of, entry_at, is_left, is_struck, strikes_of, is_out}
+use Rattle.sip_ledger.specs.inner.Accounts.{IsStruck, IsWritten, Lengthens, Reaches, StrikeToo, entries_of, entry_at, is_left, is_struck, strikes_of, is_out}
 use Rattle.sip_ledger.proofs.places.LeftLemmas.{held-left}
 
 -- the strikes that end after the start
@@ -130,75 +130,81 @@ pub bound-ending : (m k start : ℕ) (xs : List Strike) → is_struck xs m k ≡
 unfolding is_struck
 bound-ending m k start xs none = none-ending (is_out m k) start xs none
 
--- strikes one after another, of which one after the first ones changes
-set-behind : (xs ys : List Strike) (i j : ℕ) (v : Strike) → j ≡ length xs + i → set (xs ++ ys) j v ≡ xs ++ set ys i v
-set-behind [] ys i j v is = let here : j ≡ i = omega (arith, is) in ap (λ n. set ys n v) here
-set-behind (x ∷ xs) ys i zero v is = absurd (omega (arith, is))
-set-behind (x ∷ xs) ys i (suc j) v is = ap (λ l. x ∷ l) (set-behind xs ys i j v (omega (arith, is)))
-
-get-behind : (xs ys : List Strike) (i j : ℕ) (d : Strike) → j ≡ length xs + i → get_or (xs ++ ys) j d ≡ get_or ys i d
-get-behind [] ys i j d is = let here : j ≡ i = omega (arith, is) in ap (λ n. get_or ys n d) here
-get-behind (x ∷ xs) ys i zero d is = absurd (omega (arith, is))
-get-behind (x ∷ xs) ys i (suc j) d is = get-behind xs ys i j d (omega (arith, is))
-
--- strikes that stand after the old ones
-after-old : (old more : List Strike) → (take (length old) (old ++ more) ≡ old) × (drop (length old) (old ++ more) ≡ more)
-after-old old more = (take-append_seam old more, drop-append_seam old more)
-
-written : (gains : Gains) (place : ℕ) (old new more : List Strike) (a : Account) → new ≡ old ++ more →
-    ((k : ℕ) → is_left gains k ≡ true → is_struck more (entry_at (entries_of gains) k).message k ≡ (is_struck (ending a.start (strikes_of old a)) (entry_at (entries_of gains) k).message k || k == place)) →
-    ((m k : ℕ) → place < k → is_struck (ending a.start (strikes_of old a)) m k ≡ false → is_struck more m k ≡ false) → place < length (entries_of gains) →
-    IsWritten gains place old new a
-written gains place old new more a is struck bound within =
-    let parts = after-old old more in
-    let own = strikes_of old a in
-    let rest : drop (length old) new ≡ more = ap (drop (length old)) is ∙ parts.1 in
-    record {
-      kept = ap (take (length old)) is ∙ parts.0;
-      struck = λ k above left.
-          ap (λ l. is_struck l (entry_at (entries_of gains) k).message k) rest ∙ struck k left
-          ∙ ap (λ b. b || k == place) (struck-ending (entry_at (entries_of gains) k).message k a.start own above);
-      bound = λ m k past none. ap (λ l. is_struck l m k) rest ∙ bound m k (omega (arith, past, within)) (bound-ending m k a.start own none);
-    }
-
-pub written-longer : (gains : Gains) (place : ℕ) (old one new : List Strike) (a : Account) → one ≡ old ++ ending a.start (strikes_of old a) →
-    Lengthens gains place (length old) one new → place < length (entries_of gains) → IsWritten gains place old new a
-written-longer gains place old one new a is l within =
-    let e = ending a.start (strikes_of old a) in
+-- one of the strikes from the first on is longer
+pub longer-too : (gains : Gains) (place first : ℕ) (old new : List Strike) → Lengthens gains place first old new → StrikeToo gains place first old new
+longer-too gains place first old new l =
     let s : Strike = record { message = 0; from = 0; to = 0 } in
-    let i = l.at - length old in
+    let own = drop first old in
+    let i = l.at - first in
     let after = l.after in
     let inside = l.within in
-    let here : l.at ≡ length old + i = omega (arith, after) in
-    let was = get_or e i s in
+    let here : l.at ≡ first + i = omega (arith, after) in
+    let was = get_or own i s in
     let longer : Strike = record { message = was.message; from = was.from; to = place + 1 } in
-    let same : get_or one l.at s ≡ was = ap (λ n. get_or n l.at s) is ∙ get-behind old e i l.at s here in
+    let same : get_or old l.at s ≡ was = ap (λ n. get_or old n s) here ∙ sym (get_or-drop first old i s) in
     let reaches : Reaches gains place was = subst (λ w. Reaches gains place w) same (l.reaches s) in
-    let low : i < length e = omega (arith, inside, ap length is, length-append old e, here) in
-    written gains place old new (set e i longer) a
-    (l.longer s
-    ∙ ap (λ (w : Strike). let x : Strike = record { message = w.message; from = w.from; to = place + 1 } in set one l.at x) same
-    ∙ ap (λ n. set n l.at longer) is
-    ∙ set-behind old e i l.at longer here)
-    (λ k left. lengthened gains place k e i s low reaches left)
-    (λ m k past none. lengthened-bound gains place m k e i s past none)
-    within
+    let low : i < length own = omega (arith, inside, length-drop first old, here) in
+    let whole : new ≡ set old (first + i) longer =
+    l.longer s
+    ∙ ap (λ (w : Strike). let x : Strike = record { message = w.message; from = w.from; to = place + 1 } in set old l.at x) same
+    ∙ ap (λ n. set old n longer) here in
+    let rest : drop first new ≡ set own i longer = ap (drop first) whole ∙ drop-set-add first old i longer in
+    record {
+      before = ap (take first) whole ∙ take-set-le first old (first + i) longer (omega arith);
+      struck = λ k left. ap (λ x. is_struck x (entry_at (entries_of gains) k).message k) rest ∙ lengthened gains place k own i s low reaches left;
+      bound = λ m k past none. ap (λ x. is_struck x m k) rest ∙ lengthened-bound gains place m k own i s past none;
+    }
 
-pub written-added : (gains : Gains) (place : ℕ) (old one new : List Strike) (a : Account) → one ≡ old ++ ending a.start (strikes_of old a) →
-    new ≡ one ++ (record { message = (entry_at (entries_of gains) place).message; from = place; to = place + 1 }) ∷ [] → place < length (entries_of gains) → IsWritten gains place old new a
-written-added gains place old one new a is more within =
-    let e = ending a.start (strikes_of old a) in
-    let s : Strike = record { message = (entry_at (entries_of gains) place).message; from = place; to = place + 1 } in
-    written gains place old new (e ++ s ∷ []) a
-    (more ∙ ap (λ l. l ++ s ∷ []) is ∙ append_assoc old e (s ∷ []))
-    (λ k left. added gains place k e)
-    (λ m k past none. added-bound m (entry_at (entries_of gains) place).message place k e past none)
-    within
+-- there is one more
+pub more-too : (gains : Gains) (place first : ℕ) (old new : List Strike) → first ≤ length old →
+    new ≡ old ++ (record { message = (entry_at (entries_of gains) place).message; from = place; to = place + 1 }) ∷ [] → StrikeToo gains place first old new
+more-too gains place first old new within is =
+    let m = (entry_at (entries_of gains) place).message in
+    let s : Strike = record { message = m; from = place; to = place + 1 } in
+    let rest : drop first new ≡ drop first old ++ s ∷ [] = ap (drop first) is ∙ drop-append-le first old (s ∷ []) within in
+    record {
+      before = ap (take first) is ∙ take-append-le first old (s ∷ []) within;
+      struck = λ k left. ap (λ x. is_struck x (entry_at (entries_of gains) k).message k) rest ∙ added gains place k (drop first old);
+      bound = λ m' k past none. ap (λ x. is_struck x m' k) rest ∙ added-bound m' m place k (drop first old) past none;
+    }
+
+none-between : (from to k : ℕ) → to ≤ from → (nat_le from k && nat_lt k to) ≡ false
+none-between from to k order = grind (arith, nat_tests)
+
+one-more : (from at k : ℕ) → from ≤ at → ((nat_le from k && nat_lt k at) || k == at) ≡ (nat_le from k && nat_lt k (at + 1))
+one-more from at k low = grind (arith, nat_tests)
+
+none-too : (from to k : ℕ) (w : Bool) → to ≤ from → w ≡ (w || (nat_le from k && nat_lt k to))
+none-too from to k w order = sym (ap (λ b. w || b) (none-between from to k order) ∙ or-false w)
+
+-- the account's strikes are written, and then strike what was gained at one place after another
+pub written-none : (gains : Gains) (from : ℕ) (old new : List Strike) (a : Account) → new ≡ old ++ ending a.start (strikes_of old a) → IsWritten gains from from old new a
+written-none gains from old new a is =
+    let own = strikes_of old a in
+    let rest : drop (length old) new ≡ ending a.start own = ap (drop (length old)) is ∙ drop-append_seam old (ending a.start own) in
+    record {
+      kept = ap (take (length old)) is ∙ take-append_seam old (ending a.start own);
+      struck = λ k above left.
+          let m = (entry_at (entries_of gains) k).message in
+          ap (λ l. is_struck l m k) rest ∙ struck-ending m k a.start own above ∙ none-too from from k (is_struck own m k) (omega arith);
+      bound = λ m k past none. ap (λ l. is_struck l m k) rest ∙ bound-ending m k a.start own none;
+    }
+
+pub written-more : (gains : Gains) (from at : ℕ) (old one new : List Strike) (a : Account) → IsWritten gains from at old one a → StrikeToo gains at (length old) one new → from ≤ at →
+    at < length (entries_of gains) → IsWritten gains from (at + 1) old new a
+written-more gains from at old one new a w too low inside = record {
+  kept = too.before ∙ w.kept;
+  struck = λ k above left.
+      let was = is_struck (strikes_of old a) (entry_at (entries_of gains) k).message k in
+      too.struck k left ∙ ap (λ b. b || k == at) (w.struck k above left)
+      ∙ or_assoc was (nat_le from k && nat_lt k at) (k == at) ∙ ap (λ b. was || b) (one-more from at k low);
+  bound = λ m k past none. too.bound m k (omega (arith, past, inside)) (w.bound m k past none);
+}
 
 -- an account with strikes that stand after the others
-pub struck-at : (gains : Gains) (place : ℕ) (old new : List Strike) (a b : Account) → IsWritten gains place old new a →
-    b ≡ record a { first = length old; last = length new } → IsStruckAt gains place old new a b
-struck-at gains place old new a b w is =
+pub struck-own : (gains : Gains) (from to : ℕ) (old new : List Strike) (a b : Account) → IsWritten gains from to old new a →
+    b ≡ record a { first = length old; last = length new } → IsStruck gains from to old new a b
+struck-own gains from to old new a b w is =
     let longer : length old ≤ length new = omega (arith, ap length w.kept, length-take (length old) new) in
     let whole : strikes_of new b ≡ drop (length old) new = ap (λ (x : Account). strikes_of new x) is ∙ ap (drop (length old)) (take-length new) in
     record {
@@ -211,6 +217,20 @@ struck-at gains place old new a b w is =
       struck = λ k above left. ap (λ own. is_struck own (entry_at (entries_of gains) k).message k) whole ∙ w.struck k above left;
       bound = λ m k past none. ap (λ own. is_struck own m k) whole ∙ w.bound m k past none;
     }
+
+-- where there is no place, it is as it was
+pub struck-none : (gains : Gains) (place : ℕ) (strikes : List Strike) (a : Account) → a.first ≤ a.last → a.last ≤ length strikes → a.end ≡ place →
+    IsStruck gains a.end place strikes strikes a a
+struck-none gains place strikes a first last here = record {
+  start = refl;
+  end = refl;
+  soft = refl;
+  print = refl;
+  first = first;
+  last = last;
+  struck = λ k above left. none-too a.end place k (is_struck (strikes_of strikes a) (entry_at (entries_of gains) k).message k) (omega (arith, here));
+  bound = λ m k past none. none;
+}
 
 -- the strikes from one up to another, with one more
 pub from_to-none : (xs : List Strike) (n : ℕ) → from_to n n xs ≡ []

@@ -15,7 +15,7 @@ use Rattle.sip_ledger.specs.declared.accounts.gains.Gains.{Gains}
 use Rattle.sip_ledger.specs.declared.accounts.strikes.Strike.{Strike}
 use Rattle.sip_ledger.specs.Accounts.{debts_print, worth_of}
 use Rattle.sip_ledger.specs.Rows.{debt_of, debts_from}
-use Rattle.sip_ledger.specs.inner.Accounts.{AreGains, IsAccount, IsStruckAt, IsWithout, account_debts, entries_of, entry_at, is_gone, is_left, is_struck, must_at, owes_at, strikes_of}
+use Rattle.sip_ledger.specs.inner.Accounts.{AreGains, IsAccount, IsStruck, IsWithout, account_debts, entries_of, entry_at, is_gone, is_left, is_struck, must_at, owes_at, strikes_of}
 use Rattle.sip_ledger.proofs.debts.ListedLemmas.{no_entry, front, back, parts, back-set, back-unset, back-same, front-same}
 use Rattle.sip_ledger.proofs.places.LeftLemmas.{gone-same, gone-struck}
 use Rattle.sip_ledger.proofs.places.AccountLemmas.{owed-within, past-end, soft-must}
@@ -139,13 +139,16 @@ no-more true true = refl
 no-more true false = refl
 no-more false y = refl
 
-pub struck-without : (gains : Gains) (old new : List Strike) (a b c : Account) (place : ℕ) → IsStruckAt gains place old new a b →
+one-place : (place k : ℕ) → (nat_le place k && nat_lt k (place + 1)) ≡ (k == place)
+one-place place k = grind (arith, nat_tests)
+
+pub struck-without : (gains : Gains) (old new : List Strike) (a b c : Account) (place : ℕ) → IsStruck gains place (place + 1) old new a b →
     a.start ≤ place → c.start ≡ b.start → c.end ≡ b.end → c.first ≡ b.first → c.last ≡ b.last → IsWithout place (owes_at gains old a) (owes_at gains new c)
 unfolding owes_at
 struck-without gains old new a b c place s low start end first last = record {
   gone = is place
       ∙ ap (λ x. nat_le a.start place && (nat_lt place a.end && not x)) (gone-struck gains (strikes_of new b) place (λ left. s.struck place low left
-      ∙ ap (λ x. is_struck (strikes_of old a) (entry_at (entries_of gains) place).message place || x) (eq-eqb place place refl)
+      ∙ ap (λ x. is_struck (strikes_of old a) (entry_at (entries_of gains) place).message place || x) (one-place place place ∙ eq-eqb place place refl)
       ∙ or-last (is_struck (strikes_of old a) (entry_at (entries_of gains) place).message place)))
       ∙ no-more (nat_le a.start place) (nat_lt place a.end);
   others = λ k other. elim (cases_lt k a.start) [
@@ -153,7 +156,7 @@ struck-without gains old new a b c place s low start end first last = record {
     | inr from ↦
         is k
         ∙ ap (λ x. nat_le a.start k && (nat_lt k a.end && not x)) (gone-same gains (strikes_of old a) (strikes_of new b) k (λ left. s.struck k from left
-        ∙ ap (λ x. is_struck (strikes_of old a) (entry_at (entries_of gains) k).message k || x) (ne_eqb k place other)
+        ∙ ap (λ x. is_struck (strikes_of old a) (entry_at (entries_of gains) k).message k || x) (one-place place k ∙ ne_eqb k place other)
         ∙ or-false (is_struck (strikes_of old a) (entry_at (entries_of gains) k).message k)))
   ];
 }
@@ -244,7 +247,7 @@ without-last gains strikes a place w print is owed later last worth printed =
 
 -- without a debt between others
 pub without-middle : (gains : Gains) (old new : List Strike) (a b : Account) (place w print : ℕ) → IsAccount gains old a → owes_at gains old a place ≡ true →
-    place ≢ a.start → IsStruckAt gains place old new a b → w ≡ worth_of (entry_at (entries_of gains) place).message (entry_at (entries_of gains) place).deadline →
+    place ≢ a.start → IsStruck gains place (place + 1) old new a b → w ≡ worth_of (entry_at (entries_of gains) place).message (entry_at (entries_of gains) place).deadline →
     print ≡ (a.print + (2 ^ 64 - w)) % 2 ^ 64 →
     IsAccount gains new (record b { print = print }) ×
     IsWithout place (owes_at gains old a) (owes_at gains new (record b { print = print }))

@@ -181,15 +181,22 @@ pub record IsFirstPayable (entries : List Entry) (owes : ℕ → Bool) (message 
   pub pays : pays_at entries message t place ≡ true
   pub before : (k : ℕ) → k < place → owes k ≡ true → pays_at entries message t k ≡ false
 
--- the account's strikes that end after its start are written after the others, with one of what was gained at the place
-pub record IsWritten (gains : Gains) (place : ℕ) (old new : List Strike) (a : Account) : Type 0 where
+-- the strikes from the first on strike what was gained at the place too
+pub record StrikeToo (gains : Gains) (place first : ℕ) (old new : List Strike) : Type 0 where
+  pub before : take first new ≡ take first old
+  pub struck : (k : ℕ) → is_left gains k ≡ true → is_struck (drop first new) (entry_at (entries_of gains) k).message k
+      ≡ (is_struck (drop first old) (entry_at (entries_of gains) k).message k || k == place)
+  pub bound : (m k : ℕ) → place < k → is_struck (drop first old) m k ≡ false → is_struck (drop first new) m k ≡ false
+
+-- the account's strikes that end after its start are written after the others, and strike what was gained from one place up to another too
+pub record IsWritten (gains : Gains) (from to : ℕ) (old new : List Strike) (a : Account) : Type 0 where
   pub kept : take (length old) new ≡ old
   pub struck : (k : ℕ) → a.start ≤ k → is_left gains k ≡ true → is_struck (drop (length old) new) (entry_at (entries_of gains) k).message k
-      ≡ (is_struck (strikes_of old a) (entry_at (entries_of gains) k).message k || k == place)
+      ≡ (is_struck (strikes_of old a) (entry_at (entries_of gains) k).message k || (nat_le from k && nat_lt k to))
   pub bound : (m k : ℕ) → length (entries_of gains) ≤ k → is_struck (strikes_of old a) m k ≡ false → is_struck (drop (length old) new) m k ≡ false
 
--- the new account's strikes are those of the old one that reach past its start, and what was gained at the place is struck too
-pub record IsStruckAt (gains : Gains) (place : ℕ) (old new : List Strike) (a b : Account) : Type 0 where
+-- the new account's strikes are those of the old one that reach past its start, and what was gained from one place up to another is struck too
+pub record IsStruck (gains : Gains) (from to : ℕ) (old new : List Strike) (a b : Account) : Type 0 where
   pub start : b.start ≡ a.start
   pub end : b.end ≡ a.end
   pub soft : b.soft ≡ a.soft
@@ -197,19 +204,7 @@ pub record IsStruckAt (gains : Gains) (place : ℕ) (old new : List Strike) (a b
   pub first : b.first ≤ b.last
   pub last : b.last ≤ length new
   pub struck : (k : ℕ) → a.start ≤ k → is_left gains k ≡ true → is_struck (strikes_of new b) (entry_at (entries_of gains) k).message k
-      ≡ (is_struck (strikes_of old a) (entry_at (entries_of gains) k).message k || k == place)
-  pub bound : (m k : ℕ) → length (entries_of gains) ≤ k → is_struck (strikes_of old a) m k ≡ false → is_struck (strikes_of new b) m k ≡ false
-
--- the same for all places from the account's end up to this one
-pub record IsPassedTo (gains : Gains) (place : ℕ) (old new : List Strike) (a b : Account) : Type 0 where
-  pub start : b.start ≡ a.start
-  pub end : b.end ≡ a.end
-  pub soft : b.soft ≡ a.soft
-  pub print : b.print ≡ a.print
-  pub first : b.first ≤ b.last
-  pub last : b.last ≤ length new
-  pub struck : (k : ℕ) → a.start ≤ k → is_left gains k ≡ true → is_struck (strikes_of new b) (entry_at (entries_of gains) k).message k
-      ≡ (is_struck (strikes_of old a) (entry_at (entries_of gains) k).message k || (nat_le a.end k && nat_lt k place))
+      ≡ (is_struck (strikes_of old a) (entry_at (entries_of gains) k).message k || (nat_le from k && nat_lt k to))
   pub bound : (m k : ℕ) → length (entries_of gains) ≤ k → is_struck (strikes_of old a) m k ≡ false → is_struck (strikes_of new b) m k ≡ false
 
 -- what was gained at the place is the debt, and the account may owe it after all that it owes

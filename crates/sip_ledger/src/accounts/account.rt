@@ -5,7 +5,7 @@ ghost use Rattle.sip_ledger.specs.Debts.{counts_at, debt_deadlines, earliest};
 ghost use Rattle.sip_ledger.specs.Accounts.{worth_of};
 ghost use Rattle.sip_ledger.specs.Rows.{debt_of};
 ghost use Rattle.sip_ledger.specs.declared.accounts.account.Account.{Account};
-ghost use Rattle.sip_ledger.specs.inner.Accounts.{AreAlike, AreGains, IsAccount, IsExpiredTo, IsFirstPayable, IsKept, IsNextGain, IsPassedTo, IsPlaceOf, IsWithout, KeepsAccounts, SharesRest, account_debts, entries_of, entry_at, is_gone, must_at, owes_at, pays_at, strikes_of};
+ghost use Rattle.sip_ledger.specs.inner.Accounts.{AreAlike, AreGains, IsAccount, IsExpiredTo, IsFirstPayable, IsKept, IsNextGain, IsPlaceOf, IsStruck, IsWithout, KeepsAccounts, SharesRest, account_debts, entries_of, entry_at, is_gone, must_at, owes_at, pays_at, strikes_of};
 ghost use Rattle.sip_ledger.specs.inner.Indexes.{holds};
 
 use crate::accounts::gains::Gains;
@@ -123,12 +123,13 @@ pub(crate) fn without(
     ensures soft { IfOk result (λ new. new.soft ≡ account.soft) }
 {
     let rest = account.end - place;
+    let after = place + 1;
     let entry = gains.entry(place);
     let print = account
         .print
         .wrapping_sub(worth(entry.message, entry.deadline));
     if place == account.start {
-        let start = next(gains, strikes, account, place + 1);
+        let start = next(gains, strikes, account, after);
         return Ok(Account {
             start,
             print,
@@ -142,7 +143,7 @@ pub(crate) fn without(
             ..account
         });
     }
-    let struck = put(gains, strikes, account, place)?;
+    let struck = put(gains, strikes, account, place, after)?;
     Ok(Account { print, ..struck })
 }
 
@@ -320,13 +321,12 @@ fn pass_to(
     requires end { account.end ≤ place }
     requires within { place ≤ length (entries_of gains.now) }
     ensures kept { take (length strikes.old.items) strikes.new.items ≡ strikes.old.items }
-    ensures passed { IfOk result (IsPassedTo gains.now place strikes.old.items strikes.new.items account) }
+    ensures passed { IfOk result (IsStruck gains.now account.end place strikes.old.items strikes.new.items account) }
 {
-    let mut passed = account;
-    for at in account.end..place {
-        passed = put(gains, strikes, passed, at)?;
+    if account.end == place {
+        return Ok(account);
     }
-    Ok(passed)
+    put(gains, strikes, account, account.end, place)
 }
 
 /// The account with what was gained at the place, after all that it owes.

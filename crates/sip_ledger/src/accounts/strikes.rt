@@ -2,7 +2,7 @@
 ghost use Rattle.std.specs.Prelude.{◌≡◌, ◌<◌, ◌≤◌, ◌+◌, ◌++◌, ℕ, true, false, IfOk, IfSome, IfNone, OnOk, OnErr, filter, length, take, nat_lt};
 ghost use Rattle.std.specs.Bool.{OnTrue, OnFalse};
 ghost use Rattle.sip_ledger.specs.Ledgers.{from_to};
-ghost use Rattle.sip_ledger.specs.inner.Accounts.{AreGains, IsKept, IsNoneBetween, IsStruckAt, IsWritten, Lengthens, Reaches, is_out, is_struck};
+ghost use Rattle.sip_ledger.specs.inner.Accounts.{AreGains, IsKept, IsNoneBetween, IsStruck, IsWritten, Lengthens, Reaches, StrikeToo, is_out, is_struck};
 
 use crate::accounts::account::Account;
 use crate::accounts::gains::Gains;
@@ -151,22 +151,25 @@ fn are_others(gains: &Gains, message: u32, from: usize, to: usize) -> bool
     true
 }
 
-/// The account with what was gained at the place struck too: its strikes stand after all others. On an error these are as before.
+/// The account with what was gained from one place up to another struck too: its strikes stand after all others. On an error these are as
+/// before.
 pub(crate) fn put(
     gains: &Gains,
     strikes: &mut Vec<Strike>,
     account: Account,
-    place: usize,
+    from: usize,
+    to: usize,
 ) -> Result<Account, AllocError>
     requires gained { AreGains gains.now }
-    requires kept { IsKept gains.now place }
+    requires order { from ≤ to }
+    requires kept { (k : ℕ) → from ≤ k → k < to → IsKept gains.now k }
     requires first { account.first ≤ account.last }
     requires last { account.last ≤ length strikes.old.items }
     ensures kept { take (length strikes.old.items) strikes.new.items ≡ strikes.old.items }
-    ensures struck { IfOk result (IsStruckAt gains.now place strikes.old.items strikes.new.items account) }
+    ensures struck { IfOk result (IsStruck gains.now from to strikes.old.items strikes.new.items account) }
 {
     let first = strikes.len();
-    if write(gains, strikes, account, place).is_err() {
+    if write(gains, strikes, account, from, to).is_err() {
         strikes.truncate(first);
         return Err(AllocError);
     }
@@ -177,23 +180,45 @@ pub(crate) fn put(
     })
 }
 
-/// Writes the account's strikes that end after its start after all others, and one for what was gained at the place. On an error some
-/// of them are there.
+/// Writes the account's strikes that end after its start after all others, and lets them strike what was gained from one place up to another
+/// too. On an error some of them are there.
 fn write(
     gains: &Gains,
     strikes: &mut Vec<Strike>,
     account: Account,
-    place: usize,
+    from: usize,
+    to: usize,
 ) -> Result<(), AllocError>
     requires gained { AreGains gains.now }
-    requires kept { IsKept gains.now place }
+    requires order { from ≤ to }
+    requires kept { (k : ℕ) → from ≤ k → k < to → IsKept gains.now k }
     requires first { account.first ≤ account.last }
     requires last { account.last ≤ length strikes.old.items }
-    ensures ok { OnOk result (IsWritten gains.now place strikes.old.items strikes.new.items account) }
+    ensures ok { OnOk result (IsWritten gains.now from to strikes.old.items strikes.new.items account) }
     ensures err { OnErr result (take (length strikes.old.items) strikes.new.items ≡ strikes.old.items) }
 {
     let first = strikes.len();
     copy_some(strikes, account.first, account.last, account.start)?;
+    for place in from..to {
+        strike_too(gains, strikes, first, place)?;
+    }
+    Ok(())
+}
+
+/// Lets the strikes from the first on strike what was gained at the place too: one that reaches up to it, or a new one. On an error they are
+/// as before.
+fn strike_too(
+    gains: &Gains,
+    strikes: &mut Vec<Strike>,
+    first: usize,
+    place: usize,
+) -> Result<(), AllocError>
+    requires gained { AreGains gains.now }
+    requires kept { IsKept gains.now place }
+    requires first { first ≤ length strikes.old.items }
+    ensures ok { OnOk result (StrikeToo gains.now place first strikes.old.items strikes.new.items) }
+    ensures err { OnErr result (strikes.new.items ≡ strikes.old.items) }
+{
     if !lengthen(gains, strikes, first, place) {
         strikes.push(Strike {
             message: gains.entry(place).message,

@@ -1,6 +1,7 @@
-use Rattle.std.proofs.Common.{◌≡◌, ◌+◌, ◌≤◌, ◌∙◌, sym, ap, refl, arith}
+use Rattle.std.proofs.Common.{◌≡◌, ◌+◌, ◌≤◌, ◌∙◌, sym, subst, ap, refl, arith}
 use Rattle.sip_ledger.specs.declared.debt.Entry.{Entry}
 use Rattle.sip_ledger.specs.Accounts.{worth_of}
+use Rattle.sip_ledger.specs.inner.Accounts.{IsKept}
 use Rattle.sip_ledger.proofs.places.LeftLemmas.{entries-long, left-kept, owed-left}
 use Rattle.sip_ledger.proofs.places.AccountLemmas.{owed-within}
 use Rattle.sip_ledger.proofs.places.WithoutLemmas.{without-first, without-last, without-middle}
@@ -42,7 +43,9 @@ returns-then-rest-eq1-clause-owed c =
     (c.worth.ensures ∙ ap (λ (e : Entry). worth_of e.message e.deadline) c.entry-entry.ensures) refl).1
 
 pub put-requires-clause-kept : goal.put-requires-clause-kept
-put-requires-clause-kept c = left-kept c.args.gains.now c.args.place c.requires.gained (owed-left c.args.gains.now c.args.strikes.now.items c.args.account c.args.place c.requires.owed)
+put-requires-clause-kept c = λ k low high.
+    let here : c.args.place ≡ k = omega (arith, low, high) in
+    subst (IsKept c.args.gains.now) here (left-kept c.args.gains.now c.args.place c.requires.gained (owed-left c.args.gains.now c.args.strikes.now.items c.args.account c.args.place c.requires.owed))
 
 pub returns-clause-account : goal.returns-clause-account
 returns-clause-account c =
@@ -54,8 +57,8 @@ returns-clause-owed c =
     (without-middle c.args.gains.now c.args.strikes.now.items c.put.new.strikes.items c.args.account c.in_ok-struck.struck c.args.place c.worth.result _ c.requires.account c.requires.owed
     c.if-place-account.false c.in_ok-struck.ensures.struck (c.worth.ensures ∙ ap (λ (e : Entry). worth_of e.message e.deadline) c.entry-entry.ensures) refl).1
 
-pub overflow_add-place : goal.overflow_add-place
-overflow_add-place c =
+pub overflow_add-after : goal.overflow_add-after
+overflow_add-after c =
     let within = owed-within c.args.gains.now c.args.strikes.now.items c.args.account c.args.place c.requires.owed in
     let end = c.requires.account.end in
     let count = entries-long c.args.gains.now c.requires.gained.long in

@@ -6,6 +6,8 @@ pub mod GainedLemmas
 pub mod LeftLemmas
 pub mod LetGoLemmas
 pub mod MovedLemmas
+pub mod PaidLemmas
+pub mod SeekLemmas
 pub mod SeenLemmas
 pub mod StrikeLemmas
 pub mod ToldLemmas

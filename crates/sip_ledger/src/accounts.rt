@@ -7,9 +7,11 @@ ghost use Rattle.sip_ledger.specs.Ledgers.{Rise};
 ghost use Rattle.sip_ledger.specs.Runs.{AreRuns};
 
 mod account;
+mod each;
 mod gains;
 mod left;
 mod moved;
+mod seek;
 mod strikes;
 
 use crate::accounts::account::{
@@ -18,6 +20,7 @@ use crate::accounts::account::{
 use crate::accounts::gains::Gains;
 use crate::accounts::left::{drop_front, let_go};
 use crate::accounts::moved::{held, move_all};
+use crate::accounts::seek::Seek;
 use crate::accounts::strikes::Strike;
 use crate::debt::Debt;
 use crate::run::{Run, runs_of};
@@ -133,7 +136,8 @@ impl Accounts {
         ensures err { OnErr result (self.new ≡ self.old) }
     {
         let account = self.rows[row];
-        if let Some(place) = find(&self.gains, &self.strikes, account, message, moment) {
+        let mut seek = Seek::new(&self.gains, message, account.start);
+        if let Some(place) = find(&self.gains, &self.strikes, account, &mut seek, message, moment) {
             self.rows[row] = without(&self.gains, &mut self.strikes, account, place)?;
             self.paid = Some(message);
         }
@@ -145,7 +149,9 @@ impl Accounts {
         requires { row < length self.now }
         ensures { result ≡ list_any (is_payable message moment) (owed_in self.now row) }
     {
-        find(&self.gains, &self.strikes, self.rows[row], message, moment).is_some()
+        let account = self.rows[row];
+        let mut seek = Seek::new(&self.gains, message, account.start);
+        find(&self.gains, &self.strikes, account, &mut seek, message, moment).is_some()
     }
 
     /// Drops what the row may send and whose deadline is below the moment. On an error all is as before.

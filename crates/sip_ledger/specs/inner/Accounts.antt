@@ -1,10 +1,11 @@
-use Rattle.std.specs.Prelude.{◌≡◌, ◌≢◌, ◌==◌, ◌&&◌, ◌||◌, ◌<◌, ◌≤◌, ◌+◌, ◌-◌, ◌^◌, ℕ, Bool, true, false, not, cond, List, [], ◌∷◌, ◌++◌, All, drop, get_or, length, map, nat_le, nat_lt, replicate, set, take}
+use Rattle.std.specs.Prelude.{◌≡◌, ◌≢◌, ◌==◌, ◌&&◌, ◌||◌, ◌<◌, ◌≤◌, ◌+◌, ◌-◌, ◌^◌, ℕ, Bool, true, false, not, cond, Option, IfSome, IfNone, List, [], ◌∷◌, ◌++◌, All, drop, get_or, length, map, nat_le, nat_lt, replicate, set, take}
 use Rattle.std.specs.List.{list_any}
 use Rattle.sip_ledger.specs.declared.debt.Debt.{Debt}
 use Rattle.sip_ledger.specs.declared.debt.Entry.{Entry}
 use Rattle.sip_ledger.specs.declared.accounts.account.Account.{Account}
 use Rattle.sip_ledger.specs.declared.accounts.gains.Flags.{Flags}
 use Rattle.sip_ledger.specs.declared.accounts.gains.Gains.{Gains}
+use Rattle.sip_ledger.specs.declared.accounts.seek.Seek.{Seek}
 use Rattle.sip_ledger.specs.declared.accounts.strikes.Strike.{Strike}
 use Rattle.sip_ledger.specs.Accounts.{debts_print}
 use Rattle.sip_ledger.specs.Ledgers.{from_to}
@@ -170,6 +171,17 @@ pub record Lengthens (gains : Gains) (place first : ℕ) (old new : List Strike)
   pub within : at < length old
   pub reaches : (s : Strike) → Reaches gains place (get_or old at s)
   pub longer : (s : Strike) → new ≡ set old at (record { message = (get_or old at s).message; from = (get_or old at s).from; to = place + 1 })
+
+-- the place is the first from one on at which the message is left, if there is one
+pub record IsNext (gains : Gains) (message from : ℕ) (place : Option ℕ) : Type 0 where
+  pub order : IfSome place (λ at. from ≤ at)
+  pub left : IfSome place (λ at. holds gains.messages message at ≡ true)
+  pub before : IfSome place (λ at. (k : ℕ) → from ≤ k → k < at → holds gains.messages message k ≡ false)
+  pub none : IfNone place ((k : ℕ) → from ≤ k → holds gains.messages message k ≡ false)
+
+-- what is remembered of the message's places is so
+abbrev pub IsSeek : Gains → ℕ → Seek → Type 0
+IsSeek gains message seek = IsNext gains message seek.low seek.place
 
 -- whether a send of the message at t pays the gain at a place
 abbrev pub pays_at : List Entry → ℕ → ℕ → ℕ → Bool

@@ -1,14 +1,15 @@
 //! What one row owes of what was gained.
 ghost use Rattle.std.specs.Prelude.{◌≡◌, ◌≢◌, ◌↔◌, ◌<◌, ◌≤◌, ◌*◌, ◌%◌, ◌^◌, ◌++◌, ◌∷◌, [], ℕ, ◌+◌, Bool, true, false, Some, IfOk, IfSome, IfNone, IsTrue, OnOk, OnErr, bit_xor, filter, length, option_to_list, take};
 ghost use Rattle.std.specs.Bool.{OnTrue};
-ghost use Rattle.sip_ledger.specs.Debts.{counts_at, debt_deadlines, earliest};
+ghost use Rattle.sip_ledger.specs.Debts.{counts_at, debt_deadlines, earliest, is_timely};
 ghost use Rattle.sip_ledger.specs.Accounts.{worth_of};
 ghost use Rattle.sip_ledger.specs.Rows.{debt_of};
 ghost use Rattle.sip_ledger.specs.declared.accounts.account.Account.{Account};
-ghost use Rattle.sip_ledger.specs.inner.Accounts.{AreAlike, AreGains, IsAccount, IsExpiredTo, IsFirstPayable, IsKept, IsNextGain, IsPlaceOf, IsStruck, IsWithout, KeepsAccounts, SharesRest, account_debts, entries_of, entry_at, is_gone, must_at, owes_at, pays_at, strikes_of};
+ghost use Rattle.sip_ledger.specs.inner.Accounts.{AreAlike, AreGains, IsAccount, IsExpiredTo, IsFirstPayable, IsKept, IsNextGain, IsPlaceOf, IsSeek, IsStruck, IsWithout, KeepsAccounts, SharesRest, account_debts, entries_of, entry_at, is_gone, must_at, owes_at, pays_at, strikes_of};
 ghost use Rattle.sip_ledger.specs.inner.Indexes.{holds};
 
 use crate::accounts::gains::Gains;
+use crate::accounts::seek::Seek;
 use crate::accounts::strikes::{Strike, are_same, end_by, put, struck_to};
 use crate::debt::Debt;
 use std::alloc::{AllocError, Global};
@@ -152,17 +153,20 @@ pub(crate) fn find(
     gains: &Gains,
     strikes: &[Strike],
     account: Account,
+    seek: &mut Seek,
     message: u32,
     moment: u64,
 ) -> Option<usize>
     requires gained { AreGains gains.now }
     requires account { IsAccount gains.now strikes.now account }
+    requires seek { IsSeek gains.now message seek.old }
+    ensures seek { IsSeek gains.now message seek.new }
     ensures found { IfSome result (IsFirstPayable (entries_of gains.now) (owes_at gains.now strikes.now account) message moment) }
     ensures none { IfNone result ((k : ℕ) → owes_at gains.now strikes.now account k ≡ true → pays_at (entries_of gains.now) message moment k ≡ false) }
 {
     let own = own(strikes, account);
     let mut from = account.start;
-    while let Some(place) = gains.next(message, from) {
+    while let Some(place) = seek.next(gains, message, from) {
         if account.end <= place {
             return None;
         }
@@ -181,12 +185,14 @@ pub(crate) fn find(
 
 /// Whether what was gained at the place must be sent.
 fn must(gains: &Gains, account: Account, place: usize) -> bool
+    requires gained { AreGains gains.now }
+    requires kept { IsKept gains.now place }
     ensures { result ≡ must_at gains.now account place }
 {
     if place < account.soft {
         return false;
     }
-    gains.musts.has(0, place as u64)
+    gains.flags(place).must
 }
 
 /// The account without what was gained at the place, if it owes and may send that and its deadline is below the moment.
@@ -299,7 +305,7 @@ fn takes(gains: &Gains, strikes: &[Strike], account: Account, debt: Debt, place:
     if gains.entry(place).deadline != debt.deadline {
         return false;
     }
-    if gains.musts.has(0, place as u64) != debt.must {
+    if gains.flags(place).must != debt.must {
         return false;
     }
     match struck_to(own(strikes, account), debt.message, place) {
@@ -386,6 +392,18 @@ pub(crate) fn earliest_must(gains: &Gains, strikes: &[Strike], account: Account)
         from = place + 1;
     }
     least
+}
+
+/// Whether nothing that the account must send is past at the moment.
+pub(crate) fn is_timely(gains: &Gains, strikes: &[Strike], account: Account, moment: u64) -> bool
+    requires gained { AreGains gains.now }
+    requires account { IsAccount gains.now strikes.now account }
+    ensures { result ≡ is_timely moment (account_debts gains.now strikes.now account) }
+{
+    match earliest_must(gains, strikes, account) {
+        Some(deadline) => moment <= deadline,
+        None => true,
+    }
 }
 
 /// The earlier of a moment and another one, if there is one.

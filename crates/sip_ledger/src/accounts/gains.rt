@@ -85,6 +85,23 @@ impl Gains {
         self.flags(place).left
     }
 
+    /// Whether a gain of the message is left at the place.
+    pub(crate) fn has(&self, message: u32, place: usize) -> bool
+        requires { AreGains self.now }
+        ensures { result ≡ holds self.now.messages message place }
+    {
+        if place < self.first() {
+            return false;
+        }
+        if self.end <= place {
+            return false;
+        }
+        if self.entry(place).message != message {
+            return false;
+        }
+        self.is_left(place)
+    }
+
     /// Puts a gain after the others. On an error they are as before.
     pub(crate) fn push(&mut self, debt: Debt) -> Result<(), AllocError>
         requires { AreGains self.old }

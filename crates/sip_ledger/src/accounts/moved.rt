@@ -78,12 +78,16 @@ fn append_some(
     Ok(())
 }
 
-/// Whether the strike strikes something that is left from the place on.
+/// Whether the strike strikes something that is left from the place on. Its last place is looked at before the index is asked.
 fn strikes_some(gains: &Gains, strike: Strike, place: usize) -> bool
     requires { AreGains gains.now }
     ensures { OnFalse result (StrikesNoneFrom gains.now place strike) }
 {
-    match gains.next(strike.message, strike.from.max(place)) {
+    let from = strike.from.max(place);
+    if from < strike.to && gains.has(strike.message, strike.to - 1) {
+        return true;
+    }
+    match gains.next(strike.message, from) {
         Some(at) => at < strike.to,
         None => false,
     }

@@ -1,4 +1,5 @@
-use Rattle.std.proofs.Common.{◌∙◌}
+use Rattle.std.proofs.Common.{ap, ◌∙◌}
+use Rattle.sip_ledger.specs.declared.accounts.gains.Flags.{Flags}
 use Rattle.sip_ledger.proofs.places.AccountLemmas.{must-below, must-from}
 use Rattle.sip_ledger.proofs.accounts.account.must.Goals as goal
 
@@ -6,4 +7,6 @@ pub returns-then-place-account : goal.returns-then-place-account
 returns-then-place-account c = must-below c.args.gains.now c.args.account c.args.place c.if-place-account.true
 
 pub returns : goal.returns
-returns c = c.has.ensures ∙ must-from c.args.gains.now c.args.account c.args.place c.if-place-account.false
+returns c =
+    ap (λ (f : Flags). f.must) c.flags.ensures ∙ c.requires.gained.flags.must c.args.place c.requires.kept
+    ∙ must-from c.args.gains.now c.args.account c.args.place c.if-place-account.false

@@ -1,0 +1,105 @@
+//! What is done to many rows at once.
+ghost use Rattle.std.specs.Prelude.{◌≡◌, ◌≤◌, ◌++◌, ◌∷◌, [], IfOk, IfSome, OnOk, OnErr, length, map, option_to_list, take};
+ghost use Rattle.sip_ledger.specs.Accounts.{paid_rows};
+ghost use Rattle.sip_ledger.specs.Ledgers.{from_to};
+ghost use Rattle.sip_ledger.specs.inner.Accounts.{AreAccounts, AreGains, IsAccount, IsSeek, account_debts, accounts_debts};
+
+use crate::accounts::Accounts;
+use crate::accounts::account::{Account, expired, find, is_timely, without};
+use crate::accounts::gains::Gains;
+use crate::accounts::seek::Seek;
+use crate::accounts::strikes::Strike;
+use std::alloc::AllocError;
+
+impl Accounts {
+    /// Puts rows after the others: of each row from one up to another that has a debt that a send of the message at the moment pays, and
+    /// that must send nothing that is past then, one that owes the rest, without what is past. On an error all is as before.
+    pub fn push_paid(
+        &mut self,
+        from: usize,
+        to: usize,
+        message: u32,
+        moment: u64,
+    ) -> Result<(), AllocError>
+        requires { to ≤ length self.old }
+        ensures ok { OnOk result (self.new ≡ self.old ++ paid_rows message moment (from_to from to self.old)) }
+        ensures err { OnErr result (self.new ≡ self.old) }
+    {
+        let before = self.rows.len();
+        self.paid = Some(message);
+        if push_some(&self.gains, &mut self.strikes, &mut self.rows, from, to, message, moment).is_err() {
+            self.rows.truncate(before);
+            return Err(AllocError);
+        }
+        Ok(())
+    }
+}
+
+/// Puts what is left of the accounts from one up to another after the others, of those that a send of the message at the moment pays. On an
+/// error some of them are there.
+fn push_some(
+    gains: &Gains,
+    strikes: &mut Vec<Strike>,
+    rows: &mut Vec<Account>,
+    from: usize,
+    to: usize,
+    message: u32,
+    moment: u64,
+) -> Result<(), AllocError>
+    requires accounts { AreAccounts gains.now strikes.old.items rows.old.items }
+    requires to { to ≤ length rows.old.items }
+    ensures accounts { AreAccounts gains.now strikes.new.items rows.new.items }
+    ensures ok { OnOk result (accounts_debts gains.now strikes.new.items rows.new.items ≡ accounts_debts gains.now strikes.old.items rows.old.items
+        ++ paid_rows message moment (from_to from to (accounts_debts gains.now strikes.old.items rows.old.items))) }
+    ensures err { OnErr result (take (length rows.old.items) (accounts_debts gains.now strikes.new.items rows.new.items) ≡ accounts_debts gains.now strikes.old.items rows.old.items) }
+{
+    let mut seek = Seek::new(gains, message, 0);
+    for row in from..to {
+        let left = paid(gains, strikes, rows[row], &mut seek, message, moment)?;
+        push_left(rows, left)?;
+    }
+    Ok(())
+}
+
+/// Puts the account after the others, if there is one.
+fn push_left(rows: &mut Vec<Account>, left: Option<Account>) -> Result<(), AllocError>
+    ensures ok { OnOk result (rows.new.items ≡ rows.old.items ++ option_to_list left) }
+    ensures err { OnErr result (rows.new.items ≡ rows.old.items) }
+{
+    if let Some(account) = left {
+        rows.push(account)?;
+    }
+    Ok(())
+}
+
+/// The account without the first debt that a send of the message at the moment pays and without what is past then, if it has such a debt and
+/// must send nothing that is past. The strikes that were there stay.
+fn paid(
+    gains: &Gains,
+    strikes: &mut Vec<Strike>,
+    account: Account,
+    seek: &mut Seek,
+    message: u32,
+    moment: u64,
+) -> Result<Option<Account>, AllocError>
+    requires gained { AreGains gains.now }
+    requires account { IsAccount gains.now strikes.old.items account }
+    requires seek { IsSeek gains.now message seek.old }
+    ensures kept { take (length strikes.old.items) strikes.new.items ≡ strikes.old.items }
+    ensures seek { IsSeek gains.now message seek.new }
+    ensures account { IfOk result (λ left. IfSome left (IsAccount gains.now strikes.new.items)) }
+    ensures debts { IfOk result (λ left. map (account_debts gains.now strikes.new.items) (option_to_list left)
+        ≡ paid_rows message moment (account_debts gains.now strikes.old.items account ∷ [])) }
+{
+    if !is_timely(gains, strikes, account, moment) {
+        return Ok(None);
+    }
+    match find(gains, strikes, account, seek, message, moment) {
+        Some(place) => {
+            let rest = without(gains, strikes, account, place)?;
+            let left = expired(gains, strikes, rest, moment)?;
+            Ok(Some(left))
+        }
+        None => Ok(None),
+    }
+}

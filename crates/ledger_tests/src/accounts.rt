@@ -77,6 +77,72 @@ impl Played {
         Ok(())
     }
 
+    /// Of the rows from one up to another, those that pay come once more, without what they pay and what is past.
+    fn push_paid(
+        &mut self,
+        rt: &impl Abort,
+        from: usize,
+        to: usize,
+        message: u32,
+        moment: u64,
+    ) -> Result<(), Fail> {
+        assert!(rt; to <= self.accounts.len());
+        self.accounts.push_paid(from, to, message, moment)?;
+        for row in from..to {
+            assert!(rt; row < self.lists.len());
+            let mut left = self.lists[row].clone()?;
+            let first = left
+                .iter()
+                .position(|debt| debt.message == message && moment <= debt.deadline);
+            if let Some(first) = first
+                && is_timely(&left, moment)
+            {
+                left.remove(first);
+                left.retain(|debt| debt.must || moment <= debt.deadline);
+                self.lists.push(left)?;
+            }
+        }
+        Ok(())
+    }
+
+    /// Of the rows from one up to another, those come once more that must send nothing that is past.
+    fn push_timely(
+        &mut self,
+        rt: &impl Abort,
+        from: usize,
+        to: usize,
+        moment: u64,
+    ) -> Result<(), Fail> {
+        assert!(rt; to <= self.accounts.len());
+        self.accounts.push_timely(from, to, moment)?;
+        for row in from..to {
+            assert!(rt; row < self.lists.len());
+            if is_timely(&self.lists[row], moment) {
+                let copy = self.lists[row].clone()?;
+                self.lists.push(copy)?;
+            }
+        }
+        Ok(())
+    }
+
+    /// The rows from one on gain.
+    fn gain_each(&mut self, from: usize, debt: Debt) -> Result<(), Fail> {
+        self.accounts.gain_each(from, debt)?;
+        for list in self.lists.iter_mut().skip(from) {
+            list.push(debt)?;
+        }
+        Ok(())
+    }
+
+    /// The rows from one on lose what is past.
+    fn expire_each(&mut self, from: usize, moment: u64) -> Result<(), Fail> {
+        self.accounts.expire_each(from, moment)?;
+        for list in self.lists.iter_mut().skip(from) {
+            list.retain(|debt| debt.must || moment <= debt.deadline);
+        }
+        Ok(())
+    }
+
     fn expire(&mut self, rt: &impl Abort, row: usize, moment: u64) -> Result<(), Fail> {
         assert!(rt; row < self.accounts.len());
         assert!(rt; row < self.lists.len());
@@ -189,6 +255,11 @@ fn earliest_must(list: &[Debt]) -> Option<u64> {
     least
 }
 
+/// Whether nothing that must be sent is past at the moment.
+fn is_timely(list: &[Debt], moment: u64) -> bool {
+    earliest_must(list).is_none_or(|deadline| moment <= deadline)
+}
+
 /// Some rows gain, each one of three messages.
 fn gain_some(
     rt: &impl Abort,
@@ -239,6 +310,35 @@ fn change_rows(
     }
 }
 
+/// Many rows change at once.
+fn change_many(
+    rt: &impl Abort,
+    chance: &mut Chance,
+    played: &mut Played,
+    moment: u64,
+) -> Result<(), Fail> {
+    let from = played.row(rt, chance);
+    let to = played.row(rt, chance);
+    let message = u32::try_from(chance.below(3)).unwrap_or(0);
+    match chance.below(6) {
+        0 if played.lists.len() < 12 => played.push_timely(rt, from, to, moment),
+        1 => played.expire_each(from, moment),
+        2 => {
+            let debt = Debt {
+                message,
+                deadline: moment.saturating_add(5),
+                must: chance.below(2) == 0,
+            };
+            played.gain_each(from, debt)
+        }
+        _ if played.lists.len() < 12 => played.push_paid(rt, from, to, message, moment),
+        _ => {
+            played.truncate();
+            Ok(())
+        }
+    }
+}
+
 /// So many steps from this number on. Deadlines rise, or do not.
 fn play(rt: &(impl Abort + AllocGlobal), seed: u64, steps: u64, rises: bool) -> Result<(), Fail> {
     let mut chance = Chance::new(seed);
@@ -247,7 +347,7 @@ fn play(rt: &(impl Abort + AllocGlobal), seed: u64, steps: u64, rises: bool) -> 
     for _ in 0..steps {
         let row = played.row(rt, &mut chance);
         let moment = if rises { now } else { chance.below(40) };
-        match chance.below(20) {
+        match chance.below(22) {
             0 => played.soften(rt, row),
             1 => now = now.saturating_add(chance.below(3)),
             2 | 3 => played.expire(rt, row, moment)?,
@@ -256,6 +356,7 @@ fn play(rt: &(impl Abort + AllocGlobal), seed: u64, steps: u64, rises: bool) -> 
                 played.pay(rt, row, message, moment)?;
             }
             11..15 => change_rows(rt, &mut chance, &mut played)?,
+            15..17 => change_many(rt, &mut chance, &mut played, moment)?,
             _ => {
                 let deadline = if rises {
                     now.saturating_add(5)

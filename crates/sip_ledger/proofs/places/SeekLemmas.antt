@@ -1,14 +1,9 @@
 -- Where a message is left.
-use Rattle.std.proofs.Common.{◌≡◌, ◌<◌, ◌≤◌, ℕ, true, false, sym, arith}
+use Rattle.std.proofs.Common.{◌≡◌, ◌<◌, ◌≤◌, ℕ, true, false, arith}
 use Rattle.std.specs.Prelude.{Option, Some, None, IfSome}
-use Rattle.std.proofs.lemmas.Bool.{false_from_ne_true}
 use Rattle.sip_ledger.specs.declared.accounts.gains.Gains.{Gains}
-use Rattle.sip_ledger.specs.inner.Accounts.{AreGains, IsKept, IsNext}
+use Rattle.sip_ledger.specs.inner.Accounts.{IsNext}
 use Rattle.sip_ledger.specs.inner.Indexes.{holds}
-
--- what is not kept is not left
-pub not-kept : (gains : Gains) (m k : ℕ) → AreGains gains → ¬ (IsKept gains k) → false ≡ holds gains.messages m k
-not-kept gains m k are not = sym (false_from_ne_true (holds gains.messages m k) (λ is. not (are.messages m k is).kept))
 
 -- the first place from one on is that from a later one on too, if it does not lie before that
 pub next-later : (gains : Gains) (message low from : ℕ) (place : Option ℕ) → IsNext gains message low place → low ≤ from → IfSome place (λ at. from ≤ at) →

@@ -1,6 +1,7 @@
 //! What is done to many rows at once.
-ghost use Rattle.std.specs.Prelude.{◌≡◌, ◌≤◌, ◌++◌, ◌∷◌, [], IfOk, IfSome, OnOk, OnErr, length, map, option_to_list, take};
-ghost use Rattle.sip_ledger.specs.Accounts.{paid_rows};
+ghost use Rattle.std.specs.Prelude.{◌≡◌, ◌<◌, ◌≤◌, ◌++◌, ◌∷◌, [], IfOk, IfSome, OnOk, OnErr, drop, filter, length, map, option_to_list, take};
+ghost use Rattle.sip_ledger.specs.Accounts.{owed_in, paid_rows};
+ghost use Rattle.sip_ledger.specs.Debts.{counts_at, is_timely};
 ghost use Rattle.sip_ledger.specs.Ledgers.{from_to};
 ghost use Rattle.sip_ledger.specs.inner.Accounts.{AreAccounts, AreGains, IsAccount, IsSeek, account_debts, accounts_debts};
 
@@ -9,9 +10,67 @@ use crate::accounts::account::{Account, expired, find, is_timely, without};
 use crate::accounts::gains::Gains;
 use crate::accounts::seek::Seek;
 use crate::accounts::strikes::Strike;
+use crate::debt::Debt;
 use std::alloc::AllocError;
 
 impl Accounts {
+    /// Whether nothing that the row must send is past at the moment.
+    pub fn is_timely(&self, row: usize, moment: u64) -> bool
+        requires { row < length self.now }
+        ensures { result ≡ is_timely moment (owed_in self.now row) }
+    {
+        match self.earliest_must(row) {
+            Some(deadline) => moment <= deadline,
+            None => true,
+        }
+    }
+
+    /// Puts a copy of each row from one up to another after the others, but of those that must send something that is past at the
+    /// moment. On an error all is as before.
+    pub fn push_timely(&mut self, from: usize, to: usize, moment: u64) -> Result<(), AllocError>
+        requires { to ≤ length self.old }
+        ensures ok { OnOk result (self.new ≡ self.old ++ filter (is_timely moment) (from_to from to self.old)) }
+        ensures err { OnErr result (self.new ≡ self.old) }
+    {
+        let before = self.len();
+        for row in from..to {
+            if self.is_timely(row, moment) && self.push_copy(row).is_err() {
+                self.truncate(before);
+                return Err(AllocError);
+            }
+        }
+        Ok(())
+    }
+
+    /// Lets each row from one on owe one more debt, after its others. On an error they are gone, and the rows before them are left.
+    pub fn gain_each(&mut self, from: usize, debt: Debt) -> Result<(), AllocError>
+        ensures ok { OnOk result (self.new ≡ take from self.old ++ map (λ owes. owes ++ debt ∷ []) (drop from self.old)) }
+        ensures err { OnErr result (self.new ≡ take from self.old) }
+    {
+        for row in from..self.len() {
+            if self.gain(row, debt).is_err() {
+                self.truncate(from);
+                return Err(AllocError);
+            }
+        }
+        Ok(())
+    }
+
+    /// Drops what each row from one on may send and whose deadline is below the moment. On an error they are gone, and the rows before them
+    /// are left.
+    pub fn expire_each(&mut self, from: usize, moment: u64) -> Result<(), AllocError>
+        ensures ok { OnOk result (self.new ≡ take from self.old ++ map (filter (counts_at moment)) (drop from self.old)) }
+        ensures err { OnErr result (self.new ≡ take from self.old) }
+    {
+        for row in from..self.len() {
+            if self.expire(row, moment).is_err() {
+                self.truncate(from);
+                return Err(AllocError);
+            }
+        }
+        Ok(())
+    }
+
     /// Puts rows after the others: of each row from one up to another that has a debt that a send of the message at the moment pays, and
     /// that must send nothing that is past then, one that owes the rest, without what is past. On an error all is as before.
     pub fn push_paid(

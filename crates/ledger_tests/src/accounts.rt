@@ -94,12 +94,13 @@ impl Played {
             let first = left
                 .iter()
                 .position(|debt| debt.message == message && moment <= debt.deadline);
-            if let Some(first) = first
-                && is_timely(&left, moment)
-            {
+            let timely = is_timely(&left, moment);
+            if let Some(first) = first {
                 left.remove(first);
                 left.retain(|debt| debt.must || moment <= debt.deadline);
-                self.lists.push(left)?;
+                if timely {
+                    self.lists.push(left)?;
+                }
             }
         }
         Ok(())

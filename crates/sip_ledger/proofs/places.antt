@@ -2,6 +2,7 @@ pub mod AccountLemmas
 pub mod ExpiringLemmas
 pub mod FindLemmas
 pub mod FlagLemmas
+pub mod GainEachLemmas
 pub mod GainedLemmas
 pub mod LeftLemmas
 pub mod LetGoLemmas

@@ -38,10 +38,10 @@ pub gained-account : (gains : Gains) (old new : List Strike) (a b : Account) (de
 unfolding account_debts must_at
 gained-account gains old new a b debt place is next here others soft low end first last bound begins print =
     let entries = (entries_of gains) in
-    let inside = next.within in
+    let inside = next.gain.within in
     let entry = entry_at entries place in
-    let due : must_at gains b place ≡ debt.must = ap₂ (λ x y. x && y) next.must (le-yes b.soft place (omega (arith, soft, next.soft))) ∙ and-true debt.must in
-    let same : debt_of entry (must_at gains b place) ≡ debt = debt-is entry debt (must_at gains b place) next.message next.deadline due in
+    let due : must_at gains b place ≡ debt.must = ap₂ (λ x y. x && y) next.gain.must (le-yes b.soft place (omega (arith, soft, next.soft))) ∙ and-true debt.must in
+    let same : debt_of entry (must_at gains b place) ≡ debt = debt-is entry debt (must_at gains b place) next.gain.message next.gain.deadline due in
     let debts : account_debts gains new b ≡ account_debts gains old a ++ debt ∷ [] =
     gained-debts entries (owes_at gains old a) (must_at gains a) (owes_at gains new b) (must_at gains b) place inside
     (λ k past. past-end gains old a k (omega (arith, past, next.end))) here others
@@ -82,7 +82,7 @@ first-gain gains old new a b debt place is next none same print =
     let last : b.last ≡ 0 = ap (λ (x : Account). x.last) same in
     let entries = (entries_of gains) in
     let own : strikes_of new b ≡ [] = ap₂ (λ f l. drop f (take l new)) first last in
-    let left : is_left gains place ≡ true = sym (held-left gains debt.message place next.message) ∙ next.left in
+    let left : is_left gains place ≡ true = sym (held-left gains debt.message place next.gain.message) ∙ next.gain.left in
     let here : owes_at gains new b place ≡ true =
     ap₂ (λ x y. x && (y && not (is_gone gains (strikes_of new b) place))) (le-yes b.start place (omega (arith, start))) (lt-yes place b.end (omega (arith, end)))
     ∙ ap (λ l. not (is_gone gains l place)) own ∙ ap not (gone-left gains [] place left) in
@@ -160,16 +160,16 @@ more-gain gains old new a p b debt place is next some passed same print =
     let last : b.last ≡ p.last = ap (λ (x : Account). x.last) same in
     let own : strikes_of new b ≡ strikes_of new p = ap₂ (λ f l. drop f (take l new)) first last in
     let m = λ (k : ℕ). (entry_at entries k).message in
-    let left : is_left gains place ≡ true = sym (held-left gains debt.message place next.message) ∙ next.left in
+    let left : is_left gains place ≡ true = sym (held-left gains debt.message place next.gain.message) ∙ next.gain.left in
     let struck = λ (k : ℕ) (from : a.start ≤ k) (left : is_left gains k ≡ true). ap (λ l. is_struck l (m k) k) own ∙ passed.struck k from left in
     let free : is_struck (strikes_of new b) (m place) place ≡ false =
     struck place (omega (arith, order, low)) left
-    ∙ ap₂ (λ x y. x || (nat_le a.end place && y)) (ap (λ n. is_struck (strikes_of old a) n place) next.message ∙ next.free) (lt-no place place (omega arith))
+    ∙ ap₂ (λ x y. x || (nat_le a.end place && y)) (ap (λ n. is_struck (strikes_of old a) n place) next.gain.message ∙ next.free) (lt-no place place (omega arith))
     ∙ and-no (nat_le a.end place) in
     let here : owes_at gains new b place ≡ true =
     ap₂ (λ x y. x && (y && not (is_gone gains (strikes_of new b) place))) (le-yes b.start place (omega (arith, start, order, low))) (lt-yes place b.end (omega (arith, end)))
     ∙ ap not (gone-left gains (strikes_of new b) place left ∙ free) in
-    let others = λ (k : ℕ) (other : k ≢ place). passed-others gains old new a p b place k passed within low next.within start end own other in
+    let others = λ (k : ℕ) (other : k ≢ place). passed-others gains old new a p b place k passed within low next.gain.within start end own other in
     gained-account gains old new a b debt place is next here others
     soft (omega (arith, start, order, low)) end (subst (λ n. n ≤ b.last) (sym first) (subst (λ n. p.first ≤ n) (sym last) passed.first)) (subst (λ n. n ≤ length new) (sym last) passed.last)
     (λ m k past. ap (λ l. is_struck l m k) own ∙ passed.bound m k past (is.bound m k past))
@@ -190,11 +190,13 @@ new-gain old new strikes a debt gain is =
     let longer : length (entries_of new) ≡ length entries + 1 = ap length gain.entries ∙ length-append entries (entry ∷ []) in
     let here : entry_at (entries_of new) (length entries) ≡ entry = ap (λ l. get_or l (length entries) none) gain.entries ∙ get_or_push entries entry none (length entries) refl in
     record {
-      within = omega (arith, longer);
-      left = gain.message;
-      message = ap (λ (e : Entry). e.message) here;
-      deadline = ap (λ (e : Entry). e.deadline) here;
-      must = gain.must;
+      gain = record {
+        within = omega (arith, longer);
+        left = gain.message;
+        message = ap (λ (e : Entry). e.message) here;
+        deadline = ap (λ (e : Entry). e.deadline) here;
+        must = gain.must;
+      };
       end = is.end;
       soft = is.soft;
       free = is.bound debt.message (length entries) (omega arith);

@@ -219,13 +219,17 @@ pub record IsStruck (gains : Gains) (from to : ℕ) (old new : List Strike) (a b
       ≡ (is_struck (strikes_of old a) (entry_at (entries_of gains) k).message k || (nat_le from k && nat_lt k to))
   pub bound : (m k : ℕ) → length (entries_of gains) ≤ k → is_struck (strikes_of old a) m k ≡ false → is_struck (strikes_of new b) m k ≡ false
 
--- what was gained at the place is the debt, and the account may owe it after all that it owes
-pub record IsNextGain (gains : Gains) (strikes : List Strike) (account : Account) (debt : Debt) (place : ℕ) : Type 0 where
+-- what was gained at the place is the debt
+pub record IsGainAt (gains : Gains) (debt : Debt) (place : ℕ) : Type 0 where
   pub within : place < length (entries_of gains)
   pub left : holds gains.messages debt.message place ≡ true
   pub message : (entry_at (entries_of gains) place).message ≡ debt.message
   pub deadline : (entry_at (entries_of gains) place).deadline ≡ debt.deadline
   pub must : holds gains.musts 0 place ≡ debt.must
+
+-- the account may owe it after all that it owes
+pub record IsNextGain (gains : Gains) (strikes : List Strike) (account : Account) (debt : Debt) (place : ℕ) : Type 0 where
+  pub gain : IsGainAt gains debt place
   pub end : account.end ≤ place
   pub soft : account.soft ≤ place
   pub free : is_struck (strikes_of strikes account) debt.message place ≡ false

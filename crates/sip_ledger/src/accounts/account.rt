@@ -5,7 +5,7 @@ ghost use Rattle.sip_ledger.specs.Debts.{counts_at, debt_deadlines, earliest, is
 ghost use Rattle.sip_ledger.specs.Accounts.{worth_of};
 ghost use Rattle.sip_ledger.specs.Rows.{debt_of};
 ghost use Rattle.sip_ledger.specs.declared.accounts.account.Account.{Account};
-ghost use Rattle.sip_ledger.specs.inner.Accounts.{AreAlike, AreGains, IsAccount, IsExpiredTo, IsFirstPayable, IsKept, IsNextGain, IsPlaceOf, IsSeek, IsStruck, IsWithout, KeepsAccounts, SharesRest, account_debts, entries_of, entry_at, is_gone, must_at, owes_at, pays_at, strikes_of};
+ghost use Rattle.sip_ledger.specs.inner.Accounts.{AreAlike, AreGains, IsAccount, IsExpiredTo, IsFirstPayable, IsGainAt, IsKept, IsNextGain, IsPlaceOf, IsSeek, IsStruck, IsWithout, KeepsAccounts, SharesRest, account_debts, entries_of, entry_at, is_gone, is_struck, must_at, owes_at, pays_at, strikes_of};
 ghost use Rattle.sip_ledger.specs.inner.Indexes.{holds};
 
 use crate::accounts::gains::Gains;
@@ -274,6 +274,46 @@ pub(crate) fn place_for(
     let place = gains.end;
     gains.push(debt)?;
     Ok(place)
+}
+
+/// The same. The place is looked at first at which another account gained the debt, if there is one.
+pub(crate) fn place_near(
+    gains: &mut Gains,
+    strikes: &[Strike],
+    account: Account,
+    debt: Debt,
+    near: Option<usize>,
+) -> Result<usize, AllocError>
+    requires gained { AreGains gains.old }
+    requires account { IsAccount gains.old strikes.now account }
+    requires near { IfSome near (IsGainAt gains.old debt) }
+    ensures gained { AreGains gains.new }
+    ensures kept { KeepsAccounts gains.old gains.new }
+    ensures next { IfOk result (IsNextGain gains.new strikes.now account debt) }
+{
+    if let Some(place) = near {
+        if fits(strikes, account, debt.message, place) {
+            return Ok(place);
+        }
+    }
+    place_for(gains, strikes, account, debt)
+}
+
+/// Whether the account ends before the place, and nothing of it is struck there.
+fn fits(strikes: &[Strike], account: Account, message: u32, place: usize) -> bool
+    requires first { account.first ≤ account.last }
+    requires last { account.last ≤ length strikes.now }
+    ensures end { OnTrue result (account.end ≤ place) }
+    ensures soft { OnTrue result (account.soft ≤ place) }
+    ensures free { OnTrue result (is_struck (strikes_of strikes.now account) message place ≡ false) }
+{
+    if place < account.end || place < account.soft {
+        return false;
+    }
+    match struck_to(own(strikes, account), message, place) {
+        Some(_) => false,
+        None => true,
+    }
 }
 
 /// The first place from the account's end on at which the debt was gained already, if the account can gain it there.

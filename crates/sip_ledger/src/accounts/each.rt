@@ -6,7 +6,9 @@ ghost use Rattle.sip_ledger.specs.Ledgers.{from_to};
 ghost use Rattle.sip_ledger.specs.inner.Accounts.{AreAccounts, AreGains, IsAccount, IsSeek, account_debts, accounts_debts};
 
 use crate::accounts::Accounts;
-use crate::accounts::account::{Account, expired, find, is_timely, without};
+use crate::accounts::account::{
+    Account, expired, find, gained, is_timely, place_near, without,
+};
 use crate::accounts::gains::Gains;
 use crate::accounts::seek::Seek;
 use crate::accounts::strikes::Strike;
@@ -47,11 +49,9 @@ impl Accounts {
         ensures ok { OnOk result (self.new ≡ take from self.old ++ map (λ owes. owes ++ debt ∷ []) (drop from self.old)) }
         ensures err { OnErr result (self.new ≡ take from self.old) }
     {
-        for row in from..self.len() {
-            if self.gain(row, debt).is_err() {
-                self.truncate(from);
-                return Err(AllocError);
-            }
+        if gain_some(&mut self.gains, &mut self.strikes, &mut self.rows, from, debt).is_err() {
+            self.truncate(from);
+            return Err(AllocError);
         }
         Ok(())
     }
@@ -62,6 +62,9 @@ impl Accounts {
         ensures ok { OnOk result (self.new ≡ take from self.old ++ map (filter (counts_at moment)) (drop from self.old)) }
         ensures err { OnErr result (self.new ≡ take from self.old) }
     {
+        if self.gains.all_count(moment) {
+            return Ok(());
+        }
         for row in from..self.len() {
             if self.expire(row, moment).is_err() {
                 self.truncate(from);
@@ -92,6 +95,31 @@ impl Accounts {
         }
         Ok(())
     }
+}
+
+/// Lets each account from one on owe one more debt, after its others. On an error some of them may owe it.
+fn gain_some(
+    gains: &mut Gains,
+    strikes: &mut Vec<Strike>,
+    rows: &mut Vec<Account>,
+    from: usize,
+    debt: Debt,
+) -> Result<(), AllocError>
+    requires { AreAccounts gains.old strikes.old.items rows.old.items }
+    ensures accounts { AreAccounts gains.new strikes.new.items rows.new.items }
+    ensures ok { OnOk result (accounts_debts gains.new strikes.new.items rows.new.items
+        ≡ take from (accounts_debts gains.old strikes.old.items rows.old.items)
+            ++ map (λ owes. owes ++ debt ∷ []) (drop from (accounts_debts gains.old strikes.old.items rows.old.items))) }
+    ensures err { OnErr result (take from (accounts_debts gains.new strikes.new.items rows.new.items)
+        ≡ take from (accounts_debts gains.old strikes.old.items rows.old.items)) }
+{
+    let mut near = None;
+    for row in from..rows.len() {
+        let place = place_near(gains, strikes, rows[row], debt, near)?;
+        rows[row] = gained(gains, strikes, rows[row], debt, place)?;
+        near = Some(place);
+    }
+    Ok(())
 }
 
 /// Puts what is left of the accounts from one up to another after the others, of those that a send of the message at the moment pays. On an

@@ -1,5 +1,6 @@
 //! What the rows gained: one list for all.
 ghost use Rattle.std.specs.Prelude.{◌≡◌, ◌<◌, ◌≤◌, ◌+◌, ◌==◌, ◌&&◌, ◌++◌, ◌∷◌, ℕ, [], IfSome, IfNone, OnOk, OnErr, cond, drop, length, true, false};
+ghost use Rattle.std.specs.Bool.{OnTrue};
 ghost use Rattle.sip_ledger.specs.inner.Accounts.{AreGains, AreSameGains, IsDropped, IsGain, IsKept, IsLetGo, IsNoted, IsPlaceOf, entries_of, entry_at, flags_at, is_left};
 ghost use Rattle.sip_ledger.specs.inner.Indexes.{holds};
 ghost use Rattle.sip_ledger.specs.inner.Places.{AreRising};
@@ -100,6 +101,20 @@ impl Gains {
             return false;
         }
         self.is_left(place)
+    }
+
+    /// Whether it is known that no deadline of what is kept is below the moment.
+    pub(crate) fn all_count(&self, moment: u64) -> bool
+        requires { AreGains self.now }
+        ensures { OnTrue result ((k : ℕ) → IsKept self.now k → moment ≤ (entry_at (entries_of self.now) k).deadline) }
+    {
+        if self.entries.is_empty() {
+            return true;
+        }
+        if self.entry(self.first()).deadline < moment {
+            return false;
+        }
+        self.rises
     }
 
     /// Puts a gain after the others. On an error they are as before.

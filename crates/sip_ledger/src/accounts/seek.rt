@@ -1,5 +1,5 @@
 //! Where a message is left, for many rows one after another.
-ghost use Rattle.std.specs.Prelude.{◌≡◌, ◌≤◌, ◌×◌, IfSome};
+ghost use Rattle.std.specs.Prelude.{◌≡◌, ◌≤◌, IfSome};
 ghost use Rattle.std.specs.Bool.{OnTrue};
 ghost use Rattle.sip_ledger.specs.inner.Accounts.{AreGains, IsNext, IsSeek};
 

@@ -10,11 +10,13 @@ returns-in-None c =
     let within = c.requires.place.kept.within in
     let same : c.flags.result.must ≡ c.args.debt.must = search rules in
     record {
-      within = omega (arith, within, entries-long c.args.gains.now c.requires.gained.long);
-      left = c.requires.left;
-      message = c.requires.place.message;
-      deadline = ap (λ (e : Entry). e.deadline) (sym c.entry.ensures) ∙ c.if-entry-debt.false;
-      must = sym (c.requires.gained.flags.must c.args.place c.requires.place.kept) ∙ sym (ap (λ (f : Flags). f.must) c.flags.ensures) ∙ same;
+      gain = record {
+        within = omega (arith, within, entries-long c.args.gains.now c.requires.gained.long);
+        left = c.requires.left;
+        message = c.requires.place.message;
+        deadline = ap (λ (e : Entry). e.deadline) (sym c.entry.ensures) ∙ c.if-entry-debt.false;
+        must = sym (c.requires.gained.flags.must c.args.place c.requires.place.kept) ∙ sym (ap (λ (f : Flags). f.must) c.flags.ensures) ∙ same;
+      };
       end = c.requires.end;
       soft = c.requires.soft;
       free = rw c.own.ensures at c.in-None.ensures.none;

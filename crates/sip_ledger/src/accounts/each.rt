@@ -115,8 +115,10 @@ fn gain_some(
 {
     let mut near = None;
     for row in from..rows.len() {
-        let place = place_near(gains, strikes, rows[row], debt, near)?;
-        rows[row] = gained(gains, strikes, rows[row], debt, place)?;
+        let account = rows[row];
+        let place = place_near(gains, strikes, account, debt, near)?;
+        let grown = gained(gains, strikes, account, debt, place)?;
+        rows[row] = grown;
         near = Some(place);
     }
     Ok(())

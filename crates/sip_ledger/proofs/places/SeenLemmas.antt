@@ -1,8 +1,8 @@
 -- Accounts as contracts see them: a list of what each row owes.
 use Rattle.std.proofs.Common.{◌≡◌, ◌≢◌, ℕ, ◌+◌, ◌<◌, ◌≤◌, ◌%◌, ◌^◌, ◌==◌, Bool, true, false, List, [], ◌∷◌, ◌++◌, length, take, get_or, set, map, refl, sym, ap, ap₂, ◌∙◌, inl, inr, arith}
-use Rattle.std.specs.Prelude.{All, IsTrue, Option, Some, None, IfSome, IfNone, Result, Ok, Err, IsErr, OnErr, ◌↔◌, is_some}
+use Rattle.std.specs.Prelude.{All, IsTrue, Option, Some, None, IfSome, IfNone, Result, Ok, Err, IsErr, OnErr, ◌↔◌, is_err, is_some}
 use Rattle.std.specs.List.{list_any, sum_by}
-use Rattle.std.proofs.lemmas.Bool.{cases_eq, eq-eqb, eqb-true, false_from_ne_true}
+use Rattle.std.proofs.lemmas.Bool.{cases_eq, eq-eqb, eqb-true, false_from_ne_true, true≢false}
 use Rattle.std.proofs.lemmas.List.{set-get_or}
 use Rattle.std.proofs.lemmas.List.Elements.{All-cons, All-head, All-nil, All-tail}
 use Rattle.std.proofs.lemmas.List.Folds.{list_any_none}
@@ -24,6 +24,10 @@ use Rattle.sip_ledger.proofs.places.FindLemmas.{unpaid-account}
 pub on-error : {T E P : Type 0} (r : Result T E) → IsErr r → P → OnErr r P
 on-error (Ok x) is p = tt
 on-error (Err e) is p = p
+
+pub on-err : {T E P : Type 0} (r : Result T E) → is_err r ≡ true → OnErr r P → P
+on-err (Ok x) is p = absurd (true≢false (sym is))
+on-err (Err e) is p = p
 
 -- a row of the list is one of the accounts
 pub row-inside : (gains : Gains) (strikes : List Strike) (rows : List Account) (seen : List (List Debt)) (row : ℕ) → accounts_debts gains strikes rows ≡ seen → row < length seen → row < length rows

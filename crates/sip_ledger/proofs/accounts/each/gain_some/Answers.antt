@@ -24,11 +24,11 @@ index-account-requires c =
     let inside : k < length seen = omega (arith, long, count) in
     omega (arith, gained-inside c.args.debt c.args.from k k seen c.loop-row.gains c.loop-row.strikes.items c.loop-row.rows.items was.gained was.low inside, c.loop-row.rows.ok.0)
 
-pub place_near-place-requires-clause-gained : goal.place_near-place-requires-clause-gained
-place_near-place-requires-clause-gained c = c.loop-row.invariant.gained.accounts.gained
+pub place_near-requires-clause-gained : goal.place_near-requires-clause-gained
+place_near-requires-clause-gained c = c.loop-row.invariant.gained.accounts.gained
 
-pub place_near-place-requires-clause-account : goal.place_near-place-requires-clause-account
-place_near-place-requires-clause-account c =
+pub place_near-requires-clause-account : goal.place_near-requires-clause-account
+place_near-requires-clause-account c =
     let g = c.args.gains.now in
     let seen = accounts_debts g c.args.strikes.now.items c.args.rows.now.items in
     let was = c.loop-row.invariant in
@@ -48,8 +48,8 @@ returns-in_err-place-clause-accounts c =
     let long = debts-length g c.args.strikes.now.items c.args.rows.now.items in
     let count : c.len.result ≡ length c.args.rows.now.items = c.len.ensures ∙ c.args.rows.now.ok.0 in
     let inside : k < length seen = omega (arith, long, count) in
-    let over = gained-over c.args.debt c.args.from k seen c.loop-row.gains c.place_near-place.new.gains c.loop-row.strikes.items c.loop-row.rows.items c.place_near-place.ensures.kept
-        c.place_near-place.ensures.gained was.gained in
+    let over = gained-over c.args.debt c.args.from k seen c.loop-row.gains c.place_near.new.gains c.loop-row.strikes.items c.loop-row.rows.items c.place_near.ensures.kept
+        c.place_near.ensures.gained was.gained in
     over.accounts
 
 pub returns-in_err-place-clause-err : goal.returns-in_err-place-clause-err
@@ -61,13 +61,13 @@ returns-in_err-place-clause-err c =
     let long = debts-length g c.args.strikes.now.items c.args.rows.now.items in
     let count : c.len.result ≡ length c.args.rows.now.items = c.len.ensures ∙ c.args.rows.now.ok.0 in
     let inside : k < length seen = omega (arith, long, count) in
-    let over = gained-over c.args.debt c.args.from k seen c.loop-row.gains c.place_near-place.new.gains c.loop-row.strikes.items c.loop-row.rows.items c.place_near-place.ensures.kept
-        c.place_near-place.ensures.gained was.gained in
+    let over = gained-over c.args.debt c.args.from k seen c.loop-row.gains c.place_near.new.gains c.loop-row.strikes.items c.loop-row.rows.items c.place_near.ensures.kept
+        c.place_near.ensures.gained was.gained in
     on-error c.from_residual.result c.from_residual.ensures.0
-    (gained-front c.args.debt c.args.from k seen c.place_near-place.new.gains c.loop-row.strikes.items c.loop-row.rows.items over was.low)
+    (gained-front c.args.debt c.args.from k seen c.place_near.new.gains c.loop-row.strikes.items c.loop-row.rows.items over was.low)
 
-pub gained-grown-requires-clause-account : goal.gained-grown-requires-clause-account
-gained-grown-requires-clause-account c =
+pub gained-requires-clause-account : goal.gained-requires-clause-account
+gained-requires-clause-account c =
     let g = c.args.gains.now in
     let seen = accounts_debts g c.args.strikes.now.items c.args.rows.now.items in
     let was = c.loop-row.invariant in
@@ -75,12 +75,12 @@ gained-grown-requires-clause-account c =
     let long = debts-length g c.args.strikes.now.items c.args.rows.now.items in
     let count : c.len.result ≡ length c.args.rows.now.items = c.len.ensures ∙ c.args.rows.now.ok.0 in
     let inside : k < length seen = omega (arith, long, count) in
-    let over = gained-over c.args.debt c.args.from k seen c.loop-row.gains c.place_near-place.new.gains c.loop-row.strikes.items c.loop-row.rows.items c.place_near-place.ensures.kept
-        c.place_near-place.ensures.gained was.gained in
-    gained-at c.args.debt c.args.from k k seen c.place_near-place.new.gains c.loop-row.strikes.items c.loop-row.rows.items c.index-account.result.now over was.low inside c.index-account.ensures
+    let over = gained-over c.args.debt c.args.from k seen c.loop-row.gains c.place_near.new.gains c.loop-row.strikes.items c.loop-row.rows.items c.place_near.ensures.kept
+        c.place_near.ensures.gained was.gained in
+    gained-at c.args.debt c.args.from k k seen c.place_near.new.gains c.loop-row.strikes.items c.loop-row.rows.items c.index-account.result.now over was.low inside c.index-account.ensures
 
-pub gained-grown-requires-clause-next : goal.gained-grown-requires-clause-next
-gained-grown-requires-clause-next c = rw c.deref.ensures.value at c.in_ok-place.ensures.next
+pub gained-requires-clause-next : goal.gained-requires-clause-next
+gained-requires-clause-next c = rw c.deref.ensures.value at c.in_ok-place.ensures.next
 
 pub returns-in_err-grown-clause-accounts : goal.returns-in_err-grown-clause-accounts
 returns-in_err-grown-clause-accounts c =
@@ -91,9 +91,9 @@ returns-in_err-grown-clause-accounts c =
     let long = debts-length g c.args.strikes.now.items c.args.rows.now.items in
     let count : c.len.result ≡ length c.args.rows.now.items = c.len.ensures ∙ c.args.rows.now.ok.0 in
     let inside : k < length seen = omega (arith, long, count) in
-    let over = gained-over c.args.debt c.args.from k seen c.loop-row.gains c.place_near-place.new.gains c.loop-row.strikes.items c.loop-row.rows.items c.place_near-place.ensures.kept
-        c.place_near-place.ensures.gained was.gained in
-    let grown = gained-grown c.args.debt c.args.from k seen c.place_near-place.new.gains c.loop-row.strikes.items c.gained-grown.new.strikes.items c.loop-row.rows.items c.gained-grown.ensures.kept over in
+    let over = gained-over c.args.debt c.args.from k seen c.loop-row.gains c.place_near.new.gains c.loop-row.strikes.items c.loop-row.rows.items c.place_near.ensures.kept
+        c.place_near.ensures.gained was.gained in
+    let grown = gained-grown c.args.debt c.args.from k seen c.place_near.new.gains c.loop-row.strikes.items c.gained.new.strikes.items c.loop-row.rows.items c.gained.ensures.kept over in
     grown.accounts
 
 pub returns-in_err-grown-clause-err : goal.returns-in_err-grown-clause-err
@@ -105,11 +105,11 @@ returns-in_err-grown-clause-err c =
     let long = debts-length g c.args.strikes.now.items c.args.rows.now.items in
     let count : c.len.result ≡ length c.args.rows.now.items = c.len.ensures ∙ c.args.rows.now.ok.0 in
     let inside : k < length seen = omega (arith, long, count) in
-    let over = gained-over c.args.debt c.args.from k seen c.loop-row.gains c.place_near-place.new.gains c.loop-row.strikes.items c.loop-row.rows.items c.place_near-place.ensures.kept
-        c.place_near-place.ensures.gained was.gained in
-    let grown = gained-grown c.args.debt c.args.from k seen c.place_near-place.new.gains c.loop-row.strikes.items c.gained-grown.new.strikes.items c.loop-row.rows.items c.gained-grown.ensures.kept over in
+    let over = gained-over c.args.debt c.args.from k seen c.loop-row.gains c.place_near.new.gains c.loop-row.strikes.items c.loop-row.rows.items c.place_near.ensures.kept
+        c.place_near.ensures.gained was.gained in
+    let grown = gained-grown c.args.debt c.args.from k seen c.place_near.new.gains c.loop-row.strikes.items c.gained.new.strikes.items c.loop-row.rows.items c.gained.ensures.kept over in
     on-error c.from_residual-in_err-grown.result c.from_residual-in_err-grown.ensures.0
-    (gained-front c.args.debt c.args.from k seen c.place_near-place.new.gains c.gained-grown.new.strikes.items c.loop-row.rows.items grown was.low)
+    (gained-front c.args.debt c.args.from k seen c.place_near.new.gains c.gained.new.strikes.items c.loop-row.rows.items grown was.low)
 
 pub index_mut-requires : goal.index_mut-requires
 index_mut-requires c =
@@ -131,14 +131,14 @@ loop-row-preserved c =
     let long = debts-length g c.args.strikes.now.items c.args.rows.now.items in
     let count : c.len.result ≡ length c.args.rows.now.items = c.len.ensures ∙ c.args.rows.now.ok.0 in
     let inside : k < length seen = omega (arith, long, count) in
-    let over = gained-over c.args.debt c.args.from k seen c.loop-row.gains c.place_near-place.new.gains c.loop-row.strikes.items c.loop-row.rows.items c.place_near-place.ensures.kept
-        c.place_near-place.ensures.gained was.gained in
+    let over = gained-over c.args.debt c.args.from k seen c.loop-row.gains c.place_near.new.gains c.loop-row.strikes.items c.loop-row.rows.items c.place_near.ensures.kept
+        c.place_near.ensures.gained was.gained in
     let low = was.low in
     record {
       low = omega (arith, low);
       near = (rw c.deref.ensures.value at c.in_ok-place.ensures.next).gain;
-      gained = gained-more c.args.debt c.args.from k seen c.place_near-place.new.gains c.loop-row.strikes.items c.gained-grown.new.strikes.items c.loop-row.rows.items c.index-account.result.now
-          c.in_ok-grown.grown c.gained-grown.ensures.kept over was.low inside c.index-account.ensures c.in_ok-grown.ensures.account c.in_ok-grown.ensures.debts;
+      gained = gained-more c.args.debt c.args.from k seen c.place_near.new.gains c.loop-row.strikes.items c.gained.new.strikes.items c.loop-row.rows.items c.index-account.result.now
+          c.in_ok-grown.grown c.gained.ensures.kept over was.low inside c.index-account.ensures c.in_ok-grown.ensures.account c.in_ok-grown.ensures.debts;
     }
 
 pub returns-clause-accounts : goal.returns-clause-accounts

@@ -22,26 +22,26 @@ returns-in-None-clause-debts c =
     let none = rw c.deref-2.ensures.value at c.in-None.ensures.none in
     other-row c.args.message c.args.moment (account_debts g old c.args.account) (sym (can-pay g old c.args.account c.args.message c.args.moment None c.requires.account tt none))
 
-pub without-rest-requires-clause-owed : goal.without-rest-requires-clause-owed
-without-rest-requires-clause-owed c = let found = rw c.deref-2.ensures.value at c.in-Some.ensures.found in found.owed
+pub without-requires-clause-owed : goal.without-requires-clause-owed
+without-requires-clause-owed c = let found = rw c.deref-2.ensures.value at c.in-Some.ensures.found in found.owed
 
 pub returns-in_err-left-clause-kept : goal.returns-in_err-left-clause-kept
 returns-in_err-left-clause-kept c =
-    kept-twice c.args.strikes.now.items c.without-rest.new.strikes.items c.expired-left.new.strikes.items c.without-rest.ensures.kept c.expired-left.ensures.kept
+    kept-twice c.args.strikes.now.items c.without.new.strikes.items c.expired.new.strikes.items c.without.ensures.kept c.expired.ensures.kept
 
 pub returns-in_ok-left-clause-kept : goal.returns-in_ok-left-clause-kept
 returns-in_ok-left-clause-kept c =
-    kept-twice c.args.strikes.now.items c.without-rest.new.strikes.items c.expired-left.new.strikes.items c.without-rest.ensures.kept c.expired-left.ensures.kept
+    kept-twice c.args.strikes.now.items c.without.new.strikes.items c.expired.new.strikes.items c.without.ensures.kept c.expired.ensures.kept
 
 pub returns-in_ok-left-clause-debts : goal.returns-in_ok-left-clause-debts
 returns-in_ok-left-clause-debts c =
     let g = c.args.gains.now in
     let old = c.args.strikes.now.items in
-    let one = c.without-rest.new.strikes.items in
+    let one = c.without.new.strikes.items in
     let a = c.args.account in
     let found = rw c.deref-2.ensures.value at c.in-Some.ensures.found in
     let timely = rw c.deref.ensures.value at c.if-not-is_timely.ensures in
     let rest = paid-account g old one a c.in_ok-rest.rest c.args.message c.args.moment c.in-Some.place c.requires.account found c.in_ok-rest.ensures.owed c.in_ok-rest.ensures.soft in
-    paid-row c.args.message c.args.moment (account_debts g old a) (account_debts g c.expired-left.new.strikes.items c.in_ok-left.left)
+    paid-row c.args.message c.args.moment (account_debts g old a) (account_debts g c.expired.new.strikes.items c.in_ok-left.left)
     (sym (can-pay g old a c.args.message c.args.moment (Some c.in-Some.place) c.requires.account found tt)) (sym timely)
     (c.in_ok-left.ensures.debts ∙ ap (filter (counts_at c.args.moment)) rest)

@@ -27,8 +27,8 @@ index-requires c =
     let there = row-there g c.args.message c.args.moment c.args.from c.loop-row.row c.loop-row.row seen c.loop-row.strikes.items c.loop-row.rows.items c.loop-row.invariant.1.1.1 (omega (arith, long, to)) in
     omega (arith, there, c.loop-row.rows.ok.0)
 
-pub paid-left-requires-clause-account : goal.paid-left-requires-clause-account
-paid-left-requires-clause-account c =
+pub paid-requires-clause-account : goal.paid-requires-clause-account
+paid-requires-clause-account c =
     let g = c.args.gains.now in
     let seen = accounts_debts g c.args.strikes.now.items c.args.rows.now.items in
     let long = debts-length g c.args.strikes.now.items c.args.rows.now.items in
@@ -40,32 +40,32 @@ pub returns-in_err-left-clause-accounts : goal.returns-in_err-left-clause-accoun
 returns-in_err-left-clause-accounts c =
     let g = c.args.gains.now in
     let seen = accounts_debts g c.args.strikes.now.items c.args.rows.now.items in
-    (paid-grown g c.args.message c.args.moment c.args.from c.loop-row.row seen c.loop-row.strikes.items c.paid-left.new.strikes.items c.loop-row.rows.items c.paid-left.ensures.kept c.loop-row.invariant.1.1.1).accounts
+    (paid-grown g c.args.message c.args.moment c.args.from c.loop-row.row seen c.loop-row.strikes.items c.paid.new.strikes.items c.loop-row.rows.items c.paid.ensures.kept c.loop-row.invariant.1.1.1).accounts
 
 pub returns-in_err-left-clause-err : goal.returns-in_err-left-clause-err
 returns-in_err-left-clause-err c =
     let g = c.args.gains.now in
     let seen = accounts_debts g c.args.strikes.now.items c.args.rows.now.items in
-    let grown = paid-grown g c.args.message c.args.moment c.args.from c.loop-row.row seen c.loop-row.strikes.items c.paid-left.new.strikes.items c.loop-row.rows.items c.paid-left.ensures.kept c.loop-row.invariant.1.1.1 in
+    let grown = paid-grown g c.args.message c.args.moment c.args.from c.loop-row.row seen c.loop-row.strikes.items c.paid.new.strikes.items c.loop-row.rows.items c.paid.ensures.kept c.loop-row.invariant.1.1.1 in
     on-error c.from_residual.result c.from_residual.ensures.0
-    (paid-front g c.args.message c.args.moment c.args.from c.loop-row.row (length c.args.rows.now.items) seen c.paid-left.new.strikes.items c.loop-row.rows.items grown
+    (paid-front g c.args.message c.args.moment c.args.from c.loop-row.row (length c.args.rows.now.items) seen c.paid.new.strikes.items c.loop-row.rows.items grown
     (sym (debts-length g c.args.strikes.now.items c.args.rows.now.items)))
 
 pub returns-in_err-push_left-clause-accounts : goal.returns-in_err-push_left-clause-accounts
 returns-in_err-push_left-clause-accounts c =
     let g = c.args.gains.now in
     let seen = accounts_debts g c.args.strikes.now.items c.args.rows.now.items in
-    let grown = paid-grown g c.args.message c.args.moment c.args.from c.loop-row.row seen c.loop-row.strikes.items c.paid-left.new.strikes.items c.loop-row.rows.items c.paid-left.ensures.kept c.loop-row.invariant.1.1.1 in
-    subst (AreAccounts g c.paid-left.new.strikes.items) (sym c.in_err-push_left.ensures.err) grown.accounts
+    let grown = paid-grown g c.args.message c.args.moment c.args.from c.loop-row.row seen c.loop-row.strikes.items c.paid.new.strikes.items c.loop-row.rows.items c.paid.ensures.kept c.loop-row.invariant.1.1.1 in
+    subst (AreAccounts g c.paid.new.strikes.items) (sym c.in_err-push_left.ensures.err) grown.accounts
 
 pub returns-in_err-push_left-clause-err : goal.returns-in_err-push_left-clause-err
 returns-in_err-push_left-clause-err c =
     let g = c.args.gains.now in
     let seen = accounts_debts g c.args.strikes.now.items c.args.rows.now.items in
-    let grown = paid-grown g c.args.message c.args.moment c.args.from c.loop-row.row seen c.loop-row.strikes.items c.paid-left.new.strikes.items c.loop-row.rows.items c.paid-left.ensures.kept c.loop-row.invariant.1.1.1 in
-    let same = subst (λ r. ArePaidTo g c.args.message c.args.moment c.args.from c.loop-row.row seen c.paid-left.new.strikes.items r) (sym c.in_err-push_left.ensures.err) grown in
+    let grown = paid-grown g c.args.message c.args.moment c.args.from c.loop-row.row seen c.loop-row.strikes.items c.paid.new.strikes.items c.loop-row.rows.items c.paid.ensures.kept c.loop-row.invariant.1.1.1 in
+    let same = subst (λ r. ArePaidTo g c.args.message c.args.moment c.args.from c.loop-row.row seen c.paid.new.strikes.items r) (sym c.in_err-push_left.ensures.err) grown in
     on-error c.from_residual-in_err-push_left.result c.from_residual-in_err-push_left.ensures.0
-    (paid-front g c.args.message c.args.moment c.args.from c.loop-row.row (length c.args.rows.now.items) seen c.paid-left.new.strikes.items c.push_left.new.rows.items same
+    (paid-front g c.args.message c.args.moment c.args.from c.loop-row.row (length c.args.rows.now.items) seen c.paid.new.strikes.items c.push_left.new.rows.items same
     (sym (debts-length g c.args.strikes.now.items c.args.rows.now.items)))
 
 pub loop-row-preserved : goal.loop-row-preserved
@@ -77,13 +77,13 @@ loop-row-preserved c =
     let low = c.loop-row.invariant.0 in
     let k = c.loop-row.row in
     let one = c.loop-row.strikes.items in
-    let new = c.paid-left.new.strikes.items in
+    let new = c.paid.new.strikes.items in
     let at = account-there g c.args.message c.args.moment c.args.from k k seen one c.loop-row.rows.items c.index.result.now c.loop-row.invariant.1.1.1 (omega (arith, long, to)) c.index.ensures in
-    let grown = paid-grown g c.args.message c.args.moment c.args.from k seen one new c.loop-row.rows.items c.paid-left.ensures.kept c.loop-row.invariant.1.1.1 in
+    let grown = paid-grown g c.args.message c.args.moment c.args.from k seen one new c.loop-row.rows.items c.paid.ensures.kept c.loop-row.invariant.1.1.1 in
     let next = paid-next g c.args.message c.args.moment c.args.from k seen new c.loop-row.rows.items _ c.in_ok-left.left grown c.in_ok-left.ensures.account c.in_ok-left.ensures.debts at.1 low (omega (arith, long, to)) in (
       omega (arith, low),
       inl (omega arith),
-      c.paid-left.ensures.seek,
+      c.paid.ensures.seek,
       subst (λ r. ArePaidTo g c.args.message c.args.moment c.args.from (k + 1) seen new r) (sym c.in_ok-push_left.ensures.ok) next,
     )
 

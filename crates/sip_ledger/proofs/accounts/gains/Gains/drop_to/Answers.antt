@@ -5,7 +5,13 @@ use Rattle.sip_ledger.proofs.places.LeftLemmas.{gains-dropped}
 use Rattle.sip_ledger.proofs.accounts.gains.Gains.drop_to.Goals as goal
 
 pub drop_first-2-requires : goal.drop_first-2-requires
-drop_first-2-requires c = ?
+drop_first-2-requires c =
+    let g = c.args.self.now in
+    let len : c.len.result ≡ length g.entries.items = c.len.ensures ∙ g.entries.ok.0 in
+    let long = c.requires.gained.long in
+    let within = c.requires.within in
+    let many = c.requires.gained.flags.many in
+    omega (arith, len, long, within, many)
 
 pub returns-clause-gained : goal.returns-clause-gained
 returns-clause-gained c =
@@ -15,7 +21,7 @@ returns-clause-gained c =
     let long = c.requires.gained.long in
     let from = c.requires.from in
     let count = c.args.place - (g.end - c.len.result) in
-    let here = omega (arith, len, long, from) in
+    let here : count + (g.end - length g.entries.items) ≡ c.args.place = omega (arith, len, long, from) in
     (gains-dropped g new c.args.place count c.requires.gained here c.requires.within c.drop_first.ensures refl refl refl refl c.requires.none
     (flags-dropped g new c.args.place count c.requires.gained.flags long here c.requires.within c.drop_first.ensures c.drop_first-2.ensures refl)).0
 
@@ -27,6 +33,6 @@ returns-clause-dropped c =
     let long = c.requires.gained.long in
     let from = c.requires.from in
     let count = c.args.place - (g.end - c.len.result) in
-    let here = omega (arith, len, long, from) in
+    let here : count + (g.end - length g.entries.items) ≡ c.args.place = omega (arith, len, long, from) in
     (gains-dropped g new c.args.place count c.requires.gained here c.requires.within c.drop_first.ensures refl refl refl refl c.requires.none
     (flags-dropped g new c.args.place count c.requires.gained.flags long here c.requires.within c.drop_first.ensures c.drop_first-2.ensures refl)).1

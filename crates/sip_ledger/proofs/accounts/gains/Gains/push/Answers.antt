@@ -59,8 +59,8 @@ returns-clause-gained c =
     let new : Gains = record { entries = c.push_reserved.new.self; flags = c.push_reserved-2.new.self; end = g.end + 1; messages = c.note.new.messages; musts = c.note.new.musts; rises = c.rise-rises.result } in
     let end = c.if-self.false in
     let small = c.requires.small in
-    let entries = c.push_reserved.ensures.items ∙ ap (λ l. l ++ e ∷ []) c.reserve.ensures.items in
-    let flags = c.push_reserved-2.ensures.items ∙ ap (λ l. l ++ f ∷ []) c.reserve-2.ensures.items in
+    let entries : new.entries.items ≡ g.entries.items ++ e ∷ [] = c.push_reserved.ensures.items ∙ ap (λ l. l ++ e ∷ []) c.reserve.ensures.items in
+    let flags : new.flags.items ≡ g.flags.items ++ f ∷ [] = c.push_reserved-2.ensures.items ∙ ap (λ l. l ++ f ∷ []) c.reserve-2.ensures.items in
     (gains-more g new c.args.debt c.requires entries refl (omega (arith, end, small)) c.in_ok-note.ensures.ok (rw c.deref.ensures.value at c.rise-rises.ensures)
     (flags-more g new c.args.debt c.requires.flags c.requires.long (entries-long g c.requires.long) entries flags refl)).0
 
@@ -72,7 +72,7 @@ returns-clause-ok c =
     let new : Gains = record { entries = c.push_reserved.new.self; flags = c.push_reserved-2.new.self; end = g.end + 1; messages = c.note.new.messages; musts = c.note.new.musts; rises = c.rise-rises.result } in
     let end = c.if-self.false in
     let small = c.requires.small in
-    let entries = c.push_reserved.ensures.items ∙ ap (λ l. l ++ e ∷ []) c.reserve.ensures.items in
-    let flags = c.push_reserved-2.ensures.items ∙ ap (λ l. l ++ f ∷ []) c.reserve-2.ensures.items in
+    let entries : new.entries.items ≡ g.entries.items ++ e ∷ [] = c.push_reserved.ensures.items ∙ ap (λ l. l ++ e ∷ []) c.reserve.ensures.items in
+    let flags : new.flags.items ≡ g.flags.items ++ f ∷ [] = c.push_reserved-2.ensures.items ∙ ap (λ l. l ++ f ∷ []) c.reserve-2.ensures.items in
     (gains-more g new c.args.debt c.requires entries refl (omega (arith, end, small)) c.in_ok-note.ensures.ok (rw c.deref.ensures.value at c.rise-rises.ensures)
     (flags-more g new c.args.debt c.requires.flags c.requires.long (entries-long g c.requires.long) entries flags refl)).1

@@ -299,7 +299,7 @@ pub(crate) fn place_near(
     place_for(gains, strikes, account, debt)
 }
 
-/// Whether the account ends before the place, and nothing of it is struck there.
+/// Whether the account can gain the message at the place, as far as it is the account's own.
 fn fits(strikes: &[Strike], account: Account, message: u32, place: usize) -> bool
     requires first { account.first ≤ account.last }
     requires last { account.last ≤ length strikes.now }
@@ -307,7 +307,10 @@ fn fits(strikes: &[Strike], account: Account, message: u32, place: usize) -> boo
     ensures soft { OnTrue result (account.soft ≤ place) }
     ensures free { OnTrue result (is_struck (strikes_of strikes.now account) message place ≡ false) }
 {
-    if place < account.end || place < account.soft {
+    if place < account.end {
+        return false;
+    }
+    if place < account.soft {
         return false;
     }
     match struck_to(own(strikes, account), message, place) {

@@ -136,7 +136,7 @@ loop-row-preserved c =
     let low = was.low in
     record {
       low = omega (arith, low);
-      near = (rw c.deref.ensures.value at c.in_ok-place.ensures.next).gain;
+      near = c.in_ok-place.ensures.next.gain;
       gained = gained-more c.args.debt c.args.from k seen c.place_near.new.gains c.loop-row.strikes.items c.gained.new.strikes.items c.loop-row.rows.items c.index-account.result.now
           c.in_ok-grown.grown c.gained.ensures.kept over was.low inside c.index-account.ensures c.in_ok-grown.ensures.account c.in_ok-grown.ensures.debts;
     }

@@ -12,8 +12,8 @@ use Rattle.sip_ledger.proofs.accounts.each.paid.Goals as goal
 pub returns-then-not-is_timely-clause-debts : goal.returns-then-not-is_timely-clause-debts
 returns-then-not-is_timely-clause-debts c =
     let owes = account_debts c.args.gains.now c.args.strikes.now.items c.args.account in
-    let late = rw c.deref.ensures.value at c.if-not-is_timely.ensures in
-    late-row c.args.message c.args.moment owes (sym late)
+    let timely = rw c.deref.ensures.value at c.is_timely.ensures in
+    late-row c.args.message c.args.moment owes (sym timely ∙ c.if-not-is_timely.true)
 
 pub returns-in-None-clause-debts : goal.returns-in-None-clause-debts
 returns-in-None-clause-debts c =
@@ -40,8 +40,8 @@ returns-in_ok-left-clause-debts c =
     let one = c.without.new.strikes.items in
     let a = c.args.account in
     let found = rw c.deref-2.ensures.value at c.in-Some.ensures.found in
-    let timely = rw c.deref.ensures.value at c.if-not-is_timely.ensures in
+    let timely = rw c.deref.ensures.value at c.is_timely.ensures in
     let rest = paid-account g old one a c.in_ok-rest.rest c.args.message c.args.moment c.in-Some.place c.requires.account found c.in_ok-rest.ensures.owed c.in_ok-rest.ensures.soft in
     paid-row c.args.message c.args.moment (account_debts g old a) (account_debts g c.expired.new.strikes.items c.in_ok-left.left)
-    (sym (can-pay g old a c.args.message c.args.moment (Some c.in-Some.place) c.requires.account found tt)) (sym timely)
+    (sym (can-pay g old a c.args.message c.args.moment (Some c.in-Some.place) c.requires.account found tt)) (sym timely ∙ c.if-not-is_timely.false)
     (c.in_ok-left.ensures.debts ∙ ap (filter (counts_at c.args.moment)) rest)

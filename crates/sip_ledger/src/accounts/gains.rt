@@ -1,5 +1,5 @@
 //! What the rows gained: one list for all.
-ghost use Rattle.std.specs.Prelude.{◌≡◌, ◌<◌, ◌≤◌, ◌+◌, ◌==◌, ◌&&◌, ◌++◌, ◌∷◌, ℕ, [], IfSome, IfNone, OnOk, OnErr, cond, drop, length, true, false};
+ghost use Rattle.std.specs.Prelude.{◌≡◌, ◌<◌, ◌≤◌, ◌+◌, ◌==◌, ◌&&◌, ◌++◌, ◌∷◌, ℕ, [], IfSome, IfNone, OnOk, OnErr, cond, length, true, false};
 ghost use Rattle.std.specs.Bool.{OnTrue};
 ghost use Rattle.sip_ledger.specs.inner.Accounts.{AreGains, AreSameGains, IsDropped, IsGain, IsKept, IsLetGo, IsNoted, IsPlaceOf, entries_of, entry_at, flags_at, is_left};
 ghost use Rattle.sip_ledger.specs.inner.Indexes.{holds};
@@ -7,6 +7,7 @@ ghost use Rattle.sip_ledger.specs.inner.Places.{AreRising};
 
 use crate::debt::{Debt, Entry};
 use crate::index::Index;
+use crate::words;
 use std::alloc::{AllocError, Global};
 
 /// What is asked of a gain most.
@@ -202,19 +203,9 @@ impl Gains {
         ensures dropped { IsDropped place self.old self.new }
     {
         let count = place - (self.end - self.entries.len());
-        drop_first(&mut self.entries, count);
-        drop_first(&mut self.flags, count);
+        words::drop_first(&mut self.entries, count);
+        words::drop_first(&mut self.flags, count);
     }
-}
-
-/// Drops the first entries.
-fn drop_first<T: Copy + Drop>(entries: &mut Vec<T>, count: usize)
-    requires { count ≤ length entries.old.items }
-    ensures { entries.new.items ≡ drop count entries.old.items }
-{
-    let kept = entries.len() - count;
-    entries.copy_within(count.., 0);
-    entries.truncate(kept);
 }
 
 /// Puts the place of a gain under its message, and among those of what must be sent if it must. On an error it stands nowhere.

@@ -4,8 +4,8 @@ use Rattle.sip_ledger.proofs.places.FlagLemmas.{flags-dropped}
 use Rattle.sip_ledger.proofs.places.LeftLemmas.{gains-dropped}
 use Rattle.sip_ledger.proofs.accounts.gains.Gains.drop_to.Goals as goal
 
-pub drop_first-2-requires : goal.drop_first-2-requires
-drop_first-2-requires c =
+pub drop_first-requires-2 : goal.drop_first-requires-2
+drop_first-requires-2 c =
     let g = c.args.self.now in
     let len : c.len.result ≡ length g.entries.items = c.len.ensures ∙ g.entries.ok.0 in
     let long = c.requires.gained.long in
@@ -16,7 +16,7 @@ drop_first-2-requires c =
 pub returns-clause-gained : goal.returns-clause-gained
 returns-clause-gained c =
     let g = c.args.self.now in
-    let new : Gains = record { entries = c.drop_first.new.entries; flags = c.drop_first-2.new.entries; end = g.end; messages = g.messages; musts = g.musts; rises = g.rises } in
+    let new : Gains = record { entries = c.drop_first.new.items; flags = c.drop_first-2.new.items; end = g.end; messages = g.messages; musts = g.musts; rises = g.rises } in
     let len : c.len.result ≡ length g.entries.items = c.len.ensures ∙ g.entries.ok.0 in
     let long = c.requires.gained.long in
     let from = c.requires.from in
@@ -28,7 +28,7 @@ returns-clause-gained c =
 pub returns-clause-dropped : goal.returns-clause-dropped
 returns-clause-dropped c =
     let g = c.args.self.now in
-    let new : Gains = record { entries = c.drop_first.new.entries; flags = c.drop_first-2.new.entries; end = g.end; messages = g.messages; musts = g.musts; rises = g.rises } in
+    let new : Gains = record { entries = c.drop_first.new.items; flags = c.drop_first-2.new.items; end = g.end; messages = g.messages; musts = g.musts; rises = g.rises } in
     let len : c.len.result ≡ length g.entries.items = c.len.ensures ∙ g.entries.ok.0 in
     let long = c.requires.gained.long in
     let from = c.requires.from in

@@ -24,6 +24,7 @@ use crate::accounts::seek::Seek;
 use crate::accounts::strikes::Strike;
 use crate::debt::Debt;
 use crate::run::{Run, runs_of};
+use crate::words;
 use std::alloc::{AllocError, Global};
 use std::marker::Model;
 
@@ -93,6 +94,14 @@ impl Accounts {
         ensures { self.new ≡ take rows self.old }
     {
         self.rows.truncate(rows);
+    }
+
+    /// Drops the first rows.
+    pub fn drop_first(&mut self, rows: usize)
+        ensures { self.new ≡ drop rows self.old }
+    {
+        let count = rows.min(self.rows.len());
+        words::drop_first(&mut self.rows, count);
     }
 
     /// Keeps the rows of these numbers, which rise.

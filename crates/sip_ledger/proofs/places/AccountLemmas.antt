@@ -4,8 +4,8 @@ use Rattle.std.specs.Prelude.{All, nat_le, nat_lt}
 use Rattle.std.proofs.lemmas.Bool.{cases_eq, cases_lt, false_from_ne_true, true≢false}
 use Rattle.std.proofs.Math.Bool.{and-false}
 use Rattle.std.proofs.lemmas.Bool.Decides.{nat_tests}
-use Rattle.std.proofs.lemmas.List.{get_or_append_left, get_or-map, length-append, length-map, length-take, map-append, map-set, take-map, take-take}
-use Rattle.std.proofs.lemmas.List.Elements.{All-cons, All-get_or, All-head, All-nil, All-push, All-set, All-tail, All-take}
+use Rattle.std.proofs.lemmas.List.{drop-map, get_or_append_left, get_or-map, length-append, length-map, length-take, map-append, map-set, take-map, take-take}
+use Rattle.std.proofs.lemmas.List.Elements.{All-cons, All-drop, All-get_or, All-head, All-nil, All-push, All-set, All-tail, All-take}
 use Rattle.sip_ledger.specs.declared.debt.Debt.{Debt}
 use Rattle.sip_ledger.specs.declared.debt.Entry.{Entry}
 use Rattle.sip_ledger.specs.declared.accounts.account.Account.{Account}
@@ -370,6 +370,14 @@ unfolding accounts_debts
 truncated gains strikes rows n are = (
   record { gained = are.gained; each = All-take (IsAccount gains strikes) n rows are.each },
   sym (take-map (account_debts gains strikes) n rows),
+)
+
+pub without-first_rows : (gains : Gains) (strikes : List Strike) (rows : List Account) (n : ℕ) → AreAccounts gains strikes rows →
+    AreAccounts gains strikes (drop n rows) × (accounts_debts gains strikes (drop n rows) ≡ drop n (accounts_debts gains strikes rows))
+unfolding accounts_debts
+without-first_rows gains strikes rows n are = (
+  record { gained = are.gained; each = All-drop (IsAccount gains strikes) n rows are.each },
+  sym (drop-map (account_debts gains strikes) n rows),
 )
 
 -- accounts over gains in which they owe what they owed

@@ -25,9 +25,9 @@ pub on-error : {T E P : Type 0} (r : Result T E) → IsErr r → P → OnErr r P
 on-error (Ok x) is p = tt
 on-error (Err e) is p = p
 
-pub on-err : {T E P : Type 0} (r : Result T E) → is_err r ≡ true → OnErr r P → P
-on-err (Ok x) is p = absurd (true≢false (sym is))
-on-err (Err e) is p = p
+pub on-err : {T E : Type 0} (r : Result T E) (P : Type 0) → is_err r ≡ true → OnErr r P → P
+on-err (Ok x) P is p = absurd (true≢false (sym is))
+on-err (Err e) P is p = p
 
 -- a row of the list is one of the accounts
 pub row-inside : (gains : Gains) (strikes : List Strike) (rows : List Account) (seen : List (List Debt)) (row : ℕ) → accounts_debts gains strikes rows ≡ seen → row < length seen → row < length rows

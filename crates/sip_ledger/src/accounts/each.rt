@@ -1,6 +1,6 @@
 //! What is done to many rows at once.
-ghost use Rattle.std.specs.Prelude.{◌≡◌, ◌<◌, ◌≤◌, ◌++◌, ◌∷◌, [], IfOk, IfSome, OnOk, OnErr, drop, filter, length, map, option_to_list, take};
-ghost use Rattle.sip_ledger.specs.Accounts.{owed_in, paid_rows};
+ghost use Rattle.std.specs.Prelude.{◌≡◌, ◌<◌, ◌≤◌, ◌++◌, ◌∷◌, ◌+◌, ◌-◌, [], ℕ, IfOk, IfSome, OnOk, OnErr, drop, filter, get_or, length, map, option_to_list, take};
+ghost use Rattle.sip_ledger.specs.Accounts.{debts_print, owed_in, paid_rows};
 ghost use Rattle.sip_ledger.specs.Debts.{counts_at, is_timely};
 ghost use Rattle.sip_ledger.specs.Ledgers.{from_to};
 ghost use Rattle.sip_ledger.specs.inner.Accounts.{AreAccounts, AreGains, IsAccount, IsSeek, account_debts, accounts_debts};
@@ -13,7 +13,7 @@ use crate::accounts::gains::Gains;
 use crate::accounts::seek::Seek;
 use crate::accounts::strikes::Strike;
 use crate::debt::Debt;
-use std::alloc::AllocError;
+use std::alloc::{AllocError, Global};
 
 impl Accounts {
     /// Whether nothing that the row must send is past at the moment.
@@ -72,6 +72,18 @@ impl Accounts {
             }
         }
         Ok(())
+    }
+
+    /// A number for what each row from one on owes, in their order: rows that owe the same have the same, and others hardly ever.
+    pub fn prints(&self, alloc: Global, from: usize) -> Result<Vec<u64>, AllocError>
+        ensures long { IfOk result (λ prints. length prints.items ≡ length self.now - from) }
+        ensures each { IfOk result (λ prints. (k : ℕ) → from + k < length self.now → get_or prints.items k 0 ≡ debts_print (owed_in self.now (from + k))) }
+    {
+        let mut prints = Vec::with_capacity(alloc, self.len().saturating_sub(from))?;
+        for row in from..self.len() {
+            prints.push_reserved(self.print(row));
+        }
+        Ok(prints)
     }
 
     /// Puts rows after the others: of each row from one up to another that has a debt that a send of the message at the moment pays, and

@@ -23,7 +23,7 @@ expire-requires c =
 pub returns-then-is_err-clause-err : goal.returns-then-is_err-clause-err
 returns-then-is_err-clause-err c =
     let was = c.loop-row.invariant in
-    let same = on-err c.expire.result (rw c.is_err.ensures.value at c.if-is_err.true) c.expire.ensures.err in
+    let same = on-err c.expire.result _ (rw c.is_err.ensures.value at c.if-is_err.true) c.expire.ensures.err in
     c.truncate.ensures ∙ ap (take c.args.from) (same ∙ was.1) ∙ changing-front (filter (counts_at c.args.moment)) c.args.from c.loop-row.row c.args.self.now was.0
 
 pub loop-row-preserved : goal.loop-row-preserved

@@ -6,7 +6,7 @@ use Rattle.sip_ledger.proofs.accounts.Accounts.gain_each.Goals as goal
 
 pub returns-then-is_err-clause-err : goal.returns-then-is_err-clause-err
 returns-then-is_err-clause-err c =
-    c.truncate.ensures ∙ on-err c.gain_some.result (rw c.is_err.ensures.value at c.if-is_err.true) c.gain_some.ensures.err ∙ ap (take c.args.from) c.self.view_is
+    c.truncate.ensures ∙ on-err c.gain_some.result _ (rw c.is_err.ensures.value at c.if-is_err.true) c.gain_some.ensures.err ∙ ap (take c.args.from) c.self.view_is
 
 pub returns-clause-ok : goal.returns-clause-ok
 returns-clause-ok c =

@@ -24,7 +24,7 @@ returns-then-is_err-clause-err c =
     let before : c.len-before.result ≡ length s.rows.items = c.len-before.ensures ∙ s.rows.ok.0 in
     let rows = c.push_some.new.rows.items in
     let strikes = c.push_some.new.strikes.items in
-    let same = on-err c.push_some.result (rw c.is_err.ensures.value at c.if-is_err.true) c.push_some.ensures.err in
+    let same = on-err c.push_some.result _ (rw c.is_err.ensures.value at c.if-is_err.true) c.push_some.ensures.err in
     rw c.truncate.ensures.items
     ((truncated s.gains strikes rows c.len-before.result c.push_some.ensures.accounts).1 ∙ ap (λ n. take n (accounts_debts s.gains strikes rows)) before ∙ same ∙ c.self.view_is)
 

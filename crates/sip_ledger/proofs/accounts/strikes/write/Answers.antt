@@ -2,6 +2,7 @@ use Rattle.std.proofs.Common.{◌≡◌, ◌<◌, ◌≤◌, ◌∙◌, length, 
 use Rattle.sip_ledger.specs.inner.Accounts.{IsWritten, StrikeToo, entries_of}
 use Rattle.sip_ledger.proofs.places.LeftLemmas.{entries-long}
 use Rattle.sip_ledger.proofs.places.AccountLemmas.{kept-longer}
+use Rattle.sip_ledger.proofs.places.SeenLemmas.{on-error}
 use Rattle.sip_ledger.proofs.places.StrikeLemmas.{written-more, written-none}
 use Rattle.sip_ledger.proofs.accounts.strikes.write.Goals as goal
 
@@ -30,7 +31,9 @@ loop-place-preserved c =
     written-more g c.args.from c.loop-place.place old one new c.args.account c.loop-place.invariant more c.loop-place.auto.place (omega (arith, within, count))
 
 pub returns-in_err-strike_too-clause-err : goal.returns-in_err-strike_too-clause-err
-returns-in_err-strike_too-clause-err c = ?
+returns-in_err-strike_too-clause-err c =
+    let old = c.args.strikes.now.items in
+    on-error c.from_residual-in_err-strike_too.result c.from_residual-in_err-strike_too.ensures.0 (ap (take (length old)) c.in_err-strike_too.ensures.err ∙ c.loop-place.invariant.kept)
 
 pub returns-clause-ok : goal.returns-clause-ok
 returns-clause-ok c =

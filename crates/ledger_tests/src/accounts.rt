@@ -127,19 +127,21 @@ impl Played {
     }
 
     /// The rows from one on gain.
-    fn gain_each(&mut self, from: usize, debt: Debt) -> Result<(), Fail> {
+    fn gain_each(&mut self, rt: &impl Abort, from: usize, debt: Debt) -> Result<(), Fail> {
         self.accounts.gain_each(from, debt)?;
-        for list in self.lists.iter_mut().skip(from) {
-            list.push(debt)?;
+        for row in from..self.lists.len() {
+            assert!(rt; row < self.lists.len());
+            self.lists[row].push(debt)?;
         }
         Ok(())
     }
 
     /// The rows from one on lose what is past.
-    fn expire_each(&mut self, from: usize, moment: u64) -> Result<(), Fail> {
+    fn expire_each(&mut self, rt: &impl Abort, from: usize, moment: u64) -> Result<(), Fail> {
         self.accounts.expire_each(from, moment)?;
-        for list in self.lists.iter_mut().skip(from) {
-            list.retain(|debt| debt.must || moment <= debt.deadline);
+        for row in from..self.lists.len() {
+            assert!(rt; row < self.lists.len());
+            self.lists[row].retain(|debt| debt.must || moment <= debt.deadline);
         }
         Ok(())
     }
@@ -323,14 +325,14 @@ fn change_many(
     let message = u32::try_from(chance.below(3)).unwrap_or(0);
     match chance.below(6) {
         0 if played.lists.len() < 12 => played.push_timely(rt, from, to, moment),
-        1 => played.expire_each(from, moment),
+        1 => played.expire_each(rt, from, moment),
         2 => {
             let debt = Debt {
                 message,
                 deadline: moment.saturating_add(5),
                 must: chance.below(2) == 0,
             };
-            played.gain_each(from, debt)
+            played.gain_each(rt, from, debt)
         }
         _ if played.lists.len() < 12 => played.push_paid(rt, from, to, message, moment),
         _ => {

@@ -461,3 +461,20 @@ least-last gains strikes a from at least was gap past =
       | inr late ↦ no-and (o k) (must_at gains a k) (past-end gains strikes a k (omega (arith, late, past)))
     ]))
     ∙ sym (ap earliest (due-deadlines entries o (must_at gains a)))
+
+-- the first debt must be sent, and deadlines rise
+must-parts : (gains : Gains) (a : Account) (k : ℕ) → must_at gains a k ≡ true → (holds gains.musts 0 k ≡ true) × (a.soft ≤ k)
+must-parts gains a k is = elim (cases_lt k a.soft) [
+  | inl low ↦ absurd (true≢false (sym is ∙ sym (must-below gains a k low)))
+  | inr high ↦ (must-from gains a k high ∙ is, high)
+]
+
+pub leading : (gains : Gains) (strikes : List Strike) (a : Account) (moment : ℕ) → AreGains gains → IsAccount gains strikes a → a.start < a.end → gains.rises ≡ true →
+    must_at gains a a.start ≡ true → moment ≡ (entry_at (entries_of gains) a.start).deadline → Some moment ≡ earliest (debt_deadlines (account_debts gains strikes a))
+leading gains strikes a moment are is some rises must here =
+    let parts = must-parts gains a a.start must in
+    let end = is.end in
+    let deadline = (entry_at (entries_of gains) a.start).deadline in
+    ap Some here
+    ∙ least-first_due gains strikes a a.start a.start deadline None are (least-first gains strikes a a.start is (omega arith) parts.1 (inl (omega arith))) (omega arith) (omega (arith, some, end))
+    (λ k above below. absurd (omega (arith, above, below))) parts.0 (is.begins some) refl rises

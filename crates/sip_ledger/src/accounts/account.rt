@@ -414,8 +414,40 @@ pub(crate) fn gained(
     })
 }
 
-/// The least deadline of what the account must send.
+/// The least deadline of what the account must send. The first debt is looked at before the index is asked.
 pub(crate) fn earliest_must(gains: &Gains, strikes: &[Strike], account: Account) -> Option<u64>
+    requires gained { AreGains gains.now }
+    requires account { IsAccount gains.now strikes.now account }
+    ensures { result ≡ earliest (debt_deadlines (account_debts gains.now strikes.now account)) }
+{
+    match first_must(gains, account) {
+        Some(moment) => Some(moment),
+        None => least_must(gains, strikes, account),
+    }
+}
+
+/// The deadline of the account's first debt, if that must be sent and deadlines rise.
+fn first_must(gains: &Gains, account: Account) -> Option<u64>
+    requires gained { AreGains gains.now }
+    requires order { account.start ≤ account.end }
+    requires kept { account.start < account.end → IsKept gains.now account.start }
+    ensures { IfSome result (λ moment. (account.start < account.end) × (gains.now.rises ≡ true) × (must_at gains.now account account.start ≡ true)
+        × (moment ≡ (entry_at (entries_of gains.now) account.start).deadline)) }
+{
+    if account.start == account.end {
+        return None;
+    }
+    if !gains.rises {
+        return None;
+    }
+    if !must(gains, account, account.start) {
+        return None;
+    }
+    Some(gains.entry(account.start).deadline)
+}
+
+/// The least deadline of what the account must send, by the index.
+fn least_must(gains: &Gains, strikes: &[Strike], account: Account) -> Option<u64>
     requires gained { AreGains gains.now }
     requires account { IsAccount gains.now strikes.now account }
     ensures { result ≡ earliest (debt_deadlines (account_debts gains.now strikes.now account)) }

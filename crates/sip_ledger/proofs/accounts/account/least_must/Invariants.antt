@@ -1,7 +1,7 @@
 use Rattle.std.proofs.Common.{◌-◌, length}
 use Rattle.sip_ledger.specs.inner.Accounts.{entries_of}
 use Rattle.sip_ledger.proofs.places.ToldLemmas.{IsLeastTo}
-use Rattle.sip_ledger.proofs.accounts.account.earliest_must.Given as goal
+use Rattle.sip_ledger.proofs.accounts.account.least_must.Given as goal
 
 -- the least of what must be sent before the place
 abbrev pub invariant-loop-place : goal.invariant-loop-place

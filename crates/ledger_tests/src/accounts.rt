@@ -177,6 +177,13 @@ impl Played {
         self.lists.truncate(kept);
     }
 
+    /// The first row goes.
+    fn drop_first(&mut self, rt: &impl Abort) {
+        assert!(rt; 0 < self.lists.len());
+        self.accounts.drop_first(1);
+        self.lists.remove(0);
+    }
+
     /// Every second row is kept.
     fn keep_some(&mut self, rt: &(impl Abort + AllocGlobal)) -> Result<(), Fail> {
         let rows = evens(rt.alloc(), self.accounts.len())?;
@@ -237,8 +244,12 @@ impl Played {
     /// All rows owe their lists.
     fn agree(&self, rt: &(impl Abort + AllocGlobal)) -> Result<(), Fail> {
         assert!(rt; self.accounts.len() == self.lists.len());
+        let prints = self.accounts.prints(rt.alloc(), 0)?;
         for (row, list) in self.lists.iter().enumerate() {
             self.owes(rt, row, list)?;
+            assert!(rt; row < prints.len());
+            assert!(rt; row < self.accounts.len());
+            assert!(rt; prints[row] == self.accounts.print(row), "{row}");
             for other in 0..self.lists.len() {
                 self.compares(rt, row, other);
             }
@@ -333,6 +344,10 @@ fn change_many(
                 must: chance.below(2) == 0,
             };
             played.gain_each(rt, from, debt)
+        }
+        3 if played.lists.len() > 6 => {
+            played.drop_first(rt);
+            Ok(())
         }
         _ if played.lists.len() < 12 => played.push_paid(rt, from, to, message, moment),
         _ => {

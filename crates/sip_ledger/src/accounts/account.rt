@@ -307,10 +307,8 @@ fn fits(strikes: &[Strike], account: Account, message: u32, place: usize) -> boo
     ensures soft { OnTrue result (account.soft ≤ place) }
     ensures free { OnTrue result (is_struck (strikes_of strikes.now account) message place ≡ false) }
 {
-    if place < account.end {
-        return false;
-    }
-    if place < account.soft {
+    let low = account.end.max(account.soft);
+    if place < low {
         return false;
     }
     match struck_to(own(strikes, account), message, place) {

@@ -19,54 +19,54 @@ use Rattle.sip_ledger.proofs.places.LeftLemmas.{left-kept, owed-left}
 use Rattle.sip_ledger.proofs.places.SeenLemmas.{account-at, changed-to, over-to, row-inside, unchanged}
 
 -- a debt more
-abbrev pub with : Debt → List Debt → List Debt
-with debt owes = owes ++ debt ∷ []
+abbrev pub with_debt : Debt → List Debt → List Debt
+with_debt debt owes = owes ++ debt ∷ []
 
 -- the rows from one up to another have gained
 pub record HaveGained (debt : Debt) (from k : ℕ) (old : List (List Debt)) (gains : Gains) (strikes : List Strike) (rows : List Account) : Type 0 where
   pub accounts : AreAccounts gains strikes rows
-  pub debts : accounts_debts gains strikes rows ≡ changing (with debt) from k old
+  pub debts : accounts_debts gains strikes rows ≡ changing (with_debt debt) from k old
 
 pub gained-none : (debt : Debt) (from : ℕ) (gains : Gains) (strikes : List Strike) (rows : List Account) → AreAccounts gains strikes rows →
     HaveGained debt from from (accounts_debts gains strikes rows) gains strikes rows
-gained-none debt from gains strikes rows are = record { accounts = are; debts = sym (changing-none (with debt) from (accounts_debts gains strikes rows)) }
+gained-none debt from gains strikes rows are = record { accounts = are; debts = sym (changing-none (with_debt debt) from (accounts_debts gains strikes rows)) }
 
 pub gained-inside : (debt : Debt) (from k row : ℕ) (old : List (List Debt)) (gains : Gains) (strikes : List Strike) (rows : List Account) → HaveGained debt from k old gains strikes rows → from ≤ k →
     row < length old → row < length rows
 gained-inside debt from k row old gains strikes rows are low within =
-    row-inside gains strikes rows (changing (with debt) from k old) row are.debts (omega (arith, within, changing-length (with debt) from k old low))
+    row-inside gains strikes rows (changing (with_debt debt) from k old) row are.debts (omega (arith, within, changing-length (with_debt debt) from k old low))
 
 pub gained-at : (debt : Debt) (from k row : ℕ) (old : List (List Debt)) (gains : Gains) (strikes : List Strike) (rows : List Account) (a : Account) →
     HaveGained debt from k old gains strikes rows → from ≤ k → row < length old → a ≡ get_or rows row a → IsAccount gains strikes a
 gained-at debt from k row old gains strikes rows a are low within is =
-    (account-at gains strikes rows (changing (with debt) from k old) row a are.accounts are.debts (omega (arith, within, changing-length (with debt) from k old low)) is).0
+    (account-at gains strikes rows (changing (with_debt debt) from k old) row a are.accounts are.debts (omega (arith, within, changing-length (with_debt debt) from k old low)) is).0
 
 -- over more gains, and over more strikes
 pub gained-over : (debt : Debt) (from k : ℕ) (old : List (List Debt)) (gains new : Gains) (strikes : List Strike) (rows : List Account) → KeepsAccounts gains new → AreGains new →
     HaveGained debt from k old gains strikes rows → HaveGained debt from k old new strikes rows
 gained-over debt from k old gains new strikes rows keeps gained are =
-    let all = over-to gains new strikes rows (changing (with debt) from k old) keeps gained are.accounts are.debts in
+    let all = over-to gains new strikes rows (changing (with_debt debt) from k old) keeps gained are.accounts are.debts in
     record { accounts = all.0; debts = all.1 }
 
 pub gained-grown : (debt : Debt) (from k : ℕ) (old : List (List Debt)) (gains : Gains) (one new : List Strike) (rows : List Account) → take (length one) new ≡ one →
     HaveGained debt from k old gains one rows → HaveGained debt from k old gains new rows
 gained-grown debt from k old gains one new rows kept are =
-    let all = unchanged gains one new rows (changing (with debt) from k old) kept are.accounts are.debts in
+    let all = unchanged gains one new rows (changing (with_debt debt) from k old) kept are.accounts are.debts in
     record { accounts = all.0; debts = all.1 }
 
 -- one row more
 pub gained-more : (debt : Debt) (from k : ℕ) (old : List (List Debt)) (gains : Gains) (one new : List Strike) (rows : List Account) (a b : Account) → take (length one) new ≡ one →
-    HaveGained debt from k old gains one rows → from ≤ k → k < length old → a ≡ get_or rows k a → IsAccount gains new b → account_debts gains new b ≡ with debt (account_debts gains one a) →
+    HaveGained debt from k old gains one rows → from ≤ k → k < length old → a ≡ get_or rows k a → IsAccount gains new b → account_debts gains new b ≡ with_debt debt (account_debts gains one a) →
     HaveGained debt from (k + 1) old gains new (set rows k b)
 gained-more debt from k old gains one new rows a b kept are low within is account debts =
-    let seen = changing (with debt) from k old in
-    let at = account-at gains one rows seen k a are.accounts are.debts (omega (arith, within, changing-length (with debt) from k old low)) is in
-    let all = changed-to gains one new rows seen k b (with debt (owed_in seen k)) kept are.accounts are.debts account (debts ∙ ap (with debt) at.1) in
-    record { accounts = all.0; debts = all.1 ∙ changing-more (with debt) from k old [] low within }
+    let seen = changing (with_debt debt) from k old in
+    let at = account-at gains one rows seen k a are.accounts are.debts (omega (arith, within, changing-length (with_debt debt) from k old low)) is in
+    let all = changed-to gains one new rows seen k b (with_debt debt (owed_in seen k)) kept are.accounts are.debts account (debts ∙ ap (with_debt debt) at.1) in
+    record { accounts = all.0; debts = all.1 ∙ changing-more (with_debt debt) from k old [] low within }
 
 pub gained-front : (debt : Debt) (from k : ℕ) (old : List (List Debt)) (gains : Gains) (strikes : List Strike) (rows : List Account) → HaveGained debt from k old gains strikes rows → from ≤ k →
     take from (accounts_debts gains strikes rows) ≡ take from old
-gained-front debt from k old gains strikes rows are low = ap (take from) are.debts ∙ changing-front (with debt) from k old low
+gained-front debt from k old gains strikes rows are low = ap (take from) are.debts ∙ changing-front (with_debt debt) from k old low
 
 -- where no deadline is past, nothing goes
 kept-each : (t : ℕ) (xs : List Debt) → All (λ d. counts_at t d ≡ true) xs → filter (counts_at t) xs ≡ xs

@@ -2,7 +2,7 @@ use Rattle.std.proofs.Common.{◌≡◌, ◌<◌, ◌≤◌, ◌+◌, length, se
 use Rattle.sip_ledger.specs.inner.Accounts.{accounts_debts}
 use Rattle.sip_ledger.proofs.lists.EachLemmas.{changing-all}
 use Rattle.sip_ledger.proofs.places.AccountLemmas.{debts-length}
-use Rattle.sip_ledger.proofs.places.GainEachLemmas.{gained-at, gained-front, gained-grown, gained-inside, gained-more, gained-none, gained-over, with}
+use Rattle.sip_ledger.proofs.places.GainEachLemmas.{gained-at, gained-front, gained-grown, gained-inside, gained-more, gained-none, gained-over, with_debt}
 use Rattle.sip_ledger.proofs.places.SeenLemmas.{on-error}
 use Rattle.sip_ledger.proofs.accounts.each.gain_some.Goals as goal
 
@@ -151,4 +151,4 @@ returns-clause-ok c =
     let was = c.loop-row.invariant in
     let long = debts-length g c.args.strikes.now.items c.args.rows.now.items in
     let count : c.len.result ≡ length c.args.rows.now.items = c.len.ensures ∙ c.args.rows.now.ok.0 in
-    was.gained.debts ∙ changing-all (with c.args.debt) c.args.from c.loop-row.row seen (omega (arith, long, count))
+    was.gained.debts ∙ changing-all (with_debt c.args.debt) c.args.from c.loop-row.row seen (omega (arith, long, count))

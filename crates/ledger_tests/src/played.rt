@@ -1,28 +1,11 @@
 //! Steps by chance, on rows and on plain lists of debts beside them.
-ghost use Rattle.std.specs.Prelude.{◌<◌, All, AllPairs, IfOk};
-
 use crate::at_rows;
+use crate::chance::{Chance, evens};
 use crate::lists::{agree, owes};
 use crate::wants::is;
 use sip_ledger::{Debt, Ledger};
-use std::alloc::Global;
 use std::process::Abort;
 use std::test::Fail;
-
-/// Numbers by chance.
-#[derive(Drop)]
-struct Chance(u64);
-
-impl Chance {
-    /// A number below the limit, which is not 0.
-    fn below(&mut self, limit: u64) -> u64 {
-        self.0 = self
-            .0
-            .wrapping_mul(6_364_136_223_846_793_005)
-            .wrapping_add(1_442_695_040_888_963_407);
-        (self.0 >> 33) % limit.max(1)
-    }
-}
 
 /// The row pays a message, as its list does.
 fn pay(
@@ -234,20 +217,6 @@ fn keep_some(
     Ok(())
 }
 
-/// The even numbers below the limit.
-fn evens(alloc: Global, limit: usize) -> Result<Vec<usize>, Fail>
-    ensures within { IfOk result (λ rows. All (λ row. row < limit) rows.items) }
-    ensures rising { IfOk result (λ rows. AllPairs (λ a b. a < b) rows.items) }
-{
-    let mut rows = Vec::new(alloc);
-    for row in 0..limit {
-        if row % 2 == 0 {
-            rows.push(row)?;
-        }
-    }
-    Ok(rows)
-}
-
 /// The prints of all rows are those of each.
 fn prints_agree(rt: &(impl Abort + AllocGlobal), ledger: &Ledger) -> Result<(), Fail> {
     let prints = ledger.prints(rt.alloc(), 0)?;
@@ -260,7 +229,7 @@ fn prints_agree(rt: &(impl Abort + AllocGlobal), ledger: &Ledger) -> Result<(), 
 
 /// So many steps of many rows at once from this number on.
 fn play_many(rt: &(impl Abort + AllocGlobal), seed: u64, steps: u64) -> Result<(), Fail> {
-    let mut chance = Chance(seed);
+    let mut chance = Chance::new(seed);
     let mut ledger = Ledger::new(rt.alloc());
     let mut lists: Vec<Vec<Debt>> = Vec::new(rt.alloc());
     ledger.push()?;
@@ -289,7 +258,7 @@ fn many_rows_owe_what_plain_lists_have(rt: HostRuntime) -> Result<(), Fail> {
 
 /// So many steps from this number on.
 fn play(rt: &(impl Abort + AllocGlobal), seed: u64, steps: u64) -> Result<(), Fail> {
-    let mut chance = Chance(seed);
+    let mut chance = Chance::new(seed);
     let mut ledger = Ledger::new(rt.alloc());
     let mut lists: Vec<Vec<Debt>> = Vec::new(rt.alloc());
     ledger.push()?;
@@ -316,7 +285,7 @@ fn rows_owe_what_plain_lists_have(rt: HostRuntime) -> Result<(), Fail> {
 
 /// So many steps of one row from this number on, which comes to owe much, and is copied now and then.
 fn play_alone(rt: &(impl Abort + AllocGlobal), seed: u64, steps: u64) -> Result<(), Fail> {
-    let mut chance = Chance(seed);
+    let mut chance = Chance::new(seed);
     let mut ledger = Ledger::new(rt.alloc());
     let mut list: Vec<Debt> = Vec::new(rt.alloc());
     ledger.push()?;

@@ -1,5 +1,5 @@
 use Rattle.std.specs.Prelude.{◌<◌, All, AllPairs}
-use Rattle.ledger_tests.proofs.played.evens.Given as goal
+use Rattle.ledger_tests.proofs.chance.evens.Given as goal
 
 -- those so far are below the next one, and rise
 abbrev pub invariant-loop-row : goal.invariant-loop-row

@@ -167,7 +167,7 @@ TABLES = {
     "timer I, in the page": page("timer I: T4 from the ACK on; 0 over a reliable transport", "timer I: T4 from the ACK on", "of the timers in confirmed"),
     "timer G, in the page": page("at most T2 |\n| 11 | all but idle", "without a cap |\n| 11 | all but idle", "timer G is set anew, to twice what it was"),
     "what the INVITE server owes, in the page": page("| 11 | all but idle |", "| 11 | any |", "row 11 tells what InviteServer.antt does not have"),
-    "a file that is not there, in a page": (at("docs/standard/VERDICT.md", ("`Verdicts`, `Reading`", "`Verdicts`, `EntryReading`")), "there is no file EntryReading.antt"),
+    "a file that is not there, in a page": (at("docs/standard/VERDICT.md", ("`VerdictOf`, `Entries`", "`VerdictOf`, `EntryReading`")), "there is no file EntryReading.antt"),
     "a row of no form, in the page": page("| 11 | all but idle |", "|12| idle | a 2xx is sent | accepted |\n| 11 | all but idle |", "a line that is not read"),
     "a 2xx by RFC 3261 in calling, in the definition": definition(
         "InviteClient3261", "(y ≡ (Ended, drops)))\n    ⊎ (IsUnsuccessful code × (y ≡ (Completed w.", "(y ≡ (Accepted e.moment, keeps)))\n    ⊎ (IsUnsuccessful code × (y ≡ (Completed w.", "row 2 tells what InviteClient3261.antt does not have"),
@@ -198,7 +198,7 @@ LAWS = {
     "a law that is gone": law(
         "sip_key", "pub fn keys_are_equal_by_their_parts()", "pub fn keys_are_the_same()", "- | `sip_key/src/laws.rt` | `sip_key::laws::keys_are_equal_by_their_parts` | 1 |"),
     "a law with a clause less": law(
-        "sip_message", "    ensures message { (bytes : List ℕ) (m n : Message) → Spells bytes m → Spells bytes n → m ≡ n }\n", "", "- | `sip_message/src/laws.rt` | `sip_message::laws::bytes_have_one_reading` | 3 |"),
+        "sip_log", "    ensures either { (input : List ℕ) (p : Times) (items : List Item) (end : LogEnd) → LacksHeader input → LogSays input p items end → ⊥ }\n", "", "- | `sip_log/src/laws.rt` | `sip_log::an_input_has_one_log` | 2 |"),
     "a law for its crate alone": law("sip_key", "pub fn keys_are_equal_by", "pub(crate) fn keys_are_equal_by", "the law keys_are_equal_by_their_parts is not public"),
     "a law without a clause": law("sip_log", "    ensures { (input : List ℕ)", "    requires { (input : List ℕ)", "stands among laws and is none"),
 }

@@ -5,6 +5,8 @@
 #[cfg(test)]
 mod calls;
 #[cfg(test)]
+mod forgetting;
+#[cfg(test)]
 mod growths;
 #[cfg(test)]
 mod hashers;

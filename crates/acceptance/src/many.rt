@@ -1,4 +1,4 @@
-//! Hashers of keys, of which any gives the same verdict, and a long message in single bytes.
+//! The verdict does not depend on the hasher of the keys, nor on how a long message comes: here byte by byte.
 use crate::hashers::{AllZero, Same};
 use crate::logs::{long_message, push_own};
 use crate::notation::{header, message_of, push_message};

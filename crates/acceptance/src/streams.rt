@@ -155,12 +155,12 @@ fn keeps_few(
     Ok(())
 }
 
-/// A request is needed until its response has come, and no response is. The first sweep comes after entry 65, and each leaves
-/// one request.
+/// A request is needed until its response has come, and no response is: it is not kept. The first sweep comes after the 65th request, which
+/// is entry 129, and each leaves that request alone.
 #[test]
 fn keeps_few_messages_of_many(rt: HostRuntime) -> Result<(), Fail> {
     let log = answered(rt.alloc(), 1_000)?;
-    let places = [(63, 64), (64, 1), (129, 66), (130, 1)];
+    let places = [(127, 64), (128, 1), (259, 66), (260, 1)];
     keeps_few(&rt, log.as_str(), &places)
 }
 
@@ -187,25 +187,25 @@ fn forgets_after_restarts(rt: HostRuntime) -> Result<(), Fail> {
     keeps_few(&rt, log.as_str(), &places)
 }
 
-/// The log of 32 OPTIONS that are answered at once, and of a response 100 seconds later.
+/// The log of 64 OPTIONS that a server answers at once, and of a client's request 100 seconds later.
 fn ended(alloc: Global) -> Result<String, Fail> {
     let mut log = header(alloc, "tolerance 50")?;
-    for branch in 0..32 {
+    for branch in 0..64 {
         push_own(alloc, &mut log, ("R", "OPTIONS", None), 0, branch)?;
         push_own(alloc, &mut log, ("S", "OPTIONS", Some("200")), 0, branch)?;
     }
-    push_own(alloc, &mut log, ("R", "OPTIONS", Some("200")), 100_000, 32)?;
+    push_own(alloc, &mut log, ("S", "OPTIONS", None), 100_000, 64)?;
     Ok(log)
 }
 
-/// A server has ended 32 seconds after its response, which is not needed then. The last entry is the 65th message, so that a sweep comes
-/// after it, and nothing names that response.
+/// A server needs its response, and not the request; it has ended 32 seconds after the response. The last request is the 65th message that is
+/// kept, so that a sweep comes after it, and leaves that request alone.
 #[test]
 fn forgets_what_ended_servers_sent(rt: HostRuntime) -> Result<(), Fail> {
     let log = ended(rt.alloc())?;
     let (kept, verdict) = kept_after_each(&rt, log.as_str())?;
-    says(&rt, verdict, legal(65, 33), "at the end");
-    holds(&rt, kept.last() == Some(&0), "kept at the end");
+    says(&rt, verdict, legal(129, 65), "at the end");
+    holds(&rt, kept.last() == Some(&1), "kept at the end");
     Ok(())
 }
 
@@ -236,7 +236,8 @@ fn keeps_what_is_needed(rt: HostRuntime) -> Result<(), Fail> {
     Ok(())
 }
 
-/// A message without the cookie concerns no transaction and is not kept: not as the first entry, and not after one that is.
+/// A message without the cookie concerns no transaction and is not kept: not as the first entry, and not after one that is. Nor is the last
+/// response, which no state names.
 #[test]
 fn keeps_no_message_without_a_key(rt: HostRuntime) -> Result<(), Fail> {
     let log = log_of(
@@ -248,7 +249,7 @@ fn keeps_no_message_without_a_key(rt: HostRuntime) -> Result<(), Fail> {
     says(&rt, verdict, legal(7, 1), "at the end");
     holds(
         &rt,
-        kept.as_slice() == [0, 1, 1, 1, 1, 1, 2].as_slice(),
+        kept.as_slice() == [0, 1, 1, 1, 1, 1, 1].as_slice(),
         "kept",
     );
     Ok(())
@@ -445,9 +446,9 @@ fn takes_until_it_fails(
 /// messages.
 #[test]
 fn refused_while_a_judge_sweeps(rt: HostRuntime) -> Result<(), Fail> {
-    let log = answered(rt.alloc(), 33)?;
+    let log = answered(rt.alloc(), 66)?;
     let mut stream = Stream::open(rt.alloc(), log.as_str().as_bytes())?;
-    let failed = takes_until_it_fails(&rt, &mut stream, 66);
+    let failed = takes_until_it_fails(&rt, &mut stream, 132);
     let kept = stream.judge.kept();
     let verdict = stream.end();
     let Some(error) = failed? else {

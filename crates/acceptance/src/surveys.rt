@@ -14,7 +14,7 @@ use std::hash::{BuildHasherDefault, FoldHasher};
 use std::process::Abort;
 use std::test::Fail;
 
-type Hasher = BuildHasherDefault<FoldHasher>;
+pub(crate) type Hasher = BuildHasherDefault<FoldHasher>;
 
 /// The words of a log, and the lines of its survey.
 type Row = (&'static str, &'static str);
@@ -138,15 +138,15 @@ fn a_restart_stands_in_each_part(rt: HostRuntime) -> Result<(), Fail> {
 }
 
 /// The entries of a log as they come, and the survey that takes them.
-struct Surveyed<'a> {
+pub(crate) struct Surveyed<'a> {
     bytes: &'a [u8],
     progress: Progress,
-    survey: Survey<Hasher>,
+    pub(crate) survey: Survey<Hasher>,
 }
 
 impl<'a> Surveyed<'a> {
     /// Reads the header.
-    fn open(alloc: Global, mut bytes: &'a [u8]) -> Result<Surveyed<'a>, LogError> {
+    pub(crate) fn open(alloc: Global, mut bytes: &'a [u8]) -> Result<Surveyed<'a>, LogError> {
         let (params, progress) = Progress::open(alloc, &mut bytes)?;
         Ok(Surveyed {
             bytes,
@@ -156,12 +156,12 @@ impl<'a> Surveyed<'a> {
     }
 
     /// The next entry.
-    fn next(&mut self) -> Result<Option<Entry>, LogError> {
+    pub(crate) fn next(&mut self) -> Result<Option<Entry>, LogError> {
         self.progress.next(&mut self.bytes)
     }
 
     /// How the log ends after the entries that were taken.
-    fn end(self) -> Option<SurveyEnd> {
+    pub(crate) fn end(self) -> Option<SurveyEnd> {
         let Surveyed {
             bytes: _bytes,
             progress: _progress,
@@ -172,7 +172,7 @@ impl<'a> Surveyed<'a> {
 }
 
 /// Takes the entry where it may come next.
-fn take(
+pub(crate) fn take(
     rt: &impl Abort,
     survey: &mut Survey<Hasher>,
     entry: &Entry,

@@ -1,4 +1,4 @@
--- Things that are put one after another into the room that there is for them. For surveying: handed_next, handed_all.
+-- Things that are put one after another into the room that there is for them.
 use Rattle.std.proofs.Common.{◌≡◌, ◌∙◌, ◌<◌, ◌≤◌, ◌+◌, ℕ, List, [], ◌∷◌, ◌++◌, length, map, min, take, drop, get_or, slice_set, sym, ap, subst, append_assoc, drop-cons, add-one, arith}
 use Rattle.std.proofs.lemmas.List.{take_more, map-append, length-map, length-take, length-take-le, get_or-take, take_min, drop_min}
 use Rattle.std.proofs.Math.ListN.{set}

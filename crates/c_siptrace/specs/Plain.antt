@@ -25,7 +25,7 @@ line_of (Line line) = line
 line_of Body = 0
 
 -- the numbers of a verdict: its kind, how many entries and transactions a legal log has, the entry and the transaction of any other, the reason of
--- a fault, its unit and its line; what a kind has not is 0
+-- a fault, its unit and its line; a number that a kind does not have is 0
 abbrev pub numbers : ℕ → ℕ → ℕ → ℕ → ℕ → ℕ → ℕ → ℕ → PlainVerdict
 numbers kind entries transactions entry transaction reason unit line =
     record { kind = kind; entries = entries; transactions = transactions; entry = entry; transaction = transaction; reason = reason; unit = unit; line = line }
@@ -43,7 +43,7 @@ abbrev pub plain_finding : Finding → PlainVerdict
 plain_finding finding = plain (verdict_of finding)
 
 -- what a survey came to in plain numbers: how much was found, and how many entries and transactions the log has, or at which entry and for what
--- reason it cannot be read on; what its end has not is 0
+-- reason it cannot be read on; a number that its end does not have is 0
 abbrev pub plain_summary : ℕ → SurveyEnd → PlainSummary
 plain_summary findings (ended.Clean entries transactions) =
     record { findings = findings; end = 1; entries = entries; transactions = transactions; entry = 0; reason = 0 }

@@ -4,13 +4,13 @@ ghost use Rattle.c_siptrace.specs.Plain.{plain_summary};
 
 use sip_verdict::SurveyEnd;
 
-/// What a survey came to, in plain numbers. What its end has not is 0.
+/// What a survey came to, in plain numbers. A number that the end of the log does not have is 0.
 #[repr(C)]
 #[derive(Clone, Copy, Debug, PartialEq, Eq)]
 pub struct PlainSummary {
     /// How much was found in the log.
     pub findings: usize,
-    /// The log was read to its end 1, or up to a fault of it 2.
+    /// 1 where the log was read to its end, 2 where it was read up to a fault of it.
     pub end: u32,
     /// Of a log that was read to its end: how many entries it has.
     pub entries: u32,
@@ -23,7 +23,7 @@ pub struct PlainSummary {
 }
 
 impl PlainSummary {
-    /// So much was found, and the log ends so.
+    /// The plain numbers of this many findings and of how the log ends.
     pub(crate) fn of(findings: usize, end: &SurveyEnd) -> PlainSummary
         ensures { result ≡ plain_summary findings end.now }
     {

@@ -5,7 +5,7 @@ ghost use Rattle.sip_standard.specs.declared.verdict.Verdict.TheVariants.{LogFau
 
 use sip_verdict::{Fault, LogReason, Unit, Verdict};
 
-/// A verdict in plain numbers. What its kind has not is 0.
+/// A verdict in plain numbers. A number that its kind does not have is 0.
 #[repr(C)]
 #[derive(Clone, Copy, Debug, PartialEq, Eq)]
 pub struct PlainVerdict {

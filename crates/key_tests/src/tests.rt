@@ -373,7 +373,7 @@ static CANCELS: &[(Direction, Parts, Option<Parts>)] = &[
     ),
 ];
 
-/// That the message has this key, at a second call where memory was refused. Whether it was.
+/// Asserts that the message has this key; where memory is refused, that a second call gives it. Answers whether memory was refused.
 fn asks_again_for_its_key(
     rt: &(impl Abort + AllocGlobal),
     message: &Message<'_>,

@@ -306,7 +306,7 @@ fn largest(alloc: Global, message: &[u8]) -> Result<Vec<u8>, AllocError> {
     Ok(bytes)
 }
 
-/// That the entry is the largest one.
+/// Asserts that the entry is the largest one.
 fn is_largest(rt: &impl Abort, entry: &Entry, message: &[u8]) {
     is(
         rt,
@@ -316,7 +316,7 @@ fn is_largest(rt: &impl Abort, entry: &Entry, message: &[u8]) {
     assert!(rt; entry.bytes.as_slice() == message);
 }
 
-/// That the reader tells the largest entry first.
+/// Asserts that the reader tells the largest entry first.
 fn tells_the_largest<R: Source>(
     rt: &impl Abort,
     reader: &mut LogReader<R>,
@@ -327,7 +327,7 @@ fn tells_the_largest<R: Source>(
     Ok(())
 }
 
-/// That the reader knows the times of the header.
+/// Asserts that the reader knows the times of the header.
 fn knows_the_times<R: Source>(rt: &impl Abort, reader: &LogReader<R>) -> Result<(), Fail> {
     let params = reader.params().ok_or("no times")?;
     is(rt, (params.early(), params.late()), (50, 50));

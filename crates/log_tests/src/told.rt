@@ -32,7 +32,7 @@ fn errors_say_what_is_wrong(rt: HostRuntime) -> Result<(), Fail> {
     Ok(())
 }
 
-/// That the value looks so to who debugs it.
+/// Asserts that `{:?}` writes the value so.
 fn looks<T: Debug>(rt: &(impl Abort + AllocGlobal), value: &T, look: &str) -> Result<(), Fail> {
     let told = format!(in rt.alloc(); "{value:?}")?;
     is(rt, told.as_str(), look);

@@ -1,3 +1,4 @@
+-- What holds whatever is answered holds on an error.
 use Rattle.std.proofs.Common.{Result, Ok, Err, OnErr}
 
 -- what holds anyhow holds on an error

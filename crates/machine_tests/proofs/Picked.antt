@@ -1,3 +1,4 @@
+-- What holds of each element of a list holds of each that is picked from it or moved in it.
 use Rattle.std.proofs.Common.{◌≡◌, ◌<◌, ◌≤◌, ◌+◌, ◌-◌, ◌++◌, ◌∙◌, ℕ, List, All, ap, arith, get_or, length, length-append, set, subst, sym, take}
 use Rattle.std.proofs.Math.Seq.{get_or-append_right}
 use Rattle.std.proofs.lemmas.List.Elements.{All-map, All-set, All-take}
@@ -7,11 +8,11 @@ use Rattle.sip_machine.specs.Pools.{picked}
 pub all_picked : {X : Type 0} (P : X → Type 0) (xs : List X) (x : X) (rows : List ℕ) → All P xs → All (λ row. row < length xs) rows → All P (picked xs x rows)
 all_picked P xs x rows all within = All-map P (λ row. get_or xs row x) rows (λ k d low. all (get_or rows k d) x (within k d low))
 
--- and of the first ones, where one of them is put in the place of another
+-- what holds of all elements holds of the first ones, where one of them is put in the place of another
 pub all_moved : {X : Type 0} (P : X → Type 0) (xs : List X) (from to count : ℕ) (x : X) → from < length xs → All P xs → All P (take count (set xs to (get_or xs from x)))
 all_moved P xs from to count x low all = All-take P count (set xs to (get_or xs from x)) (All-set P xs to (get_or xs from x) (all from x low) all)
 
--- and what holds of all that stands after others holds of those of it that are picked
+-- what holds of all elements after others holds of those of them that are picked
 pub behind_picked : {X : Type 0} (P : X → Type 0) (old added new : List X) (x : X) (rows : List ℕ) → new ≡ old ++ added →
     All (λ row. (length old ≤ row) × (row < length new)) rows → All P added → All P (picked new x rows)
 behind_picked P old added new x rows is within all =

@@ -57,7 +57,7 @@ fn book(alloc: Global, transport: &str) -> Result<Book, Fail> {
 
 type Row = rows::Row<InviteClientPhase>;
 
-/// That the entries of each row lead to its states.
+/// Asserts that the entries of each row lead to its states.
 fn all_lead(rt: &(impl Abort + AllocGlobal), transport: &str, rows: &[Row]) -> Result<(), Fail> {
     rows::all_lead(rt, &client(500)?, &book(rt.alloc(), transport)?, rows)
 }

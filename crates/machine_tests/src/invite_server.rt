@@ -44,7 +44,7 @@ fn server() -> Result<InviteServer, Fail> {
 
 type Row = rows::Row<InviteServerPhase>;
 
-/// That the entries of each row lead to its states.
+/// Asserts that the entries of each row lead to its states.
 fn all_lead(rt: &(impl Abort + AllocGlobal), rows: &[Row]) -> Result<(), Fail> {
     let book = book_of(rt.alloc(), &MESSAGES, "INVITE", "UDP")?;
     rows::all_lead(rt, &server()?, &book, rows)

@@ -71,6 +71,15 @@ pub(crate) fn keep(book: &mut Book, number: u32, bytes: &[u8]) -> Result<(), All
     Ok(())
 }
 
+/// Forgets the newest message, if it has this number. No number is above the highest so far.
+pub(crate) fn forget(book: &mut Book, number: u32, highest: u32)
+    requires { (n : ℕ) → Keeps book.old n → n ≤ highest }
+    ensures { (n : ℕ) → Keeps book.new n → n ≤ highest }
+{
+    book.forget_newest(number);
+    let _ = highest;
+}
+
 /// A book that keeps the messages over a transport. Its responses are to this method.
 pub(crate) fn book_of(
     alloc: Global,

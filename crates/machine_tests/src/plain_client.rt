@@ -27,7 +27,7 @@ fn client() -> Result<PlainClient, Fail> {
 
 type Row = rows::Row<PlainClientPhase>;
 
-/// That the entries of each row lead to its states.
+/// Asserts that the entries of each row lead to its states.
 fn all_lead(rt: &(impl Abort + AllocGlobal), rows: &[Row]) -> Result<(), Fail> {
     let book = book_of(rt.alloc(), &MESSAGES, "OPTIONS", "UDP")?;
     rows::all_lead(rt, &client()?, &book, rows)

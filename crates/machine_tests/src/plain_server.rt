@@ -40,7 +40,7 @@ fn book(alloc: Global) -> Result<Book, Fail> {
 
 type Row = rows::Row<PlainServerPhase>;
 
-/// That the entries of each row lead to its states.
+/// Asserts that the entries of each row lead to its states.
 fn all_lead(rt: &(impl Abort + AllocGlobal), rows: &[Row]) -> Result<(), Fail> {
     rows::all_lead(rt, &server()?, &book(rt.alloc())?, rows)
 }

@@ -131,7 +131,7 @@ fn owes(state: &State<PlainServerPhase>, runs: &[Run]) -> bool {
     state.owes.as_slice() == runs
 }
 
-/// That there are two states in one phase, of which the first owes these runs and the second nothing.
+/// Asserts that there are two states in one phase, of which the first owes these runs and the second nothing.
 fn first_owes(
     rt: &impl Abort,
     states: &[State<PlainServerPhase>],
@@ -181,7 +181,7 @@ fn pairs_are_told_apart(rt: &(impl Abort + AllocGlobal), lists: &[&[u32]]) -> Re
     Ok(())
 }
 
-/// The states that these lists make, each of them twice.
+/// The states that owe what these lists say, each of them twice.
 fn twice(alloc: Global, lists: &[&[u32]]) -> Result<Pool<PlainServerPhase>, Fail> {
     let mut all = Vec::new(alloc);
     all.extend_from_slice(lists)?;
@@ -189,7 +189,7 @@ fn twice(alloc: Global, lists: &[&[u32]]) -> Result<Pool<PlainServerPhase>, Fail
     pool_of(alloc, &all)
 }
 
-/// That the first ones of the states from one on are so many, one after another.
+/// Asserts that `first_ones` from this state on gives this many states, one after another.
 fn first_ones_follow(
     rt: &(impl Abort + AllocGlobal),
     pool: &Pool<PlainServerPhase>,
@@ -202,7 +202,7 @@ fn first_ones_follow(
     Ok(())
 }
 
-/// Each of these lists makes one state, however often it is there.
+/// Asserts that equal lists make one state and different ones two.
 fn are_told_apart(rt: &(impl Abort + AllocGlobal), lists: &[&[u32]]) -> Result<(), Fail> {
     pairs_are_told_apart(rt, lists)?;
     let count = lists.len();
@@ -258,7 +258,7 @@ fn owed_in_turn<P: Phase>(alloc: Global, pool: &Pool<P>) -> Result<Vec<u32>, Fai
     Ok(messages)
 }
 
-/// That the states owe these messages, one after another.
+/// Asserts that what the states owe, one after another, are these messages.
 fn owe<P: Phase>(
     rt: &(impl Abort + AllocGlobal),
     pool: &Pool<P>,
@@ -330,13 +330,13 @@ fn first_takes<M: Machine>(
 /// What is owed once the first of three states took its event.
 static OWED_THEN: [u32; 9] = [1, 2, 1, 3, 1, 2, 1, 2, 1];
 
-/// That the states are five, and owe what is owed then.
+/// Asserts that the states are five, and owe what is owed then.
 fn are_five<P: Phase>(rt: &(impl Abort + AllocGlobal), pool: &Pool<P>) -> Result<(), Fail> {
     assert!(rt; pool.len() == 5);
     owe(rt, pool, &OWED_THEN)
 }
 
-/// That the states are these.
+/// Asserts that the states are these.
 fn are_as_before<P: Phase>(
     rt: &(impl Abort + AllocGlobal),
     pool: &Pool<P>,
@@ -347,7 +347,7 @@ fn are_as_before<P: Phase>(
     Ok(())
 }
 
-/// That the first of three states takes an event that leads to two more, or, where memory is refused, that all is as before and that it
+/// Asserts that the first of three states takes an event that leads to two more, or, where memory is refused, that all is as before and that it
 /// takes it then.
 fn goes_on<M: Machine>(
     rt: &(impl Abort + AllocGlobal),
@@ -390,7 +390,7 @@ fn a_pool_goes_on_after_a_refused_growth(rt: HostRuntime) -> Result<(), Fail> {
     goes_on(&rt, &server, &book, &mut pool, &event)
 }
 
-/// That the first of two states is asked again and owes one debt more in a third, or, where memory is refused, that all is as before and
+/// Asserts that the first of two states is asked again and owes one debt more in a third, or, where memory is refused, that all is as before and
 /// that it is asked then.
 fn gains_again<M: Machine>(
     rt: &(impl Abort + AllocGlobal),

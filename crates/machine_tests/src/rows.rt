@@ -38,7 +38,7 @@ fn are_wanted<P: Phase>(states: &[State<P>], wants: &[Want<P>]) -> bool {
             && are_owed(&state.owes, want.1))
 }
 
-/// That it is so after these entries.
+/// Asserts that it is so after these entries.
 fn holds_after(rt: &impl Abort, is_so: bool, entries: &[Entry]) {
     assert!(rt; is_so, "{entries:?}");
 }
@@ -56,7 +56,7 @@ fn lead<M: Machine>(
     Ok(are_wanted(&states, wants))
 }
 
-/// That the entries of each row lead to its states, of all steps.
+/// Asserts that the entries of each row lead to its states, of all steps.
 pub(crate) fn all_lead<M: Machine>(
     rt: &(impl Abort + AllocGlobal),
     machine: &M,
@@ -90,7 +90,7 @@ fn ends_of<M: Machine>(machine: &M, pool: &Pool<M::Phase>) -> Result<Ends, Fail>
     Ok((machine.end_window(pool, 0), machine.until(pool, 0)))
 }
 
-/// That the only state after the entries of each row has its ends.
+/// Asserts that the only state after the entries of each row has its ends.
 pub(crate) fn all_end<M: Machine>(
     rt: &(impl Abort + AllocGlobal),
     machine: &M,
@@ -105,7 +105,7 @@ pub(crate) fn all_end<M: Machine>(
     Ok(())
 }
 
-/// That a state of the phase that owes nothing has these ends.
+/// Asserts that a state of the phase that owes nothing has these ends.
 pub(crate) fn phase_ends<M: Machine>(
     rt: &(impl Abort + AllocGlobal),
     machine: &M,

@@ -145,7 +145,7 @@ static A_2XX_IS_THE_LAST_OF_A_SERVER: &[Server] = &[
     ),
 ];
 
-static AN_INVITE_COMES_AGAIN_BEHIND_A_2XX: &[Server] = &[
+static AN_INVITE_COMES_AGAIN_AFTER_A_2XX: &[Server] = &[
     (
         &[INVITE_CAME, OK_WENT, INVITE_CAME_AGAIN],
         &[(INVITED_AGAIN, &[])],
@@ -392,8 +392,8 @@ fn a_2xx_is_the_last_of_a_server(rt: HostRuntime) -> Result<(), Fail> {
 }
 
 #[test]
-fn an_invite_comes_again_behind_a_2xx(rt: HostRuntime) -> Result<(), Fail> {
-    all_serve(&rt, AN_INVITE_COMES_AGAIN_BEHIND_A_2XX)
+fn an_invite_comes_again_after_a_2xx(rt: HostRuntime) -> Result<(), Fail> {
+    all_serve(&rt, AN_INVITE_COMES_AGAIN_AFTER_A_2XX)
 }
 
 #[test]
@@ -424,7 +424,7 @@ static BY_RFC_6026: (&[Row<InviteServerPhase>], &[Client]) = (
 );
 
 #[test]
-fn by_rfc_6026_an_invite_behind_a_2xx_changes_nothing(rt: HostRuntime) -> Result<(), Fail> {
+fn by_rfc_6026_an_invite_after_a_2xx_changes_nothing(rt: HostRuntime) -> Result<(), Fail> {
     let book = book(rt.alloc())?;
     all_lead(&rt, &InviteServer::new(params(500)?), &book, BY_RFC_6026.0)?;
     all_lead(&rt, &InviteClient::new(params(500)?), &book, BY_RFC_6026.1)

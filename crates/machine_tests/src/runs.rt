@@ -82,7 +82,7 @@ fn step_each<M: Machine>(
     Ok(is_alone)
 }
 
-/// That the state that stepped in its own place is the only one, where there was just one after each entry.
+/// Asserts that the state that stepped in its own place is the only one, where there was just one after each entry.
 fn agree<P: Phase>(
     alloc: Global,
     pool: &Pool<P>,
@@ -110,7 +110,7 @@ pub(crate) fn are_same<P: Phase>(states: &[State<P>], others: &[State<P>]) -> bo
             && state.owes.as_slice() == other.owes.as_slice())
 }
 
-/// That each state of either is one of the other.
+/// Asserts that each state of either is one of the other.
 fn are_alike<P: Phase>(alloc: Global, pool: &Pool<P>, together: &Pool<P>) -> Result<(), Fail> {
     let states = states_of(alloc, pool)?;
     let others = states_of(alloc, together)?;
@@ -167,7 +167,7 @@ fn step_together<M: Machine>(
     Ok(())
 }
 
-/// That the first states of the pool are these.
+/// Asserts that the first states of the pool are these.
 fn stay<P: Phase>(alloc: Global, pool: &Pool<P>, before: &[State<P>]) -> Result<(), Fail> {
     let states = states_of(alloc, pool)?;
     if states.len() >= before.len() && are_same(&states[..before.len()], before) {

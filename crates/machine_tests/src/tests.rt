@@ -2,7 +2,7 @@
 ghost use Rattle.std.specs.Prelude.{◌+◌, ◌<◌, ◌≤◌, ℕ, OnOk};
 ghost use Rattle.sip_machine.specs.Texts.{Keeps};
 
-use crate::messages::keep;
+use crate::messages::{forget, keep};
 use crate::wants::is;
 use sip_machine::{Book, Params};
 use std::alloc::{AllocError, Global};
@@ -51,6 +51,22 @@ fn keeps_equal_bytes_once(rt: HostRuntime) -> Result<(), Fail> {
 }
 
 #[test]
+fn forgets_the_newest_message_alone(rt: HostRuntime) -> Result<(), Fail> {
+    let mut book = Book::new(rt.alloc());
+    keep(&mut book, 3, b"OPTIONS")?;
+    keep(&mut book, 5, b"ACK")?;
+    forget(&mut book, 3, 5);
+    keeps(&rt, &book, 3, Some(b"OPTIONS"));
+    forget(&mut book, 5, 5);
+    keeps(&rt, &book, 5, None);
+    forget(&mut book, 3, 5);
+    keeps(&rt, &book, 3, Some(b"OPTIONS"));
+    is(&rt, book.add(8, b"ACK")?, 8, "it comes again");
+    is(&rt, book.add(9, b"OPTIONS")?, 3, "the first is still kept");
+    Ok(())
+}
+
+#[test]
 fn keeps_many_messages(rt: HostRuntime) -> Result<(), Fail> {
     let mut book = Book::new(rt.alloc());
     assert!(rt; are_numbered(rt.alloc(), &mut book, 0, 100_000, b" SIP/2.0 200 OK")?);
@@ -94,7 +110,7 @@ fn a_book_goes_on_after_a_refused_growth(rt: HostRuntime) -> Result<(), Fail> {
     Err(error.into())
 }
 
-/// That a book that keeps the ACK as its only message takes another one.
+/// Asserts that a book that keeps the ACK as its only message takes another one.
 fn takes_the_next(rt: &impl Abort, book: &mut Book) -> Result<(), Fail>
     requires { (n : ℕ) → Keeps book.old n → n ≤ 1 }
 {
@@ -104,7 +120,7 @@ fn takes_the_next(rt: &impl Abort, book: &mut Book) -> Result<(), Fail>
     Ok(())
 }
 
-/// That a book that was refused memory for the ACK of this number does not keep it, and takes it now.
+/// Asserts that a book that was refused memory for the ACK of this number does not keep it, and takes it now.
 fn goes_on(rt: &impl Abort, book: &mut Book, number: u32) -> Result<(), AllocError>
     requires { (n : ℕ) → Keeps book.old n → n < number }
 {
@@ -114,7 +130,7 @@ fn goes_on(rt: &impl Abort, book: &mut Book, number: u32) -> Result<(), AllocErr
     Ok(())
 }
 
-/// That the book keeps these bytes under the number, or none.
+/// Asserts that the book keeps these bytes under the number, or none.
 fn keeps(rt: &impl Abort, book: &Book, number: u32, bytes: Option<&[u8]>) {
     assert_eq!(rt; book.bytes(number), bytes, "{number}");
 }

@@ -3,12 +3,12 @@
 use std::fmt::Debug;
 use std::process::Abort;
 
-/// That what was read is what is wanted in this row.
+/// Asserts that what was read is what is wanted in this row.
 pub(crate) fn is<T: PartialEq + Debug + Drop>(rt: &impl Abort, read: T, want: T, row: &str) {
     assert_eq!(rt; read, want, "{row}");
 }
 
-/// That it is so in this row.
+/// Asserts that it is so in this row.
 pub(crate) fn holds(rt: &impl Abort, is_so: bool, row: &str) {
     assert!(rt; is_so, "{row}");
 }

@@ -55,7 +55,7 @@ fn next(seed: u64) -> u64 {
     seed ^ (seed << 17)
 }
 
-/// That the text comes to the same with a folded line.
+/// Asserts that the text is answered as it is with one of its lines folded.
 fn agrees(rt: &(impl Abort + AllocGlobal), text: &[u8]) -> Result<(), Fail> {
     let folded = with_fold(rt.alloc(), text)?;
     let answer = answer_to(rt.alloc(), text)?;
@@ -63,7 +63,7 @@ fn agrees(rt: &(impl Abort + AllocGlobal), text: &[u8]) -> Result<(), Fail> {
     Ok(())
 }
 
-/// That messages made of the text do.
+/// Asserts that messages made of the text are answered as with a folded line.
 fn mutated_agree(rt: &(impl Abort + AllocGlobal), text: &[u8], start: u64) -> Result<(), Fail> {
     let mut seed = start;
     for _ in 0..COUNT {
@@ -97,7 +97,7 @@ fn mutated_folded_requests_agree_with_folded_ones(rt: HostRuntime) -> Result<(),
     mutated_agree(&rt, FOLDED, 362_436_069_521_288_629)
 }
 
-/// That the text with the byte at the place replaced by each other one does.
+/// Asserts that the text with any byte in place of the one at the place is answered as with a folded line.
 fn replaced_agree(rt: &(impl Abort + AllocGlobal), text: &[u8], place: usize) -> Result<(), Fail> {
     for byte in u8::MIN..=u8::MAX {
         let mut one = Vec::from_slice(rt.alloc(), text)?;

@@ -152,7 +152,7 @@ fn reads_back_what_it_writes(rt: HostRuntime) -> Result<(), Fail> {
 /// The branches of its Vias, from the top one on.
 static BRANCHES: [&[u8]; 3] = [b"390skdjuw", b"z9hG4bK9ikj8", b"z9hG4bK30239"];
 
-/// That the first torture message shows its Vias.
+/// Asserts that the first torture message shows its Vias.
 fn shows_vias(rt: &impl Abort, message: &Message<'_>) {
     let top = message.top_via();
     assert!(rt; top.transport == b"UDP".as_slice() && top.branch == Some(b"390skdjuw".as_slice()));

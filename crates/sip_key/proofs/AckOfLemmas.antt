@@ -6,14 +6,13 @@ use Rattle.std.specs.Iterator.{YieldsFirstRef}
 use Rattle.std.specs.Cmp.Lexicographic.{bytes_decides}
 use Rattle.std.proofs.Common.{sym, ◌∙◌, ap, ap₂, subst, append-nil}
 use Rattle.std.proofs.lemmas.List.Elements.{filter-append}
-use Rattle.sip_message.specs.Params.{comma}
+use Rattle.sip_message.specs.inner.Marks.{comma}
 use Rattle.sip_standard.specs.StartLine.{StartLine, request}
 use Rattle.sip_standard.specs.Solid.{solid}
-use Rattle.sip_message.specs.Reading.{Reading}
-use Rattle.sip_message.specs.Reads.{Reads}
-use Rattle.sip_standard.specs.Says.{Said}
-use Rattle.sip_message.specs.SaidOf.{said_of}
-use Rattle.sip_message.proofs.lemmas.says.Reading.{said-is}
+use Rattle.sip_standard.specs.Outcome.{gives}
+use Rattle.sip_standard.specs.Says.{Said, Says}
+use Rattle.sip_message.proofs.lemmas.message.Outcome.{given}
+use Rattle.sip_message.proofs.lemmas.says.Reading.{says-one}
 use Rattle.sip_standard.specs.AckOf.{IsAckLine, IsAckOf, AckOf}
 
 -- a request whose method is ACK, and another with the same URI
@@ -56,9 +55,13 @@ along a a' i i' r r' p q s is =
     let R : Said → Type 0 = λ z. IsAckOf a i z in
     subst R s (subst Q q (subst P p is))
 
--- texts are so related exactly if the messages are that they spell
-pub ack-of_bytes : (ack invite response : List ℕ) (a i r : Reading) → Reads ack a → Reads invite i → Reads response r → AckOf ack invite response ↔ IsAckOf (said_of a) (said_of i) (said_of r)
-ack-of_bytes ack invite response a i r reads_a reads_i reads_r = (
-  λ of. along (said_of a) of.0 (said_of i) of.1 (said_of r) of.2 (said-is ack a of.0 reads_a of.3) (said-is invite i of.1 reads_i of.4) (said-is response r of.2 reads_r of.5) of.6,
-  λ is. (said_of a, said_of i, said_of r, reads_a.says, reads_i.says, reads_r.says, is),
+-- bytes say one message
+said-same : (bytes : List ℕ) (s t : Said) → Says bytes (gives s) → Says bytes (gives t) → s ≡ t
+said-same bytes s t one other = given (says-one bytes (gives s) (gives t) one other)
+
+-- texts are so related exactly if what they say is
+pub ack-of_says : (ack invite response : List ℕ) (a i r : Said) → Says ack (gives a) → Says invite (gives i) → Says response (gives r) → AckOf ack invite response ↔ IsAckOf a i r
+ack-of_says ack invite response a i r says_a says_i says_r = (
+  λ of. along a of.0 i of.1 r of.2 (said-same ack of.0 a of.3 says_a) (said-same invite of.1 i of.4 says_i) (said-same response of.2 r of.5 says_r) of.6,
+  λ is. (a, i, r, says_a, says_i, says_r, is),
 )

@@ -23,7 +23,7 @@ length-ends (suc q) (suc p) r s t u r_small s_small same =
     let more = length-ends q p r s t u r_small s_small (ap (drop 1) same) in
     (ap suc more.0, more.1, more.2)
 
--- so the bytes of a length tell it, and where they end
+-- the bytes of a length tell the length, and where they end
 length-by_its_bytes : (a b : ℕ) (t u : List ℕ) → length_bytes a ++ t ≡ length_bytes b ++ u → (a ≡ b) × (t ≡ u)
 unfolding length_bytes
 length-by_its_bytes a b t u same =
@@ -52,6 +52,6 @@ key-by_its_text a b same =
     let parts = alike a.branch b.branch a.sent_by b.sent_by lengths.0 fronts.0 in
     λ i. record { role = role i; branch = parts.0 i; sent_by = parts.1 i; method = fronts.1 i }
 
--- and so are keys that feed a hasher alike
+-- keys that feed a hasher alike are the same
 pub key_by_its_feed : (a b : KeyParts) → key_hash.ghosts.hash_input a ≡ key_hash.ghosts.hash_input b → a ≡ b
 key_by_its_feed a b fed = key-by_its_text a b (ap (λ writes. get_or writes 0 []) fed)

@@ -37,7 +37,7 @@ pub record LaidOut (role : Role) (branch sent_by method text : List ℕ) (branch
   pub parts : parts_at role text branch_start branch_end sent_by_end ≡ record { role = role; branch = branch; sent_by = sent_by; method = method }
   pub sound : (branch_start ≤ branch_end) × (branch_end ≤ sent_by_end) × (sent_by_end ≤ length text) × (text ≡ key_text (parts_at role text branch_start branch_end sent_by_end))
 
--- so it is where the text is that of the parts, and each place stands where its text does
+-- the parts lie in the text as a key wants them, where the text is theirs in a row and each place is where its part ends
 laid-out : (role : Role) (branch sent_by method text : List ℕ) (branch_start branch_end sent_by_end : ℕ)
     → text ≡ key_text (record { role = role; branch = branch; sent_by = sent_by; method = method })
     → branch_start ≡ length (key_head role (length branch) (length method)) → branch_end ≡ branch_start + length branch → sent_by_end ≡ branch_end + length sent_by
@@ -55,7 +55,7 @@ length-bytes_of : (count : ℕ) → length (length_bytes count) ≡ count / 64 +
 unfolding length_bytes
 length-bytes_of count = omega (arith, length-append (replicate (count / 64) 64) (count % 64 ∷ []), length-replicate {A = ℕ} (count / 64) 64)
 
--- and the head of a key
+-- how long the head of a key is
 pub head_length : (role : Role) (branch method : ℕ) → length (key_head role branch method) ≡ 3 + branch / 64 + method / 64
 head_length role branch method =
     omega (arith, length-append (length_bytes branch) (length_bytes method), length-bytes_of branch, length-bytes_of method)

@@ -1,21 +1,25 @@
 -- The methods of keys are ASCII.
 use Rattle.std.proofs.Common.{◌≡◌, ◌≤◌, ◌<◌, ◌||◌, inl, inr, ℕ, Bool, true, false, Option, Some, None, List, [], ◌∷◌, ◌==◌, All, cond, codes, nat_le, nat_lt, option_to_list, refl, sym, subst, arith}
 use Rattle.std.specs.Prelude.{IsAscii, option_map, bytes_eq}
-use Rattle.std.specs.List.{list_all}
+use Rattle.std.specs.List.{list_all, list_any}
 use Rattle.std.specs.Int.{is_in_range}
 use Rattle.std.specs.Char.{is_ascii_alphanumeric}
 use Rattle.std.proofs.lemmas.Bool.{and_parts, or_cases, leb-true, ltb-true, eqb-true}
 use Rattle.std.proofs.lemmas.Str.Ascii.{IsAscii-from_all}
 use Rattle.std.proofs.lemmas.List.Elements.{All-nil, All-cons, All-append, All-weaker, All-from_recursion}
 use Rattle.sip_standard.specs.Profile.{Token}
-use Rattle.sip_text.specs.Bytes.{is_one_of, is_token_byte}
+use Rattle.sip_standard.specs.Chars.{is_among}
+use Rattle.sip_text.specs.Bytes.{is_token_byte}
 use Rattle.sip_standard.specs.StartLine.{StartLine, request, status}
-use Rattle.sip_message.specs.StartLine.{StartText}
+use Rattle.sip_message.specs.inner.StartLine.{StartText}
+use Rattle.sip_message.specs.inner.MessageText.{MessageText}
 use Rattle.sip_message.specs.Reading.{Reading}
 use Rattle.sip_message.specs.Reads.{Reads}
 use Rattle.sip_message.specs.SaidOf.{said_of, said_via}
 use Rattle.sip_message.proofs.lemmas.text.Cuts as each
 use Rattle.sip_message.proofs.lemmas.field.OneWay.{each-token}
+use Rattle.sip_message.proofs.lemmas.says.Values.{said-value}
+use Rattle.sip_message.proofs.lemmas.says.Told.{tells-text}
 use Rattle.sip_standard.specs.declared.role.Role.TheVariants.{Client}
 use Rattle.sip_standard.specs.declared.role.Direction.{Direction}
 use Rattle.sip_standard.specs.Key.{KeyParts}
@@ -37,18 +41,18 @@ alphanumeric_low b is =
       | inr one ↦ (let low = range_low 97 122 b one in omega (arith, low))
     ]
 
-one_of_low : (bytes : List ℕ) → list_all (λ c. nat_lt c 128) bytes ≡ true → (b : ℕ) → is_one_of bytes b ≡ true → b < 128
+one_of_low : (bytes : List ℕ) → list_all (λ c. nat_lt c 128) bytes ≡ true → (b : ℕ) → list_any (λ c. c == b) bytes ≡ true → b < 128
 one_of_low [] all b is = cc
 one_of_low (c ∷ cs) all b is =
     let parts = and_parts (nat_lt c 128) (list_all (λ d. nat_lt d 128) cs) all in
-    elim (or_cases (c == b) (is_one_of cs b) is) [
+    elim (or_cases (c == b) (list_any (λ c. c == b) cs) is) [
       | inl same ↦ subst (λ d. d < 128) (eqb-true c b same) (ltb-true c 128 parts.0)
       | inr more ↦ one_of_low cs parts.1 b more
     ]
 
 token_low : (b : ℕ) → is_token_byte b ≡ true → b < 128
 token_low b is =
-    elim (or_cases (is_ascii_alphanumeric b) (is_one_of (codes "-.!%*_+`'~") b) is) [
+    elim (or_cases (is_ascii_alphanumeric b) (is_among "-.!%*_+`'~" b) is) [
       | inl word ↦ alphanumeric_low b word
       | inr mark ↦ one_of_low (codes "-.!%*_+`'~") refl b mark
     ]
@@ -81,10 +85,13 @@ made_key P f h (Some branch) = All-cons P (f branch) [] (h branch) (All-nil P)
 pub keys_ascii : (bytes : List ℕ) (r : Reading) (d : Direction) (keys : List KeyParts) → Reads bytes r → Concerns (said_of r) d keys → All (λ k. IsAscii k.method) keys
 keys_ascii bytes r d keys reads is = subst (All (λ k. IsAscii k.method)) (sym is) (All-append (λ k. IsAscii k.method) (option_to_list (own_key (said_of r) d)) (option_to_list (cancelled_key (said_of r) d)) own cancelled)
   where
+    text : MessageText bytes r.message
+    text = tells-text bytes r.message reads.tells
+
     own : All (λ k. IsAscii k.method) (option_to_list (own_key (said_of r) d))
     own = made_key (λ k. IsAscii k.method)
         (λ branch. record { role = role_of r.message.start d; branch = branch; sent_by = sent_by_of (role_of r.message.start d) (said_via r.parts.via); method = method_of r.message.start r.parts.cseq.1 })
-        (λ branch. method_ascii reads.text.first r.parts.cseq.1 r.message.start reads.text.is_start reads.parts.is.cseq.2.is_method) (cookie_branch (said_of r).via.branch)
+        (λ branch. method_ascii text.first r.parts.cseq.1 r.message.start text.is_start (said-value reads.parts.is.cseq.0 r.parts.cseq reads.parts.is.cseq.2).is_method) (cookie_branch (said_of r).via.branch)
 
     cancelled : All (λ k. IsAscii k.method) (option_to_list (cancelled_key (said_of r) d))
     cancelled = either (λ o. All (λ k. IsAscii k.method) (option_to_list o)) (is_sent (λ method. bytes_eq method (codes "CANCEL")) r.message.start d)

@@ -2,7 +2,7 @@
 ghost use Rattle.std.specs.Prelude.{◌≡◌, ◌↔◌, [], IsTrue};
 ghost use Rattle.sip_standard.specs.Solid.{solid};
 ghost use Rattle.sip_message.specs.ValueParts.{start_parts};
-ghost use Rattle.sip_message.specs.Reading.{Reading};
+ghost use Rattle.sip_standard.specs.Says.{Said};
 ghost use Rattle.sip_message.specs.SaidOf.{said_of};
 ghost use Rattle.sip_standard.specs.AckOf.{IsAckLine, IsAckOf, SameSolid};
 
@@ -21,7 +21,7 @@ pub fn is_ack_of(ack: &Message<'_>, invite: &Message<'_>, response: &Message<'_>
 
 /// The same for every response whose To is that of the first message but for blanks.
 pub fn is_ack_for(ack: &Message<'_>, invite: &Message<'_>) -> bool
-    ensures { (response : Reading) → SameSolid ack.now.parts.to.0 response.parts.to.0 → IsTrue result ↔ IsAckOf (said_of ack.now) (said_of invite.now) (said_of response) }
+    ensures { (response : Said) → SameSolid (said_of ack.now).to response.to → IsTrue result ↔ IsAckOf (said_of ack.now) (said_of invite.now) response }
 {
     is_ack_line(ack.start(), invite.start())
         && ack.call_id() == invite.call_id()
@@ -70,7 +70,7 @@ struct SolidRoute<'s, 'a> {
 impl<'s, 'a> Model for SolidRoute<'s, 'a> {
     ghost use Rattle.std.specs.Prelude.{ℕ, List, ◌++◌, ◌∷◌};
     ghost use Rattle.std.specs.List.{flat_map};
-    ghost use Rattle.sip_message.specs.Params.{comma};
+    ghost use Rattle.sip_message.specs.inner.Marks.{comma};
     ghost use Rattle.sip_standard.specs.Solid.{solid};
 
     ghost Value = { List ℕ };
@@ -80,7 +80,7 @@ impl<'s, 'a> Model for SolidRoute<'s, 'a> {
 
 impl<'s, 'a> SolidRoute<'s, 'a> {
     ghost use Rattle.std.specs.List.{join_with_byte};
-    ghost use Rattle.sip_message.specs.Params.{comma};
+    ghost use Rattle.sip_message.specs.inner.Marks.{comma};
 
     // The bytes of these values.
     fn new(mut values: Routes<'s, 'a>) -> Self

@@ -1,9 +1,8 @@
 //! Laws of keys. The functions do nothing: their contracts are the laws.
 ghost use Rattle.std.specs.Prelude.{◌≡◌, ◌↔◌, ℕ, List, true};
-ghost use Rattle.sip_message.specs.Reading.{Reading};
-ghost use Rattle.sip_message.specs.Reads.{Reads};
+ghost use Rattle.sip_standard.specs.Outcome.{gives};
+ghost use Rattle.sip_standard.specs.Says.{Said, Says};
 ghost use Rattle.sip_standard.specs.Key.{KeyParts, same_key};
-ghost use Rattle.sip_message.specs.SaidOf.{said_of};
 ghost use Rattle.sip_standard.specs.AckOf.{AckOf, IsAckOf};
 
 use crate::key::Key;
@@ -14,9 +13,9 @@ pub fn keys_are_equal_by_their_parts()
     ensures { (a b : KeyParts) → (same_key a b ≡ true) ↔ (a ≡ b) }
 {}
 
-/// Three texts are an ACK, an INVITE and a response to it exactly if the messages that they spell are.
+/// Three texts are an ACK, an INVITE and a response to it exactly if what they say is.
 pub fn an_ack_is_told_by_its_bytes()
-    ensures { (ack invite response : List ℕ) (a i r : Reading) → Reads ack a → Reads invite i → Reads response r → AckOf ack invite response ↔ IsAckOf (said_of a) (said_of i) (said_of r) }
+    ensures { (ack invite response : List ℕ) (a i r : Said) → Says ack (gives a) → Says invite (gives i) → Says response (gives r) → AckOf ack invite response ↔ IsAckOf a i r }
 {}
 
 /// Keys that feed a hasher alike are the same key: each part of a key is fed.

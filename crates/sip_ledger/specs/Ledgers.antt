@@ -6,11 +6,11 @@ use Rattle.sip_ledger.specs.Grids.{Grid, grid_rows}
 -- What many rows owe.
 
 -- a grid; or, where there is one row alone and it owes many debts, these in their order, each with its number
-pub record Table : Type 0 where
+pub record GridOrLong : Type 0 where
   pub grid : Grid
   pub long : Option (List (ℕ × Debt))
 
-abbrev pub table_of : Grid → Option (List (ℕ × Debt)) → Table
+abbrev pub table_of : Grid → Option (List (ℕ × Debt)) → GridOrLong
 table_of grid long = record { grid = grid; long = long }
 
 abbrev pub rows_by : Grid → Option (List (ℕ × Debt)) → List (List Debt)
@@ -18,11 +18,11 @@ rows_by grid None = grid_rows grid
 rows_by grid (Some debts) = values_of debts ∷ []
 
 -- what each row owes
-unfoldable pub rows_of : Table → List (List Debt)
+unfoldable pub rows_of : GridOrLong → List (List Debt)
 rows_of table = rows_by table.grid table.long
 
 -- what one of the rows owes
-abbrev pub row_of : Table → ℕ → List Debt
+abbrev pub row_of : GridOrLong → ℕ → List Debt
 row_of table row = get_or (rows_of table) row []
 
 -- the elements from one index up to another

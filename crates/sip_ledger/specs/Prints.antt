@@ -1,7 +1,7 @@
 use Rattle.std.specs.Prelude.{ℕ, List, Option, None, Some, ◌*◌, ◌%◌, ◌^◌, bit_xor, fold}
 use Rattle.sip_ledger.specs.declared.debt.Debt.{Debt}
 use Rattle.sip_ledger.specs.Grids.{Grid, part}
-use Rattle.sip_ledger.specs.Ledgers.{Table}
+use Rattle.sip_ledger.specs.Ledgers.{GridOrLong}
 
 -- A number for what a row owes, which tells most rows apart at once.
 
@@ -16,5 +16,5 @@ abbrev pub print_by : Grid → Option (List (ℕ × Debt)) → ℕ → ℕ
 print_by grid None row = grid_print grid row
 print_by grid (Some debts) row = 0
 
-unfoldable pub print_of : Table → ℕ → ℕ
+unfoldable pub print_of : GridOrLong → ℕ → ℕ
 print_of table row = print_by table.grid table.long row

@@ -32,9 +32,9 @@ impl Model for Ledger {
     ghost use Rattle.std.specs.Prelude.{◌≡◌, [], ◌∷◌, IfSome};
     ghost use Rattle.std.specs.Option.{option_map};
     ghost use Rattle.sip_ledger.specs.Grids.{grid_rows};
-    ghost use Rattle.sip_ledger.specs.Ledgers.{Table, table_of};
+    ghost use Rattle.sip_ledger.specs.Ledgers.{GridOrLong, table_of};
 
-    ghost Value = { Table };
+    ghost Value = { GridOrLong };
 
     ghost view = { λ l. table_of l.rows (option_map (λ boxed. boxed.value) l.long) };
 

@@ -18,7 +18,7 @@ use std::alloc::{AllocError, Global};
 
 /// A bit, and where the gap before it begins.
 #[derive(Clone, Copy, Debug)]
-pub(crate) struct Place {
+pub(crate) struct FoundBit {
     /// One past the bit before it.
     low: usize,
     /// The bit.
@@ -31,7 +31,7 @@ pub(crate) fn first_payable(
     owed: &[u64],
     numbers: &[u32],
     moment: u64,
-) -> Option<Place>
+) -> Option<FoundBit>
     requires within { (k : ℕ) → has owed.now k ≡ true → k < length entries.now }
     requires fits { 64 * length owed.now < 2 ^ 64 }
     ensures found { IfSome result (IsFirst (is_any_payable numbers.now moment) entries.now (has owed.now)) }
@@ -40,7 +40,7 @@ pub(crate) fn first_payable(
     let mut low = 0;
     while let Some(at) = next(owed, low) {
         if is_paid(entries[at], numbers, moment) {
-            return Some(Place { low, at });
+            return Some(FoundBit { low, at });
         }
         low = at + 1;
     }
@@ -48,7 +48,7 @@ pub(crate) fn first_payable(
 }
 
 /// The first bit of the word that the mask has too.
-pub(crate) fn first_in(owed: u64, bits: u64) -> Option<Place>
+pub(crate) fn first_in(owed: u64, bits: u64) -> Option<FoundBit>
     ensures found { IfSome result (IsFirstIn owed bits) }
     ensures none { IfNone result ((k : ℕ) → has (owed ∷ []) k ≡ true → test bits k ≡ false) }
 {
@@ -58,7 +58,7 @@ pub(crate) fn first_in(owed: u64, bits: u64) -> Option<Place>
     }
     let at = both.trailing_zeros() as usize;
     let before = owed & ((1 << at) - 1);
-    Some(Place {
+    Some(FoundBit {
         low: end(&[before]),
         at,
     })
@@ -86,7 +86,7 @@ pub(crate) fn take_out(
     rises: bool,
     owed: &mut [u64],
     must: &mut [u64],
-    place: Place,
+    place: FoundBit,
 )
     requires rising { rises ≡ true → AreRising entries.now }
     requires row { IsRow entries.now (has owed.old) (has must.old) }
@@ -104,7 +104,7 @@ pub(crate) fn take_out(
 }
 
 /// Moves bits that have room before them to where they can stand earliest, until one stands that has no hole before it.
-fn settle(entries: &[Entry], rises: bool, owed: &mut [u64], must: &mut [u64], place: Place)
+fn settle(entries: &[Entry], rises: bool, owed: &mut [u64], must: &mut [u64], place: FoundBit)
     requires rising { rises ≡ true → AreRising entries.now }
     requires given { IsOpenRow entries.now (has owed.old) (has must.old) place.low place.at }
     requires owed { length entries.now ≤ 64 * length owed.old }
@@ -300,7 +300,7 @@ pub(crate) fn expire(
     ensures debts { row_debts entries.now owed.new must.new ≡ filter (counts_at moment) (row_debts entries.now owed.old must.old) }
 {
     drop_past(entries, owed, must, moment);
-    let all = Place {
+    let all = FoundBit {
         low: 0,
         at: entries.len(),
     };

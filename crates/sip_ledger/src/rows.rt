@@ -16,7 +16,7 @@ mod each;
 
 use crate::debt::{Debt, Entry};
 use crate::memo::{Memo, Question};
-use crate::row::{self, Place};
+use crate::row::{self, FoundBit};
 use crate::run::Run;
 use crate::{table, words};
 use std::alloc::{AllocError, Global};
@@ -248,7 +248,7 @@ impl Rows {
     }
 
     /// The first bit of the row whose debt a send of the message at the moment pays.
-    fn first_payable(&mut self, row: usize, message: u32, moment: u64) -> Option<Place>
+    fn first_payable(&mut self, row: usize, message: u32, moment: u64) -> Option<FoundBit>
         requires { row < length (grid_rows self.old) }
         ensures same { self.new ≡ self.old }
         ensures found { IfSome result (IsFirst (is_payable message moment) self.old.entries (has (part self.old.width row self.old.owed))) }
@@ -264,7 +264,7 @@ impl Rows {
     }
 
     /// The same of a send of one of these messages.
-    fn first_of_any(&self, row: usize, numbers: &[u32], moment: u64) -> Option<Place>
+    fn first_of_any(&self, row: usize, numbers: &[u32], moment: u64) -> Option<FoundBit>
         requires { row < length (grid_rows self.now) }
         ensures found { IfSome result (IsFirst (is_any_payable numbers.now moment) self.now.entries (has (part self.now.width row self.now.owed))) }
         ensures none { IfNone result (NonePasses (is_any_payable numbers.now moment) self.now.entries (has (part self.now.width row self.now.owed))) }
@@ -274,7 +274,7 @@ impl Rows {
     }
 
     /// Takes the debt at the place out of the row.
-    fn take_out(&mut self, row: usize, place: Place)
+    fn take_out(&mut self, row: usize, place: FoundBit)
         requires row { row < length (grid_rows self.old) }
         requires bit { IsBit (has (part self.old.width row self.old.owed)) place }
         ensures others { grid_rows self.new ≡ set (grid_rows self.old) row (grid_row self.new row) }

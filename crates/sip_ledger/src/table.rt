@@ -13,7 +13,7 @@ ghost use Rattle.sip_ledger.specs.inner.Places.{AreRising, IsBit, IsFirst, NoneP
 ghost use Rattle.sip_ledger.specs.inner.Tables.{AreWords, IsInside, IsTableRow, ChangesRow, ChangesTable};
 
 use crate::debt::{Debt, Entry};
-use crate::row::{self, Place};
+use crate::row::{self, FoundBit};
 use crate::run::Run;
 use crate::{bits, words};
 use std::alloc::{AllocError, Global};
@@ -26,7 +26,7 @@ pub(crate) fn first_payable(
     row: usize,
     numbers: &[u32],
     moment: u64,
-) -> Option<Place>
+) -> Option<FoundBit>
     requires inside { IsInside width row owed.now }
     requires within { (k : ℕ) → has (part width row owed.now) k ≡ true → k < length entries.now }
     requires fits { 64 * width < 2 ^ 64 }
@@ -46,7 +46,7 @@ pub(crate) fn take_out(
     must: &mut [u64],
     width: usize,
     row: usize,
-    place: Place,
+    place: FoundBit,
 )
     requires rising { rises ≡ true → AreRising entries.now }
     requires row { IsTableRow entries.now width row owed.old must.old }

@@ -1,9 +1,8 @@
+-- How lines are put together: an order that a map keeps, and a text that was appended in five pieces.
 use Rattle.std.specs.Prelude.{◌≡◌, ◌++◌, ◌+◌, ◌<◌, ℕ, Bool, List, [], ◌∷◌, length, map}
 use Rattle.std.specs.List.Sorted.{IsSortedBy}
 use Rattle.std.proofs.Common.{refl, subst, arith, append_assoc}
 use Rattle.std.proofs.lemmas.List.{get_or-map, length-map}
-
--- Lists of what stands for others.
 
 -- what ascends by f ascends as f's values
 pub IsSortedBy-map : {X Y : Type 0} (f : X → Y) (lt : Y → Y → Bool) (xs : List X) → IsSortedBy (λ x y. lt (f x) (f y)) xs → IsSortedBy lt (map f xs)

@@ -9,7 +9,8 @@ use Rattle.sip_machine.specs.Told.{told_of, field_message, messages_told}
 use Rattle.sip_standard.specs.Told.{ToldField, Told, Flag, Number, Message, field_by, told_by}
 use Rattle.sip_machine.specs.inner.DebtLaws.{All-front, All-back}
 use Rattle.sip_standard.specs.KeyMachine.{MachineKind, OfInviteClient, OfPlainClient, OfInviteServer, OfPlainServer, OfInviteClient3261, OfInviteServer3261}
-use Rattle.sip_states.specs.KeySets.{coded_of, of_machine, to_machine}
+use Rattle.sip_states.specs.KeySets.{coded_of}
+use Rattle.sip_states.proofs.keyed.KeySetLaws.{of_machine, to_machine}
 use Rattle.sip_states.specs.Told.{Saying, said_state, meant, AreToldAs, AreTold}
 use Rattle.sip_states.specs.declared.any_set.AnySet.{AnySet}
 use Rattle.sip_states.specs.declared.told.ToldState.{ToldState}
@@ -19,7 +20,8 @@ use Rattle.sip_standard.specs.StateText.{owes_fields, phase_text}
 use Rattle.sip_listing.specs.Lists.{Tells, TellsSet, AreLinesOfHeld, AreLinesOfSet, Lists}
 use Rattle.sip_standard.specs.StateLines.{AreInOrder}
 use Rattle.sip_standard.specs.PhaseWords.{words_of}
-use Rattle.sip_listing.specs.inner.FieldLaws.{debts_fields, debts_told, first_told, others_told}
+use Rattle.sip_listing.specs.inner.FieldWords.{debts_fields}
+use Rattle.sip_listing.proofs.FieldLemmas.{debts_told, first_told, others_told}
 use Rattle.sip_listing.specs.inner.StateLine.{state_line}
 
 -- the text of a state, whose phase is told in these words
@@ -55,7 +57,7 @@ module _ (number : List ℕ → ℕ) (texts : Texts) where
         (ap (told_by number) (sym (ap (λ (s : Saying). s.0) says)) ∙ back)
         (debts_told number texts x.owes of_debts ∙ ap debts_fields (sym (ap (λ (s : Saying). s.2) says)))
 
-    -- and so are those of several
+    -- the texts of several states are those of what they stand for
     states_told : (xs : List (CodeOwing S)) (states : List ToldState) → map (said_state texts) states ≡ map (meant words seen names texts) xs
         → All (λ x. Tells number texts (owing_names names x)) xs → map (λ x. owing_text words number (owing_seen seen texts x)) xs ≡ map state_line states
     states_told [] [] are tells = refl

@@ -1,2 +1,2 @@
-pub mod FieldLaws
+pub mod FieldWords
 pub mod StateLine

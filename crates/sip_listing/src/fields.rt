@@ -2,10 +2,10 @@
 ghost use Rattle.std.specs.Prelude.{◌≡◌, ◌++◌, OnOk, flat_map, replicate, string_bytes};
 ghost use Rattle.sip_standard.specs.StateText.{field, told_text, number_field, optional_field, flag_field, owed_field};
 ghost use Rattle.sip_machine.specs.Told.{field_of_code};
-ghost use Rattle.sip_listing.specs.inner.FieldLaws.{debts_fields};
+ghost use Rattle.sip_listing.specs.inner.FieldWords.{debts_fields};
 
 use itoa::Buffer;
-use sip_machine::{Debt, Field, Run};
+use sip_machine::{Debt, Run, ToldField};
 use std::alloc::AllocError;
 
 /// Appends a value with its name, after a blank.
@@ -43,13 +43,13 @@ fn push_flag(line: &mut String, name: &str, value: bool) -> Result<(), AllocErro
 }
 
 /// Appends a field of a phase.
-pub(crate) fn push_field(line: &mut String, told: Field) -> Result<(), AllocError>
+pub(crate) fn push_field(line: &mut String, told: ToldField) -> Result<(), AllocError>
     ensures { OnOk result (string_bytes line.new ≡ string_bytes line.old ++ told_text (field_of_code told)) }
 {
     match told {
-        Field::Flag(name, is) => push_flag(line, name, is),
-        Field::Number(name, value) => push_optional(line, name, value),
-        Field::Message(name, number) => push_optional(line, name, number.map(u64::from)),
+        ToldField::Flag(name, is) => push_flag(line, name, is),
+        ToldField::Number(name, value) => push_optional(line, name, value),
+        ToldField::Message(name, number) => push_optional(line, name, number.map(u64::from)),
     }
 }
 

@@ -1,4 +1,3 @@
-pub mod Log
 pub mod Next
 pub mod Reading
 pub mod Told

@@ -2,7 +2,7 @@ use Rattle.std.specs.Prelude.{◌≡◌, ◌<◌, ◌≤◌, ◌++◌, ℕ, List
 use Rattle.sip_standard.specs.declared.format.Format.{Format}
 use Rattle.sip_standard.specs.LogEntry.{Item, IsEntry, entry_says}
 use Rattle.sip_standard.specs.declared.log_reason.LogReason.{LogReason}
-use Rattle.sip_standard.specs.LogSays.{most_entries, LogEnd, Clean, Stops, EndsWith}
+use Rattle.sip_standard.specs.LogSays.{most_entries, Clean, Stops, EndsWith}
 
 -- what comes next in an input: its end, something with the bytes after it, or the fault for which it cannot be read on
 pub data Next (A : Type 0) : Type 0 where
@@ -15,8 +15,3 @@ abbrev pub ComesNext : Format → ℕ → ℕ → List ℕ → Next Item → Typ
 ComesNext format count last rest ends = EndsWith format count last rest Clean
 ComesNext format count last rest (gives e behind) = (rest ≡ entry_says e ++ behind) × (count < most_entries) × (last ≤ e.moment) × IsEntry format e
 ComesNext format count last rest (stops fault) = EndsWith format count last rest (Stops fault)
-
--- what comes next at such an end
-abbrev pub next_at : LogEnd → Next Item
-next_at Clean = ends
-next_at (Stops fault) = stops fault

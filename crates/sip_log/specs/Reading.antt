@@ -23,7 +23,7 @@ pub data Stage : Type 0 where
   failed : Stage
 
 -- how far a log was read: the bytes held back, its format and the times of its header, how many entries it gave, and the moment of the last
-pub record Place : Type 0 where
+pub record ProgressState : Type 0 where
   pub stage : Stage
   pub held : List ℕ
   pub format : Format
@@ -31,7 +31,7 @@ pub record Place : Type 0 where
   pub count : ℕ
   pub last : ℕ
 
--- the same beside a source: what is left to read, where it is known, and whether a read has failed
+-- how far a log was read, beside its source: what is left to read, where it is known, and whether a read has failed
 pub record ReaderState : Type 0 where
   pub stage : Stage
   pub left : Option (List ℕ)
@@ -42,7 +42,7 @@ pub record ReaderState : Type 0 where
   pub has_failed : Bool
 
 -- a place beside what its source has left
-abbrev pub beside_source : Place → Option (List ℕ) → Bool → ReaderState
+abbrev pub beside_source : ProgressState → Option (List ℕ) → Bool → ReaderState
 beside_source p left has_failed =
     record { stage = p.stage; left = prepend_known p.held left; format = p.format; times = p.times; count = p.count; last = p.last; has_failed = has_failed }
 
@@ -91,7 +91,7 @@ Heads format xs (gives p behind) = Header format p xs behind
 Heads format xs (stops fault) = LacksHeader xs × (fault ≡ faults.Header)
 
 -- a header that is read by itself: no entry was, and what is left stands after it; or why there is none
-abbrev pub Opens : Option (List ℕ) → Option (List ℕ) → Bool → Bool → Result (Times × Place) LogError → Type 0
+abbrev pub Opens : Option (List ℕ) → Option (List ℕ) → Bool → Bool → Result (Times × ProgressState) LogError → Type 0
 Opens old left before after (Ok (p, place)) =
     (place ≡ record { stage = entries; held = place.held; format = place.format; times = Some p; count = 0; last = 0 })
     × TellsWhatComes {A = Times} old (prepend_known place.held left) before after (Heads place.format) gives (Ok p)

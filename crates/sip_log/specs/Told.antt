@@ -1,11 +1,13 @@
-use Rattle.std.specs.Prelude.{◌≡◌, ℕ, Bool, true, List, Option, Some, None, Result, Ok, Err, IfSome, ⊤}
+use Rattle.std.specs.Prelude.{◌≡◌, ◌⊎◌, ℕ, Bool, true, List, Option, Some, None, Result, Ok, Err, IfSome, ⊤}
 use Rattle.sip_log.specs.declared.entry.Entry.{Entry}
 use Rattle.sip_log.specs.declared.log_error.LogError.{LogError}
 use Rattle.sip_log.specs.declared.log_error.LogError.TheVariants as errors
 use Rattle.sip_standard.specs.declared.log_reason.LogReason.TheVariants as faults
 use Rattle.sip_standard.specs.declared.log_reason.LogReason.{LogReason}
 use Rattle.sip_log.specs.Next.{Next, ends, gives, stops}
+use Rattle.sip_standard.specs.Times.{Times}
 use Rattle.sip_standard.specs.LogEntry.{Item}
+use Rattle.sip_standard.specs.LogSays.{Stops, LogSays, LacksHeader}
 
 -- What an answer tells of the input.
 
@@ -24,6 +26,10 @@ FailsAs before after P errors.Failed = ⊥
 abbrev pub TellsWhatComes : {A B : Type 0} → Option (List ℕ) → Option (List ℕ) → Bool → Bool → (List ℕ → Next B → Type 0) → (A → List ℕ → Next B) → Result A LogError → Type 0
 TellsWhatComes old new before after P seen (Ok a) = (after ≡ before) × IfSome old (λ xs. (ys : List ℕ) × (new ≡ Some ys) × P xs (seen a ys))
 TellsWhatComes old new before after P seen (Err e) = FailsAs before after (λ fault. IfSome old (λ xs. P xs (stops fault))) e
+
+-- the fault for which an input cannot be read to its end as a log: no header stands at its front, or its entries stop so
+abbrev pub IsFaultOf : List ℕ → LogReason → Type 0
+IsFaultOf input fault = (LacksHeader input × (fault ≡ faults.Header)) ⊎ ((p : Times) × (items : List Item) × LogSays input p items (Stops fault))
 
 -- the entry of a log that the code's entry is
 abbrev pub item : Entry → Item

@@ -28,6 +28,6 @@ Writes old new before after text (Ok done) = Appends old new text × (after ≡ 
 Writes old new before after text (Err Limit) = ⊥
 Writes old new before after text (Err Io) = after ≡ true
 
--- the same within limits, and outside of them the refusal, where the sink is as it was
+-- what is within the limits was written; what is not is refused, and the sink is as it was
 abbrev pub WritesWithin : {S : Type 0} → Type 0 → S → S → Type 0 → Result ⊤ WriteError → Type 0
 WritesWithin Within old new Written r = (Within × Written) ⊎ (¬ Within × (r ≡ Err Limit) × (new ≡ old))

@@ -1,5 +1,5 @@
 //! Laws of the format. The functions do nothing: their contracts are the laws.
-ghost use Rattle.std.specs.Prelude.{◌≡◌, ◌≢◌, ◌<◌, ◌≤◌, ◌++◌, ℕ, List, All, length, flat_map};
+ghost use Rattle.std.specs.Prelude.{◌≡◌, ◌≢◌, ◌⊎◌, ◌<◌, ◌≤◌, ◌++◌, ℕ, List, All, length, flat_map};
 ghost use Rattle.sip_standard.specs.Times.{Times, AreTimes};
 ghost use Rattle.sip_standard.specs.declared.action.Action.TheVariants.{Restart};
 ghost use Rattle.sip_standard.specs.declared.rules.Rules.TheVariants.{R6026};
@@ -10,24 +10,25 @@ ghost use Rattle.sip_standard.specs.LogEntry.{Item, entry_says, IsEntry, IsWithi
 ghost use Rattle.sip_standard.specs.LogHeader.{Header, lines_text};
 ghost use Rattle.sip_log.specs.Writing.{header_text};
 ghost use Rattle.sip_log.specs.Turn.{ComeInTurn};
-ghost use Rattle.sip_standard.specs.LogSays.{most_entries, LogEnd, Clean};
-ghost use Rattle.sip_log.specs.Log.{Log, Readable, IsLogOf};
+ghost use Rattle.sip_standard.specs.LogSays.{most_entries, LogEnd, Clean, LogSays, LacksHeader};
 
-/// Each input has a log.
+/// Each input has a log, or lacks a header.
 pub fn each_input_has_a_log()
-    ensures { (input : List ℕ) → (log : Log) × IsLogOf input log }
+    ensures { (input : List ℕ) → LacksHeader input ⊎ ((p : Times) × (items : List Item) × (end : LogEnd) × LogSays input p items end) }
 {}
 
-/// And only one.
+/// And only one of the two, and only one log.
 pub fn an_input_has_one_log()
-    ensures { (input : List ℕ) (one other : Log) → IsLogOf input one → IsLogOf input other → one ≡ other }
+    ensures either { (input : List ℕ) (p : Times) (items : List Item) (end : LogEnd) → LacksHeader input → LogSays input p items end → ⊥ }
+    ensures one { (input : List ℕ) (p q : Times) (items others : List Item) (end close : LogEnd) → LogSays input p items end → LogSays input q others close →
+        (p ≡ q) × (items ≡ others) × (end ≡ close) }
 {}
 
 /// A header and entries, written one after another, are the log of what was written.
 pub fn what_is_written_is_read()
     ensures { (format : Format) (p : Times) (items : List Item) → AreTimes p → (format ≡ One → p.early ≡ p.late) →
         length items ≤ most_entries → InOrder format 0 items →
-        IsLogOf (header_text format p ++ flat_map entry_says items) (Readable p items Clean) }
+        LogSays (header_text format p ++ flat_map entry_says items) p items Clean }
 {}
 
 /// After any entries, an entry that is written there is what comes next, whatever stands after it.
@@ -44,7 +45,7 @@ pub fn an_entry_is_written_as_it_was_read()
 
 /// Entries that were read in turn after the header are a front of the log's, whatever is left to read.
 pub fn entries_read_in_turn_are_a_front_of_the_log()
-    ensures { (input : List ℕ) (p : Times) (items : List Item) (end : LogEnd) → IsLogOf input (Readable p items end) →
+    ensures { (input : List ℕ) (p : Times) (items : List Item) (end : LogEnd) → LogSays input p items end →
         (format : Format) (q : Times) (behind left : List ℕ) (read : List Item) → Header format q input behind → ComeInTurn format 0 0 behind read left →
         (more : List Item) × (items ≡ read ++ more) }
 {}
@@ -55,11 +56,11 @@ pub fn a_log_of_format_1_is_as_it_was()
     ensures tolerance { (input : List ℕ) (p : Times) (behind : List ℕ) → Header One p input behind → p.early ≡ p.late }
     ensures rules { (input : List ℕ) (p : Times) (behind : List ℕ) → Header One p input behind → input ≡ lines_text One p ++ behind → p.rules ≡ R6026 }
     ensures restarts { (input : List ℕ) (p q : Times) (behind : List ℕ) (items : List Item) (end : LogEnd) → Header One p input behind →
-        IsLogOf input (Readable q items end) → All (λ e. e.action ≢ Restart) items }
+        LogSays input q items end → All (λ e. e.action ≢ Restart) items }
 {}
 
 /// A log of format 1 that is read to its end is, after a header of format 2 with the same times, the same log.
 pub fn a_log_of_format_1_is_one_of_format_2()
     ensures { (input other : List ℕ) (p : Times) (behind : List ℕ) (items : List Item) → Header One p input behind → Header Two p other behind →
-        IsLogOf input (Readable p items Clean) → IsLogOf other (Readable p items Clean) }
+        LogSays input p items Clean → LogSays other p items Clean }
 {}

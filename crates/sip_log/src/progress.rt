@@ -1,7 +1,7 @@
 //! How far a log was read.
 ghost use Rattle.std.specs.Prelude.{◌≡◌, ℕ, List, [], None, IsSome};
 ghost use Rattle.sip_standard.specs.declared.format.Format.TheVariants.{One};
-ghost use Rattle.sip_log.specs.Reading.{Stage, fresh, failed, Place, beside_source, Moves, Opens, Nexts};
+ghost use Rattle.sip_log.specs.Reading.{Stage, fresh, failed, ProgressState, beside_source, Moves, Opens, Nexts};
 ghost use Rattle.sip_log.specs.Told.{TellsWhatComes, next_of};
 ghost use Rattle.sip_log.specs.inner.Entry.{EntryComes};
 
@@ -37,9 +37,9 @@ pub struct Progress {
 
 impl Model for Progress {
     ghost use Rattle.std.specs.Prelude.{◌≤◌};
-    ghost use Rattle.sip_log.specs.Reading.{Place};
+    ghost use Rattle.sip_log.specs.Reading.{ProgressState};
 
-    ghost Value = { Place };
+    ghost Value = { ProgressState };
 
     ghost use Rattle.sip_log.specs.inner.Place.{stage_of, held_at, FitsStage};
     ghost use Rattle.sip_standard.specs.LogSays.{most_entries};

@@ -1,9 +1,8 @@
 //! Reads a log whole.
 ghost use Rattle.std.specs.Prelude.{◌≡◌, ◌++◌, ◌∷◌, [], List, map, IfOk, IfErr, IfSome, OnOk};
 ghost use Rattle.sip_standard.specs.Times.{Times};
-ghost use Rattle.sip_log.specs.Log.{IsFaultOf};
 ghost use Rattle.sip_standard.specs.LogSays.{LogSays, Clean};
-ghost use Rattle.sip_log.specs.Told.{FailsAs, item};
+ghost use Rattle.sip_log.specs.Told.{FailsAs, IsFaultOf, item};
 
 use crate::entry::Entry;
 use crate::log_error::LogError;

@@ -3,3 +3,4 @@ pub mod OrderLaws
 pub mod RunLaws
 pub mod BesideLemmas
 pub mod RetainLemmas
+pub mod NewestLaws

@@ -5,7 +5,7 @@ use Rattle.sip_machine.specs.Limits.{IsWithin}
 use Rattle.sip_standard.specs.MachineEvent.{MachineEvent}
 use Rattle.sip_standard.specs.Debts.{Owed}
 use Rattle.sip_machine.specs.Deadlines.{unexpired, must_deadlines, earliest, unless_owed}
-use Rattle.sip_machine.specs.Rules.{Rules}
+use Rattle.sip_machine.specs.Rules.{MachineRules}
 use Rattle.sip_standard.specs.Figure.{Change, drops, Figure, Owing, changed, quiet, Steps}
 
 -- The figure as rules, which are the same (sip_states, laws.rt).
@@ -42,7 +42,7 @@ TakeOf f p x e y =
     IsWithin e.moment (until_of f p x) × Steps f p e.action e (record { phase = x.phase; owes = unexpired e.moment x.owes }) y
 
 -- the machine of the figure
-abbrev pub rules_of : {X : Type 0} → Figure X → Times → Rules (Owing X)
+abbrev pub rules_of : {X : Type 0} → Figure X → Times → MachineRules (Owing X)
 rules_of f p = record { first = quiet f.idle; ended = quiet f.ended; Take = TakeOf f p; window = window_of f p; until = until_of f p }
 
 -- what a figure keeps: the idle and the ended phase have no timer; a row leads to a phase whose timers are not past; one that drops the debts, or

@@ -24,7 +24,7 @@ pub record KeepsMessage (texts : Texts) (e : NumberedEvent) : Type 0 where
   pub keeps : Keeps texts e.number
   pub limit : e.moment ≤ last_moment
 
--- so it is with an event of a message; a restart has none, and fits any book
+-- the event fits the book: the book keeps its message, unless it is a restart, which has none; and its moment is within the limits
 pub record FitsBook (texts : Texts) (e : NumberedEvent) : Type 0 where
   pub keeps : e.action ≢ Restart → Keeps texts e.number
   pub limit : e.moment ≤ last_moment

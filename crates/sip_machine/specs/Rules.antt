@@ -4,7 +4,7 @@ use Rattle.sip_machine.specs.Texts.{Texts, Keeps}
 use Rattle.sip_standard.specs.MachineEvent.{MachineEvent}
 
 -- a machine over states X: its first state, its ended state, its visible steps, when it may end and how long it may stay
-pub record Rules (X : Type 0) : Type 1 where
+pub record MachineRules (X : Type 0) : Type 1 where
   pub first : X
   pub ended : X
   pub Take : X → MachineEvent → X → Type 0
@@ -16,17 +16,17 @@ abbrev pub OrStays : {X : Type 0} → (X → Type 0) → X → X → Type 0
 OrStays {X} P x y = P y ⊎ (((z : X) → ¬ (P z)) × (y ≡ x))
 
 -- x may stay until h
-abbrev pub Waits : {X : Type 0} → Rules X → X → ℕ → Type 0
+abbrev pub Waits : {X : Type 0} → MachineRules X → X → ℕ → Type 0
 Waits r x h = IsWithin h (r.until x)
 
 -- x may end at h, which gives y
-pub record Hide {X : Type 0} (r : Rules X) (x : X) (h : ℕ) (y : X) : Type 0 where
+pub record Hide {X : Type 0} (r : MachineRules X) (x : X) (h : ℕ) (y : X) : Type 0 where
   pub opened : IsOpenAt h (r.window x)
   pub waited : Waits r x h
   pub gives : y ≡ r.ended
 
 -- what every machine keeps: the first and the ended state stay for ever, and a visible step leads from and to a state that can wait at its own moment
-pub record IsLawful {X : Type 0} (r : Rules X) : Type 0 where
+pub record IsLawful {X : Type 0} (r : MachineRules X) : Type 0 where
   pub first_has_no_end : r.window r.first ≡ None
   pub first_stays : r.until r.first ≡ None
   pub ended_has_no_end : r.window r.ended ≡ None

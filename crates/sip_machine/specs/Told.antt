@@ -1,8 +1,8 @@
 use Rattle.std.specs.Prelude.{ℕ, Option, None, List, map}
 use Rattle.std.specs.List.{filter_map}
 use Rattle.sip_standard.specs.Told.{ToldField, Told, Flag, Number, Message}
-use Rattle.sip_machine.specs.declared.told.Field.{Field as CodeField}
-use Rattle.sip_machine.specs.declared.told.Field.TheVariants as code
+use Rattle.sip_machine.specs.declared.told.ToldField.{ToldField as CodeField}
+use Rattle.sip_machine.specs.declared.told.ToldField.TheVariants as code
 use Rattle.sip_machine.specs.declared.told.Told.{Told as CodeTold}
 
 -- A phase in words: its messages, and the words of the code, whose messages are numbers of a book.

@@ -1,5 +1,5 @@
 //! The messages of a log, each kept once.
-ghost use Rattle.std.specs.Prelude.{◌≡◌, ◌≢◌, ◌<◌, ◌≤◌, ◌⊎◌, ◌↔◌, ◌++◌, ◌∷◌, [], ℕ, length, map, MatchOption, IfSome, IfOk, IfErr, OnOk, OnErr, IsTrue, All, AllPairs};
+ghost use Rattle.std.specs.Prelude.{◌≡◌, ◌≢◌, ◌<◌, ◌≤◌, ◌⊎◌, ◌↔◌, ◌++◌, ◌∷◌, [], ℕ, None, List, length, map, MatchOption, IfNone, IfSome, IfOk, IfErr, OnOk, OnErr, IsTrue, All, AllPairs};
 ghost use Rattle.std.specs.List.{insert, HoldsAt};
 ghost use Rattle.std.specs.List.Sorted.{IsSearchInRange, IsBinarySearchResult};
 ghost use Rattle.sip_machine.specs.Texts.{IsBook, Keeps, text_of};
@@ -7,11 +7,11 @@ ghost use Rattle.sip_machine.specs.Retained.{only};
 ghost use Rattle.sip_message.specs.Reads.{Reads};
 ghost use Rattle.sip_machine.specs.inner.ReadAs.{IsReadAs};
 ghost use Rattle.sip_machine.specs.inner.Tos.{IsToOf, HoldsBetween, count_between};
-ghost use Rattle.sip_machine.specs.inner.Order.{texts_of, bytes_at, key_of, compare, begins_by, places_of, index_of, most_places, IsLed, IsInRuns, IsInside, IsGap};
+ghost use Rattle.sip_machine.specs.inner.Order.{texts_of, placed, bytes_at, key_of, compare, begins_by, places_of, index_of, most_places, IsLed, IsInRuns, StandInRuns, IsInside, IsGap};
 
 mod retain;
 
-use crate::book::retain::{keep_only, move_all};
+use crate::book::retain::{keep_only, lay_aside, move_all};
 use crate::event::is_unsuccessful;
 use crate::hashed::{Hashed, hash};
 use crate::tos::{Holder, Tos};
@@ -24,11 +24,14 @@ use std::marker::Model;
 /// Messages by number: equal bytes have one number. They stand in the order of their numbers, and beside them
 /// their places stand in the order of hash and bytes, in runs, so that few places move for a new one. So a message
 /// is found by its number, and by its bytes, with a logarithm of comparisons, whatever the log is and however the
-/// hashes fall; its bytes are kept once.
+/// hashes fall; its bytes are kept once. The newest one gets its place when the next one comes, so that one which is
+/// forgotten at once never has one.
 #[derive(Debug, Drop)]
 pub struct Book {
-    kept: Vec<Kept>,
-    order: Vec<Run>,
+    kept: Vec<KeptMessage>,
+    order: Vec<PlaceRun>,
+    /// Where the place of the newest message goes, if it stands in no run yet.
+    loose: Option<Loose>,
     /// The To of some of the messages.
     tos: Tos,
     /// Buffers of messages that were forgotten, for those that come.
@@ -37,7 +40,7 @@ pub struct Book {
 
 /// A message with the number of its first entry.
 #[derive(Debug, Drop)]
-struct Kept {
+struct KeptMessage {
     number: u32,
     bytes: Vec<u8>,
 }
@@ -52,16 +55,23 @@ struct Place {
 /// Some of the places, in their order: at least one, at most `MOST`. The first one stands here again, so that
 /// the run of a message is found without a look into other runs.
 #[derive(Debug, Drop)]
-struct Run {
+struct PlaceRun {
     first: Place,
     places: Vec<Place>,
 }
 
 /// Between two places: in this run, before this place of it.
-#[derive(Clone, Copy)]
+#[derive(Clone, Copy, Debug)]
 struct Gap {
     run: usize,
     place: usize,
+}
+
+/// Where the place of the newest message goes, with the hash of its bytes.
+#[derive(Clone, Copy, Debug)]
+struct Loose {
+    hash: u64,
+    gap: Gap,
 }
 
 /// A run with so many places is halved before it takes another one.
@@ -69,14 +79,14 @@ const MOST: usize = 128;
 
 impl Model for Book {
     ghost use Rattle.sip_machine.specs.Texts.{Texts, IsBook};
-    ghost use Rattle.sip_machine.specs.inner.Order.{texts_of, IsInRuns};
+    ghost use Rattle.sip_machine.specs.inner.Order.{texts_of, StandInRuns};
     ghost use Rattle.sip_machine.specs.inner.Tos.{AreTos};
 
     ghost Value = { Texts };
 
     ghost view = { λ b. texts_of b.kept.items };
 
-    ghost invariant = { λ b. IsBook (texts_of b.kept.items) × IsInRuns (texts_of b.kept.items) b.order.items × AreTos (texts_of b.kept.items) b.tos };
+    ghost invariant = { λ b. IsBook (texts_of b.kept.items) × StandInRuns (texts_of b.kept.items) b.order.items b.loose × AreTos (texts_of b.kept.items) b.tos };
 }
 
 impl Book {
@@ -87,6 +97,7 @@ impl Book {
         Book {
             kept: Vec::new(alloc),
             order: Vec::new(alloc),
+            loose: None,
             tos: Tos::new(alloc),
             spare: Vec::new(alloc),
         }
@@ -210,14 +221,32 @@ impl Book {
             ⊎ ((self.new ≡ self.old ++ (entry, bytes.now) ∷ []) × (n ≡ entry))) }
         ensures err { OnErr result (self.new ≡ self.old) }
     {
+        place_newest(&self.kept, &mut self.order, &mut self.loose)?;
         let hash = hash(bytes);
         match find(&self.kept, &self.order, hash, bytes) {
             Ok(position) => Ok(self.kept[position].number),
             Err(gap) => {
                 let bytes = copy(&mut self.spare, self.kept.len(), bytes)?;
-                put(&mut self.kept, &mut self.order, gap, entry, hash, bytes)?;
+                self.kept.push(KeptMessage {
+                    number: entry,
+                    bytes,
+                })?;
+                self.loose = Some(Loose { hash, gap });
                 Ok(entry)
             }
+        }
+    }
+
+    /// Forgets the newest message, if it has this number, and neither its place nor its To stands beside it yet.
+    pub fn forget_newest(&mut self, number: u32)
+        ensures { (self.new ≡ self.old) ⊎ ((bytes : List ℕ) × (self.old ≡ self.new ++ (number, bytes) ∷ [])) }
+    {
+        if self.loose.is_none() || !self.tos.are_below(number) {
+            return;
+        }
+        if let Some(newest) = pop_newest(&mut self.kept, number) {
+            self.loose = None;
+            lay_aside(&mut self.spare, newest.bytes);
         }
     }
 
@@ -234,8 +263,11 @@ impl Book {
         requires kept { All (Keeps self.old) numbers.now }
         ensures { self.new ≡ only numbers.now self.old }
     {
-        move_all(&mut self.order, &self.kept, numbers);
+        let is_loose = self.loose.is_some();
+        let kept = placed(&self.kept, is_loose);
+        move_all(&mut self.order, kept, placed(numbers, is_loose));
         keep_only(&mut self.kept, &mut self.spare, numbers);
+        self.loose = loosened(&self.kept, &self.order, is_loose);
         self.tos.retain(numbers);
     }
 }
@@ -251,7 +283,7 @@ fn is_refusal(message: &Message<'_>) -> bool {
 }
 
 /// How many of the messages have numbers from `low` up to `high`.
-fn kept_between(kept: &[Kept], low: u32, high: u32) -> usize
+fn kept_between(kept: &[KeptMessage], low: u32, high: u32) -> usize
     requires { AllPairs (λ a b. a.0 < b.0) (texts_of kept.now) }
     ensures { result ≡ count_between low high (map (λ k. k.0) (texts_of kept.now)) }
 {
@@ -261,7 +293,7 @@ fn kept_between(kept: &[Kept], low: u32, high: u32) -> usize
 }
 
 /// The position of the message with these bytes; where there is none, its gap in the order.
-fn find(kept: &[Kept], runs: &[Run], hash: u64, bytes: &[u8]) -> Result<usize, Gap>
+fn find(kept: &[KeptMessage], runs: &[PlaceRun], hash: u64, bytes: &[u8]) -> Result<usize, Gap>
     requires { IsInRuns (texts_of kept.now) runs.now }
     ensures found { IfOk result (λ position. (position < length kept.now) × (bytes_at (texts_of kept.now) position ≡ bytes.now)) }
     ensures gap { IfErr result (λ gap. IsGap (texts_of kept.now) (hash, bytes.now) (places_of runs.now) (index_of runs.now gap)) }
@@ -280,7 +312,7 @@ fn find(kept: &[Kept], runs: &[Run], hash: u64, bytes: &[u8]) -> Result<usize, G
 }
 
 /// Whether the first place of a run is none after this hash and these bytes.
-fn begins_by(kept: &[Kept], run: &Run, hash: u64, bytes: &[u8]) -> bool
+fn begins_by(kept: &[KeptMessage], run: &PlaceRun, hash: u64, bytes: &[u8]) -> bool
     ensures { result ≡ begins_by (texts_of kept.now) (hash, bytes.now) run.now }
 {
     standing(kept, run.first, hash, bytes).is_le()
@@ -300,37 +332,76 @@ fn copy(spare: &mut Vec<Vec<u8>>, kept: usize, bytes: &[u8]) -> Result<Vec<u8>, 
     Ok(copy)
 }
 
-/// Keeps a message under the number of its entry, with its place in the gap; on an error all is as before.
-fn put(
-    kept: &mut Vec<Kept>,
-    runs: &mut Vec<Run>,
-    gap: Gap,
-    entry: u32,
-    hash: u64,
-    bytes: Vec<u8>,
-) -> Result<(), AllocError>
-    requires led { All IsLed runs.old.items }
-    requires short { All (λ run. length run.places.items ≤ most_places) runs.old.items }
-    requires inside { 0 < length runs.old.items → IsInside runs.old.items gap }
-    ensures ok { OnOk result ((texts_of kept.new.items ≡ texts_of kept.old.items ++ (entry, bytes.items) ∷ [])
-        × (places_of runs.new.items ≡ insert (places_of runs.old.items) (index_of runs.old.items gap)
-        (record { hash = hash; position = length kept.old.items }))) }
-    ensures err { OnErr result ((kept.new.items ≡ kept.old.items) × (places_of runs.new.items ≡ places_of runs.old.items)) }
-    ensures led { All IsLed runs.new.items }
-    ensures short { All (λ run. length run.places.items ≤ most_places) runs.new.items }
+/// The messages whose places stand in the order, or their numbers: all, or all but the newest, which comes last.
+fn placed<T>(all: &[T], is_loose: bool) -> &[T]
+    ensures { result.now ≡ placed is_loose all.now }
 {
-    kept.reserve(1)?;
-    let position = kept.len();
-    insert(runs, gap, Place { hash, position })?;
-    kept.push(Kept {
-        number: entry,
-        bytes,
-    })?;
+    if is_loose {
+        &all[..all.len().saturating_sub(1)]
+    } else {
+        all
+    }
+}
+
+/// Puts the place of the newest message with the others, if it stands in no run yet. On an error it stands in none.
+fn place_newest(
+    kept: &[KeptMessage],
+    runs: &mut Vec<PlaceRun>,
+    loose: &mut Option<Loose>,
+) -> Result<(), AllocError>
+    requires book { IsBook (texts_of kept.now) }
+    requires order { StandInRuns (texts_of kept.now) runs.old.items loose.old }
+    ensures ok { OnOk result ((loose.new ≡ None) × IsInRuns (texts_of kept.now) runs.new.items) }
+    ensures err { OnErr result (StandInRuns (texts_of kept.now) runs.new.items loose.new) }
+{
+    let Some(newest) = *loose else {
+        return Ok(());
+    };
+    let place = Place {
+        hash: newest.hash,
+        position: kept.len().saturating_sub(1),
+    };
+    if let Err(refused) = insert(runs, newest.gap, place) {
+        *loose = loosened(kept, runs, true);
+        return Err(refused);
+    }
+    *loose = None;
     Ok(())
 }
 
+/// Where the place of the newest message goes, if it stands in no run.
+fn loosened(kept: &[KeptMessage], runs: &[PlaceRun], is_loose: bool) -> Option<Loose>
+    requires book { IsBook (texts_of kept.now) }
+    requires order { IsInRuns (placed is_loose (texts_of kept.now)) runs.now }
+    ensures { StandInRuns (texts_of kept.now) runs.now result }
+{
+    if !is_loose {
+        return None;
+    }
+    let Some((newest, others)) = kept.split_last() else {
+        return None;
+    };
+    let bytes = newest.bytes.as_slice();
+    let hash = hash(bytes);
+    match find(others, runs, hash, bytes) {
+        Ok(_) => None,
+        Err(gap) => Some(Loose { hash, gap }),
+    }
+}
+
+/// Takes the newest message away, if it has this number.
+fn pop_newest(kept: &mut Vec<KeptMessage>, number: u32) -> Option<KeptMessage>
+    ensures none { IfNone result (kept.new.items ≡ kept.old.items) }
+    ensures some { IfSome result (λ newest. (newest.number ≡ number) × (kept.old.items ≡ kept.new.items ++ newest ∷ [])) }
+{
+    match kept.last() {
+        Some(newest) if newest.number == number => kept.pop(),
+        _ => None,
+    }
+}
+
 /// Puts a place into the gap; on an error the places are as before.
-fn insert(runs: &mut Vec<Run>, gap: Gap, place: Place) -> Result<(), AllocError>
+fn insert(runs: &mut Vec<PlaceRun>, gap: Gap, place: Place) -> Result<(), AllocError>
     requires led { All IsLed runs.old.items }
     requires short { All (λ run. length run.places.items ≤ most_places) runs.old.items }
     requires inside { 0 < length runs.old.items → IsInside runs.old.items gap }
@@ -342,7 +413,7 @@ fn insert(runs: &mut Vec<Run>, gap: Gap, place: Place) -> Result<(), AllocError>
     if runs.is_empty() {
         let mut places = Vec::new(*runs.allocator());
         places.push(place)?;
-        runs.push(Run {
+        runs.push(PlaceRun {
             first: place,
             places,
         })?;
@@ -358,7 +429,7 @@ fn insert(runs: &mut Vec<Run>, gap: Gap, place: Place) -> Result<(), AllocError>
 }
 
 /// Halves the run of a gap where it is full, so that it has room. The gap as it is then; on an error the places are as before.
-fn make_room(runs: &mut Vec<Run>, gap: Gap) -> Result<Gap, AllocError>
+fn make_room(runs: &mut Vec<PlaceRun>, gap: Gap) -> Result<Gap, AllocError>
     requires led { All IsLed runs.old.items }
     requires short { All (λ run. length run.places.items ≤ most_places) runs.old.items }
     requires inside { IsInside runs.old.items gap }
@@ -375,7 +446,7 @@ fn make_room(runs: &mut Vec<Run>, gap: Gap) -> Result<Gap, AllocError>
     runs.reserve(1)?;
     let places = runs[gap.run].places.split_off(MOST / 2)?;
     let first = places[0];
-    runs.insert(gap.run + 1, Run { first, places })?;
+    runs.insert(gap.run + 1, PlaceRun { first, places })?;
     if gap.place <= MOST / 2 {
         return Ok(gap);
     }
@@ -386,7 +457,7 @@ fn make_room(runs: &mut Vec<Run>, gap: Gap) -> Result<Gap, AllocError>
 }
 
 /// Where the message with these bytes and this hash stands among places in order, or where it would go.
-fn search(kept: &[Kept], places: &[Place], hash: u64, bytes: &[u8]) -> Result<usize, usize>
+fn search(kept: &[KeptMessage], places: &[Place], hash: u64, bytes: &[u8]) -> Result<usize, usize>
     ensures within { IsSearchInRange result (length places.now) }
     ensures found { IsBinarySearchResult (λ place. compare (key_of (texts_of kept.now) place) (hash, bytes.now)) places.now result }
 {
@@ -394,7 +465,7 @@ fn search(kept: &[Kept], places: &[Place], hash: u64, bytes: &[u8]) -> Result<us
 }
 
 /// How the message at a place stands to one with this hash and these bytes: by the hash, then by the bytes.
-fn standing(kept: &[Kept], place: Place, hash: u64, bytes: &[u8]) -> Ordering
+fn standing(kept: &[KeptMessage], place: Place, hash: u64, bytes: &[u8]) -> Ordering
     ensures { result ≡ compare (key_of (texts_of kept.now) place) (hash, bytes.now) }
 {
     match place.hash.cmp(&hash) {
@@ -404,7 +475,7 @@ fn standing(kept: &[Kept], place: Place, hash: u64, bytes: &[u8]) -> Ordering
 }
 
 /// The bytes at a position, none past the last message.
-fn bytes_at(kept: &[Kept], position: usize) -> &[u8]
+fn bytes_at(kept: &[KeptMessage], position: usize) -> &[u8]
     ensures { result.now ≡ bytes_at (texts_of kept.now) position }
 {
     match kept.get(position) {

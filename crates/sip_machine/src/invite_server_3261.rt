@@ -22,7 +22,7 @@ use crate::event::{Event, is_success};
 use crate::invite_server::{InviteServer, InviteServerPhase};
 use crate::paying::equal_bytes;
 use crate::phases::{Change, Phase, Phases, Turn};
-use crate::told::{Field, Told};
+use crate::told::{Told, ToldField};
 use sip_standard::{Kind, Method};
 use sip_times::Params;
 use std::alloc::{AllocError, Global};
@@ -230,7 +230,7 @@ impl Phases for InviteServer3261 {
             InviteServer3261Phase::In { phase, again } => {
                 let mut told = InviteServer::told(alloc, &phase)?;
                 if remembers(&phase) {
-                    told.fields.push(Field::Flag("again", again))?;
+                    told.fields.push(ToldField::Flag("again", again))?;
                 }
                 Ok(told)
             }

@@ -42,5 +42,5 @@ pub use pool::Pool;
 pub use sip_ledger::{Debt, Run};
 pub use sip_standard::{Kind, Method};
 pub use sip_times::{Action, Params, Rules};
-pub use told::{Field, Told};
+pub use told::{Told, ToldField};
 pub use waiting::Waiting;

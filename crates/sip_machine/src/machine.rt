@@ -4,7 +4,7 @@ ghost use Rattle.std.specs.List.{HoldsAt};
 ghost use Rattle.std.specs.Bool.{OnTrue, OnFalse};
 ghost use Rattle.sip_machine.specs.NumberedEvent.{FitsBook, event_in};
 ghost use Rattle.sip_machine.specs.Texts.{Texts, IsBook, text_of};
-ghost use Rattle.sip_machine.specs.Rules.{Rules, Covers, FromSome, IsLawful, Knows, StandFor};
+ghost use Rattle.sip_machine.specs.Rules.{MachineRules, Covers, FromSome, IsLawful, Knows, StandFor};
 ghost use Rattle.sip_machine.specs.Naming.{AppendsAll};
 ghost use Rattle.sip_machine.specs.Owing.{CodeOwing, at_rest};
 
@@ -33,7 +33,7 @@ pub trait Machine: Drop {
     ghost in_range: { CodeOwing Self.Phase → Type 0 };
 
     /// What may happen, and when.
-    ghost rules: { Self → Rules Seen };
+    ghost rules: { Self → MachineRules Seen };
 
     /// The state before anything was sent or received.
     ghost first: { Self → CodeOwing Self.Phase };

@@ -55,6 +55,16 @@ impl<P: Phase> Pool<P> {
         }
     }
 
+    /// There are no states, and room for the phases of so many.
+    pub fn with_capacity(alloc: Global, states: usize) -> Result<Self, AllocError>
+        ensures { IfOk result (λ pool. pool ≡ []) }
+    {
+        Ok(Pool {
+            phases: Vec::with_capacity(alloc, states)?,
+            dues: Dues::none(),
+        })
+    }
+
     /// How many states there are.
     pub fn len(&self) -> usize
         ensures { result ≡ length self.now }

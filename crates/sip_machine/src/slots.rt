@@ -7,7 +7,7 @@ use std::marker::Model;
 
 /// A print that was put in.
 #[derive(Clone, Copy, Debug)]
-pub(crate) struct Kept {
+pub(crate) struct SlotPrint {
     print: u64,
     /// One past the index of the last one before it of its slot, 0 if there is none.
     older: usize,
@@ -18,7 +18,7 @@ pub(crate) struct Kept {
 pub(crate) struct Slots {
     /// For each slot, one past the index of its last print, 0 if there is none.
     newest: Vec<usize>,
-    kept: Vec<Kept>,
+    kept: Vec<SlotPrint>,
 }
 
 impl Model for Slots {
@@ -52,7 +52,7 @@ impl Slots {
     {
         let slot = slot_of(self.newest.len(), print);
         let older = self.newest[slot];
-        self.kept.push(Kept { print, older })?;
+        self.kept.push(SlotPrint { print, older })?;
         self.newest[slot] = self.kept.len();
         Ok(())
     }

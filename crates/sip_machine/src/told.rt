@@ -5,7 +5,7 @@ use std::alloc::{AllocError, Global};
 
 /// A name with its value.
 #[derive(Clone, Copy, Debug)]
-pub enum Field {
+pub enum ToldField {
     /// Whether it is so.
     Flag(&'static str, bool),
     /// A moment or an interval in milliseconds, if there is one.
@@ -20,14 +20,14 @@ pub struct Told {
     /// The phase's name, as a listing writes it.
     pub name: &'static str,
     /// What the phase keeps besides what is owed, in the order of a listing.
-    pub fields: Vec<Field>,
+    pub fields: Vec<ToldField>,
 }
 
 impl Told {
     pub(crate) fn new(
         alloc: Global,
         name: &'static str,
-        fields: &[Field],
+        fields: &[ToldField],
     ) -> Result<Told, AllocError>
         ensures name { IfOk result (λ told. told.name.now ≡ name.now) }
         ensures fields { IfOk result (λ told. told.fields.items ≡ fields.now) }

@@ -13,7 +13,7 @@ use crate::event::Event;
 use crate::limit::earlier;
 use crate::retransmits::retransmits;
 use crate::timers::timeout;
-use crate::told::Field;
+use crate::told::ToldField;
 use sip_times::Params;
 use std::hash::Hash;
 
@@ -67,15 +67,15 @@ impl Waiting {
     }
 
     /// What its phase tells of it.
-    pub(crate) fn fields(&self) -> [Field; 5]
+    pub(crate) fn fields(&self) -> [ToldField; 5]
         ensures { map field_of_code result ≡ waiting_fields self.now.reliable self.now.request self.now.start self.now.set self.now.interval }
     {
         [
-            Field::Flag("reliable", self.reliable),
-            Field::Message("request", Some(self.request)),
-            Field::Number("start", Some(self.start)),
-            Field::Number("set", Some(self.set)),
-            Field::Number("interval", Some(self.interval)),
+            ToldField::Flag("reliable", self.reliable),
+            ToldField::Message("request", Some(self.request)),
+            ToldField::Number("start", Some(self.start)),
+            ToldField::Number("set", Some(self.set)),
+            ToldField::Number("interval", Some(self.interval)),
         ]
     }
 }

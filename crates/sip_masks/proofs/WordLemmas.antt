@@ -5,7 +5,7 @@ use Rattle.std.proofs.lemmas.List.{get_or-set_same, get_or-set_other, get_or_pas
 use Rattle.std.proofs.lemmas.Nat.{shr-shr}
 use Rattle.std.proofs.lemmas.Nat.Bits.{bit_at_above}
 use Rattle.sip_masks.specs.Bits.{test}
-use Rattle.sip_masks.specs.Marks.{Marks, words_for}
+use Rattle.sip_masks.specs.Marks.{BitsTell, words_for}
 use Rattle.sip_masks.proofs.BitLemmas.{shl, test-or, test-shl_high, test-shl_low, test-ones}
 
 pub test-shr : (x r j : ℕ) → test (x / 2 ^ r) j ≡ test x (r + j)
@@ -60,7 +60,7 @@ from_place words p j small jl =
     ]
 
 -- a word more
-pub marks-more : (p : ℕ → Bool) (text words : List ℕ) (k w : ℕ) → k < length words → Marks p text words (64 * k) → ((i : ℕ) → i < 64 → test w i ≡ p (get_or text (64 * k + i) 0)) → Marks p text (set words k w) (64 * (k + 1))
+pub marks-more : (p : ℕ → Bool) (text words : List ℕ) (k w : ℕ) → k < length words → BitsTell p text words (64 * k) → ((i : ℕ) → i < 64 → test w i ≡ p (get_or text (64 * k + i) 0)) → BitsTell p text (set words k w) (64 * (k + 1))
 marks-more p text words k w within before now i below =
     elim (cases_lt i (64 * k)) [
       | inl low ↦
@@ -78,12 +78,12 @@ pub ones-past : (p : ℕ → Bool) (text : List ℕ) (n i : ℕ) → p 0 ≡ tru
 ones-past p text n i nul past below = test-ones i below ∙ sym (ap p (get_or_past text (n + i) 0 (omega (arith, past))) ∙ nul)
 
 -- a front of the text
-pub marks-front : (p : ℕ → Bool) (text words : List ℕ) (n : ℕ) → Marks p text words n → Marks p (take n text) words n
+pub marks-front : (p : ℕ → Bool) (text words : List ℕ) (n : ℕ) → BitsTell p text words n → BitsTell p (take n text) words n
 marks-front p text words n marks i below = marks i below ∙ ap p (sym (get_or-take n text i 0 below))
 
 -- two words of ones after a front
-pub front-ends : (p : ℕ → Bool) (text words : List ℕ) (k : ℕ) → p 0 ≡ true → 64 * k ≤ length text → k + 1 < length words → Marks p text words (64 * k)
-    → Marks p (take (64 * k) text) (set (set words k 18446744073709551615) (k + 1) 18446744073709551615) (64 * words_for (64 * k))
+pub front-ends : (p : ℕ → Bool) (text words : List ℕ) (k : ℕ) → p 0 ≡ true → 64 * k ≤ length text → k + 1 < length words → BitsTell p text words (64 * k)
+    → BitsTell p (take (64 * k) text) (set (set words k 18446744073709551615) (k + 1) 18446744073709551615) (64 * words_for (64 * k))
 front-ends p text words k nul within room marks i below =
     let front = take (64 * k) text in
     let long : length front ≡ 64 * k = length-take-le (64 * k) text within in

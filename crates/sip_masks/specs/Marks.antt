@@ -1,13 +1,14 @@
 -- What the masks of a text say.
-use Rattle.std.specs.Prelude.{◌≡◌, ℕ, ◌+◌, ◌*◌, ◌/◌, ◌%◌, ◌<◌, ◌≤◌, Bool, not, ◌&&◌, ◌||◌, ◌==◌, List, get_or, length, codes}
+use Rattle.std.specs.Prelude.{◌≡◌, ℕ, ◌+◌, ◌*◌, ◌/◌, ◌%◌, ◌<◌, ◌≤◌, Bool, not, ◌&&◌, ◌||◌, ◌==◌, List, get_or, length}
 use Rattle.std.specs.Int.{is_in_range}
 use Rattle.std.specs.Char.{is_ascii_alphanumeric}
-use Rattle.sip_text.specs.Bytes.{is_one_of, tab}
+use Rattle.sip_standard.specs.Chars.{is_among}
+use Rattle.sip_text.specs.Bytes.{tab}
 use Rattle.sip_masks.specs.Bits.{test}
 
 -- a byte of a token, of a word, of a user, of a password, of a parameter and of a header of a URI
 abbrev pub is_plain : ℕ → Bool
-is_plain byte = is_ascii_alphanumeric byte || is_one_of (codes "-.!*_+'~") byte
+is_plain byte = is_ascii_alphanumeric byte || is_among "-.!*_+'~" byte
 
 abbrev pub is_other : ℕ → Bool
 is_other byte = not (is_plain byte)
@@ -17,8 +18,8 @@ abbrev pub is_control : ℕ → Bool
 is_control byte = (is_in_range 0 31 byte && not (byte == tab)) || byte == 127
 
 -- of the first n places of the text, bit i says whether byte i passes the test; past the end stands NUL
-abbrev pub Marks : (ℕ → Bool) → List ℕ → List ℕ → ℕ → Type 0
-Marks p text words n = (i : ℕ) → i < n → test (get_or words (i / 64) 0) (i % 64) ≡ p (get_or text i 0)
+abbrev pub BitsTell : (ℕ → Bool) → List ℕ → List ℕ → ℕ → Type 0
+BitsTell p text words n = (i : ℕ) → i < n → test (get_or words (i / 64) 0) (i % 64) ≡ p (get_or text i 0)
 
 -- how many words a text of this length has
 abbrev pub words_for : ℕ → ℕ
@@ -27,5 +28,5 @@ words_for n = n / 64 + 2
 pub record IsMasks (text others controls : List ℕ) : Type 0 where
   pub others_long : words_for (length text) ≤ length others
   pub controls_long : words_for (length text) ≤ length controls
-  pub others_mark : Marks is_other text others (64 * words_for (length text))
-  pub controls_mark : Marks is_control text controls (64 * words_for (length text))
+  pub others_mark : BitsTell is_other text others (64 * words_for (length text))
+  pub controls_mark : BitsTell is_control text controls (64 * words_for (length text))

@@ -2,7 +2,7 @@
 ghost use Rattle.std.specs.Prelude.{◌≡◌, ℕ, false, not, ◌+◌, ◌-◌, ◌*◌, ◌/◌, ◌%◌, ◌<◌, ◌≤◌, get_or, length, take, drop};
 ghost use Rattle.std.specs.List.{prefix_len};
 ghost use Rattle.sip_masks.specs.Bits.{test};
-ghost use Rattle.sip_masks.specs.Marks.{is_plain, is_control, is_other, Marks, words_for};
+ghost use Rattle.sip_masks.specs.Marks.{is_plain, is_control, is_other, BitsTell, words_for};
 
 use crate::block::{controls, others, tail};
 use std::marker::Model;
@@ -33,8 +33,8 @@ impl<'t, 'm> Model for Masks<'t, 'm> {
 fn mark(text: &[u8], other: &mut [u64], control: &mut [u64]) -> usize
     requires { (words_for (length text.now) ≤ length other.old) × (words_for (length text.now) ≤ length control.old) }
     ensures within { result ≤ length text.now }
-    ensures other { Marks is_other (take result text.now) other.new (64 * words_for result) }
-    ensures control { Marks is_control (take result text.now) control.new (64 * words_for result) }
+    ensures other { BitsTell is_other (take result text.now) other.new (64 * words_for result) }
+    ensures control { BitsTell is_control (take result text.now) control.new (64 * words_for result) }
     ensures lengths { (length other.new ≡ length other.old) × (length control.new ≡ length control.old) }
 {
     let mut word = 0;

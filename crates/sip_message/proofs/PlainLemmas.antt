@@ -9,7 +9,7 @@ use Rattle.std.proofs.lemmas.List.{drop-drop, append_assoc, append-nil, length-a
 use Rattle.sip_standard.specs.Text.{One, Exactly, ◌then◌, ◌or◌}
 use Rattle.sip_standard.specs.Chars.{is_among}
 use Rattle.sip_standard.specs.Profile.{Token, Sws, Blanks, Hostname, Ipv4, Bracketed, User, Port}
-use Rattle.sip_text.specs.Bytes.{at_sign, colon, equals, semicolon, space, is_one_of, Byte}
+use Rattle.sip_text.specs.Bytes.{at_sign, colon, equals, semicolon, space, Byte}
 use Rattle.sip_text.specs.Host.{HostParts, HostText, name, v4, v6, host_text}
 use Rattle.sip_text.specs.Uri.{SipParts, SipFits, sip, hostport_text, sip_text}
 use Rattle.sip_text.specs.inner.Class.{is_unreserved, is_user_unreserved}
@@ -17,8 +17,8 @@ use Rattle.sip_text.specs.inner.Pieces.{Escaped}
 use Rattle.sip_text.proofs.texts.ManyLemmas.{many-nil, many-push}
 use Rattle.sip_text.proofs.uris.UriCharLemmas.{some-map}
 use Rattle.sip_masks.specs.Marks.{is_plain}
-use Rattle.sip_message.specs.Unfold.{OpensSolid}
-use Rattle.sip_message.specs.Params.{left_angle, right_angle, Mark, ParamsText, ParamsPart, BehindBlanks}
+use Rattle.sip_message.specs.Params.{OpensSolid, ParamsText, ParamsPart, BehindBlanks}
+use Rattle.sip_message.specs.inner.Marks.{left_angle, right_angle, Mark}
 use Rattle.sip_message.specs.Address.{AddressParts, AddressFits, DisplayName, name_addr}
 use Rattle.sip_message.specs.inner.AddressFronts.{Words}
 use Rattle.sip_message.specs.inner.Plain.{segment, LiesWithin, PlainRun, HostPort, SomeUri, Opening, PlainParam, SomeParams, SomeAddress}
@@ -81,7 +81,7 @@ run-stands text at end n before within is some most =
 -- a plain byte is one of a user
 user-byte : (b : ℕ) → is_plain b ≡ true → (is_unreserved b || is_user_unreserved b) ≡ true
 user-byte b is =
-    elim (or_cases (is_ascii_alphanumeric b) (is_one_of (codes "-.!*_+'~") b) is) [
+    elim (or_cases (is_ascii_alphanumeric b) (is_among "-.!*_+'~" b) is) [
       | inl letter ↦ ap (λ x. (x || is_among "-_.!~*'()" b) || is_user_unreserved b) letter
       | inr mark ↦
           (and_parts (is_unreserved b || is_user_unreserved b) (is_plain b) (agree_below_at (λ x. (is_unreserved x || is_user_unreserved x) && is_plain x) is_plain 256 b refl (low-one (codes "-.!*_+'~") b low mark) ∙ is)).0

@@ -8,10 +8,9 @@ use Rattle.std.proofs.lemmas.List.{take-append-drop}
 use Rattle.sip_standard.specs.Text.{Exactly, ◌then◌}
 use Rattle.sip_text.specs.Bytes.{space, tab, Byte}
 use Rattle.sip_standard.specs.StartLine.{request}
-use Rattle.sip_message.specs.StartLine.{Version, is_reason_byte, StartText}
+use Rattle.sip_message.specs.inner.StartLine.{Version, is_reason_byte, StartText, CodeFront}
 use Rattle.sip_message.specs.inner.Plain.{segment, LiesWithin, PlainRun, SomeUri}
 use Rattle.sip_message.specs.inner.Quick.{is_open, IsOpen}
-use Rattle.sip_message.specs.inner.StartFronts.{CodeFront}
 use Rattle.sip_message.proofs.PlainLemmas.{then-stands, whole-stands, run-token}
 use Rattle.sip_message.proofs.lemmas.text.Cuts.{All, all_right}
 

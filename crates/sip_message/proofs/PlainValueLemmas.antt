@@ -11,7 +11,8 @@ use Rattle.std.proofs.lemmas.List.{append-nil, take_all}
 use Rattle.std.proofs.lemmas.List.Folds.{list_all_more}
 use Rattle.sip_standard.specs.Text.{One, Exactly, Many, ◌then◌, ◌or◌}
 use Rattle.sip_standard.specs.Profile.{Token, Lws, Blanks, Quoted}
-use Rattle.sip_text.specs.Bytes.{at_sign, space, backslash, dquote, is_one_of, is_token_byte, Byte}
+use Rattle.sip_text.specs.Bytes.{at_sign, space, backslash, dquote, Byte, is_token_byte}
+use Rattle.sip_standard.specs.Chars.{is_among}
 use Rattle.sip_text.specs.inner.Class.{is_quoted_byte}
 use Rattle.sip_text.specs.inner.Pieces.{Qdtext, QuotedPair}
 use Rattle.sip_text.proofs.texts.ManyLemmas.{many-append, many-flat, many-map, many-some}
@@ -20,8 +21,7 @@ use Rattle.sip_text.proofs.uris.UriCharLemmas.{some-map}
 use Rattle.sip_text.proofs.uris.UriPortLemmas.{digit-above}
 use Rattle.sip_masks.specs.Marks.{is_plain}
 use Rattle.sip_standard.specs.Values.{CallId}
-use Rattle.sip_message.specs.inner.Pieces.{is_word_byte, Word}
-use Rattle.sip_message.specs.Values.{Digits, CSeqText}
+use Rattle.sip_message.specs.inner.Values.{is_word_byte, Word, Digits, CSeqText}
 use Rattle.sip_message.specs.inner.AddressFronts.{Words}
 use Rattle.sip_message.specs.inner.Plain.{segment, LiesWithin, PlainRun}
 use Rattle.sip_message.proofs.QuickLemmas.{low-one}
@@ -33,8 +33,8 @@ use Rattle.sip_message.proofs.lemmas.params.Closed.{blanks-space}
 -- a plain byte is one of a word
 word-byte : (b : ℕ) → is_plain b ≡ true → is_word_byte b ≡ true
 word-byte b is =
-    elim (or_cases (is_ascii_alphanumeric b) (is_one_of (codes "-.!*_+'~") b) is) [
-      | inl letter ↦ ap (λ x. x || is_one_of (codes "-.!%*_+`'~()<>:/[]?{}") b || b == backslash || b == dquote) letter
+    elim (or_cases (is_ascii_alphanumeric b) (is_among "-.!*_+'~" b) is) [
+      | inl letter ↦ ap (λ x. x || is_among "-.!%*_+`'~()<>:/[]?{}" b || b == backslash || b == dquote) letter
       | inr mark ↦ (and_parts (is_word_byte b) (is_plain b) (agree_below_at (λ x. is_word_byte x && is_plain x) is_plain 256 b refl (low-one (codes "-.!*_+'~") b low mark) ∙ is)).0
     ]
   where

@@ -7,7 +7,8 @@ use Rattle.sip_standard.specs.Text.{Exactly, ◌then◌}
 use Rattle.sip_standard.specs.Profile.{Blanks, Port}
 use Rattle.sip_text.specs.Bytes.{colon, space, Byte}
 use Rattle.sip_text.specs.Host.{HostParts, HostText, host_text}
-use Rattle.sip_message.specs.Params.{slash, Mark, BehindBlanks}
+use Rattle.sip_message.specs.inner.Marks.{slash, Mark}
+use Rattle.sip_message.specs.Params.{BehindBlanks}
 use Rattle.sip_message.specs.Via.{ViaParts, ViaFits, ViaText, ViaParams, ColonPort}
 use Rattle.sip_message.specs.Elements.{Element}
 use Rattle.sip_message.specs.inner.ElementFronts.{FirstVia}

@@ -3,7 +3,7 @@ use Rattle.std.proofs.Common.{◌≡◌, ◌⊎◌, ℕ, zero, suc, ◌+◌, ◌
 use Rattle.std.specs.Prelude.{codes, bytes_eq, replicate}
 use Rattle.std.specs.Char.{is_ascii_alphanumeric, to_ascii_lowercase}
 use Rattle.std.specs.Int.{from_le_bytes, to_le_bytes}
-use Rattle.std.specs.List.{AllByRecursion, filter, flat_map, list_all, prefix_len}
+use Rattle.std.specs.List.{AllByRecursion, filter, flat_map, list_all, list_any, prefix_len}
 use Rattle.std.proofs.Math.Seq.{drop-cons, take-append_seam, take-append-add}
 use Rattle.std.proofs.lemmas.Bool.{both_ways, agree_below_at, and_parts, or_cases, cases_lt, eqb-true, ltb-true, le-leb, ne_eqb}
 use Rattle.std.proofs.lemmas.List.{take-append-drop, drop-drop, append_assoc, append-nil, length-append, length-drop, length-take-le, length-map, length-replicate, map-append, take-map, drop-map}
@@ -13,19 +13,22 @@ use Rattle.std.proofs.lemmas.Grind.{flat_map-append}
 use Rattle.sip_standard.specs.Text.{One, ◌or◌}
 use Rattle.sip_standard.specs.Case.{folded}
 use Rattle.sip_standard.specs.Profile.{Token, Lws}
-use Rattle.sip_text.specs.Bytes.{is_one_of, crlf, colon, carriage_return, line_feed, is_wsp, is_token_byte}
+use Rattle.sip_standard.specs.Chars.{is_among}
+use Rattle.sip_text.specs.inner.Blanks.{is_wsp}
+use Rattle.sip_text.specs.Bytes.{is_token_byte, crlf, colon, carriage_return, line_feed}
 use Rattle.sip_text.proofs.texts.ManyLemmas.{AllByRecursion-append, many-nil, many-cons, many-map, some-many}
 use Rattle.sip_text.proofs.strings.BlanksLemmas.{lws-blank}
 use Rattle.sip_text.proofs.texts.RunLemmas.{run-front}
 use Rattle.sip_masks.specs.Marks.{is_plain}
 use Rattle.sip_standard.specs.Lines.{CutSays, OpensBlank}
-use Rattle.sip_message.specs.Lines.{is_inner_byte, with_end}
-use Rattle.sip_message.specs.Values.{is_value_byte, OtherText}
+use Rattle.sip_message.specs.inner.Lines.{is_inner_byte, with_end}
+use Rattle.sip_message.specs.inner.Values.{is_value_byte, OtherText}
 use Rattle.sip_message.specs.declared.name.Known.{Known}
 use Rattle.sip_message.specs.Name.{FieldName, known, other, spellings, name_by, name_of}
 use Rattle.sip_standard.specs.StartLine.{StartLine, request, status}
-use Rattle.sip_message.specs.StartLine.{StartText}
-use Rattle.sip_message.specs.Field.{Field, NameText, ValueText, FieldText, FieldsText}
+use Rattle.sip_message.specs.inner.StartLine.{StartText}
+use Rattle.sip_message.specs.Field.{Field}
+use Rattle.sip_message.specs.inner.FieldText.{NameText, ValueText, FieldText, FieldsText}
 use Rattle.sip_message.specs.inner.Quick.{is_open, IsOpen, AreOrdinary, IsOrdinary}
 use Rattle.sip_message.specs.inner.Numbers.{small, filled, number_of}
 use Rattle.sip_message.proofs.lemmas.text.Cuts.{All, all_left, all_right}
@@ -107,10 +110,10 @@ line-cut text at n end less within is =
     ap₂ take count parts ∙ take-append-add (take n t) (colon ∷ drop (at + n + 1) text) (suc (end - (at + n + 1)))
 
 -- a byte that stands in a list of bytes
-pub low-one : (set : List ℕ) (b : ℕ) → AllByRecursion (λ x. x < 256) set → is_one_of set b ≡ true → b < 256
+pub low-one : (set : List ℕ) (b : ℕ) → AllByRecursion (λ x. x < 256) set → list_any (λ c. c == b) set ≡ true → b < 256
 low-one [] b low is = absurd (both_ways false refl is)
 low-one (x ∷ set) b low is =
-    elim (or_cases (x == b) (is_one_of set b) is) [
+    elim (or_cases (x == b) (list_any (λ c. c == b) set) is) [
       | inl same ↦ omega (arith, eqb-true x b same, low.0)
       | inr later ↦ low-one set b low.1 later
     ]
@@ -118,8 +121,8 @@ low-one (x ∷ set) b low is =
 -- a plain byte is one of a token
 pub plain-token : (b : ℕ) → is_plain b ≡ true → is_token_byte b ≡ true
 plain-token b is =
-    elim (or_cases (is_ascii_alphanumeric b) (is_one_of (codes "-.!*_+'~") b) is) [
-      | inl letter ↦ ap (λ x. x || is_one_of (codes "-.!%*_+`'~") b) letter
+    elim (or_cases (is_ascii_alphanumeric b) (is_among "-.!*_+'~" b) is) [
+      | inl letter ↦ ap (λ x. x || is_among "-.!%*_+`'~" b) letter
       | inr mark ↦
           (and_parts (is_token_byte b) (is_plain b) (agree_below_at (λ x. is_token_byte x && is_plain x) is_plain 256 b refl (low-one (codes "-.!*_+'~") b low mark) ∙ is)).0
     ]
@@ -157,7 +160,7 @@ behind-open text at n end less within mark clear =
     let rest = take (end - (at + n + 1)) (drop (at + n + 1) text) in
     (all_right is_open (take n (drop at text)) (colon ∷ rest) (subst IsOpen (line-cut text at n end less within mark) clear)).1
 
--- nor has the value there
+-- the value of a text without controls has none
 pub value-open : (rest value : List ℕ) → IsOpen rest → ValueText rest value → IsOpen value
 value-open rest value clear valued =
     let w = valued.whole in
@@ -175,7 +178,7 @@ line-begins line f is =
     at [] token more begins = absurd (omega (arith, length-append token.0 token.1, ap length token.4, ap length token.2.2))
     at (b ∷ name) token more begins = both_ways (is_token_byte b) (blank-token b (wsp-blank b begins)) (each-token (b ∷ name) token).0
 
--- so are the lines of fields
+-- where no line of fields has a control, each begins without a blank and has no line end in it
 lines-begin : (lines : List (List ℕ)) (fields : List Field) → FieldsText lines fields → AllByRecursion IsOpen lines → AreInner lines × AllByRecursion (λ line. ¬ (OpensBlank line)) lines
 lines-begin [] fields are clear = (tt, tt)
 lines-begin (line ∷ lines) fields (f, fs, is, are, whole) clear =
@@ -261,7 +264,7 @@ ordinary-head bytes text more rest start fields end at bytes_is clear is is_star
       are_fields = are.are;
     }
 
--- each is a byte
+-- each number of the text is a byte
 abbrev pub Bytes : List ℕ → Type 0
 Bytes text = (i : ℕ) → get_or text i 0 < 256
 
@@ -269,7 +272,7 @@ Bytes text = (i : ℕ) → get_or text i 0 < 256
 abbrev pub is_name_byte : ℕ → Bool
 is_name_byte b = (nat_le 97 b && nat_le b 122) || b == 45
 
--- of the bytes of a token those are the bytes with one bit set
+-- a byte of a token that is one of a known name once a bit is set is lowered by setting that bit
 token-small : (b : ℕ) → b < 256 → is_token_byte b ≡ true → is_name_byte (small b) ≡ true → to_ascii_lowercase b ≡ small b
 token-small b low token name =
     eqb-true _ _ (by (is_token_byte b) (is_name_byte (small b)) _ token name (agree_below_at (λ x. not (is_token_byte x && is_name_byte (small x)) || to_ascii_lowercase x == small x) (λ _. true) 256 b refl low))
@@ -287,7 +290,7 @@ lower-small b low name =
     by true z one is = is
     by false z one is = absurd (both_ways false refl one)
 
--- so a token whose bytes with that bit are those of a name is that name
+-- a token whose bytes are those of a known name once that bit is set is lowered by setting it in each byte
 small-folded : (text : List ℕ) → Bytes text → All is_token_byte text → list_all is_name_byte (map small text) ≡ true → folded text ≡ map small text
 small-folded [] fits token name = refl
 small-folded (b ∷ text) fits token name =

@@ -9,7 +9,7 @@ use Rattle.sip_text.specs.Parts.{HasFront, IsLongestFront}
 use Rattle.sip_text.specs.inner.Blanks.{Blank, blank_len}
 use Rattle.sip_text.proofs.texts.ManyLemmas.{many-nil, many-cons, many-append, many-push, many-map, many-flat, many-some, IsStep, same_many}
 use Rattle.sip_text.proofs.strings.BlanksLemmas.{units-blanks, blanks-units, blank-step}
-use Rattle.sip_message.specs.Unfold.{EndsSolid}
+use Rattle.sip_message.specs.inner.FieldText.{EndsSolid}
 use Rattle.sip_message.specs.inner.Fronts.{Stops, StopsBlank, Behind, IsOnlyBehind, TokenFront, BlanksFront}
 use Rattle.sip_message.specs.inner.AddressFronts.{Words, WordsFront}
 use Rattle.sip_message.proofs.lemmas.text.Each.{each-sws, wsp-blank}

@@ -2,7 +2,7 @@
 use Rattle.std.specs.Prelude.{◌≡◌, ℕ, List, [], ◌∷◌, ◌++◌, if◌then◌else◌}
 use Rattle.sip_standard.specs.Text.{Exactly, ◌then◌}
 use Rattle.sip_message.specs.declared.name.Known.{Known}
-use Rattle.sip_message.specs.Params.{comma, Mark}
+use Rattle.sip_standard.specs.Profile.{Mark}
 use Rattle.sip_message.specs.Via.{ViaParts, ViaText}
 use Rattle.sip_message.specs.Name.{is_name_of}
 use Rattle.sip_message.specs.Field.{Field}
@@ -14,7 +14,7 @@ Element = List ℕ × ViaParts
 -- *( COMMA via-parm )
 abbrev pub MoreElements : List Element → List ℕ → Type 0
 MoreElements [] text = text ≡ []
-MoreElements (e ∷ es) text = ViaText e.0 e.1 × (Mark comma then Exactly e.0 then MoreElements es) text
+MoreElements (e ∷ es) text = ViaText e.0 e.1 × (Mark "," then Exactly e.0 then MoreElements es) text
 
 -- via-parm *( COMMA via-parm )
 abbrev pub ElementsText : List ℕ → List Element → Type 0

@@ -1,16 +1,9 @@
-pub mod Unfold
-pub mod Lines
 pub mod Params
 pub mod Via
 pub mod Address
-pub mod Values
 pub mod Name
-pub mod StartLine
 pub mod Field
 pub mod Message
-pub mod Canon
-pub mod Views
-pub mod Laws
 pub mod Only
 pub mod Elements
 pub mod inner
@@ -18,4 +11,5 @@ pub mod ViaParts
 pub mod Reading
 pub mod ValueParts
 pub mod Reads
+pub mod Canon
 pub mod SaidOf

@@ -2,20 +2,15 @@
 use Rattle.std.specs.Prelude.{◌≡◌, ℕ, List, ◌∷◌}
 use Rattle.sip_message.specs.declared.name.Known.TheVariants as known_name
 use Rattle.sip_message.specs.Address.{AddressParts, AddressText}
-use Rattle.sip_message.specs.Values.{CSeqText}
+use Rattle.sip_standard.specs.Values.{CSeqSays}
 use Rattle.sip_message.specs.Field.{Field}
-use Rattle.sip_message.specs.Message.{Message, MessageText}
-use Rattle.sip_message.specs.Only.{IsOnly}
+use Rattle.sip_message.specs.Message.{Message}
 use Rattle.sip_message.specs.Elements.{Element, AreElements, values}
 use Rattle.sip_standard.specs.Says.{IsFirstOf}
 
 -- an address, with its text
 abbrev pub AddressValue : List ℕ → List ℕ × AddressParts → Type 0
 AddressValue text (whole, a) = AddressText text a × (whole ≡ text)
-
--- CSeq's number and method
-abbrev pub CSeqValue : List ℕ → ℕ × List ℕ → Type 0
-CSeqValue text (number, method) = CSeqText text number method
 
 -- the parts of the named fields
 pub record Parts : Type 0 where
@@ -32,20 +27,10 @@ pub record HasParts (fields : List Field) (p : Parts) : Type 0 where
   pub from : (text : List ℕ) × IsFirstOf (values known_name.From fields) text × AddressValue text p.from
   pub to : (text : List ℕ) × IsFirstOf (values known_name.To fields) text × AddressValue text p.to
   pub call_id : IsFirstOf (values known_name.CallId fields) p.call_id
-  pub cseq : (text : List ℕ) × IsFirstOf (values known_name.CSeq fields) text × CSeqValue text p.cseq
+  pub cseq : (text : List ℕ) × IsFirstOf (values known_name.CSeq fields) text × CSeqSays p.cseq text
 
 -- what contracts see of a message: its start line, its fields and its body as they are spelled, and
 -- the parts of its named fields
 pub record Reading : Type 0 where
   pub message : Message
   pub parts : Parts
-
--- where the named fields stand, and that some bytes spell the message
-pub record Keeps (m : Message) (p : Parts) (v f t i c : List ℕ) : Type 0 where
-  pub parts : IsOnly (HasParts m.fields) p
-  pub spelled : (bytes : List ℕ) × MessageText bytes m
-  pub via : IsFirstOf (values known_name.Via m.fields) v
-  pub from : IsFirstOf (values known_name.From m.fields) f
-  pub to : IsFirstOf (values known_name.To m.fields) t
-  pub call_id : IsFirstOf (values known_name.CallId m.fields) i
-  pub cseq : IsFirstOf (values known_name.CSeq m.fields) c

@@ -3,7 +3,6 @@ use Rattle.std.specs.Prelude.{map}
 use Rattle.std.specs.List.{join_with_byte}
 use Rattle.sip_text.specs.Host.{host_text}
 use Rattle.sip_message.specs.declared.name.Known.TheVariants as known_name
-use Rattle.sip_message.specs.Params.{comma}
 use Rattle.sip_message.specs.Elements.{Element, values}
 use Rattle.sip_message.specs.Reading.{Reading}
 use Rattle.sip_standard.specs.Via.{SaidVia}
@@ -21,5 +20,5 @@ said_of r = record {
   to = r.parts.to.0;
   call_id = r.parts.call_id;
   cseq = r.parts.cseq;
-  route = join_with_byte comma (values known_name.Route r.message.fields);
+  route = join_with_byte 44 (values known_name.Route r.message.fields);
 }

@@ -1,13 +1,18 @@
+pub mod Marks
+pub mod StartLine
+pub mod Values
+pub mod FieldText
+pub mod MessageText
+pub mod Canon
+pub mod Views
 pub mod ParamFronts
 pub mod ViaFronts
 pub mod Fronts
-pub mod StartFronts
 pub mod AddressFronts
-pub mod ValueFronts
 pub mod Stages
+pub mod Only
 pub mod Kept
 pub mod Finds
-pub mod Appends
 pub mod ElementFronts
 pub mod Lines
 pub mod Settles
@@ -17,5 +22,4 @@ pub mod Quick
 pub mod Asked
 pub mod Numbers
 pub mod Plain
-pub mod Pieces
 pub mod Faults

@@ -1,14 +1,13 @@
 //! The canonical form.
-ghost use Rattle.std.specs.Prelude.{◌≡◌, ◌≤◌, ◌<◌, ◌++◌, decimal, OnOk, OnErr};
+ghost use Rattle.std.specs.Prelude.{◌≡◌, ◌≤◌, ◌<◌, ◌++◌, ℕ, List, decimal, OnOk, OnErr};
 ghost use Rattle.std.specs.List.{list_any};
-ghost use Rattle.sip_message.specs.Lines.{with_end};
+ghost use Rattle.sip_message.specs.inner.Lines.{with_end};
 ghost use Rattle.sip_standard.specs.Field.{is_lws_byte};
 ghost use Rattle.sip_standard.specs.Canonical.{is_end_byte, unfolded, unfolded_run, start_text};
-ghost use Rattle.sip_message.specs.Name.{name_text};
-ghost use Rattle.sip_message.specs.Message.{unfolded_field, message_of};
-ghost use Rattle.sip_message.specs.Canon.{field_text, canon};
-ghost use Rattle.sip_message.specs.inner.Appends.{Appends, HasCode, fields_text};
-ghost use Rattle.sip_message.specs.Views.{name_parts, field_parts, slice_fields};
+ghost use Rattle.sip_message.specs.Canon.{IsFormOf};
+ghost use Rattle.sip_message.specs.inner.Canon.{name_text, field_text, canon, Appends, HasCode, fields_text};
+ghost use Rattle.sip_message.specs.inner.MessageText.{unfolded_field, message_of};
+ghost use Rattle.sip_message.specs.inner.Views.{name_parts, field_parts, slice_fields};
 ghost use Rattle.sip_message.specs.ValueParts.{start_parts};
 
 use crate::field::Field;
@@ -151,7 +150,7 @@ fn append_all(
 
 /// Appends the canonical form of the message.
 pub fn write(m: &Message<'_>, out: &mut Vec<u8>) -> Result<(), AllocError>
-    ensures ok { OnOk result (out.new.items ≡ out.old.items ++ canon (message_of m.now.message)) }
+    ensures ok { OnOk result ((text : List ℕ) × (out.new.items ≡ out.old.items ++ text) × IsFormOf m.now text) }
     ensures err { OnErr result (out.new.items ≡ out.old.items) }
 {
     m.known();

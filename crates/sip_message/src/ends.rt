@@ -1,7 +1,6 @@
 //! The ends of the lines of the head.
 ghost use Rattle.std.specs.Prelude.{◌+◌, ◌≤◌, ◌<◌, ◌↔◌, IsTrue, length};
-ghost use Rattle.sip_message.specs.Lines.{HasNoBareEnd};
-ghost use Rattle.sip_message.specs.inner.Lines.{ArePaired, BeginsWithFeed, IsPaired};
+ghost use Rattle.sip_message.specs.inner.Lines.{HasNoBareEnd, ArePaired, BeginsWithFeed, IsPaired};
 
 use std::simd::prelude::*;
 

@@ -6,7 +6,7 @@ ghost use Rattle.sip_message.specs.Elements.{values};
 ghost use Rattle.sip_message.specs.inner.Finds.{IsFound, found_parts};
 ghost use Rattle.sip_message.specs.inner.Lines.{AreLines};
 ghost use Rattle.sip_message.specs.inner.Faults.{HasName, IsValue, FieldOf, FieldsOf};
-ghost use Rattle.sip_message.specs.Views.{name_parts, field_parts, fields_parts, slice_fields};
+ghost use Rattle.sip_message.specs.inner.Views.{name_parts, field_parts, fields_parts, slice_fields};
 ghost use Rattle.sip_message.specs.inner.Settles.{outcome_of, Settles};
 ghost use Rattle.sip_message.specs.inner.Kept.{KeptOf, KeepsMore};
 ghost use Rattle.sip_message.specs.inner.Names.{named_parts};

@@ -1,10 +1,11 @@
 //! Messages.
 ghost use Rattle.std.specs.Prelude.{◌≡◌, ◌∷◌, ℕ, List, IsTrue};
-ghost use Rattle.sip_message.specs.Only.{IsOnly, ExactlyOne, the, One-prop};
+ghost use Rattle.sip_message.specs.Only.{IsOnly};
+ghost use Rattle.sip_message.specs.inner.Only.{ExactlyOne, the, One-prop};
 ghost use Rattle.sip_message.specs.Reading.{Reading, Parts, HasParts};
 ghost use Rattle.sip_message.specs.inner.Codes.{parts_code};
 ghost use Rattle.sip_message.specs.inner.Kept.{KeepsRead};
-ghost use Rattle.sip_message.specs.Views.{fields_parts, slice_fields};
+ghost use Rattle.sip_message.specs.inner.Views.{fields_parts, slice_fields};
 ghost use Rattle.sip_message.specs.ValueParts.{start_parts, address_parts, cseq_parts};
 ghost use Rattle.sip_message.specs.ViaParts.{element};
 
@@ -202,7 +203,7 @@ impl<'a> Message<'a> {
     ghost use Rattle.std.specs.Prelude.{◌↔◌};
     ghost use Rattle.sip_message.specs.declared.name.Known.TheVariants as known_name;
     ghost use Rattle.sip_message.specs.Elements.{values};
-    ghost use Rattle.sip_message.specs.Message.{MessageText};
+    ghost use Rattle.sip_message.specs.Reads.{Reads};
     ghost use Rattle.sip_standard.specs.Transport.{is_reliable};
 
     /// The values of the Route fields, in order.
@@ -226,10 +227,9 @@ impl<'a> Message<'a> {
         &self.fields
     }
 
-    /// Some bytes spell the message, and it has these parts alone.
+    /// Some bytes are read as the message.
     pub fn known(&self)
-        ensures spelled { (bytes : List ℕ) × MessageText bytes self.now.message }
-        ensures parts { IsOnly (HasParts self.now.message.fields) self.now.parts }
+        ensures { (bytes : List ℕ) × Reads bytes self.now }
     {
         let _ = &self.fields;
     }

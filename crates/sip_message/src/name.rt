@@ -1,7 +1,7 @@
 //! The names of fields.
 ghost use Rattle.std.specs.Prelude.{◌≡◌, ◌≢◌, ◌≤◌, ◌∷◌, [], length, take, drop};
 ghost use Rattle.sip_message.specs.Name.{name_of, long_name};
-ghost use Rattle.sip_message.specs.Views.{name_parts};
+ghost use Rattle.sip_message.specs.inner.Views.{name_parts};
 ghost use Rattle.sip_standard.specs.Profile.{Token};
 ghost use Rattle.sip_message.specs.inner.Names.{name_or};
 ghost use Rattle.sip_message.specs.inner.Numbers.{number_of};

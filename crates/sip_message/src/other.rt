@@ -2,8 +2,7 @@
 ghost use Rattle.std.specs.Prelude.{◌≡◌, ◌+◌, ◌≤◌, ◌↔◌, IsTrue, length};
 ghost use Rattle.std.specs.List.{prefix_len};
 ghost use Rattle.sip_text.specs.inner.Blanks.{begins_with_fold};
-ghost use Rattle.sip_message.specs.Values.{OtherText};
-ghost use Rattle.sip_message.specs.inner.ValueFronts.{is_plain_byte, ArePlain};
+ghost use Rattle.sip_message.specs.inner.Values.{OtherText, is_plain_byte, ArePlain};
 
 use std::simd::prelude::*;
 

@@ -1,6 +1,6 @@
 //! Start lines of ordinary heads.
 ghost use Rattle.std.specs.Prelude.{◌≡◌, ◌≤◌, IfSome, IsTrue, codes, length};
-ghost use Rattle.sip_message.specs.StartLine.{StartText};
+ghost use Rattle.sip_message.specs.inner.StartLine.{StartText};
 ghost use Rattle.sip_message.specs.ValueParts.{start_parts};
 ghost use Rattle.sip_message.specs.inner.Plain.{segment};
 ghost use Rattle.sip_message.specs.inner.Quick.{IsOpen};

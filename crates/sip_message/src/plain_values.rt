@@ -3,8 +3,7 @@ ghost use Rattle.std.specs.Prelude.{◌≡◌, ◌≤◌, ◌<◌, ◌^◌, IfSo
 ghost use Rattle.std.specs.Str.Parse.{digits_value};
 ghost use Rattle.sip_text.specs.Parts.{IsOnlyValue};
 ghost use Rattle.sip_standard.specs.Values.{CallId};
-ghost use Rattle.sip_message.specs.Values.{Digits};
-ghost use Rattle.sip_message.specs.Reading.{CSeqValue};
+ghost use Rattle.sip_message.specs.inner.Values.{Digits, CSeqValue};
 ghost use Rattle.sip_message.specs.ValueParts.{cseq_parts};
 ghost use Rattle.sip_message.specs.inner.Plain.{segment};
 

@@ -2,9 +2,9 @@
 //! It finds the ends of lines and of names in masks of the text. What is not ordinary it leaves to the
 //! reader of all heads.
 ghost use Rattle.std.specs.Prelude.{◌≡◌, ◌+◌, ◌-◌, ◌^◌, ◌≤◌, ◌<◌, ◌++◌, [], IsTrue, IfOk, IfSome, length, take, drop};
-ghost use Rattle.sip_message.specs.Lines.{with_end};
-ghost use Rattle.sip_message.specs.Field.{Row, ValueText, FieldText};
-ghost use Rattle.sip_message.specs.Views.{name_parts, field_parts, fields_parts};
+ghost use Rattle.sip_message.specs.inner.Lines.{with_end};
+ghost use Rattle.sip_message.specs.inner.FieldText.{Row, ValueText, FieldText};
+ghost use Rattle.sip_message.specs.inner.Views.{name_parts, field_parts, fields_parts};
 ghost use Rattle.sip_message.specs.ValueParts.{start_parts};
 ghost use Rattle.sip_message.specs.inner.Asked.{AskedOf, AsksMore, KeepsVia};
 ghost use Rattle.sip_message.specs.inner.Plain.{segment, SomeAddress};

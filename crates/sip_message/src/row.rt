@@ -5,11 +5,11 @@ ghost use Rattle.sip_standard.specs.Profile.{Sws};
 ghost use Rattle.sip_text.specs.Parts.{IsOnlyValue};
 ghost use Rattle.sip_standard.specs.Field.{is_lws_byte};
 ghost use Rattle.sip_message.specs.Address.{AddressParts, AddressText};
-ghost use Rattle.sip_message.specs.Field.{ValueText, Row};
+ghost use Rattle.sip_message.specs.inner.FieldText.{ValueText, Row};
 ghost use Rattle.sip_message.specs.inner.Fronts.{text_parts};
-ghost use Rattle.sip_message.specs.inner.ValueFronts.{is_solid};
+ghost use Rattle.sip_message.specs.inner.Values.{is_solid};
 ghost use Rattle.sip_message.specs.inner.Kept.{KeepsMore};
-ghost use Rattle.sip_message.specs.Views.{name_parts};
+ghost use Rattle.sip_message.specs.inner.Views.{name_parts};
 
 use crate::address::read_address;
 use crate::cursor::past;

@@ -2,8 +2,7 @@
 ghost use Rattle.std.specs.Prelude.{◌≡◌};
 ghost use Rattle.std.specs.List.{list_all};
 ghost use Rattle.sip_text.specs.Parts.{IsOnlyValue};
-ghost use Rattle.sip_message.specs.StartLine.{StartText, is_reason_byte};
-ghost use Rattle.sip_message.specs.inner.StartFronts.{RequestLine, StatusLine, CodeFront, status_parts};
+ghost use Rattle.sip_message.specs.inner.StartLine.{StartText, is_reason_byte, RequestLine, StatusLine, CodeFront, status_parts};
 ghost use Rattle.sip_message.specs.inner.Fronts.{pair_parts};
 ghost use Rattle.sip_message.specs.ValueParts.{start_parts};
 

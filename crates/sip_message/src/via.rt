@@ -2,10 +2,10 @@
 ghost use Rattle.std.specs.Prelude.{◌≡◌, ◌↔◌, ℕ, List, Option, IsTrue, MatchOption, option_copied};
 ghost use Rattle.sip_text.specs.Bytes.{colon};
 ghost use Rattle.sip_text.specs.Parts.{IsOnlyValue};
-ghost use Rattle.sip_message.specs.Via.{ViaParts, MoreVias};
+ghost use Rattle.sip_message.specs.Via.{ViaParts};
+ghost use Rattle.sip_message.specs.inner.ElementFronts.{MoreVias, EndsElement, ViaFront, FirstVia, front_parts};
 ghost use Rattle.sip_message.specs.inner.Fronts.{pair_parts};
-ghost use Rattle.sip_message.specs.inner.ElementFronts.{EndsElement, ViaFront, FirstVia};
-ghost use Rattle.sip_message.specs.ViaParts.{element, front_parts};
+ghost use Rattle.sip_message.specs.ViaParts.{element};
 ghost use Rattle.sip_message.specs.inner.ParamFronts.{LedFront, led_parts};
 ghost use Rattle.sip_message.specs.inner.ViaFronts.{HostCut, HostFront, PortFront, BranchOf, BranchFront, TailFront, host_front_parts, tail_parts};
 

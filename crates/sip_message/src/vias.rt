@@ -1,12 +1,13 @@
 //! The elements of all Via fields, and the values of Route fields, one after another.
 ghost use Rattle.std.specs.Prelude.{◌≡◌, ℕ, List, [], drop, MatchOption};
 ghost use Rattle.sip_message.specs.declared.name.Known.TheVariants as known_name;
-ghost use Rattle.sip_message.specs.Only.{IsOnly, ExactlyOne, the, One-prop};
+ghost use Rattle.sip_message.specs.Only.{IsOnly};
+ghost use Rattle.sip_message.specs.inner.Only.{ExactlyOne, the, One-prop};
 ghost use Rattle.sip_message.specs.Elements.{Element, AreElements, values};
 ghost use Rattle.sip_message.specs.inner.ElementFronts.{AreLeft, NextText};
 ghost use Rattle.sip_message.specs.inner.Codes.{elements_code};
 ghost use Rattle.sip_message.specs.ViaParts.{element};
-ghost use Rattle.sip_message.specs.Views.{slice_fields};
+ghost use Rattle.sip_message.specs.inner.Views.{slice_fields};
 
 use crate::cursor::past_mark;
 use crate::field::{Field, cut_value};

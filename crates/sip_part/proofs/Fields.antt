@@ -102,7 +102,7 @@ first_value : (f : SaidField) (fs : List SaidField) → f.name ≡ codes "via" �
 first_value f fs named =
     ap (λ t. map (λ (found : ℕ × List ℕ). found.1) (map (λ g. (g.line, g.value)) (if bytes_eq t (codes "via") then f ∷ filter (λ g. bytes_eq g.name (codes "via")) fs else filter (λ g. bytes_eq g.name (codes "via")) fs))) named
 
--- and of another name it is that of the fields after it
+-- without a first field named Via, the values are those of the fields after it
 later_value : (f : SaidField) (fs : List SaidField) → bytes_eq f.name (codes "via") ≡ false → said_values "via" (f ∷ fs) ≡ said_values "via" fs
 later_value f fs other =
     ap (λ is. map (λ (found : ℕ × List ℕ). found.1) (map (λ g. (g.line, g.value)) (if is then f ∷ filter (λ g. bytes_eq g.name (codes "via")) fs else filter (λ g. bytes_eq g.name (codes "via")) fs))) other

@@ -8,11 +8,11 @@ use Rattle.sip_standard.specs.Text.{Exactly, ◌then◌, Optional, Many}
 use Rattle.sip_standard.specs.Case.{folded}
 use Rattle.sip_standard.specs.Chars.{AnyCase, is_among, EachSays}
 use Rattle.sip_standard.specs.Profile.{Token, Wsp, Lws, Blanks, Sws, Mark, Quoted, Ipv6, Host}
-use Rattle.sip_text.specs.Bytes.{semicolon, is_token_byte, is_wsp}
+use Rattle.sip_text.specs.Bytes.{semicolon, is_token_byte}
+use Rattle.sip_text.specs.inner.Blanks.{is_wsp, Blank}
 use Prim.Native.String.{String}
 use Rattle.std.proofs.lemmas.List.{take-append-drop}
 use Rattle.std.specs.Cmp.Lexicographic.{same_text}
-use Rattle.sip_text.specs.inner.Blanks.{Blank}
 use Rattle.sip_text.proofs.strings.BlanksLemmas.{units-blanks}
 use Rattle.sip_text.proofs.texts.LacksLemmas.{Lacks, AllLack, lacks-append, lack-one, lack-exactly, lack-then, lack-optional, lack-many, lack-some, lack-between}
 use Rattle.sip_text.proofs.uris.UriHostLemmas.{IsForeign, lack-host}
@@ -123,7 +123,7 @@ passed : (u rest : List ℕ) (b : List ℕ) → Lacks semicolon u → branch_in 
 passed [] rest b lacks found = found
 passed (x ∷ u) rest b (other, lacks) found = passed u rest b lacks (on_without (is_end x) (nat_eq x semicolon) _ (branch_in (u ++ rest)) b other found)
 
--- so the search goes on after the first of two texts
+-- the search goes on after the first of two texts, if that has no semicolon
 step : (u v text tail : List ℕ) (b : List ℕ) → Lacks semicolon u → text ≡ u ++ v → branch_in (text ++ tail) ≡ Some b → branch_in (v ++ tail) ≡ Some b
 step u v text tail b lacks whole found = passed u (v ++ tail) b lacks (subst (λ t. branch_in t ≡ Some b) (ap (λ t. t ++ tail) whole ∙ append_assoc u v tail) found)
 
@@ -278,7 +278,7 @@ other_seen name tail rest b token other valued ends (inl (is, found)) =
     absurd (other (ap folded same.0))
 other_seen name tail rest b token other valued ends (inr (opens, found)) = valued_passed tail rest b valued (passed name (tail ++ rest) b (lack-token name token) found)
 
--- so the search finds the parameter's branch, or goes on
+-- the search finds the branch of the parameter, or goes on after it
 param_step : (p : Option (List ℕ)) (param rest b : List ℕ) → ParamSays p param → NoToken rest → Seen b (param ++ rest) → (p ≡ Some b) ⊎ ((p ≡ None) × (branch_in rest ≡ Some b))
 param_step (Some branch) param rest b (name, r, (token, any), (m, value, mark, (is_token, is), r_is), whole) ends seen =
     let flat : param ++ rest ≡ name ++ (m ++ (value ++ rest)) =

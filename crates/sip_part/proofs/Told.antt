@@ -24,7 +24,7 @@ told_branch text s branch says tells = tells.0 s says
 pub plain_told : (text plain : List ℕ) → led_branch text ≡ Some plain → TellsBranch text (folded plain)
 plain_told text plain led = ((λ s says. sym (ap compared (led_found text plain s says led))), (λ fault has. sym (ap compared led)))
 
--- and so is that of what is read, and of a fault where none does that there is none
+-- what is read of bytes tells their branch
 pub read_told : (text : List ℕ) (r : Reading) → Reads text r → TellsBranch text (compared ((said_of r).via.branch))
 read_told text r reads = (
   (λ s says. sym (ap (λ x. compared x.via.branch) (said-is text r s reads says))),

@@ -18,7 +18,7 @@ two-words f (x ∷ y ∷ []) a b first second some few is-a is-b is-first is-sec
     ap (λ word. word ∷ f y ∷ []) (sym (is-first ∙ ap f is-a)) ∙ ap (λ word. first ∷ word ∷ []) (sym (is-second ∙ ap f is-b))
 two-words f (x ∷ y ∷ z ∷ rest) a b first second some few is-a is-b is-first is-second = absurd (omega arith)
 
--- the same of three words
+-- three words are those, each told by its bytes
 pub three-words : {X : Type 0} (f : X → List ℕ) (words : List X) (a b c : X) (first second third : List ℕ) →
     3 ≤ length words → length words < 4 → a ≡ get_or words 0 a → b ≡ get_or words 1 b → c ≡ get_or words 2 c → first ≡ f a → second ≡ f b → third ≡ f c →
     map f words ≡ first ∷ second ∷ third ∷ []
@@ -40,14 +40,14 @@ not-word f words a text wanted rest is told differ same =
 as-many : {X : Type 0} (f : X → List ℕ) (words : List X) (others : List (List ℕ)) → map f words ≡ others → length words ≡ length others
 as-many f words others same = sym (length-map words f) ∙ ap length same
 
--- so many words ask for nothing
+-- more than three words ask for nothing
 pub not-long : {X : Type 0} (f : X → List ℕ) (words : List X) → 0 ≢ length words → 2 ≢ length words → 3 ≢ length words → (asked : Asked) → map f words ≡ words_for asked → ⊥
 not-long f words none two three Input same = none (sym (as-many f words [] same))
 not-long f words none two three (Check file) same = two (sym (as-many f words (words_for (Check file)) same))
 not-long f words none two three (Show file) same = two (sym (as-many f words (words_for (Show file)) same))
 not-long f words none two three (States file entry) same = three (sym (as-many f words (words_for (States file entry)) same))
 
--- nor do two of which the first is not one that is followed by one
+-- two words ask for nothing where the first is no form that one word follows
 pub not-two : {X : Type 0} (f : X → List ℕ) (words : List X) (a b : X) (s t : List ℕ) → 2 ≤ length words → length words < 3 → a ≡ get_or words 0 a → b ≡ get_or words 0 b → s ≡ f a → t ≡ f b
     → false ≡ bytes_eq s (codes "check") → false ≡ bytes_eq t (codes "show") → (asked : Asked) → map f words ≡ words_for asked → ⊥
 not-two f words a b s t some few is-a is-b told-a told-b check show Input same = let many = as-many f words [] same in omega (arith, many, some)
@@ -55,7 +55,7 @@ not-two f words a b s t some few is-a is-b told-a told-b check show (Check file)
 not-two f words a b s t some few is-a is-b told-a told-b check show (Show file) same = not-word f words b t (codes "show") (file.now ∷ []) is-b told-b show same
 not-two f words a b s t some few is-a is-b told-a told-b check show (States file entry) same = let many = as-many f words (words_for (States file entry)) same in omega (arith, many, few)
 
--- nor three of which the first is not the one that is followed by two
+-- three words ask for nothing where the first is not `states`
 pub not-three : {X : Type 0} (f : X → List ℕ) (words : List X) (a : X) (s : List ℕ) → 3 ≤ length words → a ≡ get_or words 0 a → s ≡ f a → false ≡ bytes_eq s (codes "states") → (asked : Asked)
     → map f words ≡ words_for asked → ⊥
 not-three f words a s some is told states Input same = let many = as-many f words [] same in omega (arith, many, some)

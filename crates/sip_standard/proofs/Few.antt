@@ -1,16 +1,15 @@
+-- A pigeonhole: a list holds no more elements that all differ than it has places.
 use Rattle.std.proofs.Common.{◌≡◌, ◌≢◌, ◌≤◌, ◌<◌, ◌∙◌, ℕ, zero, suc, List, [], ◌∷◌, All, AllPairs, Contains, length, get_or, sym, arith, remove, add-one, ap}
 use Rattle.std.proofs.Math.Decide.{dec_lt}
 use Rattle.std.proofs.lemmas.List.{get_or_default}
 use Rattle.std.proofs.lemmas.List.Elements.{All-head, All-tail}
 use Rattle.std.proofs.lemmas.List.Edits.{length-remove, get_or-remove_below, get_or-remove_above}
 
--- A pigeonhole: a list holds no more elements that all differ than it has places.
-
 -- the first of a list differs from each of the others
 pub AllPairs-head : {X : Type 0} (R : X → X → Type 0) (x : X) (xs : List X) → AllPairs R (x ∷ xs) → All (R x) xs
 AllPairs-head R x xs apart k d low = apart 0 (suc k) d (omega arith) (omega arith)
 
--- and the others from one another
+-- the elements after the first differ from one another
 pub AllPairs-tail : {X : Type 0} (R : X → X → Type 0) (x : X) (xs : List X) → AllPairs R (x ∷ xs) → AllPairs R xs
 AllPairs-tail R x xs apart i j d low high = apart (suc i) (suc j) d (omega arith) (omega arith)
 
@@ -27,7 +26,7 @@ module _ {X : Type 0} (xs : List X) (i : ℕ) (within : i < length xs) (x : X) w
       let long = length-remove xs i within in
       (j, omega (arith, long), get_or-remove_above xs i x j (omega arith) within ∙ rw add-one at)
 
-  -- so all that differ from the one that goes stay
+  -- each element that differs from the one that goes stays
   pub still_has : (y : X) → get_or xs i y ≡ y → y ≢ x → Contains xs x → Contains (remove xs i) x
   still_has y is differs (k, low, at) = go (dec_lt k i) (dec_lt i k)
     where

@@ -3,7 +3,7 @@ use Rattle.std.specs.Prelude.{Bool, true, false, codes, bytes_eq}
 use Rattle.sip_standard.specs.declared.role.Role.{Role}
 use Rattle.sip_standard.specs.declared.role.Role.TheVariants.{Client, Server}
 use Rattle.sip_standard.specs.Key.{KeyParts}
-use Rattle.sip_standard.specs.declared.rules.Rules.{Rules as BuiltBy}
+use Rattle.sip_standard.specs.declared.rules.Rules.{Rules}
 use Rattle.sip_standard.specs.declared.rules.Rules.TheVariants.{R3261, R6026}
 use Rattle.sip_standard.specs.Transaction.{Transaction}
 use Rattle.sip_standard.specs.InviteClient.{InviteClientPhase, invite_client}
@@ -18,7 +18,7 @@ pub data MachineKind : Type 0 where
   OfInviteClient OfPlainClient OfInviteServer OfPlainServer OfInviteClient3261 OfInviteServer3261 : MachineKind
 
 -- the machine of a role by these rules, for the method INVITE or any other
-abbrev pub machine_of : BuiltBy → Role → Bool → MachineKind
+abbrev pub machine_of : Rules → Role → Bool → MachineKind
 machine_of R6026 Client true = OfInviteClient
 machine_of R3261 Client true = OfInviteClient3261
 machine_of rules Client false = OfPlainClient
@@ -27,7 +27,7 @@ machine_of R3261 Server true = OfInviteServer3261
 machine_of rules Server false = OfPlainServer
 
 -- the machine of a key
-abbrev pub machine_of_key : BuiltBy → KeyParts → MachineKind
+abbrev pub machine_of_key : Rules → KeyParts → MachineKind
 machine_of_key rules key = machine_of rules key.role (bytes_eq key.method (codes "INVITE"))
 
 -- the figure of each machine

@@ -40,7 +40,7 @@ pub data LogEnd : Type 0 where
   Clean : LogEnd
   Stops : LogReason → LogEnd
 
--- so many entries, the last at this moment, end so with the rest of an input: nothing is left, or the first of seven cases holds. Case 1: the entry
+-- after this many entries, the last at this moment, the rest of an input ends so: nothing is left, or the first of seven cases holds. Case 1: the entry
 -- would be one more than the most; case 2: no LF is among the first 32 bytes, and the input ends before the 32nd, or it does not
 abbrev pub EndsWith : Format → ℕ → ℕ → List ℕ → LogEnd → Type 0
 EndsWith format count last rest Clean = rest ≡ []

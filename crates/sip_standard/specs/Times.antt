@@ -2,8 +2,8 @@
 use Rattle.std.specs.Prelude.{◌≤◌, ℕ}
 use Rattle.sip_standard.specs.declared.rules.Rules.{Rules}
 
--- timers T1, T2 and T4 of RFC 3261 section 17, and how far before a due moment and how far after it an element may be, in milliseconds; and the
--- rules that it was built by: those of RFC 3261, or these with the Accepted states of RFC 6026 section 7
+-- timers T1, T2 and T4 of RFC 3261 section 17, and how early and how late the element may act, all in milliseconds; and the rules that it was
+-- built by: those of RFC 3261, or these with the Accepted states of RFC 6026 section 7
 pub record Times : Type 0 where
   pub t1 : ℕ
   pub t2 : ℕ

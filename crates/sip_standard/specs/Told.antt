@@ -14,7 +14,7 @@ pub record Told (M : Type 0) : Type 0 where
   pub name : List ℕ
   pub fields : List (ToldField M)
 
--- the same, with each message by f
+-- a field with each message M replaced by what f makes of it
 abbrev pub field_by : {M N : Type 0} → (M → N) → ToldField M → ToldField N
 field_by f (Flag name is) = Flag name is
 field_by f (Number name value) = Number name value

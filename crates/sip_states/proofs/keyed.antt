@@ -1,3 +1,4 @@
+pub mod KeySetLaws
 pub mod AnyLemmas
 pub mod ByMachine
 pub mod StartLemmas

@@ -1,3 +1,4 @@
 pub mod EachOnce
+pub mod Kept
 pub mod Listed
 pub mod Twice

@@ -7,6 +7,7 @@ pub mod AnySet
 pub mod Told
 pub mod Agenda
 pub mod Tables
+pub mod Kept
 pub mod TablesLends
 pub mod Sweep
 pub mod Restarting

@@ -2,7 +2,7 @@
 use Rattle.std.specs.Prelude.{◌≡◌, ◌≤◌, ◌+◌, ℕ, Option, List, All, Contains, length, map}
 use Rattle.sip_machine.specs.Texts.{Texts, IsBook}
 use Rattle.sip_machine.specs.NumberedEvent.{NumberedEvent, event_in}
-use Rattle.sip_machine.specs.Rules.{Rules, Knows, StandFor}
+use Rattle.sip_machine.specs.Rules.{MachineRules, Knows, StandFor}
 use Rattle.sip_states.specs.Runs.{Wait, RunGives, IsAgenda, widest}
 use Rattle.sip_states.specs.Held.{Held, IsKept}
 
@@ -12,7 +12,7 @@ pub record Meaning (X M S : Type 0) : Type 1 where
   pub names : S → List ℕ
   pub seen : Texts → S → X
   pub in_range : S → Type 0
-  pub rules : M → Rules X
+  pub rules : M → MachineRules X
   pub until : M → S → Option ℕ
   pub ended : M → S
 

@@ -1,7 +1,7 @@
 use Rattle.std.specs.Prelude.{◌≡◌, ◌≢◌, ◌≤◌, ◌<◌, ◌↔◌, ℕ, Option, List, [], ◌∷◌, ◌++◌, length, map, All, AllPairs}
 use Rattle.sip_machine.specs.Limits.{IsWithin}
 use Rattle.sip_standard.specs.MachineEvent.{MachineEvent}
-use Rattle.sip_machine.specs.Rules.{Rules, Waits, Hide}
+use Rattle.sip_machine.specs.Rules.{MachineRules, Waits, Hide}
 
 -- a step of a run: an end at any moment, or an event
 pub data Step : Type 0 where
@@ -13,17 +13,17 @@ moment_of_step (Hides h) = h
 moment_of_step (Takes e) = e.moment
 
 -- the step leads from x to y
-abbrev pub Does : {X : Type 0} → Rules X → X → Step → X → Type 0
+abbrev pub Does : {X : Type 0} → MachineRules X → X → Step → X → Type 0
 Does r x (Hides h) y = Hide r x h y
 Does r x (Takes e) y = Waits r x e.moment × r.Take x e y
 
 -- from x at h the steps lead to y at m, the moment of the last one: moments do not fall, and each state waits until the step that leaves it
-abbrev pub Goes : {X : Type 0} → Rules X → X → ℕ → List Step → X → ℕ → Type 0
+abbrev pub Goes : {X : Type 0} → MachineRules X → X → ℕ → List Step → X → ℕ → Type 0
 Goes r x h [] y m = (y ≡ x) × (m ≡ h)
 Goes {X} r x h (step ∷ steps) y m = (z : X) × (h ≤ moment_of_step step) × Does r x step z × Goes r z (moment_of_step step) steps y m
 
 -- from x at h the steps lead to y, which waits until m
-pub record Reaches {X : Type 0} (r : Rules X) (x : X) (h : ℕ) (steps : List Step) (y : X) (m : ℕ) : Type 0 where
+pub record Reaches {X : Type 0} (r : MachineRules X) (x : X) (h : ℕ) (steps : List Step) (y : X) (m : ℕ) : Type 0 where
   pub last : ℕ
   pub goes : Goes r x h steps y last
   pub reached : last ≤ m
@@ -36,32 +36,32 @@ taken (Hides h ∷ steps) = taken steps
 taken (Takes e ∷ steps) = e ∷ taken steps
 
 -- one can stand in y at m after starting in a state of S at h and taking hidden steps alone
-pub record Wait {X : Type 0} (r : Rules X) (S : X → Type 0) (h m : ℕ) (y : X) : Type 0 where
+pub record Wait {X : Type 0} (r : MachineRules X) (S : X → Type 0) (h m : ℕ) (y : X) : Type 0 where
   pub start : X
   pub begins : S start
   pub ends : List ℕ
   pub stands : Reaches r start h (map Hides ends) y m
 
 -- a state that e gives from one of S
-pub record RunGives {X : Type 0} (r : Rules X) (S : X → Type 0) (e : MachineEvent) (y : X) : Type 0 where
+pub record RunGives {X : Type 0} (r : MachineRules X) (S : X → Type 0) (e : MachineEvent) (y : X) : Type 0 where
   pub before : X
   pub among : S before
   pub takes : r.Take before e y
 
 -- a run takes just these events, in order, from the first state at moment 0, and stands in y at m
-pub record RuledRun {X : Type 0} (r : Rules X) (events : List MachineEvent) (m : ℕ) (y : X) : Type 0 where
+pub record RuledRun {X : Type 0} (r : MachineRules X) (events : List MachineEvent) (m : ℕ) (y : X) : Type 0 where
   pub steps : List Step
   pub stands : Reaches r r.first 0 steps y m
   pub takes : taken steps ≡ events
 
 -- y is the last state of a run over these events and e, whose last step is that of e
-pub record AfterRun {X : Type 0} (r : Rules X) (events : List MachineEvent) (e : MachineEvent) (y : X) : Type 0 where
+pub record AfterRun {X : Type 0} (r : MachineRules X) (events : List MachineEvent) (e : MachineEvent) (y : X) : Type 0 where
   pub steps : List Step
   pub goes : Goes r r.first 0 (steps ++ Takes e ∷ []) y e.moment
   pub takes : taken steps ≡ events
 
 -- a wait from S at h can last until exactly the moments that are within the limit
-abbrev pub IsAgenda : {X : Type 0} → Rules X → (X → Type 0) → ℕ → Option ℕ → Type 0
+abbrev pub IsAgenda : {X : Type 0} → MachineRules X → (X → Type 0) → ℕ → Option ℕ → Type 0
 IsAgenda {X} r S h limit = (m : ℕ) → h ≤ m → ((y : X) × Wait r S h m y) ↔ IsWithin m limit
 
 -- how many last states of a run are followed

@@ -14,7 +14,7 @@ use Rattle.sip_states.specs.Tables.{Tabled}
 abbrev pub names_of : (machine : MachineKind) → Held Times (StateOf machine) → List ℕ
 names_of machine s = flat_map (owing_names (coded_of machine).names) s.states
 
--- and those of any set
+-- the numbers of the messages that the states of any set name
 abbrev pub numbers_of : AnySet → List ℕ
 numbers_of set = names_of (held_of set).0 (held_of set).1
 

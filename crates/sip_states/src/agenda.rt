@@ -1,7 +1,8 @@
 //! The last moments on record, by index.
-ghost use Rattle.std.specs.Prelude.{◌≡◌, ◌<◌, ◌++◌, ◌∷◌, [], IfNone, IfSome, None, OnErr, OnOk, Some, length, position, slice_index_or, slice_set, true, ◌≤◌, ◌↔◌, ℕ};
+ghost use Rattle.std.specs.Prelude.{◌≡◌, ◌<◌, ◌++◌, ◌∷◌, [], IfNone, IfOk, IfSome, None, OnErr, OnOk, Some, length, position, slice_index_or, slice_set, true, ◌≤◌, ◌↔◌, ℕ};
 ghost use Rattle.std.specs.BTreeSet.{IsUnchanged};
 ghost use Rattle.sip_states.specs.Agenda.{Records, is_overdue};
+ghost use Rattle.sip_states.specs.Kept.{kept_of};
 ghost use Rattle.sip_states.specs.inner.Lines.{Enters, Leaves};
 
 use std::alloc::{AllocError, Global};
@@ -85,6 +86,40 @@ impl Agenda {
         ensures { self.old ≡ self.new ++ None ∷ [] }
     {
         self.records.pop();
+    }
+
+    /// One more index, with what is on record of it. On an error some of it may be there.
+    #[tactic(auto, using(crate::proofs::lists::Kept::slice_set_last))]
+    fn push_record(&mut self, recorded: Option<Option<u64>>) -> Result<(), AllocError>
+        ensures { OnOk result (self.new ≡ self.old ++ recorded ∷ []) }
+    {
+        let index = self.records.len();
+        self.push()?;
+        if let Some(limit) = recorded {
+            self.set(index, limit)?;
+        }
+        Ok(())
+    }
+
+    /// What is on record of the indices at which the flag is true, in their order.
+    pub(crate) fn kept(&self, alloc: Global, flags: &[bool]) -> Result<Agenda, AllocError>
+        requires { length flags.now ≡ length self.now }
+        ensures { IfOk result (λ agenda. agenda ≡ kept_of flags.now self.now) }
+    {
+        let mut agenda = Agenda::new(alloc);
+        for at in 0..flags.len() {
+            if flags[at] {
+                agenda.push_record(self.records[at])?;
+            }
+        }
+        Ok(agenda)
+    }
+
+    /// How many indices there are.
+    pub(crate) fn len(&self) -> usize
+        ensures { result ≡ length self.now }
+    {
+        self.records.len()
     }
 
     /// Puts the last moment of the index on record, in place of an older one.

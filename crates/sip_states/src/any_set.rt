@@ -1,8 +1,8 @@
 //! The states of one transaction, whichever machine it has.
-ghost use Rattle.std.specs.Prelude.{◌≡◌, ◌↔◌, ◌≤◌, IfOk, IsErrOf, IsTrue, OnErr, OnOk};
+ghost use Rattle.std.specs.Prelude.{◌≡◌, ◌↔◌, ◌≤◌, false, Contains, IfOk, IsErrOf, IsTrue, OnErr, OnOk};
 ghost use Rattle.sip_machine.specs.NumberedEvent.{FitsBook};
 ghost use Rattle.sip_states.specs.AnySet.{moment_of, start_of, IsEmpty, IsKeptSet, IsQuietSet, IsKnownSet, SetWaits, SetTakes, IsSetTooWide, IsAgendaOf};
-ghost use Rattle.sip_states.specs.Sweep.{AppendsNumbers};
+ghost use Rattle.sip_states.specs.Sweep.{AppendsNumbers, numbers_of};
 ghost use Rattle.sip_states.specs.Told.{AreTold};
 
 use crate::state_set::{StateSet, TakeError};
@@ -17,17 +17,17 @@ use std::alloc::{AllocError, Global};
 /// The states in which the runs of one of the machines of RFC 3261 section 17 can stand.
 #[derive(Debug, Drop)]
 pub enum AnySet {
-    /// Section 17.1.1.
+    /// Section 17.1.1, with the accepted state of RFC 6026.
     InviteClient(StateSet<InviteClient>),
     /// Section 17.1.2.
     PlainClient(StateSet<PlainClient>),
-    /// Section 17.2.1.
+    /// Section 17.2.1, with the accepted state of RFC 6026.
     InviteServer(StateSet<InviteServer>),
     /// Section 17.2.2.
     PlainServer(StateSet<PlainServer>),
     /// Section 17.1.1, without the accepted state of RFC 6026.
     InviteClient3261(StateSet<InviteClient3261>),
-    /// Section 17.2.1, without it.
+    /// Section 17.2.1, without the accepted state of RFC 6026.
     InviteServer3261(StateSet<InviteServer3261>),
 }
 
@@ -127,9 +127,16 @@ impl AnySet {
         each_machine!(self, set => set.names(out))
     }
 
-    /// Whether its one state is the one before anything was sent or received, or the one after an end. Where it is not told so, nothing is said.
-    pub(crate) fn is_quiet(&self) -> bool
-        ensures { IsTrue result → IsQuietSet self.now }
+    /// Whether one of its states may name the message with this number.
+    pub fn may_name(&self, number: u32) -> bool
+        ensures { result ≡ false → ¬ Contains (numbers_of self.now) number }
+    {
+        each_machine!(self, set => set.may_name(number))
+    }
+
+    /// Whether it has one state alone, which is the one before anything was sent or received, or the one after an end.
+    pub fn is_quiet(&self) -> bool
+        ensures { IsTrue result ↔ IsQuietSet self.now }
     {
         each_machine!(self, set => set.is_quiet())
     }

@@ -5,6 +5,7 @@ mod agenda;
 mod any_set;
 mod each_once;
 mod ends;
+mod keeping;
 mod laws;
 mod marks;
 mod state_set;
@@ -14,6 +15,7 @@ mod told;
 
 pub use any_set::AnySet;
 pub use each_once::keep_ascending;
+pub use keeping::keep_each;
 pub use laws::{
     a_run_by_rules_stands, a_run_holds_one_over_fewer_events, a_second_restart_changes_nothing,
     a_server_sends_when_it_was_asked, after_a_final_response_a_client_sends_no_request,

@@ -1,5 +1,5 @@
 //! Some of the indices of a list, which are found without a look at the others.
-ghost use Rattle.std.specs.Prelude.{◌≡◌, ◌≢◌, ◌↔◌, ◌<◌, ◌++◌, ◌∷◌, [], ℕ, List, Bool, false, true, AllPairs, Contains, OnErr, OnOk, length, set, get_or};
+ghost use Rattle.std.specs.Prelude.{◌≡◌, ◌≢◌, ◌↔◌, ◌<◌, ◌≤◌, ◌++◌, ◌∷◌, [], ℕ, List, Bool, false, true, All, AllPairs, Contains, IfOk, OnErr, OnOk, length, set, get_or};
 ghost use Rattle.sip_states.specs.Tables.{most_keys};
 ghost use Rattle.sip_states.specs.inner.Marks.{IsMarked, exchanged_order, exchanged_places};
 
@@ -35,6 +35,20 @@ impl Marks {
             places: Vec::new(alloc),
             count: 0,
         }
+    }
+
+    /// So many indices, which are all marked.
+    pub(crate) fn all(alloc: Global, count: usize) -> Result<Self, AllocError>
+        requires { count ≤ most_keys }
+        ensures long { IfOk result (λ marks. length marks ≡ count) }
+        ensures marked { IfOk result (All (λ is_marked. is_marked ≡ true)) }
+    {
+        let mut marks = Marks::new(alloc);
+        for index in 0..count {
+            marks.push()?;
+            marks.mark(index);
+        }
+        Ok(marks)
     }
 
     /// One more index, which is not marked.

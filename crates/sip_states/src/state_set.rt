@@ -1,10 +1,11 @@
 //! The states in which the runs of a machine can stand at a moment.
-ghost use Rattle.std.specs.Prelude.{◌≡◌, ◌≢◌, ◌↔◌, ◌+◌, ◌⊎◌, [], ◌∷◌, ◌<◌, ◌≤◌, OnOk, OnErr, All, AllPairs, Contains, IfOk, IsErrOf, IsTrue, flat_map, length, map, take};
+ghost use Rattle.std.specs.Prelude.{◌≡◌, ◌≢◌, ◌↔◌, ◌+◌, ◌⊎◌, [], ◌∷◌, ◌<◌, ◌≤◌, OnOk, OnErr, All, AllPairs, Contains, IfOk, IsErrOf, IsTrue, false, flat_map, length, map, take};
 ghost use Rattle.std.specs.Bool.{OnTrue, OnFalse};
+ghost use Rattle.std.specs.List.{HoldsAt};
 ghost use Rattle.sip_machine.specs.Texts.{Texts, IsBook};
 ghost use Rattle.sip_machine.specs.NumberedEvent.{FitsBook, event_in};
 ghost use Rattle.sip_machine.specs.Naming.{AppendsAll};
-ghost use Rattle.sip_machine.specs.Owing.{CodeOwing};
+ghost use Rattle.sip_machine.specs.Owing.{CodeOwing, owing_names};
 ghost use Rattle.sip_machine.specs.Rules.{Knows, StandFor};
 ghost use Rattle.sip_machine.specs.Pools.{picked};
 ghost use Rattle.sip_states.specs.Held.{IsKept};
@@ -13,7 +14,7 @@ ghost use Rattle.sip_states.specs.inner.Ways.{GivesAfter};
 
 use crate::ends::{advance_states, last_of_all};
 use crate::steps::{find_given, step_alone};
-use sip_machine::{Book, Event, Machine, Pool};
+use sip_machine::{Book, Event, Machine, Phases, Pool};
 use std::alloc::{AllocError, Global};
 use std::marker::Model;
 use thiserror::Error;
@@ -64,11 +65,11 @@ impl<M: Machine> Model for StateSet<M> {
 }
 
 impl<M: Machine> StateSet<M> {
-    /// The first state alone, at moment 0.
+    /// The first state alone, at moment 0. It takes no more room than that one.
     pub fn start(alloc: Global, machine: M) -> Result<Self, AllocError>
         ensures { IfOk result (λ set. set ≡ record { machine = machine; moment = 0; states = M.first machine ∷ [] }) }
     {
-        let mut states = Pool::new(alloc);
+        let mut states = Pool::with_capacity(alloc, 1)?;
         states.push(machine.first())?;
         Ok(StateSet {
             machine,
@@ -204,7 +205,7 @@ impl<M: Machine> StateSet<M> {
 
     /// Whether its one state is the first or the ended one.
     pub(crate) fn is_quiet(&self) -> bool
-        ensures { IsTrue result → (self.now.states ≡ M.first self.now.machine ∷ []) ⊎ (self.now.states ≡ M.ended self.now.machine ∷ []) }
+        ensures { IsTrue result ↔ (self.now.states ≡ M.first self.now.machine ∷ []) ⊎ (self.now.states ≡ M.ended self.now.machine ∷ []) }
     {
         self.states.len() == 1
             && (self.states.is_at_rest(0, self.machine.first())
@@ -223,6 +224,35 @@ impl<M: Machine> StateSet<M> {
         ensures { result.now ≡ self.now.states }
     {
         &self.states
+    }
+}
+
+impl<M: Phases> StateSet<M> {
+    /// Whether a state may name the message with this number. One that owes something may name any.
+    pub(crate) fn may_name(&self, number: u32) -> bool
+        ensures { result ≡ false → ¬ Contains (flat_map (owing_names M.names) self.now.states) number }
+    {
+        for at in 0..self.states.len() {
+            if state_may_name(&self.machine, &self.states, at, number) {
+                return true;
+            }
+        }
+        false
+    }
+}
+
+/// Whether the state at the index may name the message with this number.
+fn state_may_name<M: Phases>(machine: &M, states: &Pool<M::Phase>, at: usize, number: u32) -> bool
+    requires { at < length states.now }
+    ensures { HoldsAt (λ x. result ≡ false → ¬ Contains (owing_names M.names x) number) states.now at }
+{
+    let phase = states.phase(at);
+    if !states.is_at_rest(at, phase) {
+        return true;
+    }
+    match machine.message(&phase) {
+        Some(named) => named == number,
+        None => false,
     }
 }
 

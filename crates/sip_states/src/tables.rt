@@ -3,16 +3,18 @@ ghost use Rattle.std.specs.Prelude.{◌≡◌, ◌≢◌, ◌<◌, ◌≤◌, �
 ghost use Rattle.std.specs.Borrow.{sem};
 ghost use Rattle.indexmap.specs.IndexMap.{keys, values, index_map_len, with_value_at};
 ghost use Rattle.sip_states.specs.Agenda.{is_overdue};
-ghost use Rattle.sip_states.specs.AnySet.{moment_of};
-ghost use Rattle.sip_states.specs.Sweep.{AdvancesAll, AdvancesSome, AppendsNamed};
+ghost use Rattle.sip_states.specs.AnySet.{moment_of, SetWaits};
+ghost use Rattle.sip_states.specs.Sweep.{AdvancesAll, AdvancesSome, AppendsNamed, ChangesSets};
 ghost use Rattle.sip_states.specs.inner.Advance.{AdvancesAt, AdvancesSomeAt};
 ghost use Rattle.sip_states.specs.inner.Marks.{AreMarked, AreMoved, IsMarked};
+ghost use Rattle.sip_states.specs.Kept.{kept_tables};
 ghost use Rattle.sip_states.specs.Restarting.{AreToRestart};
 ghost use Rattle.sip_states.specs.Tables.{IsGiven, HasState, Settles, StartsAnew, Touches, due_of, most_keys, with_key};
 
 use crate::agenda::Agenda;
 use crate::any_set::AnySet;
 use crate::each_once::keep_ascending;
+use crate::keeping::keep_entries;
 use crate::marks::Marks;
 use indexmap::IndexMap;
 use sip_key::Key;
@@ -286,6 +288,21 @@ impl<H: BuildHasher> Tables<H> {
         unmark_silent(&mut self.marks, &mut self.sets)
     }
 
+    /// Lets every set wait until the moment, in milliseconds. On an error some have waited, and the others are as before.
+    pub fn wait_all(&mut self, moment: u64) -> Result<(), AllocError>
+        requires { All (λ set. moment_of set ≤ moment) self.old.sets }
+        ensures ok { OnOk result (ChangesSets (SetWaits moment) self.old self.new) }
+        ensures err { OnErr result (AdvancesSome moment self.old self.new) }
+    {
+        let alloc = *self.sets.allocator();
+        let marks = Marks::all(alloc, self.sets.len())?;
+        let moved = Marks::all(alloc, self.sets.len())?;
+        self.marks = marks;
+        self.moved = moved;
+        advance_each(&mut self.sets, self.moved.marked(), moment)?;
+        Ok(())
+    }
+
     /// Appends the numbers of the messages that the sets name, ascending, each once. On an error the vector is as before.
     pub fn named(&self, out: &mut Vec<u32>) -> Result<(), AllocError>
         ensures ok { OnOk result (AppendsNamed self.now out.old.items out.new.items) }
@@ -299,8 +316,8 @@ impl<H: BuildHasher> Tables<H> {
         out.extend_from_slice(&found)
     }
 
-    /// The numbers of the sets that a restart of the element may change: those that were lent to be changed since the last one, and
-    /// what it left with more than one state.
+    /// The numbers of the sets that a restart of the element may change: those that were lent to be changed since the last restart,
+    /// and those that it left with more than one state; after `wait_all` or `keep`, all of them.
     pub fn to_restart(&self) -> Result<Vec<u32>, AllocError>
         ensures { IfOk result (λ numbers. AreToRestart self.now numbers.items) }
     {
@@ -316,6 +333,23 @@ impl<H: BuildHasher> Tables<H> {
         ensures { self.new ≡ self.old }
     {
         unmark_quiet(&mut self.moved, &mut self.marks, &mut self.sets);
+    }
+
+    /// Keeps the keys at which the flag is true, in their order: they are numbered anew. On an error nothing changes.
+    pub fn keep(&mut self, flags: &[bool]) -> Result<(), AllocError>
+        requires { length flags.now ≡ length self.old.keys }
+        ensures ok { OnOk result (self.new ≡ kept_tables flags.now self.old) }
+        ensures err { OnErr result (self.new ≡ self.old) }
+    {
+        let alloc = *self.sets.allocator();
+        let agenda = self.agenda.kept(alloc, flags)?;
+        let marks = Marks::all(alloc, agenda.len())?;
+        let moved = Marks::all(alloc, agenda.len())?;
+        keep_entries(&mut self.sets, flags);
+        self.agenda = agenda;
+        self.marks = marks;
+        self.moved = moved;
+        Ok(())
     }
 
     /// The key with this number.

@@ -1,7 +1,6 @@
 -- The bytes that the grammar names (RFC 3261, section 25.1).
-use Rattle.std.specs.Prelude.{◌≡◌, ℕ, Bool, ◌||◌, List, [], ◌∷◌, ◌==◌, codes}
-use Rattle.std.specs.List.{list_any}
-use Rattle.std.specs.Char.{is_ascii_alphanumeric}
+use Rattle.std.specs.Prelude.{◌≡◌, ℕ, Bool, List, [], ◌∷◌}
+use Rattle.sip_standard.specs.Chars.{is_alphanum_or}
 
 -- HTAB
 abbrev pub tab : ℕ
@@ -79,14 +78,6 @@ crlf = carriage_return ∷ line_feed ∷ []
 abbrev pub Byte : ℕ → List ℕ → Type 0
 Byte byte text = text ≡ byte ∷ []
 
--- the byte is one of these
-abbrev pub is_one_of : List ℕ → ℕ → Bool
-is_one_of bytes byte = list_any (λ b. b == byte) bytes
-
--- WSP = SP / HTAB
-abbrev pub is_wsp : ℕ → Bool
-is_wsp byte = byte == space || byte == tab
-
--- token byte = alphanum / "-" / "." / "!" / "%" / "*" / "_" / "+" / "`" / "'" / "~"
+-- a byte of a token, of which `Token` of sip_standard has one or more
 abbrev pub is_token_byte : ℕ → Bool
-is_token_byte byte = is_ascii_alphanumeric byte || is_one_of (codes "-.!%*_+`'~") byte
+is_token_byte = is_alphanum_or "-.!%*_+`'~"

@@ -1,6 +1,5 @@
 pub mod Bytes
 pub mod Parts
-pub mod Case
 pub mod Host
 pub mod Uri
 pub mod inner

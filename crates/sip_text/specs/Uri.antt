@@ -2,10 +2,10 @@
 -- "Own" marks where this profile chose other than the standard.
 use Rattle.std.specs.Prelude.{◌≡◌, ℕ, Bool, true, false, List, [], ◌∷◌, ◌++◌, Option, None, Some, IsNone, IfSome, option_copied, codes}
 use Rattle.sip_standard.specs.Text.{OneOrMore}
+use Rattle.sip_standard.specs.Case.{folded}
 use Rattle.sip_standard.specs.Profile.{User, Password, Port, UriParameters, Headers, Scheme, Uric}
 use Rattle.sip_text.specs.Bytes.{colon, question, at_sign}
 use Rattle.sip_text.specs.Parts.{led}
-use Rattle.sip_text.specs.Case.{SameText}
 use Rattle.sip_text.specs.Host.{HostParts, HostText, host_text, host_parts}
 use Rattle.sip_text.specs.declared.uri.Uri.{Uri}
 use Rattle.sip_text.specs.declared.uri.Uri.TheVariants as variant
@@ -62,10 +62,10 @@ pub data UriParts : Type 0 where
 -- neither of these two, which are compared without case.
 abbrev pub UriText : List ℕ → UriParts → Type 0
 UriText text (sip p) =
-    (scheme : List ℕ) × SameText scheme (scheme_name p.secure) × SipFits p
+    (scheme : List ℕ) × (folded scheme ≡ folded (scheme_name p.secure)) × SipFits p
     × (text ≡ scheme ++ colon ∷ sip_text p)
 UriText text (other scheme rest) =
-    Scheme scheme × ((secure : Bool) → ¬ (SameText scheme (scheme_name secure)))
+    Scheme scheme × ((secure : Bool) → ¬ (folded scheme ≡ folded (scheme_name secure)))
     × OneOrMore Uric rest × (text ≡ scheme ++ colon ∷ rest)
 
 -- what a `Uri` says

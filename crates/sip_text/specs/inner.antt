@@ -1,3 +1,4 @@
+pub mod Case
 pub mod Class
 pub mod Cut
 pub mod Pieces

@@ -7,5 +7,6 @@ pub mod Leading
 pub mod OneMachine
 pub mod Overdue
 pub mod QuietSets
+pub mod RunsStand
 pub mod Splitting
 pub mod Stepped

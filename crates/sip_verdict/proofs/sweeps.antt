@@ -1,5 +1,6 @@
 pub mod FollowedLemmas
 pub mod NamedLemmas
+pub mod NewestLemmas
 pub mod SweptBook
 pub mod SweptSets
 pub mod SweptTables

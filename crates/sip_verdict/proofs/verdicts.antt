@@ -6,4 +6,3 @@ pub mod MessageUnique
 pub mod OneVerdict
 pub mod Outcomes
 pub mod Unique
-pub mod VerdictLemmas

@@ -3,7 +3,6 @@ use Rattle.std.specs.Prelude.{◌≡◌, ◌≢◌, ◌≤◌, ◌+◌, ℕ, Lis
 use Rattle.sip_standard.specs.Key.{KeyParts}
 use Rattle.sip_standard.specs.Times.{Times, last_moment}
 use Rattle.sip_machine.specs.Texts.{Texts}
-use Rattle.sip_states.specs.Runs.{RuledRun}
 use Rattle.sip_states.specs.Tables.{Tabled}
 use Rattle.sip_standard.specs.LogSays.{most_entries}
 use Rattle.sip_verdict.specs.declared.stage.Stage.{Stage}
@@ -13,10 +12,12 @@ use Rattle.sip_verdict.specs.declared.step_error.StepError.TheVariants as errors
 use Rattle.sip_standard.specs.declared.verdict.Verdict.{Verdict}
 use Rattle.sip_standard.specs.declared.verdict.Verdict.TheVariants.{Legal}
 use Rattle.sip_standard.specs.Observation.{Observation}
-use Rattle.sip_verdict.specs.Keyed.{keys_of, events_of, newest_moment}
-use Rattle.sip_verdict.specs.Verdicts.{IsTrouble}
-use Rattle.sip_verdict.specs.MessageReading.{key_machines}
-use Rattle.sip_verdict.specs.Named.{WereNamed, key_messages}
+use Rattle.sip_standard.specs.VerdictOf.{keys_in, events_for, HasTrouble}
+use Rattle.sip_verdict.specs.Entries.{newest_moment}
+use Rattle.sip_standard.specs.Stands.{Stands}
+use Rattle.sip_standard.specs.Figure.{Owing}
+use Rattle.sip_standard.specs.KeyMachine.{machine_of_key, transaction_of}
+use Rattle.sip_verdict.specs.Named.{WereNamed}
 use Rattle.sip_verdict.specs.inner.TablesTracking.{TablesTrack}
 
 -- what a judge holds: the number and the moment of its newest entry, the messages that it keeps, the set of each key, how many messages its last
@@ -32,7 +33,7 @@ pub record Judging : Type 0 where
 -- messages and sets follow these entries, none of which is in trouble; so many messages were named after one of them, and few more are kept
 pub record AreFollowed (texts : Texts) (t : Tabled) (left : ℕ) (es : List (Observation KeyParts)) : Type 0 where
   pub tracks : TablesTrack texts es t
-  pub named : WereNamed (key_machines t.times) (key_messages t.times) es left
+  pub named : WereNamed t.times es left
   pub few : length texts ≤ left + left + 64
 
 -- the judge stands for these entries
@@ -52,12 +53,12 @@ pub record MayComeNext (count last number moment : ℕ) : Type 0 where
 -- each transaction of the entries has a run over them that stands at the moment
 abbrev pub CanWaitUntil : Times → List (Observation KeyParts) → ℕ → Type 0
 CanWaitUntil p es moment =
-    All (λ key. (x : (key_machines p).State key) × RuledRun ((key_machines p).rules key) (events_of (key_machines p) key es) moment x) (keys_of (key_machines p) es)
+    All (λ key. let machine = transaction_of (machine_of_key p.rules key) in (x : Owing machine.Phase) × Stands machine.figure p (events_for key es) moment x) (keys_in es)
 
 -- what is judged of an entry after those that the judge stood for: it stands for this one too, or this is the verdict of the entry
 abbrev pub IsNext : Judging → List (Observation KeyParts) → Observation KeyParts → Option Verdict → Type 0
 IsNext j es e None = StandsFor j (es ++ e ∷ [])
-IsNext j es e (Some v) = IsTrouble (key_machines j.tables.times) es e v
+IsNext j es e (Some v) = HasTrouble j.tables.times es e v
 
 -- what a judge of this stage can answer: a verdict that was told again, and after a failure that it failed
 abbrev pub CanAnswer : Stage → Result (Option Verdict) StepError → Type 0

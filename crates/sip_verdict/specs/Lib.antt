@@ -1,14 +1,11 @@
+pub mod Entries
 pub mod Forgetting
 pub mod Judging
-pub mod Keyed
 pub mod LegalLog
-pub mod MessageReading
 pub mod Named
-pub mod Reading
 pub mod SurveyLaws
 pub mod SurveyOf
 pub mod SurveyParts
 pub mod SurveyText
 pub mod Surveys
-pub mod Verdicts
 pub mod inner

@@ -11,8 +11,7 @@ use Rattle.sip_standard.specs.LogEntry.{Item}
 use Rattle.sip_verdict.specs.declared.finding.Finding.{Finding}
 use Rattle.sip_verdict.specs.declared.finding.Finding.TheVariants.{Malformed, Breach, Undecided}
 use Rattle.sip_standard.specs.Observation.{Observation}
-use Rattle.sip_verdict.specs.MessageReading.{message_reading}
-use Rattle.sip_verdict.specs.Reading.{AreObserved}
+use Rattle.sip_standard.specs.Seen.{AreSeen}
 use Rattle.sip_standard.specs.VerdictOf.{keys_in}
 use Rattle.sip_verdict.specs.SurveyOf.{Breaks, Widens, HoldsOf}
 
@@ -71,7 +70,7 @@ HasSameTrouble p es cuts key =
 -- what a cut leaves of a log: the chosen keys in their order, and the trouble of each
 pub record Keeps (p : Times) (chosen : KeyParts → Bool) (es : List (Observation KeyParts)) (cuts : List Item) : Type 0 where
   pub seen : List (Observation KeyParts)
-  pub are : AreObserved message_reading [] cuts seen
+  pub are : AreSeen [] cuts seen
   pub keys : keys_in seen ≡ chosen_in chosen es
   pub troubles : (key : KeyParts) → chosen key ≡ true → HasSameTrouble p es seen key
 

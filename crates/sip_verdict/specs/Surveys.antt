@@ -3,20 +3,21 @@ use Rattle.std.specs.Prelude.{◌≡◌, ◌≢◌, ◌≤◌, ◌+◌, ℕ, Boo
 use Rattle.sip_standard.specs.Key.{KeyParts}
 use Rattle.sip_standard.specs.Times.{Times}
 use Rattle.sip_machine.specs.Texts.{Texts}
-use Rattle.sip_states.specs.Runs.{RuledRun}
 use Rattle.sip_states.specs.Tables.{Tabled}
 use Rattle.sip_verdict.specs.declared.step_error.StepError.{StepError}
 use Rattle.sip_verdict.specs.declared.survey_end.SurveyEnd.{SurveyEnd}
 use Rattle.sip_standard.specs.Observation.{Observation}
-use Rattle.sip_verdict.specs.Keyed.{events_of, newest_moment}
-use Rattle.sip_verdict.specs.MessageReading.{key_machines}
+use Rattle.sip_verdict.specs.Entries.{newest_moment}
+use Rattle.sip_standard.specs.Stands.{Stands}
+use Rattle.sip_standard.specs.KeyMachine.{machine_of_key, transaction_of}
+use Rattle.sip_states.specs.KeySets.{PhaseOf}
 use Rattle.sip_verdict.specs.Named.{AreMany, key_messages}
 use Rattle.sip_verdict.specs.SurveyOf.{IsSound}
 use Rattle.sip_verdict.specs.inner.Surveying.{TablesSurvey}
 use Rattle.sip_verdict.specs.declared.histories.Histories.{Histories}
 use Rattle.sip_verdict.specs.declared.histories.History.{History}
 use Rattle.sip_verdict.specs.SurveyText.{IsFirstOf, IsLastOf}
-use Rattle.sip_standard.specs.VerdictOf.{keys_in}
+use Rattle.sip_standard.specs.VerdictOf.{keys_in, events_for}
 use Rattle.sip_verdict.specs.declared.step_error.StepError.TheVariants as errors
 use Rattle.sip_verdict.specs.declared.survey_end.SurveyEnd.TheVariants as ended
 
@@ -24,18 +25,18 @@ use Rattle.sip_verdict.specs.declared.survey_end.SurveyEnd.TheVariants as ended
 pub record IsStillNamed (p : Times) (es : List (Observation KeyParts)) (text : List ℕ) : Type 0 where
   pub key : KeyParts
   pub sound : IsSound p es key
-  pub state : (key_machines p).State key
-  pub stands : RuledRun ((key_machines p).rules key) (events_of (key_machines p) key es) (newest_moment es) state
+  pub state : PhaseOf (machine_of_key p.rules key)
+  pub stands : Stands (transaction_of (machine_of_key p.rules key)).figure p (events_for key es) (newest_moment es) state
   pub names : Contains (key_messages p key state) text
 
--- so many messages were named after some entry, or before the first
+-- this many messages were named by transactions in no trouble, after some entry or before the first
 pub record WereStillNamed (p : Times) (es : List (Observation KeyParts)) (count : ℕ) : Type 0 where
   pub front : List (Observation KeyParts)
   pub rest : List (Observation KeyParts)
   pub whole : es ≡ front ++ rest
   pub many : AreMany (IsStillNamed p front) count
 
--- so few messages are kept: at most twice as many as were named after some entry by transactions in no trouble, and 64
+-- few messages are kept: at most twice as many as transactions in no trouble named after some entry, and 64 more
 abbrev pub AreFewKept : Times → List (Observation KeyParts) → ℕ → Type 0
 AreFewKept p es kept = (named : ℕ) × WereStillNamed p es named × (kept ≤ named + named + 64)
 
@@ -44,7 +45,7 @@ pub record IsHistoryOf (es : List (Observation KeyParts)) (restart : ℕ) (key :
   pub first : IsFirstOf es key h.first h.branch.items
   pub last : IsLastOf es key (max h.last restart)
 
--- so it is of each transaction of the entries
+-- there is a history of each transaction of the entries
 pub record AreHistories (es : List (Observation KeyParts)) (b : Histories) : Type 0 where
   pub long : length b.each.items ≡ length (keys_in es)
   pub restart : b.restart ≤ length es

@@ -1,6 +1,8 @@
 pub mod Concerned
+pub mod Forgetting
 pub mod Histories
 pub mod Judging
+pub mod Keyed
 pub mod Leads
 pub mod Numbering
 pub mod Observing

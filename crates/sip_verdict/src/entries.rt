@@ -6,9 +6,8 @@ ghost use Rattle.sip_standard.specs.LogSays.{most_entries};
 ghost use Rattle.sip_log.specs.Told.{item};
 ghost use Rattle.sip_verdict.specs.declared.finding.Finding.{Finding};
 ghost use Rattle.sip_standard.specs.Observation.{Observation};
-ghost use Rattle.sip_verdict.specs.Keyed.{newest_moment};
-ghost use Rattle.sip_verdict.specs.MessageReading.{message_reading, ConcernsNone};
-ghost use Rattle.sip_standard.specs.VerdictOf.{keys_in};
+ghost use Rattle.sip_verdict.specs.Entries.{newest_moment, ConcernsNone};
+ghost use Rattle.sip_standard.specs.VerdictOf.{keys_in, Sees};
 ghost use Rattle.sip_verdict.specs.SurveyOf.{AreFoundAt};
 ghost use Rattle.sip_verdict.specs.Surveys.{AreHistories, AreSurveyed};
 ghost use Rattle.sip_verdict.specs.inner.TablesTracking.{is_among, MayTake};
@@ -17,7 +16,7 @@ ghost use Rattle.sip_verdict.specs.inner.Surveying.{ArePassing, AreWatched, IsFr
 use crate::concerned::Concerned;
 use crate::finding::Finding;
 use crate::histories::Histories;
-use crate::observing::{Told, observe};
+use crate::observing::{Observed, observe};
 use crate::passing::Hearing;
 use crate::releasing::pass_each;
 use crate::standing::{Standing, touch_each};
@@ -47,17 +46,17 @@ fn take<H: BuildHasher>(
     ensures watched { OnOk result (AreWatched [] standing.new.tables troubled.new) }
     ensures keyless { OnOk result (ConcernsNone (item entry.now) → standing.new.book ≡ standing.old.book) }
     ensures histories { OnOk result ((es : List (Observation KeyParts)) (e : Observation KeyParts) → AreHistories es histories.old → standing.old.tables.keys ≡ keys_in es
-        → entry.now.number ≡ length es + 1 → message_reading.Observes es (item entry.now) e → AreHistories (es ++ e ∷ []) histories.new) }
+        → entry.now.number ≡ length es + 1 → Sees es (item entry.now) e → AreHistories (es ++ e ∷ []) histories.new) }
     ensures taken { IfOk result (λ fault. (es : List (Observation KeyParts)) → IsFresh troubled.old → TablesSurvey standing.old.book es standing.old.tables troubled.old.deaf.items
         → newest_moment es ≤ entry.now.moment
-        → (e : Observation KeyParts) × message_reading.Observes es (item entry.now) e × (e.fault ≡ fault) × (e.event.moment ≡ entry.now.moment)
+        → (e : Observation KeyParts) × Sees es (item entry.now) e × (e.fault ≡ fault) × (e.event.moment ≡ entry.now.moment)
         × (standing.new.tables.keys ≡ keys_in (es ++ e ∷ []))
         × ArePassing standing.new.book standing.old.tables.times es e (is_among []) standing.new.tables troubled.new) }
 {
     let told = observe(alloc, &mut standing.book, entry)?;
     standing.book.known();
     match told {
-        Told::Unheard => {
+        Observed::Unheard => {
             pass_each(
                 &mut standing.tables,
                 troubled,
@@ -67,7 +66,7 @@ fn take<H: BuildHasher>(
             )?;
             Ok(None)
         }
-        Told::Fault(fault) => {
+        Observed::Fault(fault) => {
             pass_each(
                 &mut standing.tables,
                 troubled,
@@ -77,7 +76,7 @@ fn take<H: BuildHasher>(
             )?;
             Ok(Some(fault))
         }
-        Told::Restart => {
+        Observed::Restart => {
             standing.tables.known();
             histories.restart = entry.number;
             let event = Event::restart(entry.moment);
@@ -92,7 +91,7 @@ fn take<H: BuildHasher>(
             )?;
             Ok(None)
         }
-        Told::Heard { event, concerned } => {
+        Observed::Heard { event, concerned } => {
             let concerned = touch_each(&mut standing.tables, concerned)?;
             troubled.grow(standing.tables.len())?;
             histories.note_each(alloc, concerned, entry)?;
@@ -142,11 +141,11 @@ fn find<H: BuildHasher>(
     ensures fresh { OnOk result (IsFresh troubled.new) }
     ensures keyless { OnOk result (ConcernsNone (item entry.now) → standing.new.book ≡ standing.old.book) }
     ensures histories { OnOk result ((es : List (Observation KeyParts)) (e : Observation KeyParts) → AreHistories es histories.old → standing.old.tables.keys ≡ keys_in es
-        → entry.now.number ≡ length es + 1 → message_reading.Observes es (item entry.now) e → AreHistories (es ++ e ∷ []) histories.new) }
+        → entry.now.number ≡ length es + 1 → Sees es (item entry.now) e → AreHistories (es ++ e ∷ []) histories.new) }
     ensures front { (more : List Finding) × (found.new.items ≡ found.old.items ++ more) }
     ensures found { OnOk result ((es : List (Observation KeyParts)) → TablesSurvey standing.old.book es standing.old.tables troubled.old.deaf.items
         → entry.now.number ≡ length es + 1 → newest_moment es ≤ entry.now.moment
-        → (e : Observation KeyParts) × (here : List Finding) × message_reading.Observes es (item entry.now) e × (e.event.moment ≡ entry.now.moment)
+        → (e : Observation KeyParts) × (here : List Finding) × Sees es (item entry.now) e × (e.event.moment ≡ entry.now.moment)
         × AreFoundAt standing.old.tables.times es e here × (found.new.items ≡ found.old.items ++ here)
         × TablesSurvey standing.new.book (es ++ e ∷ []) standing.new.tables troubled.new.deaf.items) }
 {
@@ -179,11 +178,11 @@ pub(crate) fn find_next<H: BuildHasher>(
     ensures left { left.new ≤ most_entries + 1 }
     ensures keyless { OnOk result (ConcernsNone (item entry.now) → All (Contains standing.old.book) standing.new.book) }
     ensures histories { OnOk result ((es : List (Observation KeyParts)) (e : Observation KeyParts) → AreHistories es histories.old → standing.old.tables.keys ≡ keys_in es
-        → entry.now.number ≡ length es + 1 → message_reading.Observes es (item entry.now) e → AreHistories (es ++ e ∷ []) histories.new) }
+        → entry.now.number ≡ length es + 1 → Sees es (item entry.now) e → AreHistories (es ++ e ∷ []) histories.new) }
     ensures front { (more : List Finding) × (found.new.items ≡ found.old.items ++ more) }
     ensures found { OnOk result ((es : List (Observation KeyParts)) → AreSurveyed standing.old.book standing.old.tables troubled.old.deaf.items left.old es
         → entry.now.number ≡ length es + 1 → newest_moment es ≤ entry.now.moment
-        → (e : Observation KeyParts) × (here : List Finding) × message_reading.Observes es (item entry.now) e
+        → (e : Observation KeyParts) × (here : List Finding) × Sees es (item entry.now) e
         × AreFoundAt standing.old.tables.times es e here × (found.new.items ≡ found.old.items ++ here)
         × AreSurveyed standing.new.book standing.new.tables troubled.new.deaf.items left.new (es ++ e ∷ [])) }
 {

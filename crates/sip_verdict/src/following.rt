@@ -1,20 +1,23 @@
 //! A survey that takes the entries of a log as they come.
-ghost use Rattle.std.specs.Prelude.{◌≡◌, ◌<◌, ◌-◌, ◌↔◌, ◌++◌, ◌∷◌, [], false, List, Some, All, Contains, IfSome, IsSomeAnd, IsTrue, OnOk, OnErr, length, slice_get};
+ghost use Rattle.std.specs.Prelude.{◌≡◌, ◌<◌, ◌-◌, ◌↔◌, ◌++◌, ◌∷◌, [], Bool, false, List, Some, All, Contains, IfSome, IsSomeAnd, IsTrue, OnOk, OnErr, length, slice_get};
 ghost use Rattle.std.specs.Result.{is_err};
 ghost use Rattle.sip_standard.specs.Key.{KeyParts};
 ghost use Rattle.sip_log.specs.Told.{item};
 ghost use Rattle.sip_verdict.specs.declared.finding.Finding.{Finding};
 ghost use Rattle.sip_verdict.specs.declared.survey_end.SurveyEnd.TheVariants.{Clean};
 ghost use Rattle.sip_standard.specs.Observation.{Observation};
-ghost use Rattle.sip_verdict.specs.MessageReading.{message_reading, ConcernsNone};
-ghost use Rattle.sip_standard.specs.VerdictOf.{keys_in};
+ghost use Rattle.sip_verdict.specs.Entries.{ConcernsNone};
+ghost use Rattle.sip_standard.specs.VerdictOf.{keys_in, Sees};
 ghost use Rattle.sip_verdict.specs.SurveyOf.{AreFoundAt};
+ghost use Rattle.sip_verdict.specs.Forgetting.{ForgetsUpTo, remembered};
+ghost use Rattle.sip_verdict.specs.Named.{AreMany};
 ghost use Rattle.sip_verdict.specs.SurveyText.{IsFirstOf, IsLastOf};
 ghost use Rattle.sip_verdict.specs.Judging.{MayComeNext};
-ghost use Rattle.sip_verdict.specs.Surveys.{AreFewKept, MayAnswer, SurveysFor, end_after};
+ghost use Rattle.sip_verdict.specs.Surveys.{AreFewKept, IsStillNamed, MayAnswer, SurveysFor, end_after};
 
 use crate::entries::find_next;
 use crate::finding::Finding;
+use crate::forgetting::{Newest, forget};
 use crate::histories::Histories;
 use crate::standing::Standing;
 use crate::step_error::StepError;
@@ -54,7 +57,7 @@ impl<H: BuildHasher> Model for Survey<H> {
     ghost view = { λ s. record { number = s.number; moment = s.moment; texts = s.standing.book; tables = s.standing.tables; deaf = s.troubled.deaf.items; histories = s.histories; left = s.left; failed = s.failed } };
 
     ghost invariant = { λ s. s.failed ≡ false → MayTake s.standing.book s.standing.tables (s.number + 1) s.moment × AreWatched [] s.standing.tables s.troubled
-        × IsFresh s.troubled × (s.left ≤ most_entries + 1) };
+        × IsFresh s.troubled × (s.left ≤ most_entries + 1) × (s.number ≤ most_entries) };
 }
 
 impl<H: BuildHasher + Drop> Survey<H> {
@@ -89,7 +92,7 @@ impl<H: BuildHasher + Drop> Survey<H> {
     pub fn entry(&mut self, entry: &Entry, found: &mut Vec<Finding>) -> Result<(), StepError>
         requires { self.old.failed ≡ false → MayComeNext self.old.number self.old.moment entry.now.number entry.now.moment }
         ensures found { OnOk result ((es : List (Observation KeyParts)) → SurveysFor self.old es
-            → (e : Observation KeyParts) × (here : List Finding) × message_reading.Observes es (item entry.now) e
+            → (e : Observation KeyParts) × (here : List Finding) × Sees es (item entry.now) e
             × AreFoundAt self.old.tables.times es e here × (found.new.items ≡ found.old.items ++ here) × SurveysFor self.new (es ++ e ∷ [])) }
         ensures answers { MayAnswer self.old.failed result }
         ensures failed { self.new.failed ≡ is_err result }
@@ -116,6 +119,48 @@ impl<H: BuildHasher + Drop> Survey<H> {
                 self.moment = entry.moment;
                 Ok(())
             }
+            Err(AllocError) => {
+                self.failed = true;
+                Err(StepError::Memory)
+            }
+        }
+    }
+
+    /// Forgets the transactions that are over and that no entry concerns whose number is above `until`: those that are in trouble, are
+    /// idle again, or have ended. It goes on as after the same entries without them. The others are numbered anew, in their order. The
+    /// messages that are kept then are just those that the others name.
+    ///
+    /// Of one that was idle again, as a server is that has ended, nothing is lost. A later message of another begins a new transaction:
+    /// that a client that ended sends its request again is no breach then. So `until` is best the number that the newest entry had so
+    /// long ago that no message of an ended transaction can be on its way. After an error every call answers `StepError::Failed`.
+    pub fn forget(&mut self, until: u32) -> Result<(), StepError>
+        ensures forgets { OnOk result ((es : List (Observation KeyParts)) → SurveysFor self.old es
+            → (kept : KeyParts → Bool) × ForgetsUpTo until self.old.tables.times es kept × SurveysFor self.new (remembered kept es)
+            × AreMany (IsStillNamed self.old.tables.times (remembered kept es)) (length self.new.texts)) }
+        ensures answers { MayAnswer self.old.failed result }
+        ensures failed { self.new.failed ≡ is_err result }
+        ensures newest { OnOk result ((self.new.number ≡ self.old.number) × (self.new.moment ≡ self.old.moment)) }
+        ensures fewer { OnOk result (All (Contains self.old.texts) self.new.texts) }
+        ensures times { OnOk result (self.new.tables.times ≡ self.old.tables.times) }
+    {
+        if self.failed {
+            return Err(StepError::Failed);
+        }
+        let newest = Newest {
+            number: self.number,
+            moment: self.moment,
+        };
+        let forgotten = forget(
+            self.alloc,
+            &mut self.standing,
+            &mut self.troubled,
+            &mut self.histories,
+            &mut self.left,
+            newest,
+            until,
+        );
+        match forgotten {
+            Ok(()) => Ok(()),
             Err(AllocError) => {
                 self.failed = true;
                 Err(StepError::Memory)

@@ -2,11 +2,13 @@
 ghost use Rattle.std.specs.Prelude.{◌≡◌, ◌↔◌, ◌≤◌, ◌++◌, ◌∷◌, [], Bool, true, false, List, AllPairs};
 ghost use Rattle.sip_standard.specs.Key.{KeyParts};
 ghost use Rattle.sip_standard.specs.KeyMachine.{machine_of_key};
+ghost use Rattle.sip_standard.specs.LogEntry.{Item};
 ghost use Rattle.sip_standard.specs.Observation.{Observation};
+ghost use Rattle.sip_standard.specs.Seen.{AreSeen};
 ghost use Rattle.sip_standard.specs.Times.{Times};
 ghost use Rattle.sip_standard.specs.VerdictOf.{events_for};
-ghost use Rattle.sip_verdict.specs.Forgetting.{remembered};
-ghost use Rattle.sip_verdict.specs.Keyed.{newest_moment};
+ghost use Rattle.sip_verdict.specs.Forgetting.{HasSameTroubleAfter, remembered};
+ghost use Rattle.sip_verdict.specs.Entries.{newest_moment};
 ghost use Rattle.sip_verdict.specs.SurveyLaws.{IsIdleAgain};
 ghost use Rattle.sip_verdict.specs.SurveyOf.{IsSound, Breaks, Widens};
 
@@ -31,4 +33,18 @@ pub fn nothing_is_lost_of_what_is_idle_again()
     ensures { (p : Times) (kept : KeyParts → Bool) (key : KeyParts) (old front : List (Observation KeyParts)) (e : Observation KeyParts) → AllPairs (λ a b. a.event.moment ≤ b.event.moment) (old ++ (front ++ e ∷ []))
         → kept key ≡ false → IsIdleAgain (machine_of_key p.rules key) p (events_for key old) (newest_moment old) → IsSound p old key
         → (Breaks p (remembered kept old ++ front) e key ↔ Breaks p (old ++ front) e key) × (Widens p (remembered kept old ++ front) e key ↔ Widens p (old ++ front) e key) }
+{}
+
+/// A later restart of the element concerns the transactions that are left alone, and that changes nothing. Let the same entries be observed
+/// where nothing is forgotten, and where some transactions are: one that is kept breaks, or is followed no further, at the same of them.
+pub fn what_is_kept_is_found_at_the_same_entries()
+    ensures { (p : Times) (kept : KeyParts → Bool) (key : KeyParts) (old : List (Observation KeyParts)) (items : List Item) (es others : List (Observation KeyParts)) → kept key ≡ true
+        → AreSeen old items es → AreSeen (remembered kept old) items others → HasSameTroubleAfter p old (remembered kept old) es others key }
+{}
+
+/// And so does one that is forgotten, if it is in no trouble and idle again, though no restart concerns it before it comes again.
+pub fn what_is_idle_again_is_found_at_the_same_entries()
+    ensures { (p : Times) (kept : KeyParts → Bool) (key : KeyParts) (old : List (Observation KeyParts)) (items : List Item) (es others : List (Observation KeyParts)) → AllPairs (λ a b. a.event.moment ≤ b.event.moment) (old ++ es)
+        → kept key ≡ false → IsIdleAgain (machine_of_key p.rules key) p (events_for key old) (newest_moment old) → IsSound p old key
+        → AreSeen old items es → AreSeen (remembered kept old) items others → HasSameTroubleAfter p old (remembered kept old) es others key }
 {}

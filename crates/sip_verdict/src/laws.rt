@@ -1,20 +1,14 @@
 //! Laws of verdicts. The functions do nothing: their contracts are the laws.
-ghost use Rattle.std.specs.Prelude.{◌≡◌, ◌↔◌, ◌≤◌, ◌++◌, ℕ, List, AllPairs};
+ghost use Rattle.std.specs.Prelude.{◌≡◌, ◌↔◌, ◌≤◌, ◌++◌, ℕ, List};
 ghost use Rattle.sip_standard.specs.VerdictOf.{IsVerdictOf};
 ghost use Rattle.sip_verdict.specs.LegalLog.{IsLegalLog};
 ghost use Rattle.sip_standard.specs.declared.verdict.Verdict.TheVariants.{Legal};
 ghost use Rattle.sip_standard.specs.declared.verdict.Verdict.{Verdict as VerdictValue};
-ghost use Rattle.sip_standard.specs.Observation.{Observation};
-ghost use Rattle.sip_verdict.specs.Keyed.{HasRun};
-ghost use Rattle.sip_verdict.specs.MessageReading.{key_machines, message_reading};
-ghost use Rattle.sip_verdict.specs.Reading.{IsVerdictBy};
-ghost use Rattle.sip_standard.specs.Key.{KeyParts};
 ghost use Rattle.sip_standard.specs.declared.format.Format.{Format};
 ghost use Rattle.sip_standard.specs.declared.format.Format.TheVariants.{One, Two};
 ghost use Rattle.sip_standard.specs.LogEntry.{Item};
 ghost use Rattle.sip_standard.specs.LogHeader.{Header};
-ghost use Rattle.sip_standard.specs.LogSays.{Clean};
-ghost use Rattle.sip_log.specs.Log.{Readable, IsLogOf};
+ghost use Rattle.sip_standard.specs.LogSays.{Clean, LogSays};
 ghost use Rattle.sip_standard.specs.Times.{Times};
 
 use sip_standard::Verdict;
@@ -29,32 +23,20 @@ pub fn an_input_has_a_verdict()
     ensures { (input : List ℕ) → ¬ ((verdict : VerdictValue) → ¬ IsVerdictOf input verdict) }
 {}
 
-/// The verdict of an input is that by the reading of messages.
-pub fn a_verdict_is_that_by_the_reading_of_messages()
-    ensures { (input : List ℕ) (verdict : VerdictValue) → IsVerdictOf input verdict ↔ IsVerdictBy message_reading input verdict }
-{}
-
 /// A log of format 1 that is read to its end has, after a header of format 2 with the same times, the same verdict.
 pub fn a_log_of_format_1_has_its_verdict_in_format_2(_verdict: &Verdict)
     ensures { (input other : List ℕ) (p : Times) (behind : List ℕ) (items : List Item) → Header One p input behind → Header Two p other behind
-        → IsLogOf input (Readable p items Clean) → IsVerdictOf input _verdict.now ↔ IsVerdictOf other _verdict.now }
+        → LogSays input p items Clean → IsVerdictOf input _verdict.now ↔ IsVerdictOf other _verdict.now }
 {}
 
 /// And one that is read to its end has the same verdict with the line `rules 6026` and without it: its two headers say the same.
 pub fn a_line_of_rules_6026_changes_no_verdict(_verdict: &Verdict)
     ensures { (format : Format) (input other : List ℕ) (p : Times) (behind : List ℕ) (items : List Item) → Header format p input behind
-        → Header format p other behind → IsLogOf input (Readable p items Clean) → IsVerdictOf input _verdict.now ↔ IsVerdictOf other _verdict.now }
+        → Header format p other behind → LogSays input p items Clean → IsVerdictOf input _verdict.now ↔ IsVerdictOf other _verdict.now }
 {}
 
 /// A legal log is read whole, has so many entries and transactions, each message is of the grammar, and each transaction has
 /// a run over all of them.
 pub fn a_legal_log_has_runs()
     ensures { (input : List ℕ) (entries transactions : ℕ) → IsVerdictOf input (Legal entries transactions) → IsLegalLog input entries transactions }
-{}
-
-/// A transaction that has a run over some entries, in the order of their moments, has one over the first of them. So after a breach it has
-/// none, whatever comes.
-pub fn a_run_over_entries_holds_one_over_fewer()
-    ensures { (p : Times) (key : KeyParts) (front more : List (Observation KeyParts)) → AllPairs (λ a b. a.event.moment ≤ b.event.moment) (front ++ more) →
-        HasRun (key_machines p) key (front ++ more) → HasRun (key_machines p) key front }
 {}

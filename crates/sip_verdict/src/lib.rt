@@ -6,6 +6,7 @@ mod concerned;
 mod entries;
 mod finding;
 mod following;
+mod forgetting;
 mod forgetting_laws;
 mod gathering;
 mod histories;
@@ -38,14 +39,15 @@ pub use finding::Finding;
 pub use following::Survey;
 pub use forgetting_laws::{
     nothing_is_lost_of_what_is_idle_again, what_is_forgotten_is_judged_as_new,
+    what_is_idle_again_is_found_at_the_same_entries, what_is_kept_is_found_at_the_same_entries,
     what_is_kept_is_judged_on,
 };
 pub use gathering::survey_bytes;
 pub use judging::{judge, judge_bytes};
 pub use laws::{
     a_legal_log_has_runs, a_line_of_rules_6026_changes_no_verdict,
-    a_log_of_format_1_has_its_verdict_in_format_2, a_run_over_entries_holds_one_over_fewer,
-    a_verdict_is_that_by_the_reading_of_messages, an_input_has_a_verdict, an_input_has_one_verdict,
+    a_log_of_format_1_has_its_verdict_in_format_2, an_input_has_a_verdict,
+    an_input_has_one_verdict,
 };
 pub use listing::states_at;
 pub use rendering::{end_line, finding_line, render};

@@ -6,7 +6,7 @@ ghost use Rattle.sip_standard.specs.Key.{KeyParts};
 ghost use Rattle.sip_message.specs.SaidOf.{said_of};
 ghost use Rattle.sip_log.specs.Told.{item};
 ghost use Rattle.sip_standard.specs.Observation.{Observation, direction_of};
-ghost use Rattle.sip_verdict.specs.MessageReading.{message_reading};
+ghost use Rattle.sip_standard.specs.VerdictOf.{Sees};
 ghost use Rattle.sip_verdict.specs.inner.Observing.{AreKeysOf, IsObserved, IsKept, IsHeard, silent_told};
 
 use crate::concerned::Concerned;
@@ -19,7 +19,7 @@ use std::alloc::{AllocError, Global};
 
 /// What an entry says to the judge.
 #[derive(Drop)]
-pub(crate) enum Told {
+pub(crate) enum Observed {
     /// Nothing that a transaction hears: a mark, or a message that concerns none and is not kept. Its moment was reached.
     Unheard,
     /// The message has this fault.
@@ -69,20 +69,20 @@ fn keys_of(
 }
 
 /// What an entry without a message says.
-fn told_without_message(action: Action) -> Told
+fn told_without_message(action: Action) -> Observed
     ensures { result ≡ silent_told action }
 {
     match action {
-        Action::Restart => Told::Restart,
-        Action::Sent | Action::Received | Action::Failed | Action::Mark => Told::Unheard,
+        Action::Restart => Observed::Restart,
+        Action::Sent | Action::Received | Action::Failed | Action::Mark => Observed::Unheard,
     }
 }
 
 /// Reads the message of an entry, and keeps it in the book if it concerns a transaction. The book is as before on an error.
-pub(crate) fn observe(alloc: Global, book: &mut Book, entry: &Entry) -> Result<Told, AllocError>
+pub(crate) fn observe(alloc: Global, book: &mut Book, entry: &Entry) -> Result<Observed, AllocError>
     requires limit { entry.now.moment ≤ last_moment }
     requires numbered { (n : ℕ) → Keeps book.old n → n < entry.now.number }
-    ensures observed { IfOk result (λ told. (es : List (Observation KeyParts)) → (e : Observation KeyParts) × message_reading.Observes es (item entry.now) e
+    ensures observed { IfOk result (λ told. (es : List (Observation KeyParts)) → (e : Observation KeyParts) × Sees es (item entry.now) e
         × IsObserved book.new es (item entry.now) told e) }
     ensures heard { IfOk result (IsHeard book.new entry.now.moment) }
     ensures kept { IfOk result (IsKept book.old book.new entry.now) }
@@ -93,19 +93,19 @@ pub(crate) fn observe(alloc: Global, book: &mut Book, entry: &Entry) -> Result<T
     };
     let message = match Message::read(alloc, entry.bytes.as_slice()) {
         Ok(message) => message,
-        Err(ReadError::Fault(fault)) => return Ok(Told::Fault(fault)),
+        Err(ReadError::Fault(fault)) => return Ok(Observed::Fault(fault)),
         Err(ReadError::Memory) => return Err(AllocError),
     };
     let concerned = match keys_of(alloc, &message, direction) {
         Ok(concerned) => concerned,
-        Err(KeyError::NoCookie) => return Ok(Told::Fault(NO_COOKIE)),
+        Err(KeyError::NoCookie) => return Ok(Observed::Fault(NO_COOKIE)),
         Err(KeyError::Memory) => return Err(AllocError),
     };
     if let Concerned::None = concerned {
-        return Ok(Told::Unheard);
+        return Ok(Observed::Unheard);
     }
     let number = book.add(entry.number, entry.bytes.as_slice())?;
     book.keep_to(number, &message);
     let event = Event::of(entry.moment, entry.action, number, &message);
-    Ok(Told::Heard { event, concerned })
+    Ok(Observed::Heard { event, concerned })
 }

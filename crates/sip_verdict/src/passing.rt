@@ -10,12 +10,10 @@ ghost use Rattle.sip_states.specs.KeySets.{key_rules};
 ghost use Rattle.sip_states.specs.AnySet.{moment_of, IsEmpty, IsKnownSet};
 ghost use Rattle.sip_states.specs.Tables.{IsGiven, due_of};
 ghost use Rattle.sip_standard.specs.Observation.{Observation};
-ghost use Rattle.sip_verdict.specs.Keyed.{newest_moment};
-ghost use Rattle.sip_verdict.specs.MessageReading.{key_machines};
-ghost use Rattle.sip_verdict.specs.inner.Concerned.{each};
+ghost use Rattle.sip_verdict.specs.Entries.{newest_moment};
 ghost use Rattle.sip_verdict.specs.inner.Stepping.{IsStepped};
 ghost use Rattle.sip_verdict.specs.inner.Tracking.{IsReady, IsOutcome, overdue_outcome, first_of};
-ghost use Rattle.sip_verdict.specs.inner.TablesTracking.{LeadsOf, StandsOf, key_keeping, transactions_of, hearers, AreTold, MayPass, MayHear, AreHearers, AreOnRecord, AreOnRecordIf, HearsOne, HearsEach};
+ghost use Rattle.sip_verdict.specs.inner.TablesTracking.{LeadsOf, StandsOf, key_keeping, transactions_of, hearers, AreTold, LeavesOthers, MayPass, MayHear, AreHearers, AreOnRecord, AreOnRecordIf, HearsOne, HearsEach};
 
 use crate::concerned::Concerned;
 use sip_machine::{Book, Event};
@@ -199,8 +197,9 @@ pub(crate) fn pass_all<H: BuildHasher>(
     ensures recorded { IfOk result (λ outcome. AreOnRecordIf outcome tables.new) }
     ensures outcome { IfOk result (λ outcome. (p : Times) (es : List (Observation KeyParts)) (e : Observation KeyParts)
         → newest_moment es ≤ moment → AreTold book.now tables.old.keys moment (option_copied hearing.entry) e
-        → All (IsReady (key_machines p) (key_keeping book.now p) es) (transactions_of tables.old)
-        → IsOutcome (key_machines p) (key_keeping book.now p) es e (transactions_of tables.new) outcome) }
+        → All (IsReady (key_keeping book.now p) es) (transactions_of tables.old)
+        → IsOutcome p (key_keeping book.now p) es e (transactions_of tables.new) outcome) }
+    ensures others { IfOk result (λ outcome. LeavesOthers (option_copied hearing.entry) tables.old tables.new) }
 {
     let overdue = overdue(tables, moment);
     let Some(hearing) = hearing else {

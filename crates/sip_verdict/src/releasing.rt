@@ -7,7 +7,7 @@ ghost use Rattle.sip_machine.specs.Texts.{Texts};
 ghost use Rattle.sip_machine.specs.NumberedEvent.{FitsBook};
 ghost use Rattle.sip_states.specs.Tables.{IsGiven, due_of};
 ghost use Rattle.sip_standard.specs.Observation.{Observation};
-ghost use Rattle.sip_verdict.specs.Keyed.{newest_moment};
+ghost use Rattle.sip_verdict.specs.Entries.{newest_moment};
 ghost use Rattle.sip_verdict.specs.inner.Concerned.{each};
 ghost use Rattle.sip_verdict.specs.inner.TablesTracking.{hearers, is_among, AreHearers, AreTold, MayHear, MayPass};
 ghost use Rattle.sip_verdict.specs.inner.Surveying.{AreConcerned, ArePassing, AreWatched, HearsNumbers, any};

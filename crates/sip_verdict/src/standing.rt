@@ -1,28 +1,31 @@
 //! What is kept of the entries of a log that were judged.
-ghost use Rattle.std.specs.Prelude.{◌≡◌, ◌≢◌, ◌≤◌, ◌<◌, ◌+◌, ◌++◌, ◌∷◌, [], ℕ, Bool, None, List, All, AllPairs, Contains, IfOk, IfNone, OnOk, length, string_bytes, ◌↔◌, IfSome, MatchOption};
+ghost use Rattle.std.specs.Prelude.{◌≡◌, ◌≢◌, ◌≤◌, ◌<◌, ◌+◌, ◌++◌, ◌∷◌, [], ℕ, Bool, false, None, List, All, AllPairs, Contains, IfOk, IfNone, OnOk, length, string_bytes, ◌↔◌, IfSome, MatchOption};
 ghost use Rattle.std.specs.Option.{ForSome, option_copied};
 ghost use Rattle.sip_standard.specs.Key.{KeyParts};
 ghost use Rattle.sip_standard.specs.Times.{last_moment};
 ghost use Rattle.sip_machine.specs.Texts.{Keeps};
+ghost use Rattle.sip_states.specs.AnySet.{IsKnownSet};
+ghost use Rattle.sip_states.specs.Sweep.{numbers_of};
 ghost use Rattle.sip_states.specs.Tables.{HasNumber, IsGiven, due_of, most_keys};
 ghost use Rattle.sip_standard.specs.LogSays.{most_entries};
 ghost use Rattle.sip_standard.specs.LogEntry.{Item};
 ghost use Rattle.sip_log.specs.Told.{item};
 ghost use Rattle.sip_standard.specs.Observation.{Observation};
-ghost use Rattle.sip_verdict.specs.Keyed.{newest_moment};
-ghost use Rattle.sip_verdict.specs.Named.{AreMany, IsNamed, key_messages};
-ghost use Rattle.sip_verdict.specs.MessageReading.{key_machines, message_reading, ConcernsNone};
+ghost use Rattle.sip_standard.specs.VerdictOf.{Sees};
+ghost use Rattle.sip_standard.specs.Seen.{AreSeen};
+ghost use Rattle.sip_verdict.specs.Entries.{newest_moment, ConcernsNone};
+ghost use Rattle.sip_verdict.specs.Named.{AreMany, IsNamed};
 ghost use Rattle.sip_standard.specs.ListingOf.{first_entry};
-ghost use Rattle.sip_verdict.specs.Reading.{AreObserved};
 ghost use Rattle.sip_verdict.specs.inner.Concerned.{each, is_all, listed, up_to};
 ghost use Rattle.sip_verdict.specs.inner.Numbering.{AreNumbered, StaysNumbered, IsListedEntry, Appends, IsTextOf};
 ghost use Rattle.sip_verdict.specs.Surveys.{IsStillNamed};
+ghost use Rattle.sip_verdict.specs.inner.Forgetting.{AreQuietIfOver};
 ghost use Rattle.sip_verdict.specs.inner.Surveying.{TablesSurvey};
 ghost use Rattle.sip_verdict.specs.inner.Tracking.{IsJudged};
-ghost use Rattle.sip_verdict.specs.inner.TablesTracking.{key_keeping, transactions_of, TablesTrack, TablesTrackBefore, AreTold, TouchesEach, HaveNumbers, hearers, MayPass, MayHear, AreOnRecord, AllAreOnRecord, MayTake};
+ghost use Rattle.sip_verdict.specs.inner.TablesTracking.{key_keeping, transactions_of, TablesTrack, TablesTrackBefore, AreTold, LeavesOthers, OthersAre, NamesNot, IsForgotten, TouchesEach, HaveNumbers, hearers, MayPass, MayHear, AreOnRecord, AllAreOnRecord, MayTake};
 
 use crate::concerned::Concerned;
-use crate::observing::{Told, observe};
+use crate::observing::{Observed, observe};
 use crate::passing::{Hearing, Outcome, pass_all};
 use sip_key::Key;
 use sip_listing::push_transaction;
@@ -68,6 +71,21 @@ pub(crate) fn touch_each<H: BuildHasher>(
     })
 }
 
+/// Whether one of these transactions may name the message with this number.
+fn may_name<H: BuildHasher>(tables: &Tables<H>, number: u32, concerned: Concerned<u32>) -> bool
+    requires { All (IsGiven tables.now) (each concerned) }
+    ensures { result ≡ false → (is_all concerned ≡ false) × All (NamesNot tables.now number) (each concerned) }
+{
+    match concerned {
+        Concerned::None => false,
+        Concerned::Own(own) => tables.set(own).may_name(number),
+        Concerned::OwnAndCancelled(own, cancelled) => {
+            tables.set(own).may_name(number) || tables.set(cancelled).may_name(number)
+        }
+        Concerned::All => true,
+    }
+}
+
 impl<H: BuildHasher> Standing<H> {
     /// Nothing was judged yet. It takes no memory.
     pub(crate) fn new(alloc: Global, params: Params, hasher: H) -> Standing<H>
@@ -96,6 +114,24 @@ impl<H: BuildHasher> Standing<H> {
         self.book.len()
     }
 
+    /// Lets every transaction wait until the moment. Where one is over, its set is quiet then.
+    pub(crate) fn wait(&mut self, moment: u64) -> Result<(), AllocError>
+        requires may { MayPass self.old.book self.old.tables moment }
+        requires recorded { AllAreOnRecord self.old.tables }
+        ensures times { OnOk result (self.new.tables.times ≡ self.old.tables.times) }
+        ensures keys { OnOk result (self.new.tables.keys ≡ self.old.tables.keys) }
+        ensures book { OnOk result (self.new.book ≡ self.old.book) }
+        ensures may { OnOk result (MayPass self.new.book self.new.tables moment) }
+        ensures recorded { OnOk result (AllAreOnRecord self.new.tables) }
+        ensures records { OnOk result (self.new.tables.records ≡ self.old.tables.records) }
+        ensures surveyed { OnOk result ((es : List (Observation KeyParts)) (deaf : List Bool) → TablesSurvey self.old.book es self.old.tables deaf → newest_moment es ≡ moment
+            → length deaf ≡ length self.old.tables.keys → TablesSurvey self.new.book es self.new.tables deaf × AreQuietIfOver es self.new.tables) }
+    {
+        self.book.known();
+        self.tables.wait_all(moment)?;
+        Ok(())
+    }
+
     /// Lets the transactions wait until the moment, and forgets the messages that none of their states names then.
     pub(crate) fn sweep(&mut self, alloc: Global, moment: u64) -> Result<(), AllocError>
         requires may { MayPass self.old.book self.old.tables moment }
@@ -108,7 +144,7 @@ impl<H: BuildHasher> Standing<H> {
         ensures fewer { OnOk result (All (Contains self.old.book) self.new.book) }
         ensures tracks { OnOk result ((es : List (Observation KeyParts)) → TablesTrack self.old.book es self.old.tables → TablesTrack self.new.book es self.new.tables) }
         ensures named { OnOk result ((es : List (Observation KeyParts)) → TablesTrack self.old.book es self.old.tables → newest_moment es ≡ moment
-            → AreMany (IsNamed (key_machines self.old.tables.times) (key_messages self.old.tables.times) es) (length self.new.book)) }
+            → AreMany (IsNamed self.old.tables.times es) (length self.new.book)) }
         ensures surveyed { OnOk result ((es : List (Observation KeyParts)) (deaf : List Bool) → TablesSurvey self.old.book es self.old.tables deaf → newest_moment es ≡ moment
             → length deaf ≡ length self.old.tables.keys
             → TablesSurvey self.new.book es self.new.tables deaf × AreMany (IsStillNamed self.old.tables.times es) (length self.new.book)) }
@@ -139,7 +175,8 @@ impl<H: BuildHasher> Standing<H> {
         ensures judged { IfOk result (λ verdict. (es : List (Observation KeyParts)) (e : Observation KeyParts) → e.fault ≡ None → newest_moment es ≤ moment
             → AreTold self.old.book self.old.tables.keys moment (option_copied hearing.entry) e
             → TablesTrackBefore self.old.book es e self.old.tables → number ≡ length es + 1
-            → IsJudged (key_machines self.old.tables.times) (key_keeping self.new.book self.old.tables.times) es e (transactions_of self.new.tables) verdict) }
+            → IsJudged self.old.tables.times (key_keeping self.new.book self.old.tables.times) es e (transactions_of self.new.tables) verdict) }
+        ensures others { IfOk result (λ verdict. LeavesOthers (option_copied hearing.entry) self.old.tables self.new.tables) }
     {
         let outcome = pass_all(&mut self.tables, &self.book, moment, hearing)?;
         Ok(match outcome {
@@ -170,10 +207,47 @@ impl<H: BuildHasher> Standing<H> {
         ensures keyless { OnOk result (ConcernsNone (item entry.now) → self.new.book ≡ self.old.book) }
         ensures judged { IfOk result (λ verdict. (es : List (Observation KeyParts)) → TablesTrack self.old.book es self.old.tables
             → entry.now.number ≡ length es + 1 → newest_moment es ≤ entry.now.moment
-            → (e : Observation KeyParts) × message_reading.Observes es (item entry.now) e
-            × IsJudged (key_machines self.old.tables.times) (key_keeping self.new.book self.old.tables.times) es e (transactions_of self.new.tables) verdict) }
+            → (e : Observation KeyParts) × Sees es (item entry.now) e
+            × IsJudged self.old.tables.times (key_keeping self.new.book self.old.tables.times) es e (transactions_of self.new.tables) verdict) }
     {
         Ok(self.take(alloc, entry)?.verdict)
+    }
+
+    /// Judges the entry that comes next, with the verdict if it is in trouble. Its message is not kept if no transaction names it.
+    pub(crate) fn judge(
+        &mut self,
+        alloc: Global,
+        entry: &Entry,
+    ) -> Result<Option<Verdict>, AllocError>
+        requires limit { entry.now.moment ≤ last_moment }
+        requires count { entry.now.number ≤ most_entries }
+        requires may { MayTake self.old.book self.old.tables entry.now.number entry.now.moment }
+        ensures times { OnOk result (self.new.tables.times ≡ self.old.tables.times) }
+        ensures may { IfOk result (λ verdict. IfNone verdict (MayTake self.new.book self.new.tables (entry.now.number + 1) entry.now.moment)) }
+        ensures keyless { OnOk result (ConcernsNone (item entry.now) → All (Contains self.old.book) self.new.book) }
+        ensures judged { IfOk result (λ verdict. (es : List (Observation KeyParts)) → TablesTrack self.old.book es self.old.tables
+            → entry.now.number ≡ length es + 1 → newest_moment es ≤ entry.now.moment
+            → (e : Observation KeyParts) × Sees es (item entry.now) e
+            × IsJudged self.old.tables.times (key_keeping self.new.book self.old.tables.times) es e (transactions_of self.new.tables) verdict) }
+    {
+        let taken = self.take(alloc, entry)?;
+        if let Some(verdict) = taken.verdict {
+            return Ok(Some(verdict));
+        }
+        self.forget(entry.number, taken.concerned);
+        Ok(None)
+    }
+
+    /// Forgets the message with this number, if it is the newest and none of these transactions names it. No other one does.
+    fn forget(&mut self, number: u32, concerned: Concerned<u32>)
+        requires given { All (IsGiven self.old.tables) (each concerned) }
+        requires others { OthersAre (λ set. ¬ Contains (numbers_of set) number) concerned self.old.tables }
+        ensures tables { self.new.tables ≡ self.old.tables }
+        ensures book { IsForgotten self.old.tables.sets number self.old.book self.new.book }
+    {
+        if !may_name(&self.tables, number, concerned) {
+            self.book.forget_newest(number);
+        }
     }
 
     /// Judges the entry that comes next, and lists the transactions that it concerns, if it is in no trouble.
@@ -182,9 +256,9 @@ impl<H: BuildHasher> Standing<H> {
         requires count { entry.now.number ≤ most_entries }
         requires may { MayTake self.old.book self.old.tables entry.now.number entry.now.moment }
         ensures listed { IfOk result (λ listing. (es : List (Observation KeyParts)) (items more : List Item) → TablesTrack self.old.book es self.old.tables
-            → AreNumbered items self.old.book → AreObserved message_reading [] items es → length items ≡ length es → entry.now.number ≡ length es + 1
+            → AreNumbered items self.old.book → AreSeen [] items es → length items ≡ length es → entry.now.number ≡ length es + 1
             → newest_moment es ≤ entry.now.moment
-            → (e : Observation KeyParts) × message_reading.Observes es (item entry.now) e
+            → (e : Observation KeyParts) × Sees es (item entry.now) e
             × IsListedEntry self.old.tables.times (first_entry ((items ++ item entry.now ∷ []) ++ more)) es e listing) }
     {
         let taken = self.take(alloc, entry)?;
@@ -203,31 +277,32 @@ impl<H: BuildHasher> Standing<H> {
         ensures may { IfOk result (λ taken. IfNone taken.verdict (MayTake self.new.book self.new.tables (entry.now.number + 1) entry.now.moment)) }
         ensures numbered { IfOk result (λ taken. IfNone taken.verdict (StaysNumbered (item entry.now) entry.now.number self.old.book self.new.book)) }
         ensures given { IfOk result (λ taken. All (IsGiven self.new.tables) (each taken.concerned)) }
+        ensures others { IfOk result (λ taken. OthersAre (IsKnownSet self.old.book) taken.concerned self.new.tables) }
         ensures keyless { OnOk result (ConcernsNone (item entry.now) → self.new.book ≡ self.old.book) }
         ensures judged { IfOk result (λ taken. (es : List (Observation KeyParts)) → TablesTrack self.old.book es self.old.tables
             → entry.now.number ≡ length es + 1 → newest_moment es ≤ entry.now.moment
-            → (e : Observation KeyParts) × message_reading.Observes es (item entry.now) e
-            × IsJudged (key_machines self.old.tables.times) (key_keeping self.new.book self.old.tables.times) es e (transactions_of self.new.tables) taken.verdict
+            → (e : Observation KeyParts) × Sees es (item entry.now) e
+            × IsJudged self.old.tables.times (key_keeping self.new.book self.old.tables.times) es e (transactions_of self.new.tables) taken.verdict
             × HaveNumbers self.new.tables.keys (listed (length self.new.tables.keys) taken.concerned) e.keys) }
     {
         let told = observe(alloc, &mut self.book, entry)?;
         self.book.known();
         match told {
-            Told::Unheard => {
+            Observed::Unheard => {
                 let verdict = self.pass(entry.number, entry.moment, None)?;
                 Ok(Taken {
                     verdict,
                     concerned: Concerned::None,
                 })
             }
-            Told::Fault(fault) => Ok(Taken {
+            Observed::Fault(fault) => Ok(Taken {
                 verdict: Some(Verdict::Malformed {
                     entry: entry.number,
                     fault,
                 }),
                 concerned: Concerned::None,
             }),
-            Told::Restart => {
+            Observed::Restart => {
                 self.tables.known();
                 let event = Event::restart(entry.moment);
                 let concerned = Concerned::All;
@@ -235,7 +310,7 @@ impl<H: BuildHasher> Standing<H> {
                 let verdict = self.pass(entry.number, entry.moment, Some(&hearing))?;
                 Ok(Taken { verdict, concerned })
             }
-            Told::Heard { event, concerned } => {
+            Observed::Heard { event, concerned } => {
                 let concerned = touch_each(&mut self.tables, concerned)?;
                 self.tables.known();
                 let hearing = Hearing { event, concerned };

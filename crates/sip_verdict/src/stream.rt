@@ -6,9 +6,9 @@ ghost use Rattle.sip_states.specs.Tables.{HasNumber, IsGiven, due_of};
 ghost use Rattle.sip_verdict.specs.declared.stage.Stage.TheVariants.{Open};
 ghost use Rattle.sip_standard.specs.declared.verdict.Verdict.TheVariants.{Legal};
 ghost use Rattle.sip_standard.specs.Observation.{Observation};
-ghost use Rattle.sip_verdict.specs.Keyed.{keys_of};
-ghost use Rattle.sip_verdict.specs.MessageReading.{key_machines, message_reading, ConcernsNone};
-ghost use Rattle.sip_verdict.specs.Named.{AreFew, key_messages};
+ghost use Rattle.sip_standard.specs.VerdictOf.{keys_in, Sees};
+ghost use Rattle.sip_verdict.specs.Entries.{ConcernsNone};
+ghost use Rattle.sip_verdict.specs.Named.{AreFew};
 ghost use Rattle.sip_verdict.specs.Judging.{StandsFor, CanWaitUntil, MayComeNext, IsNext, CanAnswer, stage_after, last_verdict};
 
 use crate::stage::Stage;
@@ -96,7 +96,7 @@ impl<H: BuildHasher + Drop> Judge<H> {
     pub fn entry(&mut self, entry: &Entry) -> Result<Option<Verdict>, StepError>
         requires { self.old.stage ≡ Open → MayComeNext self.old.number self.old.moment entry.now.number entry.now.moment }
         ensures judged { IfOk result (λ verdict. (es : List (Observation KeyParts)) → StandsFor self.old es
-            → (e : Observation KeyParts) × message_reading.Observes es (item entry.now) e × IsNext self.new es e verdict) }
+            → (e : Observation KeyParts) × Sees es (item entry.now) e × IsNext self.new es e verdict) }
         ensures answers { CanAnswer self.old.stage result }
         ensures stage { self.new.stage ≡ stage_after result }
         ensures newest { IfOk result (λ verdict. IfNone verdict ((self.new.number ≡ entry.now.number) × (self.new.moment ≡ entry.now.moment))) }
@@ -128,7 +128,7 @@ impl<H: BuildHasher + Drop> Judge<H> {
     pub fn end(self) -> Option<Verdict>
         ensures last { result ≡ last_verdict self.number (length self.tables.keys) self.stage }
         ensures legal { (es : List (Observation KeyParts)) → StandsFor self es
-            → result ≡ Some (Legal (length es) (length (keys_of (key_machines self.tables.times) es))) }
+            → result ≡ Some (Legal (length es) (length (keys_in es))) }
     {
         match self.stage {
             Stage::Open => Some(Verdict::Legal {
@@ -143,7 +143,7 @@ impl<H: BuildHasher + Drop> Judge<H> {
     /// How many messages it keeps.
     pub fn kept(&self) -> usize
         ensures kept { result ≡ length self.now.texts }
-        ensures few { (es : List (Observation KeyParts)) → StandsFor self.now es → AreFew (key_machines self.now.tables.times) (key_messages self.now.tables.times) es result }
+        ensures few { (es : List (Observation KeyParts)) → StandsFor self.now es → AreFew self.now.tables.times es result }
     {
         self.standing.kept()
     }
@@ -152,7 +152,7 @@ impl<H: BuildHasher + Drop> Judge<H> {
     pub fn key(&self, transaction: u32) -> Option<&Key>
         ensures none { MatchOption result (¬ (IsGiven self.now.tables transaction)) (λ key. IsGiven self.now.tables transaction × HasNumber self.now.tables key.now transaction) }
         ensures named { (es : List (Observation KeyParts)) → StandsFor self.now es
-            → IfSome result (λ key. slice_get (keys_of (key_machines self.now.tables.times) es) (transaction - 1) ≡ Some key.now) }
+            → IfSome result (λ key. slice_get (keys_in es) (transaction - 1) ≡ Some key.now) }
     {
         self.standing.key(transaction)
     }

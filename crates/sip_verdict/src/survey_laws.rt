@@ -10,9 +10,8 @@ ghost use Rattle.sip_verdict.specs.declared.finding.Finding.TheVariants.{Malform
 ghost use Rattle.sip_verdict.specs.declared.survey_end.SurveyEnd.{SurveyEnd as EndValue};
 ghost use Rattle.sip_standard.specs.declared.verdict.Verdict.{Verdict as VerdictValue};
 ghost use Rattle.sip_standard.specs.Observation.{Observation};
-ghost use Rattle.sip_verdict.specs.Keyed.{newest_moment};
-ghost use Rattle.sip_verdict.specs.MessageReading.{message_reading};
-ghost use Rattle.sip_verdict.specs.Reading.{AreObserved};
+ghost use Rattle.sip_standard.specs.Seen.{AreSeen};
+ghost use Rattle.sip_verdict.specs.Entries.{newest_moment};
 ghost use Rattle.sip_standard.specs.declared.fault.Fault.{Fault as FaultValue};
 ghost use Rattle.sip_standard.specs.Key.{KeyParts};
 ghost use Rattle.sip_standard.specs.LogEntry.{Item};
@@ -64,7 +63,7 @@ pub fn a_transaction_in_trouble_has_a_finding()
 
 /// Each transaction that is in trouble over the entries of a log is named by a finding of its survey.
 pub fn each_trouble_is_named()
-    ensures { (p : Times) (items : List Item) (close : LogEnd) (es : List (Observation KeyParts)) (found : List FindingValue) (end : EndValue) → AreObserved message_reading [] items es
+    ensures { (p : Times) (items : List Item) (close : LogEnd) (es : List (Observation KeyParts)) (found : List FindingValue) (end : EndValue) → AreSeen [] items es
         → IsSurveyAfter p [] items close found end → (key : KeyParts) → ¬ IsSound p es key → ¬ (¬ AreAbout es found key) }
 {}
 
@@ -78,19 +77,19 @@ pub fn a_survey_names_a_transaction_once()
 /// concerns none of the chosen is a mark: it has the chosen transactions in their order, and each breaks, or is followed no further, at
 /// the same entry.
 pub fn a_log_may_be_cut()
-    ensures { (p : Times) (chosen : KeyParts → Bool) (items : List Item) (es : List (Observation KeyParts)) (cuts : List Item) → AreObserved message_reading [] items es
+    ensures { (p : Times) (chosen : KeyParts → Bool) (items : List Item) (es : List (Observation KeyParts)) (cuts : List Item) → AreSeen [] items es
         → IsCutLog chosen items es cuts → Keeps p chosen es cuts }
 {}
 
 /// It can be cut by branch, whichever branches are chosen, since all that a message concerns has the branch of its top Via.
 pub fn a_log_can_be_cut_by_branch()
-    ensures { (chosen : List ℕ → Bool) (items : List Item) (es : List (Observation KeyParts)) → AreObserved message_reading [] items es
+    ensures { (chosen : List ℕ → Bool) (items : List Item) (es : List (Observation KeyParts)) → AreSeen [] items es
         → (cuts : List Item) × IsCutLog (λ key. chosen key.branch) items es cuts }
 {}
 
 /// The log of a part is cut so, by the branches that fall into the part.
 pub fn the_log_of_a_part_is_cut_by_branch()
-    ensures { (part : PartOf) (items cuts : List Item) (es : List (Observation KeyParts)) → AreObserved message_reading [] items es → IsPartLog part items cuts
+    ensures { (part : PartOf) (items cuts : List Item) (es : List (Observation KeyParts)) → AreSeen [] items es → IsPartLog part items cuts
         → IsCutLog (λ key. falls_into part key.branch) items es cuts }
 {}
 
@@ -98,7 +97,7 @@ pub fn the_log_of_a_part_is_cut_by_branch()
 /// entries, however the two logs end. The part counts the chosen transactions alone.
 pub fn a_part_finds_what_the_whole_finds()
     ensures { (p : Times) (chosen : KeyParts → Bool) (items cuts : List Item) (es : List (Observation KeyParts)) (close shut : LogEnd) (found part : List FindingValue) (end fin : EndValue)
-        → AreObserved message_reading [] items es → IsCutLog chosen items es cuts → IsSurveyAfter p [] items close found end → IsSurveyAfter p [] cuts shut part fin
+        → AreSeen [] items es → IsCutLog chosen items es cuts → IsSurveyAfter p [] items close found end → IsSurveyAfter p [] cuts shut part fin
         → (key : KeyParts) → chosen key ≡ true → (entry : ℕ)
         → (Names (λ n t. Breach n t) keys_in es found key entry ↔ Names (λ n t. Breach n t) (chosen_in chosen) es part key entry)
         × (Names (λ n t. Undecided n t) keys_in es found key entry ↔ Names (λ n t. Undecided n t) (chosen_in chosen) es part key entry) }
@@ -107,7 +106,7 @@ pub fn a_part_finds_what_the_whole_finds()
 /// A fault is found in a part exactly where it is found in the whole and its message stays.
 pub fn a_fault_is_found_where_its_message_stays()
     ensures { (p : Times) (chosen : KeyParts → Bool) (items cuts : List Item) (es : List (Observation KeyParts)) (close shut : LogEnd) (found part : List FindingValue) (end fin : EndValue)
-        → AreObserved message_reading [] items es → IsCutLog chosen items es cuts → IsSurveyAfter p [] items close found end → IsSurveyAfter p [] cuts shut part fin
+        → AreSeen [] items es → IsCutLog chosen items es cuts → IsSurveyAfter p [] items close found end → IsSurveyAfter p [] cuts shut part fin
         → (entry : ℕ) (fault : FaultValue) → Contains part (Malformed entry fault) ↔ (Contains found (Malformed entry fault) × StaysAt items cuts entry) }
 {}
 

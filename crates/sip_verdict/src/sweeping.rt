@@ -5,8 +5,8 @@ ghost use Rattle.sip_standard.specs.Times.{last_moment};
 ghost use Rattle.sip_standard.specs.LogSays.{most_entries};
 ghost use Rattle.sip_log.specs.Told.{item};
 ghost use Rattle.sip_standard.specs.Observation.{Observation};
-ghost use Rattle.sip_verdict.specs.Keyed.{newest_moment};
-ghost use Rattle.sip_verdict.specs.MessageReading.{message_reading, ConcernsNone};
+ghost use Rattle.sip_standard.specs.VerdictOf.{Sees};
+ghost use Rattle.sip_verdict.specs.Entries.{newest_moment, ConcernsNone};
 ghost use Rattle.sip_verdict.specs.Judging.{AreFollowed};
 ghost use Rattle.sip_verdict.specs.inner.Sweeping.{AreFollowedOn};
 ghost use Rattle.sip_verdict.specs.inner.TablesTracking.{MayTake};
@@ -38,10 +38,10 @@ pub(crate) fn judge_next<H: BuildHasher>(
     ensures keyless { OnOk result (ConcernsNone (item entry.now) → All (Contains standing.old.book) standing.new.book) }
     ensures judged { IfOk result (λ verdict. (es : List (Observation KeyParts)) → AreFollowed standing.old.book standing.old.tables left.old es
         → entry.now.number ≡ length es + 1 → newest_moment es ≤ entry.now.moment
-        → (e : Observation KeyParts) × message_reading.Observes es (item entry.now) e
+        → (e : Observation KeyParts) × Sees es (item entry.now) e
         × AreFollowedOn standing.new.book standing.new.tables left.new es e verdict) }
 {
-    if let Some(verdict) = standing.entry(alloc, entry)? {
+    if let Some(verdict) = standing.judge(alloc, entry)? {
         return Ok(Some(verdict));
     }
     if standing.kept() <= 2 * *left + SPARE {

@@ -1,11 +1,12 @@
 //! Which transactions are in trouble.
 ghost use Rattle.std.specs.Prelude.{◌≡◌, ◌<◌, ◌≤◌, ◌-◌, ◌++◌, ◌∷◌, [], Bool, List, Some, true, false, All, OnOk, length, map, slice_get, slice_set};
+ghost use Rattle.sip_states.specs.Kept.{kept_of};
 ghost use Rattle.sip_verdict.specs.declared.finding.Finding.{Finding};
 ghost use Rattle.sip_verdict.specs.declared.finding.Finding.TheVariants.{Breach, Undecided};
 ghost use Rattle.sip_verdict.specs.inner.Surveying.{AddsBroken, AddsWide, AppendsTroubled, IsFresh};
 
 use crate::finding::Finding;
-use sip_states::keep_ascending;
+use sip_states::{keep_ascending, keep_each};
 use std::alloc::{AllocError, Global};
 
 /// The transactions in trouble, those among them that came into it at the entry in hand being told apart.
@@ -44,6 +45,16 @@ impl Troubled {
             self.deaf.push(false)?;
         }
         Ok(())
+    }
+
+    /// Those transactions alone are left at which the flag is true, numbered anew.
+    pub(crate) fn keep(&mut self, flags: &[bool])
+        requires { length flags.now ≡ length self.old.deaf.items }
+        ensures deaf { self.new.deaf.items ≡ kept_of flags.now self.old.deaf.items }
+        ensures broken { self.new.broken.items ≡ self.old.broken.items }
+        ensures wide { self.new.wide.items ≡ self.old.wide.items }
+    {
+        keep_each(&mut self.deaf, flags);
     }
 
     /// Whether the transaction with this number is in trouble.

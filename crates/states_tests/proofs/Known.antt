@@ -1,3 +1,4 @@
+-- What is true of a set after `take` and `advance`, whatever they answer: the book has what its states name, and the set's moment.
 use Rattle.std.proofs.Common.{◌≡◌, ◌≤◌, ℕ, List, Result, Ok, Err, OnOk, OnErr, All, inl, inr, sym, subst, get_or, arith}
 use Rattle.std.proofs.lemmas.Option.{slice_get-get_or}
 use Rattle.sip_machine.specs.Texts.{Texts}

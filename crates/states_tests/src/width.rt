@@ -100,7 +100,7 @@ fn is_widest(
         (repeats, true),
         "the sends",
     );
-    is(rt, set.states().len(), most, "behind the sends");
+    is(rt, set.states().len(), most, "after the sends");
     let next = entry_at(repeats, 43 + 2 * repeats + sends);
     is(
         rt,
@@ -108,7 +108,7 @@ fn is_widest(
         (most, Err(TakeError::TooMany)),
         "a send more",
     );
-    is(rt, set.states().len(), most, "behind a send more");
+    is(rt, set.states().len(), most, "after a send more");
     Ok(())
 }
 

@@ -25,7 +25,7 @@ pub record IsFirstNumber (test : Debt → Bool) (debts : List (ℕ × Debt)) (nu
   pub is : passes test (debt_at debts number) ≡ true
   pub before : (n : ℕ) → n < number → passes test (debt_at debts n) ≡ false
 
--- the same, or there is none
+-- the number of the first debt that passes the test, or None where no debt does
 abbrev pub FindsNumber : (Debt → Bool) → List (ℕ × Debt) → Option ℕ → Type 0
 FindsNumber test debts None = (n : ℕ) → passes test (debt_at debts n) ≡ false
 FindsNumber test debts (Some number) = IsFirstNumber test debts number
@@ -55,7 +55,7 @@ is_due key debt = debt.must && debt.deadline == key
 pub record IsIndexed (test : ℕ → Debt → Bool) (debts : List (ℕ × Debt)) (pairs : List (ℕ × ℕ)) : Type 0 where
   pub each : (key number : ℕ) → holds pairs key number ≡ passes (test key) (debt_at debts number)
 
--- the same by each key
+-- the numbers of the debts stand under each of their three keys
 pub record AreIndexed (debts : List (ℕ × Debt)) (indexes : Indexes) : Type 0 where
   pub messages : IsIndexed is_named debts indexes.messages
   pub moments : IsIndexed is_timed debts indexes.moments

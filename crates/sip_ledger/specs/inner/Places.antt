@@ -2,21 +2,21 @@ use Rattle.std.specs.Prelude.{◌≡◌, ◌≢◌, ◌&&◌, ◌||◌, ◌<◌,
 use Rattle.sip_masks.specs.Bits.{test}
 use Rattle.sip_ledger.specs.declared.debt.Debt.{Debt}
 use Rattle.sip_ledger.specs.declared.debt.Entry.{Entry}
-use Rattle.sip_ledger.specs.declared.row.Place.{Place}
+use Rattle.sip_ledger.specs.declared.row.FoundBit.{FoundBit}
 use Rattle.sip_ledger.specs.Bits.{has}
 use Rattle.sip_ledger.specs.Rows.{debt_of, IsGap}
 
 -- Places of bits in a row.
 
 -- a bit at the place, which begins after the bit before it
-pub record IsBit (owed : ℕ → Bool) (place : Place) : Type 0 where
+pub record IsBit (owed : ℕ → Bool) (place : FoundBit) : Type 0 where
   pub is : owed place.at ≡ true
   pub after : place.low ≤ place.at
   pub gap : IsGap owed place.low place.at
   pub begins : 0 < place.low → owed (place.low - 1) ≡ true
 
 -- the first bit whose debt passes the test
-pub record IsFirst (test : Debt → Bool) (entries : List Entry) (owed : ℕ → Bool) (place : Place) : Type 0 where
+pub record IsFirst (test : Debt → Bool) (entries : List Entry) (owed : ℕ → Bool) (place : FoundBit) : Type 0 where
   pub bit : IsBit owed place
   pub passes : (e : Entry) → IsTrue (test (debt_of (get_or entries place.at e) true))
   pub before : (k : ℕ) (e : Entry) → k < place.at → owed k ≡ true → test (debt_of (get_or entries k e) true) ≡ false
@@ -26,7 +26,7 @@ abbrev pub NonePasses : (Debt → Bool) → List Entry → (ℕ → Bool) → Ty
 NonePasses test entries owed = (k : ℕ) (e : Entry) → owed k ≡ true → test (debt_of (get_or entries k e) true) ≡ false
 
 -- the first bit of one word that a mask has too
-pub record IsFirstIn (owed bits : ℕ) (place : Place) : Type 0 where
+pub record IsFirstIn (owed bits : ℕ) (place : FoundBit) : Type 0 where
   pub bit : IsBit (has (owed ∷ [])) place
   pub marked : test bits place.at ≡ true
   pub before : (k : ℕ) → k < place.at → has (owed ∷ []) k ≡ true → test bits k ≡ false

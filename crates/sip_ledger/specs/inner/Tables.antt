@@ -23,12 +23,12 @@ pub record IsTableRow (entries : List Entry) (width row : ℕ) (owed must : List
   pub fits : 64 * width < 2 ^ 64
   pub is : IsRow entries (has (part width row owed)) (has (part width row must))
 
--- no other row has changed
+-- the bits of no other row have changed
 pub record ChangesRow (width row : ℕ) (old new : List ℕ) : Type 0 where
   pub long : length new ≡ length old
   pub others : (k : ℕ) → k ≢ row → part width k new ≡ part width k old
 
--- nor has one whose bits are these and those, and the changed one is a row
+-- a row of two tables of bits, of what is owed and of what must be paid, was changed to a row, and no other one
 pub record ChangesTable (entries : List Entry) (width row : ℕ) (owed must owed' must' : List ℕ) : Type 0 where
   pub owed_changes : ChangesRow width row owed owed'
   pub must_changes : ChangesRow width row must must'

@@ -3,7 +3,7 @@ use Rattle.sip_machine.specs.Told.{told_of}
 use Rattle.sip_ledger.specs.Runs.{debts_in}
 use Rattle.sip_states.specs.declared.told.ToldState.{ToldState}
 use Rattle.sip_standard.specs.StateText.{phase_text}
-use Rattle.sip_listing.specs.inner.FieldLaws.{debts_fields}
+use Rattle.sip_listing.specs.inner.FieldWords.{debts_fields}
 
 -- the text of a state in words of the code, by its numbers
 abbrev pub state_line : ToldState → List ℕ

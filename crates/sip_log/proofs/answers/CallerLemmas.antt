@@ -13,9 +13,8 @@ use Rattle.sip_log.specs.Next.{Next, ends, gives, stops, ComesNext}
 use Rattle.sip_standard.specs.LogEntry.{Item, entry_says, IsEntry, InOrder, last_of}
 use Rattle.sip_standard.specs.LogHeader.{Header}
 use Rattle.sip_standard.specs.LogSays.{most_entries, EndsWith, LogEnd, Clean, Stops, LacksHeader, LogSays}
-use Rattle.sip_log.specs.Log.{IsFaultOf}
-use Rattle.sip_log.specs.Told.{FailsAs, item}
-use Rattle.sip_log.specs.Reading.{Stage, fresh, entries, ended, failed, ReaderState, Moves, Place, beside_source, Continues, ComesFirst, Comes, Heads, Opens, NextsAt, Nexts}
+use Rattle.sip_log.specs.Told.{FailsAs, item, IsFaultOf}
+use Rattle.sip_log.specs.Reading.{Stage, fresh, entries, ended, failed, ReaderState, Moves, ProgressState, beside_source, Continues, ComesFirst, Comes, Heads, Opens, NextsAt, Nexts}
 use Rattle.sip_log.proofs.answers.ReadingLemmas.{FailsAs-map}
 use Rattle.sip_log.proofs.logs.LogExists.{Follow-some}
 use Rattle.sip_log.proofs.logs.Logs.{follow-spelled}
@@ -65,7 +64,7 @@ module _ (input : List ℕ) (format : Format) (p : Times) (items : List Item) (r
     order = InOrder-push format 0 items e is.order next.2 next.3;
   }
 
-  -- and then the end
+  -- where the rest ends so after these entries, they are the log of the input
   pub Begins-ends : (end : LogEnd) → EndsWith format (length items) (last_of 0 items) rest end → LogSays input p items end
   Begins-ends end next = record { format = format; rest = rest; header = is.header; few = is.few; order = is.order; next = next }
 
@@ -107,7 +106,7 @@ Begins-log input format p items rest is =
       },
     )
 
--- and so they are for a reader that reads on
+-- the entries that a reader has given stand at the front of the log of its input
 pub Stands-log : (start : Option (List ℕ)) (items : List Item) (now : ReaderState) → now.stage ≡ entries → Stands start items now
     → IfSome start (λ input. IfSome now.times (λ p. (more : List Item) × (end : LogEnd) × LogSays input p (items ++ more) end))
 Stands-log start items now on stands = go now.times start (subst (λ s. StandsAt s start items now) on stands).0
@@ -121,7 +120,7 @@ Stands-log start items now on stands = go now.times start (subst (λ s. StandsAt
 
 module _ (start left : Option (List ℕ)) (before after : Bool) where
   -- where the reader stands after it
-  pub record Opened (p : Times) (place : Place) : Type 0 where
+  pub record Opened (p : Times) (place : ProgressState) : Type 0 where
     pub on : place.stage ≡ entries
     pub times : place.times ≡ Some p
     pub count : place.count ≡ 0
@@ -129,18 +128,18 @@ module _ (start left : Option (List ℕ)) (before after : Bool) where
     pub fine : after ≡ before
     pub stands : Stands start [] (beside_source place left after)
 
-  pub Opens-stands : (p : Times) (place : Place) → Opens start left before after (Ok (p, place)) → Opened p place
+  pub Opens-stands : (p : Times) (place : ProgressState) → Opens start left before after (Ok (p, place)) → Opened p place
   Opens-stands p place (is, says) =
-      let on = ap (λ (x : Place). x.stage) is in
-      let times = ap (λ (x : Place). x.times) is in
+      let on = ap (λ (x : ProgressState). x.stage) is in
+      let times = ap (λ (x : ProgressState). x.times) is in
       record {
         on = on;
         times = times;
-        count = ap (λ (x : Place). x.count) is;
-        last = ap (λ (x : Place). x.last) is;
+        count = ap (λ (x : ProgressState). x.count) is;
+        last = ap (λ (x : ProgressState). x.last) is;
         fine = says.0;
         stands = subst (λ s. StandsAt s start [] (beside_source place left after)) (sym on)
-            (subst (λ t. HasRead start place.format t [] (beside_source place left after).left) (sym times) (has start says.1), ap (λ (x : Place). x.count) is, ap (λ (x : Place). x.last) is);
+            (subst (λ t. HasRead start place.format t [] (beside_source place left after).left) (sym times) (has start says.1), ap (λ (x : ProgressState). x.count) is, ap (λ (x : ProgressState). x.last) is);
       }
     where
       has : (s : Option (List ℕ)) → IfSome s (λ xs. (ys : List ℕ) × (prepend_known place.held left ≡ Some ys) × Heads place.format xs (gives p ys)) → HasRead s place.format (Some p) [] (prepend_known place.held left)
@@ -159,7 +158,7 @@ module _ (start : Option (List ℕ)) (items : List Item) (old new : ReaderState)
   same-times None has kept = absurd has
   same-times (Some p) has kept = kept.0
 
-  -- and its format
+  -- the format of the log stays the same from entry to entry
   same-format : (t : Option Times) → HasRead start old.format t items old.left → IfSome t (λ p. (new.times ≡ Some p) × (new.format ≡ old.format)) → new.format ≡ old.format
   same-format None has kept = absurd has
   same-format (Some p) has kept = kept.1

@@ -8,7 +8,8 @@ use Rattle.sip_standard.specs.declared.format.Format.{Format}
 use Rattle.sip_standard.specs.declared.log_reason.LogReason.{LogReason}
 use Rattle.sip_standard.specs.declared.log_reason.LogReason.TheVariants.{EntryLine, Truncated, Order, Limit}
 use Rattle.sip_standard.specs.declared.log_reason.LogReason.TheVariants as faults
-use Rattle.sip_log.specs.Next.{Next, gives, stops, ComesNext, next_at}
+use Rattle.sip_log.specs.Next.{Next, gives, stops, ComesNext}
+use Rattle.sip_log.specs.inner.Follow.{next_at}
 use Rattle.sip_standard.specs.LogSays.{line_feed, most_entries, First, FrontLine, LogEnd, Clean, Stops, LineFault, EndsWith}
 use Rattle.sip_standard.specs.LogEntry.{Item, line_says, HasMessage, body_says, entry_says, IsOf, IsWithinLimits, IsEntry}
 use Rattle.sip_log.specs.inner.Line.{Head, message, plain, HeadLine, KeepsLimits}
@@ -39,7 +40,7 @@ pub comes-end : (format : Format) (count last : ℕ) (rest : List ℕ) (end : Lo
 comes-end format count last rest Clean next = next
 comes-end format count last rest (Stops fault) next = next
 
--- and how it ends comes next
+-- how the log ends is what comes next in the rest
 pub end-comes : (format : Format) (count last : ℕ) (rest : List ℕ) (end : LogEnd) → EndsWith format count last rest end → ComesNext format count last rest (next_at end)
 end-comes format count last rest Clean next = next
 end-comes format count last rest (Stops fault) next = next

@@ -106,7 +106,7 @@ line-lacks action moment len low small = elim (message-or-not action) as (λ _. 
     size : length (decimal moment) ≤ 13
     size = length-decimal-le 13 moment (omega arith) (omega arith) (omega arith)
 
--- and so it is as it is said
+-- the line of an entry within the limits has no LF and fits into the first 32 bytes
 line-fits : (action : Action) (moment len : ℕ) → moment ≤ last_moment → (HasMessage action → len ≤ 65535) → Lacks line_feed (line_says action moment len) × (length (line_says action moment len) < 32)
 line-fits action moment len low small = subst (λ (t : List ℕ). Lacks line_feed t × (length t < 32)) (line-same action moment len) (line-lacks action moment len low small)
 

@@ -12,7 +12,7 @@ use Rattle.sip_log.specs.Next.{Next, ends, gives, stops, ComesNext}
 use Rattle.sip_standard.specs.LogEntry.{Item}
 use Rattle.sip_standard.specs.LogSays.{LacksHeader}
 use Rattle.sip_log.specs.Told.{FailsAs, TellsWhatComes, next_of}
-use Rattle.sip_log.specs.Reading.{fresh, entries, failed, Place, beside_source, Moves, ComesFirst, Comes, Heads, Nexts, NextsAt}
+use Rattle.sip_log.specs.Reading.{fresh, entries, failed, ProgressState, beside_source, Moves, ComesFirst, Comes, Heads, Nexts, NextsAt}
 use Rattle.sip_log.specs.declared.window.Window.{Window}
 use Rattle.sip_log.specs.inner.Window.{items, unread}
 use Rattle.sip_log.specs.inner.Header as read
@@ -36,7 +36,7 @@ FailsAs-map before after P Q errors.Io f h = h
 FailsAs-map before after P Q errors.Memory f h = tt
 FailsAs-map before after P Q errors.Failed f h = h
 
--- and so does an answer
+-- an answer says the same of what it is mapped to
 pub Says-map : {A B : Type 0} (old new : Option (List ℕ)) (before after : Bool) (P Q : List ℕ → Next B → Type 0) (seen : A → List ℕ → Next B) (r : Result A LogError)
     → ((xs : List ℕ) (n : Next B) → P xs n → Q xs n) → TellsWhatComes old new before after P seen r → TellsWhatComes old new before after Q seen r
 Says-map old new before after P Q seen (Ok a) f h =
@@ -105,7 +105,7 @@ headed old new before after format p says = (
       (λ xs w. (w.0, w.1, header-spelled format xs p w.0 w.2)) says.1,
 )
 
--- and so does its fault
+-- a fault of a header says what comes in the input
 pub unheaded : (old new : Option (List ℕ)) (before after : Bool) (format : Format) (e : LogError) → FailsAs before after (λ fault. IfSome old (λ xs. read.HeaderComes xs (stops fault))) e
     → TellsWhatComes {A = Times} old new before after (Heads format) gives (Err e)
 unheaded old new before after format e fails =
@@ -121,7 +121,7 @@ keeps (Some p) new format format2 same same2 = (same, same2)
 
 -- One call, by what it was made of.
 
-module _ (old new : Place) (left left2 : Option (List ℕ)) (before after : Bool) (window : Window) (held : old.held ≡ items window) where
+module _ (old new : ProgressState) (left left2 : Option (List ℕ)) (before after : Bool) (window : Window) (held : old.held ≡ items window) where
   -- an entry is read
   pub entries-step : (r : Result (Option Entry) LogError) → old.stage ≡ entries → IsSome old.times → Moves old.count old.last (beside_source new left2 after) r → new.format ≡ old.format → new.times ≡ old.times
       → TellsWhatComes (unread window left) (prepend_known new.held left2) before after (entry.EntryComes old.format old.count old.last) next_of r

@@ -39,7 +39,7 @@ module _ (word text : List ℕ) where
         let parts = part-one space is.number behind front back (IsNumber-no_space _ n is.number_is) lacks is.parted parted same in
         subst (λ t. IsNumber t n) parts.0 is.number_is
 
-    -- and the other way
+    -- a number at the front is one that comes after the word
     pub NumberAfter-of : (n : ℕ) → IsNumber front n → NumberAfter word text n back
     NumberAfter-of n is = record { number = front; number_is = is; parted = parted; whole = after }
 
@@ -128,7 +128,7 @@ cut_times-within p is =
     let late : cut p.late ≡ p.late = omega (arith, is.late_high) in
     λ i. record { t1 = t1 i; t2 = t2 i; t4 = t4 i; early = early i; late = late i; rules = p.rules }
 
--- and those kept so within their limits are
+-- times that keep their limits once they are cut to what the code holds keep them
 within-cut_times : (p : Times) → AreTimes (cut_times p) → AreTimes p
 within-cut_times p is = record {
   t1_low = omega (arith, is.t1_low);
@@ -227,7 +227,7 @@ rules-length : (rules : Rules) → length (rules_text rules) ≡ 11
 rules-length R3261 = refl
 rules-length R6026 = refl
 
--- and begins with r
+-- the line of rules begins with r
 pub rules-first : (rules : Rules) (rest : List ℕ) → get_or (rules_text rules ++ rest) 0 0 ≡ 114
 rules-first R3261 rest = refl
 rules-first R6026 rest = refl

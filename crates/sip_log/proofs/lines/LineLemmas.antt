@@ -71,7 +71,7 @@ HeadLine-no_numbers format line action has first none (message a moment len) is 
 HeadLine-no_numbers format line action has first none (plain a moment) is =
     is.1 (subst HasMessage (letter-one action a (sym first ∙ ap (λ (t : List ℕ). get_or t 0 0) is.4)) has)
 
--- and one with the letter of an entry without a message and no number after it
+-- a line with the letter of an entry without a message, and no number after it, is none
 pub HeadLine-no_number : (format : Format) (line : List ℕ) (action : Action) → ¬ (HasMessage action) → get_or line 0 0 ≡ letter action
     → ((moment : ℕ) → ¬ (IsNumber (drop 2 line) moment)) → (head : Head) → ¬ (HeadLine format line head)
 HeadLine-no_number format line action lacks first none (message a moment len) is =

@@ -14,11 +14,11 @@ use Rattle.sip_log.specs.inner.Spelling.{space}
 use Rattle.sip_standard.specs.LogEntry.{Item, HasMessage}
 use Rattle.sip_standard.specs.LogHeader.{rules_text, RulesLine, Header}
 use Rattle.sip_log.specs.inner.Line.{Numbers, Head, message, plain, HeadLine}
-use Rattle.sip_log.specs.Next.{next_at, Next, gives}
+use Rattle.sip_log.specs.Next.{Next, gives}
 use Rattle.sip_log.specs.inner.Unless.{Unless}
 use Rattle.sip_log.specs.inner.Header.{TimesLine, TimesFront, title_text, HeaderComes, ComesSecond, ComesThird}
 use Rattle.sip_log.specs.inner.Entry.{CloseComes, MessageComes, BodyComes, HeadComes, FormComes, LineComes, EntryComes}
-use Rattle.sip_log.specs.inner.Follow.{Follow}
+use Rattle.sip_log.specs.inner.Follow.{Follow, next_at}
 use Rattle.sip_log.proofs.lines.SplitLemmas.{cut-one}
 use Rattle.sip_log.proofs.numbers.NumberLemmas.{IsNumber-no_space, IsNumber-one}
 use Rattle.sip_log.proofs.lines.LineLemmas.{letter-one}

@@ -1,5 +1,5 @@
 -- The log of an input: there is one, and only one.
-use Rattle.std.proofs.Common.{◌≡◌, ◌≢◌, inl, inr, ◌≤◌, ◌+◌, ℕ, suc, List, [], ◌∷◌, ◌++◌, length, get_or, refl, subst, sym, ap, ◌∙◌, arith, append_assoc}
+use Rattle.std.proofs.Common.{◌≡◌, ◌≢◌, ◌⊎◌, inl, inr, ◌≤◌, ◌+◌, ℕ, suc, List, [], ◌∷◌, ◌++◌, length, get_or, refl, subst, sym, ap, ◌∙◌, arith, append_assoc}
 use Rattle.std.specs.Prelude.{flat_map, All, codes}
 use Rattle.std.proofs.lemmas.List.{append-nil, append_cancel_left, length-append}
 use Rattle.std.proofs.lemmas.List.Elements.{All-nil, All-cons}
@@ -10,14 +10,13 @@ use Rattle.sip_standard.specs.declared.action.Action.{Action}
 use Rattle.sip_standard.specs.declared.action.Action.TheVariants.{Sent, Received, Failed, Mark, Restart}
 use Rattle.sip_standard.specs.declared.format.Format.{Format}
 use Rattle.sip_standard.specs.declared.format.Format.TheVariants.{One, Two}
-use Rattle.sip_log.specs.Next.{Next, gives, ComesNext, next_at}
+use Rattle.sip_log.specs.Next.{Next, gives, ComesNext}
 use Rattle.sip_standard.specs.LogEntry.{line_says, body_says, Item, entry_says, InOrder, last_of}
 use Rattle.sip_log.specs.Writing.{written_rules, header_text}
 use Rattle.sip_standard.specs.LogHeader.{rules_text, RulesLine, Header, lines_text}
-use Rattle.sip_standard.specs.LogSays.{EndsWith, most_entries, LogEnd, Clean, LogSays}
-use Rattle.sip_log.specs.Log.{Log, Faulty, Readable, IsLogOf}
+use Rattle.sip_standard.specs.LogSays.{EndsWith, most_entries, LogEnd, Clean, LogSays, LacksHeader}
 use Rattle.sip_log.specs.Turn.{ComeInTurn}
-use Rattle.sip_log.specs.inner.Follow.{Follow}
+use Rattle.sip_log.specs.inner.Follow.{Follow, next_at}
 use Rattle.sip_log.proofs.headers.HeaderLemmas.{rules-first}
 use Rattle.sip_log.proofs.answers.NextLemmas.{next-told, comes-end, end-comes}
 use Rattle.sip_log.proofs.answers.NextRead.{next-read}
@@ -79,7 +78,7 @@ log-follows input p items end is = (
   follow-read is.format 0 0 items is.rest end (omega (arith, is.few)) is.order (subst (λ n. EndsWith is.format n (last_of 0 items) is.rest end) (from_zero (length items)) is.next),
 )
 
--- and the other way
+-- entries that follow a header in the input, one after another, are its log
 pub log-spelled : (format : Format) (input : List ℕ) (p : Times) (behind : List ℕ) (items : List Item) (end : LogEnd) → Header format p input behind → Follow format 0 0 behind items end → LogSays input p items end
 log-spelled format input p behind items end header follow =
     let rest = follow-spelled format 0 0 behind items end (omega arith) follow in
@@ -93,25 +92,26 @@ log-spelled format input p behind items end header follow =
     }
 
 -- each input has a log
-pub log_is_some : (input : List ℕ) → (log : Log) × IsLogOf input log
+pub log_is_some : (input : List ℕ) → LacksHeader input ⊎ ((p : Times) × (items : List Item) × (end : LogEnd) × LogSays input p items end)
 log_is_some input = elim (header-or-not input) [
-  | inr none ↦ (Faulty, none)
+  | inr none ↦ inl none
   | inl is ↦
       let follow = Follow-some is.0 0 0 is.2 in
-      (Readable is.1 follow.0 follow.1, log-spelled is.0 input is.1 is.2 follow.0 follow.1 is.3 follow.2)
+      inr (is.1, follow.0, follow.1, log-spelled is.0 input is.1 is.2 follow.0 follow.1 is.3 follow.2)
 ]
 
 -- an input has one log
-pub log_is_one : (input : List ℕ) (a b : Log) → IsLogOf input a → IsLogOf input b → a ≡ b
-log_is_one input Faulty Faulty is is2 = refl
-log_is_one input Faulty (Readable p es end) is is2 = absurd (is is2.format p _ is2.header)
-log_is_one input (Readable p es end) Faulty is is2 = absurd (is2 is.format p _ is.header)
-log_is_one input (Readable p es end) (Readable p2 es2 end2) is is2 =
+pub log_is_one : (input : List ℕ) (p p2 : Times) (es es2 : List Item) (end end2 : LogEnd) → LogSays input p es end → LogSays input p2 es2 end2 → (p ≡ p2) × (es ≡ es2) × (end ≡ end2)
+log_is_one input p p2 es es2 end end2 is is2 =
     let a = log-follows input p es end is in
     let b = log-follows input p2 es2 end2 is2 in
     let header = Header-one a.0 b.0 input p p2 a.1 b.1 a.2 b.2 in
     let same = Follow-one b.0 0 0 b.1 es es2 end end2 (coe 0 1 (i. Follow (header.0 i) 0 0 (header.2 i) es end) a.3) b.3 in
-    λ i. Readable (header.1 i) (same.0 i) (same.1 i)
+    (header.1, same.0, same.1)
+
+-- an input that lacks a header has no log with entries
+pub log_has_header : (input : List ℕ) (p : Times) (es : List Item) (end : LogEnd) → LacksHeader input → LogSays input p es end → ⊥
+log_has_header input p es end none is = none is.format p _ is.header
 
 -- what was written is the log of its bytes
 
@@ -145,7 +145,7 @@ header-written format p items times one = record {
 }
 
 pub clean-log : (format : Format) (input : List ℕ) (p : Times) (items : List Item) → Header format p input (flat_map entry_says items) → length items ≤ most_entries → InOrder format 0 items
-    → IsLogOf input (Readable p items Clean)
+    → LogSays input p items Clean
 clean-log format input p items header few order = record {
   format = format;
   rest = [];
@@ -156,7 +156,7 @@ clean-log format input p items header few order = record {
 }
 
 pub log-written : (format : Format) (p : Times) (items : List Item) → AreTimes p → (format ≡ One → p.early ≡ p.late) → length items ≤ most_entries → InOrder format 0 items
-    → IsLogOf (header_text format p ++ flat_map entry_says items) (Readable p items Clean)
+    → LogSays (header_text format p ++ flat_map entry_says items) p items Clean
 log-written format p items times one few order = clean-log format _ p items (header-written format p items times one) few order
 
 -- what is of format 1 is of format 2
@@ -166,7 +166,7 @@ two-order last (e ∷ es) order = (order.0, ((λ same. refl), order.1.1, order.1
 
 -- a log of format 1 after a header of format 2
 pub log-of-two : (input other : List ℕ) (p : Times) (behind : List ℕ) (items : List Item) → Header One p input behind → Header Two p other behind
-    → IsLogOf input (Readable p items Clean) → IsLogOf other (Readable p items Clean)
+    → LogSays input p items Clean → LogSays other p items Clean
 log-of-two input other p behind items one two is =
     let same = Header-one is.format One input p p _ behind is.header one in
     let none : is.rest ≡ [] = is.next in
@@ -195,7 +195,7 @@ one-order last (e ∷ es) order = All-cons (λ x. x.action ≢ Restart) e es (λ
     other : One ≢ Two
     other same = cc
 
-pub restarts-of-one : (input : List ℕ) (p q : Times) (behind : List ℕ) (items : List Item) (end : LogEnd) → Header One p input behind → IsLogOf input (Readable q items end)
+pub restarts-of-one : (input : List ℕ) (p q : Times) (behind : List ℕ) (items : List Item) (end : LogEnd) → Header One p input behind → LogSays input q items end
     → All (λ e. e.action ≢ Restart) items
 restarts-of-one input p q behind items end one is =
     let same = Header-one is.format One input q p _ behind is.header one in
@@ -214,8 +214,8 @@ turn-front format count last rest (e2 ∷ items) end (e ∷ es) left follow (beh
     let more = turn-front format (count + 1) e.moment behind items end es left (coe 0 1 (i. Follow format (count + 1) ((first i).moment) (at i) items end) follow.2) turn in
     (more.0, λ i. first i ∷ more.1 i)
 
--- and of those of the log
-pub log-front : (input : List ℕ) (p : Times) (items : List Item) (end : LogEnd) → IsLogOf input (Readable p items end) →
+-- the entries of a log stand at the front of its input
+pub log-front : (input : List ℕ) (p : Times) (items : List Item) (end : LogEnd) → LogSays input p items end →
     (format : Format) (q : Times) (behind left : List ℕ) (read : List Item) → Header format q input behind → ComeInTurn format 0 0 behind read left →
     (more : List Item) × (items ≡ read ++ more)
 log-front input p items end is format q behind left read header turn =

@@ -17,7 +17,7 @@ Put old new before after text = Appends old new text × (after ≡ before)
 then : (a b c : Option (List ℕ)) (f g h : Bool) (x y : List ℕ) → Put a b f g x → Put b c g h y → Put a c f h (x ++ y)
 then a b c f g h x y first second = (Appends-trans a b c x y first.0 second.0, second.1 ∙ first.1)
 
--- and what was appended of the last one
+-- two texts that were put one after the other were put as one
 puts-then : {E : Type 0} (a b c : Option (List ℕ)) (f g h : Bool) (x y : List ℕ) (r : Result (⊤) E) → Put a b f g x → Puts b c g h y r → Puts a c f h (x ++ y) r
 puts-then a b c f g h x y (Ok done) first second = then a b c f g h x y first second
 puts-then a b c f g h x y (Err e) first second = second

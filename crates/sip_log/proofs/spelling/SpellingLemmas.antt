@@ -27,7 +27,7 @@ use Rattle.sip_log.proofs.numbers.DecimalLemmas.{decimal-number, number-decimal,
 five : (text : List ℕ) (n : ℕ) → n < 100000 → IsNumber text n → text ≡ decimal n
 five text n low is = decimal-number text n (omega (arith, IsNumber-short text n 5 (omega arith) low is)) is
 
--- and its decimal text is one
+-- the decimal text of a number below 100,000 is a number as a log has them
 five-decimal : (n : ℕ) → n < 100000 → IsNumber (decimal n) n
 five-decimal n low = number-decimal n (omega (arith, low, powers 5 64 (omega arith)))
 
@@ -36,7 +36,7 @@ module _ (word text : List ℕ) (n : ℕ) (behind : List ℕ) (low : n < 100000)
   after-spelled : NumberAfter word text n behind → text ≡ word ++ (decimal n ++ behind)
   after-spelled is = is.whole ∙ ap (λ (t : List ℕ). word ++ (t ++ behind)) (five is.number n low is.number_is)
 
--- and read
+-- a word and a decimal text after it are read as that number
 after-read : (word : List ℕ) (n : ℕ) (behind : List ℕ) → n < 100000 → Parted behind → NumberAfter word (word ++ (decimal n ++ behind)) n behind
 after-read word n behind low parted = record { number = decimal n; number_is = five-decimal n low; parted = parted; whole = refl }
 
@@ -107,7 +107,7 @@ lines-parts One p rest =
 lines-parts Two p rest =
     two-line (title_text Two) (codes "t1 ") (decimal p.t1) (codes " t2 ") (decimal p.t2) (codes " t4 ") (decimal p.t4) (codes " early ") (decimal p.early) (codes " late ") (decimal p.late) (line_feed ∷ []) rest
 
--- the limits do not speak of the rules
+-- times are within their limits whatever the rules are
 pub within-under : (rules : Rules) (p : Times) → AreTimes p → AreTimes (under rules p)
 within-under rules p is = record {
   t1_low = is.t1_low;
@@ -120,7 +120,7 @@ within-under rules p is = record {
   late_high = is.late_high;
 }
 
--- nor do lines 1 and 2
+-- lines 1 and 2 of a header do not tell the rules
 lines-under : (format : Format) (rules : Rules) (p : Times) → lines_text format (under rules p) ≡ lines_text format p
 lines-under One rules p = refl
 lines-under Two rules p = refl
@@ -148,7 +148,7 @@ header-spelled format input p behind (inl (f, rest, title, inl (q, rest2, front,
     } in
     coe 1 0 (i. Header ((first i).0) ((first i).1) input (second i)) is
 
--- and one that is spelled is read
+-- a header that is spelled so is read
 pub header-read : (format : Format) (input : List ℕ) (p : Times) (behind : List ℕ) → Header format p input behind → HeaderComes input (gives (format, p) behind)
 header-read format input p behind is =
     inl (
@@ -198,7 +198,7 @@ length-message Failed len has = refl
 length-message Mark len has = absurd (has.0 refl)
 length-message Restart len has = absurd (has.1 refl)
 
--- and LF after it
+-- an entry with a message has it and a LF after its line
 pub body-message : (action : Action) (text : List ℕ) → HasMessage action → body_says action text ≡ text ++ line_feed ∷ []
 body-message Sent text has = refl
 body-message Received text has = refl
@@ -214,7 +214,7 @@ length-plain Failed len none = absurd (none has-failed)
 length-plain Mark len none = refl
 length-plain Restart len none = refl
 
--- and nothing after the line
+-- an entry without a message has nothing after its line
 pub body-plain : (action : Action) (text : List ℕ) → ¬ (HasMessage action) → body_says action text ≡ []
 body-plain Sent text none = absurd (none has-sent)
 body-plain Received text none = absurd (none has-received)
@@ -234,7 +234,7 @@ message-spelled format line action moment len short is =
     ∙ ap (λ (t : List ℕ). letter action ∷ space ∷ decimal moment ++ t) (sym (length-message action len is.1))
     ∙ line-same action moment len
 
--- and read
+-- the line of an entry with a message is read as that
 pub message-read : (format : Format) (line : List ℕ) (action : Action) (moment len : ℕ) → length line < 32 → HasMessage action → line ≡ line_says action moment len → HeadLine format line (message action moment len)
 message-read format line action moment len short has is =
     let whole : line ≡ letter action ∷ space ∷ decimal moment ++ space ∷ decimal len = is ∙ sym (line-same action moment len) ∙ ap (λ (t : List ℕ). letter action ∷ space ∷ decimal moment ++ t) (length-message action len has) in
@@ -262,7 +262,7 @@ plain-spelled format line action moment len short is =
     let text = decimal-number is.0 moment (omega (arith, size)) is.3 in
     is.4 ∙ ap (λ (t : List ℕ). letter action ∷ space ∷ t) text ∙ sym (plain-text action moment len is.1) ∙ line-same action moment len
 
--- and read
+-- the line of an entry without a message is read as that
 pub plain-read : (format : Format) (line : List ℕ) (action : Action) (moment len : ℕ) → length line < 32 → ¬ (HasMessage action) → IsOf format action → line ≡ line_says action moment len
     → HeadLine format line (plain action moment)
 plain-read format line action moment len short none of is =

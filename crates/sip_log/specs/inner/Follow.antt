@@ -1,9 +1,14 @@
 use Rattle.std.specs.Prelude.{◌+◌, ℕ, List, [], ◌∷◌}
-use Rattle.sip_log.specs.Next.{gives, next_at}
+use Rattle.sip_log.specs.Next.{Next, ends, gives, stops}
 use Rattle.sip_standard.specs.LogEntry.{Item}
-use Rattle.sip_standard.specs.LogSays.{LogEnd}
+use Rattle.sip_standard.specs.LogSays.{LogEnd, Clean, Stops}
 use Rattle.sip_standard.specs.declared.format.Format.{Format}
 use Rattle.sip_log.specs.inner.Entry.{EntryComes}
+
+-- what comes next at such an end
+abbrev pub next_at : LogEnd → Next Item
+next_at Clean = ends
+next_at (Stops fault) = stops fault
 
 -- after this many entries, the last one at this moment, the rest of an input has these entries in a row, and then ends so
 abbrev pub Follow : Format → ℕ → ℕ → List ℕ → List Item → LogEnd → Type 0

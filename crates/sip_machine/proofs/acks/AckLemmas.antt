@@ -1,18 +1,17 @@
+-- What bytes are read as: nothing where they have a fault, and of which response they are an ACK.
 use Rattle.std.specs.Prelude.{◌≡◌, ◌↔◌, ℕ, Bool, false, IsTrue, List}
 use Rattle.std.proofs.Common.{sym, ◌∙◌, true≢false}
 use Rattle.sip_standard.specs.declared.fault.Fault.{Fault}
 use Rattle.sip_standard.specs.Outcome.{stops}
 use Rattle.sip_message.specs.Reading.{Reading}
 use Rattle.sip_message.specs.Reads.{Reads}
-use Rattle.sip_standard.specs.Says.{Says}
+use Rattle.sip_standard.specs.Says.{Said, Says}
 use Rattle.sip_message.specs.SaidOf.{said_of}
 use Rattle.sip_message.proofs.lemmas.says.Reading.{says-reads, says-no_fault}
 use Rattle.sip_standard.specs.Solid.{solid}
 use Rattle.sip_standard.specs.AckOf.{AckOf, IsAckOf, SameSolid}
-use Rattle.sip_key.proofs.AckOfLemmas.{ack-of_bytes}
+use Rattle.sip_key.proofs.AckOfLemmas.{ack-of_says}
 use Rattle.sip_machine.specs.inner.Tos.{IsToOf}
-
--- What is read where there is a fault, and what is read as an ACK.
 
 -- bytes that have a fault are read as no message
 pub Reads-fault : (bytes : List ℕ) (f : Fault) → Says bytes (stops f) → (r : Reading) → Reads bytes r → ⊥
@@ -23,19 +22,19 @@ AckOf-read : (ack invite response : List ℕ) (a i : Reading) → Reads ack a �
     → (r : Reading) × Reads response r × IsAckOf (said_of a) (said_of i) (said_of r)
 AckOf-read ack invite response a i reads_a reads_i of =
     let read = says-reads response of.2 of.5 in
-    (read.0, read.1, (ack-of_bytes ack invite response a i read.0 reads_a reads_i read.1).0 of)
+    (read.0, read.1, (ack-of_says ack invite response (said_of a) (said_of i) (said_of read.0) reads_a.says reads_i.says read.1.says).0 of)
 
 module _ (ack invite response : List ℕ) (a i : Reading) (is : Bool) (reads_a : Reads ack a) (reads_i : Reads invite i)
-    (tells : (r : Reading) → SameSolid a.parts.to.0 r.parts.to.0 → IsTrue is ↔ IsAckOf (said_of a) (said_of i) (said_of r)) where
+    (tells : (r : Said) → SameSolid (said_of a).to r.to → IsTrue is ↔ IsAckOf (said_of a) (said_of i) r) where
   -- an ACK that is one for the INVITE whatever the response is one for each that has its To
   pub AckOf-by_to : IsTrue is → (to : List ℕ) → to ≡ solid a.parts.to.0 → IsToOf response to ↔ AckOf ack invite response
   AckOf-by_to true to to_is = (
-    λ its. (ack-of_bytes ack invite response a i its.message reads_a reads_i its.reads).1 ((tells its.message (sym to_is ∙ its.is)).0 true),
+    λ its. (ack-of_says ack invite response (said_of a) (said_of i) (said_of its.message) reads_a.says reads_i.says its.reads.says).1 ((tells (said_of its.message) (sym to_is ∙ its.is)).0 true),
     λ of. let (r, reads, both) = AckOf-read ack invite response a i reads_a reads_i of in record { message = r; reads = reads; is = to_is ∙ both.to },
   )
 
-  -- and one that is not is one for none
+  -- an ACK that is none for the INVITE is none for any response
   pub AckOf-none : is ≡ false → AckOf ack invite response → ⊥
   AckOf-none not_so of =
       let (r, reads, both) = AckOf-read ack invite response a i reads_a reads_i of in
-      true≢false (sym ((tells r both.to).1 both) ∙ not_so)
+      true≢false (sym ((tells (said_of r) both.to).1 both) ∙ not_so)

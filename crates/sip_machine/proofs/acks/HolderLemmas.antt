@@ -1,3 +1,4 @@
+-- Which debt is the first one whose message has a given To.
 use Rattle.std.specs.Prelude.{◌≡◌, ◌≢◌, ◌≤◌, ◌<◌, ◌↔◌, ℕ, IsTrue, Option, None, Some, List, [], ◌∷◌, All, get_or, length}
 use Rattle.std.proofs.Common.{refl, sym, arith, subst}
 use Rattle.std.proofs.lemmas.List.Elements.{All-head, All-get_or}
@@ -13,8 +14,6 @@ use Rattle.sip_machine.specs.inner.OwesLaws.{All-names}
 use Rattle.sip_machine.specs.inner.Paying.{FindsFirst}
 use Rattle.sip_machine.specs.inner.Dues.{AreBetween}
 use Rattle.sip_machine.specs.inner.Tos.{HoldsBetween}
-
--- Which debt is the first one with a To.
 
 -- the first of which P holds is the first of which Q holds, where they hold of the same ones
 pub FindsFirst-same : (P Q : Debt → Type 0) (t : ℕ) (debts : List Debt) (message : Option ℕ) → All (λ d. P d ↔ Q d) debts → FindsFirst P t debts message → FindsFirst Q t debts message

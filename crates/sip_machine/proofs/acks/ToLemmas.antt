@@ -41,7 +41,7 @@ IsToOf-one bytes to text is its = (bytes_decides text to).0 ((IsToOf-same bytes 
 pub AreTos-push : (texts : Texts) (tos new : List To) (to : To) → IsTo texts to → AreTos texts tos → new ≡ tos ++ to ∷ [] → AreTos texts new
 AreTos-push texts tos new to is all e = record { each = rw e (All-push (IsTo texts) tos to all.each is) }
 
--- the same bytes under the same number
+-- a To is that of a message in another book that has the same bytes under its number
 moved_to : (texts more : Texts) (to : To) → Keeps more to.number → text_of more to.number ≡ text_of texts to.number → IsTo texts to → IsTo more to
 moved_to texts more to kept same is = record { kept = kept; text = subst (λ bytes. IsToOf bytes to.text) (sym same) is.text }
 
@@ -202,7 +202,7 @@ module _ (texts : Texts) (tos : List To) (text : List ℕ) (low high : ℕ) (boo
       (numbers_kept texts tos are) as_few number kept from to in
       (i, rw length-map at within, sym (get_or-map (λ to. to.number) tos i nobody number (rw length-map at within)) ∙ at)
 
-  -- so one with this To is one of those in the list that have it
+  -- a message with this To is one of those in the list that have it
   owner : (number : ℕ) → Keeps texts number → low ≤ number → number ≤ high → IsToOf (text_of texts number) text →
       (i : ℕ) × (i < length tos) × ((get_or tos i nobody).number ≡ number) × ((get_or tos i nobody).text ≡ text)
   owner number kept from to is =

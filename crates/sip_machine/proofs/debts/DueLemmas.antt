@@ -1,3 +1,4 @@
+-- What many states owe: what a send takes out of the debts of one state, and states that owe nothing.
 use Prim.Native.Nat.{suc, zero}
 use Rattle.std.specs.Prelude.{◌≡◌, ◌<◌, ◌≤◌, ◌-◌, ◌||◌, ℕ, Bool, true, false, IsTrue, None, List, [], ◌∷◌, ◌++◌, All, drop, filter, length, max, min, set, take}
 use Rattle.std.specs.Bool.{OnTrue, OnFalse}
@@ -11,8 +12,6 @@ use Rattle.sip_ledger.specs.Debts.{counts_at, is_payable, IsWithoutFirst as Ledg
 use Rattle.sip_standard.specs.Debts.{IsWithoutFirst}
 use Rattle.sip_machine.specs.Owes.{owed_in}
 use Rattle.sip_machine.specs.inner.Dues.{rows_in, AreBetween, AreDues}
-
--- What many states owe.
 
 is_false : (b : Bool) → ¬ (b ≡ true) → b ≡ false
 is_false true never = absurd (never refl)
@@ -120,7 +119,7 @@ AreDues-set rows count low high row debts dues here =
 pub between-row : (rows : List (List Debt)) (count low high row : ℕ) → row < length rows → AreDues rows count low high → AreBetween low high (owed_in rows row)
 between-row rows count low high row low_row dues = All-get_or (AreBetween low high) rows row [] low_row dues.between
 
--- and so is what is left of it after a payment
+-- the messages of what is left after a payment lie between the same numbers
 paid-step : (low high : ℕ) (debt : Debt) (debts left : List Debt) (b : Bool) → AreBetween low high (debt ∷ debts) → AreBetween low high left → AreBetween low high (cond b debts (debt ∷ left))
 paid-step low high debt debts left true all more = All-tail (λ d. (low ≤ d.message) × (d.message ≤ high)) debt debts all
 paid-step low high debt debts left false all more =

@@ -99,7 +99,7 @@ timely-none t count from to le =
     sym (replicate-append-replicate count (to - from) [])
     ∙ ap (λ more. rows_in count None ++ more) (sym (passing-all (is_timely t) (to - from) refl) ∙ ap (filter (is_timely t)) (sym (some-none count from to le)))
 
--- and none can pay
+-- rows that owe nothing can pay nothing
 pub payable-none : (message t count from to : ℕ) → to ≤ count →
     rows_in count None ≡ rows_in count None ++ filter (λ owes. list_any (is_payable message t) owes && is_timely t owes) (from_to from to (rows_in count None))
 payable-none message t count from to le =

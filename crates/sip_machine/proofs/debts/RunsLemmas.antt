@@ -1,3 +1,4 @@
+-- Debts in runs of equal ones: what holds of the debt of each run holds of each debt, and the run that a send pays first.
 use Prim.Native.Nat.{suc, zero}
 use Rattle.std.specs.Prelude.{◌≡◌, ◌<◌, ◌≤◌, ℕ, true, false, IsTrue, List, [], ◌∷◌, ◌++◌, All, get_or, length, replicate, take}
 use Rattle.std.proofs.Common.{refl, sym, ap, subst, arith, cond}
@@ -14,8 +15,6 @@ use Rattle.sip_machine.specs.inner.Tos.{IsToOf}
 use Rattle.sip_machine.specs.inner.DebtLaws.{All-front, All-back}
 use Rattle.sip_machine.proofs.debts.DueLemmas.{unpaid-front, without-behind}
 
--- Debts in runs of equal ones.
-
 abbrev pub no_run : Run
 no_run = record { debt = record { message = 0; deadline = 0; must = false }; count = 0 }
 
@@ -26,7 +25,7 @@ All-each P (run ∷ runs) all =
     All-append P (replicate run.count run.debt) (debts_in runs) (All-replicate P run.count run.debt (All-head (λ run. P run.debt) run runs all))
     (All-each P runs (All-tail (λ run. P run.debt) run runs all))
 
--- and back
+-- what holds of each of several equal debts holds of the debt
 first-of : (P : Debt → Type 0) (n : ℕ) (d : Debt) → 0 < n → All P (replicate n d) → P d
 first-of P zero d some all = absurd (omega (arith, some))
 first-of P (suc n) d some all = All-head P d (replicate n d) all

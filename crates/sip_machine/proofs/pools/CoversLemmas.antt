@@ -45,7 +45,7 @@ module _ {X S : Type 0} where
         ],
       )
 
-  -- and what leads where the other does
+  -- states from some of a list by two relations that are the same are the same
   pub FromSome-same : (P Q : S → X → Type 0) → ((x : S) (y : X) → P x y ↔ Q x y) → (xs : List S) (y : X) → FromSome P xs y ↔ FromSome Q xs y
   FromSome-same P Q same [] y = (λ none. none, λ none. none)
   FromSome-same P Q same (x ∷ xs) y =

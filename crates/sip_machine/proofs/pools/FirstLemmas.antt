@@ -1,10 +1,11 @@
+-- The first of each kind among the elements of a list, how these are brought to its front, and the prints by which they are found.
 use Prim.Native.Nat.{suc, zero}
 use Rattle.std.specs.Prelude.{◌≡◌, ◌≢◌, ◌<◌, ◌≤◌, ◌+◌, ◌-◌, ℕ, List, [], ◌∷◌, ◌++◌, All, AllPairs, bit_xor, drop, get_or, length, map, take}
 use Rattle.std.specs.List.{Any}
 use Rattle.std.proofs.Common.{inl, inr, refl, sym, ◌∙◌, ap, ap₂, subst, arith}
 use Rattle.std.proofs.lemmas.Bool.{cases_lt}
-use Rattle.std.proofs.lemmas.List.{get_or_append_left, get_or_default, get_or-drop, get_or-map, get_or-take, length-drop, length-map, length-take-le, map-append, same_lists, take_all, take_more}
-use Rattle.std.proofs.lemmas.List.Elements.{All-nil, All-push, All-weaker}
+use Rattle.std.proofs.lemmas.List.{get_or_append_left, get_or_default, get_or-drop, get_or-map, get_or-take, length-drop, length-map, length-take-le, map-append, same_lists, take_more}
+use Rattle.std.proofs.lemmas.List.Elements.{All-push, All-weaker}
 use Rattle.std.proofs.lemmas.List.Quantifiers.{Any-push, all_pairs_push}
 use Rattle.sip_ledger.specs.declared.debt.Debt.{Debt}
 use Rattle.sip_machine.specs.Owes.{owed_in}
@@ -13,8 +14,6 @@ use Rattle.sip_machine.specs.Pools.{AreFirstOnes, picked}
 use Rattle.sip_machine.specs.Prints.{ArePrints}
 use Rattle.sip_machine.specs.inner.Pools.{AreMixedWith, IsRun, beside, hash_by}
 use Rattle.sip_machine.proofs.pools.PoolLemmas.{beside-length, state-at}
-
--- The first of each kind among the elements of a list.
 
 module _ {X : Type 0} (xs : List X) where
   -- one of the rows has what row k has
@@ -35,15 +34,6 @@ module _ {X : Type 0} (xs : List X) where
       low-more [] row i low = absurd (omega (arith, low))
       low-more (r ∷ rows) row zero low = omega arith
       low-more (r ∷ rows) row (suc i) low = let more = low-more rows row i (omega (arith, low)) in omega (arith, more)
-
-  -- none so far
-  pub first-start : (from : ℕ) → AreFirstOnes xs from from []
-  first-start from = record {
-    within = All-nil (λ row. (from ≤ row) × (row < from));
-    rising = λ i j d low high. absurd (omega (arith, high));
-    each = λ k x low high. absurd (omega (arith, low, high));
-    apart = λ x i j d low high. absurd (omega (arith, high));
-  }
 
   -- one more, which no other is
   pub first-more : (from at : ℕ) (rows : List ℕ) → from ≤ at → AreFirstOnes xs from at rows → IsNew rows at → AreFirstOnes xs from (at + 1) (rows ++ at ∷ [])
@@ -90,7 +80,7 @@ rising-apart rows i (suc k) rising low =
     let above = rising (i + k) (suc (i + k)) 0 (omega arith) (omega (arith, low)) in
     rw next (omega (arith, before, above))
 
--- so where the last is no further from the first than their number says, each is the one after the index before it
+-- rising indices whose last is no further from the first than their number says are a run: each is one more than the one before
 pub run-of : (rows : List ℕ) → AllPairs (λ a b. a < b) rows → 0 < length rows → get_or rows (length rows - 1) 0 - get_or rows 0 0 < length rows → IsRun (get_or rows 0 0) rows
 run-of rows rising some near =
     record {
@@ -105,7 +95,7 @@ run-of rows rising some near =
           omega (arith, up, on, last, here, near, low, end);
     }
 
--- and such ones are a part of the list
+-- what is picked by a run of indices is a part of the list
 pub run-picked : {X : Type 0} (xs : List X) (rows : List ℕ) (first : ℕ) (x : X) → IsRun first rows → All (λ row. row < length xs) rows →
     take (length rows) (drop first xs) ≡ picked xs x rows
 run-picked xs rows first x run within =
@@ -133,9 +123,6 @@ pub record IsPicking {X : Type 0} (xs ys : List X) (rows : List ℕ) (to : ℕ) 
   pub rest : (k : ℕ) (x : X) → to ≤ k → get_or ys k x ≡ get_or xs k x
 
 module _ {X : Type 0} (xs : List X) (rows : List ℕ) where
-  pub picking-start : IsPicking xs xs rows 0
-  picking-start = record { long = refl; front = λ x. refl; rest = λ k x low. refl }
-
   -- one more
   pub picking-more : (ys zs : List X) (to row : ℕ) → IsPicking xs ys rows to → to < length rows → to < length xs → row ≡ get_or rows to 0 → to ≤ row →
       length zs ≡ length ys → take to zs ≡ take to ys → ((d : X) → get_or zs to d ≡ get_or ys row d) → ((k : ℕ) (d : X) → to < k → get_or zs k d ≡ get_or ys k d) →
@@ -149,10 +136,6 @@ module _ {X : Type 0} (xs : List X) (rows : List ℕ) where
     rest = λ k d le_k. rest k d (omega (arith, le_k)) ∙ picking.rest k d (omega (arith, le_k));
   }
 
-  -- all of them
-  pub picking-all : (ys : List X) (to : ℕ) (x : X) → IsPicking xs ys rows to → length rows ≤ to → take to ys ≡ picked xs x rows
-  picking-all ys to x picking all = picking.front x ∙ ap (picked xs x) (take_all to rows all)
-
 -- Of prints.
 
 -- each print so far is mixed with the hash of its phase
@@ -162,9 +145,6 @@ pub record AreMixed {S : Type 0} (input : S → List (List ℕ)) (phases : List 
   pub rest : (k : ℕ) → at ≤ k → get_or new k 0 ≡ get_or old k 0
 
 module _ {S : Type 0} (input : S → List (List ℕ)) (phases : List S) (from : ℕ) (old : List ℕ) where
-  pub mixed-start : AreMixed input phases from old old 0
-  mixed-start = record { long = refl; mixed = λ k p low within. absurd (omega (arith, low)); rest = λ k low. refl }
-
   -- those of one phase more
   pub mixed-run : (new after : List ℕ) (at to hash : ℕ) (p : S) → AreMixed input phases from old new at → AreMixedWith hash at to new after → hash ≡ hash_by (input p) → at ≤ to →
       ((k : ℕ) (q : S) → at ≤ k → k < to → from + k < length phases → get_or phases (from + k) q ≡ p) → AreMixed input phases from old after to

@@ -1,3 +1,4 @@
+-- The states of a pool: a list of phases and a list of what is owed, read as one list.
 use Prim.Native.Nat.{suc, zero}
 use Rattle.std.specs.Prelude.{◌≡◌, ◌==◌, ◌↔◌, ◌<◌, ◌+◌, ℕ, IsTrue, true, List, [], ◌∷◌, ◌++◌, drop, get_or, length, set, take}
 use Rattle.std.proofs.Common.{Result, Ok, Err, OnErr, is_err, true≢false, refl, sym, ◌∙◌, ap, ap₂, subst, arith, length-append}
@@ -10,8 +11,6 @@ use Rattle.sip_machine.specs.declared.effects.Rest.{Rest}
 use Rattle.sip_machine.specs.declared.effects.Rest.TheVariants.{Stays, Pays}
 use Rattle.sip_machine.specs.inner.Effects.{rested_debts, rests_at}
 use Rattle.sip_machine.specs.inner.Pools.{beside}
-
--- Phases with what is owed beside them.
 
 module _ {S : Type 0} where
   -- as many as there are phases
@@ -142,6 +141,6 @@ module _ {X : Type 0} where
       let here : get_or more last d ≡ x = ap₂ (λ xs k. get_or xs k d) is at ∙ get_or-append_seam old x [] d in
       changed ∙ ap (λ y. set more last (f y)) here ∙ ap₂ (λ xs k. set xs k (f x)) is at ∙ set-end old x (f x)
 
-  -- and goes again
+  -- what was put at the end of a list goes again
   pub take-old : (old added new : List X) (n : ℕ) → new ≡ old ++ added → n ≡ length old → take n new ≡ old
   take-old old added new n is at = ap₂ take at is ∙ take-append_seam old added

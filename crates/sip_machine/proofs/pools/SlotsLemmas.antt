@@ -1,23 +1,22 @@
+-- Prints by slots: how the newest print of each slot, and beside each print the one before it in its slot, lead to an equal print.
 use Rattle.std.proofs.Common.{◌≡◌, ◌≢◌, ◌<◌, ◌≤◌, ◌+◌, ◌-◌, ◌++◌, ◌∷◌, ◌∙◌, [], ℕ, List, inl, inr, get_or, length, arith, ap, subst, sym, set}
 use Rattle.std.proofs.lemmas.List.{get_or-map, length-map, map-append, length-set, length_push, get_or_append_left, get_or_push, get_or-set_same, get_or-set_other}
 use Rattle.std.proofs.lemmas.Bool.{cases_eq, cases_lt}
-use Rattle.sip_machine.specs.declared.slots.Kept.{Kept}
+use Rattle.sip_machine.specs.declared.slots.SlotPrint.{SlotPrint}
 use Rattle.sip_machine.specs.inner.Slots.{Slotted, AreSlots, IsNewest, IsReached, slot_of, slotted}
 
--- Prints in their pairs.
-
 -- as many as there are pairs
-pub pairs-count : (newest : List ℕ) (kept : List Kept) (s : Slotted) → slotted newest kept ≡ s → length s.prints ≡ length kept
+pub pairs-count : (newest : List ℕ) (kept : List SlotPrint) (s : Slotted) → slotted newest kept ≡ s → length s.prints ≡ length kept
 pairs-count newest kept s is = ap (λ (s : Slotted). length s.prints) (sym is) ∙ length-map kept (λ x. x.print)
 
 -- what is in one of them
-pub pair-print : (newest : List ℕ) (kept : List Kept) (s : Slotted) (at : ℕ) (x : Kept) → slotted newest kept ≡ s → at < length s.prints → x ≡ get_or kept at x → get_or s.prints at 0 ≡ x.print
+pub pair-print : (newest : List ℕ) (kept : List SlotPrint) (s : Slotted) (at : ℕ) (x : SlotPrint) → slotted newest kept ≡ s → at < length s.prints → x ≡ get_or kept at x → get_or s.prints at 0 ≡ x.print
 pair-print newest kept s at x is low here =
-    ap (λ (s : Slotted). get_or s.prints at 0) (sym is) ∙ get_or-map (λ x. x.print) kept at x 0 (subst (λ n. at < n) (pairs-count newest kept s is) low) ∙ ap (λ (x : Kept). x.print) (sym here)
+    ap (λ (s : Slotted). get_or s.prints at 0) (sym is) ∙ get_or-map (λ x. x.print) kept at x 0 (subst (λ n. at < n) (pairs-count newest kept s is) low) ∙ ap (λ (x : SlotPrint). x.print) (sym here)
 
-pub pair-older : (newest : List ℕ) (kept : List Kept) (s : Slotted) (at : ℕ) (x : Kept) → slotted newest kept ≡ s → at < length s.prints → x ≡ get_or kept at x → get_or s.olders at 0 ≡ x.older
+pub pair-older : (newest : List ℕ) (kept : List SlotPrint) (s : Slotted) (at : ℕ) (x : SlotPrint) → slotted newest kept ≡ s → at < length s.prints → x ≡ get_or kept at x → get_or s.olders at 0 ≡ x.older
 pair-older newest kept s at x is low here =
-    ap (λ (s : Slotted). get_or s.olders at 0) (sym is) ∙ get_or-map (λ x. x.older) kept at x 0 (subst (λ n. at < n) (pairs-count newest kept s is) low) ∙ ap (λ (x : Kept). x.older) (sym here)
+    ap (λ (s : Slotted). get_or s.olders at 0) (sym is) ∙ get_or-map (λ x. x.older) kept at x 0 (subst (λ n. at < n) (pairs-count newest kept s is) low) ∙ ap (λ (x : SlotPrint). x.older) (sym here)
 
 -- A print more among those of its slot.
 
@@ -43,7 +42,7 @@ newest-here slots prints print =
       last = λ k high low. λ _. omega (arith, long, high, low);
     }
 
--- and of another slot it is none
+-- a print of another slot changes nothing of the newest one of this slot
 newest-other : (slots : ℕ) (prints : List ℕ) (slot newest print : ℕ) → slot ≢ slot_of slots print → IsNewest slots prints slot (length prints) newest →
     IsNewest slots (prints ++ print ∷ []) slot (length (prints ++ print ∷ [])) newest
 newest-other slots prints slot newest print other is =
@@ -95,8 +94,8 @@ slots-grow s print slot newest are is low count =
       ]);
     }
 
--- the same of the pairs as they lie
-pub slots-more : (newest : List ℕ) (kept : List Kept) (x : Kept) (slot last : ℕ) → AreSlots (slotted newest kept) → slot ≡ slot_of (length newest) x.print → slot < length newest →
+-- one print more is put under its slot, in the pairs that the code keeps
+pub slots-more : (newest : List ℕ) (kept : List SlotPrint) (x : SlotPrint) (slot last : ℕ) → AreSlots (slotted newest kept) → slot ≡ slot_of (length newest) x.print → slot < length newest →
     x.older ≡ get_or newest slot 0 → last ≡ length kept + 1 → AreSlots (slotted (set newest slot last) (kept ++ x ∷ []))
 slots-more newest kept x slot last are is low older count =
     rw (map-append (λ y. y.print) kept (x ∷ []), map-append (λ y. y.older) kept (x ∷ []), older)

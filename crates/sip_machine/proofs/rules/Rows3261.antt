@@ -8,7 +8,7 @@ use Rattle.std.proofs.lemmas.List.Elements.{filter_map-append}
 use Rattle.sip_standard.specs.declared.kind.Kind.{Kind}
 use Rattle.sip_standard.specs.declared.kind.Kind.TheVariants.{Request, Response}
 use Rattle.sip_machine.specs.declared.invite_server.InviteServerPhase.{InviteServerPhase as CodePhase}
-use Rattle.sip_machine.specs.declared.told.Field.{Field as CodeField}
+use Rattle.sip_machine.specs.declared.told.ToldField.{ToldField as CodeField}
 use Rattle.sip_machine.specs.declared.phases.Turn.{Turn}
 use Rattle.sip_standard.specs.Times.{Times}
 use Rattle.sip_machine.specs.Texts.{Texts}

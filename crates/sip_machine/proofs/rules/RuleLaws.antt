@@ -1,11 +1,10 @@
+-- Laws of states that hold numbers of a book: what they stand for stays when the book changes elsewhere.
 use Rattle.std.specs.Prelude.{◌≡◌, ℕ, List, [], ◌∷◌, ◌++◌, All, Contains, map}
 use Rattle.std.proofs.Common.{refl, sym}
 use Rattle.std.proofs.lemmas.List.Elements.{All-head, All-tail, All-contains, All-weaker, Contains-get_or}
 use Rattle.sip_machine.specs.Texts.{Texts, Keeps, text_of}
 use Rattle.sip_machine.proofs.texts.TextLaws.{Keeps-grow, text_of-grow}
 use Rattle.sip_machine.specs.Rules.{Knows, StandFor}
-
--- Laws of states that hold numbers of a book: what they stand for stays when the book changes elsewhere.
 
 -- b keeps what x names, and agrees on it with a
 abbrev pub AgreeOn : {S : Type 0} → (S → List ℕ) → Texts → Texts → S → Type 0
@@ -20,7 +19,7 @@ map-seen names seen by_names a b (x ∷ xs) agree =
     let here = All-head (AgreeOn names a b) x xs agree in
     rw (by_names a b x (λ n has. (here n has).1), map-seen names seen by_names a b xs (All-tail (AgreeOn names a b) x xs agree))
 
--- and so do sets of them
+-- lists of states stand for the same beside books that agree on what they name
 pub StandFor-book : {X S : Type 0} (names : S → List ℕ) (InRange : S → Type 0) (seen : Texts → S → X) →
     ((a b : Texts) (x : S) → ((n : ℕ) → Contains (names x) n → text_of a n ≡ text_of b n) → seen a x ≡ seen b x) →
     (a b : Texts) (P : X → Type 0) (xs : List S) → All (AgreeOn names a b) xs →

@@ -1,3 +1,4 @@
+-- When at most two states of the code stand for all to which an event leads.
 use Rattle.std.specs.Prelude.{◌≡◌, ◌≢◌, ◌↔◌, ◌⊎◌, ℕ, Option, Some, None, List, [], ◌∷◌}
 use Rattle.std.proofs.Common.{inl, inr, refl, sym, arith}
 use Rattle.std.proofs.lemmas.List.Elements.{All-nil, All-cons, Contains-push, Contains-push_cases}
@@ -8,8 +9,6 @@ use Rattle.sip_machine.specs.inner.Single.{AnswersOne}
 use Rattle.sip_machine.specs.inner.Both.{AnswersBoth}
 use Rattle.sip_machine.proofs.texts.TextLaws.{Contains-nil}
 use Rattle.sip_machine.proofs.steps.SingleLemmas.{StandFor-none, StandFor-one}
-
--- Up to two answers.
 
 module _ {X S : Type 0} (names : S → List ℕ) (InRange : S → Type 0) (seen : Texts → S → X) (texts : Texts) where
   -- what stands for P stands for what holds of the same

@@ -75,7 +75,7 @@ module _ {S X : Type 0} (f : Figure X) (p : Times) (seen : Texts → S → X) (n
       (Some (led_by p e.moment (unwrap_or turn (record { phase = x.phase; change = code.Keeps })) x))
   leads-received a e x turn is one known fits small = rw (← is) (heard-one f p seen names InRange texts e x turn one known fits small)
 
-  -- and of one that is sent
+  -- where the row of a sent message leads
   pub leads-sent : (a : Action) (e : MachineEvent) (x : CodeOwing S) (turn : Option (Turn S)) → Sent ≡ a →
       AnswersOne (turn_names names) (TurnInRange InRange) (turn_seen seen) texts (f.Sends p (seen texts x.phase) e.kind e) turn →
       Knows (owing_names names) texts x → OwingInRange InRange x → close_at p e.moment 0 < 2 ^ 50 →
@@ -210,7 +210,7 @@ module _ {S X : Type 0} (f : Figure X) (p : Times) (seen : Texts → S → X) (t
       let steps = steps-same Received e x y is in
       (λ h. steps.0 (leads.0 h), λ h. leads.1 (steps.1 h))
 
-  -- and one that is sent where its row does, and where the phase stays
+  -- a sent message is taken where its row leads, and where the phase stays
   pub takes-sent : (e : MachineEvent) → e.action ≡ Sent → (x : CodeOwing S) (y : Owing X) →
       (LeadsFrom f p seen texts e x y ⊎ RestsFrom f p seen texts e x y) ↔ TakeOf f p (owing_seen seen texts x) e y
   takes-sent e is x y =

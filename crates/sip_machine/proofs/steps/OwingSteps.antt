@@ -1,3 +1,4 @@
+-- The steps of the machine of a figure, over the states of the code.
 use Rattle.std.specs.Prelude.{◌≡◌, ◌⊎◌, ◌≤◌, ◌<◌, ◌^◌, ℕ, IsTrue, Bool, true, false, Option, Some, None, List, [], ◌∷◌, ◌++◌, All, filter, length, option_to_list, unwrap_or}
 use Rattle.std.specs.Option.{option_map}
 use Rattle.std.proofs.Common.{inl, inr, refl, sym, ◌∙◌, ap, ap₂, subst, arith, cond, length-append}
@@ -36,8 +37,6 @@ use Rattle.sip_machine.proofs.texts.TextLaws.{Contains-nil}
 use Rattle.sip_machine.proofs.steps.SingleLemmas.{StandFor-none, StandFor-one}
 use Rattle.sip_machine.proofs.steps.BothLemmas.{StandFor-same, AnswersBoth-one, AnswersBoth-two, OrStays-one}
 
--- The steps of the machine of a figure, over the states of the code.
-
 -- the names of kept debts
 names-kept : (texts : Texts) (ds : List Debt) → All (λ d. Keeps texts d.message) ds → All (Keeps texts) (owes_names ds)
 names-kept texts ds kept = All-map (Keeps texts) (λ d. d.message) ds kept
@@ -61,7 +60,7 @@ changed-known p texts t (code.Gains must message) owes here known =
     All-push (λ d. Keeps texts d.message) owes (record { message = message; deadline = close_at p t 0; must = must })
     (All-names (Keeps texts) owes known) (All-head (Keeps texts) message [] here)
 
--- and their deadlines are in range
+-- the deadlines of the debts after a row are in range
 changed-in_range : (p : Times) (t : ℕ) (c : CodeChange) (owes : List Debt) → close_at p t 0 < 2 ^ 50 → OwesInRange owes →
     OwesInRange (changed_debts p t c owes)
 changed-in_range p t code.Keeps owes small fits = fits
@@ -82,7 +81,7 @@ changed-length p t drops owes = inl refl
 changed-length p t (gains must message) owes =
     let longer = length-append owes (record { message = message; deadline = close_at p t 0; must = must } ∷ []) in inr (omega (arith, longer))
 
--- and a debt that is paid leaves one less
+-- a list without its first element of a kind is shorter
 without-length : {X : Type 0} (P : X → Type 0) (xs ys : List X) → IsWithoutFirst P xs ys → length ys < length xs
 without-length P xs ys a =
     let long : length xs ≡ length (a.before ++ a.first ∷ a.after) = ap length a.whole in
@@ -103,7 +102,7 @@ Follows-Repays f is p e x y row pays = by_length (changed-length p e.moment (row
         let size = ap length same in
         absurd (omega (arith, more, fewer, size))
 
--- and so do one in its turn and one that changes nothing
+-- a message in its turn and one that changes nothing lead to different states
 Follows-Stays : {X : Type 0} (f : Figure X) (is : IsFigure f) (p : Times) (e : MachineEvent) (x y : Owing X) → Follows (f.Sends p x.phase e.kind e) p e x y →
     f.Stays x.phase e.kind × (y ≡ x) → ⊥
 Follows-Stays f is p e x y row stays =
@@ -117,7 +116,7 @@ ends-some {X} names InRange seen texts P end known fits some =
     StandFor-one names InRange seen texts (λ y. ((z : X) × P z) × (y ≡ seen texts end)) end
     (record { only = λ y. (λ h. h.1, λ e. (some, e)); known = known; in_range = fits })
 
--- and none, where there is none
+-- where there is no step, no end is given
 ends-none : {X S : Type 0} (names : S → List ℕ) (InRange : S → Type 0) (seen : Texts → S → X) (texts : Texts) (P Q : X → Type 0) →
     AnswersBoth {S = S} names InRange seen texts P (None, None) →
     AnswersBoth {S = S} names InRange seen texts (λ y. ((z : X) × P z) × Q y) (None, None)
@@ -199,7 +198,7 @@ module _ {S X : Type 0} (f : Figure X) (p : Times) (seen : Texts → S → X) (n
         in_range = (fits.0, All-without Q (λ d. d.deadline < 2 ^ 50) x.owes left paid fits.1);
       }
 
-  -- and none
+  -- where no debt can be paid, a message pays none
   repaid-none : (e : MachineEvent) (x : CodeOwing S) → All (λ debt. ¬ (PaysFor (f.Satisfies (seen texts x.phase) e.kind e) texts e.moment debt)) x.owes →
       (y : Owing X) → Repays f e (owing_seen seen texts x) y → ⊥
   repaid-none e x unpaid y h =
@@ -291,7 +290,7 @@ module _ {S X : Type 0} (f : Figure X) (p : Times) (seen : Texts → S → X) (n
       (Some (rests_at e.moment resting.Stays x))
   rested-stays is e x stays known fits = rests-stays is e (unexpired_at e.moment x) stays (known-at e.moment x known) (in_range-at e.moment x fits)
 
-  -- or may pay
+  -- a sent message that leaves the phase pays the debt that is found
   pub rested-pays : (e : MachineEvent) (x : CodeOwing S) → ¬ (f.Stays (seen texts x.phase) e.kind) → (paid : Option ℕ) →
       FindsFirst (PaysFor (f.Satisfies (seen texts x.phase) e.kind e) texts e.moment) e.moment x.owes paid →
       Knows (owing_names names) texts x → OwingInRange InRange x →
@@ -351,7 +350,7 @@ module _ {S X : Type 0} (f : Figure X) (p : Times) (seen : Texts → S → X) (n
       Gives (Fails (f.ends_refused (seen texts x.phase) e.kind) f p e (owing_seen seen texts (unexpired_at e.moment x))) e.moment x effect
   refused-emits e x effect is gives = rw is gives
 
-  -- or ends the transaction, where a sent one has a step,
+  -- a refused message ends the transaction, where it could have been sent
   pub refused-ends : (e : MachineEvent) (x : CodeOwing S) (end : S) → f.ends_refused (seen texts x.phase) e.kind ≡ true → seen texts end ≡ f.ended →
       (names end ≡ []) × InRange end → (z : Owing X) × Emits f p e (owing_seen seen texts (unexpired_at e.moment x)) z →
       Gives (Fails (f.ends_refused (seen texts x.phase) e.kind) f p e (owing_seen seen texts (unexpired_at e.moment x))) e.moment x (quiets end)
@@ -364,7 +363,7 @@ module _ {S X : Type 0} (f : Figure X) (p : Times) (seen : Texts → S → X) (n
       (λ y. ((z : Owing X) × Emits f p e here z) × (y ≡ q)) (Some over, None)) (quiet_stands seen texts end f.ended stands)
       (ends-some (owing_names names) (OwingInRange InRange) (owing_seen seen) texts (Emits f p e here) over (rw quiet_over.0 (All-nil (Keeps texts))) quiet_over.1 some))
 
-  -- and else has none
+  -- a refused message has no step, where it could not have been sent
   pub refused-none : (e : MachineEvent) (x : CodeOwing S) (effect : Effect S) → f.ends_refused (seen texts x.phase) e.kind ≡ true →
       (effect.turn ≡ None) × (effect.rest ≡ None) → Gives (Emits f p e (owing_seen seen texts (unexpired_at e.moment x))) e.moment x effect →
       Gives (Fails (f.ends_refused (seen texts x.phase) e.kind) f p e (owing_seen seen texts (unexpired_at e.moment x))) e.moment x effect
@@ -403,7 +402,7 @@ module _ {S X : Type 0} (f : Figure X) (p : Times) (seen : Texts → S → X) (n
         in_range = quiet_over.1;
       })
 
-  -- and ends any other
+  -- a restart ends a transaction that has begun
   pub restarted-ended : (t : ℕ) (x : CodeOwing S) (end : S) → ¬ (seen texts x.phase ≡ f.idle) → seen texts end ≡ f.ended → (names end ≡ []) × InRange end →
       Gives (Restarts f (owing_seen seen texts (unexpired_at t x))) t x (quiets end)
   restarted-ended t x end other stands fits =

@@ -1,8 +1,7 @@
+-- What the test of two numbers says of them.
 use Rattle.std.specs.Prelude.{◌≡◌, ◌<◌, ℕ, true, nat_lt}
 use Rattle.std.proofs.Common.{arith}
 use Rattle.std.proofs.lemmas.Bool.Decides.{nat_tests}
-
--- What a test says.
 
 pub lower : (n m : ℕ) → nat_lt n m ≡ true → n < m
 lower n m is = grind (arith, nat_tests)

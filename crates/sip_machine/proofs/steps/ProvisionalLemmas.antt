@@ -1,17 +1,20 @@
+-- Which bytes are a 100: by what they are read as, and by three digits at one place.
 use Rattle.std.specs.Prelude.{◌≡◌, ◌↔◌, ◌==◌, ◌+◌, IsTrue, ℕ, List, ◌∷◌, ◌++◌, codes, drop, flat_map, length, take}
 use Rattle.std.proofs.Common.{sym, ap, ◌∙◌, append_assoc, arith, eq-eqb, subst}
 use Rattle.std.specs.Fmt.{digits}
 use Rattle.std.proofs.Math.Seq.{drop-append-add}
 use Rattle.std.proofs.lemmas.Bool.Decides.{nat_tests}
 use Rattle.sip_standard.specs.StartLine.{StartLine, status}
-use Rattle.sip_message.specs.StartLine.{StartText, CodeText}
-use Rattle.sip_message.specs.Lines.{with_end}
-use Rattle.sip_message.specs.Message.{Message, MessageText}
+use Rattle.sip_message.specs.inner.StartLine.{StartText, CodeText}
+use Rattle.sip_message.specs.inner.Lines.{with_end}
+use Rattle.sip_message.specs.Message.{Message}
+use Rattle.sip_message.specs.inner.MessageText.{MessageText}
 use Rattle.sip_standard.specs.declared.fault.Fault.{Fault}
 use Rattle.sip_message.specs.Reading.{Reading}
 use Rattle.sip_message.specs.Reads.{Reads}
 use Rattle.sip_message.specs.SaidOf.{said_of}
 use Rattle.sip_message.proofs.lemmas.canon.Law.{code-decimal}
+use Rattle.sip_message.proofs.lemmas.says.Told.{tells-text}
 use Rattle.sip_message.proofs.lemmas.says.Reading.{says-reads, said-is, says-no_fault}
 use Rattle.sip_message.proofs.lemmas.start_line.OneWay.{length-version, status_parts}
 use Rattle.sip_standard.specs.Provisional.{Is100}
@@ -63,11 +66,11 @@ code-100 bytes m reason text start =
     ∙ drop-append-add parts.version (0x20 ∷ (code ++ more)) 1 in
     ap (take 3) dropped ∙ ap (λ digits. take 3 ((digits ++ 0x20 ∷ reason) ++ more)) (digits-100 parts.digits parts.is_code)
 
--- so have bytes that spell one
+-- bytes that spell a 100 have its digits after the version and a blank
 pub Is100-code : (bytes : List ℕ) → Is100 bytes → take 3 (drop 8 bytes) ≡ codes "100"
 Is100-code bytes is =
     let read = says-reads bytes is.said is.says in
-    code-100 bytes read.0.message is.reason read.1.text (ap (λ s. s.start) (sym read.2) ∙ is.start)
+    code-100 bytes read.0.message is.reason (tells-text bytes read.0.message read.1.tells) (ap (λ s. s.start) (sym read.2) ∙ is.start)
 
 -- bytes that have a fault spell none
 pub Is100-fault : (bytes : List ℕ) (f : Fault) → Says bytes (stops f) → Is100 bytes → ⊥

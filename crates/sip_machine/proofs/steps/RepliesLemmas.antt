@@ -1,3 +1,4 @@
+-- What a row adds to the debts of a state, and which send pays a server's.
 use Rattle.std.specs.Prelude.{◌≡◌, ◌↔◌, ℕ, Bool, true, false, not, IsTrue, Option, List, [], ◌∷◌, All}
 use Rattle.std.proofs.Common.{refl, sym, inl, inr, true≢false}
 use Rattle.std.proofs.lemmas.List.Elements.{All-nil, All-cons, All-append}
@@ -16,8 +17,6 @@ use Rattle.sip_ledger.specs.Debts.{is_payable}
 use Rattle.sip_machine.specs.inner.Paying.{PaysFor, FindsFirst}
 use Rattle.sip_machine.specs.inner.OwesLaws.{payables-seen}
 use Rattle.sip_machine.proofs.acks.HolderLemmas.{FindsFirst-same}
-
--- What a row adds to the debts, and what pays a server's.
 
 -- a turn with a new debt is the only one, where the book keeps its message beside what the phase names
 pub Gains-one : {S X : Type 0} (names : S → List ℕ) (InRange : S → Type 0) (seen : Texts → S → X) (texts : Texts) (P : After X → Type 0)

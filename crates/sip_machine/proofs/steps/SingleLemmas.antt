@@ -1,3 +1,4 @@
+-- When no state of the code, or one alone, stands for all to which an event leads.
 use Rattle.std.proofs.Common.{◌≡◌, inl, inr, ℕ, List, [], ◌∷◌, refl, arith}
 use Rattle.std.proofs.lemmas.List.Elements.{All-nil, All-cons, Contains-push, Contains-push_cases}
 use Rattle.sip_machine.specs.Texts.{Texts}

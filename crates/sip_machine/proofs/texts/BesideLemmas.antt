@@ -1,3 +1,4 @@
+-- Rising numbers of which others are a part: where both have as many between two bounds, they are the same there.
 use Prim.Native.Nat.{zero, suc}
 use Rattle.std.specs.Prelude.{◌≡◌, ◌≢◌, ◌<◌, ◌≤◌, ◌+◌, ◌-◌, ◌&&◌, ℕ, Bool, true, false, List, [], ◌∷◌, AllPairs, Contains, length, map, nat_le, nat_lt}
 use Rattle.std.specs.List.{count_by}
@@ -10,8 +11,6 @@ use Rattle.std.proofs.lemmas.List.Elements.{Contains-append_right}
 use Rattle.std.proofs.lemmas.List.Sums.{sum_by-cons, get_or-le-sum_by}
 use Rattle.sip_machine.specs.inner.Tos.{count_between}
 use Rattle.sip_machine.proofs.texts.TextLaws.{Contains-nil, Contains-cons_cases}
-
--- Numbers that rise, among others that do: where they are as many between two of them, they are the same there.
 
 -- what rises does not fall
 pub rises_weakly : {X : Type 0} (f : X → ℕ) (xs : List X) → AllPairs (λ a b. f a < f b) xs → IsNonDecreasingBy f xs
@@ -50,7 +49,7 @@ count-parted p (x ∷ xs) (suc i) low parts =
     let next : 1 + i ≡ suc i = omega arith in
     count-cons p x xs ∙ ap₂ (λ b n. cond b 1 0 + n) here rest ∙ next
 
--- and as many numbers pass as things with them
+-- as many things pass as their numbers do
 count-map : {X : Type 0} (f : X → ℕ) (p : ℕ → Bool) (xs : List X) → count_by p (map f xs) ≡ count_by (λ x. p (f x)) xs
 count-map f p [] = refl
 count-map f p (x ∷ xs) = count-cons p (f x) (map f xs) ∙ ap (λ n. cond (p (f x)) 1 0 + n) (count-map f p xs) ∙ sym (count-cons (λ x. p (f x)) x xs)

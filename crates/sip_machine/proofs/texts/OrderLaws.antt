@@ -1,3 +1,4 @@
+-- Laws of the order in which a book finds equal bytes.
 use Rattle.std.specs.Prelude.{◌≡◌, ◌≢◌, ◌<◌, ◌≤◌, ◌+◌, ◌-◌, ◌⊎◌, ℕ, List, [], ◌∷◌, ◌++◌, All, AllPairs, Contains, map, length}
 use Rattle.std.specs.List.{insert, drop-map, AllWithin}
 use Rattle.std.specs.List.Sorted.{IsNonDecreasingBy, IsPartitionPoint}
@@ -17,12 +18,10 @@ use Rattle.std.proofs.lemmas.List.Edits.{length-insert, get_or-insert_below, get
 use Rattle.std.proofs.lemmas.List.Elements.{All-get_or, All-from_get_or, All-append, All-cons, All-take, All-drop, All-weaker, All-from_all_within, Contains-append_left, Contains-append_right, Contains-append_cases, Contains-get_or}
 use Rattle.std.proofs.lemmas.List.Sorted.{searchable_from_sorted}
 use Rattle.sip_machine.specs.Texts.{Texts, IsBook, Keeps}
-use Rattle.sip_machine.specs.declared.book.Kept.{Kept}
+use Rattle.sip_machine.specs.declared.book.KeptMessage.{KeptMessage}
 use Rattle.sip_machine.specs.declared.book.Place.{Place}
 use Rattle.sip_machine.specs.inner.Order.{texts_of, hash_of, bytes_at, key_of, compare, IsPlace, IsOrder, IsGap}
 use Rattle.sip_machine.proofs.texts.TextLaws.{text_of-none, IsBook-grow}
-
--- Laws of the order in which a book finds equal bytes.
 
 -- hashes and bytes are ordered
 pub compare-total : IsTotalOrder compare
@@ -132,7 +131,7 @@ Contains-insert xs i y x has =
       | inr rest ↦ Contains-append_right (take i xs) (y ∷ drop i xs) x (Contains-append_right (y ∷ []) (drop i xs) x rest)
     ]
 
--- and so is the other one
+-- an inserted element is in the list
 Contains-inserted : {X : Type 0} (xs : List X) (i : ℕ) (y : X) → Contains (insert xs i y) y
 Contains-inserted xs i y = Contains-append_right (take i xs) (y ∷ drop i xs) y (Contains-get_or (y ∷ drop i xs) 0 y (omega arith))
 
@@ -172,19 +171,19 @@ IsOrder-grow texts places number bytes i order gap =
     }
 
 -- a search by halves goes right among messages in the order of their numbers
-pub numbers_searchable : (kept : List Kept) (number : ℕ) → AllPairs (λ a b. a.0 < b.0) (texts_of kept) →
+pub numbers_searchable : (kept : List KeptMessage) (number : ℕ) → AllPairs (λ a b. a.0 < b.0) (texts_of kept) →
     IsNonDecreasingBy (λ k. ordering_index (nat_cmp k.number number)) kept
 numbers_searchable kept number rising =
     searchable_from_sorted nat_cmp_total (λ k. k.number) kept number
     (λ k d low high.
-    let text : Kept → ℕ × List ℕ = λ k. (k.number, k.bytes.items) in
+    let text : KeptMessage → ℕ × List ℕ = λ k. (k.number, k.bytes.items) in
     let first = get_or-map text kept k d (text d) (omega arith) in
     let second = get_or-map text kept (k + 1) d (text d) high in
     let less = rw (first, second) at (rising k (k + 1) (text d) (omega arith) (rw length-map high)) in
     grind (arith, nat_tests))
 
 -- a number that no message before or after a gap has is none
-pub no_number : (kept : List Kept) (number i : ℕ) →
+pub no_number : (kept : List KeptMessage) (number i : ℕ) →
     IsPartitionPoint (λ k. nat_cmp k.number number ≡ Less) (λ k. nat_cmp k.number number ≡ Greater) kept i → All (λ k. k.number ≢ number) kept
 no_number kept number i parted =
     All-from_all_within (λ k. k.number ≢ number) kept (λ k d low high same.
@@ -195,13 +194,13 @@ no_number kept number i parted =
     ]))
 
 -- the bytes at a kept message's position
-pub bytes_at-kept : (kept : List Kept) (position : ℕ) (k : Kept) → position < length kept → k ≡ get_or kept position k →
+pub bytes_at-kept : (kept : List KeptMessage) (position : ℕ) (k : KeptMessage) → position < length kept → k ≡ get_or kept position k →
     bytes_at (texts_of kept) position ≡ k.bytes.items
 bytes_at-kept kept position k low is =
     ap (λ (t : ℕ × List ℕ). t.1) (get_or-map (λ k. (k.number, k.bytes.items)) kept position k (0, []) low) ∙ sym (ap (λ k. k.bytes.items) is)
 
 -- what a book keeps, after a message was put into the gap of its bytes
-pub IsKept-grow : (kept grown : List Kept) (places placed : List Place) (entry hash : ℕ) (bytes : List ℕ) (i : ℕ) → hash ≡ hash_of bytes →
+pub IsKept-grow : (kept grown : List KeptMessage) (places placed : List Place) (entry hash : ℕ) (bytes : List ℕ) (i : ℕ) → hash ≡ hash_of bytes →
     IsBook (texts_of kept) × IsOrder (texts_of kept) places → ((n : ℕ) → Keeps (texts_of kept) n → n < entry) →
     IsGap (texts_of kept) (hash, bytes) places i →
     (texts_of grown ≡ texts_of kept ++ (entry, bytes) ∷ []) × (placed ≡ insert places i (record { hash = hash; position = length kept })) →

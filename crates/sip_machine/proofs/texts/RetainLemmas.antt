@@ -13,7 +13,7 @@ use Rattle.std.specs.declared.cmp.Ordering.TheVariants.{Less}
 use Rattle.sip_machine.specs.Texts.{Texts, IsBook, Keeps, text_of}
 use Rattle.sip_machine.specs.Retained.{only}
 use Rattle.sip_machine.specs.declared.book.Place.{Place}
-use Rattle.sip_machine.specs.declared.book.Run.{Run}
+use Rattle.sip_machine.specs.declared.book.PlaceRun.{PlaceRun}
 use Rattle.sip_machine.specs.inner.Order.{bytes_at, key_of, compare, hash_of, places_of, IsPlace, IsOrder, IsLed}
 use Rattle.sip_machine.specs.inner.Retain.{number_at, place_among, moved, merged}
 use Rattle.sip_machine.proofs.texts.TextLaws.{Contains-nil, Contains-cons_cases, text_of-same, text_of-other, text_of-at, Keeps-at}
@@ -115,7 +115,7 @@ found_later m ms n i d (Some j) found is next =
     let up : suc j ≡ i = cc in
     subst (λ k. (k < suc (length ms)) × (get_or (m ∷ ms) k d ≡ n)) up (omega (arith, there.0), there.1)
 
--- and what stands at a place is the number
+-- the number stands at the place where it is found
 pub place_found : (numbers : List ℕ) (n i d : ℕ) → place_among numbers n ≡ Some i → (i < length numbers) × (get_or numbers i d ≡ n)
 place_found [] n i d at = absurd cc
 place_found (m ∷ ms) n i d at =
@@ -323,11 +323,11 @@ keeps_all text numbers old now left i keeps end =
 
 -- The runs, one after another.
 
-abbrev items : Run → List Place
+abbrev items : PlaceRun → List Place
 items run = run.places.items
 
 -- what is left of the first i runs, and the others, which were not changed yet
-pub record MovesRuns (f : Place → Option Place) (most : ℕ) (old now : List Run) (i : ℕ) : Type 0 where
+pub record MovesRuns (f : Place → Option Place) (most : ℕ) (old now : List PlaceRun) (i : ℕ) : Type 0 where
   pub places : places_of (take i now) ≡ filter_map f (places_of (take i old))
   pub rest : drop i now ≡ drop i old
   pub led : All (λ run. 0 < length run.places.items → IsLed run) (take i now)
@@ -335,16 +335,16 @@ pub record MovesRuns (f : Place → Option Place) (most : ℕ) (old now : List R
   pub within : i ≤ length old
   pub long : length now ≡ length old
 
-pub moves_start : (f : Place → Option Place) (most : ℕ) (old : List Run) → All (λ run. length run.places.items ≤ most) old → MovesRuns f most old old 0
+pub moves_start : (f : Place → Option Place) (most : ℕ) (old : List PlaceRun) → All (λ run. length run.places.items ≤ most) old → MovesRuns f most old old 0
 moves_start f most old short = record { places = refl; rest = refl; led = All-nil (λ run. 0 < length run.places.items → IsLed run); short = short; within = omega arith; long = refl }
 
 -- the places up to a run and in it
-places_more : (runs : List Run) (i : ℕ) (d : Run) → i < length runs → places_of (take (i + 1) runs) ≡ places_of (take i runs) ++ items (get_or runs i d)
+places_more : (runs : List PlaceRun) (i : ℕ) (d : PlaceRun) → i < length runs → places_of (take (i + 1) runs) ≡ places_of (take i runs) ++ items (get_or runs i d)
 places_more runs i d low =
     ap places_of (take_more runs i d low) ∙ flat_map-append items (take i runs) (get_or runs i d ∷ []) ∙ ap (λ ps. places_of (take i runs) ++ ps) (append-nil (items (get_or runs i d)))
 
 -- one run more
-pub moves_run : (f : Place → Option Place) (most : ℕ) (old now : List Run) (i : ℕ) (d run : Run) → MovesRuns f most old now i → i < length now → d ≡ get_or now i d
+pub moves_run : (f : Place → Option Place) (most : ℕ) (old now : List PlaceRun) (i : ℕ) (d run : PlaceRun) → MovesRuns f most old now i → i < length now → d ≡ get_or now i d
     → items run ≡ filter_map f (items d) → length (items run) ≤ length (items d) → (0 < length (items run) → IsLed run) → MovesRuns f most old (set now i run) (i + 1)
 moves_run f most old now i d run moves low read is fewer led =
     let inside : i < length old = (let long = moves.long in omega arith) in
@@ -363,11 +363,11 @@ moves_run f most old now i d run moves low read is fewer led =
     }
 
 -- whether the run has a place
-abbrev pub has_places : Run → Bool
+abbrev pub has_places : PlaceRun → Bool
 has_places run = nat_lt 0 (length run.places.items)
 
 -- runs with no place go
-places_filled : (runs : List Run) → places_of (filter has_places runs) ≡ places_of runs
+places_filled : (runs : List PlaceRun) → places_of (filter has_places runs) ≡ places_of runs
 places_filled [] = refl
 places_filled (run ∷ runs) =
     elim (cases_lt 0 (length run.places.items)) [
@@ -378,7 +378,7 @@ places_filled (run ∷ runs) =
     ]
 
 -- all of them
-pub moves_runs : (f : Place → Option Place) (most : ℕ) (old now new : List Run) (i : ℕ) → MovesRuns f most old now i → length old ≤ i → new ≡ filter has_places now
+pub moves_runs : (f : Place → Option Place) (most : ℕ) (old now new : List PlaceRun) (i : ℕ) → MovesRuns f most old now i → length old ≤ i → new ≡ filter has_places now
     → (places_of new ≡ filter_map f (places_of old)) × All IsLed new × All (λ run. length run.places.items ≤ most) new
 moves_runs f most old now new i moves end is =
     let all_now : take i now ≡ now = take_all i now (let long = moves.long in omega arith) in
@@ -498,7 +498,7 @@ module _ (texts : Texts) (numbers : List ℕ) (book : IsBook texts) (up : AllPai
       let at = text_of-at (only numbers texts) k x rising-only within (sym (at_number k n low) ∙ get_or_default (only numbers texts) k (0, []) x within) in
       ap (text_of (only numbers texts)) (sym is) ∙ at ∙ ap (text_of texts) is
 
-  -- so it is a book
+  -- some messages of a book are a book
   pub IsBook-only : IsBook (only numbers texts)
   IsBook-only = record {
     rising = rising-only;

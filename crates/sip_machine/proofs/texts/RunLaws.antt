@@ -1,3 +1,4 @@
+-- Laws of the runs in which a book holds its places.
 use Rattle.std.specs.Prelude.{◌≡◌, ◌<◌, ◌≤◌, ◌+◌, ◌-◌, ◌⊎◌, ℕ, true, false, List, [], ◌∷◌, ◌++◌, length, take, All}
 use Rattle.std.specs.List.{insert}
 use Rattle.std.specs.List.Sorted.{IsNonDecreasingBy, IsPartitionedBy, IsPartitionPoint}
@@ -15,14 +16,12 @@ use Rattle.std.proofs.lemmas.List.Folds.{length-flat_map-take}
 use Rattle.std.proofs.lemmas.List.Elements.{All-get_or, All-set, All-append, All-take, All-cons, All-drop}
 use Rattle.sip_machine.specs.Texts.{Texts}
 use Rattle.sip_machine.specs.declared.book.Place.{Place}
-use Rattle.sip_machine.specs.declared.book.Run.{Run}
+use Rattle.sip_machine.specs.declared.book.PlaceRun.{PlaceRun}
 use Rattle.sip_machine.specs.declared.book.Gap.{Gap}
 use Rattle.sip_machine.specs.inner.Order.{key_of, bytes_at, compare, begins_by, places_of, index_of, IsLed, IsInRuns, IsGap}
 use Rattle.sip_machine.proofs.texts.OrderLaws.{searchable, found}
 
--- Laws of the runs in which a book holds its places.
-
-abbrev items : Run → List Place
+abbrev items : PlaceRun → List Place
 items run = run.places.items
 
 -- an insert into the middle of three lists
@@ -33,14 +32,14 @@ insert-within a b c i y low =
     (append_assoc a (take i b) (y ∷ (drop i b ++ c)) ∙ ap (λ rest. a ++ rest) (sym (append_assoc (take i b) (y ∷ drop i b) c)))
 
 -- the places before a run, in it and after it
-places-around : (runs : List Run) (r : ℕ) (d : Run) → r < length runs →
+places-around : (runs : List PlaceRun) (r : ℕ) (d : PlaceRun) → r < length runs →
     places_of runs ≡ places_of (take r runs) ++ (items (get_or runs r d) ++ places_of (drop (r + 1) runs))
 places-around runs r d low =
     ap places_of (sym (take-append-drop r runs)) ∙ flat_map-append items (take r runs) (drop r runs)
     ∙ ap (λ rest. places_of (take r runs) ++ places_of rest) (drop_more runs r d low)
 
 -- the places after a run was replaced
-places-set : (runs : List Run) (r : ℕ) (run : Run) → r < length runs →
+places-set : (runs : List PlaceRun) (r : ℕ) (run : PlaceRun) → r < length runs →
     places_of (set runs r run) ≡ places_of (take r runs) ++ (items run ++ places_of (drop (r + 1) runs))
 places-set runs r run low =
     let next : suc r ≡ r + 1 = omega arith in
@@ -48,13 +47,13 @@ places-set runs r run low =
     ∙ ap (λ n. places_of (take r runs) ++ (items run ++ places_of (drop n runs))) next
 
 -- a run with the same places
-pub places-kept : (runs : List Run) (r : ℕ) (d run : Run) → r < length runs → items run ≡ items (get_or runs r d) →
+pub places-kept : (runs : List PlaceRun) (r : ℕ) (d run : PlaceRun) → r < length runs → items run ≡ items (get_or runs r d) →
     places_of (set runs r run) ≡ places_of runs
 places-kept runs r d run low same =
     places-set runs r run low ∙ ap (λ run. places_of (take r runs) ++ (run ++ places_of (drop (r + 1) runs))) same ∙ sym (places-around runs r d low)
 
 -- a run with one place more
-pub places-inserted : (runs : List Run) (gap : Gap) (place : Place) (d run : Run) → gap.run < length runs →
+pub places-inserted : (runs : List PlaceRun) (gap : Gap) (place : Place) (d run : PlaceRun) → gap.run < length runs →
     gap.place ≤ length (items (get_or runs gap.run d)) → items run ≡ insert (items (get_or runs gap.run d)) gap.place place →
     places_of (set runs gap.run run) ≡ insert (places_of runs) (index_of runs gap) place
 places-inserted runs gap place d run low within is =
@@ -65,7 +64,7 @@ places-inserted runs gap place d run low within is =
     ∙ ap (λ all. insert all (index_of runs gap) place) (sym (places-around runs gap.run d low))
 
 -- a run in two halves
-pub places-halved : (runs : List Run) (r n : ℕ) (d first second : Run) → r < length runs →
+pub places-halved : (runs : List PlaceRun) (r n : ℕ) (d first second : PlaceRun) → r < length runs →
     items first ≡ take n (items (get_or runs r d)) → items second ≡ drop n (items (get_or runs r d)) →
     places_of (insert (set runs r first) (r + 1) second) ≡ places_of runs
 places-halved runs r n d first second low head tail =
@@ -82,14 +81,14 @@ places-halved runs r n d first second low head tail =
     ∙ sym (places-around runs r d low)
 
 -- a run ends where a later one begins
-run_ends : (runs : List Run) (i j : ℕ) (d : Run) → i < j → j ≤ length runs →
+run_ends : (runs : List PlaceRun) (i j : ℕ) (d : PlaceRun) → i < j → j ≤ length runs →
     length (places_of (take i runs)) + length (items (get_or runs i d)) ≤ length (places_of (take j runs))
 run_ends runs i j d lt low =
     rw (take-take i j runs (omega arith), get_or-take j runs i d lt) at
     (length-flat_map-take items (take j runs) i d (rw (length-take-le j runs low) lt))
 
 -- where the next run begins
-run_size : (runs : List Run) (r : ℕ) (d : Run) → r < length runs →
+run_size : (runs : List PlaceRun) (r : ℕ) (d : PlaceRun) → r < length runs →
     length (places_of (take (r + 1) runs)) ≡ length (places_of (take r runs)) + length (items (get_or runs r d))
 run_size runs r d low =
     ap (λ all. length (places_of all)) (take_more runs r d low)
@@ -128,13 +127,13 @@ rank_of_later Equal later = absurd (false≢true (sym later))
 rank_of_later Greater later = omega arith
 
 -- a run begins with its first place
-begins : (texts : Texts) (key : ℕ × List ℕ) (run : Run) → IsLed run →
+begins : (texts : Texts) (key : ℕ × List ℕ) (run : PlaceRun) → IsLed run →
     begins_by texts key run ≡ is_le (compare (key_of texts (get_or (items run) 0 first)) key)
 begins texts key run led =
     ap (λ place. is_le (compare (key_of texts place) key)) (led.first ∙ get_or_default (items run) 0 run.first first led.filled)
 
 -- the halves of a run are led where it was
-pub led_halved : (runs : List Run) (r n : ℕ) (d head tail : Run) → r < length runs → All IsLed runs → 0 < n → n < length (items (get_or runs r d)) →
+pub led_halved : (runs : List PlaceRun) (r n : ℕ) (d head tail : PlaceRun) → r < length runs → All IsLed runs → 0 < n → n < length (items (get_or runs r d)) →
     head.first ≡ (get_or runs r d).first → items head ≡ take n (items (get_or runs r d)) → items tail ≡ drop n (items (get_or runs r d)) →
     tail.first ≡ get_or (items tail) 0 tail.first → All IsLed (insert (set runs r head) (r + 1) tail)
 led_halved runs r n d head tail low led some more begins front behind begins' =
@@ -153,12 +152,12 @@ led_halved runs r n d head tail low led some more begins front behind begins' =
     (All-cons IsLed tail (drop (r + 1) (set runs r head)) led_tail (All-drop IsLed (r + 1) (set runs r head) all))
 
 -- where a run's place is among all places
-place_at : (runs : List Run) (r j : ℕ) (d : Run) (e : Place) → r < length runs → j < length (items (get_or runs r d)) →
+place_at : (runs : List PlaceRun) (r j : ℕ) (d : PlaceRun) (e : Place) → r < length runs → j < length (items (get_or runs r d)) →
     get_or (places_of runs) (length (places_of (take r runs)) + j) e ≡ get_or (items (get_or runs r d)) j e
 place_at runs r j d e low within = get_or-flat_map items runs r j d e low within
 
-module _ (texts : Texts) (runs : List Run) (key : ℕ × List ℕ) (held : IsInRuns texts runs) where
-  led_at : (r : ℕ) (d : Run) → r < length runs → IsLed (get_or runs r d)
+module _ (texts : Texts) (runs : List PlaceRun) (key : ℕ × List ℕ) (held : IsInRuns texts runs) where
+  led_at : (r : ℕ) (d : PlaceRun) → r < length runs → IsLed (get_or runs r d)
   led_at r d low = All-get_or IsLed runs r d low held.led
 
   -- a run that begins by the key has only such before it
@@ -181,7 +180,7 @@ module _ (texts : Texts) (runs : List Run) (key : ℕ × List ℕ) (held : IsInR
       ]
 
   -- a search by halves goes right in each run
-  pub run_rises : (r : ℕ) (d : Run) → r < length runs → IsNonDecreasingBy (rank texts key) (items (get_or runs r d))
+  pub run_rises : (r : ℕ) (d : PlaceRun) → r < length runs → IsNonDecreasingBy (rank texts key) (items (get_or runs r d))
   run_rises r d low i j e le within =
       let off = length (places_of (take r runs)) in
       let room = length-flat_map-take items runs r d low in
@@ -189,7 +188,7 @@ module _ (texts : Texts) (runs : List Run) (key : ℕ × List ℕ) (held : IsInR
       (searchable texts (places_of runs) key held.order.rising (off + i) (off + j) e (omega arith) (omega arith))
 
   -- a place of a run that ties with a message has its bytes
-  pub found_in_run : (r at : ℕ) (d : Run) (e : Place) → r < length runs → at < length (items (get_or runs r d)) →
+  pub found_in_run : (r at : ℕ) (d : PlaceRun) (e : Place) → r < length runs → at < length (items (get_or runs r d)) →
       compare (key_of texts (get_or (items (get_or runs r d)) at e)) key ≡ Equal →
       ((get_or (items (get_or runs r d)) at e).position < length texts)
       × (bytes_at texts (get_or (items (get_or runs r d)) at e).position ≡ key.1)
@@ -200,7 +199,7 @@ module _ (texts : Texts) (runs : List Run) (key : ℕ × List ℕ) (held : IsInR
       rw here at (found texts (places_of runs) key (off + at) e held.order (omega arith) (ap (λ p. compare (key_of texts p) key) here ∙ equal))
 
   -- a gap in the last run that begins by the key, or in the first one, is one among all places
-  pub gap_in_runs : (begun r place : ℕ) (d : Run) → r < length runs → (r ≡ 0) ⊎ (r < begun) → begun ≤ r + 1 →
+  pub gap_in_runs : (begun r place : ℕ) (d : PlaceRun) → r < length runs → (r ≡ 0) ⊎ (r < begun) → begun ≤ r + 1 →
       IsPartitionPoint (λ run. begins_by texts key run ≡ true) (λ run. begins_by texts key run ≡ false) runs begun →
       place ≤ length (items (get_or runs r d)) →
       IsPartitionPoint (λ p. compare (key_of texts p) key ≡ Less) (λ p. compare (key_of texts p) key ≡ Greater) (items (get_or runs r d)) place →

@@ -1,3 +1,4 @@
+-- Laws of what a book holds: what was kept stays when a message is added.
 use Prim.Native.Nat.{zero, suc}
 use Rattle.std.specs.Prelude.{◌≡◌, ◌≢◌, ◌<◌, ◌⊎◌, ℕ, List, [], ◌∷◌, ◌++◌, All, AllPairs, Contains, map, length}
 use Rattle.std.proofs.Common.{inl, inr, refl, sym, ◌∙◌, ap, arith, get_or, eq-eqb}
@@ -7,8 +8,6 @@ use Rattle.std.proofs.lemmas.List.{map-append, get_or-map, length-map}
 use Rattle.std.proofs.lemmas.List.Elements.{All-head, All-tail, Contains-append_left, Contains-append_right, Contains-append_cases, Contains-push, Contains-push_cases, Contains-get_or, All-contains, All-map}
 use Rattle.std.proofs.lemmas.List.Quantifiers.{all_pairs_push}
 use Rattle.sip_machine.specs.Texts.{Texts, IsBook, Keeps, text_of}
-
--- Laws of what a book holds: what was kept stays when a message is added.
 
 -- nothing is in the empty list
 pub Contains-nil : {X : Type 0} (x : X) → Contains [] x → ⊥

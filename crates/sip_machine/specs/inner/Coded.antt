@@ -27,7 +27,7 @@ pub record Coded (Phase : Type 0) : Type 1 where
 abbrev pub idle_state : {Phase : Type 0} (c : Coded Phase) → CodeOwing c.Code
 idle_state c = record { phase = c.idle; owes = [] }
 
--- and the one after an end
+-- the state of the code after its transaction has ended
 abbrev pub ended_state : {Phase : Type 0} (c : Coded Phase) → CodeOwing c.Code
 ended_state c = record { phase = c.ended; owes = [] }
 
@@ -81,7 +81,7 @@ pub record IsCoded {X : Type 0} (f : Figure X) (c : Coded X) : Type 0 where
   pub idle_silent : messages_told (c.told f.idle) ≡ []
   pub ended_silent : messages_told (c.told f.ended) ≡ []
 
--- the same of the ghosts of a machine of the code, M
+-- what `IsCoded` says of a figure and its phases, of the ghosts of a machine M of the code
 pub record HasPhases {X S M : Type 0} (f : Figure X) (seen : Texts → S → X) (names : S → List ℕ) (InRange : S → Type 0) (idle ended : M → S) : Type 0 where
   pub is_figure : IsFigure f
   pub apart : AreApart seen names

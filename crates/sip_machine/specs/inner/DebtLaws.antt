@@ -39,12 +39,12 @@ pub IsWithoutFirst-same : {X : Type 0} (P : X → Type 0) (xs ys zs : List X) �
 IsWithoutFirst-same P xs ys zs a b =
     a.rest ∙ same_without P a.before b.before a.first b.first a.after b.after (sym a.whole ∙ b.whole) a.holds b.holds a.none_before b.none_before ∙ sym b.rest
 
--- one half of a list whose elements all have it
+-- what each element of two lists in a row has, each of the first list has
 pub All-front : {X : Type 0} (P : X → Type 0) (xs ys : List X) → All P (xs ++ ys) → All P xs
 All-front P [] ys all = All-nil P
 All-front P (x ∷ xs) ys all = All-cons P x xs (All-head P x (xs ++ ys) all) (All-front P xs ys (All-tail P x (xs ++ ys) all))
 
--- and the other
+-- what each element of two lists in a row has, each of the second list has
 pub All-back : {X : Type 0} (P : X → Type 0) (xs ys : List X) → All P (xs ++ ys) → All P ys
 All-back P [] ys all = all
 All-back P (x ∷ xs) ys all = All-back P xs ys (All-tail P x (xs ++ ys) all)

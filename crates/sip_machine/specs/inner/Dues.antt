@@ -1,11 +1,11 @@
 use Rattle.std.specs.Prelude.{◌≡◌, ◌≤◌, ℕ, Option, None, Some, List, [], All, length, replicate}
 use Rattle.sip_ledger.specs.declared.debt.Debt.{Debt}
-use Rattle.sip_ledger.specs.Ledgers.{Table, rows_of}
+use Rattle.sip_ledger.specs.Ledgers.{GridOrLong, rows_of}
 
 -- What many states owe, with a ledger or without one.
 
 -- what each of the rows owes
-abbrev pub rows_in : ℕ → Option Table → List (List Debt)
+abbrev pub rows_in : ℕ → Option GridOrLong → List (List Debt)
 rows_in count None = replicate count []
 rows_in count (Some table) = rows_of table
 

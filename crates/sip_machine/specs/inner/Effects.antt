@@ -66,12 +66,12 @@ Leads f p Failed e x y = ⊥
 Leads f p Mark e x y = ⊥
 Leads f p Restart e x y = ⊥
 
--- the same of a state of the code that has lasted until the event
+-- the states to which the row of an event leads from a state of the code that has lasted until the event
 abbrev pub LeadsFrom : {X S : Type 0} → Figure X → Times → (Texts → S → X) → Texts → MachineEvent → CodeOwing S → Owing X → Type 0
 LeadsFrom f p seen texts e x y =
     IsWithin e.moment (until_of f p (owing_seen seen texts x)) × Leads f p e.action e (owing_seen seen texts (unexpired_at e.moment x)) y
 
--- and those to which a sent message leads that leaves the phase as it is
+-- the states to which a sent message leads that leaves the phase as it is, from a state of the code that has lasted until then
 abbrev pub RestsFrom : {X S : Type 0} → Figure X → Times → (Texts → S → X) → Texts → MachineEvent → CodeOwing S → Owing X → Type 0
 RestsFrom f p seen texts e x y =
     IsWithin e.moment (until_of f p (owing_seen seen texts x)) × Rests f e (owing_seen seen texts (unexpired_at e.moment x)) y

@@ -1,4 +1,4 @@
-use Rattle.std.specs.Prelude.{◌≡◌, ◌<◌, ◌≤◌, ◌+◌, ℕ, Bool, List, [], All, AllPairs, Contains, map, length, take, slice_index_or}
+use Rattle.std.specs.Prelude.{◌≡◌, ◌<◌, ◌≤◌, ◌+◌, ◌-◌, ◌++◌, ◌∷◌, ℕ, Bool, true, false, Option, Some, None, List, [], All, AllPairs, Contains, map, length, take, slice_index_or}
 use Rattle.std.specs.declared.cmp.Ordering.{Ordering}
 use Rattle.std.specs.declared.cmp.Ordering.TheVariants.{Less, Greater}
 use Rattle.std.specs.Ordering.{nat_cmp, ordering_then, is_le}
@@ -6,16 +6,22 @@ use Rattle.std.specs.List.{AllWithin, HoldsAt, flat_map}
 use Rattle.std.specs.Cmp.Lexicographic.{slice_cmp}
 use Rattle.std.specs.Hash.FoldHasher.{initial, write, finish}
 use Rattle.sip_machine.specs.Texts.{Texts}
-use Rattle.sip_machine.specs.declared.book.Kept.{Kept}
+use Rattle.sip_machine.specs.declared.book.KeptMessage.{KeptMessage}
 use Rattle.sip_machine.specs.declared.book.Place.{Place}
-use Rattle.sip_machine.specs.declared.book.Run.{Run}
+use Rattle.sip_machine.specs.declared.book.PlaceRun.{PlaceRun}
 use Rattle.sip_machine.specs.declared.book.Gap.{Gap}
+use Rattle.sip_machine.specs.declared.book.Loose.{Loose}
 
 -- How a book finds equal bytes.
 
 -- what the kept messages are
-abbrev pub texts_of : List Kept → Texts
+abbrev pub texts_of : List KeptMessage → Texts
 texts_of kept = map (λ k. (k.number, k.bytes.items)) kept
+
+-- the messages whose places stand in the order, or their numbers: all, or all but the newest, which comes last
+abbrev pub placed : {X : Type 0} → Bool → List X → List X
+placed false all = all
+placed true all = take (length all - 1) all
 
 -- the hash of these bytes, by the first 256 of them
 abbrev pub hash_of : List ℕ → ℕ
@@ -49,7 +55,7 @@ pub record IsGap (texts : Texts) (key : ℕ × List ℕ) (places : List Place) (
   pub after : AllWithin (λ place. compare (key_of texts place) key ≡ Greater) places i (length places)
 
 -- the places of these runs, one run after another
-abbrev pub places_of : List Run → List Place
+abbrev pub places_of : List PlaceRun → List Place
 places_of runs = flat_map (λ run. run.places.items) runs
 
 -- a run holds at most so many places, so that few of them move for a new one
@@ -57,25 +63,41 @@ abbrev pub most_places : ℕ
 most_places = 128
 
 -- the run has places, and tells the first of them
-pub record IsLed (run : Run) : Type 0 where
+pub record IsLed (run : PlaceRun) : Type 0 where
   pub filled : 0 < length run.places.items
   pub first : run.first ≡ slice_index_or run.places.items 0 run.first
 
 -- the runs hold the places in order, each tells its first one, and none is too long
-pub record IsInRuns (texts : Texts) (runs : List Run) : Type 0 where
+pub record IsInRuns (texts : Texts) (runs : List PlaceRun) : Type 0 where
   pub order : IsOrder texts (places_of runs)
   pub led : All IsLed runs
   pub short : All (λ run. length run.places.items ≤ most_places) runs
 
 -- the first place of the run is none after the key
-abbrev pub begins_by : Texts → ℕ × List ℕ → Run → Bool
+abbrev pub begins_by : Texts → ℕ × List ℕ → PlaceRun → Bool
 begins_by texts key run = is_le (compare (key_of texts run.first) key)
 
 -- where a gap is among the places of all runs
-abbrev pub index_of : List Run → Gap → ℕ
+abbrev pub index_of : List PlaceRun → Gap → ℕ
 index_of runs gap = length (places_of (take gap.run runs)) + gap.place
 
 -- the gap is in one of the runs
-pub record IsInside (runs : List Run) (gap : Gap) : Type 0 where
+pub record IsInside (runs : List PlaceRun) (gap : Gap) : Type 0 where
   pub run : gap.run < length runs
   pub place : HoldsAt (λ run. gap.place ≤ length run.places.items) runs gap.run
+
+-- the newest message has no place in the runs yet: it goes into this gap
+pub record IsLoose (texts : Texts) (runs : List PlaceRun) (newest : Loose) : Type 0 where
+  pub others : Texts
+  pub number : ℕ
+  pub bytes : List ℕ
+  pub last : texts ≡ others ++ (number, bytes) ∷ []
+  pub order : IsInRuns others runs
+  pub hash : newest.hash ≡ hash_of bytes
+  pub gap : IsGap others (newest.hash, bytes) (places_of runs) (index_of runs newest.gap)
+  pub inside : 0 < length runs → IsInside runs newest.gap
+
+-- the messages stand in the runs, all or all but the newest
+abbrev pub StandInRuns : Texts → List PlaceRun → Option Loose → Type 0
+StandInRuns texts runs None = IsInRuns texts runs
+StandInRuns texts runs (Some newest) = IsLoose texts runs newest

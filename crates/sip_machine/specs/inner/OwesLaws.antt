@@ -107,17 +107,17 @@ AreDue-deadlines t (o ∷ os) =
           (more.1 (All-tail (λ owed. owed.must ≡ true → t ≤ owed.deadline) o os due)),
     )
 
--- what is due stays so without what has expired,
+-- what is due is still due once the debts that have expired are dropped
 pub AreDue-unexpired : (t : ℕ) (owes : List Owed) → AreDue t owes → AreDue t (unexpired t owes)
 AreDue-unexpired t owes due =
     All-filter (λ owed. owed.must || nat_le t owed.deadline) (λ owed. owed.must ≡ true → t ≤ owed.deadline) owes due
 
--- without what is paid,
+-- what is due is still due once a debt is paid
 pub AreDue-paid : (Satisfies : List ℕ → Type 0) (t : ℕ) (owes left : List Owed) → Pays Satisfies t owes left → AreDue t owes → AreDue t left
 AreDue-paid Satisfies t owes left pays due =
     All-without (λ owed. Satisfies owed.message × (t ≤ owed.deadline)) (λ owed. owed.must ≡ true → t ≤ owed.deadline) owes left pays due
 
--- and always where nothing has to be sent
+-- debts that only may be sent are never overdue
 pub AreDue-softened : (t : ℕ) (owes : List Owed) → AreDue t (softened owes)
 AreDue-softened t owes =
     All-map (λ owed. owed.must ≡ true → t ≤ owed.deadline) (λ owed. record { message = owed.message; deadline = owed.deadline; must = false })

@@ -1,16 +1,16 @@
 use Rattle.std.specs.Prelude.{◌≡◌, ◌≢◌, ◌<◌, ◌≤◌, ◌-◌, ◌*◌, ◌/◌, ◌^◌, ℕ, Option, None, Some, List, get_or, length, map}
-use Rattle.sip_machine.specs.declared.slots.Kept.{Kept}
+use Rattle.sip_machine.specs.declared.slots.SlotPrint.{SlotPrint}
 
 -- Numbers, found again by a look at those alone that fall into the same slot.
 
--- for each slot one past its newest print, the prints, and for each of them one past the one before it of its slot
+-- prints by slots: of each slot the place of its newest print, all prints, and of each the place of the one before it in its slot; places count from 1
 pub record Slotted : Type 0 where
   pub newest : List ℕ
   pub prints : List ℕ
   pub olders : List ℕ
 
--- the same of the pairs as they lie
-abbrev pub slotted : List ℕ → List Kept → Slotted
+-- the prints by slots, of the pairs that the code keeps
+abbrev pub slotted : List ℕ → List SlotPrint → Slotted
 slotted newest kept = record { newest = newest; prints = map (λ x. x.print) kept; olders = map (λ x. x.older) kept }
 
 -- the slot of a number, of so many slots

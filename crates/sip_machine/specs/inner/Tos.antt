@@ -22,7 +22,7 @@ pub record IsToOf (bytes text : List ℕ) : Type 0 where
   pub reads : Reads bytes message
   pub is : text ≡ solid message.parts.to.0
 
--- the same of a message that is kept
+-- the book keeps the message with this number, and the text is its To
 pub record IsTo (texts : Texts) (to : To) : Type 0 where
   pub kept : Keeps texts to.number
   pub text : IsToOf (text_of texts to.number) to.text
@@ -44,7 +44,7 @@ abbrev pub IsOwner : ℕ → Owner → Type 0
 IsOwner number (Only n) = number ≡ n
 IsOwner number Several = ⊤
 
--- and a To of this hash, as far as the owners tell
+-- the message with this number may have a To of this hash, as far as the owners tell
 abbrev pub MayOwn : Owners → ℕ → ℕ → Type 0
 MayOwn owners hash number = IsSomeAnd (get nat_eq owners hash) (IsOwner number)
 

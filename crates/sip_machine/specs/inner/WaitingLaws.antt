@@ -41,7 +41,7 @@ waiting_by_names a b w agree =
 pub timer_starts : (p : Times) (t duration : ℕ) → All (λ m. t ≤ m) (close_at p t duration ∷ [])
 timer_starts p t duration = All-cons (λ m. t ≤ m) (close_at p t duration) [] (omega arith) (All-nil (λ m. t ≤ m))
 
--- nor is one that sends again over an unreliable transport, beside one that is not past
+-- a timer that sends again over an unreliable transport is not past when it starts, beside another that is not
 pub repeat_starts : (p : Times) (t m interval : ℕ) (reliable : Bool) → t ≤ m → All (λ m. t ≤ m) (m ∷ (if reliable then [] else close_at p t interval ∷ []))
 repeat_starts p t m interval true low = All-cons (λ m. t ≤ m) m [] low (All-nil (λ m. t ≤ m))
 repeat_starts p t m interval false low = All-cons (λ m. t ≤ m) m (close_at p t interval ∷ []) low (timer_starts p t interval)

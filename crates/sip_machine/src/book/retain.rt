@@ -4,10 +4,10 @@ ghost use Rattle.std.specs.List.{filter_map};
 ghost use Rattle.sip_machine.specs.inner.Retain.{number_at, moved, merged};
 ghost use Rattle.sip_machine.specs.inner.Order.{texts_of, places_of, most_places, IsLed};
 
-use super::{Kept, Place, Run};
+use super::{KeptMessage, Place, PlaceRun};
 
 /// The number of the message at a position, 0 past the last one.
-fn number_at(kept: &[Kept], position: usize) -> u32
+fn number_at(kept: &[KeptMessage], position: usize) -> u32
     ensures { result ≡ number_at (texts_of kept.now) position }
 {
     match kept.get(position) {
@@ -17,7 +17,7 @@ fn number_at(kept: &[Kept], position: usize) -> u32
 }
 
 /// Where the message at a place goes once these numbers alone are kept.
-fn moved(kept: &[Kept], place: Place, numbers: &[u32]) -> Option<Place>
+fn moved(kept: &[KeptMessage], place: Place, numbers: &[u32]) -> Option<Place>
     requires { AllPairs (λ a b. a < b) numbers.now }
     ensures { result ≡ moved (texts_of kept.now) numbers.now place }
 {
@@ -29,7 +29,7 @@ fn moved(kept: &[Kept], place: Place, numbers: &[u32]) -> Option<Place>
 }
 
 /// Moves the places of the messages with these numbers, and forgets the others.
-fn move_places(places: &mut Vec<Place>, kept: &[Kept], numbers: &[u32])
+fn move_places(places: &mut Vec<Place>, kept: &[KeptMessage], numbers: &[u32])
     requires { AllPairs (λ a b. a < b) numbers.now }
     ensures places { places.new.items ≡ filter_map (moved (texts_of kept.now) numbers.now) places.old.items }
     ensures fewer { length places.new.items ≤ length places.old.items }
@@ -45,7 +45,7 @@ fn move_places(places: &mut Vec<Place>, kept: &[Kept], numbers: &[u32])
 }
 
 /// The same in one run, which may be left with no place.
-fn move_run(run: &mut Run, kept: &[Kept], numbers: &[u32])
+fn move_run(run: &mut PlaceRun, kept: &[KeptMessage], numbers: &[u32])
     requires { AllPairs (λ a b. a < b) numbers.now }
     ensures places { run.new.places.items ≡ filter_map (moved (texts_of kept.now) numbers.now) run.old.places.items }
     ensures fewer { length run.new.places.items ≤ length run.old.places.items }
@@ -58,7 +58,7 @@ fn move_run(run: &mut Run, kept: &[Kept], numbers: &[u32])
 }
 
 /// The same in all runs, of which those that are left with no place go.
-pub(super) fn move_all(runs: &mut Vec<Run>, kept: &[Kept], numbers: &[u32])
+pub(super) fn move_all(runs: &mut Vec<PlaceRun>, kept: &[KeptMessage], numbers: &[u32])
     requires rising { AllPairs (λ a b. a < b) numbers.now }
     requires short { All (λ run. length run.places.items ≤ most_places) runs.old.items }
     ensures places { places_of runs.new.items ≡ filter_map (moved (texts_of kept.now) numbers.now) (places_of runs.old.items) }
@@ -72,7 +72,7 @@ pub(super) fn move_all(runs: &mut Vec<Run>, kept: &[Kept], numbers: &[u32])
 }
 
 /// Forgets the messages but those with these numbers, and sets buffers of the others aside.
-pub(super) fn keep_only(kept: &mut Vec<Kept>, spare: &mut Vec<Vec<u8>>, numbers: &[u32])
+pub(super) fn keep_only(kept: &mut Vec<KeptMessage>, spare: &mut Vec<Vec<u8>>, numbers: &[u32])
     ensures { texts_of kept.new.items ≡ merged numbers.now (texts_of kept.old.items) }
 {
     let mut left = 0;
@@ -91,7 +91,7 @@ const MORE: usize = 64;
 
 /// Sets buffers of the last messages aside until so many messages are left, and no more of them than there are to be and than
 /// there is room for.
-fn set_aside(kept: &mut Vec<Kept>, spare: &mut Vec<Vec<u8>>, left: usize)
+fn set_aside(kept: &mut Vec<KeptMessage>, spare: &mut Vec<Vec<u8>>, left: usize)
     requires { left ≤ length kept.old.items }
     ensures { take left kept.new.items ≡ take left kept.old.items }
 {
@@ -104,5 +104,12 @@ fn set_aside(kept: &mut Vec<Kept>, spare: &mut Vec<Vec<u8>>, left: usize)
         if let Some(last) = kept.pop() {
             let _ = spare.push(last.bytes);
         }
+    }
+}
+
+/// Sets the buffer of a message aside that was forgotten.
+pub(super) fn lay_aside(spare: &mut Vec<Vec<u8>>, bytes: Vec<u8>) {
+    if spare.len() < MORE {
+        let _ = spare.push(bytes);
     }
 }

@@ -3,5 +3,6 @@ pub mod Via
 pub mod Values
 pub mod Names
 pub mod Bytes
+pub mod Told
 pub mod Reading
 pub mod Canonical

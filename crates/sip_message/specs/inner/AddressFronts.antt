@@ -1,15 +1,17 @@
 -- How the reader of addresses cuts a text.
-use Rattle.std.specs.Prelude.{◌≡◌, ◌⊎◌, ◌&&◌, not, ℕ, Bool, true, List, ◌∷◌, ◌++◌, Option, None, Some, codes, option_copied}
+use Rattle.std.specs.Prelude.{◌≡◌, ◌⊎◌, ◌&&◌, not, ℕ, Bool, true, List, ◌∷◌, ◌++◌, Option, None, Some, option_copied}
 use Rattle.std.specs.List.{AllByRecursion}
 use Rattle.std.specs.Borrow.{Bor}
 use Rattle.sip_standard.specs.Text.{◌then◌, Many}
 use Rattle.sip_standard.specs.Profile.{Token, Blanks}
-use Rattle.sip_text.specs.Bytes.{colon, is_one_of, is_token_byte}
+use Rattle.sip_text.specs.Bytes.{colon, is_token_byte}
+use Rattle.sip_standard.specs.Chars.{is_among}
 use Rattle.sip_text.specs.Uri.{UriText}
 use Rattle.sip_text.specs.inner.Cut.{before, behind}
 use Rattle.sip_message.specs.declared.address.Cuts.{Cuts}
 use Rattle.sip_standard.specs.Field.{is_lws_byte}
-use Rattle.sip_message.specs.Params.{left_angle, right_angle, ParamsPart, BehindBlanks}
+use Rattle.sip_message.specs.inner.Marks.{left_angle, right_angle}
+use Rattle.sip_message.specs.Params.{ParamsPart, BehindBlanks}
 use Rattle.sip_message.specs.Address.{AddressParts}
 use Rattle.sip_message.specs.inner.Fronts.{Stops, Behind, Seq}
 use Rattle.sip_message.specs.inner.ParamFronts.{QuotedFront}
@@ -41,7 +43,7 @@ HasScheme text =
 
 -- a byte of a URI that stands without "<"
 abbrev pub is_unmarked_byte : ℕ → Bool
-is_unmarked_byte byte = not (is_lws_byte byte) && not (is_one_of (codes ",?;") byte)
+is_unmarked_byte byte = not (is_lws_byte byte) && not (is_among ",?;" byte)
 
 -- the display name, the text of the URI, and what follows them
 pub record CutParts : Type 0 where

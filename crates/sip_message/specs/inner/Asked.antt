@@ -7,8 +7,8 @@ use Rattle.sip_message.specs.declared.name.Known.{Known}
 use Rattle.sip_message.specs.declared.name.Known.TheVariants as known_name
 use Rattle.sip_message.specs.declared.via.Via.{Via}
 use Rattle.sip_message.specs.Field.{Field}
-use Rattle.sip_message.specs.Message.{found, IsFirstFound}
-use Rattle.sip_message.specs.Reading.{CSeqValue}
+use Rattle.sip_message.specs.inner.MessageText.{found, IsFirstFound}
+use Rattle.sip_message.specs.inner.Values.{CSeqValue}
 use Rattle.sip_message.specs.ViaParts.{element}
 use Rattle.sip_message.specs.ValueParts.{cseq_parts}
 use Rattle.sip_message.specs.inner.ElementFronts.{FirstVia}

@@ -1,9 +1,22 @@
--- The elements of Via that are left, one after another.
+-- The elements of Via by their parts, and those that are left, one after another.
 use Rattle.std.specs.Prelude.{◌≡◌, ◌⊎◌, ℕ, List, [], ◌∷◌, ◌++◌}
-use Rattle.sip_message.specs.Params.{comma}
-use Rattle.sip_message.specs.Via.{ViaParts, ViaText, ViasText}
+use Rattle.std.specs.Borrow.{Bor}
+use Rattle.sip_standard.specs.Text.{◌then◌}
+use Rattle.sip_message.specs.declared.via.Via.{Via}
+use Rattle.sip_message.specs.inner.Marks.{comma, Mark}
+use Rattle.sip_message.specs.Via.{ViaParts, ViaText}
+use Rattle.sip_message.specs.ViaParts.{element}
 use Rattle.sip_message.specs.Elements.{Element, MoreElements, AreElements}
 use Rattle.sip_message.specs.inner.Fronts.{MarkFront}
+
+-- *( COMMA via-parm )
+abbrev pub MoreVias : List ViaParts → List ℕ → Type 0
+MoreVias [] text = text ≡ []
+MoreVias (v ∷ vias) text = (Mark comma then (λ t. ViaText t v) then MoreVias vias) text
+
+-- via-parm *( COMMA via-parm )
+abbrev pub ViasText : List ℕ → ViaParts → List ViaParts → Type 0
+ViasText text v vias = ((λ t. ViaText t v) then MoreVias vias) text
 
 -- the elements that are left: those of the rest of a value, and those of the values after it
 pub record AreLeft (rest : List ℕ) (values : List (List ℕ)) (es : List Element) : Type 0 where
@@ -30,3 +43,6 @@ ViaFront text (e, rest) = ViaText e.0 e.1 × (text ≡ e.0 ++ rest) × EndsEleme
 abbrev pub FirstVia : List ℕ → Element → Type 0
 FirstVia text e =
     ((v : ViaParts) × (vias : List ViaParts) × ViasText text v vias) × ((rest : List ℕ) × ViaFront text (e, rest))
+
+abbrev pub front_parts : Via × Bor (List ℕ) → Element × List ℕ
+front_parts (v, rest) = (element v, rest.now)

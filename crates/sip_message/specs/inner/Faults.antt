@@ -5,12 +5,14 @@ use Rattle.sip_message.specs.declared.name.Known.TheVariants as known_name
 use Rattle.sip_standard.specs.declared.fault.Reason.TheVariants as reason
 use Rattle.sip_standard.specs.Outcome.{Outcome, Gives, Demand, Holds, Then}
 use Rattle.sip_standard.specs.Lines.{CutSays, LinesSay}
-use Rattle.sip_message.specs.Lines.{HasNoBareEnd}
+use Rattle.sip_message.specs.inner.Lines.{HasNoBareEnd}
 use Rattle.sip_message.specs.Name.{FieldName}
 use Rattle.sip_standard.specs.StartLine.{StartLine}
-use Rattle.sip_message.specs.StartLine.{StartText}
-use Rattle.sip_message.specs.Field.{Field, NameText, ValueText, Row}
-use Rattle.sip_message.specs.Message.{Message, found, MethodFits, content_length, HasLength, IsEnough, IsNoMore}
+use Rattle.sip_message.specs.inner.StartLine.{StartText}
+use Rattle.sip_message.specs.Field.{Field}
+use Rattle.sip_message.specs.inner.FieldText.{NameText, ValueText, Row}
+use Rattle.sip_message.specs.Message.{Message}
+use Rattle.sip_message.specs.inner.MessageText.{found, MethodFits, content_length, HasLength, IsEnough, IsNoMore}
 use Rattle.sip_standard.specs.Body.{cut_body}
 use Rattle.sip_standard.specs.Faults.{fault_in_head, fault_in_line, fault_in_body}
 use Rattle.sip_standard.specs.Field.{FirstOf, NoSecond, OneOf}

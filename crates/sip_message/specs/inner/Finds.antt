@@ -3,7 +3,7 @@ use Rattle.std.specs.Prelude.{◌≡◌, ℕ, ◌+◌, List, [], ◌∷◌, drop
 use Rattle.std.specs.Borrow.{Bor}
 use Rattle.sip_message.specs.declared.name.Known.{Known}
 use Rattle.sip_message.specs.Field.{Field}
-use Rattle.sip_message.specs.Message.{found_from}
+use Rattle.sip_message.specs.inner.MessageText.{found_from}
 
 -- a value, with the number of its line
 abbrev pub found_parts : Bor (List ℕ) × ℕ → ℕ × List ℕ

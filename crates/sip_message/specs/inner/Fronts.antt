@@ -3,11 +3,11 @@ use Rattle.std.specs.Prelude.{◌≡◌, ℕ, ◌-◌, ◌&&◌, ◌==◌, not, 
 use Rattle.std.specs.Borrow.{Bor}
 use Rattle.sip_standard.specs.Text.{Exactly, ◌then◌}
 use Rattle.sip_standard.specs.Profile.{Token, Sws, Blanks}
-use Rattle.sip_text.specs.Bytes.{carriage_return, is_wsp, is_token_byte}
-use Rattle.sip_text.specs.inner.Blanks.{blank_len}
+use Rattle.sip_text.specs.Bytes.{carriage_return, is_token_byte}
+use Rattle.sip_text.specs.inner.Blanks.{is_wsp, blank_len}
 use Rattle.sip_standard.specs.Lines.{OpensBlank}
-use Rattle.sip_message.specs.Lines.{IsFolded, with_end}
-use Rattle.sip_message.specs.Params.{slash, Mark}
+use Rattle.sip_message.specs.inner.Lines.{IsFolded, with_end}
+use Rattle.sip_message.specs.inner.Marks.{slash, Mark}
 
 -- the text begins with no byte that passes
 abbrev pub Stops : (ℕ → Bool) → List ℕ → Type 0
@@ -22,7 +22,7 @@ StopsBlank text = blank_len text ≡ 0
 abbrev pub Behind : List ℕ → List ℕ → Type 0
 Behind text rest = StopsBlank rest × (Sws then Exactly rest) text
 
--- and there is one such rest
+-- the only rest after the longest run of blanks at the front
 abbrev pub IsOnlyBehind : List ℕ → List ℕ → Type 0
 IsOnlyBehind text rest = Behind text rest × ((other : List ℕ) → Behind text other → other ≡ rest)
 

@@ -6,10 +6,24 @@ use Rattle.sip_message.specs.declared.name.Known.TheVariants as known_name
 use Rattle.sip_message.specs.Field.{Field}
 use Rattle.sip_message.specs.Message.{Message}
 use Rattle.sip_message.specs.Elements.{Element, values}
-use Rattle.sip_message.specs.Reading.{CSeqValue, Parts, Keeps}
+use Rattle.sip_message.specs.inner.Values.{CSeqValue}
+use Rattle.sip_message.specs.Reading.{Parts, HasParts}
+use Rattle.sip_message.specs.Only.{IsOnly}
+use Rattle.sip_standard.specs.Says.{IsFirstOf}
+use Rattle.sip_message.specs.inner.MessageText.{MessageText}
 use Rattle.sip_message.specs.ViaParts.{element}
 use Rattle.sip_message.specs.ValueParts.{cseq_parts}
 use Rattle.sip_message.specs.inner.ElementFronts.{FirstVia}
+
+-- where the named fields stand, and that some bytes spell the message
+pub record Keeps (m : Message) (p : Parts) (v f t i c : List ℕ) : Type 0 where
+  pub parts : IsOnly (HasParts m.fields) p
+  pub spelled : (bytes : List ℕ) × MessageText bytes m
+  pub via : IsFirstOf (values known_name.Via m.fields) v
+  pub from : IsFirstOf (values known_name.From m.fields) f
+  pub to : IsFirstOf (values known_name.To m.fields) t
+  pub call_id : IsFirstOf (values known_name.CallId m.fields) i
+  pub cseq : IsFirstOf (values known_name.CSeq m.fields) c
 
 -- what the first of these values says, or nothing where there is none
 abbrev pub SaysFirst : {X : Type 0} → (List ℕ → X → Type 0) → List (List ℕ) → Option X → Type 0

@@ -1,9 +1,25 @@
--- Logical lines, the first of which begins with no blank, and their ends.
-use Rattle.std.specs.Prelude.{◌≡◌, ℕ, ◌+◌, ◌<◌, ◌≤◌, ◌==◌, List, slice_index}
+-- The head of a message and its logical lines (RFC 3261, sections 7 and 7.3.1).
+use Rattle.std.specs.Prelude.{◌≡◌, ℕ, ◌+◌, ◌<◌, ◌≤◌, ◌==◌, ◌&&◌, not, Bool, List, ◌++◌, slice_index}
 use Rattle.std.specs.List.{AllByRecursion, flat_map}
-use Rattle.sip_text.specs.Bytes.{carriage_return, line_feed}
+use Rattle.sip_standard.specs.Text.{One, Exactly, ◌or◌, Many}
+use Rattle.sip_text.specs.Bytes.{crlf, carriage_return, line_feed}
 use Rattle.sip_standard.specs.Lines.{OpensBlank}
-use Rattle.sip_message.specs.Lines.{IsFolded, with_end}
+
+-- neither CR nor LF
+abbrev pub is_inner_byte : ℕ → Bool
+is_inner_byte byte = not (byte == carriage_return) && not (byte == line_feed)
+
+-- no CR without LF, and no LF without CR
+abbrev pub HasNoBareEnd : List ℕ → Type 0
+HasNoBareEnd = Many (Exactly crlf or One is_inner_byte)
+
+-- after every CRLF in the line stands a blank
+abbrev pub IsFolded : List ℕ → Type 0
+IsFolded line = (u v : List ℕ) → line ≡ u ++ (crlf ++ v) → OpensBlank v
+
+-- a line with its end
+abbrev pub with_end : List ℕ → List ℕ
+with_end line = line ++ crlf
 
 -- the text is these lines, none of which begins with a blank
 pub record AreLines (text : List ℕ) (lines : List (List ℕ)) : Type 0 where
@@ -15,7 +31,7 @@ pub record AreLines (text : List ℕ) (lines : List (List ℕ)) : Type 0 where
 abbrev pub IsPaired : List ℕ → ℕ → Type 0
 IsPaired text k = (slice_index text k == carriage_return) ≡ (slice_index text (k + 1) == line_feed)
 
--- so it is from one place up to another
+-- from one place up to another a LF stands after each CR, and after no other byte
 abbrev pub ArePaired : List ℕ → ℕ → ℕ → Type 0
 ArePaired text from to = (k : ℕ) → from ≤ k → k < to → IsPaired text k
 

@@ -4,7 +4,7 @@ use Rattle.std.specs.Borrow.{Bor}
 use Rattle.sip_message.specs.declared.name.Known.{Known}
 use Rattle.sip_message.specs.declared.name.Name.{Name}
 use Rattle.sip_message.specs.Name.{FieldName, known, other}
-use Rattle.sip_message.specs.Views.{name_parts}
+use Rattle.sip_message.specs.inner.Views.{name_parts}
 
 -- a known name, or else the text
 abbrev pub name_or : Option Known → List ℕ → FieldName

@@ -3,10 +3,11 @@ use Rattle.std.specs.Prelude.{◌≡◌, ℕ, ◌+◌, ◌≤◌, not, Bool, tru
 use Rattle.std.specs.List.{AllByRecursion, flat_map}
 use Rattle.sip_masks.specs.Marks.{is_control}
 use Rattle.sip_standard.specs.Lines.{CutSays, LinesSay}
-use Rattle.sip_message.specs.Lines.{HasNoBareEnd, with_end}
+use Rattle.sip_message.specs.inner.Lines.{HasNoBareEnd, with_end}
 use Rattle.sip_standard.specs.StartLine.{StartLine}
-use Rattle.sip_message.specs.StartLine.{StartText}
-use Rattle.sip_message.specs.Field.{Field, FieldText, FieldsText}
+use Rattle.sip_message.specs.inner.StartLine.{StartText}
+use Rattle.sip_message.specs.Field.{Field}
+use Rattle.sip_message.specs.inner.FieldText.{FieldText, FieldsText}
 use Rattle.sip_message.specs.declared.asked.Asked.{Asked}
 use Rattle.sip_message.specs.inner.Asked.{AsksMore}
 

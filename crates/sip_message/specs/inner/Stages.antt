@@ -12,7 +12,7 @@ use Rattle.sip_message.specs.inner.Faults.{BodyOf}
 use Rattle.sip_standard.specs.Outcome.{gives}
 use Rattle.sip_standard.specs.Says.{IsFirstOf}
 use Rattle.sip_message.specs.Elements.{values}
-use Rattle.sip_message.specs.Reading.{CSeqValue}
+use Rattle.sip_message.specs.inner.Values.{CSeqValue}
 use Rattle.sip_message.specs.ValueParts.{start_parts, cseq_parts}
 use Rattle.sip_message.specs.ViaParts.{element}
 use Rattle.sip_message.specs.inner.ElementFronts.{FirstVia}

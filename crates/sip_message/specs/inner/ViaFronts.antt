@@ -3,7 +3,7 @@ use Rattle.std.specs.Prelude.{◌≡◌, ◌⊎◌, ℕ, List, ◌++◌, Option,
 use Rattle.std.specs.Borrow.{Bor}
 use Rattle.sip_standard.specs.Profile.{Token, Port}
 use Rattle.sip_text.specs.Bytes.{colon}
-use Rattle.sip_text.specs.Case.{SameText}
+use Rattle.sip_text.specs.inner.Case.{SameText}
 use Rattle.sip_text.specs.Host.{HostParts, HostText, host_parts}
 use Rattle.sip_text.specs.declared.host.Host.{Host}
 use Rattle.sip_message.specs.Via.{ViaParts, IsBranch}
@@ -33,7 +33,7 @@ abbrev pub BranchFront : List ℕ → Option (List ℕ) × List ℕ → Type 0
 BranchFront text (branch, rest) =
     (params : List Param) × AllParamsFront text (params, rest) × IsBranch params branch
 
--- the same with the text of the parameters, from their first ";" on
+-- *( SEMI via-params ) with its branch and its text, which begins at the first ";", and what is left
 abbrev pub TailFront : List ℕ → (List ℕ × Option (List ℕ)) × List ℕ → Type 0
 TailFront text (tail, rest) =
     BranchFront text (tail.1, rest) × ((front : List ℕ) × (text ≡ front ++ rest) × Behind front (tail.0))

@@ -130,6 +130,18 @@ marked_advance moment marked marks old new long are members up n a b was is =
       | inr same ↦ inr (same.1, are n a was (not_marked marks n (omega arith) (λ mark. same.0 ((members n).1 mark))))
     ]
 
+-- all have waited where all are marked
+pub all_advance : (moment : ℕ) (marked : List ℕ) (marks : List Bool) (old new : List AnySet) → length marks ≡ length old → All (λ is_marked. is_marked ≡ true) marks
+    → ((n : ℕ) → Contains marked n ↔ IsMarked marks n) → AdvancesAt moment marked old new
+    → (n : ℕ) (a b : AnySet) → slice_get old n ≡ Some a → slice_get new n ≡ Some b → SetWaits moment a b
+all_advance moment marked marks old new long all members up n a b was is =
+    let low = slice_get_within old n a was in
+    let inside : n < length marks = omega (arith, low, long) in
+    elim (up.each n a b was is) [
+      | inl waited ↦ waited.1
+      | inr same ↦ absurd (same.0 ((members n).1 (slice_get-get_or marks n true inside ∙ ap Some (all n true inside))))
+    ]
+
 -- some have
 pub some_advance : (moment : ℕ) (indices : List ℕ) (old new : List AnySet) → AdvancesAt moment indices old new
     → (n : ℕ) (a b : AnySet) → slice_get old n ≡ Some a → slice_get new n ≡ Some b → IsAdvanced moment a b ⊎ (b ≡ a)
@@ -192,7 +204,7 @@ not_unmarked marks index n mark = elim (set_place marks index n false true mark)
 abbrev pub AreAmong : List Bool → List Bool → Type 0
 AreAmong marks moved = (index : ℕ) → IsMarked marks index → IsMarked moved index
 
--- so it is with one more index that neither marks
+-- one list of marks lies within another with one more index too that neither marks
 pub within_push : (marks moved : List Bool) → length marks ≡ length moved → AreAmong marks moved → AreAmong (marks ++ false ∷ []) (moved ++ false ∷ [])
 within_push marks moved long within index mark =
     elim (push_place marks index false true mark) [
@@ -229,7 +241,7 @@ within_set marks moved at b long within index mark =
 pub start_names : (p : Times) (key : KeyParts) → numbers_of (start_of p key) ≡ []
 start_names p key = start_silent p (machine_of_key p.rules key)
 
--- and is quiet
+-- a set that starts is quiet
 pub start_quiet : (p : Times) (key : KeyParts) → IsQuietSet (start_of p key)
 start_quiet p key = start_is_quiet p (machine_of_key p.rules key)
 
@@ -302,7 +314,7 @@ pub always_ok : {A E : Type 0} (r : Result A E) (P : Type 0) → P → OnOk r P
 always_ok (Ok x) P p = p
 always_ok (Err e) P p = tt
 
--- and of an error
+-- what holds whatever is answered holds of an error
 pub always_err : {A E : Type 0} (r : Result A E) (P : Type 0) → P → OnErr r P
 always_err (Ok x) P p = tt
 always_err (Err e) P p = p

@@ -1,3 +1,4 @@
+-- The agenda: until when each transaction can wait, by its index, and as lines in the order of the moments.
 use Rattle.std.proofs.Common.{◌≡◌, ◌↔◌, ◌≤◌, ◌<◌, ℕ, Bool, true, false, cond, ◌==◌, ◌&&◌, List, [], ◌∷◌, length, Option, Some, None, IfSome, position, slice_get, get_or, refl, sym, ap, subst, ◌∙◌, true≢false, arith, ◌⊎◌, inl, inr}
 use Rattle.std.proofs.lemmas.Grind.{common_steps}
 use Rattle.std.proofs.lemmas.List.Quantifiers.{position-Some}
@@ -14,13 +15,11 @@ use Rattle.std.specs.BTreeSet.{BTreeSet, contains}
 use Rattle.sip_states.specs.Agenda.{Records, is_overdue}
 use Rattle.sip_states.specs.inner.Lines.{line_cmp, HasLine, IsInOrder, IsLineOf, Enters, Leaves}
 
--- The records of the agenda, and its lines.
-
 -- lines compare Equal where both of their numbers are the same
 line_tied : (a b : ℕ × ℕ) → is_eq (line_cmp a b) ≡ ((a.0 == b.0) && (a.1 == b.1))
 line_tied a b = sym (both_tied (a.0 == b.0) (a.1 == b.1) (nat_cmp a.0 b.0) (nat_cmp a.1 b.1) (unsigned_ties a.0 b.0) (unsigned_ties a.1 b.1))
 
--- so the line that an index has is told by the order
+-- a line compares Equal with the line of an index exactly if it is that line
 own_line : (index last : ℕ) (limit : Option ℕ) → limit ≡ Some last → (line : ℕ × ℕ) → Decides (is_eq (line_cmp (last, index) line)) (IsLineOf index limit line)
 own_line index last limit has line = (
   λ e. (let h = sym (line_tied (last, index) line) ∙ e in

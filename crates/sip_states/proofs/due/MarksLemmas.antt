@@ -256,7 +256,7 @@ popped order places count is last p whole at high =
           );
     }
 
--- and the others are marked as before
+-- the other indices are marked as before
 pub popped_marks : (order places : List ℕ) (count : ℕ) (is : IsPlaced order places count) (last p : ℕ) → length order ≡ last + 1 → p ≡ get_or places last 0 → count ≤ p
     → marks places count ≡ marks (take last (exchanged_places order places p last)) count ++ false ∷ []
 popped_marks order places count is last p whole at high =

@@ -1,3 +1,4 @@
+-- What `AnySet` says of waiting and of an event, put together from the clauses of `StateSet`.
 use Rattle.std.proofs.Common.{◌≡◌, ◌≤◌, ◌+◌, ℕ, Result, Ok, Err, OnOk, length}
 use Rattle.sip_machine.specs.NumberedEvent.{NumberedEvent}
 use Rattle.sip_machine.specs.Texts.{Texts, IsBook}

@@ -12,7 +12,8 @@ use Rattle.sip_machine.specs.inner.FigureLaws.{rules_lawful}
 use Rattle.sip_machine.specs.inner.OwingLaws.{owing_by_names, quiet_stands}
 use Rattle.sip_states.specs.Held.{Held}
 use Rattle.sip_standard.specs.KeyMachine.{MachineKind, transaction_of}
-use Rattle.sip_states.specs.KeySets.{coded_of, coded_holds, PhaseOf, key_rules, StateOf, set_of, held_of, held_is, set_is, start_is, start_of_machine, of_machine, to_machine, of_one_machine}
+use Rattle.sip_states.specs.KeySets.{coded_of, PhaseOf, key_rules, StateOf, set_of, held_of, start_of_machine}
+use Rattle.sip_states.proofs.keyed.KeySetLaws.{coded_holds, held_is, set_is, start_is, of_machine, to_machine, of_one_machine}
 use Rattle.sip_states.specs.Meaning.{Meaning}
 use Rattle.sip_states.specs.AnySet.{meaning_of, IsQuietIn, IsQuietSet, OfHeld, OfSet, OfHelds, OfSets, moment_of}
 use Rattle.sip_states.specs.Sweep.{names_of, numbers_of, AppendsNumbers}

@@ -1,10 +1,11 @@
--- Numbers that were appended, one state after another.
-use Rattle.std.specs.Prelude.{◌≡◌, ◌↔◌, ◌+◌, ◌<◌, ℕ, List, [], ◌∷◌, ◌++◌, Contains, flat_map, take, length}
+-- Numbers that were appended, one state after another, and what states name.
+use Rattle.std.specs.Prelude.{◌≡◌, ◌≢◌, ◌↔◌, ◌+◌, ◌<◌, ℕ, Option, Some, None, List, [], ◌∷◌, ◌++◌, Contains, flat_map, take, length, option_to_list}
 use Rattle.std.proofs.Common.{inl, inr, sym, ◌∙◌, ap, subst, append_assoc, get_or, refl, arith}
 use Rattle.std.proofs.lemmas.List.{append-nil, take_more}
 use Rattle.std.proofs.lemmas.List.Concat.{flat_map-append}
 use Rattle.std.proofs.lemmas.List.Elements.{Contains-append_left, Contains-append_right, Contains-append_cases, Contains-get_or}
 use Rattle.sip_machine.specs.Naming.{AppendsAll}
+use Rattle.sip_machine.specs.Owing.{CodeOwing, at_rest, owing_names}
 use Rattle.sip_machine.proofs.texts.TextLaws.{Contains-nil, Contains-cons_cases}
 
 -- the members of two lists, one after the other
@@ -24,6 +25,30 @@ appends_more names items i d old mid new low first second = (
       ∙ ap (λ ns. flat_map names (take i items) ++ ns) (append-nil (names (get_or items i d)))))
       (append_members first.0 second.0 (flat_map names (take i items)) (names (get_or items i d)) first.2 second.2 n),
 )
+
+-- what the first states name, and one more
+named_more : {S : Type 0} (names : S → List ℕ) (items : List S) (i : ℕ) (d : S) → i < length items → flat_map names (take (i + 1) items) ≡ flat_map names (take i items) ++ names (get_or items i d)
+named_more names items i d low =
+    ap (flat_map names) (take_more items i d low) ∙ flat_map-append names (take i items) (get_or items i d ∷ []) ∙ ap (λ ns. flat_map names (take i items) ++ ns) (append-nil (names (get_or items i d)))
+
+-- one that none of them names
+pub unnamed_more : {S : Type 0} (names : S → List ℕ) (items : List S) (i : ℕ) (d : S) (n : ℕ) → i < length items → ¬ Contains (flat_map names (take i items)) n
+    → ¬ Contains (names (get_or items i d)) n → ¬ Contains (flat_map names (take (i + 1) items)) n
+unnamed_more names items i d n low first more has =
+    elim (Contains-append_cases (flat_map names (take i items)) (names (get_or items i d)) n (subst (λ ns. Contains ns n) (named_more names items i d low) has)) [
+      | inl early ↦ first early
+      | inr late ↦ more late
+    ]
+
+-- a state that owes nothing names what its phase does
+pub rest_names : {S : Type 0} (names : S → List ℕ) (x : CodeOwing S) (phase : S) (message : Option ℕ) → x ≡ at_rest phase → option_to_list message ≡ names phase
+    → owing_names names x ≡ option_to_list message
+rest_names names x phase message is at = ap (owing_names names) is ∙ append-nil (names phase) ∙ sym at
+
+-- a state that names one message at most names no other number
+pub only_named : (message : Option ℕ) (number : ℕ) → message ≢ Some number → ¬ Contains (option_to_list message) number
+only_named None number other has = Contains-nil number has
+only_named (Some m) number other has = elim (Contains-cons_cases m [] number has) [ inl same ↦ other (ap Some same) | inr none ↦ Contains-nil number none ]
 
 -- numbers of which none was appended are none
 pub names_nothing : (numbers old new : List ℕ) → old ≡ [] → new ≡ [] → AppendsAll numbers old new → numbers ≡ []

@@ -5,12 +5,13 @@ use Rattle.sip_standard.specs.declared.action.Action.TheVariants.{Restart}
 use Rattle.sip_standard.specs.Times.{Times}
 use Rattle.sip_machine.specs.Texts.{Texts}
 use Rattle.sip_standard.specs.MachineEvent.{MachineEvent}
-use Rattle.sip_machine.specs.Rules.{Rules, IsLawful, StandFor, Knows}
+use Rattle.sip_machine.specs.Rules.{MachineRules, IsLawful, StandFor, Knows}
 use Rattle.sip_standard.specs.Figure.{Figure, Owing, quiet, Restarts, Steps}
 use Rattle.sip_states.specs.Runs.{Wait, RunGives}
 use Rattle.sip_states.specs.Held.{Held}
 use Rattle.sip_standard.specs.KeyMachine.{MachineKind, transaction_of}
-use Rattle.sip_states.specs.KeySets.{coded_holds, PhaseOf, StateOf, key_rules}
+use Rattle.sip_states.specs.KeySets.{PhaseOf, StateOf, key_rules}
+use Rattle.sip_states.proofs.keyed.KeySetLaws.{coded_holds}
 use Rattle.sip_states.specs.AnySet.{meaning_of, IsQuietIn}
 use Rattle.sip_states.proofs.sets.Waiting.{StaysFrom, EndsFrom, IsWithin-none, IsOpenAt-none, Wait-stay, Wait-cases}
 use Rattle.sip_states.proofs.keyed.ByMachine.{first_of, last_of, first_is_of, last_is_of, first_knows, last_knows, lawful_of}
@@ -23,7 +24,7 @@ restarts_once f x y z (inl (idle, y_is)) (inr (other, z_is)) = absurd (other (ap
 restarts_once f x y z (inr (busy, y_is)) (inl (same, z_is)) = z_is ∙ ap quiet (sym same ∙ ap (λ s. s.phase) y_is) ∙ sym y_is
 restarts_once f x y z (inr (busy, y_is)) (inr (other, z_is)) = z_is ∙ sym y_is
 
-module _ {X : Type 0} (r : Rules X) (lawful : IsLawful r) (q : X) (endless : r.window q ≡ None) (stays : r.until q ≡ None) where
+module _ {X : Type 0} (r : MachineRules X) (lawful : IsLawful r) (q : X) (endless : r.window q ≡ None) (stays : r.until q ≡ None) where
   -- a state without an end and without a last moment is waited in for ever, and nothing else comes of it
   pub wait_still : (C : X → Type 0) → ((x : X) → C x ↔ (x ≡ q)) → (h n : ℕ) → h ≤ n → (y : X) → Wait r C h n y ↔ (y ≡ q)
   wait_still C only h n low y = (
@@ -39,7 +40,7 @@ module _ {X : Type 0} (r : Rules X) (lawful : IsLawful r) (q : X) (endless : r.w
 idle_restarts : {X : Type 0} (f : Figure X) (y : Owing X) → Restarts f (quiet f.idle) y ↔ (y ≡ quiet f.idle)
 idle_restarts f y = (λ h. elim h [ inl same ↦ same.1 | inr other ↦ absurd (other.0 refl) ], λ is. inl (refl, is))
 
--- and from the ended one
+-- a restart leaves the ended state as it is
 ended_restarts : {X : Type 0} (f : Figure X) → (f.ended ≡ f.idle) ⊎ ¬ (f.ended ≡ f.idle) → (y : Owing X) → Restarts f (quiet f.ended) y ↔ (y ≡ quiet f.ended)
 ended_restarts f decided y = (
   λ h. elim h [ inl same ↦ same.1 ∙ ap quiet (sym same.0) | inr other ↦ other.1 ],
@@ -110,7 +111,7 @@ quiet_still p machine texts s (inl is) = (first_of machine, is, first_still p ma
 quiet_still p machine texts s (inr is) = (last_of machine, is, last_still p machine texts)
 
 module _ (p : Times) (machine : MachineKind) (texts : Texts) (x : StateOf machine) (still : IsStill p machine texts x) where
-  abbrev r : Rules (PhaseOf machine)
+  abbrev r : MachineRules (PhaseOf machine)
   r = (meaning_of machine).rules p
 
   abbrev q : PhaseOf machine
@@ -123,7 +124,7 @@ module _ (p : Times) (machine : MachineKind) (texts : Texts) (x : StateOf machin
   pub waits_still : (h n : ℕ) → h ≤ n → (y : PhaseOf machine) → Wait r Alone h n y ↔ (y ≡ q)
   waits_still h n low y = wait_still r (lawful_of machine p) q still.endless still.stays Alone (λ z. Contains-single q z) h n low y
 
-  -- and a restart leaves it
+  -- a restart leaves a set that stands in idle alone
   pub restart_still : (h : ℕ) (e : MachineEvent) → e.action ≡ Restart → h ≤ e.moment
       → StandFor (meaning_of machine).names (meaning_of machine).in_range (meaning_of machine).seen texts (RunGives r (Wait r Alone h e.moment) e) (x ∷ [])
   restart_still h e is low = record {

@@ -6,7 +6,8 @@ use Rattle.sip_machine.specs.Texts.{Texts}
 use Rattle.sip_states.specs.Runs.{IsAgenda}
 use Rattle.sip_states.specs.Held.{Held}
 use Rattle.sip_standard.specs.KeyMachine.{MachineKind, machine_of_key}
-use Rattle.sip_states.specs.KeySets.{StateOf, start_is, start_of_machine}
+use Rattle.sip_states.specs.KeySets.{StateOf, start_of_machine}
+use Rattle.sip_states.proofs.keyed.KeySetLaws.{start_is}
 use Rattle.sip_states.specs.Meaning.{HasAgenda}
 use Rattle.sip_states.specs.AnySet.{IsAgendaOf, meaning_of, start_of}
 use Rattle.sip_states.specs.declared.any_set.AnySet.{AnySet}

@@ -1,3 +1,4 @@
+-- Lists of keys with their sets: where a key stands, and what a write by index changes.
 use Rattle.std.proofs.Common.{◌≡◌, ◌≢◌, ◌<◌, ◌+◌, ◌-◌, ℕ, zero, suc, Bool, true, false, cond, List, [], ◌∷◌, Option, Some, None, is_some, position, slice_get, slice_set, All, get_or, refl, sym, ap, subst, ◌∙◌, true≢false, arith}
 use Rattle.std.proofs.lemmas.List.Quantifiers.{position-Some}
 use Rattle.std.proofs.lemmas.Option.{slice_get-get_or}
@@ -5,8 +6,6 @@ use Rattle.std.specs.Map.{keys_of, values_of, lookup}
 use Rattle.indexmap.specs.Layout.{set_value_at}
 use Rattle.sip_standard.specs.Key.{KeyParts, same_key}
 use Rattle.sip_key.specs.inner.KeyLaws.{same_key-decides}
-
--- Lists of keys with their sets.
 
 some-is-none : {X : Type 0} (x : X) → Some x ≡ None → ⊥
 some-is-none x e = cc
@@ -17,7 +16,7 @@ slice_get-position keys key i at =
     let found = position-Some (same_key key) keys i key at in
     slice_get-get_or keys i key found.0 ∙ ap Some (sym ((same_key-decides key (get_or keys i key)).0 found.1))
 
--- and its number is one more
+-- the number of a key is one more than its index
 pub number-found : (keys : List KeyParts) (key : KeyParts) (i : ℕ) → position (same_key key) keys ≡ Some i → (0 < i + 1) × (slice_get keys (i + 1 - 1) ≡ Some key)
 number-found keys key i at =
     let back : i ≡ i + 1 - 1 = omega arith in
@@ -33,7 +32,7 @@ All-absent {X} (e ∷ es) key none = at (same_key key e.0) refl (All-absent es k
     at false p rest zero d l = λ same. true≢false (sym ((same_key-decides key e.0).1 (sym same)) ∙ p)
     at false p rest (suc k) d l = rest (subst (λ b. cond b (Some e.1) (lookup (same_key key) es) ≡ None) p none) k d (omega (arith, l))
 
--- and a key that none of them is, is not found
+-- a key that none of the keys is, is not found
 pub lookup-absent : {X : Type 0} (es : List (KeyParts × X)) (key : KeyParts) → All (λ k. k ≢ key) (keys_of es) → lookup (same_key key) es ≡ None
 lookup-absent [] key absent = refl
 lookup-absent {X} (e ∷ es) key absent =

@@ -1,11 +1,10 @@
+-- The first of each kind from an index on: they are just the elements from there on, each once.
 use Rattle.std.specs.Prelude.{◌≡◌, ◌≢◌, ◌↔◌, ◌≤◌, ◌<◌, ◌+◌, ◌-◌, ℕ, List, AllPairs, Contains, drop, get_or, length, map}
 use Rattle.std.proofs.Common.{◌∙◌, sym, ap, subst, arith}
 use Rattle.std.proofs.lemmas.List.{get_or-drop, get_or-map, get_or_default, length-drop, length-map}
 use Rattle.std.proofs.lemmas.List.Elements.{All-contains}
 use Rattle.sip_machine.specs.Pools.{AreFirstOnes, picked}
 use Rattle.sip_states.proofs.lists.Listed.{Contains-map, Contains-from_map}
-
--- The first of each kind from an index on.
 
 module _ {S : Type 0} (ys : List S) (first : ℕ) (rows : List ℕ) (x : S) (ones : AreFirstOnes ys first (length ys) rows) where
   abbrev at : ℕ → S
@@ -34,7 +33,7 @@ module _ {S : Type 0} (ys : List S) (first : ℕ) (rows : List ℕ) (x : S) (one
   pub picked-members : (z : S) → Contains (picked ys x rows) z ↔ Contains (drop first ys) z
   picked-members z = (picked-there z, there-picked z)
 
-  -- each once
+  -- each of them is picked once
   pub picked-distinct : AllPairs (λ a b. a ≢ b) (picked ys x rows)
   picked-distinct = λ i j d low high same.
       let size : length (picked ys x rows) ≡ length rows = length-map rows at in

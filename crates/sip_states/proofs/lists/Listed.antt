@@ -1,8 +1,7 @@
+-- What is in a list, and in its image under a function.
 use Rattle.std.proofs.Common.{◌≡◌, ◌↔◌, ◌∙◌, ◌⊎◌, inl, inr, zero, suc, List, [], ◌∷◌, Contains, ◌≤◌, length, filter, Bool, true, false, cond, not, map, refl, sym, ap, arith}
 use Rattle.std.proofs.lemmas.List.{get_or-map, length-map}
 use Rattle.std.proofs.lemmas.List.Filters.{length-filter_both}
-
--- What is in a list, and in its image under a function.
 
 -- an empty list has none
 pub Contains-none : {X : Type 0} (x : X) → Contains [] x → ⊥
@@ -12,11 +11,11 @@ Contains-none x (k, low, is) = omega arith
 pub Contains-here : {X : Type 0} (x : X) (xs : List X) → Contains (x ∷ xs) x
 Contains-here x xs = (0, omega arith, refl)
 
--- and each of the others
+-- a list has each element of what comes after its first
 pub Contains-there : {X : Type 0} (y : X) (xs : List X) (x : X) → Contains xs x → Contains (y ∷ xs) x
 Contains-there y xs x (k, low, is) = (suc k, omega arith, is)
 
--- and no more
+-- a list has its first element and what comes after it, and no more
 pub Contains-cons : {X : Type 0} (y : X) (xs : List X) (x : X) → Contains (y ∷ xs) x → (y ≡ x) ⊎ Contains xs x
 Contains-cons y xs x (zero, low, is) = inl is
 Contains-cons y xs x (suc k, low, is) = inr (k, omega arith, is)
@@ -55,7 +54,7 @@ module _ {X : Type 0} (test : X → Bool) (x : X) where
           ]
       step false e rest h' = let r = rest h' in (Contains-there y ys x r.0, r.1)
 
-  -- and what passes is kept
+  -- what passes the test is kept by the filter
   keeps : (xs : List X) → Contains xs x → test x ≡ true → Contains (filter test xs) x
   keeps [] h passes = absurd (Contains-none x h)
   keeps (y ∷ ys) h passes = step (test y) refl (Contains-cons y ys x h) (λ later. keeps ys later passes)
@@ -66,7 +65,7 @@ module _ {X : Type 0} (test : X → Bool) (x : X) where
       step false e (inl same) rest = absurd (cc (ap test same))
       step false e (inr later) rest = rest later
 
-  -- so a filter keeps just the elements that pass
+  -- a filter keeps just the elements that pass
   pub Contains-filter : (xs : List X) → Contains (filter test xs) x ↔ (Contains xs x × (test x ≡ true))
   Contains-filter xs = (kept xs, λ h. keeps xs h.0 h.1)
 

@@ -1,12 +1,11 @@
+-- Two waits, one after the other, lead to the same states as one over the whole time.
 use Rattle.std.proofs.Common.{◌≤◌, ◌↔◌, inl, inr, ℕ, arith}
 use Rattle.std.proofs.Math.Decide.{dec_le}
-use Rattle.sip_machine.specs.Rules.{Rules, IsLawful, Waits}
+use Rattle.sip_machine.specs.Rules.{MachineRules, IsLawful, Waits}
 use Rattle.sip_states.specs.Runs.{Wait}
 use Rattle.sip_states.proofs.sets.Waiting.{StaysFrom, EndsFrom, IsWithin-earlier, IsWithin-none, Wait-stay, Wait-end, Wait-cases, ends_once}
 
--- One wait or two.
-
-module _ {X : Type 0} (r : Rules X) (lawful : IsLawful r) (P : X → Type 0) (h m n : ℕ) (low : h ≤ m) (high : m ≤ n) where
+module _ {X : Type 0} (r : MachineRules X) (lawful : IsLawful r) (P : X → Type 0) (h m n : ℕ) (low : h ≤ m) (high : m ≤ n) where
   -- after a first wait, staying is one wait
   stay_after : (y : X) → Wait r P h m y → Waits r y n → Wait r P h n y
   stay_after y w waits =

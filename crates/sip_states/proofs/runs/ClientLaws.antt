@@ -3,7 +3,7 @@ use Rattle.std.proofs.Common.{◌≡◌, ◌≤◌, ◌⊎◌, inl, inr, ℕ, Bo
 use Rattle.std.specs.Prelude.{⊤}
 use Rattle.std.proofs.Math.Decide.{dec_le}
 use Rattle.sip_standard.specs.declared.role.Role.TheVariants.{Client}
-use Rattle.sip_standard.specs.declared.rules.Rules.{Rules as BuiltBy}
+use Rattle.sip_standard.specs.declared.rules.Rules.{Rules}
 use Rattle.sip_standard.specs.declared.rules.Rules.TheVariants.{R3261, R6026}
 use Rattle.sip_standard.specs.declared.action.Action.{Action}
 use Rattle.sip_standard.specs.declared.action.Action.TheVariants.{Sent, Received, Failed, Mark, Restart}
@@ -86,18 +86,18 @@ module _ {X : Type 0} (f : Figure X) (p : Times) (rank : X → ℕ) (ranked : Is
       (opens : (e : MachineEvent) (x y : Owing X) → Emits f p e x y → IsFirst e.kind → 1 ≤ rank y.phase)
       (finishes : (code : ℕ) (e : MachineEvent) (x y : Owing X) → Steps f p Received e x y → e.kind ≡ Response code → IsFinal code → 1 ≤ rank x.phase → 2 ≤ rank y.phase)
       (sends : (e : MachineEvent) (x y : Owing X) → Emits f p e x y → 2 ≤ rank x.phase → IsSent e.kind) where
-    after_final : (before between behind : List MachineEvent) (request final e : MachineEvent) (code : ℕ) (y : Owing X) → request.action ≡ Sent → IsFirst request.kind →
+    after_final : (before between later : List MachineEvent) (request final e : MachineEvent) (code : ℕ) (y : Owing X) → request.action ≡ Sent → IsFirst request.kind →
         final.action ≡ Received → final.kind ≡ Response code → IsFinal code → e.action ≡ Sent →
-        AfterRun (rules_of_figure f p) (before ++ request ∷ (between ++ final ∷ behind)) e y → IsSent e.kind
-    after_final before between behind request final e code y request_sent first final_received is_response is_final e_sent after =
+        AfterRun (rules_of_figure f p) (before ++ request ∷ (between ++ final ∷ later)) e y → IsSent e.kind
+    after_final before between later request final e code y request_sent first final_received is_response is_final e_sent after =
         let r = rules_of_figure f p in
         let last = Goes-last r r.first 0 after.steps (Takes e) y after.goes in
-        let one = Goes-through r r.first 0 after.steps last.before last.at before request (between ++ final ∷ behind) last.goes after.takes in
-        let two = Goes-through r one.behind request.moment one.steps last.before last.at between final behind one.goes one.takes in
-        let opened = opens request (when f p request one.before) one.behind (step_of f p Sent request one.before one.behind request_sent one.does) first in
-        let risen = goes_keep f p (λ x. 1 ≤ rank x) (rank_kept 1 (omega arith)) one.behind request.moment two.front two.before two.at two.to opened in
-        let finished = finishes code final (when f p final two.before) two.behind (step_of f p Received final two.before two.behind final_received two.does) is_response is_final risen in
-        let still = goes_keep f p (λ x. 2 ≤ rank x) (rank_kept 2 (omega arith)) two.behind final.moment two.steps last.before last.at two.goes finished in
+        let one = Goes-through r r.first 0 after.steps last.before last.at before request (between ++ final ∷ later) last.goes after.takes in
+        let two = Goes-through r one.reached request.moment one.steps last.before last.at between final later one.goes one.takes in
+        let opened = opens request (when f p request one.before) one.reached (step_of f p Sent request one.before one.reached request_sent one.does) first in
+        let risen = goes_keep f p (λ x. 1 ≤ rank x) (rank_kept 1 (omega arith)) one.reached request.moment two.front two.before two.at two.to opened in
+        let finished = finishes code final (when f p final two.before) two.reached (step_of f p Received final two.before two.reached final_received two.does) is_response is_final risen in
+        let still = goes_keep f p (λ x. 2 ≤ rank x) (rank_kept 2 (omega arith)) two.reached final.moment two.steps last.before last.at two.goes finished in
         sends e (when f p e last.before) y (step_of f p Sent e last.before y e_sent last.does) still
 
 -- the row of a received message leads on, where there is one
@@ -204,10 +204,10 @@ invite_sends p e x y (inl (row, is_row, to)) low = invite_sends_row p x.phase e.
 invite_sends p e x y (inr (inr (stays, same))) low = absurd stays
 invite_sends p e x y (inr (inl (left, pays, to))) low = inl (pays_ack x.phase e.kind e pays.first.message pays.holds.0)
 
--- after a final response of its INVITE a client sends ACK and CANCEL alone
-pub invite_after_final : (p : Times) (before between behind : List MachineEvent) (request final e : MachineEvent) (code : ℕ) (y : Owing invite.InviteClientPhase) → request.action ≡ Sent → request.kind ≡ Request Invite →
+-- by the rules of RFC 6026 a client that has received a final response to its INVITE sends ACK and CANCEL alone
+pub invite_after_final : (p : Times) (before between later : List MachineEvent) (request final e : MachineEvent) (code : ℕ) (y : Owing invite.InviteClientPhase) → request.action ≡ Sent → request.kind ≡ Request Invite →
     final.action ≡ Received → final.kind ≡ Response code → IsFinal code → e.action ≡ Sent →
-    AfterRun (key_rules p OfInviteClient) (before ++ request ∷ (between ++ final ∷ behind)) e y → (e.kind ≡ Request Ack) ⊎ (e.kind ≡ Request Cancel)
+    AfterRun (key_rules p OfInviteClient) (before ++ request ∷ (between ++ final ∷ later)) e y → (e.kind ≡ Request Ack) ⊎ (e.kind ≡ Request Cancel)
 invite_after_final p =
     after_final invite.invite_client p invite_rank (invite_ranked p) (λ k. k ≡ Request Invite) (λ k. (k ≡ Request Ack) ⊎ (k ≡ Request Cancel)) (invite_opens p)
     (λ code e x y h is final low. invite_finishes p code e y is final x.phase x.owes low h) (invite_sends p)
@@ -253,7 +253,7 @@ module _ (p : Times) (one : MachineEvent) where
   awaits_opens y (inr (inr (stays, same))) is = absurd stays
   awaits_opens y (inr (inl (left, pays, to))) is = absurd (no_invite (sym is ∙ pays_ack invite.Idle one.kind one pays.first.message pays.holds.0))
 
-  -- and again
+  -- an INVITE that is sent again has the bytes of the first one, and comes T1 after it or later
   again : (x : invite.InviteClientPhase) (e : MachineEvent) (y : Row invite.InviteClientPhase) → invite.Sends p x (Request Invite) e y → Awaits x → (e.text ≡ one.text) × (one.reliable ≡ false) × (open_at p one.moment p.t1 ≤ e.moment)
   again invite.Idle e y h holds = absurd holds
   again (invite.Calling w) e y h holds = (h.0.same ∙ holds.0, sym holds.1 ∙ h.0.unreliable, omega (arith, h.0.fires, holds.2, holds.3))
@@ -277,7 +277,7 @@ module _ (p : Times) (one : MachineEvent) where
       (subst (λ g. Steps invite.invite_client p g.action g (record { phase = invite.Idle; owes = [] }) z) same does.1.1) in
       goes_keep invite.invite_client p Awaits awaits_kept z e.moment steps y m goes (awaits_opens z emits is)
 
-  -- the INVITE that begins a run is sent again byte for byte, over an unreliable transport, and T1 later or more, the tolerance aside
+  -- by the rules of RFC 6026 the INVITE that begins a run is sent again byte for byte, over an unreliable transport, and no earlier than T1 after it, less early
   pub invite_again : (between : List MachineEvent) (e : MachineEvent) (y : Owing invite.InviteClientPhase) → one.action ≡ Sent → one.kind ≡ Request Invite → e.action ≡ Sent → e.kind ≡ Request Invite →
       AfterRun (key_rules p OfInviteClient) (one ∷ between) e y → (e.text ≡ one.text) × (one.reliable ≡ false) × (open_at p one.moment p.t1 ≤ e.moment)
   invite_again between e y one_sent one_is e_sent e_is after =
@@ -351,17 +351,17 @@ plain_sends p e x y (inl (row, is_row, to)) low = plain_sends_row p x.phase e.ki
 plain_sends p e x y (inr (inr (stays, same))) low = absurd stays
 plain_sends p e x y (inr (inl (left, pays, to))) low = pays.holds.0
 
--- after a final response of its request a client sends nothing
-plain_silent : (p : Times) (before between behind : List MachineEvent) (request final e : MachineEvent) (code : ℕ) (y : Owing plain.PlainClientPhase) → request.action ≡ Sent → IsRequest request.kind →
+-- a client that has received a final response to a request that is no INVITE sends nothing
+plain_silent : (p : Times) (before between later : List MachineEvent) (request final e : MachineEvent) (code : ℕ) (y : Owing plain.PlainClientPhase) → request.action ≡ Sent → IsRequest request.kind →
     final.action ≡ Received → final.kind ≡ Response code → IsFinal code → e.action ≡ Sent →
-    AfterRun (key_rules p OfPlainClient) (before ++ request ∷ (between ++ final ∷ behind)) e y → ⊥
+    AfterRun (key_rules p OfPlainClient) (before ++ request ∷ (between ++ final ∷ later)) e y → ⊥
 plain_silent p =
     after_final plain.plain_client p plain_rank (plain_ranked p) IsRequest (λ k. ⊥) (plain_opens p)
     (λ code e x y h is final low. plain_finishes p code e y is final x.phase x.owes low h) (plain_sends p)
 
--- by whichever rules it was built
-pub plain_after_final : (p : Times) (rules : BuiltBy) (before between behind : List MachineEvent) (request final e : MachineEvent) (code : ℕ) (y : PhaseOf (machine_of rules Client false)) →
+-- a client that has received a final response to a request that is no INVITE sends nothing, whichever rules it was built by
+pub plain_after_final : (p : Times) (rules : Rules) (before between later : List MachineEvent) (request final e : MachineEvent) (code : ℕ) (y : PhaseOf (machine_of rules Client false)) →
     request.action ≡ Sent → IsRequest request.kind → final.action ≡ Received → final.kind ≡ Response code → IsFinal code → e.action ≡ Sent →
-    AfterRun (key_rules p (machine_of rules Client false)) (before ++ request ∷ (between ++ final ∷ behind)) e y → ⊥
+    AfterRun (key_rules p (machine_of rules Client false)) (before ++ request ∷ (between ++ final ∷ later)) e y → ⊥
 plain_after_final p R6026 = plain_silent p
 plain_after_final p R3261 = plain_silent p

@@ -1,3 +1,4 @@
+-- How long one can wait in some states.
 use Rattle.std.proofs.Common.{◌≡◌, ◌≢◌, ◌≤◌, ◌↔◌, ◌⊎◌, inl, inr, ℕ, Option, Some, List, [], ◌∷◌, ◌++◌, All, max, refl, arith}
 use Rattle.std.specs.List.{Any}
 use Rattle.std.proofs.Math.Decide.{dec_le}
@@ -5,8 +6,6 @@ use Rattle.std.proofs.lemmas.List.Elements.{All-head, Contains-push, Contains-pu
 use Rattle.sip_machine.specs.Limits.{IsWithin}
 use Rattle.sip_states.specs.inner.Ways.{IsFirstEnd, CanEnd, CanReach, SomeCanReach, IsLastOf}
 use Rattle.sip_states.proofs.sets.Waiting.{IsWithin-earlier}
-
--- How long one can wait.
 
 -- a state that first ends at a moment can end by those from there on
 pub can_end_by : (window : Option (ℕ × Option ℕ)) (until : Option ℕ) (h first m : ℕ) →

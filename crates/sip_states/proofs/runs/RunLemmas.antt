@@ -1,9 +1,8 @@
+-- Runs one step at a time: a run is a run to its last event and a wait from there.
 use Rattle.std.proofs.Common.{◌≡◌, ◌≤◌, ◌↔◌, ℕ, List, [], ◌∷◌, ◌++◌, map, refl, ap, subst, ◌∙◌}
 use Rattle.sip_standard.specs.MachineEvent.{MachineEvent}
-use Rattle.sip_machine.specs.Rules.{Rules}
+use Rattle.sip_machine.specs.Rules.{MachineRules}
 use Rattle.sip_states.specs.Runs.{Step, Hides, Takes, moment_of_step, Does, Goes, Reaches, taken, Wait, RunGives, RuledRun, AfterRun}
-
--- Runs one step at a time: a run is a run to its last event and a wait from there.
 
 -- hidden steps take no event
 pub taken-hides : (ends : List ℕ) → taken (map Hides ends) ≡ []
@@ -33,7 +32,7 @@ pub record SplitAt (steps : List Step) (fs : List MachineEvent) (f : MachineEven
 here : (steps : List Step) (g f : MachineEvent) → g ≡ f → (ends : List ℕ) → steps ≡ map Hides ends → SplitAt (Takes g ∷ steps) [] f
 here steps g f first ends is = record { front = []; ends = ends; is = rw (first, is); takes = refl }
 
--- or the last event's is a later one
+-- the last event is taken by a step after the first
 later : (steps : List Step) (g k : MachineEvent) (fs : List MachineEvent) (f : MachineEvent) → g ≡ k → SplitAt steps fs f → SplitAt (Takes g ∷ steps) (k ∷ fs) f
 later steps g k fs f first s = record { front = Takes g ∷ s.front; ends = s.ends; is = ap (λ more. Takes g ∷ more) s.is; takes = rw (first, s.takes) }
 
@@ -46,7 +45,7 @@ split_last (Hides t ∷ steps) fs f e =
 split_last (Takes g ∷ steps) [] f e = let none = none_taken steps (cc) in here steps g f (cc) none.0 none.1
 split_last (Takes g ∷ steps) (k ∷ fs) f e = later steps g k fs f (cc) (split_last steps fs f (cc))
 
-module _ {X : Type 0} (r : Rules X) where
+module _ {X : Type 0} (r : MachineRules X) where
   -- steps to one in the middle, and the steps from there
   pub record Passes (x : X) (h : ℕ) (front : List Step) (step : Step) (rest : List Step) (y : X) (m : ℕ) : Type 0 where
     pub middle : X
@@ -151,7 +150,7 @@ module _ {X : Type 0} (r : Rules X) where
     λ g. (After-run [] e y).1 (record { before = g.before; among = (Run-wait_first e.moment g.before).1 g.among; takes = g.takes }),
   )
 
-  -- and those after one more are what it gives from where one waits in the last states before
+  -- the last states after one event more are what it gives from where one waits in the last states before
   pub After-next : (events : List MachineEvent) (e f : MachineEvent) (y : X) → AfterRun r (events ++ e ∷ []) f y ↔ RunGives r (Wait r (AfterRun r events e) e.moment f.moment) f y
   After-next events e f y = (
     λ after. let g = (After-run (events ++ e ∷ []) f y).0 after in record { before = g.before; among = (Run-wait events e f.moment g.before).0 g.among; takes = g.takes },

@@ -3,7 +3,7 @@ use Rattle.std.proofs.Common.{◌≡◌, ◌⊎◌, inl, inr, ℕ, suc, Bool, tr
 use Rattle.std.specs.List.{Any}
 use Rattle.sip_standard.specs.declared.action.Action.{Action}
 use Rattle.sip_standard.specs.declared.role.Role.TheVariants.{Server}
-use Rattle.sip_standard.specs.declared.rules.Rules.{Rules as BuiltBy}
+use Rattle.sip_standard.specs.declared.rules.Rules.{Rules}
 use Rattle.sip_standard.specs.declared.rules.Rules.TheVariants.{R3261, R6026}
 use Rattle.sip_standard.specs.declared.action.Action.TheVariants.{Sent, Received, Failed, Mark, Restart}
 use Rattle.sip_standard.specs.declared.kind.Method.{Method}
@@ -56,7 +56,7 @@ module _ {X : Type 0} (f : Figure X) (p : Times) (asleep : IsAsleep f p) where
   stays_or_asked e y Restart is (inl (idle, same)) = inl same
   stays_or_asked e y Restart is (inr (other, ends)) = absurd (other refl)
 
-  -- and so do several
+  -- several steps stay in idle, or take a request
   goes_stay_or_asked : (h : ℕ) (steps : List Step) (y : Owing X) (m : ℕ) → Goes (rules_of_figure f p) (quiet f.idle) h steps y m → (y ≡ quiet f.idle) ⊎ Any IsAsked (taken steps)
   goes_stay_or_asked h [] y m goes = inl goes.0
   goes_stay_or_asked h (Hides t ∷ steps) y m (z, low, hides, goes) = absurd (IsOpenAt-none t _ asleep.no_end hides.opened)
@@ -71,7 +71,7 @@ module _ {X : Type 0} (f : Figure X) (p : Times) (asleep : IsAsleep f p) where
       by_step (inl same) rest = later (rest same)
       by_step (inr asked) rest = inr (0, e, omega arith, refl, asked)
 
-  -- so what it sends comes after one
+  -- what the machine sends comes after a request
   sends_when_asked : (events : List MachineEvent) (e : MachineEvent) (y : Owing X) → AfterRun (rules_of_figure f p) events e y → e.action ≡ Sent → Any IsAsked events
   sends_when_asked events e y after sent =
       let r = rules_of_figure f p in
@@ -84,10 +84,10 @@ module _ {X : Type 0} (f : Figure X) (p : Times) (asleep : IsAsleep f p) where
       by_state x step (inr asked) = subst (Any IsAsked) after.takes asked
 
 -- the figure of a server
-abbrev server : (rules : BuiltBy) (invite : Bool) → Figure (transaction_of (machine_of rules Server invite)).Phase
+abbrev server : (rules : Rules) (invite : Bool) → Figure (transaction_of (machine_of rules Server invite)).Phase
 server rules invite = (transaction_of (machine_of rules Server invite)).figure
 
-woken : (rules : BuiltBy) (invite : Bool) (p : Times) (k : Kind) (e : MachineEvent) (y : Row (transaction_of (machine_of rules Server invite)).Phase) →
+woken : (rules : Rules) (invite : Bool) (p : Times) (k : Kind) (e : MachineEvent) (y : Row (transaction_of (machine_of rules Server invite)).Phase) →
     (server rules invite).Receives p (server rules invite).idle k e y → (method : Method) × (k ≡ Request method)
 woken rules invite p (Request method) e y h = (method, refl)
 woken R6026 true p (Response code) e y h = absurd h
@@ -96,7 +96,7 @@ woken R3261 true p (Response code) e y h = absurd h.1
 woken R3261 false p (Response code) e y h = absurd h
 
 -- each of them sleeps in its idle phase
-asleep : (rules : BuiltBy) (invite : Bool) (p : Times) → IsAsleep (server rules invite) p
+asleep : (rules : Rules) (invite : Bool) (p : Times) → IsAsleep (server rules invite) p
 asleep R6026 true p = record { no_end = refl; silent = λ k e y h. h; woken = woken R6026 true p; unmoved = λ k stays. stays }
 asleep R6026 false p = record { no_end = refl; silent = λ k e y h. h; woken = woken R6026 false p; unmoved = λ k stays. stays }
 asleep R3261 true p = record { no_end = refl; silent = λ k e y h. h; woken = woken R3261 true p; unmoved = unmoved }
@@ -107,6 +107,6 @@ asleep R3261 true p = record { no_end = refl; silent = λ k e y h. h; woken = wo
 asleep R3261 false p = record { no_end = refl; silent = λ k e y h. h; woken = woken R3261 false p; unmoved = λ k stays. stays }
 
 -- a server sends nothing before it is asked
-pub server_sends_when_asked : (p : Times) (rules : BuiltBy) (invite : Bool) (events : List MachineEvent) (e : MachineEvent) (y : PhaseOf (machine_of rules Server invite)) →
+pub server_sends_when_asked : (p : Times) (rules : Rules) (invite : Bool) (events : List MachineEvent) (e : MachineEvent) (y : PhaseOf (machine_of rules Server invite)) →
     AfterRun (key_rules p (machine_of rules Server invite)) events e y → e.action ≡ Sent → Any IsAsked events
 server_sends_when_asked p rules invite = sends_when_asked (server rules invite) p (asleep rules invite p)

@@ -124,10 +124,10 @@ module _ {X : Type 0} (f : Figure X) (is : IsFigure f) (p : Times) where
   stands-runs events m y = (stands-run events m y, run-stands events m y)
 
   -- where an event leads from there, it does by the rules
-  pub behind-after : (events : List MachineEvent) (e : MachineEvent) (y : Owing X) → StandsAfter f p events e y ↔ AfterRun (rules_of f p) events e y
-  behind-after events e y = (
-    λ behind.
-        let (x, stands, led) = behind in
+  pub stands-after : (events : List MachineEvent) (e : MachineEvent) (y : Owing X) → StandsAfter f p events e y ↔ AfterRun (rules_of f p) events e y
+  stands-after events e y = (
+    λ after.
+        let (x, stands, led) = after in
         let run = stands-run events e.moment x stands in
         (After-run (rules_of f p) events e y).1 (record { before = x; among = run; takes = (run.stands.waits, led) }),
     λ after.

@@ -1,3 +1,4 @@
+-- How the code lets a list of states wait.
 use Rattle.std.proofs.Common.{◌≡◌, ◌≢◌, ◌↔◌, inl, inr, ℕ, true, Option, Some, None, List, [], ◌∷◌, ◌++◌, All, AllPairs, Contains, filter, refl, sym, arith}
 use Rattle.std.proofs.lemmas.List.Elements.{All-filter, All-push, Contains-push, Contains-push_cases, Contains-append_left, Contains-get_or}
 use Rattle.std.proofs.lemmas.Bool.{leb-true, le-leb}
@@ -7,8 +8,6 @@ use Rattle.std.proofs.lemmas.List.Quantifiers.{all_pairs_push}
 use Rattle.sip_machine.specs.Limits.{IsWithin}
 use Rattle.sip_states.specs.inner.Ways.{is_within, SomeCanEnd, Advances}
 use Rattle.sip_states.proofs.lists.Listed.{Contains-filter, filter_shorter}
-
--- How the code lets a list of states wait.
 
 -- the test tells whether the moment is within the limit
 pub within_test : (m : ℕ) (limit : Option ℕ) → (is_within m limit ≡ true) ↔ IsWithin m limit

@@ -1,18 +1,17 @@
+-- Sets of states of the code beside the rules that they follow.
 use Rattle.std.proofs.Common.{◌≡◌, ◌≢◌, ◌↔◌, ◌≤◌, ◌<◌, inl, inr, ◌∙◌, ℕ, Option, None, ap, List, [], ◌∷◌, All, AllPairs, Contains, map, length, get_or, refl, sym, subst, arith}
 use Rattle.std.proofs.lemmas.List.{get_or-map, length-map}
 use Rattle.std.proofs.lemmas.List.Elements.{All-nil, All-contains, Contains-get_or}
 use Rattle.sip_machine.specs.Limits.{IsWithin, IsOpenAt}
 use Rattle.sip_machine.specs.Texts.{Texts, IsBook, Keeps}
-use Rattle.sip_machine.specs.Rules.{Rules, IsLawful, Waits, Knows, StandFor}
+use Rattle.sip_machine.specs.Rules.{MachineRules, IsLawful, Waits, Knows, StandFor}
 use Rattle.sip_states.specs.Runs.{Wait}
 use Rattle.sip_states.specs.inner.Ways.{SomeCanEnd, SomeCanReach, Advances}
 use Rattle.sip_states.proofs.lists.Listed.{Contains-map, Contains-from_map}
 use Rattle.sip_states.proofs.sets.Waiting.{EndsFrom, IsWithin-none, Wait-stay, Wait-end, Wait-cases}
 
--- Sets of states of the code beside the rules that they follow.
-
 -- states of the code, with their windows and last moments, follow the rules over what they stand for
-pub record Follows {X S : Type 0} (names : S → List ℕ) (seen : Texts → S → X) (r : Rules X) (ended : S) (window : S → Option (ℕ × Option ℕ)) (until : S → Option ℕ) : Type 0 where
+pub record Follows {X S : Type 0} (names : S → List ℕ) (seen : Texts → S → X) (r : MachineRules X) (ended : S) (window : S → Option (ℕ × Option ℕ)) (until : S → Option ℕ) : Type 0 where
   pub lawful : IsLawful r
   pub ended_is : (texts : Texts) → seen texts ended ≡ r.ended
   pub ended_names : names ended ≡ []
@@ -20,13 +19,13 @@ pub record Follows {X S : Type 0} (names : S → List ℕ) (seen : Texts → S �
   pub until_is : (texts : Texts) (x : S) → r.until (seen texts x) ≡ until x
   pub apart : (texts : Texts) (x y : S) → IsBook texts → Knows names texts x → Knows names texts y → seen texts x ≡ seen texts y → x ≡ y
 
-module _ {X S : Type 0} (names : S → List ℕ) (InRange : S → Type 0) (seen : Texts → S → X) (r : Rules X) (ended : S) (window : S → Option (ℕ × Option ℕ)) (until : S → Option ℕ)
+module _ {X S : Type 0} (names : S → List ℕ) (InRange : S → Type 0) (seen : Texts → S → X) (r : MachineRules X) (ended : S) (window : S → Option (ℕ × Option ℕ)) (until : S → Option ℕ)
     (follows : Follows names seen r ended window until) where
   -- the ended state of the code stays for ever
   pub ended_stays : until ended ≡ None
   ended_stays = sym (follows.until_is [] ended) ∙ ap r.until (follows.ended_is []) ∙ follows.lawful.ended_stays
 
-module _ {X S : Type 0} (names : S → List ℕ) (InRange : S → Type 0) (seen : Texts → S → X) (r : Rules X) (ended : S) (window : S → Option (ℕ × Option ℕ)) (until : S → Option ℕ)
+module _ {X S : Type 0} (names : S → List ℕ) (InRange : S → Type 0) (seen : Texts → S → X) (r : MachineRules X) (ended : S) (window : S → Option (ℕ × Option ℕ)) (until : S → Option ℕ)
     (follows : Follows names seen r ended window until) (texts : Texts) where
   -- a state of the code can wait just as long as what it stands for
   pub seen_waits : (m : ℕ) (x : S) → Waits r (seen texts x) m ↔ IsWithin m (until x)
@@ -44,7 +43,7 @@ module _ {X S : Type 0} (names : S → List ℕ) (InRange : S → Type 0) (seen 
         hides = record { opened = rw (follows.window_is texts x) can.is.opened; waited = (seen_waits can.at x).1 can.is.waited; gives = refl };
       }
 
-  -- and the other way round
+  -- where what the states stand for can end, one of the states can
   pub ends_seen : (xs : List S) (h m : ℕ) (y : X) → EndsFrom r (Contains (map (seen texts) xs)) h m y → SomeCanEnd window until h m xs
   ends_seen xs h m y e =
       let (x, (k, low, is), same) = Contains-from_map (seen texts) xs e.start e.among in (
@@ -109,7 +108,7 @@ module _ {X S : Type 0} (names : S → List ℕ) (InRange : S → Type 0) (seen 
               rw (is_ended, follows.ended_is texts) (Wait-end r follows.lawful (Contains (map (seen texts) xs)) h m r.ended (seen_ends xs h m some))
         ]
 
-    -- and each of those is what a state stands for to which it waits
+    -- each state in which one can stand after waiting is what a state stands for to which the code waits
     waited_seen : (ys : List S) → Advances InRange window until ended h m xs ys → (y : X) → Wait r (Contains (map (seen texts) xs)) h m y → Contains (map (seen texts) ys) y
     waited_seen ys a y wait =
         elim ((Wait-cases r follows.lawful (Contains (map (seen texts) xs)) h m y).0 wait) [

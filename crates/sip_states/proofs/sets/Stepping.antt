@@ -1,16 +1,15 @@
+-- How the code takes an event from a list of states.
 use Rattle.std.proofs.Common.{◌≡◌, ◌≢◌, ◌↔◌, ◌≤◌, ◌⊎◌, inl, inr, ℕ, Option, List, [], ◌∷◌, ◌++◌, All, AllPairs, Contains, ap, ap₂, arith, drop, refl, length, length-append, map, get_or, subst, ◌∙◌, ◌+◌}
 use Rattle.std.proofs.Math.Seq.{drop-append_seam, get_or-append_seam}
 use Rattle.std.proofs.lemmas.List.{get_or_append_left, map-append}
 use Rattle.std.proofs.lemmas.List.Elements.{All-append, All-contains, Contains-get_or, Contains-append_left, Contains-append_right, Contains-append_cases}
 use Rattle.sip_machine.specs.Texts.{Texts, IsBook}
 use Rattle.sip_standard.specs.MachineEvent.{MachineEvent}
-use Rattle.sip_machine.specs.Rules.{Rules, Covers, FromSome, IsLawful, Knows, StandFor}
+use Rattle.sip_machine.specs.Rules.{MachineRules, Covers, FromSome, IsLawful, Knows, StandFor}
 use Rattle.sip_states.specs.inner.Ways.{SomeCanEnd, GivesFrom, GivesAfter}
 use Rattle.sip_states.proofs.lists.Listed.{Contains-none, Contains-here, Contains-there, Contains-cons, Contains-single, Contains-map, Contains-from_map}
 use Rattle.sip_states.proofs.sets.Waiting.{Wait-stay, Wait-end, Wait-cases}
 use Rattle.sip_states.proofs.sets.Following.{Follows, seen_ends, ends_seen, distinct_seen}
-
--- How the code takes an event from a list of states.
 
 module _ {X S : Type 0} (names : S → List ℕ) (InRange : S → Type 0) (seen : Texts → S → X) (texts : Texts) where
   -- states cover a set told otherwise
@@ -35,7 +34,7 @@ module _ {X S : Type 0} (names : S → List ℕ) (InRange : S → Type 0) (seen 
       }
 
 -- what some states lead to by an event is what it gives from those of them that can wait
-pub gives_some : {X S : Type 0} (seen : Texts → S → X) (texts : Texts) (r : Rules X) (e : MachineEvent) → IsLawful r → (xs : List S) (y : X) →
+pub gives_some : {X S : Type 0} (seen : Texts → S → X) (texts : Texts) (r : MachineRules X) (e : MachineEvent) → IsLawful r → (xs : List S) (y : X) →
     FromSome (λ s. r.Take (seen texts s) e) xs y ↔ GivesFrom seen texts r xs e y
 gives_some seen texts r e lawful [] y = (λ none. absurd none, λ g. absurd (Contains-none g.before g.among.0))
 gives_some seen texts r e lawful (s ∷ xs) y =
@@ -50,7 +49,7 @@ gives_some seen texts r e lawful (s ∷ xs) y =
       ],
     )
 
-module _ {X S : Type 0} (names : S → List ℕ) (InRange : S → Type 0) (seen : Texts → S → X) (r : Rules X) (ended : S) (window : S → Option (ℕ × Option ℕ)) (until : S → Option ℕ)
+module _ {X S : Type 0} (names : S → List ℕ) (InRange : S → Type 0) (seen : Texts → S → X) (r : MachineRules X) (ended : S) (window : S → Option (ℕ × Option ℕ)) (until : S → Option ℕ)
     (follows : Follows names seen r ended window until) (texts : Texts) (xs : List S) (h : ℕ) (e : MachineEvent) (low : h ≤ e.moment) where
   -- a state that can wait is one in which one can stand
   stayed_gives : (y : X) → GivesFrom seen texts r xs e y → GivesAfter seen texts r xs h e y

@@ -1,10 +1,11 @@
+-- What a set of states keeps when it takes an event.
 use Rattle.std.proofs.Common.{◌≢◌, ◌≤◌, ◌<◌, inl, inr, ℕ, Option, List, [], ◌∷◌, All, AllPairs, Contains, map, length, get_or, arith}
 use Rattle.std.proofs.lemmas.List.{length-map}
 use Rattle.std.proofs.lemmas.List.Elements.{All-contains_itself, All-head, All-weaker, Contains-get_or}
 use Rattle.sip_machine.specs.Limits.{IsWithin}
 use Rattle.sip_machine.specs.Texts.{Texts}
 use Rattle.sip_standard.specs.MachineEvent.{MachineEvent}
-use Rattle.sip_machine.specs.Rules.{Rules, IsLawful, Waits, StandFor}
+use Rattle.sip_machine.specs.Rules.{MachineRules, IsLawful, Waits, StandFor}
 use Rattle.sip_states.specs.Held.{IsKept}
 use Rattle.sip_states.specs.inner.Ways.{Advances}
 use Rattle.sip_states.specs.Runs.{RunGives, IsWide, widest}
@@ -12,8 +13,6 @@ use Rattle.sip_standard.proofs.Few.{distinct_few}
 use Rattle.sip_states.proofs.sets.Following.{Follows, seen_waits, ended_stays}
 use Rattle.sip_states.proofs.lists.Listed.{Contains-map}
 use Rattle.sip_states.proofs.sets.Waiting.{IsWithin-none}
-
--- What a set of states keeps when it takes an event.
 
 -- more states than are followed stand for more
 pub many_wide : {X S : Type 0} (names : S → List ℕ) (InRange : S → Type 0) (seen : Texts → S → X) (texts : Texts) (P : X → Type 0) (new : List S) →
@@ -46,7 +45,7 @@ few_narrow names InRange seen texts P new stands few w =
     let wide = w.wide in
     omega (arith, fits, length-map new (seen texts))
 
-module _ {X S : Type 0} (names : S → List ℕ) (InRange : S → Type 0) (seen : Texts → S → X) (texts : Texts) (r : Rules X) where
+module _ {X S : Type 0} (names : S → List ℕ) (InRange : S → Type 0) (seen : Texts → S → X) (texts : Texts) (r : MachineRules X) where
   -- a state that an event gave can wait at its moment
   pub took_waits : IsLawful r → (P : X → Type 0) (e : MachineEvent) (new : List S) → StandFor names InRange seen texts (RunGives r P e) new → All (λ s. Waits r (seen texts s) e.moment) new
   took_waits lawful P e new gives k d within =
@@ -54,7 +53,7 @@ module _ {X S : Type 0} (names : S → List ℕ) (InRange : S → Type 0) (seen 
       lawful.fresh given.before e (seen texts (get_or new k d)) given.takes
 
 -- after an event the set is kept, if it is not too wide
-pub took_kept : {M X S : Type 0} (names : S → List ℕ) (InRange : S → Type 0) (seen : Texts → S → X) (r : M → Rules X) (ended : M → S) (window : M → S → Option (ℕ × Option ℕ)) (until : M → S → Option ℕ)
+pub took_kept : {M X S : Type 0} (names : S → List ℕ) (InRange : S → Type 0) (seen : Texts → S → X) (r : M → MachineRules X) (ended : M → S) (window : M → S → Option (ℕ × Option ℕ)) (until : M → S → Option ℕ)
     (machine : M) → Follows names seen (r machine) (ended machine) (window machine) (until machine) → (texts : Texts) (P : X → Type 0) (e : MachineEvent) (new : List S) →
     StandFor names InRange seen texts (RunGives (r machine) P e) new → AllPairs (λ x y. x ≢ y) new → length new ≤ widest →
     IsKept InRange until ended (record { machine = machine; moment = e.moment; states = new })
@@ -69,7 +68,7 @@ took_kept names InRange seen r ended window until machine follows texts P e new 
     }
 
 -- a set that waited is kept
-pub advanced_kept : {M X S : Type 0} (names : S → List ℕ) (InRange : S → Type 0) (seen : Texts → S → X) (r : M → Rules X) (ended : M → S) (window : M → S → Option (ℕ × Option ℕ)) (until : M → S → Option ℕ)
+pub advanced_kept : {M X S : Type 0} (names : S → List ℕ) (InRange : S → Type 0) (seen : Texts → S → X) (r : M → MachineRules X) (ended : M → S) (window : M → S → Option (ℕ × Option ℕ)) (until : M → S → Option ℕ)
     (machine : M) → Follows names seen (r machine) (ended machine) (window machine) (until machine) → (h m : ℕ) (xs ys : List S) →
     IsKept InRange until ended (record { machine = machine; moment = h; states = xs }) → Advances InRange (window machine) (until machine) (ended machine) h m xs ys →
     IsKept InRange until ended (record { machine = machine; moment = m; states = ys })

@@ -1,19 +1,18 @@
+-- Waits: since the ended state has no end, at most one hidden step matters.
 use Rattle.std.proofs.Common.{◌≡◌, ◌≤◌, ◌↔◌, ◌⊎◌, inl, inr, ℕ, Option, Some, None, List, [], ◌∷◌, map, refl, sym, subst, arith}
 use Rattle.sip_machine.specs.Limits.{IsWithin, IsOpenAt}
 use Rattle.sip_standard.specs.MachineEvent.{MachineEvent}
-use Rattle.sip_machine.specs.Rules.{Rules, IsLawful, Waits, Hide}
+use Rattle.sip_machine.specs.Rules.{MachineRules, IsLawful, Waits, Hide}
 use Rattle.sip_states.specs.Runs.{Hides, Reaches, Wait, RunGives}
 
--- Waits: since the ended state has no end, at most one hidden step matters.
-
 -- y is in S and stays from h to m
-pub record StaysFrom {X : Type 0} (r : Rules X) (S : X → Type 0) (h m : ℕ) (y : X) : Type 0 where
+pub record StaysFrom {X : Type 0} (r : MachineRules X) (S : X → Type 0) (h m : ℕ) (y : X) : Type 0 where
   pub among : S y
   pub reached : h ≤ m
   pub waits : Waits r y m
 
 -- y is the end of a state of S at a moment from h to m
-pub record EndsFrom {X : Type 0} (r : Rules X) (S : X → Type 0) (h m : ℕ) (y : X) : Type 0 where
+pub record EndsFrom {X : Type 0} (r : MachineRules X) (S : X → Type 0) (h m : ℕ) (y : X) : Type 0 where
   pub start : X
   pub among : S start
   pub at : ℕ
@@ -34,13 +33,13 @@ IsWithin-none m limit e = rw e tt
 pub IsOpenAt-none : (m : ℕ) (window : Option (ℕ × Option ℕ)) → window ≡ None → IsOpenAt m window → ⊥
 IsOpenAt-none m window e h = rw e at h
 
-module _ {X : Type 0} (r : Rules X) where
+module _ {X : Type 0} (r : MachineRules X) where
   -- waiting in a state is a wait
   pub Wait-stay : (S : X → Type 0) (h m : ℕ) (y : X) → StaysFrom r S h m y → Wait r S h m y
   Wait-stay S h m y stays =
       record { start = y; begins = stays.among; ends = []; stands = record { last = h; goes = (refl, refl); reached = stays.reached; waits = stays.waits } }
 
-  -- the same from a wait's start on, from states of which the same holds
+  -- waits from the same states lead to the same states
   pub Wait-iff : (S T : X → Type 0) → ((x : X) → S x ↔ T x) → (h m : ℕ) (y : X) → Wait r S h m y ↔ Wait r T h m y
   Wait-iff S T same h m y = (
     λ w. record { start = w.start; begins = (same w.start).0 w.begins; ends = w.ends; stands = w.stands },
@@ -54,7 +53,7 @@ module _ {X : Type 0} (r : Rules X) where
     λ g. record { before = g.before; among = (same g.before).1 g.among; takes = g.takes },
   )
 
-module _ {X : Type 0} (r : Rules X) (lawful : IsLawful r) where
+module _ {X : Type 0} (r : MachineRules X) (lawful : IsLawful r) where
   -- an end is a wait
   pub Wait-end : (S : X → Type 0) (h m : ℕ) (y : X) → EndsFrom r S h m y → Wait r S h m y
   Wait-end S h m y ended =

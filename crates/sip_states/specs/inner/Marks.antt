@@ -35,7 +35,7 @@ ElseHolds P marks sets = (index : ℕ) (set : AnySet) → slice_get sets index �
 abbrev pub AreMarked : List Bool → List AnySet → Type 0
 AreMarked marks sets = ElseHolds (λ set. numbers_of set ≡ []) marks sets
 
--- and those whose indices are not marked are quiet; what is marked as one that may name a message is marked here too
+-- the marks of sets that a restart may change: the sets that are not marked are quiet, and each that may name a message is marked
 pub record AreMoved (moved marks : List Bool) (sets : List AnySet) : Type 0 where
   pub quiet : ElseHolds IsQuietSet moved sets
   pub within : (index : ℕ) → IsMarked marks index → IsMarked moved index

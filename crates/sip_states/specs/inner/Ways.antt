@@ -3,7 +3,7 @@ use Rattle.std.specs.List.{Any}
 use Rattle.sip_machine.specs.Limits.{IsWithin, IsOpenAt}
 use Rattle.sip_machine.specs.Texts.{Texts}
 use Rattle.sip_standard.specs.MachineEvent.{MachineEvent}
-use Rattle.sip_machine.specs.Rules.{Rules, Waits}
+use Rattle.sip_machine.specs.Rules.{MachineRules, Waits}
 use Rattle.sip_states.specs.Runs.{Wait, RunGives}
 
 -- The ways from one set of states to the next, as the code takes them.
@@ -54,9 +54,9 @@ pub record Advances {S : Type 0} (InRange : S → Type 0) (window : S → Option
   pub grows : (length ys ≤ length xs) ⊎ ((length ys ≤ length xs + 1) × (Contains xs ended → ⊥) × Contains ys ended)
 
 -- what e gives from those of the states xs that can wait until its moment
-abbrev pub GivesFrom : {X S : Type 0} → (Texts → S → X) → Texts → Rules X → List S → MachineEvent → X → Type 0
+abbrev pub GivesFrom : {X S : Type 0} → (Texts → S → X) → Texts → MachineRules X → List S → MachineEvent → X → Type 0
 GivesFrom seen texts r xs e y = RunGives r (λ x. Contains (map (seen texts) xs) x × Waits r x e.moment) e y
 
 -- what e gives from where one can stand at its moment, after standing in one of the states xs at h
-abbrev pub GivesAfter : {X S : Type 0} → (Texts → S → X) → Texts → Rules X → List S → ℕ → MachineEvent → X → Type 0
+abbrev pub GivesAfter : {X S : Type 0} → (Texts → S → X) → Texts → MachineRules X → List S → ℕ → MachineEvent → X → Type 0
 GivesAfter seen texts r xs h e y = RunGives r (Wait r (Contains (map (seen texts) xs)) h e.moment) e y

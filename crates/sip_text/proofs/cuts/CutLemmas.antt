@@ -36,7 +36,7 @@ before-led mark [] (Some v) lacks = ap (λ same. cond same [] (mark ∷ before m
 before-led mark (b ∷ u) o lacks =
     ap (λ same. cond same [] (b ∷ before mark (u ++ led mark o))) lacks.0 ∙ ap (λ t. b ∷ t) (before-led mark u o lacks.1)
 
--- and what stands after it is the second
+-- what stands after the first mark is the second of two texts with the mark between them
 pub behind-led : (mark : ℕ) (u : List ℕ) (o : Option (List ℕ)) → Lacks mark u → behind mark (u ++ led mark o) ≡ o
 behind-led mark [] None lacks = refl
 behind-led mark [] (Some v) lacks = ap (λ same. cond same (Some v) (behind mark v)) (eq-eqb mark mark refl)

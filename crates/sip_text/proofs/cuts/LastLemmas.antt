@@ -38,7 +38,7 @@ before_last-mark mark [] v lacks =
     ap (onto mark mark) (lacks-none mark v lacks) ∙ ap (λ same. cond same (Some []) None) (eq-eqb mark mark refl)
 before_last-mark mark (b ∷ u) v lacks = ap (onto mark b) (before_last-mark mark u v lacks)
 
--- and what stands after it is the second
+-- what stands after the last mark is the second of two texts with the mark between them
 pub behind_last-mark : (mark : ℕ) (u v : List ℕ) → Lacks mark v → behind_last mark (u ++ (mark ∷ v)) ≡ v
 behind_last-mark mark u v lacks =
     ap (λ o. option_map_or (λ w. drop (length w + 1) (u ++ (mark ∷ v))) o (u ++ (mark ∷ v))) (before_last-mark mark u v lacks)

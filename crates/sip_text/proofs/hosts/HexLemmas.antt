@@ -59,7 +59,7 @@ single-lacks [] lacks = tt
 single-lacks (b ∷ text) lacks =
     (and_left (nat_eq b colon) (nat_eq (slice_index_or text 0 colon) colon) lacks.0, single-lacks text lacks.1)
 
--- and so is one that begins with no colon, after one without and a colon
+-- two texts without "::" in a row, with one colon between them, have none
 single-colon : (u v : List ℕ) → Lacks colon u → Starts v → Single v → Single (u ++ (colon ∷ v))
 single-colon [] v lacks starts single = (and_right (nat_eq colon colon) (nat_eq (slice_index_or v 0 colon) colon) starts, single)
 single-colon (b ∷ u) v lacks starts single =

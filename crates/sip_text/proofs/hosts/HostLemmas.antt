@@ -32,7 +32,7 @@ no_digit b letter = and_right _ _ (lt-leb b 57 (elim (or_cases (is_in_range 65 9
   | inr lower ↦ omega (arith, leb-true 97 b (and_parts _ _ lower).0)
 ]))
 
--- and no dot
+-- a letter is no dot
 no_dot : (b : ℕ) → is_ascii_alphabetic b ≡ true → nat_eq dot b ≡ false
 no_dot b letter = ne_eqb dot b (λ same. both_ways (is_ascii_alphabetic dot) refl (ap is_ascii_alphabetic same ∙ letter))
 

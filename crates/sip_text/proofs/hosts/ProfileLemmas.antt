@@ -16,7 +16,7 @@ host-parts text (inl is) = (name text, (is, refl), refl)
 host-parts text (inr (inl is)) = (v4 text, (is, refl), refl)
 host-parts text (inr (inr is)) = (v6 text, (is, refl), refl)
 
--- and what has them is one
+-- a text with the parts of a host is one
 pub parts-host : (text : List ℕ) (h : HostParts) → HostText text h → Host text
 parts-host text (name host) is = inl is.0
 parts-host text (v4 host) is = inr (inl is.0)
@@ -27,7 +27,7 @@ led-optional : (mark : ℕ) (P : List ℕ → Type 0) (part : Option (List ℕ))
 led-optional mark P None fits = inl refl
 led-optional mark P (Some part) fits = inr (mark ∷ [], part, refl, fits, refl)
 
--- and back
+-- a text that may have a part after a mark is the mark and that part, or empty
 optional-led : (mark : ℕ) (P : List ℕ → Type 0) (text : List ℕ) → Optional (Byte mark then P) text → (part : Option (List ℕ)) × IfSome part P × (text ≡ led mark part)
 optional-led mark P text (inl none) = (None, tt, none)
 optional-led mark P text (inr (u, v, u_is, is, whole)) = (Some v, is, whole ∙ ap (λ x. x ++ v) u_is)
@@ -97,7 +97,7 @@ uri-parts text (inl (s, r1, scheme, (c, r2, c_is, (i, r3, info, (h, r4, host, (o
 uri-parts text (inr (s, v, (scheme, none), (c, w, c_is, some, v_is), whole)) =
     (other s w, (scheme, (λ secure same. none (scheme-named s secure same)), some, whole ∙ ap (λ t. s ++ t) (v_is ∙ ap (λ t. t ++ w) c_is)))
 
--- and what has them is one
+-- a text with the parts of a URI is one
 pub parts-uri : (text : List ℕ) (p : UriParts) → UriText text p → Uri text
 parts-uri text (sip p) (scheme, same, fits, whole) =
     let behind : List ℕ = p.params ++ led question p.headers in

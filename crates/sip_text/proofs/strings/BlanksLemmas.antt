@@ -4,9 +4,9 @@ use Rattle.std.proofs.lemmas.Bool.{and_parts, eqb-true}
 use Rattle.std.proofs.lemmas.List.{append_assoc, append-nil, length-append}
 use Rattle.sip_standard.specs.Text.{One, Many}
 use Rattle.sip_standard.specs.Profile.{Lws, Blanks, Sws}
-use Rattle.sip_text.specs.Bytes.{carriage_return, line_feed, crlf, is_wsp}
+use Rattle.sip_text.specs.Bytes.{carriage_return, line_feed, crlf}
+use Rattle.sip_text.specs.inner.Blanks.{is_wsp, Blank, begins_with_fold, blank_len}
 use Rattle.sip_text.specs.Parts.{HasFront, IsLongestFront}
-use Rattle.sip_text.specs.inner.Blanks.{Blank, begins_with_fold, blank_len}
 use Rattle.sip_text.proofs.texts.ManyLemmas.{many-cons, many-nil, many-some, some-many, many-map, many-flat, many-append, IsStep, run-more, longest_many}
 
 -- a WSP is a blank

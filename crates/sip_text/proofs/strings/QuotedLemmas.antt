@@ -4,11 +4,11 @@ use Rattle.std.proofs.lemmas.Bool.{and_from, and_parts, or_cases, eqb-true, lt-l
 use Rattle.std.proofs.lemmas.List.{append_assoc, length-append}
 use Rattle.sip_standard.specs.Text.{◌or◌, Many, ◌then◌}
 use Rattle.sip_standard.specs.Profile.{Sws, Quoted}
-use Rattle.sip_text.specs.Bytes.{space, tab, dquote, backslash, crlf, is_wsp}
+use Rattle.sip_text.specs.Bytes.{space, tab, dquote, backslash, crlf}
+use Rattle.sip_text.specs.inner.Blanks.{is_wsp, Blank, blank_len}
 use Rattle.sip_text.specs.Parts.{HasFront, IsOnlyFront}
 use Rattle.sip_text.specs.inner.Class.{is_quoted_byte, is_escaped_byte}
 use Rattle.sip_text.specs.inner.Cut.{past}
-use Rattle.sip_text.specs.inner.Blanks.{Blank, blank_len}
 use Rattle.sip_text.specs.inner.Pieces.{Qdtext, QuotedPair}
 use Rattle.sip_text.specs.inner.Quoted.{QuotedItem, begins_with_pair, item_len}
 use Rattle.sip_text.proofs.texts.ManyLemmas.{many-nil, many-one, many-map, many-flat, IsStep, same_many, front-rest}

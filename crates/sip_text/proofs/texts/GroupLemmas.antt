@@ -15,7 +15,7 @@ length-ones test [] all = refl
 length-ones test (u ∷ us) all =
     omega (arith, length-append u (concat us), ap length all.0.2, length-ones test us all.1)
 
--- so many bytes of the class pass the test
+-- one to so many bytes of the class pass the test
 pub group-between : (class : Class) (most : ℕ) (text : List ℕ) → Between 1 most (One (is_in class)) text → is_group class most text ≡ true
 group-between class most text many =
     let ones = length-ones (is_in class) many.0 many.1 in

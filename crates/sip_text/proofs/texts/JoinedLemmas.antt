@@ -53,7 +53,7 @@ AllByRecursion-test test P (u ∷ us) each all =
     let both = and_parts (test u) (list_all test us) all in
     (each u both.0, AllByRecursion-test test P us each both.1)
 
--- and the other way round
+-- where P holds of each text, each passes the test
 list_all-AllByRecursion : (test : List ℕ → Bool) (P : List ℕ → Type 0) (us : List (List ℕ)) → ((u : List ℕ) → P u → test u ≡ true) → AllByRecursion P us → list_all test us ≡ true
 list_all-AllByRecursion test P [] each all = refl
 list_all-AllByRecursion test P (u ∷ us) each all =

@@ -194,7 +194,7 @@ own-first own u (inl (b, test, is)) = inl (b, or_right (is_unreserved b) (own b)
 own-first own u (inr (inl (b, test, is))) = inl (b, or_left (is_unreserved b) (own b) test, is)
 own-first own u (inr (inr escape)) = inr escape
 
--- and back
+-- a character that is a byte of the class or an escape is one of the form
 first-own : (own : ℕ → Bool) (u : List ℕ) → Own own u → CharOf own u
 first-own own u (inl (b, test, is)) =
     elim (or_cases (is_unreserved b) (own b) test) [
@@ -207,7 +207,7 @@ first-own own u (inr escape) = inr (inr escape)
 pub decides-some : (own : ℕ → Bool) (text : List ℕ) (r : Bool) → Decides r (OneOrMore (Own own) text) → Decides r (OneOrMore (CharOf own) text)
 decides-some own text r = Decides-like r (some-map _ _ text (first-own own)) (some-map _ _ text (own-first own))
 
--- and where there may be none
+-- a test of such characters, of which there may be none, is one of the form
 pub decides-many : (own : ℕ → Bool) (text : List ℕ) (r : Bool) → Decides r (Many (Own own) text) → Decides r (Many (CharOf own) text)
 decides-many own text r = Decides-like r (many-map _ _ text (first-own own)) (many-map _ _ text (own-first own))
 

@@ -7,7 +7,7 @@ use Rattle.sip_standard.specs.Case.{folded}
 use Rattle.sip_standard.specs.Profile.{Scheme, Uric}
 use Rattle.sip_text.specs.Bytes.{colon}
 use Rattle.sip_text.specs.Parts.{led, IsOnlyValue}
-use Rattle.sip_text.specs.Case.{SameText}
+use Rattle.sip_text.specs.inner.Case.{SameText}
 use Rattle.sip_text.specs.Uri.{sip_text, scheme_name, UriParts, sip, other, UriText, uri_parts}
 use Rattle.sip_text.specs.inner.Class.{is_scheme_byte}
 use Rattle.sip_text.specs.inner.Cut.{before, behind}
@@ -32,7 +32,7 @@ sip-lacks : (scheme : List ℕ) (secure : Bool) → SameText scheme (scheme_name
 sip-lacks scheme true same = folded-lacks scheme (subst (Lacks colon) (sym same) (refl, (refl, (refl, (refl, tt)))))
 sip-lacks scheme false same = folded-lacks scheme (subst (Lacks colon) (sym same) (refl, (refl, (refl, tt))))
 
--- and so does any scheme
+-- no colon stands in a scheme
 scheme-lacks : AllLack colon Scheme
 scheme-lacks =
     lack-then colon _ _ (lack-one colon is_ascii_alphabetic refl) (lack-many colon _ (lack-one colon is_scheme_byte refl))
@@ -56,7 +56,7 @@ scheme-cut text scheme rest name tail cut lacks whole =
     let behind_is : Some rest ≡ Some tail = cut.later ∙ ap (behind colon) whole ∙ behind-led colon name (Some tail) lacks in
     (sym front ∙ sym cut.front, cc)
 
--- and gives the text back
+-- the two parts of a cut at the scheme give the text
 scheme-whole : (text scheme rest : List ℕ) → IsSchemeCut text scheme rest → text ≡ scheme ++ colon ∷ rest
 scheme-whole text scheme rest cut =
     cut-whole colon text ∙ ap (λ t. t ++ led colon (behind colon text)) (sym cut.front)
@@ -79,7 +79,7 @@ uri-sip secure text scheme rest (other name tail) cut same (is_scheme, not_sip, 
     let parts = scheme-cut text scheme rest name tail cut (scheme-lacks name is_scheme) whole in
     absurd (not_sip secure (subst (λ s. SameText s (scheme_name secure)) (sym parts.0) same))
 
--- and back
+-- the rest after the scheme of a SIP URI makes the whole one
 sip-uri : (secure : Bool) (text scheme rest : List ℕ) (x : UriParts) → IsSchemeCut text scheme rest → SameText scheme (scheme_name secure) → SipText secure rest x → UriText text x
 sip-uri secure text scheme rest (sip p) cut same (secure_is, fits, rest_is) = (
   scheme,
@@ -89,7 +89,7 @@ sip-uri secure text scheme rest (sip p) cut same (secure_is, fits, rest_is) = (
 )
 sip-uri secure text scheme rest (other name tail) cut same none = absurd none
 
--- so the value of the rest is that of the text
+-- the value of the rest is that of the text
 pub read-sip : (secure : Bool) (text scheme rest : List ℕ) (result : Option Uri) → IsSchemeCut text scheme rest → SameText scheme (scheme_name secure) → IsOnlyValue (SipText secure) uri_parts rest result → IsOnlyValue UriText uri_parts text result
 read-sip secure text scheme rest None cut same none =
     λ x fits. none x (uri-sip secure text scheme rest x cut same fits)
@@ -112,7 +112,7 @@ not-sip scheme not_sip not_sips false = not_sip
 pub other-fits : (text scheme rest : List ℕ) → IsSchemeCut text scheme rest → ((secure : Bool) → SameText scheme (scheme_name secure) → ⊥) → Scheme scheme → OneOrMore Uric rest → UriText text (other scheme rest)
 other-fits text scheme rest cut neither fits uric = (fits, neither, uric, scheme-whole text scheme rest cut)
 
--- and nothing else
+-- a URI with another scheme is its scheme and its rest, and nothing else
 pub other-only : (text scheme rest : List ℕ) (x : UriParts) → IsSchemeCut text scheme rest → ((secure : Bool) → SameText scheme (scheme_name secure) → ⊥) → UriText text x → Scheme scheme × OneOrMore Uric rest × (x ≡ other scheme rest)
 other-only text scheme rest (sip p) cut neither (name, same, _, whole) =
     let parts = scheme-cut text scheme rest name (sip_text p) cut (sip-lacks name p.secure same) whole in

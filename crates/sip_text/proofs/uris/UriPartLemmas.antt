@@ -32,7 +32,7 @@ cut-optional mark P Q text lack (u, v, one, inr (m, w, is_mark, other, both), wh
       subst (λ o. IfSome o Q) (sym (ap (behind mark) same ∙ behind-led mark u (Some w) (lack u one))) other,
     )
 
--- and put together again
+-- the two parts of a text around a mark that may lack are put together again
 pub optional-cut : (mark : ℕ) (P Q : List ℕ → Type 0) (text : List ℕ) → P (before mark text) → IfSome (behind mark text) Q → (P then Optional (Byte mark then Q)) text
 optional-cut mark P Q text one other = at (behind mark text) other (cut-whole mark text)
   where
@@ -48,7 +48,7 @@ cut-then mark P Q text lack (u, v, one, (m, w, is_mark, other, both), whole) =
       subst (λ o. IsSomeAnd o Q) (sym (ap (behind mark) same ∙ behind-led mark u (Some w) (lack u one))) other,
     )
 
--- and put together again
+-- the two parts of a text around a mark are put together again
 pub then-cut : (mark : ℕ) (P Q : List ℕ → Type 0) (text : List ℕ) → P (before mark text) → IsSomeAnd (behind mark text) Q → (P then Byte mark then Q) text
 then-cut mark P Q text one other = at (behind mark text) other (cut-whole mark text)
   where
@@ -60,7 +60,7 @@ then-cut mark P Q text one other = at (behind mark text) other (cut-whole mark t
 lack-param_word : AllLack equals ParamWord
 lack-param_word = lack-some equals ParamChar (lack-char equals is_param_unreserved refl)
 
--- nor in one of a header
+-- no "=" stands in the name of a header
 lack-hname : AllLack equals (OneOrMore HeaderChar)
 lack-hname = lack-some equals HeaderChar (lack-char equals is_hnv_unreserved refl)
 
@@ -159,7 +159,7 @@ lack-ampersand =
 pub headers-each : (text : List ℕ) → Headers text → Each ampersand Header text
 headers-each text = parts-joined ampersand Header text lack-ampersand
 
--- and back
+-- texts between "&", each of which is a header, are headers
 pub each-headers : (text : List ℕ) → Each ampersand Header text → Headers text
 each-headers text = joined-parts ampersand Header text
 
@@ -173,7 +173,7 @@ lack-param mark no_char no_equals =
 pub joined-each : (text : List ℕ) → Joined semicolon UriParameter text → Each semicolon UriParameter text
 joined-each text = parts-joined semicolon UriParameter text (lack-param semicolon refl refl)
 
--- and back
+-- texts between ";", each of which is a parameter, are parameters that are joined
 pub each-joined : (text : List ℕ) → Each semicolon UriParameter text → Joined semicolon UriParameter text
 each-joined text = joined-parts semicolon UriParameter text
 
@@ -189,7 +189,7 @@ params-joined text many =
           (p, v, one, more, tail)
     ]
 
--- and back
+-- parameters that are joined are those of a URI after a ";"
 pub joined-params : (text : List ℕ) → Joined semicolon UriParameter text → UriParameters (semicolon ∷ text)
 joined-params text (p, v, one, more, whole) =
     subst UriParameters (ap (λ t. semicolon ∷ t) (sym whole))

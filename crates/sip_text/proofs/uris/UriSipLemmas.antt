@@ -106,7 +106,7 @@ semicolon-foreign = record { label = refl; alphanumeric = refl; alphabetic = ref
 user-at_sign : AllLack at_sign User
 user-at_sign = lack-some at_sign _ (lack-char at_sign is_user_unreserved refl)
 
--- and ":"
+-- no ":" stands in a user
 user-colon : AllLack colon User
 user-colon = lack-some colon _ (lack-char colon is_user_unreserved refl)
 
@@ -239,7 +239,7 @@ info-whole text (Some user) password rest (behind_is, user_is, password_is) =
     cut-whole at_sign text ∙ ap (λ o. before at_sign text ++ led at_sign o) behind_is
     ∙ ap (λ t. t ++ at_sign ∷ rest) info ∙ sym (append_assoc (user ++ led colon password) (at_sign ∷ []) rest)
 
--- and a password stands after a user
+-- a password stands only after a user
 info-owner : (text : List ℕ) (user password : Option (List ℕ)) (rest : List ℕ) → IsInfoCut text user password rest → IsNone user → IsNone password
 info-owner text None password rest (_, password_is, _) none = ap is_some password_is
 info-owner text (Some user) password rest cut none = absurd (false≢true (sym none))
@@ -249,7 +249,7 @@ port-whole : (text host : List ℕ) (port : Option (List ℕ)) → IsPortCut tex
 port-whole text host None (host_is, _) = sym host_is ∙ sym (append-nil host)
 port-whole text host (Some port) (_, whole) = whole
 
--- and the port is one
+-- the port of a cut is a port
 port-fits : (text host : List ℕ) (port : Option (List ℕ)) → IsPortCut text host port → IfSome port Port
 port-fits text host None cut = tt
 port-fits text host (Some port) (fits, _) = fits

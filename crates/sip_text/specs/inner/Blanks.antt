@@ -1,7 +1,11 @@
 -- Blank runs in pieces that begin no other: [ CRLF ] WSP.
-use Rattle.std.specs.Prelude.{ℕ, Bool, List, ◌&&◌, ◌==◌, slice_index, if◌then◌else◌}
+use Rattle.std.specs.Prelude.{ℕ, Bool, List, ◌&&◌, ◌||◌, ◌==◌, slice_index, if◌then◌else◌}
 use Rattle.sip_standard.specs.Text.{One, Exactly, ◌then◌, Optional}
-use Rattle.sip_text.specs.Bytes.{carriage_return, line_feed, crlf, is_wsp}
+use Rattle.sip_text.specs.Bytes.{tab, space, carriage_return, line_feed, crlf}
+
+-- WSP = SP / HTAB
+abbrev pub is_wsp : ℕ → Bool
+is_wsp byte = byte == space || byte == tab
 
 -- a blank, and the CRLF of a fold before it if it has one
 abbrev pub Blank : List ℕ → Type 0

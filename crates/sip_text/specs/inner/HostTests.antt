@@ -92,7 +92,7 @@ has_label_ends text =
     nat_lt 0 (length text) && not (slice_index text 0 == hyphen)
     && not (slice_index text (length text - 1) == hyphen)
 
--- the same, and it begins with a letter
+-- the text begins with a letter and does not end with a hyphen
 abbrev pub has_top_ends : List ℕ → Bool
 has_top_ends text = is_ascii_alphabetic (slice_index text 0) && has_label_ends text
 

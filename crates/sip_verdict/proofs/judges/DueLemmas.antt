@@ -8,15 +8,14 @@ use Rattle.sip_standard.specs.Key.{KeyParts}
 use Rattle.sip_machine.specs.Texts.{Texts}
 use Rattle.sip_states.specs.Agenda.{is_overdue}
 use Rattle.sip_states.specs.AnySet.{moment_of}
-use Rattle.sip_states.specs.KeySets.{key_rules}
 use Rattle.sip_standard.specs.KeyMachine.{machine_of_key}
 use Rattle.sip_states.specs.Tables.{Tabled, due_of}
 use Rattle.sip_states.specs.declared.any_set.AnySet.{AnySet}
 use Rattle.sip_verdict.specs.Judging.{Judging, StandsFor, CanWaitUntil}
 use Rattle.sip_standard.specs.Observation.{Observation}
-use Rattle.sip_verdict.specs.Keyed.{keys_of, events_of, newest_moment}
-use Rattle.sip_verdict.specs.MessageReading.{key_machines}
-use Rattle.sip_verdict.specs.inner.Stepping.{RunsUntil}
+use Rattle.sip_standard.specs.VerdictOf.{keys_in, events_for}
+use Rattle.sip_verdict.specs.Entries.{newest_moment}
+use Rattle.sip_verdict.proofs.keys.RunsStand.{StandsUntil, run-stands, stands-run}
 use Rattle.sip_verdict.specs.inner.TablesTracking.{LeadsOf, key_keeping, transactions_of, MayPass, MayTake, AllAreOnRecord, TablesTrack}
 use Rattle.sip_verdict.specs.inner.Tracking.{IsReady}
 use Rattle.sip_verdict.proofs.tables.Halfway.{All-position_None, not_passing}
@@ -27,12 +26,12 @@ module _ (texts : Texts) (t : Tabled) (es : List (Observation KeyParts)) (from :
     (newest : newest_moment es ≤ moment) (later : from ≤ moment) where
   -- a key has a run that stands at the moment
   abbrev Runs : KeyParts → Type 0
-  Runs key = RunsUntil (key_rules t.times (machine_of_key t.times.rules key)) (events_of (key_machines t.times) key es) moment
+  Runs key = StandsUntil t.times (machine_of_key t.times.rules key) (events_for key es) moment
 
   -- a key, its set and its last moment on record
   module _ (n : ℕ) (key : KeyParts) (s : AnySet) (at : slice_get t.keys n ≡ Some key) (here : slice_get t.sets n ≡ Some s) where
-    leads : LeadsOf texts t.times (machine_of_key t.times.rules key) (events_of (key_machines t.times) key es) (newest_moment es) s
-    leads = All-place (IsReady (key_machines t.times) (key_keeping texts t.times) es) (transactions_of t) n (key, s) (zip-place t.keys t.sets n key s at here) tracks.ready
+    leads : LeadsOf texts t.times (machine_of_key t.times.rules key) (events_for key es) (newest_moment es) s
+    leads = All-place (IsReady (key_keeping texts t.times) es) (transactions_of t) n (key, s) (zip-place t.keys t.sets n key s at here) tracks.ready
 
     low : moment_of s ≤ moment
     low = let h = All-place (λ x. moment_of x ≤ from) t.sets n s here may.order in omega (arith, h, later)
@@ -40,14 +39,16 @@ module _ (texts : Texts) (t : Tabled) (es : List (Observation KeyParts)) (from :
     -- after its last moment it has none
     late : (r : Option (Option ℕ)) → slice_get t.records n ≡ Some r → is_overdue moment r ≡ true → ¬ Runs key
     late None on is = absurd (false≢true is)
-    late (Some limit) on is =
-        overdue_none texts t.times (machine_of_key t.times.rules key) (events_of (key_machines t.times) key es) (newest_moment es) s leads limit (recorded.each n s (Some limit) here on) moment newest low is
+    late (Some limit) on is = λ run.
+        overdue_none texts t.times (machine_of_key t.times.rules key) (events_for key es) (newest_moment es) s leads limit (recorded.each n s (Some limit) here on) moment newest low is
+        (stands-run t.times (machine_of_key t.times.rules key) (events_for key es) moment run)
 
-    -- and up to it one
+    -- a key whose last moment is not past has a run
     in_time : (r : Option (Option ℕ)) → slice_get t.records n ≡ Some r → is_overdue moment r ≡ false → Runs key
     in_time None on is = absurd (false≢true (recorded.each n s None here on))
     in_time (Some limit) on is =
-        in_time_some texts t.times (machine_of_key t.times.rules key) (events_of (key_machines t.times) key es) (newest_moment es) s leads limit (recorded.each n s (Some limit) here on) moment newest low is
+        run-stands t.times (machine_of_key t.times.rules key) (events_for key es) moment
+        (in_time_some texts t.times (machine_of_key t.times.rules key) (events_for key es) (newest_moment es) s leads limit (recorded.each n s (Some limit) here on) moment newest low is)
 
   -- each key has a set and a place for its last moment
   set_of_key : (n : ℕ) (key : KeyParts) → slice_get t.keys n ≡ Some key → (s : AnySet) × (slice_get t.sets n ≡ Some s)
@@ -56,7 +57,7 @@ module _ (texts : Texts) (t : Tabled) (es : List (Observation KeyParts)) (from :
   record_of_key : (n : ℕ) (key : KeyParts) → slice_get t.keys n ≡ Some key → (r : Option (Option ℕ)) × (slice_get t.records n ≡ Some r)
   record_of_key n key at = at_place t.records n (let within = slice_get_within t.keys n key at in let long = recorded.long in omega arith)
 
-  keys_of_all : t.keys ≡ keys_of (key_machines t.times) es
+  keys_of_all : t.keys ≡ keys_in es
   keys_of_all = sym (keys_are t may.long) ∙ tracks.keys
 
   -- where nothing is overdue, each has a run
@@ -67,7 +68,7 @@ module _ (texts : Texts) (t : Tabled) (es : List (Observation KeyParts)) (from :
       nothing None is e n r on = not_passing (is_overdue moment r) (All-place (λ x. ¬ (IsTrue (is_overdue moment x))) t.records n r on (All-position_None (is_overdue moment) t.records is))
       nothing (Some i) is e n r on = absurd cc
 
-  -- and where each has one, nothing is
+  -- where each key has a run, none is overdue
   waits_none : CanWaitUntil t.times es moment → due_of t moment ≡ None
   waits_none waits = go (position (is_overdue moment) t.records) refl
     where
@@ -79,11 +80,11 @@ module _ (texts : Texts) (t : Tabled) (es : List (Observation KeyParts)) (from :
           let (s, here) = set_of_key i key at in
           absurd (late i key s at here (get_or t.records i None) (slice_get-get_or t.records i None found.0) found.1 (All-place Runs t.keys i key at (subst (All Runs) (sym keys_of_all) waits)))
 
-  -- so they can wait up to the earliest last moment
+  -- all can wait up to the earliest of the last moments
   pub waits_until : (P : Type 0) → ((due_of t moment ≡ None) ↔ P) → CanWaitUntil t.times es moment ↔ P
   waits_until P due = (λ waits. due.0 (waits_none waits), λ h. none_waits (due.1 h))
 
--- the same of a judge
+-- until when all transactions of a judge can wait
 pub judge_waits : (j : Judging) (es : List (Observation KeyParts)) → StandsFor j es → MayTake j.texts j.tables (j.number + 1) j.moment → (moment : ℕ) → j.moment ≤ moment
     → (P : Type 0) → ((due_of j.tables moment ≡ None) ↔ P) → CanWaitUntil j.tables.times es moment ↔ P
 judge_waits j es stands may moment later P due =

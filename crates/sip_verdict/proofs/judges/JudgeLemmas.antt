@@ -12,20 +12,14 @@ use Rattle.sip_verdict.specs.declared.stage.Stage.TheVariants.{Open}
 use Rattle.sip_standard.specs.declared.verdict.Verdict.{Verdict}
 use Rattle.sip_standard.specs.declared.verdict.Verdict.TheVariants.{Legal, LogFault as FaultOfLog}
 use Rattle.sip_standard.specs.Observation.{Observation}
-use Rattle.sip_verdict.specs.Keyed.{keys_of}
-use Rattle.sip_verdict.specs.Verdicts.{IsTrouble}
-use Rattle.sip_standard.specs.VerdictOf.{IsVerdictOf}
-use Rattle.sip_verdict.specs.MessageReading.{key_machines, message_reading}
+use Rattle.sip_standard.specs.VerdictOf.{IsVerdictOf, keys_in, Sees, HasTrouble}
 use Rattle.sip_verdict.specs.Judging.{Judging, StandsFor, MayComeNext, IsNext}
 use Rattle.sip_verdict.specs.inner.Sweeping.{AreFollowedOn, StandsForRead}
 use Rattle.sip_verdict.specs.inner.TablesTracking.{MayTake}
 use Rattle.sip_verdict.specs.inner.Walking.{HasRead}
 use Rattle.sip_verdict.proofs.tables.JudgeTables.{may_later}
 use Rattle.sip_verdict.proofs.tables.TablesPassing.{keys_are}
-use Rattle.sip_verdict.specs.Reading.{IsVerdictBy}
-use Rattle.sip_log.proofs.answers.ReadingLemmas.{IfSome-map}
-use Rattle.sip_verdict.proofs.judges.JudgingLemmas.{observed-push, judged_ends, judged_trouble}
-use Rattle.sip_verdict.proofs.verdicts.VerdictLemmas.{by-verdict}
+use Rattle.sip_verdict.proofs.judges.JudgingLemmas.{seen-push, judged_ends, judged_trouble}
 use Rattle.sip_verdict.proofs.sweeps.FollowedLemmas.{observed_moment, followed_keys}
 use Rattle.sip_log.specs.Reading as log
 
@@ -35,22 +29,22 @@ may_take_next texts t count last number moment next may = subst (λ n. MayTake t
 
 -- the verdict where all entries are legal
 pub legal_is : (j : Judging) (es : List (Observation KeyParts)) → StandsFor j es → length j.tables.sets ≡ length j.tables.keys → (count many : ℕ) → count ≡ j.number → many ≡ length j.tables.keys
-    → Some (Legal count many) ≡ Some (Legal (length es) (length (keys_of (key_machines j.tables.times) es)))
+    → Some (Legal count many) ≡ Some (Legal (length es) (length (keys_in es)))
 legal_is j es stands long count many counts keys =
     ap (λ n. Some (Legal n many)) (counts ∙ stands.number) ∙ ap (λ n. Some (Legal (length es) n)) (keys ∙ followed_keys j.texts j.tables es long stands.follows.tracks)
 
 -- the key of a number is that of the entries with this number
 pub key_named : {R : Type 0} (j : Judging) (es : List (Observation KeyParts)) → StandsFor j es → length j.tables.sets ≡ length j.tables.keys → (now : R → KeyParts) (number : ℕ) (found : Option R)
     → MatchOption found (¬ (IsGiven j.tables number)) (λ key. IsGiven j.tables number × HasNumber j.tables (now key) number)
-    → IfSome found (λ key. slice_get (keys_of (key_machines j.tables.times) es) (number - 1) ≡ Some (now key))
+    → IfSome found (λ key. slice_get (keys_in es) (number - 1) ≡ Some (now key))
 key_named j es stands long now number None has = tt
 key_named j es stands long now number (Some key) has =
     subst (λ keys. slice_get keys (number - 1) ≡ Some (now key)) (sym (keys_are j.tables long) ∙ stands.follows.tracks.keys) has.1.1
 
 -- it stands for one entry more
 pub stands_on : (j k : Judging) (e : Entry) → e.number ≡ j.number + 1 → k.number ≡ e.number → k.moment ≡ e.moment → k.stage ≡ Open → (es : List (Observation KeyParts)) → StandsFor j es
-    → (seen : Observation KeyParts) × message_reading.Observes es (item e) seen × AreFollowedOn k.texts k.tables k.left es seen None
-    → (seen : Observation KeyParts) × message_reading.Observes es (item e) seen × IsNext k es seen None
+    → (seen : Observation KeyParts) × Sees es (item e) seen × AreFollowedOn k.texts k.tables k.left es seen None
+    → (seen : Observation KeyParts) × Sees es (item e) seen × IsNext k es seen None
 stands_on j k e next number moment goes_on es stands (seen, observed, follows) = (
   seen,
   observed,
@@ -62,42 +56,38 @@ stands_on j k e next number moment goes_on es stands (seen, observed, follows) =
   },
 )
 
--- a verdict by the reading of messages is one
-pub verdict_of : (start : Option (List ℕ)) (v : Verdict) → IfSome start (λ input. IsVerdictBy message_reading input v) → IfSome start (λ input. IsVerdictOf input v)
-verdict_of start v is = IfSome-map start (λ input. IsVerdictBy message_reading input v) (λ input. IsVerdictOf input v) (λ input. by-verdict input v) is
-
 module _ (start : Option (List ℕ)) (now : log.ReaderState) (j : Judging) (read : StandsForRead j start now) where
   -- the log ends: the entries are legal
   pub read_ends : IfSome start (λ input. LogSays input j.tables.times read.items Clean)
-      → IfSome start (λ input. IsVerdictOf input (Legal (length read.es) (length (keys_of (key_machines j.tables.times) read.es))))
+      → IfSome start (λ input. IsVerdictOf input (Legal (length read.es) (length (keys_in read.es))))
   read_ends logs =
-      let legal : Verdict = Legal (length read.es) (length (keys_of (key_machines j.tables.times) read.es)) in
-      verdict_of start legal (judged_ends message_reading j.tables.times _ start now read read.follows.follows.tracks.good Clean legal refl logs)
+      let legal : Verdict = Legal (length read.es) (length (keys_in read.es)) in
+      judged_ends j.tables.times _ start now read read.follows.follows.tracks.good Clean legal refl logs
 
   -- the next entry cannot be read
   pub read_stops : (count : ℕ) (reason : LogReason) → count ≡ j.number → (fault : LogReason) × (reason ≡ fault) × IfSome start (λ input. LogSays input j.tables.times read.items (Stops fault))
       → IfSome start (λ input. IsVerdictOf input (FaultOfLog (count + 1) reason))
   read_stops count reason counts (fault, is, logs) =
-      verdict_of start (FaultOfLog (count + 1) reason) (judged_ends message_reading j.tables.times _ start now read read.follows.follows.tracks.good (Stops fault) (FaultOfLog (count + 1) reason)
-      (ap (λ c. FaultOfLog (c + 1) reason) (counts ∙ read.follows.number) ∙ ap (FaultOfLog (length read.es + 1)) is) logs)
+      judged_ends j.tables.times _ start now read read.follows.follows.tracks.good (Stops fault) (FaultOfLog (count + 1) reason)
+      (ap (λ c. FaultOfLog (c + 1) reason) (counts ∙ read.follows.number) ∙ ap (FaultOfLog (length read.es + 1)) is) logs
 
   module _ (e : Entry) (new : log.ReaderState) (more : HasRead start j.tables.times (read.items ++ item e ∷ []) new) (k : Judging) (times : k.tables.times ≡ j.tables.times) where
     -- it was judged, and is in no trouble
-    pub read_on : ((es : List (Observation KeyParts)) → StandsFor j es → (seen : Observation KeyParts) × message_reading.Observes es (item e) seen × IsNext k es seen None) → StandsForRead k start new
+    pub read_on : ((es : List (Observation KeyParts)) → StandsFor j es → (seen : Observation KeyParts) × Sees es (item e) seen × IsNext k es seen None) → StandsForRead k start new
     read_on says =
         let h = says read.es read.follows in
         record {
           items = read.items ++ item e ∷ [];
           es = read.es ++ h.0 ∷ [];
-          observed = observed-push message_reading [] read.items read.es (item e) h.0 read.observed h.1;
+          observed = seen-push [] read.items read.es (item e) h.0 read.observed h.1;
           follows = h.2;
           long = length_push read.items (item e) ∙ ap (λ n. n + 1) read.long ∙ sym (length_push read.es h.0);
           read = subst (λ p. HasRead start p (read.items ++ item e ∷ []) new) (sym times) more;
         }
 
     -- it is
-    pub read_trouble : (v : Verdict) → ((es : List (Observation KeyParts)) → StandsFor j es → (seen : Observation KeyParts) × message_reading.Observes es (item e) seen × IsNext k es seen (Some v))
+    pub read_trouble : (v : Verdict) → ((es : List (Observation KeyParts)) → StandsFor j es → (seen : Observation KeyParts) × Sees es (item e) seen × IsNext k es seen (Some v))
         → IfSome start (λ input. IsVerdictOf input v)
     read_trouble v says =
         let h = says read.es read.follows in
-        verdict_of start v (judged_trouble message_reading j.tables.times _ start now read read.follows.follows.tracks.good (item e) new more h.0 h.1 v (subst (λ p. IsTrouble (key_machines p) read.es h.0 v) times h.2))
+        judged_trouble j.tables.times _ start now read read.follows.follows.tracks.good (item e) new more h.0 h.1 v (subst (λ p. HasTrouble p read.es h.0 v) times h.2)

@@ -1,6 +1,7 @@
--- How the entries that were read tell of the input, whatever is observed of them.
+-- How the entries that were read tell of the input.
 use Rattle.std.proofs.Common.{inl, inr, refl, Option, IfSome, List, [], ◌∷◌, ◌++◌, ℕ, sym, subst, append_assoc}
 use Rattle.std.proofs.lemmas.List.{append-nil}
+use Rattle.sip_standard.specs.Key.{KeyParts}
 use Rattle.sip_standard.specs.Times.{Times}
 use Rattle.sip_standard.specs.LogEntry.{Item}
 use Rattle.sip_standard.specs.LogSays.{LogEnd, LogSays}
@@ -8,52 +9,55 @@ use Rattle.sip_log.specs.Reading as log
 use Rattle.sip_log.proofs.answers.ReadingLemmas.{IfSome-map}
 use Rattle.sip_standard.specs.declared.verdict.Verdict.{Verdict}
 use Rattle.sip_standard.specs.Observation.{Observation}
-use Rattle.sip_verdict.specs.Verdicts.{IsGood, IsTrouble}
-use Rattle.sip_verdict.specs.Reading.{EntryReading, AreObserved, Judges, IsVerdictBy}
+use Rattle.sip_standard.specs.Seen.{AreSeen}
+use Rattle.sip_standard.specs.VerdictOf.{Sees, HasTrouble, IsVerdictAfter, IsVerdictOf}
+use Rattle.sip_verdict.specs.LegalLog.{IsGood}
 use Rattle.sip_verdict.specs.inner.Walking.{HasRead, Judged}
 use Rattle.sip_verdict.proofs.listings.WalkingLemmas.{read_log}
 
-module _ {K : Type 0} (r : EntryReading K) where
-  -- one more is observed of one more
-  pub observed-push : (before : List (Observation K)) (xs : List Item) (es : List (Observation K)) (x : Item) (e : Observation K) → AreObserved r before xs es → r.Observes (before ++ es) x e
-      → AreObserved r before (xs ++ x ∷ []) (es ++ e ∷ [])
-  observed-push before [] [] x e a s = (subst (λ fs. r.Observes fs x e) (append-nil before) s, tt)
-  observed-push before [] (f ∷ es) x e a s = elim a [ ]
-  observed-push before (y ∷ xs) [] x e a s = elim a [ ]
-  observed-push before (y ∷ xs) (f ∷ es) x e a s =
-      (a.0, observed-push (before ++ f ∷ []) xs es x e a.1 (subst (λ fs. r.Observes fs x e) (sym (append_assoc before (f ∷ []) es)) s))
+-- one more is observed of one more
+pub seen-push : (before : List (Observation KeyParts)) (xs : List Item) (es : List (Observation KeyParts)) (x : Item) (e : Observation KeyParts) → AreSeen before xs es → Sees (before ++ es) x e
+    → AreSeen before (xs ++ x ∷ []) (es ++ e ∷ [])
+seen-push before [] [] x e a s = (subst (λ fs. Sees fs x e) (append-nil before) s, tt)
+seen-push before [] (f ∷ es) x e a s = elim a [ ]
+seen-push before (y ∷ xs) [] x e a s = elim a [ ]
+seen-push before (y ∷ xs) (f ∷ es) x e a s =
+    (a.0, seen-push (before ++ f ∷ []) xs es x e a.1 (subst (λ fs. Sees fs x e) (sym (append_assoc before (f ∷ []) es)) s))
 
-  -- after entries in no trouble, the verdict of what is left is that of all
-  pub judges_front : (p : Times) (end : LogEnd) (v : Verdict) (before : List (Observation K)) (items rest : List Item) (es : List (Observation K)) → AreObserved r before items es → IsGood (r.machines p) (before ++ es) →
-      Judges r p (before ++ es) rest end v → Judges r p before (items ++ rest) end v
-  judges_front p end v before [] rest [] observed good left = subst (λ fs. Judges r p fs rest end v) (append-nil before) left
-  judges_front p end v before [] rest (e ∷ es) observed good left = elim observed [ ]
-  judges_front p end v before (item ∷ items) rest [] observed good left = elim observed [ ]
-  judges_front p end v before (item ∷ items) rest (e ∷ es) observed good left =
-      let along = append_assoc before (e ∷ []) es in (
-        e,
-        observed.0,
-        inr (
-          good before e es refl,
-          judges_front p end v (before ++ e ∷ []) items rest es observed.1 (subst (IsGood (r.machines p)) (sym along) good) (subst (λ fs. Judges r p fs rest end v) (sym along) left),
-        ),
-      )
+-- after entries in no trouble, the verdict of what is left is that of all
+pub judges_front : (p : Times) (end : LogEnd) (v : Verdict) (before : List (Observation KeyParts)) (items rest : List Item) (es : List (Observation KeyParts)) → AreSeen before items es → IsGood p (before ++ es) →
+    IsVerdictAfter p (before ++ es) rest end v → IsVerdictAfter p before (items ++ rest) end v
+judges_front p end v before [] rest [] seen good left = subst (λ fs. IsVerdictAfter p fs rest end v) (append-nil before) left
+judges_front p end v before [] rest (e ∷ es) seen good left = elim seen [ ]
+judges_front p end v before (item ∷ items) rest [] seen good left = elim seen [ ]
+judges_front p end v before (item ∷ items) rest (e ∷ es) seen good left =
+    let along = append_assoc before (e ∷ []) es in
+    let fine = good before e es refl in (
+      e,
+      seen.0,
+      inr (
+        fine.formed,
+        fine.runs,
+        fine.narrow,
+        judges_front p end v (before ++ e ∷ []) items rest es seen.1 (subst (IsGood p) (sym along) good) (subst (λ fs. IsVerdictAfter p fs rest end v) (sym along) left),
+      ),
+    )
 
-  module _ (p : Times) (Follows : List (Observation K) → Type 0) (start : Option (List ℕ)) (now : log.ReaderState) (judged : Judged r p Follows start now) (good : IsGood (r.machines p) judged.es) where
-    -- the log goes on so after them
-    goes_on : (rest : List Item) (end : LogEnd) (v : Verdict) → Judges r p judged.es rest end v → (input : List ℕ) → LogSays input p (judged.items ++ rest) end → IsVerdictBy r input v
-    goes_on rest end v left input is = inr (p, judged.items ++ rest, end, is, judges_front p end v [] judged.items rest judged.es judged.observed good left)
+module _ (p : Times) (Follows : List (Observation KeyParts) → Type 0) (start : Option (List ℕ)) (now : log.ReaderState) (judged : Judged p Follows start now) (good : IsGood p judged.es) where
+  -- a verdict after the entries that were judged is that of the log
+  goes_on : (rest : List Item) (end : LogEnd) (v : Verdict) → IsVerdictAfter p judged.es rest end v → (input : List ℕ) → LogSays input p (judged.items ++ rest) end → IsVerdictOf input v
+  goes_on rest end v left input is = inr (p, judged.items ++ rest, end, is, judges_front p end v [] judged.items rest judged.es judged.observed good left)
 
-    -- it ends so after them
-    pub judged_ends : (end : LogEnd) (v : Verdict) → Judges r p judged.es [] end v → IfSome start (λ input. LogSays input p judged.items end) → IfSome start (λ input. IsVerdictBy r input v)
-    judged_ends end v left logs =
-        IfSome-map start (λ input. LogSays input p judged.items end) (λ input. IsVerdictBy r input v)
-        (λ input is. goes_on [] end v left input (subst (λ all. LogSays input p all end) (sym (append-nil judged.items)) is)) logs
+  -- a verdict at the end of the log is that of the input
+  pub judged_ends : (end : LogEnd) (v : Verdict) → IsVerdictAfter p judged.es [] end v → IfSome start (λ input. LogSays input p judged.items end) → IfSome start (λ input. IsVerdictOf input v)
+  judged_ends end v left logs =
+      IfSome-map start (λ input. LogSays input p judged.items end) (λ input. IsVerdictOf input v)
+      (λ input is. goes_on [] end v left input (subst (λ all. LogSays input p all end) (sym (append-nil judged.items)) is)) logs
 
-    -- the next one is in trouble
-    pub judged_trouble : (i : Item) (new : log.ReaderState) → HasRead start p (judged.items ++ i ∷ []) new → (e : Observation K) → r.Observes judged.es i e → (v : Verdict) → IsTrouble (r.machines p) judged.es e v
-        → IfSome start (λ input. IsVerdictBy r input v)
-    judged_trouble i new read e seen v is =
-        IfSome-map start (λ input. (more : List Item) × (end : LogEnd) × LogSays input p ((judged.items ++ i ∷ []) ++ more) end) (λ input. IsVerdictBy r input v)
-        (λ input l. goes_on (i ∷ l.0) l.1 v (e, seen, inl is) input (subst (λ all. LogSays input p all l.1) (append_assoc judged.items (i ∷ []) l.0) l.2))
-        (read_log start p (judged.items ++ i ∷ []) new read)
+  -- the next one is in trouble
+  pub judged_trouble : (i : Item) (new : log.ReaderState) → HasRead start p (judged.items ++ i ∷ []) new → (e : Observation KeyParts) → Sees judged.es i e → (v : Verdict) → HasTrouble p judged.es e v
+      → IfSome start (λ input. IsVerdictOf input v)
+  judged_trouble i new read e seen v is =
+      IfSome-map start (λ input. (more : List Item) × (end : LogEnd) × LogSays input p ((judged.items ++ i ∷ []) ++ more) end) (λ input. IsVerdictOf input v)
+      (λ input l. goes_on (i ∷ l.0) l.1 v (e, seen, inl is) input (subst (λ all. LogSays input p all l.1) (append_assoc judged.items (i ∷ []) l.0) l.2))
+      (read_log start p (judged.items ++ i ∷ []) new read)

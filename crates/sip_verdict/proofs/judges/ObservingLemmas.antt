@@ -26,19 +26,19 @@ use Rattle.sip_standard.specs.LogEntry.{Item, has_message}
 use Rattle.sip_verdict.specs.declared.concerned.Concerned.{Concerned}
 use Rattle.sip_verdict.specs.declared.concerned.Concerned.TheVariants as concerned
 use Rattle.sip_standard.specs.Observation.{Observation, direction_of, silent_observation, fault_observation, no_cookie, message_event, ObservesMessage, has_fault, has_no_cookie, is_heard}
-use Rattle.sip_verdict.specs.MessageReading.{message_reading, ConcernsNone}
-use Rattle.sip_standard.specs.VerdictOf.{keys_in}
+use Rattle.sip_verdict.specs.Entries.{ConcernsNone}
+use Rattle.sip_standard.specs.VerdictOf.{keys_in, Sees}
 use Rattle.sip_verdict.specs.inner.Concerned.{each, is_all}
 use Rattle.sip_verdict.specs.inner.Observing.{IsObserved, IsHeard, IsKept, silent_told}
 use Rattle.sip_verdict.proofs.verdicts.MessageUnique.{observes_one}
 
 -- what is observed of a message that went this way is observed of its entry
 pub observes : (before : List (Observation KeyParts)) (item : Item) (e : Observation KeyParts) (direction : Direction) → direction_of item.action ≡ Some direction → ObservesMessage direction item e
-    → message_reading.Observes before item e
+    → Sees before item e
 observes before item e direction goes seen = subst (λ d. MatchOption d (e ≡ silent_observation item.action item.moment (keys_in before)) (λ way. ObservesMessage way item e)) (sym goes) seen
 
 -- what is observed of an entry without a message
-pub observes_silent : (before : List (Observation KeyParts)) (item : Item) → direction_of item.action ≡ None → message_reading.Observes before item (silent_observation item.action item.moment (keys_in before))
+pub observes_silent : (before : List (Observation KeyParts)) (item : Item) → direction_of item.action ≡ None → Sees before item (silent_observation item.action item.moment (keys_in before))
 observes_silent before item stays =
     let e = silent_observation item.action item.moment (keys_in before) in
     subst (λ d. MatchOption d (e ≡ silent_observation item.action item.moment (keys_in before)) (λ way. ObservesMessage way item e)) (sym stays) refl
@@ -149,13 +149,13 @@ no_keys own other cancels (Some x) none = absurd cc
 no_keys own other true None none = refl
 no_keys own other false None none = refl
 
--- and without a key no branch
+-- without a key there is no branch
 no_branch : {A B : Type 0} (own other : A → B) (cancels : Bool) (branch : Option A)
     → option_to_list (option_map own branch) ++ option_to_list (if cancels then option_map other branch else None) ≡ [] → branch ≡ None
 no_branch own other cancels None none = refl
 no_branch own other cancels (Some x) none = absurd cc
 
--- nor where the cookie lacks
+-- a request that lacks the cookie has no branch
 lacks_branch : {A : Type 0} (sends : Bool) (branch : Option A) → (sends && not (is_some branch)) ≡ true → branch ≡ None
 lacks_branch sends None lacks = refl
 lacks_branch true (Some x) lacks = absurd (false≢true lacks)
@@ -196,7 +196,7 @@ none_alike i j same i_says j_says (e, seen, none) =
     (f, observes [] j f direction j_goes f_seen, f_none)
 
 -- an entry of which some key is observed concerns one
-pub concerns_some : (i : Item) (keys : List KeyParts) (e : Observation KeyParts) → message_reading.Observes [] i e → e.keys ≡ keys → keys ≢ [] → ¬ ConcernsNone i
+pub concerns_some : (i : Item) (keys : List KeyParts) (e : Observation KeyParts) → Sees [] i e → e.keys ≡ keys → keys ≢ [] → ¬ ConcernsNone i
 concerns_some i keys e seen are some (f, f_seen, none) = some (sym are ∙ ap (λ o. o.keys) (observes_one [] i e f seen f_seen) ∙ none)
 
 -- those that are some are keys

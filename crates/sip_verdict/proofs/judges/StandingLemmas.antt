@@ -7,7 +7,7 @@ use Rattle.sip_states.proofs.lists.Listed.{Contains-here, Contains-there}
 use Rattle.std.proofs.lemmas.Bool.{false≢true}
 use Rattle.std.proofs.lemmas.Option.{slice_get_within, get_or_from_slice_get}
 use Rattle.std.proofs.lemmas.List.Elements.{All-nil, All-cons, All-weaker}
-use Rattle.sip_standard.specs.Key.{KeyParts, same_key}
+use Rattle.sip_standard.specs.Key.{KeyParts}
 use Rattle.sip_standard.specs.Times.{Times, last_moment}
 use Rattle.sip_standard.specs.declared.action.Action.TheVariants.{Restart}
 use Rattle.sip_standard.specs.declared.kind.Kind.TheVariants.{Request}
@@ -24,14 +24,14 @@ use Rattle.sip_states.specs.declared.any_set.AnySet.{AnySet}
 use Rattle.sip_standard.specs.LogEntry.{Item}
 use Rattle.sip_verdict.specs.declared.concerned.Concerned.{Concerned}
 use Rattle.sip_verdict.specs.declared.concerned.Concerned.TheVariants as concerned
-use Rattle.sip_verdict.specs.declared.observing.Told.{Told}
-use Rattle.sip_verdict.specs.declared.observing.Told.TheVariants.{Unheard, Heard}
-use Rattle.sip_verdict.specs.declared.observing.Told.TheVariants as told
+use Rattle.sip_verdict.specs.declared.observing.Observed.{Observed}
+use Rattle.sip_verdict.specs.declared.observing.Observed.TheVariants.{Unheard, Heard}
+use Rattle.sip_verdict.specs.declared.observing.Observed.TheVariants as told
 use Rattle.sip_standard.specs.declared.verdict.Verdict.{Verdict}
 use Rattle.sip_standard.specs.Observation.{Observation}
-use Rattle.sip_verdict.specs.Keyed.{events_of, keys_of, newest_moment}
-use Rattle.sip_verdict.specs.Keyed as keyed
-use Rattle.sip_verdict.specs.MessageReading.{key_machines, message_reading}
+use Rattle.sip_standard.specs.VerdictOf.{keys_in, Sees, events_for}
+use Rattle.sip_verdict.specs.Entries.{newest_moment}
+use Rattle.sip_verdict.specs.inner.Keyed as keyed
 use Rattle.sip_verdict.specs.inner.Concerned.{each, is_all, up_to, listed}
 use Rattle.sip_verdict.specs.inner.Observing.{IsObserved, restart_observation}
 use Rattle.sip_verdict.specs.inner.Tracking.{IsReady, TracksBefore, IsJudged}
@@ -39,7 +39,7 @@ use Rattle.sip_verdict.specs.inner.TablesTracking.{key_keeping, transactions_of,
 use Rattle.sip_verdict.proofs.keys.Leading.{Leads-grow}
 use Rattle.sip_states.proofs.keyed.ByMachine.{seen_by_names_of, some_machine, of_set, to_set}
 use Rattle.sip_verdict.proofs.tables.TrackingLemmas.{AreKept, kept_tracked, before_none, before_all, before_touched}
-use Rattle.sip_verdict.proofs.tables.TablesTouching.{keys_exact, touches_times, touches_few, touches_recorded, kept_each, have_numbers, told_unheard, told_event, told_restart}
+use Rattle.sip_verdict.proofs.tables.TablesTouching.{touches_times, touches_few, touches_recorded, kept_each, have_numbers, told_unheard, told_event, told_restart}
 use Rattle.sip_verdict.proofs.tables.TablesPassing.{at_place, keys_are}
 
 -- the book has the same messages, or one more
@@ -52,7 +52,7 @@ module _ (old new : Texts) (number : ℕ) (bytes : List ℕ) where
   grown_keeps (inl same) n keeps = subst (λ texts. Keeps texts n) (sym same) keeps
   grown_keeps (inr more) n keeps = subst (λ texts. Keeps texts n) (sym more) (Keeps-grow old number bytes n keeps)
 
-  -- and the sets' messages with it
+  -- a book that has grown knows the messages of the sets
   grown_known : IsGrown old number bytes new → (set : AnySet) → IsKnownSet old set → IsKnownSet new set
   grown_known grown set known =
       let o = some_machine set in
@@ -81,7 +81,7 @@ module _ (old new : Texts) (number : ℕ) (bytes : List ℕ) where
 
   module _ (p : Times) (es : List (Observation KeyParts)) where
     -- a transaction leads to the same
-    ready_more : (t : KeyParts × AnySet) → IsReady (key_machines p) (key_keeping old p) es t → IsReady (key_machines p) (key_keeping (old ++ (number, bytes) ∷ []) p) es t
+    ready_more : (t : KeyParts × AnySet) → IsReady (key_keeping old p) es t → IsReady (key_keeping (old ++ (number, bytes) ∷ []) p) es t
     ready_more t (s, is, leads) =
         let machine = machine_of_key p.rules t.0 in
         let m = meaning_of machine in (
@@ -89,16 +89,16 @@ module _ (old new : Texts) (number : ℕ) (bytes : List ℕ) where
           is,
           record {
             machine_is = leads.machine_is;
-            leads = Leads-grow m.names m.seen (seen_by_names_of machine) old number bytes (m.rules p) (events_of (key_machines p) t.0 es) (newest_moment es) s.moment s.states leads.leads;
+            leads = Leads-grow m.names m.seen (seen_by_names_of machine) old number bytes (m.rules p) (events_for t.0 es) (newest_moment es) s.moment s.states leads.leads;
           },
         )
 
-    -- so do all
-    grown_ready : IsGrown old number bytes new → (ts : List (KeyParts × AnySet)) → All (IsReady (key_machines p) (key_keeping old p) es) ts → All (IsReady (key_machines p) (key_keeping new p) es) ts
-    grown_ready (inl same) ts ready = subst (λ texts. All (IsReady (key_machines p) (key_keeping texts p) es) ts) (sym same) ready
+    -- sets are ready beside a book that has grown
+    grown_ready : IsGrown old number bytes new → (ts : List (KeyParts × AnySet)) → All (IsReady (key_keeping old p) es) ts → All (IsReady (key_keeping new p) es) ts
+    grown_ready (inl same) ts ready = subst (λ texts. All (IsReady (key_keeping texts p) es) ts) (sym same) ready
     grown_ready (inr more) ts ready =
-        subst (λ texts. All (IsReady (key_machines p) (key_keeping texts p) es) ts) (sym more)
-        (All-weaker (IsReady (key_machines p) (key_keeping old p) es) (IsReady (key_machines p) (key_keeping (old ++ (number, bytes) ∷ []) p) es) ready_more ts ready)
+        subst (λ texts. All (IsReady (key_keeping texts p) es) ts) (sym more)
+        (All-weaker (IsReady (key_keeping old p) es) (IsReady (key_keeping (old ++ (number, bytes) ∷ []) p) es) ready_more ts ready)
 
   pub grown_track : IsGrown old number bytes new → (es : List (Observation KeyParts)) (t : Tabled) → TablesTrack old es t → TablesTrack new es t
   grown_track grown es t s = record { keys = s.keys; ready = grown_ready t.times es grown (transactions_of t) s.ready; good = s.good }
@@ -116,14 +116,13 @@ module _ (ks : List KeyParts) (ns : List ℕ) (old new : Tabled) (touched : Touc
 
   -- the transactions before the event, by the old times
   pub touched_track : (texts : Texts) (es : List (Observation KeyParts)) (e : Observation KeyParts) → length old.sets ≡ length old.keys → e.keys ≡ ks → TablesTrack texts es old
-      → TracksBefore (key_machines old.times) (key_keeping texts old.times) es e (transactions_of new)
+      → TracksBefore old.times (key_keeping texts old.times) es e (transactions_of new)
   touched_track texts es e long keys s =
       let p = old.times in
-      let m = key_machines p in
       let k = key_keeping texts p in
-      before_touched m k es e (transactions_of new)
-      (subst (λ xs. AreKept m k es (fold (keyed.with_key same_key) (keys_of m es) xs) (transactions_of new)) (sym keys)
-      (kept_each texts p es (keys_of m es) ks ns old new refl long touched (kept_tracked m k es (transactions_of old) s))) s.good
+      before_touched p k es e (transactions_of new)
+      (subst (λ xs. AreKept k es (fold keyed.with_key (keys_in es) xs) (transactions_of new)) (sym keys)
+      (kept_each texts p es (keys_in es) ks ns old new refl long touched (kept_tracked k es p (transactions_of old) s))) s.good
 
 -- at most two keys come with an entry
 pub few_keys : (keys : Concerned KeyParts) (ns : List ℕ) (old new : Tabled) → TouchesEach (each keys) ns old new → length new.keys ≤ length old.keys + 2
@@ -191,21 +190,21 @@ are_given t (n ∷ ns) (k ∷ ks) (low, at, rest) =
 
 module _ (verdict : Option Verdict) (old mid last : Texts) (number : ℕ) (bytes : List ℕ) (grown : IsGrown old number bytes mid) (i : Item) (moment count : ℕ) where
   -- this was told of the entry
-  abbrev Tells : Told → Type 0
-  Tells told = (es : List (Observation KeyParts)) → (e : Observation KeyParts) × message_reading.Observes es i e × IsObserved mid es i told e
+  abbrev Tells : Observed → Type 0
+  Tells told = (es : List (Observation KeyParts)) → (e : Observation KeyParts) × Sees es i e × IsObserved mid es i told e
 
   -- an entry that is not heard
   pub unheard_judged : (t v : Tabled) → i.moment ≡ moment → Tells Unheard
       → ((es : List (Observation KeyParts)) (e : Observation KeyParts) → e.fault ≡ None → newest_moment es ≤ moment → AreTold mid t.keys moment None e → TablesTrackBefore mid es e t → count ≡ length es + 1
-      → IsJudged (key_machines t.times) (key_keeping last t.times) es e (transactions_of v) verdict)
+      → IsJudged t.times (key_keeping last t.times) es e (transactions_of v) verdict)
       → (es : List (Observation KeyParts)) → TablesTrack old es t → count ≡ length es + 1 → newest_moment es ≤ moment
-      → (e : Observation KeyParts) × message_reading.Observes es i e × IsJudged (key_machines t.times) (key_keeping last t.times) es e (transactions_of v) verdict × HaveNumbers v.keys [] e.keys
+      → (e : Observation KeyParts) × Sees es i e × IsJudged t.times (key_keeping last t.times) es e (transactions_of v) verdict × HaveNumbers v.keys [] e.keys
   unheard_judged t v at tells judged es tracks counts newest =
       let (e, seen, (fine, e_at, none)) = tells es in (
         e,
         seen,
         judged es e fine newest (told_unheard mid t.keys moment e (e_at ∙ at) none)
-            (before_none (key_machines t.times) (key_keeping mid t.times) es e (transactions_of t) none (grown_track old mid number bytes grown es t tracks)) counts,
+            (before_none t.times (key_keeping mid t.times) es e (transactions_of t) none (grown_track old mid number bytes grown es t tracks)) counts,
         subst (HaveNumbers v.keys []) (sym none) tt,
       )
 
@@ -215,15 +214,15 @@ module _ (verdict : Option Verdict) (old mid last : Texts) (number : ℕ) (bytes
       → Tells (Heard event concerned)
       → ((es : List (Observation KeyParts)) (e : Observation KeyParts) → e.fault ≡ None → newest_moment es ≤ moment
       → AreTold mid u.keys moment (Some (record { event = event; concerned = numbers })) e → TablesTrackBefore mid es e u → count ≡ length es + 1
-      → IsJudged (key_machines u.times) (key_keeping last u.times) es e (transactions_of v) verdict)
+      → IsJudged u.times (key_keeping last u.times) es e (transactions_of v) verdict)
       → (es : List (Observation KeyParts)) → TablesTrack old es t → count ≡ length es + 1 → newest_moment es ≤ moment
-      → (e : Observation KeyParts) × message_reading.Observes es i e × IsJudged (key_machines t.times) (key_keeping last t.times) es e (transactions_of v) verdict × HaveNumbers v.keys (each numbers) e.keys
+      → (e : Observation KeyParts) × Sees es i e × IsJudged t.times (key_keeping last t.times) es e (transactions_of v) verdict × HaveNumbers v.keys (each numbers) e.keys
   heard_judged event concerned numbers t u v long touched apart keys at some tells judged es tracks counts newest = (
     seen,
-    (let (e, observed, is) = tells es in subst (message_reading.Observes es i) is observed),
-    subst (λ p. IsJudged (key_machines p) (key_keeping last p) es seen (transactions_of v) verdict) times
+    (let (e, observed, is) = tells es in subst (Sees es i) is observed),
+    subst (λ p. IsJudged p (key_keeping last p) es seen (transactions_of v) verdict) times
         (judged es seen refl newest (told_event mid u.keys moment (record { event = event; concerned = numbers }) seen apart some have at refl)
-        (subst (λ p. TracksBefore (key_machines p) (key_keeping mid p) es seen (transactions_of u)) (sym times)
+        (subst (λ p. TracksBefore p (key_keeping mid p) es seen (transactions_of u)) (sym times)
         (touched_track (each concerned) (each numbers) t u touched mid es seen long refl (grown_track old mid number bytes grown es t tracks))) counts),
     subst (λ all. HaveNumbers all (each numbers) (each concerned)) (sym keys) have,
   )
@@ -244,9 +243,9 @@ module _ (verdict : Option Verdict) (old mid last : Texts) (number : ℕ) (bytes
       → Tells told.Restart
       → ((es : List (Observation KeyParts)) (e : Observation KeyParts) → e.fault ≡ None → newest_moment es ≤ moment
       → AreTold mid t.keys moment (Some (record { event = event; concerned = concerned.All })) e → TablesTrackBefore mid es e t → count ≡ length es + 1
-      → IsJudged (key_machines t.times) (key_keeping last t.times) es e (transactions_of v) verdict)
+      → IsJudged t.times (key_keeping last t.times) es e (transactions_of v) verdict)
       → (es : List (Observation KeyParts)) → TablesTrack old es t → count ≡ length es + 1 → newest_moment es ≤ moment
-      → (e : Observation KeyParts) × message_reading.Observes es i e × IsJudged (key_machines t.times) (key_keeping last t.times) es e (transactions_of v) verdict × HaveNumbers v.keys (up_to (length v.keys)) e.keys
+      → (e : Observation KeyParts) × Sees es i e × IsJudged t.times (key_keeping last t.times) es e (transactions_of v) verdict × HaveNumbers v.keys (up_to (length v.keys)) e.keys
   restart_judged event t v long apart same is above at tells judged es tracks counts newest =
       let (e, seen, e_is) = tells es in
       let keys : e.keys ≡ t.keys = ap (λ x. x.keys) e_is ∙ sym (sym (keys_are t long) ∙ tracks.keys) in
@@ -258,7 +257,7 @@ module _ (verdict : Option Verdict) (old mid last : Texts) (number : ℕ) (bytes
         e,
         seen,
         judged es e (ap (λ x. x.fault) e_is) newest (told_restart mid t.keys moment (record { event = event; concerned = concerned.All }) e refl keys here heard)
-            (before_all (key_machines t.times) (key_keeping mid t.times) es e (keys_exact t.times) (transactions_of t) (ap (λ x. x.keys) e_is) (grown_track old mid number bytes grown es t tracks)) counts,
+            (before_all t.times (key_keeping mid t.times) es e (transactions_of t) (ap (λ x. x.keys) e_is) (grown_track old mid number bytes grown es t tracks)) counts,
         subst (λ ks. HaveNumbers v.keys (up_to (length v.keys)) ks) (same ∙ sym keys) (have_all v.keys),
       )
 

@@ -1,22 +1,21 @@
 -- What an event leaves of the runs of a transaction of any machine.
-use Rattle.std.proofs.Common.{◌≡◌, ◌≢◌, ◌≤◌, ℕ, List, [], ◌∷◌, ◌++◌, sym, ap, ◌∙◌, subst}
+use Rattle.std.proofs.Common.{◌≡◌, ◌≢◌, ◌≤◌, ℕ, List, [], sym, ap, ◌∙◌, subst}
 use Rattle.sip_standard.specs.Times.{Times}
 use Rattle.sip_machine.specs.Texts.{Texts}
 use Rattle.sip_machine.specs.NumberedEvent.{NumberedEvent, event_in}
 use Rattle.sip_standard.specs.MachineEvent.{MachineEvent}
-use Rattle.sip_machine.specs.Rules.{Rules, StandFor}
-use Rattle.sip_states.specs.Runs.{AfterRun, IsWide}
+use Rattle.sip_states.specs.Runs.{IsWide}
 use Rattle.sip_states.specs.Held.{Held}
 use Rattle.sip_standard.specs.KeyMachine.{MachineKind}
-use Rattle.sip_states.specs.KeySets.{PhaseOf, key_rules, StateOf, set_of}
+use Rattle.sip_states.specs.KeySets.{key_rules, StateOf, set_of}
 use Rattle.sip_states.specs.Meaning.{IsKnown, Given, HasTaken}
 use Rattle.sip_states.specs.AnySet.{meaning_of, moment_of, IsEmpty, IsKnownSet, SetTakes, IsSetTooWide}
 use Rattle.sip_states.specs.declared.any_set.AnySet.{AnySet}
 use Rattle.sip_verdict.specs.declared.passing.Fate.TheVariants.{Runs, NoRun, TooWide}
-use Rattle.sip_verdict.specs.inner.Stepping.{RunsUntil, IsStepped}
+use Rattle.sip_verdict.specs.inner.Stepping.{IsStepped}
 use Rattle.sip_verdict.specs.inner.TablesTracking.{LeadsOf, StandsOf}
 use Rattle.sip_verdict.proofs.keys.Hearing.{heard_none, heard_some, heard_wide}
-use Rattle.sip_states.proofs.keyed.ByMachine.{rules_are, lawful_of, moment_is, some_machine, of_set, to_set, of_sets}
+use Rattle.sip_states.proofs.keyed.ByMachine.{lawful_of, moment_is, some_machine, of_set, to_set, of_sets}
 
 -- the set of a machine after an event
 after_event : (texts : Texts) (e : NumberedEvent) (machine : MachineKind) (s : Held Times (StateOf machine)) (old new : AnySet) → old ≡ set_of machine s → SetTakes texts e old new
@@ -38,10 +37,6 @@ some_of : (machine : MachineKind) (t : Held Times (StateOf machine)) (new : AnyS
 some_of machine t new is some none = some (subst IsEmpty (sym is) (to_set (λ X M S m s. s.states ≡ []) machine t none))
 
 module _ (texts : Texts) (p : Times) (machine : MachineKind) (events : List MachineEvent) (from : ℕ) (old new : AnySet) (leads : LeadsOf texts p machine events from old) where
-  -- the rules of the machine, as those of its sets
-  own : Rules (PhaseOf machine)
-  own = (meaning_of machine).rules p
-
   -- the old set is not later
   low_of : (moment : ℕ) → moment_of old ≤ moment → leads.0.moment ≤ moment
   low_of moment low = subst (λ m. m ≤ moment) (ap moment_of leads.1 ∙ moment_is machine leads.0) low
@@ -52,8 +47,7 @@ module _ (texts : Texts) (p : Times) (machine : MachineKind) (events : List Mach
     hears_none takes none =
         let n = after_event texts e machine leads.0 old new leads.1 takes in
         let m = meaning_of machine in
-        subst (λ r. ¬ RunsUntil r (events ++ event_in texts e ∷ []) e.moment) (rules_are p machine)
-        (heard_none m.names m.in_range m.seen m.rules (lawful_of machine) texts p events from leads.0 n.0 leads.2 (event_in texts e) late (low_of e.moment low) n.2.states (none_of machine n.0 new n.1 none))
+        heard_none m.names m.in_range m.seen m.rules (lawful_of machine) texts p events from leads.0 n.0 leads.2 (event_in texts e) late (low_of e.moment low) n.2.states (none_of machine n.0 new n.1 none)
 
     -- some are left: the runs go on
     pub hears_some : SetTakes texts e old new → ¬ IsEmpty new → IsStepped (key_rules p machine) events (event_in texts e) (λ es. LeadsOf texts p machine es e.moment new) (λ f. StandsOf texts p machine events f new) Runs
@@ -61,19 +55,12 @@ module _ (texts : Texts) (p : Times) (machine : MachineKind) (events : List Mach
         let n = after_event texts e machine leads.0 old new leads.1 takes in
         let m = meaning_of machine in
         let h = heard_some m.names m.in_range m.seen m.rules (lawful_of machine) texts p events from leads.0 n.0 leads.2 (event_in texts e) late (low_of e.moment low) n.2.states n.2.machine n.2.at
-        (some_of machine n.0 new n.1 some) n.2.few in (
-          subst (λ r. RunsUntil r (events ++ event_in texts e ∷ []) e.moment) (rules_are p machine) h.0,
-          subst (λ r. ¬ IsWide (AfterRun r events (event_in texts e))) (rules_are p machine) h.1,
-          (n.0, n.1, h.2),
-          (n.0, n.1, subst (λ r. StandFor m.names m.in_range m.seen texts (AfterRun r events (event_in texts e)) n.0.states) (rules_are p machine) h.3),
-        )
+        (some_of machine n.0 new n.1 some) n.2.few in
+        (h.0, h.1, (n.0, n.1, h.2), (n.0, n.1, h.3))
 
     -- too many come out: there is a run, and too many last states
     pub hears_wide : IsSetTooWide texts e old → IsStepped (key_rules p machine) events (event_in texts e) (λ es. LeadsOf texts p machine es e.moment new) (λ f. StandsOf texts p machine events f new) TooWide
     hears_wide wide =
         let m = meaning_of machine in
-        let h = heard_wide m.names m.in_range m.seen m.rules (lawful_of machine) texts p events from leads.0 leads.0 leads.2 (event_in texts e) late (low_of e.moment low)
-        (of_set (λ X M S m s. IsWide (Given m texts s e)) machine leads.0 (subst (IsSetTooWide texts e) leads.1 wide)) in (
-          subst (λ r. RunsUntil r (events ++ event_in texts e ∷ []) e.moment) (rules_are p machine) h.0,
-          subst (λ r. IsWide (AfterRun r events (event_in texts e))) (rules_are p machine) h.1,
-        )
+        heard_wide m.names m.in_range m.seen m.rules (lawful_of machine) texts p events from leads.0 leads.0 leads.2 (event_in texts e) late (low_of e.moment low)
+        (of_set (λ X M S m s. IsWide (Given m texts s e)) machine leads.0 (subst (IsSetTooWide texts e) leads.1 wide))

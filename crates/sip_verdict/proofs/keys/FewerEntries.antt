@@ -7,68 +7,79 @@ use Rattle.sip_standard.specs.MachineEvent.{MachineEvent}
 use Rattle.sip_states.specs.Runs.{RuledRun}
 use Rattle.sip_standard.proofs.Few.{AllPairs-head, AllPairs-tail}
 use Rattle.sip_states.proofs.runs.FewerLemmas.{Run-fewer}
+use Rattle.sip_standard.specs.Key.{KeyParts}
+use Rattle.sip_standard.specs.Times.{Times}
+use Rattle.sip_standard.specs.KeyMachine.{machine_of_key}
+use Rattle.sip_states.specs.KeySets.{key_rules}
 use Rattle.sip_standard.specs.Observation.{Observation}
-use Rattle.sip_verdict.specs.Keyed.{Machines, concerns, events_of, newest_moment, HasRun}
+use Rattle.sip_standard.specs.VerdictOf.{events_for, RunsOver}
+use Rattle.sip_verdict.specs.Entries.{newest_moment}
+use Rattle.sip_verdict.specs.inner.Keyed.{concerns}
+use Rattle.sip_verdict.proofs.keys.RunsStand.{run-stands, stands-run}
 
-module _ {K : Type 0} where
-  -- the first is not after the second
-  abbrev IsNotBehind : Observation K → Observation K → Type 0
-  IsNotBehind a b = a.event.moment ≤ b.event.moment
+-- the first is not after the second
+abbrev IsNotAfter : Observation KeyParts → Observation KeyParts → Type 0
+IsNotAfter a b = a.event.moment ≤ b.event.moment
 
-  abbrev IsFrom : ℕ → Observation K → Type 0
-  IsFrom moment e = moment ≤ e.event.moment
+abbrev IsFrom : ℕ → Observation KeyParts → Type 0
+IsFrom moment e = moment ≤ e.event.moment
 
-  abbrev IsTo : ℕ → Observation K → Type 0
-  IsTo moment e = e.event.moment ≤ moment
+abbrev IsTo : ℕ → Observation KeyParts → Type 0
+IsTo moment e = e.event.moment ≤ moment
 
-  -- the moment of the newest entry, this one where there is none
-  abbrev newest : ℕ → List (Observation K) → ℕ
-  newest last es = fold (λ moment e. e.event.moment) last es
+-- the moment of the newest entry, this one where there is none
+abbrev newest : ℕ → List (Observation KeyParts) → ℕ
+newest last es = fold (λ moment e. e.event.moment) last es
 
-  -- the newest moment of entries in order is not before the moment from which they are
-  newest-from : (last : ℕ) (front more : List (Observation K)) → All (IsFrom last) (front ++ more) → AllPairs IsNotBehind (front ++ more) → last ≤ newest last front
-  newest-from last [] more from order = omega arith
-  newest-from last (e ∷ front) more from order =
-      let here : last ≤ e.event.moment = All-head (IsFrom last) e (front ++ more) from in
-      let later : e.event.moment ≤ newest e.event.moment front = newest-from e.event.moment front more (AllPairs-head IsNotBehind e (front ++ more) order) (AllPairs-tail IsNotBehind e (front ++ more) order) in
-      omega arith
+-- the newest moment of entries in order is not before the moment from which they are
+newest-from : (last : ℕ) (front more : List (Observation KeyParts)) → All (IsFrom last) (front ++ more) → AllPairs IsNotAfter (front ++ more) → last ≤ newest last front
+newest-from last [] more from order = omega arith
+newest-from last (e ∷ front) more from order =
+    let here : last ≤ e.event.moment = All-head (IsFrom last) e (front ++ more) from in
+    let later : e.event.moment ≤ newest e.event.moment front = newest-from e.event.moment front more (AllPairs-head IsNotAfter e (front ++ more) order) (AllPairs-tail IsNotAfter e (front ++ more) order) in
+    omega arith
 
-  -- nor is it before any of them
-  pub newest-to : (last : ℕ) (front more : List (Observation K)) → AllPairs IsNotBehind (front ++ more) → All (IsTo (newest last front)) front
-  newest-to last [] more order = All-nil (IsTo last)
-  newest-to last (e ∷ front) more order =
-      let rest = AllPairs-tail IsNotBehind e (front ++ more) order in
-      All-cons (IsTo (newest e.event.moment front)) e front (newest-from e.event.moment front more (AllPairs-head IsNotBehind e (front ++ more) order) rest) (newest-to e.event.moment front more rest)
+-- no entry is after the newest one
+pub newest-to : (last : ℕ) (front more : List (Observation KeyParts)) → AllPairs IsNotAfter (front ++ more) → All (IsTo (newest last front)) front
+newest-to last [] more order = All-nil (IsTo last)
+newest-to last (e ∷ front) more order =
+    let rest = AllPairs-tail IsNotAfter e (front ++ more) order in
+    All-cons (IsTo (newest e.event.moment front)) e front (newest-from e.event.moment front more (AllPairs-head IsNotAfter e (front ++ more) order) rest) (newest-to e.event.moment front more rest)
 
-  -- nor after any of the others
-  pub newest-before : (last : ℕ) (front more : List (Observation K)) → All (IsFrom last) (front ++ more) → AllPairs IsNotBehind (front ++ more) → All (IsFrom (newest last front)) more
-  newest-before last [] more from order = from
-  newest-before last (e ∷ front) more from order =
-      newest-before e.event.moment front more (AllPairs-head IsNotBehind e (front ++ more) order) (AllPairs-tail IsNotBehind e (front ++ more) order)
+-- the newest moment is not after any later entry
+pub newest-before : (last : ℕ) (front more : List (Observation KeyParts)) → All (IsFrom last) (front ++ more) → AllPairs IsNotAfter (front ++ more) → All (IsFrom (newest last front)) more
+newest-before last [] more from order = from
+newest-before last (e ∷ front) more from order =
+    newest-before e.event.moment front more (AllPairs-head IsNotAfter e (front ++ more) order) (AllPairs-tail IsNotAfter e (front ++ more) order)
 
-  -- and more entries have no earlier one
-  newest-more : (last : ℕ) (front more : List (Observation K)) → All (IsFrom last) (front ++ more) → AllPairs IsNotBehind (front ++ more) → newest last front ≤ newest last (front ++ more)
-  newest-more last [] [] from order = omega arith
-  newest-more last [] (e ∷ more) from order =
-      let here : last ≤ e.event.moment = All-head (IsFrom last) e more from in
-      let later : e.event.moment ≤ newest e.event.moment more = newest-more e.event.moment [] more (AllPairs-head IsNotBehind e more order) (AllPairs-tail IsNotBehind e more order) in
-      omega arith
-  newest-more last (e ∷ front) more from order =
-      newest-more e.event.moment front more (AllPairs-head IsNotBehind e (front ++ more) order) (AllPairs-tail IsNotBehind e (front ++ more) order)
+-- the newest moment of more entries is no earlier
+newest-more : (last : ℕ) (front more : List (Observation KeyParts)) → All (IsFrom last) (front ++ more) → AllPairs IsNotAfter (front ++ more) → newest last front ≤ newest last (front ++ more)
+newest-more last [] [] from order = omega arith
+newest-more last [] (e ∷ more) from order =
+    let here : last ≤ e.event.moment = All-head (IsFrom last) e more from in
+    let later : e.event.moment ≤ newest e.event.moment more = newest-more e.event.moment [] more (AllPairs-head IsNotAfter e more order) (AllPairs-tail IsNotAfter e more order) in
+    omega arith
+newest-more last (e ∷ front) more from order =
+    newest-more e.event.moment front more (AllPairs-head IsNotAfter e (front ++ more) order) (AllPairs-tail IsNotAfter e (front ++ more) order)
 
-module _ {K : Type 0} (m : Machines K) (key : K) where
+module _ (key : KeyParts) where
   -- what holds of entries holds of their events
-  pub events-all : (P : MachineEvent → Type 0) (es : List (Observation K)) → All (λ e. P e.event) es → All P (events_of m key es)
-  events-all P es all = All-map P (λ e. e.event) (filter (concerns m key) es) (All-filter (concerns m key) (λ e. P e.event) es all)
+  pub events-all : (P : MachineEvent → Type 0) (es : List (Observation KeyParts)) → All (λ e. P e.event) es → All P (events_for key es)
+  events-all P es all = All-map P (λ e. e.event) (filter (concerns key) es) (All-filter (concerns key) (λ e. P e.event) es all)
 
-  pub events-append : (front more : List (Observation K)) → events_of m key (front ++ more) ≡ events_of m key front ++ events_of m key more
-  events-append front more = ap (map (λ e. e.event)) (filter-append (concerns m key) front more) ∙ map-append (λ e. e.event) (filter (concerns m key) front) (filter (concerns m key) more)
+  pub events-append : (front more : List (Observation KeyParts)) → events_for key (front ++ more) ≡ events_for key front ++ events_for key more
+  events-append front more = ap (map (λ e. e.event)) (filter-append (concerns key) front more) ∙ map-append (λ e. e.event) (filter (concerns key) front) (filter (concerns key) more)
 
-  pub fewer-entries : (front more : List (Observation K)) → AllPairs (λ a b. a.event.moment ≤ b.event.moment) (front ++ more) → HasRun m key (front ++ more) → HasRun m key front
-  fewer-entries front more order (y, run) =
-      let from : All (IsFrom 0) (front ++ more) = λ k d within. omega arith in
-      Run-fewer (m.rules key) (events_of m key front) (events_of m key more) (newest_moment front) (newest_moment (front ++ more)) y
-      (events-all (λ f. f.moment ≤ newest_moment front) front (newest-to 0 front more order))
-      (events-all (λ f. newest_moment front ≤ f.moment) more (newest-before 0 front more from order))
-      (newest-more 0 front more from order)
-      (subst (λ events. RuledRun (m.rules key) events (newest_moment (front ++ more)) y) (events-append front more) run)
+-- a run over entries in the order of their moments holds one over the first of them
+pub fewer-entries : (p : Times) (key : KeyParts) (front more : List (Observation KeyParts)) → AllPairs IsNotAfter (front ++ more) → RunsOver p (front ++ more) key → RunsOver p front key
+fewer-entries p key front more order run =
+    let machine = machine_of_key p.rules key in
+    let r = key_rules p machine in
+    let from : All (IsFrom 0) (front ++ more) = λ k d within. omega arith in
+    let (y, whole) = stands-run p machine (events_for key (front ++ more)) (newest_moment (front ++ more)) run in
+    run-stands p machine (events_for key front) (newest_moment front)
+    (Run-fewer r (events_for key front) (events_for key more) (newest_moment front) (newest_moment (front ++ more)) y
+    (events-all key (λ f. f.moment ≤ newest_moment front) front (newest-to 0 front more order))
+    (events-all key (λ f. newest_moment front ≤ f.moment) more (newest-before 0 front more from order))
+    (newest-more 0 front more from order)
+    (subst (λ events. RuledRun r events (newest_moment (front ++ more)) y) (events-append key front more) whole))

@@ -14,8 +14,9 @@ use Rattle.sip_states.specs.declared.any_set.AnySet.{AnySet}
 use Rattle.sip_verdict.specs.declared.passing.Fate.{Fate}
 use Rattle.sip_verdict.specs.declared.passing.Fate.TheVariants.{Runs}
 use Rattle.sip_standard.specs.Observation.{Observation}
-use Rattle.sip_verdict.specs.Keyed.{Machines, concerns, events_of, newest_moment, HasRun}
-use Rattle.sip_verdict.specs.MessageReading.{key_machines}
+use Rattle.sip_standard.specs.VerdictOf.{events_for, RunsOver}
+use Rattle.sip_verdict.specs.Entries.{newest_moment}
+use Rattle.sip_verdict.specs.inner.Keyed.{concerns}
 use Rattle.sip_verdict.specs.inner.Stepping.{IsStepped}
 use Rattle.sip_verdict.specs.inner.Tracking.{Keeping, IsReady, GoesOn, IsPassed}
 use Rattle.sip_verdict.specs.inner.TablesTracking.{LeadsOf, StandsOf, key_keeping}
@@ -24,47 +25,44 @@ use Rattle.sip_verdict.proofs.keys.QuietSets.{leads_later, quiet_stepped}
 use Rattle.sip_verdict.proofs.keys.Stepped.{own_passed, other_passed, run_still}
 
 module _ (texts : Texts) (p : Times) (es : List (Observation KeyParts)) (e : Observation KeyParts) (key : KeyParts) (s : AnySet)
-    (ready : IsReady (key_machines p) (key_keeping texts p) es (key, s)) (late : newest_moment es ≤ e.event.moment) where
-  abbrev m : Machines KeyParts
-  m = key_machines p
-
-  abbrev k : Keeping KeyParts (KeyParts × AnySet)
+    (ready : IsReady (key_keeping texts p) es (key, s)) (late : newest_moment es ≤ e.event.moment) where
+  abbrev k : Keeping (KeyParts × AnySet)
   k = key_keeping texts p
 
   abbrev machine : MachineKind
   machine = machine_of_key p.rules key
 
   abbrev events : List MachineEvent
-  events = events_of m key es
+  events = events_for key es
 
   -- what an event leaves of it
   abbrev Steps : MachineEvent → AnySet → Fate → Type 0
   Steps f after fate = IsStepped (key_rules p machine) events f (λ fs. LeadsOf texts p machine fs f.moment after) (λ g. StandsOf texts p machine events g after) fate
 
   -- once it has heard the entry's event
-  pub heard_left : (event : NumberedEvent) → e.event ≡ event_in texts event → concerns m key e ≡ true → (after : AnySet) (fate : Fate)
+  pub heard_left : (event : NumberedEvent) → e.event ≡ event_in texts event → concerns key e ≡ true → (after : AnySet) (fate : Fate)
       → ((q : Times) (kind : MachineKind) (fs : List MachineEvent) (from : ℕ) → from ≤ event.moment → LeadsOf texts q kind fs from s
       → IsStepped (key_rules q kind) fs (event_in texts event) (λ gs. LeadsOf texts q kind gs event.moment after) (λ g. StandsOf texts q kind fs g after) fate)
-      → IsPassed m k es e (key, after) fate
+      → IsPassed p k es e (key, after) fate
   heard_left event is concerned after fate stepped =
-      own_passed m k es e (key, after) concerned fate
+      own_passed p k es e (key, after) concerned fate
       (subst (λ f. Steps f after fate) (sym is) (stepped p machine events (newest_moment es) (subst (λ f. newest_moment es ≤ f.moment) is late) ready))
 
   module _ (low : moment_of s ≤ e.event.moment) where
     -- after its last moment it has no run
-    pub overdue_breaks : (limit : Option ℕ) → IsAgendaOf limit s → is_overdue e.event.moment (Some limit) ≡ true → ¬ HasRun m key (es ++ e ∷ [])
+    pub overdue_breaks : (limit : Option ℕ) → IsAgendaOf limit s → is_overdue e.event.moment (Some limit) ≡ true → ¬ RunsOver p (es ++ e ∷ []) key
     overdue_breaks limit agenda past run =
-        overdue_none texts p machine events (newest_moment es) s ready limit agenda e.event.moment late low past (run_still m k es e (key, s) run)
+        overdue_none texts p machine events (newest_moment es) s ready limit agenda e.event.moment late low past (run_still p k es e (key, s) run)
 
     -- up to it, it goes on if the entry does not concern it
-    pub in_time_goes : (limit : Option ℕ) → IsAgendaOf limit s → is_overdue e.event.moment (Some limit) ≡ false → concerns m key e ≡ false → GoesOn m k es e (key, s)
+    pub in_time_goes : (limit : Option ℕ) → IsAgendaOf limit s → is_overdue e.event.moment (Some limit) ≡ false → concerns key e ≡ false → GoesOn p k es e (key, s)
     in_time_goes limit agenda in_time apart =
-        other_passed m k es e (key, s) apart (in_time_some texts p machine events (newest_moment es) s ready limit agenda e.event.moment late low in_time)
+        other_passed p k es e (key, s) apart (in_time_some texts p machine events (newest_moment es) s ready limit agenda e.event.moment late low in_time)
         (leads_later texts p machine events (newest_moment es) e.event.moment s late ready)
 
-    -- and a restart leaves it where it is quiet
-    pub quiet_goes : (event : NumberedEvent) → e.event ≡ event_in texts event → event.action ≡ Restart → IsQuietSet s → concerns m key e ≡ true → GoesOn m k es e (key, s)
+    -- a quiet set goes on over a restart
+    pub quiet_goes : (event : NumberedEvent) → e.event ≡ event_in texts event → event.action ≡ Restart → IsQuietSet s → concerns key e ≡ true → GoesOn p k es e (key, s)
     quiet_goes event is restart quiet concerned =
-        own_passed m k es e (key, s) concerned Runs
+        own_passed p k es e (key, s) concerned Runs
         (subst (λ f. Steps f s Runs) (sym is)
         (quiet_stepped texts p machine events (newest_moment es) s ready quiet event restart (subst (λ f. newest_moment es ≤ f.moment) is late) (subst (λ f. moment_of s ≤ f.moment) is low)))

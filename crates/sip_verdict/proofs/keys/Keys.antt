@@ -1,19 +1,19 @@
 -- The keys of entries, and the events of a key, with one entry more.
-use Rattle.std.proofs.Common.{◌≡◌, ◌↔◌, zero, suc, Bool, true, false, cond, ◌||◌, List, [], ◌∷◌, ◌++◌, Contains, map, refl, sym, ap, ◌∙◌, arith}
+use Rattle.std.proofs.Common.{◌≡◌, zero, suc, Bool, true, false, cond, ◌||◌, List, [], ◌∷◌, ◌++◌, All, Contains, map, refl, sym, ap, ◌∙◌, arith}
 use Rattle.std.specs.Prelude.{filter, fold, flat_map}
 use Rattle.std.specs.List.{list_any}
 use Rattle.std.proofs.lemmas.Bool.{false≢true}
 use Rattle.std.proofs.lemmas.List.{map-append, append-nil}
-use Rattle.std.proofs.lemmas.List.Elements.{filter-append}
+use Rattle.std.proofs.lemmas.List.Elements.{filter-append, All-head, All-tail, Contains-get_or}
 use Rattle.std.proofs.lemmas.List.Folds.{list_any-append}
 use Rattle.std.proofs.lemmas.List.Sums.{fold-append}
 use Rattle.std.proofs.lemmas.Grind.{flat_map-append}
+use Rattle.sip_standard.specs.Key.{KeyParts, same_key}
+use Rattle.sip_key.specs.inner.KeyLaws.{same_key-decides}
 use Rattle.sip_standard.specs.Observation.{Observation}
-use Rattle.sip_verdict.specs.Keyed.{Machines, with_key, keys_of, concerns, events_of, newest_moment}
-
--- the comparison of keys is exact
-abbrev pub IsExact : {K : Type 0} → Machines K → Type 0
-IsExact {K} m = (a b : K) → (m.same a b ≡ true) ↔ (a ≡ b)
+use Rattle.sip_standard.specs.VerdictOf.{keys_in, events_for}
+use Rattle.sip_verdict.specs.Entries.{newest_moment}
+use Rattle.sip_verdict.specs.inner.Keyed.{with_key, concerns}
 
 -- a test decides between two values
 pub cond_false : {A : Type 0} (b : Bool) (x y : A) → b ≡ false → cond b x y ≡ y
@@ -32,79 +32,92 @@ or_true true b h = refl
 or_true false b h = h
 
 -- the newest moment is that of the last entry
-pub newest_moment-push : {K : Type 0} (es : List (Observation K)) (e : Observation K) → newest_moment (es ++ e ∷ []) ≡ e.event.moment
+pub newest_moment-push : (es : List (Observation KeyParts)) (e : Observation KeyParts) → newest_moment (es ++ e ∷ []) ≡ e.event.moment
 newest_moment-push es e = fold-append (λ moment f. f.event.moment) 0 es (e ∷ [])
 
-module _ {K : Type 0} (m : Machines K) where
-  -- the keys of one entry more
-  pub keys_of-push : (es : List (Observation K)) (e : Observation K) → keys_of m (es ++ e ∷ []) ≡ fold (with_key m.same) (keys_of m es) e.keys
-  keys_of-push es e =
-      ap (fold (with_key m.same) []) (flat_map-append (λ f. f.keys) es (e ∷ []) ∙ ap (λ keys. flat_map (λ f. f.keys) es ++ keys) (append-nil e.keys))
-      ∙ fold-append (with_key m.same) [] (flat_map (λ f. f.keys) es) e.keys
+-- the keys of one entry more
+pub keys_in-push : (es : List (Observation KeyParts)) (e : Observation KeyParts) → keys_in (es ++ e ∷ []) ≡ fold with_key (keys_in es) e.keys
+keys_in-push es e =
+    ap (fold with_key []) (flat_map-append (λ f. f.keys) es (e ∷ []) ∙ ap (λ keys. flat_map (λ f. f.keys) es ++ keys) (append-nil e.keys))
+    ∙ fold-append with_key [] (flat_map (λ f. f.keys) es) e.keys
 
-  -- the events of one entry more
-  events_of-push : (key : K) (es : List (Observation K)) (e : Observation K) → events_of m key (es ++ e ∷ []) ≡ events_of m key es ++ map (λ f. f.event) (cond (concerns m key e) (e ∷ []) [])
-  events_of-push key es e = ap (map (λ f. f.event)) (filter-append (concerns m key) es (e ∷ [])) ∙ map-append (λ f. f.event) (filter (concerns m key) es) (cond (concerns m key e) (e ∷ []) [])
+-- an entry that concerns no key brings none
+pub keys_in-none : (es : List (Observation KeyParts)) (e : Observation KeyParts) → e.keys ≡ [] → keys_in (es ++ e ∷ []) ≡ keys_in es
+keys_in-none es e none = keys_in-push es e ∙ ap (fold with_key (keys_in es)) none
 
-  -- an entry that concerns the key adds its event
-  pub events_of-concerned : (key : K) (es : List (Observation K)) (e : Observation K) → concerns m key e ≡ true → events_of m key (es ++ e ∷ []) ≡ events_of m key es ++ e.event ∷ []
-  events_of-concerned key es e h = events_of-push key es e ∙ ap (λ b. events_of m key es ++ map (λ f. f.event) (cond b (e ∷ []) [])) h
+-- the events of one entry more
+events_for-push : (key : KeyParts) (es : List (Observation KeyParts)) (e : Observation KeyParts) → events_for key (es ++ e ∷ []) ≡ events_for key es ++ map (λ f. f.event) (cond (concerns key e) (e ∷ []) [])
+events_for-push key es e = ap (map (λ f. f.event)) (filter-append (concerns key) es (e ∷ [])) ∙ map-append (λ f. f.event) (filter (concerns key) es) (cond (concerns key e) (e ∷ []) [])
 
-  -- any other entry adds none
-  pub events_of-other : (key : K) (es : List (Observation K)) (e : Observation K) → concerns m key e ≡ false → events_of m key (es ++ e ∷ []) ≡ events_of m key es
-  events_of-other key es e h = events_of-push key es e ∙ ap (λ b. events_of m key es ++ map (λ f. f.event) (cond b (e ∷ []) [])) h ∙ append-nil (events_of m key es)
+-- an entry that concerns the key adds its event
+pub events_for-concerned : (key : KeyParts) (es : List (Observation KeyParts)) (e : Observation KeyParts) → concerns key e ≡ true → events_for key (es ++ e ∷ []) ≡ events_for key es ++ e.event ∷ []
+events_for-concerned key es e h = events_for-push key es e ∙ ap (λ b. events_for key es ++ map (λ f. f.event) (cond b (e ∷ []) [])) h
 
-  -- a key that is found among some is one of them
-  pub among-contains : IsExact m → (key : K) (keys : List K) → list_any (m.same key) keys ≡ true → Contains keys key
-  among-contains exact key [] h = absurd (false≢true h)
-  among-contains exact key (k ∷ keys) h = go (m.same key k) refl (among-contains exact key keys) h
-    where
-      go : (b : Bool) → m.same key k ≡ b → (list_any (m.same key) keys ≡ true → Contains keys key) → (b || list_any (m.same key) keys) ≡ true → Contains (k ∷ keys) key
-      go true e below h = (0, omega arith, sym ((exact key k).0 e))
-      go false e below h = let c = below h in (suc c.0, omega (arith, c.1), c.2)
+-- any other entry adds none
+pub events_for-other : (key : KeyParts) (es : List (Observation KeyParts)) (e : Observation KeyParts) → concerns key e ≡ false → events_for key (es ++ e ∷ []) ≡ events_for key es
+events_for-other key es e h = events_for-push key es e ∙ ap (λ b. events_for key es ++ map (λ f. f.event) (cond b (e ∷ []) [])) h ∙ append-nil (events_for key es)
 
-  -- a key that is one of some is found among them
-  pub contains-among : IsExact m → (key : K) (keys : List K) → Contains keys key → list_any (m.same key) keys ≡ true
-  contains-among exact key [] h = absurd (omega (arith, h.1))
-  contains-among exact key (k ∷ keys) (zero, lt, h) = ap (λ b. b || list_any (m.same key) keys) ((exact key k).1 (sym h))
-  contains-among exact key (k ∷ keys) (suc n, lt, h) = or_true (m.same key k) (list_any (m.same key) keys) (contains-among exact key keys (n, omega arith, h))
+-- a key that is found among some is one of them
+pub among-contains : (key : KeyParts) (keys : List KeyParts) → list_any (same_key key) keys ≡ true → Contains keys key
+among-contains key [] h = absurd (false≢true h)
+among-contains key (k ∷ keys) h = go (same_key key k) refl (among-contains key keys) h
+  where
+    go : (b : Bool) → same_key key k ≡ b → (list_any (same_key key) keys ≡ true → Contains keys key) → (b || list_any (same_key key) keys) ≡ true → Contains (k ∷ keys) key
+    go true e below h = (0, omega arith, sym ((same_key-decides key k).0 e))
+    go false e below h = let c = below h in (suc c.0, omega (arith, c.1), c.2)
 
-  -- a key that is none of some is not found
-  pub not_among : IsExact m → (key : K) (keys : List K) → ¬ Contains keys key → list_any (m.same key) keys ≡ false
-  not_among exact key keys none = go (list_any (m.same key) keys) refl
-    where
-      go : (b : Bool) → list_any (m.same key) keys ≡ b → b ≡ false
-      go true e = absurd (none (among-contains exact key keys e))
-      go false e = refl
+-- a key that is one of some is found among them
+pub contains-among : (key : KeyParts) (keys : List KeyParts) → Contains keys key → list_any (same_key key) keys ≡ true
+contains-among key [] h = absurd (omega (arith, h.1))
+contains-among key (k ∷ keys) (zero, lt, h) = ap (λ b. b || list_any (same_key key) keys) ((same_key-decides key k).1 (sym h))
+contains-among key (k ∷ keys) (suc n, lt, h) = or_true (same_key key k) (list_any (same_key key) keys) (contains-among key keys (n, omega arith, h))
 
-  -- what is not found among them with one key more is not among them, and is not the new one
-  pub among-with_key : IsExact m → (key : K) (keys : List K) (k : K) → list_any (m.same key) (with_key m.same keys k) ≡ false → (list_any (m.same key) keys ≡ false) × (m.same key k ≡ false)
-  among-with_key exact key keys k h = go (list_any (m.same k) keys) refl h
-    where
-      old : (b : Bool) → m.same key k ≡ b → list_any (m.same k) keys ≡ true → list_any (m.same key) keys ≡ false → b ≡ false
-      old false e known none = refl
-      old true e known none = absurd (false≢true (sym none ∙ ap (λ x. list_any (m.same x) keys) ((exact key k).0 e) ∙ known))
+-- keys that are among them bring none
+known_keys : (keys more : List KeyParts) → All (Contains keys) more → fold with_key keys more ≡ keys
+known_keys keys [] among = refl
+known_keys keys (key ∷ more) among =
+    ap (λ ks. fold with_key ks more) (cond_true (list_any (same_key key) keys) keys (keys ++ key ∷ []) (contains-among key keys (All-head (Contains keys) key more among)))
+    ∙ known_keys keys more (All-tail (Contains keys) key more among)
 
-      go : (b : Bool) → list_any (m.same k) keys ≡ b → list_any (m.same key) (cond b keys (keys ++ k ∷ [])) ≡ false → (list_any (m.same key) keys ≡ false) × (m.same key k ≡ false)
-      go true e none = (none, old (m.same key k) refl e none)
-      go false e none = let (a, b) = or_false _ _ (sym (list_any-append (m.same key) keys (k ∷ [])) ∙ none) in (a, (or_false _ _ b).0)
+-- an entry that concerns the keys of those before it brings none
+pub keys_in-all : (es : List (Observation KeyParts)) (e : Observation KeyParts) → e.keys ≡ keys_in es → keys_in (es ++ e ∷ []) ≡ keys_in es
+keys_in-all es e all = keys_in-push es e ∙ ap (fold with_key (keys_in es)) all ∙ known_keys (keys_in es) (keys_in es) (λ n d low. Contains-get_or (keys_in es) n d low)
 
-  -- the same for several keys
-  pub among-fold : IsExact m → (key : K) (keys more : List K) → list_any (m.same key) (fold (with_key m.same) keys more) ≡ false
-      → (list_any (m.same key) keys ≡ false) × (list_any (m.same key) more ≡ false)
-  among-fold exact key keys [] h = (h, refl)
-  among-fold exact key keys (k ∷ more) h =
-      let (a, b) = among-fold exact key (with_key m.same keys k) more h in
-      let (c, d) = among-with_key exact key keys k a in
-      (c, ap (λ t. t || list_any (m.same key) more) d ∙ b)
+-- a key that is none of some is not found
+pub not_among : (key : KeyParts) (keys : List KeyParts) → ¬ Contains keys key → list_any (same_key key) keys ≡ false
+not_among key keys none = go (list_any (same_key key) keys) refl
+  where
+    go : (b : Bool) → list_any (same_key key) keys ≡ b → b ≡ false
+    go true e = absurd (none (among-contains key keys e))
+    go false e = refl
 
-  -- no entry concerns a key that is not among their keys
-  no_events : (key : K) (es : List (Observation K)) → list_any (m.same key) (flat_map (λ e. e.keys) es) ≡ false → events_of m key es ≡ []
-  no_events key [] h = refl
-  no_events key (e ∷ es) h =
-      let (a, b) = or_false _ _ (sym (list_any-append (m.same key) e.keys (flat_map (λ f. f.keys) es)) ∙ h) in
-      ap (λ t. map (λ f. f.event) (cond t (e ∷ filter (concerns m key) es) (filter (concerns m key) es))) a ∙ no_events key es b
+-- what is not found among them with one key more is not among them, and is not the new one
+pub among-with_key : (key : KeyParts) (keys : List KeyParts) (k : KeyParts) → list_any (same_key key) (with_key keys k) ≡ false → (list_any (same_key key) keys ≡ false) × (same_key key k ≡ false)
+among-with_key key keys k h = go (list_any (same_key k) keys) refl h
+  where
+    old : (b : Bool) → same_key key k ≡ b → list_any (same_key k) keys ≡ true → list_any (same_key key) keys ≡ false → b ≡ false
+    old false e known none = refl
+    old true e known none = absurd (false≢true (sym none ∙ ap (λ x. list_any (same_key x) keys) ((same_key-decides key k).0 e) ∙ known))
 
-  -- a new key has no event
-  pub new_key : IsExact m → (key : K) (es : List (Observation K)) → list_any (m.same key) (keys_of m es) ≡ false → events_of m key es ≡ []
-  new_key exact key es h = no_events key es (among-fold exact key [] (flat_map (λ e. e.keys) es) h).1
+    go : (b : Bool) → list_any (same_key k) keys ≡ b → list_any (same_key key) (cond b keys (keys ++ k ∷ [])) ≡ false → (list_any (same_key key) keys ≡ false) × (same_key key k ≡ false)
+    go true e none = (none, old (same_key key k) refl e none)
+    go false e none = let (a, b) = or_false _ _ (sym (list_any-append (same_key key) keys (k ∷ [])) ∙ none) in (a, (or_false _ _ b).0)
+
+-- a key that is none of several keys is not among them once they are added
+pub among-fold : (key : KeyParts) (keys more : List KeyParts) → list_any (same_key key) (fold with_key keys more) ≡ false → (list_any (same_key key) keys ≡ false) × (list_any (same_key key) more ≡ false)
+among-fold key keys [] h = (h, refl)
+among-fold key keys (k ∷ more) h =
+    let (a, b) = among-fold key (with_key keys k) more h in
+    let (c, d) = among-with_key key keys k a in
+    (c, ap (λ t. t || list_any (same_key key) more) d ∙ b)
+
+-- no entry concerns a key that is not among their keys
+no_events : (key : KeyParts) (es : List (Observation KeyParts)) → list_any (same_key key) (flat_map (λ e. e.keys) es) ≡ false → events_for key es ≡ []
+no_events key [] h = refl
+no_events key (e ∷ es) h =
+    let (a, b) = or_false _ _ (sym (list_any-append (same_key key) e.keys (flat_map (λ f. f.keys) es)) ∙ h) in
+    ap (λ t. map (λ f. f.event) (cond t (e ∷ filter (concerns key) es) (filter (concerns key) es))) a ∙ no_events key es b
+
+-- a new key has no event
+pub new_key : (key : KeyParts) (es : List (Observation KeyParts)) → list_any (same_key key) (keys_in es) ≡ false → events_for key es ≡ []
+new_key key es h = no_events key es (among-fold key [] (flat_map (λ e. e.keys) es) h).1

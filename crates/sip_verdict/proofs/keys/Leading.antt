@@ -1,8 +1,9 @@
+-- How a set that leads to where the runs stand goes on to lead there.
 use Rattle.std.proofs.Common.{◌≡◌, ◌≤◌, ◌↔◌, ℕ, List, [], ◌∷◌, ◌++◌, All, Contains, map, get_or, subst, arith}
 use Rattle.std.proofs.lemmas.List.Elements.{All-cons, All-nil, All-weaker, Contains-get_or}
 use Rattle.sip_machine.specs.Texts.{Texts, text_of}
 use Rattle.sip_standard.specs.MachineEvent.{MachineEvent}
-use Rattle.sip_machine.specs.Rules.{Rules, Waits, Knows, StandFor}
+use Rattle.sip_machine.specs.Rules.{MachineRules, Waits, Knows, StandFor}
 use Rattle.sip_states.specs.Runs.{Wait, RunGives, RuledRun, AfterRun}
 use Rattle.sip_machine.proofs.rules.RuleLaws.{AgreeOn, AgreeOn-grow, map-seen}
 use Rattle.sip_verdict.specs.inner.Leads.{Leads}
@@ -10,19 +11,17 @@ use Rattle.sip_states.proofs.lists.Listed.{Contains-single, Contains-none, Conta
 use Rattle.sip_states.proofs.runs.RunLemmas.{Run-wait, Run-wait_first, After-run}
 use Rattle.sip_states.proofs.sets.Waiting.{Wait-iff, Gives-iff, Wait-stay}
 
--- How a set that leads to where the runs stand goes on to lead there.
-
 -- one fact that holds just as another and that as a third hold alike
 pub iff_trans : {A B C : Type 0} → A ↔ B → B ↔ C → A ↔ C
 iff_trans e f = (λ a. f.0 (e.0 a), λ c. e.1 (f.1 c))
 
--- and the other way round
+-- two facts that hold alike hold alike the other way round
 pub iff_sym : {A B : Type 0} → A ↔ B → B ↔ A
 iff_sym e = (e.1, e.0)
 
 module _ {X S : Type 0} (names : S → List ℕ) (seen : Texts → S → X) where
   -- the first state alone leads to the runs over no event
-  pub Leads-start : (texts : Texts) (r : Rules X) (first : S) → seen texts first ≡ r.first → Knows names texts first → (from : ℕ) → Leads names seen texts r [] from 0 (first ∷ [])
+  pub Leads-start : (texts : Texts) (r : MachineRules X) (first : S) → seen texts first ≡ r.first → Knows names texts first → (from : ℕ) → Leads names seen texts r [] from 0 (first ∷ [])
   Leads-start texts r first is known from =
       record {
         known = All-cons (Knows names texts) first [] known (All-nil (Knows names texts));
@@ -33,7 +32,7 @@ module _ {X S : Type 0} (names : S → List ℕ) (seen : Texts → S → X) wher
       }
 
   -- an event gives from where a set leads exactly the last states of runs
-  pub gives_after : (texts : Texts) (r : Rules X) (events : List MachineEvent) (from moment : ℕ) (states : List S) → Leads names seen texts r events from moment states →
+  pub gives_after : (texts : Texts) (r : MachineRules X) (events : List MachineEvent) (from moment : ℕ) (states : List S) → Leads names seen texts r events from moment states →
       (e : MachineEvent) → from ≤ e.moment → moment ≤ e.moment → (x : X) → RunGives r (Wait r (Contains (map (seen texts) states)) moment e.moment) e x ↔ AfterRun r events e x
   gives_after texts r events from moment states leads e late low x =
       iff_trans
@@ -41,14 +40,14 @@ module _ {X S : Type 0} (names : S → List ℕ) (seen : Texts → S → X) wher
       (iff_sym (After-run r events e x))
 
   -- an empty set leads to no run
-  pub Leads-none : (texts : Texts) (r : Rules X) (events : List MachineEvent) (from moment : ℕ) (states : List S) → Leads names seen texts r events from moment states →
+  pub Leads-none : (texts : Texts) (r : MachineRules X) (events : List MachineEvent) (from moment : ℕ) (states : List S) → Leads names seen texts r events from moment states →
       states ≡ [] → (n : ℕ) → from ≤ n → moment ≤ n → (x : X) → RuledRun r events n x → ⊥
   Leads-none texts r events from moment states leads none n late low x run =
       let wait = (leads.runs n x late low).1 run in
       Contains-none wait.start (subst (λ xs. Contains (map (seen texts) xs) wait.start) none wait.begins)
 
   -- a state of the set that can wait at its moment is where a run stands
-  pub Leads-some : (texts : Texts) (r : Rules X) (events : List MachineEvent) (from moment : ℕ) (states : List S) → Leads names seen texts r events from moment states → from ≤ moment →
+  pub Leads-some : (texts : Texts) (r : MachineRules X) (events : List MachineEvent) (from moment : ℕ) (states : List S) → Leads names seen texts r events from moment states → from ≤ moment →
       (s : S) → Contains states s → Waits r (seen texts s) moment → RuledRun r events moment (seen texts s)
   Leads-some texts r events from moment states leads late s member waits =
       let reached : moment ≤ moment = omega arith in
@@ -58,7 +57,7 @@ module _ {X S : Type 0} (names : S → List ℕ) (seen : Texts → S → X) wher
 
   -- a set leads to the same beside a book that agrees on what it names
   pub Leads-book : ((a b : Texts) (x : S) → ((n : ℕ) → Contains (names x) n → text_of a n ≡ text_of b n) → seen a x ≡ seen b x) →
-      (a b : Texts) (r : Rules X) (events : List MachineEvent) (from moment : ℕ) (states : List S) → All (AgreeOn names a b) states →
+      (a b : Texts) (r : MachineRules X) (events : List MachineEvent) (from moment : ℕ) (states : List S) → All (AgreeOn names a b) states →
       Leads names seen a r events from moment states → Leads names seen b r events from moment states
   Leads-book by_names a b r events from moment states agree leads =
       record {
@@ -66,15 +65,15 @@ module _ {X S : Type 0} (names : S → List ℕ) (seen : Texts → S → X) wher
         runs = λ n x late low. subst (λ xs. Wait r (Contains xs) moment n x ↔ RuledRun r events n x) (map-seen names seen by_names a b states agree) (leads.runs n x late low);
       }
 
-  -- and so when the book grows
+  -- a set leads to the same when the book grows
   pub Leads-grow : ((a b : Texts) (x : S) → ((n : ℕ) → Contains (names x) n → text_of a n ≡ text_of b n) → seen a x ≡ seen b x) →
-      (texts : Texts) (number : ℕ) (bytes : List ℕ) (r : Rules X) (events : List MachineEvent) (from moment : ℕ) (states : List S) →
+      (texts : Texts) (number : ℕ) (bytes : List ℕ) (r : MachineRules X) (events : List MachineEvent) (from moment : ℕ) (states : List S) →
       Leads names seen texts r events from moment states → Leads names seen (texts ++ (number, bytes) ∷ []) r events from moment states
   Leads-grow by_names texts number bytes r events from moment states leads =
       Leads-book by_names texts (texts ++ (number, bytes) ∷ []) r events from moment states
       (All-weaker (Knows names texts) (AgreeOn names texts (texts ++ (number, bytes) ∷ [])) (AgreeOn-grow names texts number bytes) states leads.known) leads
 
-module _ {X S : Type 0} (names : S → List ℕ) (InRange : S → Type 0) (seen : Texts → S → X) (texts : Texts) (r : Rules X) where
+module _ {X S : Type 0} (names : S → List ℕ) (InRange : S → Type 0) (seen : Texts → S → X) (texts : Texts) (r : MachineRules X) where
   -- what an event gives from where a set leads leads on
   pub Leads-take : (events : List MachineEvent) (from moment : ℕ) (states : List S) → Leads names seen texts r events from moment states →
       (e : MachineEvent) → from ≤ e.moment → moment ≤ e.moment → (new : List S) → StandFor names InRange seen texts (RunGives r (Wait r (Contains (map (seen texts) states)) moment e.moment) e) new →
@@ -89,6 +88,6 @@ module _ {X S : Type 0} (names : S → List ℕ) (InRange : S → Type 0) (seen 
       }
 
 -- it leads there from any later moment on
-pub Leads-later : {X S : Type 0} (names : S → List ℕ) (seen : Texts → S → X) (texts : Texts) (r : Rules X) (events : List MachineEvent) (from later moment : ℕ) (states : List S) → from ≤ later
+pub Leads-later : {X S : Type 0} (names : S → List ℕ) (seen : Texts → S → X) (texts : Texts) (r : MachineRules X) (events : List MachineEvent) (from later moment : ℕ) (states : List S) → from ≤ later
     → Leads names seen texts r events from moment states → Leads names seen texts r events later moment states
 Leads-later names seen texts r events from later moment states low leads = record { known = leads.known; runs = λ n x reached. leads.runs n x (omega (arith, low, reached)) }

@@ -1,8 +1,9 @@
+-- What one event leaves of the runs of one machine, and how a set tells it.
 use Rattle.std.proofs.Common.{◌≡◌, ◌≢◌, ◌≤◌, ◌↔◌, ℕ, List, [], ◌∷◌, ◌++◌, All, Contains, map, length, refl, arith}
 use Rattle.std.proofs.lemmas.List.Elements.{All-contains}
 use Rattle.sip_machine.specs.Texts.{Texts}
 use Rattle.sip_standard.specs.MachineEvent.{MachineEvent}
-use Rattle.sip_machine.specs.Rules.{Rules, IsLawful, Waits, StandFor}
+use Rattle.sip_machine.specs.Rules.{MachineRules, IsLawful, Waits, StandFor}
 use Rattle.sip_states.specs.Runs.{Wait, RunGives, RuledRun, AfterRun, IsWide, widest}
 use Rattle.sip_verdict.specs.inner.Leads.{Leads}
 use Rattle.sip_states.proofs.lists.Listed.{Contains-here}
@@ -11,9 +12,7 @@ use Rattle.sip_states.proofs.runs.RunLemmas.{Run-wait}
 use Rattle.sip_states.proofs.sets.Waiting.{Wait-stay}
 use Rattle.sip_verdict.proofs.keys.Leading.{iff_trans, gives_after, Leads-none, Leads-some}
 
--- What one event leaves of the runs of one machine, and how a set tells it.
-
-module _ {X S : Type 0} (names : S → List ℕ) (seen : Texts → S → X) (texts : Texts) (r : Rules X) (events : List MachineEvent) (from moment : ℕ) (states : List S)
+module _ {X S : Type 0} (names : S → List ℕ) (seen : Texts → S → X) (texts : Texts) (r : MachineRules X) (events : List MachineEvent) (from moment : ℕ) (states : List S)
     (leads : Leads names seen texts r events from moment states) (late : from ≤ moment) where
   -- an empty set means that there is no run at its moment
   pub none_runs : states ≡ [] → ¬ ((x : X) × RuledRun r events moment x)
@@ -29,7 +28,7 @@ module _ {X S : Type 0} (names : S → List ℕ) (seen : Texts → S → X) (tex
       first_of_some [] some = absurd (some refl)
       first_of_some (x ∷ xs) some = (x, Contains-here x xs)
 
-module _ {X S : Type 0} (names : S → List ℕ) (InRange : S → Type 0) (seen : Texts → S → X) (texts : Texts) (r : Rules X)
+module _ {X S : Type 0} (names : S → List ℕ) (InRange : S → Type 0) (seen : Texts → S → X) (texts : Texts) (r : MachineRules X)
     (events : List MachineEvent) (from moment : ℕ) (states : List S) (leads : Leads names seen texts r events from moment states) (e : MachineEvent) (late : from ≤ e.moment) (low : moment ≤ e.moment) where
   -- after the event the set holds just the last states of the runs that end with it
   pub took_after : (new : List S) → StandFor names InRange seen texts (RunGives r (Wait r (Contains (map (seen texts) states)) moment e.moment) e) new →
@@ -44,7 +43,7 @@ module _ {X S : Type 0} (names : S → List ℕ) (InRange : S → Type 0) (seen 
       (wide_among (AfterRun r events e) (RunGives r (Wait r (Contains (map (seen texts) states)) moment e.moment) e)
       (λ x. (gives_after names seen texts r events from moment states leads e late low x).1) wide)
 
-module _ {X S : Type 0} (names : S → List ℕ) (seen : Texts → S → X) (texts : Texts) (r : Rules X) (lawful : IsLawful r)
+module _ {X S : Type 0} (names : S → List ℕ) (seen : Texts → S → X) (texts : Texts) (r : MachineRules X) (lawful : IsLawful r)
     (events : List MachineEvent) (from moment : ℕ) (states : List S) (leads : Leads names seen texts r events from moment states) (e : MachineEvent) (late : from ≤ e.moment) (low : moment ≤ e.moment) where
   -- a state that the event gives is where a run stands at its moment
   pub given_runs : (x : X) → RunGives r (Wait r (Contains (map (seen texts) states)) moment e.moment) e x → RuledRun r (events ++ e ∷ []) e.moment x

@@ -5,7 +5,7 @@ use Rattle.sip_standard.specs.Times.{Times}
 use Rattle.sip_machine.specs.Texts.{Texts}
 use Rattle.sip_standard.specs.MachineEvent.{MachineEvent}
 use Rattle.sip_machine.specs.Limits.{IsWithin}
-use Rattle.sip_machine.specs.Rules.{Rules}
+use Rattle.sip_machine.specs.Rules.{MachineRules}
 use Rattle.sip_states.specs.Runs.{IsAgenda}
 use Rattle.sip_standard.specs.KeyMachine.{MachineKind}
 use Rattle.sip_states.specs.KeySets.{key_rules}
@@ -16,10 +16,10 @@ use Rattle.sip_states.specs.declared.any_set.AnySet.{AnySet}
 use Rattle.sip_states.proofs.runs.RunLemmas.{Run-wait, After-run}
 use Rattle.sip_verdict.specs.inner.Stepping.{RunsUntil}
 use Rattle.sip_verdict.specs.inner.TablesTracking.{LeadsOf}
-use Rattle.sip_states.proofs.keyed.ByMachine.{rules_are, moment_is, of_set}
+use Rattle.sip_states.proofs.keyed.ByMachine.{moment_is, of_set}
 
 -- a run over one event more holds one that stands at its moment
-pub run_before : {X : Type 0} (r : Rules X) (events : List MachineEvent) (e : MachineEvent) (n : ℕ) → RunsUntil r (events ++ e ∷ []) n → RunsUntil r events e.moment
+pub run_before : {X : Type 0} (r : MachineRules X) (events : List MachineEvent) (e : MachineEvent) (n : ℕ) → RunsUntil r (events ++ e ∷ []) n → RunsUntil r events e.moment
 run_before r events e n (y, run) =
     let wait = (Run-wait r events e n y).0 run in
     let given = (After-run r events e wait.start).0 wait.begins in
@@ -36,13 +36,12 @@ module _ (texts : Texts) (p : Times) (machine : MachineKind) (events : List Mach
   not_later : leads.0.moment ≤ moment
   not_later = subst (λ m. m ≤ moment) (ap moment_of leads.1 ∙ moment_is machine leads.0) low
 
-  -- so there is a run over the events that stands then just where that is within it
+  -- a run over the events stands at the moment exactly if the moment is within the limit
   runs_within : RunsUntil (key_rules p machine) events moment ↔ IsWithin moment limit
-  runs_within =
-      subst (λ r. RunsUntil r events moment ↔ IsWithin moment limit) (rules_are p machine) (
-        λ run. (waits moment not_later).0 (run.0, (leads.2.leads.runs moment run.0 late not_later).1 run.1),
-        λ within. let wait = (waits moment not_later).1 within in (wait.0, (leads.2.leads.runs moment wait.0 late not_later).0 wait.1),
-      )
+  runs_within = (
+    λ run. (waits moment not_later).0 (run.0, (leads.2.leads.runs moment run.0 late not_later).1 run.1),
+    λ within. let wait = (waits moment not_later).1 within in (wait.0, (leads.2.leads.runs moment wait.0 late not_later).0 wait.1),
+  )
 
   -- none stands after the last moment
   pub overdue_none : is_overdue moment (Some limit) ≡ true → ¬ RunsUntil (key_rules p machine) events moment
@@ -52,7 +51,7 @@ module _ (texts : Texts) (p : Times) (machine : MachineKind) (events : List Mach
       go None past within = false≢true past
       go (Some last) past within = omega (arith, ltb-true last moment past, within)
 
-  -- and one does up to it
+  -- a run stands at any moment up to the last one on record
   pub in_time_some : is_overdue moment (Some limit) ≡ false → RunsUntil (key_rules p machine) events moment
   in_time_some in_time = runs_within.1 (go limit in_time)
     where

@@ -1,21 +1,21 @@
 -- A set that is quiet passes a restart as it is.
-use Rattle.std.proofs.Common.{◌≡◌, ◌≢◌, ◌≤◌, ◌↔◌, ℕ, List, [], ◌∷◌, ◌++◌, Contains, map, length, refl, sym, ap, ◌∙◌, subst, arith}
+use Rattle.std.proofs.Common.{◌≡◌, ◌≢◌, ◌≤◌, ◌↔◌, ℕ, List, [], ◌∷◌, Contains, map, length, refl, sym, ap, ◌∙◌, subst, arith}
 use Rattle.sip_standard.specs.declared.action.Action.TheVariants.{Restart}
 use Rattle.sip_standard.specs.Times.{Times}
 use Rattle.sip_machine.specs.Texts.{Texts}
 use Rattle.sip_machine.specs.NumberedEvent.{NumberedEvent, event_in}
 use Rattle.sip_standard.specs.MachineEvent.{MachineEvent}
-use Rattle.sip_machine.specs.Rules.{Rules, StandFor}
-use Rattle.sip_states.specs.Runs.{Wait, RunGives, AfterRun, IsWide}
+use Rattle.sip_machine.specs.Rules.{MachineRules, StandFor}
+use Rattle.sip_states.specs.Runs.{Wait, RunGives}
 use Rattle.sip_states.specs.Held.{Held}
 use Rattle.sip_standard.specs.KeyMachine.{MachineKind}
 use Rattle.sip_states.specs.KeySets.{PhaseOf, key_rules, StateOf}
 use Rattle.sip_states.specs.AnySet.{meaning_of, moment_of, IsQuietSet}
 use Rattle.sip_states.specs.declared.any_set.AnySet.{AnySet}
-use Rattle.sip_states.proofs.keyed.ByMachine.{rules_are, lawful_of, moment_is, quiet_in}
+use Rattle.sip_states.proofs.keyed.ByMachine.{lawful_of, moment_is, quiet_in}
 use Rattle.sip_states.proofs.keyed.QuietLemmas.{quiet_still, waits_still, restart_still}
 use Rattle.sip_verdict.specs.declared.passing.Fate.TheVariants.{Runs}
-use Rattle.sip_verdict.specs.inner.Stepping.{RunsUntil, IsStepped}
+use Rattle.sip_verdict.specs.inner.Stepping.{IsStepped}
 use Rattle.sip_verdict.specs.inner.TablesTracking.{LeadsOf, StandsOf}
 use Rattle.sip_verdict.proofs.keys.Hearing.{heard_some}
 use Rattle.sip_verdict.proofs.keys.Leading.{iff_trans, iff_sym, Leads-later}
@@ -31,10 +31,10 @@ module _ (texts : Texts) (p : Times) (machine : MachineKind) (events : List Mach
   abbrev held : Held Times (StateOf machine)
   held = leads.0
 
-  abbrev r : Rules (PhaseOf machine)
+  abbrev r : MachineRules (PhaseOf machine)
   r = (meaning_of machine).rules p
 
-  -- the same set at the moment of the restart
+  -- the set as it is at the moment of the restart
   abbrev new : Held Times (StateOf machine)
   new = record { machine = held.machine; moment = e.moment; states = held.states }
 
@@ -55,8 +55,8 @@ module _ (texts : Texts) (p : Times) (machine : MachineKind) (events : List Mach
       let same : (n : ℕ) → e.moment ≤ n → (y : PhaseOf machine) → Wait r (Contains (map (m.seen texts) held.states)) held.moment n y ↔ Wait r (Contains (map (m.seen texts) held.states)) e.moment n y
       = λ n reached y. subst (λ xs. Wait r (Contains (map (m.seen texts) xs)) held.moment n y ↔ Wait r (Contains (map (m.seen texts) xs)) e.moment n y) (sym one)
       (iff_trans (waits_still p machine texts x still held.moment n (omega (arith, not_later, reached)) y) (iff_sym (waits_still p machine texts x still e.moment n reached y))) in (
-        subst (λ q. RunsUntil q (events ++ event_in texts e ∷ []) e.moment) (rules_are p machine) h.0,
-        subst (λ q. ¬ IsWide (AfterRun q events (event_in texts e))) (rules_are p machine) h.1,
+        h.0,
+        h.1,
         (
           held,
           leads.1,
@@ -65,5 +65,5 @@ module _ (texts : Texts) (p : Times) (machine : MachineKind) (events : List Mach
             leads = record { known = h.2.leads.known; runs = λ n y reached after. iff_trans (same n reached y) (h.2.leads.runs n y reached reached) };
           },
         ),
-        (held, leads.1, subst (λ q. StandFor m.names m.in_range m.seen texts (AfterRun q events (event_in texts e)) held.states) (rules_are p machine) h.3),
+        (held, leads.1, h.3),
       )

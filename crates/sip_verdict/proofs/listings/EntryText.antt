@@ -1,15 +1,14 @@
 -- The text of an entry.
-use Rattle.std.proofs.Common.{◌≡◌, ◌≢◌, ◌∙◌, ◌<◌, ◌+◌, ◌-◌, ℕ, zero, suc, Bool, true, false, cond, Option, Some, None, MatchOption, List, [], ◌∷◌, ◌++◌, All, AllPairs, length, slice_get, refl, sym, ap, subst, arith, append_assoc}
+use Rattle.std.proofs.Common.{◌≡◌, ◌≢◌, ◌∙◌, ◌<◌, ◌+◌, ◌-◌, ℕ, Bool, true, false, cond, Option, Some, None, MatchOption, List, [], ◌∷◌, ◌++◌, All, AllPairs, length, slice_get, refl, sym, ap, subst, arith, append_assoc}
 use Rattle.std.specs.Prelude.{IsAscii, fold}
 use Rattle.std.specs.List.{list_any}
 use Rattle.sip_standard.specs.declared.action.Action.{Action}
 use Rattle.sip_standard.specs.declared.action.Action.TheVariants.{Sent, Received, Failed, Mark, Restart}
-use Rattle.sip_standard.specs.declared.rules.Rules.TheVariants.{R6026}
-use Rattle.sip_verdict.specs.Reading.{AreObserved}
-use Rattle.sip_standard.specs.VerdictOf.{keys_in, events_for, IsFirstKey}
+use Rattle.sip_standard.specs.Seen.{AreSeen}
+use Rattle.sip_verdict.specs.inner.Keyed.{with_key, concerns}
+use Rattle.sip_standard.specs.VerdictOf.{keys_in, events_for, IsFirstKey, Sees}
 use Rattle.std.proofs.lemmas.List.{append-nil}
-use Rattle.std.proofs.lemmas.List.Elements.{All-nil, All-cons, All-head, All-tail, All-push, Contains-get_or}
-use Rattle.std.proofs.lemmas.Option.{slice_get_within, get_or_from_slice_get}
+use Rattle.std.proofs.lemmas.List.Elements.{All-nil, All-head, All-tail, All-push, Contains-get_or}
 use Rattle.sip_standard.specs.Key.{KeyParts, same_key}
 use Rattle.sip_key.specs.inner.KeyLaws.{same_key-decides}
 use Rattle.sip_standard.specs.declared.role.Direction.{Direction}
@@ -21,15 +20,14 @@ use Rattle.sip_states.specs.Tables.{Tabled}
 use Rattle.sip_standard.specs.TransactionText.{transaction_text}
 use Rattle.sip_standard.specs.LogEntry.{Item}
 use Rattle.sip_standard.specs.Observation.{Observation, direction_of, silent_observation, ObservesMessage, has_fault, has_no_cookie, is_heard}
-use Rattle.sip_verdict.specs.Keyed.{with_key, concerns}
-use Rattle.sip_verdict.specs.MessageReading.{key_machines, message_reading}
 use Rattle.sip_standard.specs.ListingOf.{IsKeyText, AreKeyTexts, IsEntryText}
 use Rattle.sip_verdict.specs.inner.Tracking.{IsJudged, IsStanding}
 use Rattle.sip_verdict.specs.inner.TablesTracking.{key_keeping, transactions_of, HaveNumbers}
 use Rattle.sip_verdict.specs.inner.Numbering.{Appends, AppendsEach, IsTextOf}
-use Rattle.sip_verdict.proofs.keys.Keys.{contains-among, keys_of-push}
+use Rattle.sip_verdict.proofs.keys.Keys.{contains-among, keys_in-push}
 use Rattle.sip_verdict.proofs.tables.TablesPassing.{All-place, zip-place, keys_are}
-use Rattle.sip_verdict.proofs.tables.TablesTouching.{keys_exact}
+use Rattle.sip_verdict.proofs.tables.TablesTouching.{same_place}
+use Rattle.sip_verdict.proofs.verdicts.Outcomes.{first_at}
 use Rattle.sip_message.proofs.lemmas.says.Reading.{says-reads}
 use Rattle.sip_standard.specs.Concerns.{Concerns}
 use Rattle.sip_key.proofs.MethodLemmas.{keys_ascii}
@@ -56,62 +54,49 @@ ways_ascii : (i : Item) (keys : List KeyParts) (e : Observation KeyParts) (way :
 ways_ascii i keys e None ascii is = subst (All (λ k. IsAscii k.method)) (sym (ap (λ x. x.keys) is)) (silent_ascii i.action i.moment keys ascii)
 ways_ascii i keys e (Some d) ascii observes = message_ascii i e d observes
 
--- so have those of an entry after others whose keys have
-entry_ascii : (before : List (Observation KeyParts)) (i : Item) (e : Observation KeyParts) → All (λ k. IsAscii k.method) (keys_in before) → message_reading.Observes before i e → All (λ k. IsAscii k.method) e.keys
+-- the keys of an entry have methods in ASCII
+entry_ascii : (before : List (Observation KeyParts)) (i : Item) (e : Observation KeyParts) → All (λ k. IsAscii k.method) (keys_in before) → Sees before i e → All (λ k. IsAscii k.method) e.keys
 entry_ascii before i e ascii observes = ways_ascii i (keys_in before) e (direction_of i.action) ascii observes
 
--- and the keys of entries, one after another
-more_ascii : (keys more : List KeyParts) → All (λ k. IsAscii k.method) keys → All (λ k. IsAscii k.method) more → All (λ k. IsAscii k.method) (fold (with_key same_key) keys more)
+-- the keys of some entries and of others have methods in ASCII
+more_ascii : (keys more : List KeyParts) → All (λ k. IsAscii k.method) keys → All (λ k. IsAscii k.method) more → All (λ k. IsAscii k.method) (fold with_key keys more)
 more_ascii keys [] old new = old
-more_ascii keys (k ∷ more) old new = more_ascii (with_key same_key keys k) more (one (list_any (same_key k) keys)) (All-tail (λ x. IsAscii x.method) k more new)
+more_ascii keys (k ∷ more) old new = more_ascii (with_key keys k) more (one (list_any (same_key k) keys)) (All-tail (λ x. IsAscii x.method) k more new)
   where
     one : (b : Bool) → All (λ x. IsAscii x.method) (cond b keys (keys ++ k ∷ []))
     one true = old
     one false = All-push (λ x. IsAscii x.method) keys k old (All-head (λ x. IsAscii x.method) k more new)
 
-keys_ascii_behind : (before : List (Observation KeyParts)) (items : List Item) (es : List (Observation KeyParts)) → All (λ k. IsAscii k.method) (keys_in before) → AreObserved message_reading before items es
+keys_ascii_after : (before : List (Observation KeyParts)) (items : List Item) (es : List (Observation KeyParts)) → All (λ k. IsAscii k.method) (keys_in before) → AreSeen before items es
     → All (λ k. IsAscii k.method) (keys_in (before ++ es))
-keys_ascii_behind before [] [] ascii seen = subst (λ es. All (λ k. IsAscii k.method) (keys_in es)) (sym (append-nil before)) ascii
-keys_ascii_behind before [] (e ∷ es) ascii seen = absurd seen
-keys_ascii_behind before (i ∷ items) [] ascii seen = absurd seen
-keys_ascii_behind before (i ∷ items) (e ∷ es) ascii seen =
+keys_ascii_after before [] [] ascii seen = subst (λ es. All (λ k. IsAscii k.method) (keys_in es)) (sym (append-nil before)) ascii
+keys_ascii_after before [] (e ∷ es) ascii seen = absurd seen
+keys_ascii_after before (i ∷ items) [] ascii seen = absurd seen
+keys_ascii_after before (i ∷ items) (e ∷ es) ascii seen =
     subst (λ all. All (λ k. IsAscii k.method) (keys_in all)) (append_assoc before (e ∷ []) es)
-    (keys_ascii_behind (before ++ e ∷ []) items es
-    (subst (All (λ k. IsAscii k.method)) (sym (keys_of-push (key_machines any_times) before e)) (more_ascii (keys_in before) e.keys ascii (entry_ascii before i e ascii seen.0))) seen.1)
-  where
-    any_times : Times
-    any_times = record { t1 = 0; t2 = 0; t4 = 0; early = 0; late = 0; rules = R6026 }
+    (keys_ascii_after (before ++ e ∷ []) items es
+    (subst (All (λ k. IsAscii k.method)) (sym (keys_in-push before e)) (more_ascii (keys_in before) e.keys ascii (entry_ascii before i e ascii seen.0))) seen.1)
 
-pub observed_ascii : (items : List Item) (before : List (Observation KeyParts)) (i : Item) (e : Observation KeyParts) → AreObserved message_reading [] items before → message_reading.Observes before i e
+pub observed_ascii : (items : List Item) (before : List (Observation KeyParts)) (i : Item) (e : Observation KeyParts) → AreSeen [] items before → Sees before i e
     → All (λ k. IsAscii k.method) e.keys
-observed_ascii items before i e seen observes = entry_ascii before i e (keys_ascii_behind [] items before (All-nil (λ k. IsAscii k.method)) seen) observes
+observed_ascii items before i e seen observes = entry_ascii before i e (keys_ascii_after [] items before (All-nil (λ k. IsAscii k.method)) seen) observes
 
 -- Among keys that differ, the one at a place is the first that is the same.
 first_place : (keys : List KeyParts) → AllPairs (λ a b. a ≢ b) keys → (n : ℕ) (key : KeyParts) → slice_get keys n ≡ Some key → IsFirstKey (λ k. same_key key k ≡ true) keys (n + 1)
-first_place [] apart n key at = absurd cc
-first_place (u ∷ us) apart zero key at = ([], u, us, refl, (same_key-decides key u).1 (let e : u ≡ key = cc in sym e), All-nil (λ k. same_key key k ≡ true → ⊥), refl)
-first_place (u ∷ us) apart (suc n) key at =
-    let (before, first, rest, is, holds, earlier, counts) = first_place us (λ m k d low within. apart (suc m) (suc k) d (omega arith) (omega arith)) n key at in (
-      u ∷ before,
-      first,
-      rest,
-      ap (λ z. u ∷ z) is,
-      holds,
-      All-cons (λ k. same_key key k ≡ true → ⊥) u before
-          (λ same. apart zero (suc n) key (omega arith) (let low = slice_get_within us n key at in omega arith) (sym ((same_key-decides key u).0 same) ∙ sym (get_or_from_slice_get us n key key at))) earlier,
-      omega (arith, counts),
-    )
+first_place keys apart n key at =
+    first_at (λ k. same_key key k ≡ true) keys n key at ((same_key-decides key key).1 refl)
+    (λ m k low there same. (let place : m ≡ n = same_place keys apart m n key (there ∙ ap Some (sym ((same_key-decides key k).0 same))) at in omega (arith, low, place)))
 
 module _ (number : List ℕ → ℕ) (texts : Texts) (tells : TellsBook number texts) (p : Times) (es : List (Observation KeyParts)) (e : Observation KeyParts) (t : Tabled)
     (known : All (IsKnownSet texts) t.sets) (long : length t.sets ≡ length t.keys) (apart : AllPairs (λ a b. a ≢ b) t.keys)
-    (judged : IsJudged (key_machines p) (key_keeping texts p) es e (transactions_of t) None) where
+    (judged : IsJudged p (key_keeping texts p) es e (transactions_of t) None) where
   -- a transaction that was appended
-  key_text : (key : KeyParts) (n : ℕ) (old new : List ℕ) → concerns (key_machines p) key e ≡ true → IsAscii key.method → 0 < n → slice_get t.keys (n - 1) ≡ Some key → Appends t n old new
+  key_text : (key : KeyParts) (n : ℕ) (old new : List ℕ) → concerns key e ≡ true → IsAscii key.method → 0 < n → slice_get t.keys (n - 1) ≡ Some key → Appends t n old new
       → (text : List ℕ) × IsKeyText p number es e key text × (new ≡ old ++ text)
   key_text key n old new concerned ascii low at (k, set, lines, key_at, set_at, lists, is) =
       let same : k ≡ key = (let both : Some k ≡ Some key = sym key_at ∙ at in cc) in
       let count : (n - 1) + 1 ≡ n = omega (arith, low) in
-      let stands = All-place (IsStanding (key_machines p) (key_keeping texts p) es e) (transactions_of t) (n - 1) (key, set) (zip-place t.keys t.sets (n - 1) key set at set_at) judged.1 in (
+      let stands = All-place (IsStanding (key_keeping texts p) es e) (transactions_of t) (n - 1) (key, set) (zip-place t.keys t.sets (n - 1) key set at set_at) judged.1 in (
         transaction_text n key lines,
         record {
           place = n;
@@ -126,19 +111,19 @@ module _ (number : List ℕ → ℕ) (texts : Texts) (tells : TellsBook number t
       )
 
   -- and others after it
-  key_texts : (ks : List KeyParts) (ns : List ℕ) (old new : List ℕ) → All (λ k. (concerns (key_machines p) k e ≡ true) × IsAscii k.method) ks → HaveNumbers t.keys ns ks → AppendsEach t ns old new
+  key_texts : (ks : List KeyParts) (ns : List ℕ) (old new : List ℕ) → All (λ k. (concerns k e ≡ true) × IsAscii k.method) ks → HaveNumbers t.keys ns ks → AppendsEach t ns old new
       → (text : List ℕ) × AreKeyTexts p number es e ks text × (new ≡ old ++ text)
   key_texts [] [] old new good have same = ([], refl, same ∙ sym (append-nil old))
   key_texts [] (n ∷ ns) old new good have more = absurd have
   key_texts (k ∷ ks) [] old new good have more = absurd have
   key_texts (k ∷ ks) (n ∷ ns) old new good (low, at, rest) (between, first, more) =
-      let here = All-head (λ x. (concerns (key_machines p) x e ≡ true) × IsAscii x.method) k ks good in
+      let here = All-head (λ x. (concerns x e ≡ true) × IsAscii x.method) k ks good in
       let one = key_text k n old between here.0 here.1 low at first in
-      let others = key_texts ks ns between new (All-tail (λ x. (concerns (key_machines p) x e ≡ true) × IsAscii x.method) k ks good) rest more in
+      let others = key_texts ks ns between new (All-tail (λ x. (concerns x e ≡ true) × IsAscii x.method) k ks good) rest more in
       (one.0 ++ others.0, (one.0, others.0, one.1, others.1, refl), others.2 ∙ ap (λ z. z ++ others.0) one.2 ∙ append_assoc old one.0 others.0)
 
   -- the text of the entry
-  texts_of : (ks : List KeyParts) (ns : List ℕ) (text : List ℕ) → All (λ k. (concerns (key_machines p) k e ≡ true) × IsAscii k.method) ks → HaveNumbers t.keys ns ks → IsTextOf t ns text
+  texts_of : (ks : List KeyParts) (ns : List ℕ) (text : List ℕ) → All (λ k. (concerns k e ≡ true) × IsAscii k.method) ks → HaveNumbers t.keys ns ks → IsTextOf t ns text
       → IsEntryText p number es e ks text
   texts_of [] [] text good have is = is
   texts_of [] (n ∷ ns) text good have is = absurd have
@@ -148,4 +133,4 @@ module _ (number : List ℕ → ℕ) (texts : Texts) (tells : TellsBook number t
       subst (AreKeyTexts p number es e (k ∷ ks)) (sym all.2) all.1
 
   pub entry_text : (ns : List ℕ) (text : List ℕ) → All (λ k. IsAscii k.method) e.keys → HaveNumbers t.keys ns e.keys → IsTextOf t ns text → IsEntryText p number es e e.keys text
-  entry_text ns text ascii have is = texts_of e.keys ns text (λ i d low. (contains-among (key_machines p) (keys_exact p) _ e.keys (Contains-get_or e.keys i d low), ascii i d low)) have is
+  entry_text ns text ascii have is = texts_of e.keys ns text (λ i d low. (contains-among _ e.keys (Contains-get_or e.keys i d low), ascii i d low)) have is

@@ -8,8 +8,9 @@ use Rattle.sip_machine.specs.Rules.{Knows, StandFor}
 use Rattle.sip_states.specs.Runs.{AfterRun}
 use Rattle.sip_standard.specs.KeyMachine.{MachineKind, transaction_of}
 use Rattle.sip_standard.specs.Stands.{StandsAfter}
-use Rattle.sip_states.proofs.runs.StandsLemmas.{behind-after}
-use Rattle.sip_states.specs.KeySets.{coded_holds, key_rules, of_machine}
+use Rattle.sip_states.proofs.runs.StandsLemmas.{stands-after}
+use Rattle.sip_states.specs.KeySets.{key_rules}
+use Rattle.sip_states.proofs.keyed.KeySetLaws.{coded_holds, of_machine}
 use Rattle.sip_states.specs.Meaning.{IsKnown}
 use Rattle.sip_states.specs.AnySet.{meaning_of, IsKnownSet}
 use Rattle.sip_states.specs.declared.any_set.AnySet.{AnySet}
@@ -65,6 +66,6 @@ pub standing_lines : (number : List ℕ → ℕ) (texts : Texts) (p : Times) (ma
     → StandsOf texts p machine events e set → TellsSet number texts set → Lists set lines → AreLinesOf (state_text machine number) (StandsAfter (transaction_of machine).figure p events e) lines
 standing_lines number texts p machine events e set lines (s, is, stand) told lists =
     let listed = of_machine (λ kind held. AreLinesOfHeld number texts kind held lines) machine s (subst (λ x. AreLinesOfSet number texts x lines) is (lists number texts told)) in
-    let behind = behind-after (transaction_of machine).figure (coded_holds machine).is_figure p events e in
-    lines_alike (state_text machine number) (AfterRun (key_rules p machine) events e) (StandsAfter (transaction_of machine).figure p events e) lines (λ y. ((behind y).1, (behind y).0))
+    let same = stands-after (transaction_of machine).figure (coded_holds machine).is_figure p events e in
+    lines_alike (state_text machine number) (AfterRun (key_rules p machine) events e) (StandsAfter (transaction_of machine).figure p events e) lines (λ y. ((same y).1, (same y).0))
     (stood_lines _ _ _ texts (state_text machine number) _ s.states lines stand listed)

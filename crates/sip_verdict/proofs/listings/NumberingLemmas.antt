@@ -9,7 +9,7 @@ use Rattle.sip_machine.proofs.texts.TextLaws.{Contains-nil, Keeps-grow, Keeps-ad
 use Rattle.sip_standard.specs.LogEntry.{Item, has_message}
 use Rattle.sip_standard.specs.declared.verdict.Verdict.{Verdict}
 use Rattle.sip_standard.specs.ListingOf.{entry_from, first_entry}
-use Rattle.sip_verdict.specs.MessageReading.{ConcernsNone}
+use Rattle.sip_verdict.specs.Entries.{ConcernsNone}
 use Rattle.sip_verdict.specs.inner.Numbering.{AreNumbered, StaysNumbered, Appends, AppendsEach, IsTextOf}
 use Rattle.sip_states.specs.Tables.{Tabled}
 use Rattle.sip_verdict.proofs.judges.ObservingLemmas.{none_alike}

@@ -57,6 +57,6 @@ pub read_log : (start : Option (List ℕ)) (times : Times) (items : List Item) (
 read_log start times items now read =
     subst (λ t. IfSome start (λ input. IfSome t (λ p. (more : List Item) × (end : LogEnd) × LogSays input p (items ++ more) end))) read.times_are (Stands-log start items now read.on read.stands)
 
--- and they were counted
+-- the count is that of the entries that were read
 pub read_count : (start : Option (List ℕ)) (times : Times) (items : List Item) (now : log.ReaderState) → HasRead start times items now → now.count ≡ length items
 read_count start times items now read = (subst (λ s. StandsAt s start items now) read.on read.stands).1

@@ -13,12 +13,11 @@ use Rattle.sip_states.proofs.lists.Listed.{Contains-none, Contains-map}
 use Rattle.sip_standard.specs.LogEntry.{Item}
 use Rattle.sip_standard.specs.declared.verdict.Verdict.{Verdict}
 use Rattle.sip_standard.specs.Observation.{Observation, silent_observation, ObservesMessage, direction_of, has_fault, has_no_cookie, is_heard}
-use Rattle.sip_verdict.specs.Keyed.{Machines, keys_of, newest_moment}
+use Rattle.sip_verdict.specs.Entries.{newest_moment}
 use Rattle.sip_standard.specs.declared.action.Action.{Action}
 use Rattle.sip_standard.specs.declared.action.Action.TheVariants.{Sent, Received, Failed, Mark, Restart}
-use Rattle.sip_standard.specs.VerdictOf.{keys_in}
-use Rattle.sip_verdict.specs.MessageReading.{key_machines, message_reading}
-use Rattle.sip_verdict.specs.Named.{IsNamed, AreMany, WereNamed, key_messages}
+use Rattle.sip_standard.specs.VerdictOf.{keys_in, Sees}
+use Rattle.sip_verdict.specs.Named.{IsNamed, AreMany, WereNamed}
 use Rattle.sip_verdict.specs.Judging.{AreFollowed}
 use Rattle.sip_verdict.specs.inner.Sweeping.{AreFollowedOn}
 use Rattle.sip_verdict.specs.inner.Tracking.{Tracks, IsJudged}
@@ -37,7 +36,7 @@ not_below texts rising d (suc i) low =
     let more = rising i (suc i) d (omega arith) low in
     omega (arith, before, more)
 
--- so it keeps at most so many messages with numbers below this one
+-- a book whose numbers are all below this one keeps at most this many messages
 pub book_few : (texts : Texts) → IsBook texts → (number : ℕ) → ((n : ℕ) → Keeps texts n → n < number) → length texts ≤ number
 book_few texts book number below = go (length texts) refl
   where
@@ -52,17 +51,17 @@ book_few texts book number below = go (length texts) refl
 
 -- What was named.
 
--- so many were named after the entries
-pub now_named : {K : Type 0} (m : Machines K) (messages : (key : K) → m.State key → List (List ℕ)) (es : List (Observation K)) (count : ℕ) → AreMany (IsNamed m messages es) count → WereNamed m messages es count
-now_named m messages es count many = record { front = es; rest = []; whole = sym (append-nil es); many = many }
+-- as many messages were named after some entry as are named after the last
+pub now_named : (p : Times) (es : List (Observation KeyParts)) (count : ℕ) → AreMany (IsNamed p es) count → WereNamed p es count
+now_named p es count many = record { front = es; rest = []; whole = sym (append-nil es); many = many }
 
--- or before one more
-more_named : {K : Type 0} (m : Machines K) (messages : (key : K) → m.State key → List (List ℕ)) (es : List (Observation K)) (e : Observation K) (count : ℕ) → WereNamed m messages es count
-    → WereNamed m messages (es ++ e ∷ []) count
-more_named m messages es e count w = record { front = w.front; rest = w.rest ++ e ∷ []; whole = ap (λ xs. xs ++ e ∷ []) w.whole ∙ append_assoc w.front w.rest (e ∷ []); many = w.many }
+-- what was named after some entry was so before one entry more
+more_named : (p : Times) (es : List (Observation KeyParts)) (e : Observation KeyParts) (count : ℕ) → WereNamed p es count
+    → WereNamed p (es ++ e ∷ []) count
+more_named p es e count w = record { front = w.front; rest = w.rest ++ e ∷ []; whole = ap (λ xs. xs ++ e ∷ []) w.whole ∙ append_assoc w.front w.rest (e ∷ []); many = w.many }
 
 -- no message is named before the first entry
-none_named : (p : Times) → AreMany (IsNamed (key_machines p) (key_messages p) []) 0
+none_named : (p : Times) → AreMany (IsNamed p []) 0
 none_named p = record {
   texts = [];
   distinct = λ i j d lt low. absurd (omega (arith, low));
@@ -89,7 +88,7 @@ moment_going : (direction : Option Direction) (i : Item) (keys : List KeyParts) 
 moment_going None i keys e seen = ap (λ x. x.event.moment) seen ∙ silent_moment i.action i.moment keys
 moment_going (Some direction) i keys e seen = heard_moment direction i e seen
 
-pub observed_moment : (es : List (Observation KeyParts)) (i : Item) (e : Observation KeyParts) → message_reading.Observes es i e → newest_moment (es ++ e ∷ []) ≡ i.moment
+pub observed_moment : (es : List (Observation KeyParts)) (i : Item) (e : Observation KeyParts) → Sees es i e → newest_moment (es ++ e ∷ []) ≡ i.moment
 observed_moment es i e seen = newest_moment-push es e ∙ moment_going (direction_of i.action) i (keys_in es) e seen
 
 -- What follows the entries.
@@ -98,43 +97,43 @@ observed_moment es i e seen = newest_moment-push es e ∙ moment_going (directio
 pub followed_none : (p : Times) (texts : Texts) (t : Tabled) → texts ≡ [] → t ≡ record { times = p; keys = []; sets = []; records = [] } → AreFollowed texts t 0 []
 followed_none p texts t none empty =
     subst (λ b. AreFollowed b t 0 []) (sym none) (subst (λ u. AreFollowed [] u 0 []) (sym empty) (record {
-      tracks = tracks_none (key_machines p) (key_keeping [] p);
-      named = now_named (key_machines p) (key_messages p) [] 0 (none_named p);
+      tracks = tracks_none p (key_keeping [] p);
+      named = now_named p [] 0 (none_named p);
       few = omega arith;
     }))
 
 -- there are as many transactions as keys of the entries
-pub followed_keys : (texts : Texts) (t : Tabled) (es : List (Observation KeyParts)) → length t.sets ≡ length t.keys → TablesTrack texts es t → length t.keys ≡ length (keys_of (key_machines t.times) es)
+pub followed_keys : (texts : Texts) (t : Tabled) (es : List (Observation KeyParts)) → length t.sets ≡ length t.keys → TablesTrack texts es t → length t.keys ≡ length (keys_in es)
 followed_keys texts t es long tracks = ap length (sym (firsts-zip t.keys t.sets long) ∙ tracks.keys)
 
 module _ (old mid : Texts) (t u : Tabled) (times : u.times ≡ t.times) (number : ℕ) (i : Item) where
   -- what was judged of an entry after those that old and t follow
   abbrev Says : Option Verdict → Type 0
   Says verdict = (es : List (Observation KeyParts)) → TablesTrack old es t → number ≡ length es + 1 → newest_moment es ≤ i.moment
-      → (e : Observation KeyParts) × message_reading.Observes es i e × IsJudged (key_machines t.times) (key_keeping mid t.times) es e (transactions_of u) verdict
+      → (e : Observation KeyParts) × Sees es i e × IsJudged t.times (key_keeping mid t.times) es e (transactions_of u) verdict
 
-  tracks_on : (es : List (Observation KeyParts)) (e : Observation KeyParts) → IsJudged (key_machines t.times) (key_keeping mid t.times) es e (transactions_of u) None → TablesTrack mid (es ++ e ∷ []) u
-  tracks_on es e judged = subst (λ p. Tracks (key_machines p) (key_keeping mid p) (es ++ e ∷ []) (transactions_of u)) (sym times) judged.0
+  tracks_on : (es : List (Observation KeyParts)) (e : Observation KeyParts) → IsJudged t.times (key_keeping mid t.times) es e (transactions_of u) None → TablesTrack mid (es ++ e ∷ []) u
+  tracks_on es e judged = subst (λ p. Tracks p (key_keeping mid p) (es ++ e ∷ []) (transactions_of u)) (sym times) judged.0
 
   -- it is not, and few messages are kept
   pub followed_kept : Says None → (left : ℕ) → length mid ≤ left + left + 64 → (es : List (Observation KeyParts)) → AreFollowed old t left es → number ≡ length es + 1 → newest_moment es ≤ i.moment
-      → (e : Observation KeyParts) × message_reading.Observes es i e × AreFollowedOn mid u left es e None
+      → (e : Observation KeyParts) × Sees es i e × AreFollowedOn mid u left es e None
   followed_kept says left few es follows counts order =
       let h = says es follows.tracks counts order in (
         h.0,
         h.1,
         record {
           tracks = tracks_on es h.0 h.2;
-          named = subst (λ p. WereNamed (key_machines p) (key_messages p) (es ++ h.0 ∷ []) left) (sym times) (more_named (key_machines t.times) (key_messages t.times) es h.0 left follows.named);
+          named = subst (λ p. WereNamed p (es ++ h.0 ∷ []) left) (sym times) (more_named t.times es h.0 left follows.named);
           few = few;
         },
       )
 
   -- it is not, and messages were forgotten
   pub followed_swept : Says None → (texts : Texts) (v : Tabled) → v.times ≡ u.times → ((es : List (Observation KeyParts)) → TablesTrack mid es u → TablesTrack texts es v)
-      → ((es : List (Observation KeyParts)) → TablesTrack mid es u → newest_moment es ≡ i.moment → AreMany (IsNamed (key_machines u.times) (key_messages u.times) es) (length texts))
+      → ((es : List (Observation KeyParts)) → TablesTrack mid es u → newest_moment es ≡ i.moment → AreMany (IsNamed u.times es) (length texts))
       → (now : ℕ) → now ≡ length texts → (left : ℕ) (es : List (Observation KeyParts)) → AreFollowed old t left es → number ≡ length es + 1 → newest_moment es ≤ i.moment
-      → (e : Observation KeyParts) × message_reading.Observes es i e × AreFollowedOn texts v now es e None
+      → (e : Observation KeyParts) × Sees es i e × AreFollowedOn texts v now es e None
   followed_swept says texts v same tracks named now is left es follows counts order =
       let h = says es follows.tracks counts order in
       let on = tracks_on es h.0 h.2 in
@@ -143,8 +142,8 @@ module _ (old mid : Texts) (t u : Tabled) (times : u.times ≡ t.times) (number 
         h.1,
         record {
           tracks = tracks (es ++ h.0 ∷ []) on;
-          named = subst (λ n. WereNamed (key_machines v.times) (key_messages v.times) (es ++ h.0 ∷ []) n) (sym is)
-              (subst (λ p. WereNamed (key_machines p) (key_messages p) (es ++ h.0 ∷ []) (length texts)) (sym same) (now_named (key_machines u.times) (key_messages u.times) (es ++ h.0 ∷ []) (length texts) many));
+          named = subst (λ n. WereNamed v.times (es ++ h.0 ∷ []) n) (sym is)
+              (subst (λ p. WereNamed p (es ++ h.0 ∷ []) (length texts)) (sym same) (now_named u.times (es ++ h.0 ∷ []) (length texts) many));
           few = omega (arith, is);
         },
       )

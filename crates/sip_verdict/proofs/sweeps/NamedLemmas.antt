@@ -8,11 +8,12 @@ use Rattle.sip_ledger.specs.declared.debt.Debt.{Debt}
 use Rattle.sip_machine.specs.Texts.{Texts, text_of}
 use Rattle.sip_machine.specs.Owes.{owes_seen, owes_names}
 use Rattle.sip_standard.specs.MachineEvent.{MachineEvent}
-use Rattle.sip_machine.specs.Rules.{Rules, IsLawful, StandFor}
+use Rattle.sip_machine.specs.Rules.{MachineRules, IsLawful, StandFor}
 use Rattle.sip_machine.proofs.texts.TextLaws.{Contains-nil, Contains-cons_cases}
 use Rattle.sip_states.specs.Runs.{Wait, RuledRun}
 use Rattle.sip_standard.specs.KeyMachine.{MachineKind}
-use Rattle.sip_states.specs.KeySets.{coded_of, coded_holds, StateOf}
+use Rattle.sip_states.specs.KeySets.{coded_of, StateOf}
+use Rattle.sip_states.proofs.keyed.KeySetLaws.{coded_holds}
 use Rattle.sip_states.specs.AnySet.{meaning_of}
 use Rattle.sip_states.proofs.lists.Listed.{Contains-map, Contains-from_map, Contains-here, Contains-there, Contains-none}
 use Rattle.sip_states.proofs.sets.Waiting.{StaysFrom, EndsFrom, Wait-cases}
@@ -41,11 +42,11 @@ abbrev pub IsNumberOf : Texts → List ℕ → List ℕ → Type 0
 IsNumberOf texts numbers text = (n : ℕ) × Contains numbers n × (text_of texts n ≡ text)
 
 -- a state of a run names the text
-abbrev pub RunNames : {X : Type 0} → Rules X → (X → List (List ℕ)) → List MachineEvent → ℕ → List ℕ → Type 0
+abbrev pub RunNames : {X : Type 0} → MachineRules X → (X → List (List ℕ)) → List MachineEvent → ℕ → List ℕ → Type 0
 RunNames {X} r messages events moment text = (y : X) × RuledRun r events moment y × Contains (messages y) text
 
 module _ {X S : Type 0} (names : S → List ℕ) (InRange : S → Type 0) (seen : Texts → S → X) (messages : X → List (List ℕ))
-    (named : (texts : Texts) (x : S) → messages (seen texts x) ≡ map (text_of texts) (names x)) (texts : Texts) (r : Rules X) (events : List MachineEvent) where
+    (named : (texts : Texts) (x : S) → messages (seen texts x) ≡ map (text_of texts) (names x)) (texts : Texts) (r : MachineRules X) (events : List MachineEvent) where
   -- once a set that leads to the runs has waited until a moment, its states name just what the states of the runs name there
   pub waited_names : (from at moment : ℕ) (old new : List S) → from ≤ moment → at ≤ moment → Leads names seen texts r events from at old
       → StandFor names InRange seen texts (Wait r (Contains (map (seen texts) old)) at moment) new → (text : List ℕ)

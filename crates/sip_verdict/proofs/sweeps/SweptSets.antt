@@ -7,12 +7,13 @@ use Rattle.sip_machine.specs.Texts.{Texts, IsBook, Keeps, text_of}
 use Rattle.sip_machine.specs.Retained.{only}
 use Rattle.sip_standard.specs.MachineEvent.{MachineEvent}
 use Rattle.sip_machine.specs.Limits.{IsWithin, IsOpenAt}
-use Rattle.sip_machine.specs.Rules.{Rules, IsLawful, StandFor}
+use Rattle.sip_machine.specs.Rules.{MachineRules, IsLawful, StandFor}
 use Rattle.sip_machine.specs.inner.OwingLaws.{window_same, until_same}
 use Rattle.sip_machine.proofs.texts.RetainLemmas.{only-Keeps, text_of-only}
 use Rattle.sip_states.specs.Runs.{Wait, IsAgenda}
 use Rattle.sip_standard.specs.KeyMachine.{MachineKind, transaction_of}
-use Rattle.sip_states.specs.KeySets.{coded_of, coded_holds, StateOf}
+use Rattle.sip_states.specs.KeySets.{coded_of, StateOf}
+use Rattle.sip_states.proofs.keyed.KeySetLaws.{coded_holds}
 use Rattle.sip_states.specs.Meaning.{IsKnown, HasWaited, HasAgenda}
 use Rattle.sip_states.specs.AnySet.{meaning_of, moment_of, SetWaits, IsKnownSet, IsAgendaOf}
 use Rattle.sip_states.specs.Sweep.{numbers_of, IsAdvanced}
@@ -27,7 +28,7 @@ use Rattle.sip_states.proofs.keyed.ByMachine.{some_machine, lawful_of, moment_is
 use Rattle.sip_verdict.proofs.sweeps.NamedLemmas.{Contains-flat_map}
 
 -- once a set that leads has waited, it leads
-pub waited_leads : {X S : Type 0} (names : S → List ℕ) (InRange : S → Type 0) (seen : Texts → S → X) (texts : Texts) (r : Rules X) → IsLawful r → (events : List MachineEvent) (from at moment : ℕ) (old new : List S) → at ≤ moment
+pub waited_leads : {X S : Type 0} (names : S → List ℕ) (InRange : S → Type 0) (seen : Texts → S → X) (texts : Texts) (r : MachineRules X) → IsLawful r → (events : List MachineEvent) (from at moment : ℕ) (old new : List S) → at ≤ moment
     → Leads names seen texts r events from at old → StandFor names InRange seen texts (Wait r (Contains (map (seen texts) old)) at moment) new → Leads names seen texts r events from moment new
 waited_leads names InRange seen texts r lawful events from at moment old new low leads stand = record {
   known = stand.known;
@@ -36,9 +37,9 @@ waited_leads names InRange seen texts r lawful events from at moment old new low
       (iff_trans (Wait-twice r lawful (Contains (map (seen texts) old)) at moment n low later x) (leads.runs n x late (omega (arith, low, later))));
 }
 
--- and beside a book that keeps what it names
+-- a set leads to the same beside a book that keeps what it names
 pub kept_leads : {X S : Type 0} (names : S → List ℕ) (seen : Texts → S → X) → ((a b : Texts) (x : S) → ((n : ℕ) → Contains (names x) n → text_of a n ≡ text_of b n) → seen a x ≡ seen b x)
-    → (texts : Texts) (numbers : List ℕ) → IsBook texts → AllPairs (λ a b. a < b) numbers → All (Keeps texts) numbers → (r : Rules X) (events : List MachineEvent) (from moment : ℕ) (states : List S)
+    → (texts : Texts) (numbers : List ℕ) → IsBook texts → AllPairs (λ a b. a < b) numbers → All (Keeps texts) numbers → (r : MachineRules X) (events : List MachineEvent) (from moment : ℕ) (states : List S)
     → ((n : ℕ) → Contains (flat_map names states) n → Contains numbers n) → Leads names seen texts r events from moment states → Leads names seen (only numbers texts) r events from moment states
 kept_leads names seen by_names texts numbers book up kept r events from moment states within leads =
     Leads-book names seen by_names texts (only numbers texts) r events from moment states
@@ -78,7 +79,7 @@ module _ (texts : Texts) (numbers : List ℕ) (book : IsBook texts) (up : AllPai
 
 -- Until when a wait lasts does not depend on the book.
 
-module _ {X S : Type 0} (seen : Texts → S → X) (r : Rules X) (lawful : IsLawful r) (window_same : (a b : Texts) (x : S) → r.window (seen a x) ≡ r.window (seen b x))
+module _ {X S : Type 0} (seen : Texts → S → X) (r : MachineRules X) (lawful : IsLawful r) (window_same : (a b : Texts) (x : S) → r.window (seen a x) ≡ r.window (seen b x))
     (until_same : (a b : Texts) (x : S) → r.until (seen a x) ≡ r.until (seen b x)) where
   some_wait : (a b : Texts) (states : List S) (h m : ℕ) → ((y : X) × Wait r (Contains (map (seen a) states)) h m y) → (y : X) × Wait r (Contains (map (seen b) states)) h m y
   some_wait a b states h m (y, wait) = go ((Wait-cases r lawful (Contains (map (seen a) states)) h m y).0 wait)
@@ -114,7 +115,7 @@ module _ {X S : Type 0} (seen : Texts → S → X) (r : Rules X) (lawful : IsLaw
   agenda_any a b states h limit agenda m low = (λ some. (agenda m low).0 (some_wait b a states h m some), λ within. some_wait a b states h m ((agenda m low).1 within))
 
 -- a wait lasts as long after a wait
-pub agenda_waited : {X S : Type 0} (names : S → List ℕ) (InRange : S → Type 0) (seen : Texts → S → X) (texts : Texts) (r : Rules X) → IsLawful r → (at moment : ℕ) (old new : List S) → at ≤ moment
+pub agenda_waited : {X S : Type 0} (names : S → List ℕ) (InRange : S → Type 0) (seen : Texts → S → X) (texts : Texts) (r : MachineRules X) → IsLawful r → (at moment : ℕ) (old new : List S) → at ≤ moment
     → StandFor names InRange seen texts (Wait r (Contains (map (seen texts) old)) at moment) new → (limit : Option ℕ) → IsAgenda r (Contains (map (seen texts) old)) at limit
     → IsAgenda r (Contains (map (seen texts) new)) moment limit
 agenda_waited {X} names InRange seen texts r lawful at moment old new low stand limit agenda n later =
@@ -130,7 +131,7 @@ window_of machine p a b x = window_same (transaction_of machine).figure (coded_o
 until_of : (machine : MachineKind) (p : Times) (a b : Texts) (x : StateOf machine) → ((meaning_of machine).rules p).until ((meaning_of machine).seen a x) ≡ ((meaning_of machine).rules p).until ((meaning_of machine).seen b x)
 until_of machine p a b x = until_same (transaction_of machine).figure (coded_of machine).seen a b p x ((coded_holds machine).closes_same a b p x.phase)
 
--- so the last moment on record stays that of the set
+-- the last moment on record is still that of the set
 pub swept_agenda : (texts : Texts) → IsBook texts → (moment : ℕ) (old new : AnySet) → moment_of old ≤ moment → IsAdvanced moment old new
     → IsKnownSet texts old → (limit : Option ℕ) → IsAgendaOf limit old → IsAgendaOf limit new
 swept_agenda texts book moment old new low (inr (same, silent)) known limit agenda = subst (IsAgendaOf limit) (sym same) agenda

@@ -16,8 +16,8 @@ use Rattle.sip_states.specs.Tables.{Tabled}
 use Rattle.sip_states.specs.declared.any_set.AnySet.{AnySet}
 use Rattle.sip_states.proofs.lists.Listed.{Contains-none}
 use Rattle.sip_standard.specs.Observation.{Observation}
-use Rattle.sip_verdict.specs.Keyed.{events_of, newest_moment}
-use Rattle.sip_verdict.specs.MessageReading.{key_machines}
+use Rattle.sip_standard.specs.VerdictOf.{events_for}
+use Rattle.sip_verdict.specs.Entries.{newest_moment}
 use Rattle.sip_verdict.specs.inner.Tracking.{IsReady, Tracks}
 use Rattle.sip_verdict.specs.inner.TablesTracking.{key_keeping, transactions_of, TablesTrack, MayPass, IsOnRecord, AllAreOnRecord}
 use Rattle.sip_states.proofs.keyed.ByMachine.{some_machine, moment_is, numbers_are, of_set, to_set, of_sets}
@@ -99,14 +99,14 @@ module _ (texts : Texts) (book : IsBook texts) (t u : Tabled) (moment : ℕ) (ad
         let keys : map (λ x. x.0) (transactions_of u) ≡ map (λ x. x.0) (transactions_of t) =
         keys_are u (advances.long ∙ may.long ∙ sym (ap length advances.keys)) ∙ advances.keys ∙ sym (keys_are t may.long) in
         let p = t.times in
-        subst (λ q. Tracks (key_machines q) (key_keeping (only numbers texts) q) es (transactions_of u)) (sym advances.times) (record {
+        subst (λ q. Tracks q (key_keeping (only numbers texts) q) es (transactions_of u)) (sym advances.times) (record {
           keys = keys ∙ tracks.keys;
-          ready = All-places (IsReady (key_machines p) (key_keeping (only numbers texts) p) es) (transactions_of u) (λ n x at.
+          ready = All-places (IsReady (key_keeping (only numbers texts) p) es) (transactions_of u) (λ n x at.
               let there = place-zip u.keys u.sets n x at in
               let (old, was) = before n x.1 there.1 in
               let key_at : slice_get t.keys n ≡ Some x.0 = ap (λ ks. slice_get ks n) (sym advances.keys) ∙ there.0 in
-              let leads = All-place (IsReady (key_machines p) (key_keeping texts p) es) (transactions_of t) n (x.0, old) (zip-place t.keys t.sets n x.0 old key_at was) tracks.ready in
-              swept_leads texts numbers book up kept p (machine_of_key p.rules x.0) (events_of (key_machines p) x.0 es) (newest_moment es) moment old x.1 (All-place (λ set. moment_of set ≤ moment) t.sets n old was may.order)
+              let leads = All-place (IsReady (key_keeping texts p) es) (transactions_of t) n (x.0, old) (zip-place t.keys t.sets n x.0 old key_at was) tracks.ready in
+              swept_leads texts numbers book up kept p (machine_of_key p.rules x.0) (events_for x.0 es) (newest_moment es) moment old x.1 (All-place (λ set. moment_of set ≤ moment) t.sets n old was may.order)
               (advances.each n old x.1 was there.1) (within n x.1 there.1) leads);
           good = tracks.good;
         })

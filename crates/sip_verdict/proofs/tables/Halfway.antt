@@ -24,9 +24,9 @@ use Rattle.sip_verdict.specs.declared.passing.Hearing.{Hearing}
 use Rattle.sip_verdict.specs.declared.passing.Outcome.{Outcome}
 use Rattle.sip_verdict.specs.declared.passing.Outcome.TheVariants as all
 use Rattle.sip_standard.specs.Observation.{Observation}
-use Rattle.sip_verdict.specs.Keyed.{Machines, HasRun, concerns, events_of, newest_moment}
-use Rattle.sip_verdict.specs.Verdicts.{IsFirst, IsTooWide}
-use Rattle.sip_verdict.specs.MessageReading.{key_machines}
+use Rattle.sip_standard.specs.VerdictOf.{events_for, RunsOver, IsWideAt, IsFirstKey}
+use Rattle.sip_verdict.specs.Entries.{newest_moment}
+use Rattle.sip_verdict.specs.inner.Keyed.{concerns}
 use Rattle.sip_verdict.specs.inner.Stepping.{RunsUntil, IsStepped}
 use Rattle.sip_verdict.specs.inner.Tracking.{Keeping, IsReady, IsStanding, GoesOn, IsPassed, IsOutcome, outcome_of, overdue_outcome, first_of}
 use Rattle.sip_verdict.specs.inner.TablesTracking.{LeadsOf, StandsOf, key_keeping, transactions_of, is_among, concerns_number, AreTold, MayPass, MayHear, AreHearers, AreOnRecord, Hears, HearsEach}
@@ -53,39 +53,36 @@ not_passing true h = absurd (h refl)
 not_passing false h = refl
 
 module _ (texts : Texts) (p : Times) (es : List (Observation KeyParts)) (e : Observation KeyParts) (keys : List KeyParts) where
-  -- the machines of the keys, and what is kept of each
-  abbrev m : Machines KeyParts
-  m = key_machines p
-
-  abbrev k : Keeping KeyParts (KeyParts × AnySet)
+  -- what is kept of each key
+  abbrev k : Keeping (KeyParts × AnySet)
   k = key_keeping texts p
 
   -- the key has a run over the entries and this one
   abbrev HasOne : KeyParts → Type 0
-  HasOne key = HasRun m key (es ++ e ∷ [])
+  HasOne key = RunsOver p (es ++ e ∷ []) key
 
   -- some sets are still to hear the event; this is the outcome of all other keys, whose sets lead on if they are in no trouble
   pub record IsHalfway (waits : List ℕ) (t : Tabled) (outcome : Outcome) : Type 0 where
     pub same : t.keys ≡ keys
-    pub says : Says HasOne (IsTooWide m es e) keys (λ n. is_among waits (n + 1) ≡ false) outcome
-    pub waiting : (n : ℕ) (key : KeyParts) (s : AnySet) → slice_get keys n ≡ Some key → slice_get t.sets n ≡ Some s → is_among waits (n + 1) ≡ true → (concerns m key e ≡ true) × IsReady m k es (key, s)
+    pub says : Says HasOne (IsWideAt p es e) keys (λ n. is_among waits (n + 1) ≡ false) outcome
+    pub waiting : (n : ℕ) (key : KeyParts) (s : AnySet) → slice_get keys n ≡ Some key → slice_get t.sets n ≡ Some s → is_among waits (n + 1) ≡ true → (concerns key e ≡ true) × IsReady k es (key, s)
     pub passed : outcome ≡ all.Fine → (n : ℕ) (key : KeyParts) (s : AnySet) → slice_get keys n ≡ Some key → slice_get t.sets n ≡ Some s → is_among waits (n + 1) ≡ false
-        → IsReady m k (es ++ e ∷ []) (key, s) × IsStanding m k es e (key, s)
+        → IsReady k (es ++ e ∷ []) (key, s) × IsStanding k es e (key, s)
 
   -- none is: this is the outcome of all
   module _ (t : Tabled) (long : length t.sets ≡ length t.keys) where
     names : (h : t.keys ≡ keys) → map (λ x. x.0) (transactions_of t) ≡ keys
     names h = keys_are t long ∙ h
 
-    first : (P : KeyParts → Type 0) (number : ℕ) → t.keys ≡ keys → IsFirstAmong P keys (λ n. false ≡ false) number → IsFirst P (map (λ x. x.0) (transactions_of t)) number
+    first : (P : KeyParts → Type 0) (number : ℕ) → t.keys ≡ keys → IsFirstAmong P keys (λ n. false ≡ false) number → IsFirstKey P (map (λ x. x.0) (transactions_of t)) number
     first P number h f =
-        subst (λ ks. IsFirst P ks number) (sym (names h))
-        (subst (IsFirst P keys) (sym f.counts) (first_at P keys f.place f.key f.at f.holds (λ n key low at. f.earlier n key low at refl)))
+        subst (λ ks. IsFirstKey P ks number) (sym (names h))
+        (subst (IsFirstKey P keys) (sym f.counts) (first_at P keys f.place f.key f.at f.holds (λ n key low at. f.earlier n key low at refl)))
 
-    pub halfway_all : (outcome : Outcome) → IsHalfway [] t outcome → IsOutcome m k es e (transactions_of t) outcome
-    halfway_all all.Fine h = All-places (GoesOn m k es e) (transactions_of t) goes
+    pub halfway_all : (outcome : Outcome) → IsHalfway [] t outcome → IsOutcome p k es e (transactions_of t) outcome
+    halfway_all all.Fine h = All-places (GoesOn p k es e) (transactions_of t) goes
       where
-        goes : (n : ℕ) (x : KeyParts × AnySet) → slice_get (transactions_of t) n ≡ Some x → GoesOn m k es e x
+        goes : (n : ℕ) (x : KeyParts × AnySet) → slice_get (transactions_of t) n ≡ Some x → GoesOn p k es e x
         goes n x at =
             let there = place-zip t.keys t.sets n x at in
             let key = subst (λ ks. slice_get ks n ≡ Some x.0) h.same there.0 in
@@ -95,7 +92,7 @@ module _ (texts : Texts) (p : Times) (es : List (Observation KeyParts)) (e : Obs
     halfway_all (all.NoRun number) h = first (λ key. ¬ HasOne key) number h.same h.says
     halfway_all (all.TooWide number) h = (
       subst (All HasOne) (sym (names h.same)) (All-places HasOne keys (λ n key at. h.says.0 n key at refl)),
-      first (IsTooWide m es e) number h.same h.says.1,
+      first (IsWideAt p es e) number h.same h.says.1,
     )
 
   -- one more has heard the event
@@ -110,22 +107,22 @@ module _ (texts : Texts) (p : Times) (es : List (Observation KeyParts)) (e : Obs
     mine : (key : KeyParts) × (slice_get keys place ≡ Some key)
     mine = at_place keys (number - 1) (omega (arith, next, given.high, ap length h.same))
 
-    before : (concerns m mine.0 e ≡ true) × IsReady m k es (mine.0, own.before)
+    before : (concerns mine.0 e ≡ true) × IsReady k es (mine.0, own.before)
     before = h.waiting place mine.0 own.before mine.1 own.was (among_first (place + 1) number ns next)
 
-    left : IsPassed m k es e (mine.0, own.after) fate
+    left : IsPassed p k es e (mine.0, own.after) fate
     left =
-        own_passed m k es e (mine.0, own.after) before.0 fate
-        (subst (λ f. IsStepped (key_rules p (machine_of_key p.rules mine.0)) (events_of m mine.0 es) f (λ fs. LeadsOf texts p (machine_of_key p.rules mine.0) fs f.moment own.after)
-        (λ f. StandsOf texts p (machine_of_key p.rules mine.0) (events_of m mine.0 es) f own.after) fate) (sym (is_event place mine.0 mine.1))
-        (own.stepped p (machine_of_key p.rules mine.0) (events_of m mine.0 es) (newest_moment es) late before.1))
+        own_passed p k es e (mine.0, own.after) before.0 fate
+        (subst (λ f. IsStepped (key_rules p (machine_of_key p.rules mine.0)) (events_for mine.0 es) f (λ fs. LeadsOf texts p (machine_of_key p.rules mine.0) fs f.moment own.after)
+        (λ f. StandsOf texts p (machine_of_key p.rules mine.0) (events_for mine.0 es) f own.after) fate) (sym (is_event place mine.0 mine.1))
+        (own.stepped p (machine_of_key p.rules mine.0) (events_for mine.0 es) (newest_moment es) late before.1))
 
     mine_is : (n : ℕ) (key : KeyParts) → slice_get keys n ≡ Some key → n ≡ place → mine.0 ≡ key
     mine_is n key at same = let both : Some mine.0 ≡ Some key = sym mine.1 ∙ ap (slice_get keys) (sym same) ∙ at in cc
 
     -- what is left of its runs
-    own_says : (f : Fate) → IsPassed m k es e (mine.0, own.after) f → Says HasOne (IsTooWide m es e) keys (λ n. n ≡ place) (outcome_of number f)
-    own_says Runs g = λ n key at same. (subst HasOne (mine_is n key at same) g.runs, λ wide. g.narrow (subst (IsTooWide m es e) (sym (mine_is n key at same)) wide))
+    own_says : (f : Fate) → IsPassed p k es e (mine.0, own.after) f → Says HasOne (IsWideAt p es e) keys (λ n. n ≡ place) (outcome_of number f)
+    own_says Runs g = λ n key at same. (subst HasOne (mine_is n key at same) g.runs, λ wide. g.narrow (subst (IsWideAt p es e) (sym (mine_is n key at same)) wide))
     own_says NoRun g = record { place = place; counts = sym next; key = mine.0; at = mine.1; holds = g; earlier = λ n key low at same. absurd (omega (arith, low, same)) }
     own_says TooWide g = (
       λ n key at same. subst HasOne (mine_is n key at same) g.0,
@@ -140,30 +137,30 @@ module _ (texts : Texts) (p : Times) (es : List (Observation KeyParts)) (e : Obs
     no_more n none = elim (among_not (n + 1) number ns none) [ inl old ↦ inl old | inr same ↦ inr (omega (arith, next, same)) ]
 
     -- it is the outcome of the others and of this one
-    more_waiting : (n : ℕ) (key : KeyParts) (s : AnySet) → slice_get keys n ≡ Some key → slice_get u.sets n ≡ Some s → is_among ns (n + 1) ≡ true → (concerns m key e ≡ true) × IsReady m k es (key, s)
+    more_waiting : (n : ℕ) (key : KeyParts) (s : AnySet) → slice_get keys n ≡ Some key → slice_get u.sets n ≡ Some s → is_among ns (n + 1) ≡ true → (concerns key e ≡ true) × IsReady k es (key, s)
     more_waiting n key s at here still =
         elim (other n s here) [
           | inl a ↦ absurd (false≢true (sym once ∙ ap (is_among ns) (omega (arith, a.0, next)) ∙ still))
           | inr b ↦ h.waiting n key s at b.1 (among_rest (n + 1) number ns still)
         ]
 
-    more_passed : (f : Fate) → IsPassed m k es e (mine.0, own.after) f → first_of outcome (outcome_of number f) ≡ all.Fine → (n : ℕ) (key : KeyParts) (s : AnySet) → slice_get keys n ≡ Some key → slice_get u.sets n ≡ Some s
-        → is_among ns (n + 1) ≡ false → IsReady m k (es ++ e ∷ []) (key, s) × IsStanding m k es e (key, s)
+    more_passed : (f : Fate) → IsPassed p k es e (mine.0, own.after) f → first_of outcome (outcome_of number f) ≡ all.Fine → (n : ℕ) (key : KeyParts) (s : AnySet) → slice_get keys n ≡ Some key → slice_get u.sets n ≡ Some s
+        → is_among ns (n + 1) ≡ false → IsReady k (es ++ e ∷ []) (key, s) × IsStanding k es e (key, s)
     more_passed NoRun g fine n key s at here none = (let never = (both_fine outcome (all.NoRun number) fine).1 in absurd cc)
     more_passed TooWide g fine n key s at here none = (let never = (both_fine outcome (all.TooWide number) fine).1 in absurd cc)
     more_passed Runs g fine n key s at here none = go (other n s here) (no_more n none)
       where
-        go : ((n ≡ place) × (own.after ≡ s)) ⊎ ((n ≢ place) × (slice_get t.sets n ≡ Some s)) → (is_among (number ∷ ns) (n + 1) ≡ false) ⊎ (n ≡ place) → IsReady m k (es ++ e ∷ []) (key, s) × IsStanding m k es e (key, s)
+        go : ((n ≡ place) × (own.after ≡ s)) ⊎ ((n ≢ place) × (slice_get t.sets n ≡ Some s)) → (is_among (number ∷ ns) (n + 1) ≡ false) ⊎ (n ≡ place) → IsReady k (es ++ e ∷ []) (key, s) × IsStanding k es e (key, s)
         go (inl a) w =
-            subst (λ x. IsReady m k (es ++ e ∷ []) x × IsStanding m k es e x) (λ i. (mine_is n key at a.0 i, a.1 i)) (g.ready, g.stands)
+            subst (λ x. IsReady k (es ++ e ∷ []) x × IsStanding k es e x) (λ i. (mine_is n key at a.0 i, a.1 i)) (g.ready, g.stands)
         go (inr b) (inl old) = h.passed (both_fine outcome all.Fine fine).0 n key s at b.1 old
         go (inr b) (inr same) = absurd (b.0 same)
 
     one_more : IsHalfway ns u (first_of outcome (outcome_of number fate))
     one_more = record {
       same = leaves_keys number own.after fate t u own.leaves ∙ h.same;
-      says = says_fewer HasOne (IsTooWide m es e) keys (λ n. (is_among (number ∷ ns) (n + 1) ≡ false) ⊎ (n ≡ place)) (λ n. is_among ns (n + 1) ≡ false) no_more (first_of outcome (outcome_of number fate))
-          (says_both HasOne (IsTooWide m es e) keys (λ n. is_among (number ∷ ns) (n + 1) ≡ false) (λ n. n ≡ place) outcome (outcome_of number fate) h.says (own_says fate left));
+      says = says_fewer HasOne (IsWideAt p es e) keys (λ n. (is_among (number ∷ ns) (n + 1) ≡ false) ⊎ (n ≡ place)) (λ n. is_among ns (n + 1) ≡ false) no_more (first_of outcome (outcome_of number fate))
+          (says_both HasOne (IsWideAt p es e) keys (λ n. is_among (number ∷ ns) (n + 1) ≡ false) (λ n. n ≡ place) outcome (outcome_of number fate) h.says (own_says fate left));
       waiting = more_waiting;
       passed = more_passed fate left;
     }
@@ -180,14 +177,14 @@ module _ (texts : Texts) (p : Times) (es : List (Observation KeyParts)) (e : Obs
 
 -- no set has heard the event yet
 module _ (texts : Texts) (p : Times) (es : List (Observation KeyParts)) (e : Observation KeyParts) (moment : ℕ) (hearing : Option Hearing) (t : Tabled) (may : MayPass texts t moment)
-    (numbers : List ℕ) (recorded : AreOnRecord numbers t) (told : AreTold texts t.keys moment hearing e) (ready : All (IsReady (key_machines p) (key_keeping texts p) es) (transactions_of t))
+    (numbers : List ℕ) (recorded : AreOnRecord numbers t) (told : AreTold texts t.keys moment hearing e) (ready : All (IsReady (key_keeping texts p) es) (transactions_of t))
     (newest : newest_moment es ≤ moment) (heard : (number : ℕ) → is_among numbers number ≡ true → concerns_number hearing number ≡ true)
     (others : (n : ℕ) (key : KeyParts) (s : AnySet) → slice_get t.keys n ≡ Some key → slice_get t.sets n ≡ Some s → is_among numbers (n + 1) ≡ false
-    → (concerns_number hearing (n + 1) ≡ false) ⊎ GoesOn (key_machines p) (key_keeping texts p) es e (key, s)) where
+    → (concerns_number hearing (n + 1) ≡ false) ⊎ GoesOn p (key_keeping texts p) es e (key, s)) where
   -- a key, its set and its last moment on record
   module _ (n : ℕ) (key : KeyParts) (s : AnySet) (at : slice_get t.keys n ≡ Some key) (here : slice_get t.sets n ≡ Some s) where
-    leads : LeadsOf texts p (machine_of_key p.rules key) (events_of (key_machines p) key es) (newest_moment es) s
-    leads = All-place (IsReady (key_machines p) (key_keeping texts p) es) (transactions_of t) n (key, s) (zip-place t.keys t.sets n key s at here) ready
+    leads : LeadsOf texts p (machine_of_key p.rules key) (events_for key es) (newest_moment es) s
+    leads = All-place (IsReady (key_keeping texts p) es) (transactions_of t) n (key, s) (zip-place t.keys t.sets n key s at here) ready
 
     low : moment_of s ≤ moment
     low = All-place (λ x. moment_of x ≤ moment) t.sets n s here may.order
@@ -197,23 +194,23 @@ module _ (texts : Texts) (p : Times) (es : List (Observation KeyParts)) (e : Obs
     at_moment = (told n key at).at
 
     -- after its last moment it has no run
-    late : (r : Option (Option ℕ)) → slice_get t.records n ≡ Some r → is_overdue moment r ≡ true → ¬ HasRun (key_machines p) key (es ++ e ∷ [])
+    late : (r : Option (Option ℕ)) → slice_get t.records n ≡ Some r → is_overdue moment r ≡ true → ¬ RunsOver p (es ++ e ∷ []) key
     late None on is = absurd (false≢true is)
     late (Some limit) on is = λ run.
-        overdue_none texts p (machine_of_key p.rules key) (events_of (key_machines p) key es) (newest_moment es) s leads limit (recorded.each n s (Some limit) here on) moment newest low is
-        (subst (RunsUntil (key_rules p (machine_of_key p.rules key)) (events_of (key_machines p) key es)) at_moment (run_still (key_machines p) (key_keeping texts p) es e (key, s) run))
+        overdue_none texts p (machine_of_key p.rules key) (events_for key es) (newest_moment es) s leads limit (recorded.each n s (Some limit) here on) moment newest low is
+        (subst (RunsUntil (key_rules p (machine_of_key p.rules key)) (events_for key es)) at_moment (run_still p (key_keeping texts p) es e (key, s) run))
 
-    -- and up to it, it goes on
-    in_time : (r : Option (Option ℕ)) → slice_get t.records n ≡ Some r → is_overdue moment r ≡ false → is_among numbers (n + 1) ≡ false → GoesOn (key_machines p) (key_keeping texts p) es e (key, s)
+    -- a transaction whose last moment is not past goes on
+    in_time : (r : Option (Option ℕ)) → slice_get t.records n ≡ Some r → is_overdue moment r ≡ false → is_among numbers (n + 1) ≡ false → GoesOn p (key_keeping texts p) es e (key, s)
     in_time None on is other = absurd (false≢true (sym other ∙ recorded.each n s None here on))
     in_time (Some limit) on is other = elim (others n key s at here other) [ inl apart ↦ waits_on apart | inr goes ↦ goes ]
       where
-        waits_on : concerns_number hearing (n + 1) ≡ false → GoesOn (key_machines p) (key_keeping texts p) es e (key, s)
+        waits_on : concerns_number hearing (n + 1) ≡ false → GoesOn p (key_keeping texts p) es e (key, s)
         waits_on apart =
-            other_passed (key_machines p) (key_keeping texts p) es e (key, s) ((told n key at).concerned p ∙ apart)
-            (subst (RunsUntil (key_rules p (machine_of_key p.rules key)) (events_of (key_machines p) key es)) (sym at_moment)
-            (in_time_some texts p (machine_of_key p.rules key) (events_of (key_machines p) key es) (newest_moment es) s leads limit (recorded.each n s (Some limit) here on) moment newest low is))
-            (leads_later texts p (machine_of_key p.rules key) (events_of (key_machines p) key es) (newest_moment es) e.event.moment s (omega (arith, newest, at_moment)) leads)
+            other_passed p (key_keeping texts p) es e (key, s) ((told n key at).concerned ∙ apart)
+            (subst (RunsUntil (key_rules p (machine_of_key p.rules key)) (events_for key es)) (sym at_moment)
+            (in_time_some texts p (machine_of_key p.rules key) (events_for key es) (newest_moment es) s leads limit (recorded.each n s (Some limit) here on) moment newest low is))
+            (leads_later texts p (machine_of_key p.rules key) (events_for key es) (newest_moment es) e.event.moment s (omega (arith, newest, at_moment)) leads)
 
   -- each key has a set and a place for its last moment
   set_of_key : (n : ℕ) (key : KeyParts) → slice_get t.keys n ≡ Some key → (s : AnySet) × (slice_get t.sets n ≡ Some s)
@@ -223,12 +220,12 @@ module _ (texts : Texts) (p : Times) (es : List (Observation KeyParts)) (e : Obs
   record_of_key n key at = at_place t.records n (let within = slice_get_within t.keys n key at in let long = recorded.long in omega arith)
 
   waiting : (n : ℕ) (key : KeyParts) (s : AnySet) → slice_get t.keys n ≡ Some key → slice_get t.sets n ≡ Some s → is_among numbers (n + 1) ≡ true
-      → (concerns (key_machines p) key e ≡ true) × IsReady (key_machines p) (key_keeping texts p) es (key, s)
-  waiting n key s at here own = ((told n key at).concerned p ∙ heard (n + 1) own, leads n key s at here)
+      → (concerns key e ≡ true) × IsReady (key_keeping texts p) es (key, s)
+  waiting n key s at here own = ((told n key at).concerned ∙ heard (n + 1) own, leads n key s at here)
 
   -- no key is overdue
   module _ (nothing : (n : ℕ) (r : Option (Option ℕ)) → slice_get t.records n ≡ Some r → is_overdue moment r ≡ false) where
-    goes : (n : ℕ) (key : KeyParts) (s : AnySet) → slice_get t.keys n ≡ Some key → slice_get t.sets n ≡ Some s → is_among numbers (n + 1) ≡ false → GoesOn (key_machines p) (key_keeping texts p) es e (key, s)
+    goes : (n : ℕ) (key : KeyParts) (s : AnySet) → slice_get t.keys n ≡ Some key → slice_get t.sets n ≡ Some s → is_among numbers (n + 1) ≡ false → GoesOn p (key_keeping texts p) es e (key, s)
     goes n key s at here other = let (r, on) = record_of_key n key at in in_time n key s at here r on (nothing n r on) other
 
     none_due : IsHalfway texts p es e t.keys numbers t all.Fine
@@ -272,45 +269,42 @@ module _ (texts : Texts) (p : Times) (es : List (Observation KeyParts)) (e : Obs
       go (Some i) is = let found = position-Some (is_overdue moment) t.records i None is in first_due i found.0 found.1 found.2
 
   -- the outcome of an entry that concerns none
-  pub mark_outcome : numbers ≡ [] → IsOutcome (key_machines p) (key_keeping texts p) es e (transactions_of t) (overdue_outcome (due_of t moment))
+  pub mark_outcome : numbers ≡ [] → IsOutcome p (key_keeping texts p) es e (transactions_of t) (overdue_outcome (due_of t moment))
   mark_outcome none =
       halfway_all texts p es e t.keys t may.long (overdue_outcome (due_of t moment))
       (subst (λ ns. IsHalfway texts p es e t.keys ns t (overdue_outcome (due_of t moment))) none halfway_start)
 
-  -- and of one whose event was heard by each that it concerns
+  -- the outcome of an entry whose event was heard by each transaction that it concerns
   pub heard_outcome : (event : NumberedEvent) → ((n : ℕ) (key : KeyParts) → slice_get t.keys n ≡ Some key → e.event ≡ event_in texts event) → newest_moment es ≤ event.moment → All (IsGiven t) numbers → AllPairs (λ a b. a ≢ b) numbers → (u : Tabled)
       → length u.sets ≡ length u.keys → (outcome : Outcome) → HearsEach texts event numbers t (overdue_outcome (due_of t moment)) u outcome
-      → IsOutcome (key_machines p) (key_keeping texts p) es e (transactions_of u) outcome
+      → IsOutcome p (key_keeping texts p) es e (transactions_of u) outcome
   heard_outcome event is_event late given apart u long outcome heard_each =
       halfway_all texts p es e t.keys u long outcome
       (halfway_each texts p es e t.keys event is_event late numbers t u (overdue_outcome (due_of t moment)) outcome halfway_start given apart heard_each)
 
 -- a key whose set does not hear the event is not concerned, or its set is quiet and passes the restart as it is
 pub quiet_others : (texts : Texts) (p : Times) (es : List (Observation KeyParts)) (e : Observation KeyParts) (moment : ℕ) (h : Hearing) (t : Tabled) → MayPass texts t moment → AreTold texts t.keys moment (Some h) e
-    → All (IsReady (key_machines p) (key_keeping texts p) es) (transactions_of t) → newest_moment es ≤ moment → MayHear texts t moment h → (numbers : List ℕ) → AreHearers t h.concerned numbers
+    → All (IsReady (key_keeping texts p) es) (transactions_of t) → newest_moment es ≤ moment → MayHear texts t moment h → (numbers : List ℕ) → AreHearers t h.concerned numbers
     → (n : ℕ) (key : KeyParts) (s : AnySet) → slice_get t.keys n ≡ Some key → slice_get t.sets n ≡ Some s → is_among numbers (n + 1) ≡ false
-    → (concerns_number (Some h) (n + 1) ≡ false) ⊎ GoesOn (key_machines p) (key_keeping texts p) es e (key, s)
+    → (concerns_number (Some h) (n + 1) ≡ false) ⊎ GoesOn p (key_keeping texts p) es e (key, s)
 quiet_others texts p es e moment h t may told ready newest hear numbers hearers n key s at here none = by_all (is_all h.concerned) refl
   where
-    m : Machines KeyParts
-    m = key_machines p
-
-    k : Keeping KeyParts (KeyParts × AnySet)
+    k : Keeping (KeyParts × AnySet)
     k = key_keeping texts p
 
     not_named : is_among (each h.concerned) (n + 1) ≡ false
     not_named = not_passing (is_among (each h.concerned) (n + 1)) (λ among. false≢true (sym none ∙ hearers.named (n + 1) among))
 
-    goes : is_all h.concerned ≡ true → GoesOn m k es e (key, s)
+    goes : is_all h.concerned ≡ true → GoesOn p k es e (key, s)
     goes all =
-        let leads = All-place (IsReady m k es) (transactions_of t) n (key, s) (zip-place t.keys t.sets n key s at here) ready in
+        let leads = All-place (IsReady k es) (transactions_of t) n (key, s) (zip-place t.keys t.sets n key s at here) ready in
         let low = All-place (λ x. moment_of x ≤ moment) t.sets n s here may.order in
         let machine = machine_of_key p.rules key in
-        let events = events_of m key es in
+        let events = events_for key es in
         let stepped = quiet_stepped texts p machine events (newest_moment es) s leads (hearers.others all n s here none) h.event (hear.restart all) (omega (arith, newest, hear.at)) (omega (arith, low, hear.at)) in
-        own_passed m k es e (key, s) ((told n key at).concerned p ∙ ap (λ b. b || is_among (each h.concerned) (n + 1)) all) Runs
+        own_passed p k es e (key, s) ((told n key at).concerned ∙ ap (λ b. b || is_among (each h.concerned) (n + 1)) all) Runs
         (subst (λ f. IsStepped (key_rules p machine) events f (λ fs. LeadsOf texts p machine fs f.moment s) (λ g. StandsOf texts p machine events g s) Runs) (sym (told n key at).event) stepped)
 
-    by_all : (b : Bool) → is_all h.concerned ≡ b → (concerns_number (Some h) (n + 1) ≡ false) ⊎ GoesOn m k es e (key, s)
+    by_all : (b : Bool) → is_all h.concerned ≡ b → (concerns_number (Some h) (n + 1) ≡ false) ⊎ GoesOn p k es e (key, s)
     by_all true all = inr (goes all)
     by_all false some = inl (ap (λ b. b || is_among (each h.concerned) (n + 1)) some ∙ not_named)

@@ -4,17 +4,17 @@ use Rattle.std.specs.List.{flat_map, list_any}
 use Rattle.std.proofs.lemmas.List.{length-map, get_or-map}
 use Rattle.std.proofs.lemmas.Option.{slice_get_within, get_or_from_slice_get, slice_get-get_or}
 use Rattle.sip_standard.specs.Key.{KeyParts, same_key}
-use Rattle.sip_key.specs.inner.KeyLaws.{same_key-decides}
 use Rattle.sip_standard.specs.Times.{Times}
 use Rattle.sip_machine.specs.Texts.{Texts, IsBook, Keeps, text_of}
 use Rattle.sip_machine.specs.Retained.{only}
 use Rattle.sip_standard.specs.MachineEvent.{MachineEvent}
-use Rattle.sip_machine.specs.Rules.{Rules, IsLawful, StandFor}
+use Rattle.sip_machine.specs.Rules.{MachineRules, IsLawful, StandFor}
 use Rattle.sip_machine.proofs.texts.RetainLemmas.{length-only}
 use Rattle.sip_states.specs.Runs.{Wait, RuledRun}
 use Rattle.sip_states.specs.Held.{Held}
-use Rattle.sip_standard.specs.KeyMachine.{MachineKind, machine_of_key}
+use Rattle.sip_standard.specs.KeyMachine.{MachineKind, machine_of_key, transaction_of}
 use Rattle.sip_states.specs.KeySets.{PhaseOf, StateOf, key_rules}
+use Rattle.sip_states.proofs.keyed.KeySetLaws.{coded_holds}
 use Rattle.sip_states.specs.Meaning.{HasWaited}
 use Rattle.sip_states.specs.AnySet.{meaning_of, moment_of, SetWaits}
 use Rattle.sip_states.specs.Sweep.{numbers_of, IsAdvanced}
@@ -24,29 +24,42 @@ use Rattle.sip_states.proofs.lists.Listed.{Contains-none, Contains-map, Contains
 use Rattle.sip_states.proofs.runs.RunLemmas.{Run-wait_first}
 use Rattle.sip_states.proofs.sets.Waiting.{StaysFrom, EndsFrom, Wait-cases, IsOpenAt-none}
 use Rattle.sip_standard.specs.Observation.{Observation}
-use Rattle.sip_verdict.specs.Keyed.{keys_of, events_of, newest_moment}
-use Rattle.sip_verdict.specs.MessageReading.{key_machines}
-use Rattle.sip_verdict.specs.Named.{IsNamed, AreMany, messages_of, key_messages}
+use Rattle.sip_standard.specs.VerdictOf.{keys_in, events_for}
+use Rattle.sip_verdict.specs.Entries.{newest_moment}
+use Rattle.sip_standard.specs.Stands.{Stands}
+use Rattle.sip_states.proofs.runs.StandsLemmas.{stands-runs}
+use Rattle.sip_verdict.proofs.keys.Leading.{iff_trans}
+use Rattle.sip_verdict.specs.Named.{IsNamed, AreMany, messages_of}
 use Rattle.sip_verdict.specs.inner.TablesTracking.{LeadsOf, key_keeping, transactions_of, TablesTrack}
 use Rattle.sip_verdict.specs.inner.Tracking.{IsReady}
-use Rattle.sip_verdict.proofs.keys.Keys.{IsExact, among-contains, new_key}
-use Rattle.sip_states.proofs.keyed.ByMachine.{rules_are, lawful_of, moment_is, numbers_are, of_sets}
+use Rattle.sip_verdict.proofs.keys.Keys.{among-contains, new_key}
+use Rattle.sip_states.proofs.keyed.ByMachine.{lawful_of, moment_is, numbers_are, of_sets}
 use Rattle.sip_verdict.proofs.tables.TablesPassing.{at_place, All-place, zip-place, keys_are}
 use Rattle.sip_verdict.proofs.sweeps.NamedLemmas.{RunNames, IsNumberOf, waited_names, silent_names, named_of, first_silent, ended_silent, Contains-flat_map, Contains-from_flat_map}
 
 -- a run over no event stands in the first state
-stays_first : {X : Type 0} (r : Rules X) → IsLawful r → (m : ℕ) (y : X) → RuledRun r [] m y → y ≡ r.first
+stays_first : {X : Type 0} (r : MachineRules X) → IsLawful r → (m : ℕ) (y : X) → RuledRun r [] m y → y ≡ r.first
 stays_first {X} r lawful m y run = go ((Wait-cases r lawful (λ x. x ≡ r.first) 0 m y).0 ((Run-wait_first r m y).0 run))
   where
     go : StaysFrom r (λ x. x ≡ r.first) 0 m y ⊎ EndsFrom r (λ x. x ≡ r.first) 0 m y → y ≡ r.first
     go (inl stays) = stays.among
     go (inr ends) = absurd (IsOpenAt-none ends.at (r.window ends.start) (ap r.window ends.among ∙ lawful.first_has_no_end) ends.hides.opened)
 
+-- a state of a run of the machine names the text
+abbrev pub StandsNaming : Times → MachineKind → List MachineEvent → ℕ → List ℕ → Type 0
+StandsNaming p machine events moment text = (y : PhaseOf machine) × Stands (transaction_of machine).figure p events moment y × Contains (messages_of machine y) text
+
+-- a state that names the text is that of a run by the machine's rules
+names_stand : (p : Times) (machine : MachineKind) (events : List MachineEvent) (moment : ℕ) (text : List ℕ) → StandsNaming p machine events moment text ↔ RunNames (key_rules p machine) (messages_of machine) events moment text
+names_stand p machine events moment text =
+    let same = stands-runs (transaction_of machine).figure (coded_holds machine).is_figure p events moment in
+    (λ h. (h.0, (same h.0).0 h.1, h.2), λ h. (h.0, (same h.0).1 h.1, h.2))
+
 -- a key without events names nothing
-pub no_events_silent : (p : Times) (moment : ℕ) (machine : MachineKind) (events : List MachineEvent) (text : List ℕ) → events ≡ [] → RunNames (key_rules p machine) (messages_of machine) events moment text → ⊥
+pub no_events_silent : (p : Times) (moment : ℕ) (machine : MachineKind) (events : List MachineEvent) (text : List ℕ) → events ≡ [] → StandsNaming p machine events moment text → ⊥
 no_events_silent p moment machine events text none named =
     let q = (meaning_of machine).rules p in
-    let (y, run, has) = subst (λ s. RunNames s (messages_of machine) [] moment text) (sym (rules_are p machine)) (subst (λ es. RunNames (key_rules p machine) (messages_of machine) es moment text) none named) in
+    let (y, run, has) = (names_stand p machine [] moment text).0 (subst (λ es. StandsNaming p machine es moment text) none named) in
     Contains-none text (subst (λ ts. Contains ts text) (ap (messages_of machine) (stays_first q (lawful_of machine p) moment y run) ∙ first_silent machine p) has)
 
 -- where texts are named just by these numbers, there are just as many as messages that are kept
@@ -77,7 +90,7 @@ module _ (texts : Texts) (book : IsBook texts) (p : Times) (moment : ℕ) where
     abbrev held : Held Times (StateOf machine)
     held = leads.0
 
-    abbrev r : Rules (PhaseOf machine)
+    abbrev r : MachineRules (PhaseOf machine)
     r = (meaning_of machine).rules p
 
     not_later : held.moment ≤ moment
@@ -98,55 +111,52 @@ module _ (texts : Texts) (book : IsBook texts) (p : Times) (moment : ℕ) where
       λ h. absurd (Contains-none h.0 (subst (λ ns. Contains ns h.0) (ap numbers_of same ∙ silent) h.1)),
     )
 
-    pub key_named : IsAdvanced moment old new → RunNames (key_rules p machine) (messages_of machine) events moment text ↔ IsNumberOf texts (numbers_of new) text
-    key_named advanced = subst (λ q. RunNames q (messages_of machine) events moment text ↔ IsNumberOf texts (numbers_of new) text) (rules_are p machine) (by_set advanced)
+    pub key_named : IsAdvanced moment old new → StandsNaming p machine events moment text ↔ IsNumberOf texts (numbers_of new) text
+    key_named advanced = iff_trans (names_stand p machine events moment text) (by_set advanced)
 
   -- all keys
   module _ (es : List (Observation KeyParts)) (t u : Tabled) (times : t.times ≡ p) (tracks : TablesTrack texts es t) (long : length t.sets ≡ length t.keys) (newest : newest_moment es ≡ moment)
       (order : All (λ set. moment_of set ≤ moment) t.sets) (as_long : length u.sets ≡ length t.sets)
       (advanced : (n : ℕ) (old new : AnySet) → slice_get t.sets n ≡ Some old → slice_get u.sets n ≡ Some new → IsAdvanced moment old new) where
-    exact : IsExact (key_machines p)
-    exact = same_key-decides
-
     -- the set of a key leads to its runs
-    leads_at : (n : ℕ) (key : KeyParts) (old : AnySet) → slice_get t.keys n ≡ Some key → slice_get t.sets n ≡ Some old → LeadsOf texts p (machine_of_key p.rules key) (events_of (key_machines p) key es) (newest_moment es) old
+    leads_at : (n : ℕ) (key : KeyParts) (old : AnySet) → slice_get t.keys n ≡ Some key → slice_get t.sets n ≡ Some old → LeadsOf texts p (machine_of_key p.rules key) (events_for key es) (newest_moment es) old
     leads_at n key old at here =
-        let ready = subst (λ q. All (IsReady (key_machines q) (key_keeping texts q) es) (transactions_of t)) times tracks.ready in
-        All-place (IsReady (key_machines p) (key_keeping texts p) es) (transactions_of t) n (key, old) (zip-place t.keys t.sets n key old at here) ready
+        let ready = subst (λ q. All (IsReady (key_keeping texts q) es) (transactions_of t)) times tracks.ready in
+        All-place (IsReady (key_keeping texts p) es) (transactions_of t) n (key, old) (zip-place t.keys t.sets n key old at here) ready
 
     at_key : (n : ℕ) (key : KeyParts) (old new : AnySet) → slice_get t.keys n ≡ Some key → slice_get t.sets n ≡ Some old → slice_get u.sets n ≡ Some new → (text : List ℕ)
-        → RunNames (key_rules p (machine_of_key p.rules key)) (messages_of (machine_of_key p.rules key)) (events_of (key_machines p) key es) moment text ↔ IsNumberOf texts (numbers_of new) text
+        → StandsNaming p (machine_of_key p.rules key) (events_for key es) moment text ↔ IsNumberOf texts (numbers_of new) text
     at_key n key old new at here there text =
-        key_named (machine_of_key p.rules key) (events_of (key_machines p) key es) (newest_moment es) old new (leads_at n key old at here) (omega (arith, newest)) (All-place (λ set. moment_of set ≤ moment) t.sets n old here order) text
+        key_named (machine_of_key p.rules key) (events_for key es) (newest_moment es) old new (leads_at n key old at here) (omega (arith, newest)) (All-place (λ set. moment_of set ≤ moment) t.sets n old here order) text
         (advanced n old new here there)
 
     -- what a key names is named by its set
-    from_key : (key : KeyParts) (text : List ℕ) → RunNames (key_rules p (machine_of_key p.rules key)) (messages_of (machine_of_key p.rules key)) (events_of (key_machines p) key es) moment text
-        → (b : Bool) → list_any (same_key key) (keys_of (key_machines p) es) ≡ b → IsNumberOf texts (flat_map numbers_of u.sets) text
-    from_key key text named false none = absurd (no_events_silent p moment (machine_of_key p.rules key) (events_of (key_machines p) key es) text (new_key (key_machines p) exact key es none) named)
+    from_key : (key : KeyParts) (text : List ℕ) → StandsNaming p (machine_of_key p.rules key) (events_for key es) moment text
+        → (b : Bool) → list_any (same_key key) (keys_in es) ≡ b → IsNumberOf texts (flat_map numbers_of u.sets) text
+    from_key key text named false none = absurd (no_events_silent p moment (machine_of_key p.rules key) (events_for key es) text (new_key key es none) named)
     from_key key text named true some =
-        let keys : t.keys ≡ keys_of (key_machines p) es = sym (keys_are t long) ∙ tracks.keys ∙ ap (λ q. keys_of (key_machines q) es) times in
-        let (n, low, is) = subst (λ ks. Contains ks key) (sym keys) (among-contains (key_machines p) exact key (keys_of (key_machines p) es) some) in
+        let keys : t.keys ≡ keys_in es = sym (keys_are t long) ∙ tracks.keys ∙ ap (λ q. keys_in es) times in
+        let (n, low, is) = subst (λ ks. Contains ks key) (sym keys) (among-contains key (keys_in es) some) in
         let at : slice_get t.keys n ≡ Some key = slice_get-get_or t.keys n key low ∙ ap Some is in
         let (old, here) = at_place t.sets n (omega (arith, low, long)) in
         let (new, there) = at_place u.sets n (omega (arith, low, long, as_long)) in
         let (number, has, text_is) = (at_key n key old new at here there text).0 named in
         (number, Contains-flat_map numbers_of u.sets new number (n, slice_get_within u.sets n new there, get_or_from_slice_get u.sets n new new there) has, text_is)
 
-    pub tables_named : (text : List ℕ) → IsNamed (key_machines p) (key_messages p) es text ↔ IsNumberOf texts (flat_map numbers_of u.sets) text
+    pub tables_named : (text : List ℕ) → IsNamed p es text ↔ IsNumberOf texts (flat_map numbers_of u.sets) text
     tables_named text = (
-      λ h. from_key h.key text (h.state, subst (λ n. RuledRun (key_rules p (machine_of_key p.rules h.key)) (events_of (key_machines p) h.key es) n h.state) newest h.stands, h.names)
-          (list_any (same_key h.key) (keys_of (key_machines p) es)) refl,
+      λ h. from_key h.key text (h.state, subst (λ n. Stands (transaction_of (machine_of_key p.rules h.key)).figure p (events_for h.key es) n h.state) newest h.stands, h.names)
+          (list_any (same_key h.key) (keys_in es)) refl,
       λ h. let (number, has, text_is) = h in
           let (new, (n, low, is), in_set) = Contains-from_flat_map numbers_of u.sets number has in
           let there : slice_get u.sets n ≡ Some new = slice_get-get_or u.sets n new low ∙ ap Some is in
           let (old, here) = at_place t.sets n (omega (arith, low, as_long)) in
           let (key, at) = at_place t.keys n (omega (arith, low, as_long, long)) in
           let (y, run, names) = (at_key n key old new at here there text).1 (number, in_set, text_is) in
-          record { key = key; state = y; stands = subst (λ n. RuledRun (key_rules p (machine_of_key p.rules key)) (events_of (key_machines p) key es) n y) (sym newest) run; names = names },
+          record { key = key; state = y; stands = subst (λ n. Stands (transaction_of (machine_of_key p.rules key)).figure p (events_for key es) n y) (sym newest) run; names = names },
     )
 
-    -- so there are just as many as messages that are kept
+    -- as many messages are named as are kept
     pub many_named : (numbers : List ℕ) → AllPairs (λ a b. a < b) numbers → ((n : ℕ) → Contains numbers n ↔ Contains (flat_map numbers_of u.sets) n) → All (Keeps texts) numbers
-        → AreMany (IsNamed (key_machines p) (key_messages p) es) (length (only numbers texts))
-    many_named numbers up same kept = many_texts texts book (IsNamed (key_machines p) (key_messages p) es) (flat_map numbers_of u.sets) tables_named numbers up same kept
+        → AreMany (IsNamed p es) (length (only numbers texts))
+    many_named numbers up same kept = many_texts texts book (IsNamed p es) (flat_map numbers_of u.sets) tables_named numbers up same kept

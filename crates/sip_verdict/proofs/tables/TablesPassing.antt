@@ -36,7 +36,7 @@ at_place (x ∷ xs) (suc n) low = at_place xs n (omega arith)
 pub All-place : {A : Type 0} (P : A → Type 0) (xs : List A) (n : ℕ) (x : A) → slice_get xs n ≡ Some x → All P xs → P x
 All-place P xs n x at all = subst P (get_or_from_slice_get xs n x x at) (all n x (slice_get_within xs n x at))
 
--- and what holds of the one at each place holds of all
+-- what holds of the element at each place holds of all
 pub All-places : {A : Type 0} (P : A → Type 0) (xs : List A) → ((n : ℕ) (x : A) → slice_get xs n ≡ Some x → P x) → All P xs
 All-places P xs each n d low = let x = at_place xs n low in subst P (sym (get_or_from_slice_get xs n x.0 d x.1)) (each n x.0 x.1)
 
@@ -74,7 +74,7 @@ among_one n number ns h differ = go (nat_eq n number) refl
     go true same = absurd (differ ((unsigned_Decides n number).0 same))
     go false same = sym (ap (λ b. b || is_among ns n) same) ∙ h
 
--- and one that is not
+-- a number that is not among some is not among one more, or is that one
 pub among_not : (n number : ℕ) (ns : List ℕ) → is_among ns n ≡ false → (is_among (number ∷ ns) n ≡ false) ⊎ (n ≡ number)
 among_not n number ns h = go (nat_eq n number) refl
   where
@@ -231,3 +231,41 @@ hears_more texts event [] n t u v before mid one (same, fine) last =
     (v, one, subst (λ x. HearsOne texts event n x v one) same last, (refl, ap (λ o. first_of o one) fine))
 hears_more texts event (m ∷ ns) n t u v before mid one (between, first, hears, rest) last =
     (between, first, hears, hears_more texts event ns n between u v (first_of before first) mid one rest last)
+
+-- Those that do not hear it.
+
+-- the element at a place stays where another one is set
+set-other : {A : Type 0} (xs : List A) (i n : ℕ) (a : A) → n ≢ i → slice_get (set xs i a) n ≡ slice_get xs n
+set-other [] i n a other = refl
+set-other (x ∷ xs) zero zero a other = absurd (other refl)
+set-other (x ∷ xs) zero (suc n) a other = refl
+set-other (x ∷ xs) (suc i) zero a other = refl
+set-other (x ∷ xs) (suc i) (suc n) a other = set-other xs i n a (λ same. other (ap suc same))
+
+-- a number that is not among some is neither the first nor among the rest
+among_none : (n number : ℕ) (ns : List ℕ) → is_among (number ∷ ns) n ≡ false → (n ≢ number) × (is_among ns n ≡ false)
+among_none n number ns h = (λ same. false≢true (sym h ∙ among_first n number ns same), go (is_among ns n) refl)
+  where
+    go : (b : Bool) → is_among ns n ≡ b → b ≡ false
+    go true at = absurd (false≢true (sym h ∙ among_rest n number ns at))
+    go false at = refl
+
+-- the set of a number that is not among the hearers stays as it is
+pub hears_others : (texts : Texts) (event : NumberedEvent) (ns : List ℕ) (t u : Tabled) (before after : Outcome) → All (IsGiven t) ns → HearsEach texts event ns t before u after
+    → (n : ℕ) → is_among ns (n + 1) ≡ false → slice_get u.sets n ≡ slice_get t.sets n
+hears_others texts event [] t u before after given h n none = ap (λ x. slice_get x.sets n) h.0
+hears_others texts event (m ∷ ns) t u before after given (between, one, first, rest) n none =
+    let (fate, heard, is) = first in
+    let (other, others) = among_none (n + 1) m ns none in
+    let low = (All-head (IsGiven t) m ns given).low in
+    let here : slice_get between.sets n ≡ slice_get t.sets n = ap (λ xs. slice_get xs n) (leaves_sets m heard.after fate t between heard.leaves)
+    ∙ set-other t.sets (m - 1) n heard.after (λ same. other (omega (arith, same, low))) in
+    hears_others texts event ns between u (first_of before one) after (heard_given texts event m t between one first ns (All-tail (IsGiven t) m ns given)) rest n others ∙ here
+
+-- a number that the event does not concern is not among the hearers
+pub others_left : (c : Concerned ℕ) (numbers : List ℕ) (n : ℕ) → ((n : ℕ) → is_among numbers n ≡ true → (is_all c || is_among (each c) n) ≡ true) → (is_all c || is_among (each c) n) ≡ false → is_among numbers n ≡ false
+others_left c numbers n heard none = go (is_among numbers n) refl
+  where
+    go : (b : Bool) → is_among numbers n ≡ b → b ≡ false
+    go true at = absurd (false≢true (sym none ∙ heard n at))
+    go false at = refl

@@ -11,20 +11,19 @@ use Rattle.sip_standard.specs.Times.{Times}
 use Rattle.sip_machine.specs.Texts.{Texts, Keeps}
 use Rattle.sip_machine.specs.NumberedEvent.{event_in}
 use Rattle.sip_standard.specs.KeyMachine.{machine_of_key}
-use Rattle.sip_states.specs.KeySets.{start_is}
+use Rattle.sip_states.proofs.keyed.KeySetLaws.{start_is}
 use Rattle.sip_states.specs.Meaning.{IsKnown}
 use Rattle.sip_states.specs.AnySet.{moment_of, IsKnownSet, start_of, meaning_of}
 use Rattle.sip_states.specs.Tables.{Tabled, Touches, with_key}
 use Rattle.sip_states.specs.declared.any_set.AnySet.{AnySet}
 use Rattle.sip_verdict.specs.declared.passing.Hearing.{Hearing}
 use Rattle.sip_standard.specs.Observation.{Observation}
-use Rattle.sip_verdict.specs.Keyed.{newest_moment}
-use Rattle.sip_verdict.specs.Keyed as keyed
-use Rattle.sip_verdict.specs.MessageReading.{key_machines}
+use Rattle.sip_verdict.specs.Entries.{newest_moment}
+use Rattle.sip_verdict.specs.inner.Keyed as keyed
 use Rattle.sip_verdict.specs.inner.Tracking.{IsTouched}
 use Rattle.sip_verdict.specs.inner.TablesTracking.{LeadsOf, key_keeping, transactions_of, AreTold, TouchesEach, HaveNumbers, is_among, MayPass, IsOnRecord, AreOnRecord}
 use Rattle.sip_verdict.specs.inner.Concerned.{each, is_all}
-use Rattle.sip_verdict.proofs.keys.Keys.{IsExact, contains-among}
+use Rattle.sip_verdict.proofs.keys.Keys.{contains-among}
 use Rattle.sip_verdict.proofs.keys.Leading.{Leads-start}
 use Rattle.sip_states.proofs.keyed.ByMachine.{first_of, first_is_of, first_knows, moment_is, to_set}
 use Rattle.sip_verdict.proofs.tables.TablesPassing.{keys_are, among_first, among_rest}
@@ -126,10 +125,6 @@ zip-push [] (v ∷ ys) x y long = absurd (omega arith)
 zip-push (u ∷ xs) [] x y long = absurd (omega arith)
 zip-push (u ∷ xs) (v ∷ ys) x y long = ap (λ z. (u, v) ∷ z) (zip-push xs ys x y (omega arith))
 
--- the comparison of keys is exact
-pub keys_exact : (p : Times) → IsExact (key_machines p)
-keys_exact p a b = same_key-decides a b
-
 module _ (texts : Texts) (p : Times) where
   -- a new key's set leads to the runs over no event
   pub starts : (key : KeyParts) (from : ℕ) → LeadsOf texts p (machine_of_key p.rules key) [] from (start_of p key)
@@ -156,16 +151,16 @@ module _ (texts : Texts) (p : Times) where
       absent : ¬ Contains old.keys key
       absent (i, low, is) = h.0 i key low is
 
-  -- and of all that are
+  -- what was kept of some keys is kept when keys are touched one after another
   pub kept_each : (es : List (Observation KeyParts)) (keys ks : List KeyParts) (ns : List ℕ) (old new : Tabled) → old.times ≡ p → length old.sets ≡ length old.keys → TouchesEach ks ns old new
-      → AreKept (key_machines p) (key_keeping texts p) es keys (transactions_of old) → AreKept (key_machines p) (key_keeping texts p) es (fold (keyed.with_key same_key) keys ks) (transactions_of new)
-  kept_each es keys [] [] old new times long same kept = subst (λ t. AreKept (key_machines p) (key_keeping texts p) es keys (transactions_of t)) (sym same) kept
+      → AreKept (key_keeping texts p) es keys (transactions_of old) → AreKept (key_keeping texts p) es (fold keyed.with_key keys ks) (transactions_of new)
+  kept_each es keys [] [] old new times long same kept = subst (λ t. AreKept (key_keeping texts p) es keys (transactions_of t)) (sym same) kept
   kept_each es keys [] (n ∷ ns) old new times long h kept = absurd h
   kept_each es keys (k ∷ ks) [] old new times long h kept = absurd h
   kept_each es keys (k ∷ ks) (n ∷ ns) old new times long (between, one, rest) kept =
-      kept_each es (keyed.with_key same_key keys k) ks ns between new (touched_elim (λ t. t.times ≡ p) (λ t key same. same) k n old between times one)
+      kept_each es (keyed.with_key keys k) ks ns between new (touched_elim (λ t. t.times ≡ p) (λ t key same. same) k n old between times one)
       (touched_elim (λ t. length t.sets ≡ length t.keys) long_more k n old between long one) rest
-      (kept_touched (key_machines p) (key_keeping texts p) es (keys_exact p) (k, start_of p k) (starts k (newest_moment es)) keys (transactions_of old) (transactions_of between) kept (touched k n old between times long one))
+      (kept_touched (key_keeping texts p) es (k, start_of p k) (starts k (newest_moment es)) keys (transactions_of old) (transactions_of between) kept (touched k n old between times long one))
 
 -- an element of a list stays where it is
 pub slice_get-more : {A : Type 0} (xs ys : List A) (n : ℕ) (x : A) → slice_get xs n ≡ Some x → slice_get (xs ++ ys) n ≡ Some x
@@ -173,7 +168,7 @@ slice_get-more [] ys n x at = absurd cc
 slice_get-more (u ∷ xs) ys zero x at = at
 slice_get-more (u ∷ xs) ys (suc n) x at = slice_get-more xs ys n x at
 
--- and the last one is after them
+-- the last element stands after all others
 slice_get-last : {A : Type 0} (xs : List A) (x : A) → slice_get (xs ++ x ∷ []) (length xs) ≡ Some x
 slice_get-last [] x = refl
 slice_get-last (u ∷ xs) x = slice_get-last xs x
@@ -200,7 +195,7 @@ same_test false true f g = g refl
 same_test false false f g = refl
 
 -- no two places hold the same
-same_place : {A : Type 0} (xs : List A) → AllPairs (λ a b. a ≢ b) xs → (i k : ℕ) (x : A) → slice_get xs i ≡ Some x → slice_get xs k ≡ Some x → i ≡ k
+pub same_place : {A : Type 0} (xs : List A) → AllPairs (λ a b. a ≢ b) xs → (i k : ℕ) (x : A) → slice_get xs i ≡ Some x → slice_get xs k ≡ Some x → i ≡ k
 same_place [] apart i k x a b = absurd cc
 same_place (u ∷ xs) apart zero zero x a b = refl
 same_place (u ∷ xs) apart zero (suc k) x a b =
@@ -229,13 +224,13 @@ same_numbers all apart (i ∷ ns) (key ∷ ks) (some, there, rest) n k at = λ j
 
 -- an entry that is not heard tells each key its moment
 pub told_unheard : (texts : Texts) (keys : List KeyParts) (moment : ℕ) (e : Observation KeyParts) → e.event.moment ≡ moment → e.keys ≡ [] → AreTold texts keys moment None e
-told_unheard texts keys moment e at none n k there = record { at = at; event = tt; concerned = λ p. ap (list_any (same_key k)) none }
+told_unheard texts keys moment e at none n k there = record { at = at; event = tt; concerned = ap (list_any (same_key k)) none }
 
 -- an event is told to the keys that it concerns
 pub told_event : (texts : Texts) (keys : List KeyParts) (moment : ℕ) (h : Hearing) (e : Observation KeyParts) → AllPairs (λ a b. a ≢ b) keys → is_all h.concerned ≡ false → HaveNumbers keys (each h.concerned) e.keys → e.event.moment ≡ moment
     → e.event ≡ event_in texts h.event → AreTold texts keys moment (Some h) e
 told_event texts keys moment h e apart some numbers at event n k there =
-    record { at = at; event = event; concerned = λ p. same_numbers keys apart (each h.concerned) e.keys numbers n k there ∙ sym (ap (λ b. b || is_among (each h.concerned) (n + 1)) some) }
+    record { at = at; event = event; concerned = same_numbers keys apart (each h.concerned) e.keys numbers n k there ∙ sym (ap (λ b. b || is_among (each h.concerned) (n + 1)) some) }
 
 -- a restart is told to all
 pub told_restart : (texts : Texts) (keys : List KeyParts) (moment : ℕ) (h : Hearing) (e : Observation KeyParts) → is_all h.concerned ≡ true → e.keys ≡ keys → e.event.moment ≡ moment → e.event ≡ event_in texts h.event
@@ -243,6 +238,6 @@ pub told_restart : (texts : Texts) (keys : List KeyParts) (moment : ℕ) (h : He
 told_restart texts keys moment h e all same at event n k there = record {
   at = at;
   event = event;
-  concerned = λ p. contains-among (key_machines p) (keys_exact p) k e.keys (subst (λ ks. Contains ks k) (sym same) (n, slice_get_within keys n k there, get_or_from_slice_get keys n k k there))
+  concerned = contains-among k e.keys (subst (λ ks. Contains ks k) (sym same) (n, slice_get_within keys n k there, get_or_from_slice_get keys n k k there))
       ∙ sym (ap (λ b. b || is_among (each h.concerned) (n + 1)) all);
 }

@@ -8,38 +8,33 @@ use Rattle.sip_standard.specs.declared.format.Format.TheVariants.{One, Two}
 use Rattle.sip_standard.specs.LogEntry.{Item, entry_says, InOrder}
 use Rattle.sip_standard.specs.LogHeader.{Header}
 use Rattle.sip_standard.specs.LogSays.{LogEnd, Clean, LogSays}
-use Rattle.sip_log.specs.Log.{Readable, IsLogOf}
-use Rattle.sip_log.proofs.logs.Logs.{log-of-two, clean-log}
+use Rattle.sip_log.proofs.logs.Logs.{log_is_one, log_has_header, log-of-two, clean-log}
 use Rattle.sip_log.proofs.logs.LogLaws.{Header-one}
 use Rattle.sip_standard.specs.declared.verdict.Verdict.{Verdict}
-use Rattle.sip_verdict.specs.Reading.{Judges, IsVerdictBy}
-use Rattle.sip_verdict.specs.MessageReading.{message_reading}
-use Rattle.sip_standard.specs.VerdictOf.{IsVerdictOf}
-use Rattle.sip_verdict.proofs.verdicts.OneVerdict.{one_log, not_both}
-use Rattle.sip_verdict.proofs.verdicts.VerdictLemmas.{by-verdict, verdict-by}
+use Rattle.sip_standard.specs.VerdictOf.{IsVerdictOf, IsVerdictAfter}
 
 -- what a verdict of an input judges is its log
-judges_log : (input : List ℕ) (p : Times) (items : List Item) (end : LogEnd) (v : Verdict) → LogSays input p items end → IsVerdictBy message_reading input v → Judges message_reading p [] items end v
-judges_log input p items end v log (inl (none, is)) = absurd (not_both input p items end none log)
+judges_log : (input : List ℕ) (p : Times) (items : List Item) (end : LogEnd) (v : Verdict) → LogSays input p items end → IsVerdictOf input v → IsVerdictAfter p [] items end v
+judges_log input p items end v log (inl (none, is)) = absurd (log_has_header input p items end none log)
 judges_log input p items end v log (inr (q, ys, fin, other, judges)) =
-    let same = one_log input p q items ys end fin log other in
-    subst (λ z. Judges message_reading z [] items end v) (sym same.0) (subst (λ z. Judges message_reading q [] z end v) (sym same.1) (subst (λ z. Judges message_reading q [] ys z v) (sym same.2) judges))
+    let same = log_is_one input p q items ys end fin log other in
+    subst (λ z. IsVerdictAfter z [] items end v) (sym same.0) (subst (λ z. IsVerdictAfter q [] z end v) (sym same.1) (subst (λ z. IsVerdictAfter q [] ys z v) (sym same.2) judges))
 
 -- inputs of one log have the same verdict
 log_verdict : (input other : List ℕ) (p : Times) (items : List Item) (end : LogEnd) (v : Verdict) → LogSays input p items end → LogSays other p items end → IsVerdictOf input v → IsVerdictOf other v
 log_verdict input other p items end v log same is =
-    by-verdict other v (inr (p, items, end, same, judges_log input p items end v log (verdict-by input v is)))
+    inr (p, items, end, same, judges_log input p items end v log is)
 
 -- a log of format 1 and one of format 2
-pub format_verdict : (v : Verdict) (input other : List ℕ) (p : Times) (behind : List ℕ) (items : List Item) → Header One p input behind → Header Two p other behind → IsLogOf input (Readable p items Clean)
+pub format_verdict : (v : Verdict) (input other : List ℕ) (p : Times) (behind : List ℕ) (items : List Item) → Header One p input behind → Header Two p other behind → LogSays input p items Clean
     → IsVerdictOf input v ↔ IsVerdictOf other v
 format_verdict v input other p behind items one two log =
     let same = log-of-two input other p behind items one two log in
     (log_verdict input other p items Clean v log same, log_verdict other input p items Clean v same log)
 
 -- logs with two spellings of a header
-log-of-same : (format : Format) (input other : List ℕ) (p : Times) (behind : List ℕ) (items : List Item) → Header format p input behind → Header format p other behind → IsLogOf input (Readable p items Clean)
-    → IsLogOf other (Readable p items Clean)
+log-of-same : (format : Format) (input other : List ℕ) (p : Times) (behind : List ℕ) (items : List Item) → Header format p input behind → Header format p other behind → LogSays input p items Clean
+    → LogSays other p items Clean
 log-of-same format input other p behind items one two is =
     let same = Header-one is.format format input p p _ behind is.header one in
     let none : is.rest ≡ [] = is.next in
@@ -47,7 +42,7 @@ log-of-same format input other p behind items one two is =
     clean-log format other p items (subst (Header format p other) whole two) is.few (subst (λ f. InOrder f 0 items) same.0 is.order)
 
 pub rules_verdict : (v : Verdict) (format : Format) (input other : List ℕ) (p : Times) (behind : List ℕ) (items : List Item) → Header format p input behind → Header format p other behind
-    → IsLogOf input (Readable p items Clean) → IsVerdictOf input v ↔ IsVerdictOf other v
+    → LogSays input p items Clean → IsVerdictOf input v ↔ IsVerdictOf other v
 rules_verdict v format input other p behind items one two log =
     let same = log-of-same format input other p behind items one two log in
     (log_verdict input other p items Clean v log same, log_verdict other input p items Clean v same log)

@@ -14,18 +14,14 @@ use Rattle.sip_standard.specs.declared.action.Action.{Action}
 use Rattle.sip_standard.specs.declared.action.Action.TheVariants.{Sent, Received, Failed, Mark, Restart}
 use Rattle.sip_standard.specs.Times.{Times}
 use Rattle.sip_standard.specs.LogEntry.{Item}
-use Rattle.sip_standard.specs.LogSays.{LogEnd, Clean, Stops}
-use Rattle.sip_log.specs.Log.{Log, Faulty, Readable, IsLogOf}
+use Rattle.sip_standard.specs.LogSays.{LogEnd, Clean, Stops, LogSays, LacksHeader}
 use Rattle.sip_log.proofs.logs.Logs.{log_is_some}
 use Rattle.sip_standard.specs.declared.verdict.Verdict.{Verdict}
 use Rattle.sip_standard.specs.declared.verdict.Verdict.TheVariants.{Legal, Malformed, Breach, Undecided, LogFault}
 use Rattle.sip_standard.specs.declared.log_reason.LogReason.TheVariants.{Header}
 use Rattle.sip_standard.specs.Observation.{Observation, direction_of, silent_observation, ObservesMessage, has_fault, has_no_cookie, is_heard}
-use Rattle.sip_verdict.specs.Keyed.{Machines, keys_of, HasRun}
-use Rattle.sip_verdict.specs.Verdicts.{IsFirst, IsTooWide, AllRun, IsFine, IsTrouble}
-use Rattle.sip_verdict.specs.Reading.{EntryReading, Judges, IsVerdictBy}
-use Rattle.sip_standard.specs.VerdictOf.{keys_in}
-use Rattle.sip_verdict.specs.MessageReading.{message_reading}
+use Rattle.sip_standard.specs.VerdictOf.{keys_in, Sees, RunsOver, IsWideAt, IsFirstKey, HasTrouble, IsVerdictAfter, IsVerdictOf}
+use Rattle.sip_verdict.specs.LegalLog.{IsFine}
 use Rattle.sip_verdict.specs.inner.Observing.{mark_observation, restart_observation}
 use Rattle.sip_message.specs.Reading as message
 use Rattle.sip_standard.specs.declared.role.Direction.TheVariants as way
@@ -35,74 +31,49 @@ abbrev Weakly : Type 0 → Type 0
 Weakly A = ¬ (¬ A)
 
 -- P is false of all of these, or there is a first of which it holds
-first_or_none : {K : Type 0} (P : K → Type 0) (keys : List K) → Weakly (All (λ k. ¬ (P k)) keys ⊎ ((n : ℕ) × IsFirst P keys n))
+first_or_none : (P : KeyParts → Type 0) (keys : List KeyParts) → Weakly (All (λ k. ¬ (P k)) keys ⊎ ((n : ℕ) × IsFirstKey P keys n))
 first_or_none P [] never = never (inl (All-nil (λ k. ¬ (P k))))
-first_or_none {K} P (key ∷ keys) never = first_or_none P keys at
+first_or_none P (key ∷ keys) never = first_or_none P keys at
   where
     here : P key → ⊥
-    here holds = never (inr (1, record { before = []; key = key; rest = keys; is = refl; holds = holds; earlier = All-nil (λ k. ¬ (P k)); counts = refl }))
+    here holds = never (inr (1, ([], key, keys, refl, holds, All-nil (λ k. ¬ (P k)), refl)))
 
-    at : (All (λ k. ¬ (P k)) keys ⊎ ((n : ℕ) × IsFirst P keys n)) → ⊥
+    at : (All (λ k. ¬ (P k)) keys ⊎ ((n : ℕ) × IsFirstKey P keys n)) → ⊥
     at (inl none) = never (inl (All-cons (λ k. ¬ (P k)) key keys here none))
-    at (inr (n, f)) =
-        let counts : n ≡ length f.before + 1 = f.counts in
-        never (inr (
-          n + 1,
-          record {
-            before = key ∷ f.before;
-            key = f.key;
-            rest = f.rest;
-            is = ap (λ xs. key ∷ xs) f.is;
-            holds = f.holds;
-            earlier = All-cons (λ k. ¬ (P k)) key f.before here f.earlier;
-            counts = omega arith;
-          },
-        ))
+    at (inr (n, (before, first, rest, is, holds, earlier, counts))) =
+        never (inr (n + 1, (key ∷ before, first, rest, ap (λ xs. key ∷ xs) is, holds, All-cons (λ k. ¬ (P k)) key before here earlier, omega (arith, counts))))
 
 -- what is not false of each is not false of all
-all_of : {K : Type 0} (P : K → Type 0) (keys : List K) → All (λ k. ¬ (¬ (P k))) keys → Weakly (All P keys)
+all_of : (P : KeyParts → Type 0) (keys : List KeyParts) → All (λ k. ¬ (¬ (P k))) keys → Weakly (All P keys)
 all_of P [] all never = never (All-nil P)
 all_of P (key ∷ keys) all never =
     All-head (λ k. ¬ (¬ (P k))) key keys all (λ holds. all_of P keys (All-tail (λ k. ¬ (¬ (P k))) key keys all) (λ later. never (All-cons P key keys holds later)))
 
--- something is observed of each entry
-abbrev pub Sees : {K : Type 0} → EntryReading K → Type 0
-Sees {K} r = (before : List (Observation K)) (item : Item) → Weakly ((e : Observation K) × r.Observes before item e)
+module _ (p : Times) (es : List (Observation KeyParts)) (e : Observation KeyParts) where
+  abbrev keys : List KeyParts
+  keys = keys_in (es ++ e ∷ [])
 
-module _ {K : Type 0} (r : EntryReading K) (sees : Sees r) where
-  module _ (m : Machines K) (es : List (Observation K)) (e : Observation K) where
-    abbrev keys : List K
-    keys = keys_of m (es ++ e ∷ [])
+  abbrev Runs : KeyParts → Type 0
+  Runs key = RunsOver p (es ++ e ∷ []) key
 
-    -- an entry that has no verdict is in no trouble
-    fine_or_trouble : ((v : Verdict) → ¬ (IsTrouble m es e v)) → Weakly (IsFine m es e)
-    fine_or_trouble no_trouble not_fine = by_fault e.fault refl
-      where
-        by_width : e.fault ≡ None → AllRun m (es ++ e ∷ []) → (All (λ key. ¬ (IsTooWide m es e key)) keys ⊎ ((n : ℕ) × IsFirst (IsTooWide m es e) keys n)) → ⊥
-        by_width none runs (inl narrow) = not_fine (record { formed = none; runs = runs; narrow = narrow })
-        by_width none runs (inr (n, first)) = no_trouble (Undecided (length es + 1) n) (refl, none, runs, first)
+  abbrev Wide : KeyParts → Type 0
+  Wide key = IsWideAt p es e key
 
-        by_run : e.fault ≡ None → (All (λ key. ¬ (¬ (HasRun m key (es ++ e ∷ [])))) keys ⊎ ((n : ℕ) × IsFirst (λ key. ¬ (HasRun m key (es ++ e ∷ []))) keys n)) → ⊥
-        by_run none (inl all) = all_of (λ key. HasRun m key (es ++ e ∷ [])) keys all (λ runs. first_or_none (IsTooWide m es e) keys (by_width none runs))
-        by_run none (inr (n, first)) = no_trouble (Breach (length es + 1) n) (refl, none, first)
+  -- an entry that has no verdict is in no trouble
+  fine_or_trouble : ((v : Verdict) → ¬ (HasTrouble p es e v)) → Weakly (IsFine p es e)
+  fine_or_trouble no_trouble not_fine = by_fault e.fault refl
+    where
+      by_width : e.fault ≡ None → All Runs keys → (All (λ key. ¬ (Wide key)) keys ⊎ ((n : ℕ) × IsFirstKey Wide keys n)) → ⊥
+      by_width none runs (inl narrow) = not_fine (record { formed = none; runs = runs; narrow = narrow })
+      by_width none runs (inr (n, first)) = no_trouble (Undecided (length es + 1) n) (refl, none, runs, first)
 
-        by_fault : (fault : Option Fault) → e.fault ≡ fault → ⊥
-        by_fault None none = first_or_none (λ key. ¬ (HasRun m key (es ++ e ∷ []))) keys (by_run none)
-        by_fault (Some fault) some = no_trouble (Malformed (length es + 1) fault) (refl, some)
+      by_run : e.fault ≡ None → (All (λ key. ¬ (¬ (Runs key))) keys ⊎ ((n : ℕ) × IsFirstKey (λ key. ¬ (Runs key)) keys n)) → ⊥
+      by_run none (inl all) = all_of Runs keys all (λ runs. first_or_none Wide keys (by_width none runs))
+      by_run none (inr (n, first)) = no_trouble (Breach (length es + 1) n) (refl, none, first)
 
-  -- entries have a verdict after others
-  judges_some : (p : Times) (es : List (Observation K)) (items : List Item) (end : LogEnd) → Weakly ((v : Verdict) × Judges r p es items end v)
-  judges_some p es [] Clean never = never (Legal (length es) (length (keys_of (r.machines p) es)), refl)
-  judges_some p es [] (Stops fault) never = never (LogFault (length es + 1) fault, refl)
-  judges_some p es (item ∷ items) end never =
-      sees es item (λ seen.
-      fine_or_trouble (r.machines p) es seen.0 (λ v trouble. never (v, (seen.0, seen.1, inl trouble))) (λ fine.
-      judges_some p (es ++ seen.0 ∷ []) items end (λ left. never (left.0, (seen.0, seen.1, inr (fine, left.1))))))
-
-  -- and so has an input
-  verdict_of_log : (input : List ℕ) (log : Log) → IsLogOf input log → Weakly ((v : Verdict) × IsVerdictBy r input v)
-  verdict_of_log input Faulty is never = never (LogFault 0 Header, inl (is, refl))
-  verdict_of_log input (Readable p items end) is never = judges_some p [] items end (λ one. never (one.0, inr (p, items, end, is, one.1)))
+      by_fault : (fault : Option Fault) → e.fault ≡ fault → ⊥
+      by_fault None none = first_or_none (λ key. ¬ (Runs key)) keys (by_run none)
+      by_fault (Some fault) some = no_trouble (Malformed (length es + 1) fault) (refl, some)
 
 -- something is observed of each message
 observes_message : (direction : Direction) (item : Item) → Weakly ((e : Observation KeyParts) × ObservesMessage direction item e)
@@ -119,7 +90,7 @@ observes_message direction item never = reading-or-fault item.text no_reading no
         by_cookie false has = never (_, is_heard (said_of r) _ reads.says has refl refl)
 
 -- and of each entry
-pub sees_entry : Sees message_reading
+pub sees_entry : (before : List (Observation KeyParts)) (item : Item) → Weakly ((e : Observation KeyParts) × Sees before item e)
 sees_entry before item = by_action item.action refl
   where
     keys : List KeyParts
@@ -129,13 +100,27 @@ sees_entry before item = by_action item.action refl
     Seen : Observation KeyParts → Action → Type 0
     Seen e a = MatchOption (direction_of a) (e ≡ silent_observation a item.moment keys) (λ d. ObservesMessage d item e)
 
-    by_action : (a : Action) → item.action ≡ a → Weakly ((e : Observation KeyParts) × message_reading.Observes before item e)
+    by_action : (a : Action) → item.action ≡ a → Weakly ((e : Observation KeyParts) × Sees before item e)
     by_action Sent is never = observes_message way.Sent item (λ seen. never (seen.0, subst (Seen seen.0) (sym is) seen.1))
     by_action Received is never = observes_message way.Received item (λ seen. never (seen.0, subst (Seen seen.0) (sym is) seen.1))
     by_action Failed is never = observes_message way.Sent item (λ seen. never (seen.0, subst (Seen seen.0) (sym is) seen.1))
     by_action Mark is never = never (mark_observation item.moment, subst (Seen (mark_observation item.moment)) (sym is) refl)
     by_action Restart is never = never (restart_observation item.moment keys, subst (Seen (restart_observation item.moment keys)) (sym is) refl)
 
+-- entries have a verdict after others
+judges_some : (p : Times) (es : List (Observation KeyParts)) (items : List Item) (end : LogEnd) → Weakly ((v : Verdict) × IsVerdictAfter p es items end v)
+judges_some p es [] Clean never = never (Legal (length es) (length (keys_in es)), refl)
+judges_some p es [] (Stops fault) never = never (LogFault (length es + 1) fault, refl)
+judges_some p es (item ∷ items) end never =
+    sees_entry es item (λ seen.
+    fine_or_trouble p es seen.0 (λ v trouble. never (v, (seen.0, seen.1, inl trouble))) (λ fine.
+    judges_some p (es ++ seen.0 ∷ []) items end (λ left. never (left.0, (seen.0, seen.1, inr (fine.formed, fine.runs, fine.narrow, left.1))))))
+
+-- a log has a verdict
+verdict_of_log : (input : List ℕ) → LacksHeader input ⊎ ((p : Times) × (items : List Item) × (end : LogEnd) × LogSays input p items end) → Weakly ((v : Verdict) × IsVerdictOf input v)
+verdict_of_log input (inl none) never = never (LogFault 0 Header, inl (none, refl))
+verdict_of_log input (inr (p, items, end, is)) never = judges_some p [] items end (λ one. never (one.0, inr (p, items, end, is, one.1)))
+
 -- each input has a verdict
-pub has_verdict : (input : List ℕ) → ¬ ((v : Verdict) → ¬ (IsVerdictBy message_reading input v))
-has_verdict input never = let log = log_is_some input in verdict_of_log message_reading sees_entry input log.0 log.1 (λ one. never one.0 one.1)
+pub has_verdict : (input : List ℕ) → ¬ ((v : Verdict) → ¬ (IsVerdictOf input v))
+has_verdict input never = verdict_of_log input (log_is_some input) (λ one. never one.0 one.1)

@@ -1,17 +1,12 @@
 -- The messages of a legal log.
-use Rattle.std.proofs.Common.{◌≡◌, ℕ, Option, Some, None, IfSome, MatchOption, List, [], ◌∷◌, ◌++◌, All, sym, ap, ◌∙◌}
+use Rattle.std.proofs.Common.{◌≡◌, Option, Some, None, IfSome, MatchOption, List, [], ◌∷◌, ◌++◌, All, sym, ap, ◌∙◌}
 use Rattle.std.proofs.lemmas.List.Elements.{All-nil, All-cons, All-head, All-tail}
 use Rattle.sip_standard.specs.declared.role.Direction.{Direction}
 use Rattle.sip_standard.specs.Key.{KeyParts}
 use Rattle.sip_standard.specs.LogEntry.{Item}
-use Rattle.sip_standard.specs.declared.verdict.Verdict.TheVariants.{Legal}
 use Rattle.sip_standard.specs.Observation.{Observation, direction_of, no_cookie, ObservesMessage, has_fault, has_no_cookie, is_heard}
-use Rattle.sip_verdict.specs.Reading.{AreObserved}
-use Rattle.sip_verdict.specs.MessageReading.{message_reading}
-use Rattle.sip_verdict.specs.LegalLog.{IsFormed, IsLegalLog}
-use Rattle.sip_standard.specs.VerdictOf.{IsVerdictOf}
-use Rattle.sip_verdict.proofs.verdicts.LegalRuns.{legal_has_runs}
-use Rattle.sip_verdict.proofs.verdicts.VerdictLemmas.{verdict-by}
+use Rattle.sip_standard.specs.Seen.{AreSeen}
+use Rattle.sip_verdict.specs.LegalLog.{IsFormed}
 
 -- a message that is observed without a fault is of the grammar
 formed : (direction : Direction) (item : Item) (e : Observation KeyParts) → e.fault ≡ None → ObservesMessage direction item e → IsFormed direction item.text
@@ -26,7 +21,7 @@ formed_going None item silent e none seen = tt
 formed_going (Some direction) item silent e none seen = formed direction item e none seen
 
 -- and that of each
-all_formed : (before : List (Observation KeyParts)) (items : List Item) (es : List (Observation KeyParts)) → AreObserved message_reading before items es → All (λ e. e.fault ≡ None) es
+pub all_formed : (before : List (Observation KeyParts)) (items : List Item) (es : List (Observation KeyParts)) → AreSeen before items es → All (λ e. e.fault ≡ None) es
     → All (λ item. IfSome (direction_of item.action) (λ d. IsFormed d item.text)) items
 all_formed before [] es seen none = All-nil (λ item. IfSome (direction_of item.action) (λ d. IsFormed d item.text))
 all_formed before (item ∷ items) [] seen none = absurd seen
@@ -34,9 +29,3 @@ all_formed before (item ∷ items) (e ∷ es) seen none =
     All-cons (λ x. IfSome (direction_of x.action) (λ d. IsFormed d x.text)) item items
     (formed_going (direction_of item.action) item _ e (All-head (λ x. x.fault ≡ None) e es none) seen.0)
     (all_formed (before ++ e ∷ []) items es seen.1 (All-tail (λ x. x.fault ≡ None) e es none))
-
--- a legal log has messages of the grammar, and runs
-pub legal_log : (input : List ℕ) (entries transactions : ℕ) → IsVerdictOf input (Legal entries transactions) → IsLegalLog input entries transactions
-legal_log input entries transactions v =
-    let runs = legal_has_runs message_reading input entries transactions (verdict-by input (Legal entries transactions) v) in
-    record { runs = runs; formed = all_formed [] runs.whole.items runs.es runs.whole.observed runs.formed }

@@ -1,15 +1,18 @@
--- What a legal verdict says of each transaction.
+-- What a legal verdict says of a log.
 use Rattle.std.proofs.Common.{◌≡◌, ◌⊎◌, inl, inr, ℕ, None, List, [], ◌∷◌, ◌++◌, All, refl, sym, ap, subst, append_assoc}
+use Rattle.std.proofs.lemmas.List.{append-nil}
 use Rattle.std.proofs.lemmas.List.Elements.{All-nil, All-cons}
+use Rattle.sip_standard.specs.Key.{KeyParts}
 use Rattle.sip_standard.specs.Times.{Times}
 use Rattle.sip_standard.specs.declared.verdict.Verdict.TheVariants.{Legal}
 use Rattle.sip_standard.specs.LogSays.{LogEnd, Clean, Stops, LogSays}
 use Rattle.sip_standard.specs.LogEntry.{Item}
 use Rattle.sip_standard.specs.Observation.{Observation}
-use Rattle.sip_verdict.specs.Keyed.{Machines, HasRun}
-use Rattle.sip_verdict.specs.Verdicts.{AllRun, IsGood}
-use Rattle.sip_verdict.specs.Reading.{EntryReading, AreObserved, Judges, IsVerdictBy, HasRuns}
-use Rattle.sip_verdict.proofs.judges.JudgingLemmas.{observed-push}
+use Rattle.sip_standard.specs.Seen.{AreSeen}
+use Rattle.sip_standard.specs.VerdictOf.{keys_in, RunsOver, IsVerdictAfter, IsVerdictOf}
+use Rattle.sip_verdict.specs.LegalLog.{IsGood, IsLegalLog}
+use Rattle.sip_verdict.proofs.judges.JudgingLemmas.{seen-push}
+use Rattle.sip_verdict.proofs.verdicts.LegalMessages.{all_formed}
 use Rattle.sip_verdict.proofs.verdicts.Unique.{good-nil, good-push}
 
 -- what holds of each element that a list is split at holds of all
@@ -28,37 +31,43 @@ empty_or_last {A} (x ∷ xs) = go (empty_or_last xs)
     go (inr h) = inr (x ∷ h.0, h.1, ap (λ z. x ∷ z) h.2)
 
 -- where no entry is in trouble, each key has a run over all of them
-good_runs : {K : Type 0} (m : Machines K) (es : List (Observation K)) → IsGood m es → AllRun m es
-good_runs {K} m es good = go (empty_or_last es)
+good_runs : (p : Times) (es : List (Observation KeyParts)) → IsGood p es → All (RunsOver p es) (keys_in es)
+good_runs p es good = go (empty_or_last es)
   where
-    go : (es ≡ []) ⊎ ((front : List (Observation K)) × (e : Observation K) × (es ≡ front ++ e ∷ [])) → AllRun m es
-    go (inl none) = subst (AllRun m) (sym none) (All-nil (λ key. HasRun m key []))
-    go (inr h) = subst (AllRun m) (sym h.2) (good h.0 h.1 [] h.2).runs
+    AllRun : List (Observation KeyParts) → Type 0
+    AllRun xs = All (RunsOver p xs) (keys_in xs)
+
+    go : (es ≡ []) ⊎ ((front : List (Observation KeyParts)) × (e : Observation KeyParts) × (es ≡ front ++ e ∷ [])) → All (RunsOver p es) (keys_in es)
+    go (inl none) = subst AllRun (sym none) (All-nil (RunsOver p []))
+    go (inr h) = subst AllRun (sym h.2) (good h.0 h.1 [] h.2).runs
 
 -- and none has a fault
-good_formed : {K : Type 0} (m : Machines K) (es : List (Observation K)) → IsGood m es → All (λ e. e.fault ≡ None) es
-good_formed m es good = All-from_splits (λ e. e.fault ≡ None) es (λ front e rest is. (good front e rest is).formed)
+good_formed : (p : Times) (es : List (Observation KeyParts)) → IsGood p es → All (λ e. e.fault ≡ None) es
+good_formed p es good = All-from_splits (λ e. e.fault ≡ None) es (λ front e rest is. (good front e rest is).formed)
 
-module _ {K : Type 0} (r : EntryReading K) (input : List ℕ) (entries transactions : ℕ) (p : Times) where
+module _ (input : List ℕ) (entries transactions : ℕ) (p : Times) where
   -- where the verdict of what is left is that the log is legal, it ends cleanly, with no entry in trouble
-  legal_end : (done : List Item) (es : List (Observation K)) (rest : List Item) (end : LogEnd) → LogSays input p (done ++ rest) end → AreObserved r [] done es → IsGood (r.machines p) es →
-      Judges r p es rest end (Legal entries transactions) → HasRuns r input entries transactions
-  legal_end done es [] Clean log observed good is = record {
+  legal_end : (done : List Item) (es : List (Observation KeyParts)) (rest : List Item) (end : LogEnd) → LogSays input p (done ++ rest) end → AreSeen [] done es → IsGood p es →
+      IsVerdictAfter p es rest end (Legal entries transactions) → IsLegalLog input entries transactions
+  legal_end done es [] Clean log seen good is = record {
     times = p;
+    items = done;
     es = es;
-    whole = record { items = done; log = log; observed = observed; good = good };
+    whole = subst (λ all. LogSays input p all Clean) (append-nil done) log;
+    seen = seen;
+    good = good;
     entries_are = cc;
     transactions_are = cc;
-    formed = good_formed (r.machines p) es good;
-    runs = good_runs (r.machines p) es good;
+    runs = good_runs p es good;
+    formed = all_formed [] done es seen (good_formed p es good);
   }
-  legal_end done es [] (Stops fault) log observed good is = cc
-  legal_end done es (item ∷ rest) end log observed good (e, seen, inl trouble) = absurd trouble
-  legal_end done es (item ∷ rest) end log observed good (e, seen, inr (fine, left)) =
+  legal_end done es [] (Stops fault) log seen good is = cc
+  legal_end done es (item ∷ rest) end log seen good (e, sees, inl trouble) = absurd trouble
+  legal_end done es (item ∷ rest) end log seen good (e, sees, inr (formed, runs, narrow, left)) =
       legal_end (done ++ item ∷ []) (es ++ e ∷ []) rest end (subst (λ all. LogSays input p all end) (sym (append_assoc done (item ∷ []) rest)) log)
-      (observed-push r [] done es item e observed seen) (good-push (r.machines p) es e good fine) left
+      (seen-push [] done es item e seen sees) (good-push p es e good (record { formed = formed; runs = runs; narrow = narrow })) left
 
--- a legal log has runs
-pub legal_has_runs : {K : Type 0} (r : EntryReading K) (input : List ℕ) (entries transactions : ℕ) → IsVerdictBy r input (Legal entries transactions) → HasRuns r input entries transactions
-legal_has_runs r input entries transactions (inl faulty) = let e = faulty.1 in cc
-legal_has_runs r input entries transactions (inr (p, items, end, log, judges)) = legal_end r input entries transactions p [] [] items end log tt (good-nil (r.machines p)) judges
+-- a legal log has messages of the grammar, and runs
+pub legal_log : (input : List ℕ) (entries transactions : ℕ) → IsVerdictOf input (Legal entries transactions) → IsLegalLog input entries transactions
+legal_log input entries transactions (inl faulty) = let e = faulty.1 in cc
+legal_log input entries transactions (inr (p, items, end, log, left)) = legal_end input entries transactions p [] [] items end log tt (good-nil p) left

@@ -10,7 +10,7 @@ use Rattle.sip_standard.specs.Key.{KeyParts}
 use Rattle.sip_standard.specs.Concerns.{Concerns, lacks_cookie, own_key, cancelled_key}
 use Rattle.sip_standard.specs.LogEntry.{Item}
 use Rattle.sip_standard.specs.Observation.{Observation, fault_observation, message_event, ObservesMessage, has_fault, has_no_cookie, is_heard, direction_of}
-use Rattle.sip_verdict.specs.MessageReading.{message_reading}
+use Rattle.sip_standard.specs.VerdictOf.{Sees}
 
 -- bytes that have a fault say no message
 pub fault_says_none : (text : List ℕ) (fault : Fault) (s : Said) → Says text (stops fault) → Says text (gives s) → ⊥
@@ -35,7 +35,7 @@ heard_once item direction s t keys more same c d =
     ap (λ ks. heard_as item s ks) alike ∙ ap (λ x. heard_as item x more) same
 
 -- one thing is observed of a message
-message_one : (direction : Direction) (item : Item) (e f : Observation KeyParts) → ObservesMessage direction item e → ObservesMessage direction item f → e ≡ f
+pub message_one : (direction : Direction) (item : Item) (e f : Observation KeyParts) → ObservesMessage direction item e → ObservesMessage direction item f → e ≡ f
 message_one direction item e f (has_fault a has is) (has_fault b has2 is2) =
     let same : ◌≡◌ {A = Outcome Said} (stops a) (stops b) = says-one item.text (stops a) (stops b) has has2 in
     let alike : a ≡ b = cc in is ∙ ap (fault_observation item) alike ∙ sym is2
@@ -56,5 +56,5 @@ going_one None item silent e f a b = a ∙ sym b
 going_one (Some direction) item silent e f a b = message_one direction item e f a b
 
 -- one thing is observed of an entry
-pub observes_one : (es : List (Observation KeyParts)) (item : Item) (e f : Observation KeyParts) → message_reading.Observes es item e → message_reading.Observes es item f → e ≡ f
+pub observes_one : (es : List (Observation KeyParts)) (item : Item) (e f : Observation KeyParts) → Sees es item e → Sees es item f → e ≡ f
 observes_one es item e f a b = going_one (direction_of item.action) item _ e f a b

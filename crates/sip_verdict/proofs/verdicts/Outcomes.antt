@@ -5,47 +5,32 @@ use Rattle.std.proofs.lemmas.Bool.{cases_lt}
 use Rattle.std.proofs.lemmas.List.Elements.{All-nil, All-cons}
 use Rattle.sip_verdict.specs.declared.passing.Outcome.{Outcome}
 use Rattle.sip_verdict.specs.declared.passing.Outcome.TheVariants as all
-use Rattle.sip_verdict.specs.Verdicts.{IsFirst}
+use Rattle.sip_standard.specs.VerdictOf.{IsFirstKey}
+use Rattle.sip_standard.specs.Key.{KeyParts}
 use Rattle.sip_verdict.specs.inner.Tracking.{first_of}
 
 -- a key at a place, of which P holds, and before which it holds of none, is the first
-pub first_at : {K : Type 0} (P : K → Type 0) (keys : List K) (place : ℕ) (key : K) → slice_get keys place ≡ Some key → P key
-    → ((n : ℕ) (k : K) → n < place → slice_get keys n ≡ Some k → ¬ P k) → IsFirst P keys (place + 1)
+pub first_at : (P : KeyParts → Type 0) (keys : List KeyParts) (place : ℕ) (key : KeyParts) → slice_get keys place ≡ Some key → P key
+    → ((n : ℕ) (k : KeyParts) → n < place → slice_get keys n ≡ Some k → ¬ P k) → IsFirstKey P keys (place + 1)
 first_at P [] place key at holds earlier = absurd cc
-first_at P (x ∷ xs) zero key at holds earlier = record {
-  before = [];
-  key = x;
-  rest = xs;
-  is = refl;
-  holds = (let same : key ≡ x = cc in subst P same holds);
-  earlier = All-nil (λ k. ¬ P k);
-  counts = refl;
-}
+first_at P (x ∷ xs) zero key at holds earlier = ([], x, xs, refl, (let same : key ≡ x = cc in subst P same holds), All-nil (λ k. ¬ P k), refl)
 first_at P (x ∷ xs) (suc place) key at holds earlier =
-    let f = first_at P xs place key at holds (λ n k low. earlier (suc n) k (omega arith)) in
-    record {
-      before = x ∷ f.before;
-      key = f.key;
-      rest = f.rest;
-      is = ap (λ ks. x ∷ ks) f.is;
-      holds = f.holds;
-      earlier = All-cons (λ k. ¬ P k) x f.before (earlier 0 x (omega arith) refl) f.earlier;
-      counts = (let counts = f.counts in omega arith);
-    }
+    let (before, first, rest, is, it_holds, none, counts) = first_at P xs place key at holds (λ n k low. earlier (suc n) k (omega arith)) in
+    (x ∷ before, first, rest, ap (λ ks. x ∷ ks) is, it_holds, All-cons (λ k. ¬ P k) x before (earlier 0 x (omega arith) refl) none, omega (arith, counts))
 
 -- the number, from 1, of the first of some keys of a list, given by their places, of which P holds
-pub record IsFirstAmong {K : Type 0} (P : K → Type 0) (keys : List K) (Among : ℕ → Type 0) (number : ℕ) : Type 0 where
+pub record IsFirstAmong (P : KeyParts → Type 0) (keys : List KeyParts) (Among : ℕ → Type 0) (number : ℕ) : Type 0 where
   pub place : ℕ
   pub counts : number ≡ place + 1
-  pub key : K
+  pub key : KeyParts
   pub at : slice_get keys place ≡ Some key
   pub holds : P key
-  pub earlier : (n : ℕ) (k : K) → n < place → slice_get keys n ≡ Some k → Among n → ¬ P k
+  pub earlier : (n : ℕ) (k : KeyParts) → n < place → slice_get keys n ≡ Some k → Among n → ¬ P k
 
-module _ {K : Type 0} (Runs Wide : K → Type 0) (keys : List K) where
+module _ (Runs Wide : KeyParts → Type 0) (keys : List KeyParts) where
   -- P of some of the keys, by their places
-  abbrev pub OfSome : (K → Type 0) → (ℕ → Type 0) → Type 0
-  OfSome P Among = (n : ℕ) (k : K) → slice_get keys n ≡ Some k → Among n → P k
+  abbrev pub OfSome : (KeyParts → Type 0) → (ℕ → Type 0) → Type 0
+  OfSome P Among = (n : ℕ) (k : KeyParts) → slice_get keys n ≡ Some k → Among n → P k
 
   -- what an outcome says of some of them: each has a run and is not too wide; or this is the first without a run; or each has one, and this is the first that is too wide
   abbrev pub Says : (ℕ → Type 0) → Outcome → Type 0
@@ -55,10 +40,10 @@ module _ {K : Type 0} (Runs Wide : K → Type 0) (keys : List K) where
 
   module _ (A B : ℕ → Type 0) (less : (n : ℕ) → B n → A n) where
     -- what it says of some it says of fewer
-    fewer : (P : K → Type 0) → OfSome P A → OfSome P B
+    fewer : (P : KeyParts → Type 0) → OfSome P A → OfSome P B
     fewer P h n k at among = h n k at (less n among)
 
-    first_fewer : (P : K → Type 0) (number : ℕ) → IsFirstAmong P keys A number → IsFirstAmong P keys B number
+    first_fewer : (P : KeyParts → Type 0) (number : ℕ) → IsFirstAmong P keys A number → IsFirstAmong P keys B number
     first_fewer P number f = record {
       place = f.place;
       counts = f.counts;
@@ -78,12 +63,12 @@ module _ {K : Type 0} (Runs Wide : K → Type 0) (keys : List K) where
     abbrev Either : ℕ → Type 0
     Either n = A n ⊎ B n
 
-    of_both : (P : K → Type 0) → OfSome P A → OfSome P B → OfSome P Either
+    of_both : (P : KeyParts → Type 0) → OfSome P A → OfSome P B → OfSome P Either
     of_both P a b n k at (inl among) = a n k at among
     of_both P a b n k at (inr among) = b n k at among
 
     -- the first of some, where P holds of none of the others before it
-    first_left : (P : K → Type 0) (i : ℕ) → IsFirstAmong P keys A i → ((n : ℕ) (k : K) → n + 1 < i → slice_get keys n ≡ Some k → B n → ¬ P k) → IsFirstAmong P keys Either i
+    first_left : (P : KeyParts → Type 0) (i : ℕ) → IsFirstAmong P keys A i → ((n : ℕ) (k : KeyParts) → n + 1 < i → slice_get keys n ≡ Some k → B n → ¬ P k) → IsFirstAmong P keys Either i
     first_left P i f others = record {
       place = f.place;
       counts = f.counts;
@@ -93,7 +78,7 @@ module _ {K : Type 0} (Runs Wide : K → Type 0) (keys : List K) where
       earlier = λ n k low at. (λ among. elim among [ inl a ↦ f.earlier n k low at a | inr b ↦ others n k (omega (arith, f.counts, low)) at b ]);
     }
 
-    first_right : (P : K → Type 0) (i : ℕ) → IsFirstAmong P keys B i → ((n : ℕ) (k : K) → n + 1 < i → slice_get keys n ≡ Some k → A n → ¬ P k) → IsFirstAmong P keys Either i
+    first_right : (P : KeyParts → Type 0) (i : ℕ) → IsFirstAmong P keys B i → ((n : ℕ) (k : KeyParts) → n + 1 < i → slice_get keys n ≡ Some k → A n → ¬ P k) → IsFirstAmong P keys Either i
     first_right P i f others = record {
       place = f.place;
       counts = f.counts;
@@ -104,7 +89,7 @@ module _ {K : Type 0} (Runs Wide : K → Type 0) (keys : List K) where
     }
 
     -- the lesser of two firsts is the first of both
-    first_both : (P : K → Type 0) (i j : ℕ) → IsFirstAmong P keys A i → IsFirstAmong P keys B j → IsFirstAmong P keys Either (min i j)
+    first_both : (P : KeyParts → Type 0) (i j : ℕ) → IsFirstAmong P keys A i → IsFirstAmong P keys B j → IsFirstAmong P keys Either (min i j)
     first_both P i j f g = elim (cases_lt i j) [
       | inl low ↦ subst (IsFirstAmong P keys Either) (sym (min-eq_left (omega arith))) (first_left P i f (λ n k below at. g.earlier n k (omega (arith, g.counts, below, low)) at))
       | inr low ↦ subst (IsFirstAmong P keys Either) (sym (min-eq_right low)) (first_right P j g (λ n k below at. f.earlier n k (omega (arith, f.counts, below, low)) at))

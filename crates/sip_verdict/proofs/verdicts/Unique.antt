@@ -3,9 +3,11 @@ use Rattle.std.proofs.Common.{◌≡◌, ◌⊎◌, inl, inr, ◌+◌, ℕ, List
 use Rattle.std.proofs.lemmas.List.Elements.{All-contains, Contains-append_right}
 use Rattle.sip_standard.specs.declared.verdict.Verdict.{Verdict}
 use Rattle.sip_standard.specs.declared.verdict.Verdict.TheVariants.{Legal, Malformed, Breach, Undecided, LogFault}
+use Rattle.sip_standard.specs.Key.{KeyParts}
+use Rattle.sip_standard.specs.Times.{Times}
 use Rattle.sip_standard.specs.Observation.{Observation}
-use Rattle.sip_verdict.specs.Keyed.{Machines}
-use Rattle.sip_verdict.specs.Verdicts.{IsFirst, IsFine, IsTrouble, IsGood}
+use Rattle.sip_standard.specs.VerdictOf.{keys_in, RunsOver, IsWideAt, IsFirstKey, HasTrouble}
+use Rattle.sip_verdict.specs.LegalLog.{IsFine, IsGood}
 use Rattle.sip_verdict.proofs.keys.Splitting.{split_compare}
 
 -- what stands in the middle of a list is in it
@@ -17,59 +19,70 @@ pub All-middle : {A : Type 0} (P : A → Type 0) (xs ys : List A) (x : A) → Al
 All-middle P xs ys x h = All-contains P (xs ++ x ∷ ys) x h (Contains-middle xs ys x)
 
 -- the first key of which P holds has one number
-pub first_is_one : {K : Type 0} (P : K → Type 0) (keys : List K) (n k : ℕ) → IsFirst P keys n → IsFirst P keys k → n ≡ k
-first_is_one {K} P keys n k a b =
-    go (split_compare a.before a.rest b.before b.rest a.key b.key (sym a.is ∙ b.is))
+pub first_is_one : (P : KeyParts → Type 0) (keys : List KeyParts) (n k : ℕ) → IsFirstKey P keys n → IsFirstKey P keys k → n ≡ k
+first_is_one P keys n k (before, key, rest, is, holds, earlier, counts) (front, first, more, are, also, none, number) =
+    go (split_compare before rest front more key first (sym is ∙ are))
   where
-    go : ((a.before ≡ b.before) × (a.key ≡ b.key)) ⊎ (((zs : List K) × (b.before ≡ a.before ++ a.key ∷ zs)) ⊎ ((zs : List K) × (a.before ≡ b.before ++ b.key ∷ zs))) → n ≡ k
-    go (inl h) = a.counts ∙ ap (λ xs. length xs + 1) h.0 ∙ sym b.counts
-    go (inr (inl h)) = absurd (All-middle (λ x. P x → ⊥) a.before h.0 a.key (subst (All (λ x. P x → ⊥)) h.1 b.earlier) a.holds)
-    go (inr (inr h)) = absurd (All-middle (λ x. P x → ⊥) b.before h.0 b.key (subst (All (λ x. P x → ⊥)) h.1 a.earlier) b.holds)
+    go : ((before ≡ front) × (key ≡ first)) ⊎ (((zs : List KeyParts) × (front ≡ before ++ key ∷ zs)) ⊎ ((zs : List KeyParts) × (before ≡ front ++ first ∷ zs))) → n ≡ k
+    go (inl h) = counts ∙ ap (λ xs. length xs + 1) h.0 ∙ sym number
+    go (inr (inl h)) = absurd (All-middle (λ x. ¬ (P x)) before h.0 key (subst (All (λ x. ¬ (P x))) h.1 none) holds)
+    go (inr (inr h)) = absurd (All-middle (λ x. ¬ (P x)) front h.0 first (subst (All (λ x. ¬ (P x))) h.1 earlier) also)
 
 -- a key of which P holds does not leave it false of all
-pub first_not_all : {K : Type 0} (P : K → Type 0) (keys : List K) (n : ℕ) → IsFirst P keys n → All (λ k. P k → ⊥) keys → ⊥
-first_not_all P keys n a h = All-middle (λ k. P k → ⊥) a.before a.rest a.key (subst (All (λ k. P k → ⊥)) a.is h) a.holds
+pub first_not_all : (P : KeyParts → Type 0) (keys : List KeyParts) (n : ℕ) → IsFirstKey P keys n → All (λ k. ¬ (P k)) keys → ⊥
+first_not_all P keys n (before, key, rest, is, holds, earlier, counts) h = All-middle (λ k. ¬ (P k)) before rest key (subst (All (λ k. ¬ (P k))) is h) holds
 
 -- a key without a run is not among keys that all have one
-pub first_not_run : {K : Type 0} (P : K → Type 0) (keys : List K) (n : ℕ) → IsFirst (λ k. P k → ⊥) keys n → All P keys → ⊥
-first_not_run P keys n a h = a.holds (All-middle P a.before a.rest a.key (subst (All P) a.is h))
+pub first_not_run : (P : KeyParts → Type 0) (keys : List KeyParts) (n : ℕ) → IsFirstKey (λ k. ¬ (P k)) keys n → All P keys → ⊥
+first_not_run P keys n (before, key, rest, is, none, earlier, counts) h = none (All-middle P before rest key (subst (All P) is h))
 
-module _ {K : Type 0} (m : Machines K) where
+module _ (p : Times) (front : List (Observation KeyParts)) (e : Observation KeyParts) where
+  abbrev keys : List KeyParts
+  keys = keys_in (front ++ e ∷ [])
+
+  -- the key has a run over the entries and this one, or is too wide at this one
+  abbrev Runs : KeyParts → Type 0
+  Runs key = RunsOver p (front ++ e ∷ []) key
+
+  abbrev Wide : KeyParts → Type 0
+  Wide key = IsWideAt p front e key
+
   -- an entry that is in no trouble has no verdict
-  pub fine_no_trouble : (front : List (Observation K)) (e : Observation K) (v : Verdict) → IsFine m front e → IsTrouble m front e v → ⊥
-  fine_no_trouble front e (Legal n t) f h = h
-  fine_no_trouble front e (Malformed n fault) f h = let a : None ≡ Some fault = sym f.formed ∙ h.1 in cc
-  fine_no_trouble front e (Breach n t) f h = first_not_run _ _ t h.2 f.runs
-  fine_no_trouble front e (Undecided n t) f h = first_not_all _ _ t h.3 f.narrow
-  fine_no_trouble front e (LogFault n reason) f h = h
+  pub fine_no_trouble : (v : Verdict) → IsFine p front e → HasTrouble p front e v → ⊥
+  fine_no_trouble (Legal n t) f h = h
+  fine_no_trouble (Malformed n fault) f h = let a : None ≡ Some fault = sym f.formed ∙ h.1 in cc
+  fine_no_trouble (Breach n t) f h = first_not_run Runs keys t h.2 f.runs
+  fine_no_trouble (Undecided n t) f h = first_not_all Wide keys t h.3 f.narrow
+  fine_no_trouble (LogFault n reason) f h = h
 
   -- an entry has one verdict
-  pub trouble_is_one : (front : List (Observation K)) (e : Observation K) (v w : Verdict) → IsTrouble m front e v → IsTrouble m front e w → v ≡ w
-  trouble_is_one front e (Malformed n f) (Malformed k g) a b = let s : Some f ≡ Some g = sym a.1 ∙ b.1 in let s' : n ≡ k = a.0 ∙ sym b.0 in cc
-  trouble_is_one front e (Malformed n f) (Breach k t) a b = let s : Some f ≡ None = sym a.1 ∙ b.1 in cc
-  trouble_is_one front e (Malformed n f) (Undecided k t) a b = let s : Some f ≡ None = sym a.1 ∙ b.1 in cc
-  trouble_is_one front e (Breach n t) (Malformed k g) a b = let s : None ≡ Some g = sym a.1 ∙ b.1 in cc
-  trouble_is_one front e (Breach n t) (Breach k u) a b = let s : t ≡ u = first_is_one _ _ t u a.2 b.2 in let s' : n ≡ k = a.0 ∙ sym b.0 in cc
-  trouble_is_one front e (Breach n t) (Undecided k u) a b = absurd (first_not_run _ _ t a.2 b.2)
-  trouble_is_one front e (Undecided n t) (Malformed k g) a b = let s : None ≡ Some g = sym a.1 ∙ b.1 in cc
-  trouble_is_one front e (Undecided n t) (Breach k u) a b = absurd (first_not_run _ _ u b.2 a.2)
-  trouble_is_one front e (Undecided n t) (Undecided k u) a b = let s : t ≡ u = first_is_one _ _ t u a.3 b.3 in let s' : n ≡ k = a.0 ∙ sym b.0 in cc
-  trouble_is_one front e (Legal n t) w a b = absurd a
-  trouble_is_one front e (LogFault n r) w a b = absurd a
-  trouble_is_one front e v (Legal n t) a b = absurd b
-  trouble_is_one front e v (LogFault n r) a b = absurd b
+  pub trouble_is_one : (v w : Verdict) → HasTrouble p front e v → HasTrouble p front e w → v ≡ w
+  trouble_is_one (Malformed n f) (Malformed k g) a b = let s : Some f ≡ Some g = sym a.1 ∙ b.1 in let s' : n ≡ k = a.0 ∙ sym b.0 in cc
+  trouble_is_one (Malformed n f) (Breach k t) a b = let s : Some f ≡ None = sym a.1 ∙ b.1 in cc
+  trouble_is_one (Malformed n f) (Undecided k t) a b = let s : Some f ≡ None = sym a.1 ∙ b.1 in cc
+  trouble_is_one (Breach n t) (Malformed k g) a b = let s : None ≡ Some g = sym a.1 ∙ b.1 in cc
+  trouble_is_one (Breach n t) (Breach k u) a b = let s : t ≡ u = first_is_one (λ key. ¬ (Runs key)) keys t u a.2 b.2 in let s' : n ≡ k = a.0 ∙ sym b.0 in cc
+  trouble_is_one (Breach n t) (Undecided k u) a b = absurd (first_not_run Runs keys t a.2 b.2)
+  trouble_is_one (Undecided n t) (Malformed k g) a b = let s : None ≡ Some g = sym a.1 ∙ b.1 in cc
+  trouble_is_one (Undecided n t) (Breach k u) a b = absurd (first_not_run Runs keys u b.2 a.2)
+  trouble_is_one (Undecided n t) (Undecided k u) a b = let s : t ≡ u = first_is_one Wide keys t u a.3 b.3 in let s' : n ≡ k = a.0 ∙ sym b.0 in cc
+  trouble_is_one (Legal n t) w a b = absurd a
+  trouble_is_one (LogFault n r) w a b = absurd a
+  trouble_is_one v (Legal n t) a b = absurd b
+  trouble_is_one v (LogFault n r) a b = absurd b
 
+module _ (p : Times) where
   -- no entry is in no trouble
-  pub good-nil : IsGood m []
+  pub good-nil : IsGood p []
   good-nil [] e rest is = cc
   good-nil (f ∷ front) e rest is = cc
 
   -- one more entry that is in no trouble
-  pub good-push : (es : List (Observation K)) (e : Observation K) → IsGood m es → IsFine m es e → IsGood m (es ++ e ∷ [])
+  pub good-push : (es : List (Observation KeyParts)) (e : Observation KeyParts) → IsGood p es → IsFine p es e → IsGood p (es ++ e ∷ [])
   good-push es e good fine front f rest is =
       go (split_compare es [] front rest e f is)
     where
-      go : ((es ≡ front) × (e ≡ f)) ⊎ (((zs : List (Observation K)) × (front ≡ es ++ e ∷ zs)) ⊎ ((zs : List (Observation K)) × (es ≡ front ++ f ∷ zs))) → IsFine m front f
-      go (inl h) = subst (λ x. IsFine m front x) h.1 (subst (λ x. IsFine m x e) h.0 fine)
+      go : ((es ≡ front) × (e ≡ f)) ⊎ (((zs : List (Observation KeyParts)) × (front ≡ es ++ e ∷ zs)) ⊎ ((zs : List (Observation KeyParts)) × (es ≡ front ++ f ∷ zs))) → IsFine p front f
+      go (inl h) = subst (λ x. IsFine p front x) h.1 (subst (λ x. IsFine p x e) h.0 fine)
       go (inr (inl h)) = absurd (omega (arith, simp length-append at (ap length is), simp length-append at (ap length h.1)))
       go (inr (inr h)) = good front f h.0 h.1

@@ -19,7 +19,7 @@ pub record NotesLast (entry number : ℕ) (old new : List History) : Type 0 wher
   pub first : after.first ≡ before.first
   pub last : after.last ≡ entry
 
--- or of a new one, as its first one and its last one
+-- the entry with this number and text is noted of a new transaction, as its first one and its last one
 pub record NotesFirst (entry : ℕ) (text : List ℕ) (number : ℕ) (old new : List History) : Type 0 where
   pub begun : History
   pub beyond : length old ≤ number - 1
@@ -28,10 +28,11 @@ pub record NotesFirst (entry : ℕ) (text : List ℕ) (number : ℕ) (old new : 
   pub first : begun.first ≡ entry
   pub last : begun.last ≡ entry
 
+-- the entry is noted of the transaction with this number, be it known or new
 abbrev pub Notes : (entry : ℕ) (text : List ℕ) (number : ℕ) → List History → List History → Type 0
 Notes entry text number old new = NotesLast entry number old new ⊎ NotesFirst entry text number old new
 
--- it is noted of those with these numbers, one after another
+-- the entry is noted of the transactions with these numbers, one after another
 abbrev pub NotesEach : (entry : ℕ) (text : List ℕ) → List ℕ → List History → List History → Type 0
 NotesEach entry text [] old new = new ≡ old
 NotesEach entry text (n ∷ ns) old new = (between : List History) × Notes entry text n old between × NotesEach entry text ns between new

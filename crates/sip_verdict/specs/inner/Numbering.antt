@@ -11,8 +11,9 @@ use Rattle.sip_listing.specs.Lists.{Lists}
 use Rattle.sip_standard.specs.declared.listing.Listing.{Listing}
 use Rattle.sip_standard.specs.declared.listing.Listing.TheVariants.{Text, Stopped, NoEntry}
 use Rattle.sip_standard.specs.Observation.{Observation}
-use Rattle.sip_verdict.specs.MessageReading.{key_machines, ConcernsNone}
-use Rattle.sip_verdict.specs.Verdicts.{IsGood, IsTrouble}
+use Rattle.sip_standard.specs.VerdictOf.{HasTrouble}
+use Rattle.sip_verdict.specs.Entries.{ConcernsNone}
+use Rattle.sip_verdict.specs.LegalLog.{IsGood}
 use Rattle.sip_standard.specs.ListingOf.{first_entry, IsEntryText}
 
 -- the book keeps the messages of these entries that concern a key, each under the number of the first that has it
@@ -43,6 +44,6 @@ IsTextOf t (n ∷ ns) text = AppendsEach t (n ∷ ns) [] text
 
 -- what is listed of the entry after these: its text if it is in no trouble, else its verdict
 abbrev pub IsListedEntry : Times → (List ℕ → ℕ) → List (Observation KeyParts) → Observation KeyParts → Listing → Type 0
-IsListedEntry p number es e (Text text) = IsGood (key_machines p) (es ++ e ∷ []) × IsEntryText p number es e e.keys (string_bytes text)
-IsListedEntry p number es e (Stopped v) = IsTrouble (key_machines p) es e v
+IsListedEntry p number es e (Text text) = IsGood p (es ++ e ∷ []) × IsEntryText p number es e e.keys (string_bytes text)
+IsListedEntry p number es e (Stopped v) = HasTrouble p es e v
 IsListedEntry p number es e NoEntry = ⊥

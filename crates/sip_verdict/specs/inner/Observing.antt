@@ -13,11 +13,11 @@ use Rattle.sip_log.specs.Told.{item}
 use Rattle.sip_standard.specs.declared.action.Action.{Action}
 use Rattle.sip_standard.specs.declared.action.Action.TheVariants as action
 use Rattle.sip_verdict.specs.declared.concerned.Concerned.{Concerned}
-use Rattle.sip_verdict.specs.declared.observing.Told.{Told}
-use Rattle.sip_verdict.specs.declared.observing.Told.TheVariants.{Unheard, Fault, Restart, Heard}
+use Rattle.sip_verdict.specs.declared.observing.Observed.{Observed}
+use Rattle.sip_verdict.specs.declared.observing.Observed.TheVariants.{Unheard, Fault, Restart, Heard}
 use Rattle.sip_standard.specs.Observation.{Observation, fault_observation, silent_observation}
 use Rattle.sip_standard.specs.VerdictOf.{keys_in}
-use Rattle.sip_verdict.specs.MessageReading.{ConcernsNone}
+use Rattle.sip_verdict.specs.Entries.{ConcernsNone}
 use Rattle.sip_verdict.specs.inner.Concerned.{each, is_all}
 
 -- What the judge is told of an entry.
@@ -37,19 +37,19 @@ abbrev pub restart_observation : ℕ → List KeyParts → Observation KeyParts
 restart_observation moment keys = silent_observation action.Restart moment keys
 
 -- what is told of an entry without a message
-abbrev pub silent_told : Action → Told
+abbrev pub silent_told : Action → Observed
 silent_told action.Restart = Restart
 silent_told a = Unheard
 
 -- what is observed of an entry after others of which this is told, beside the texts of a book: of one that is not heard, its moment
-abbrev pub IsObserved : Texts → List (Observation KeyParts) → Item → Told → Observation KeyParts → Type 0
+abbrev pub IsObserved : Texts → List (Observation KeyParts) → Item → Observed → Observation KeyParts → Type 0
 IsObserved texts es i Unheard e = (e.fault ≡ None) × (e.event.moment ≡ i.moment) × (e.keys ≡ [])
 IsObserved texts es i (Fault fault) e = e ≡ fault_observation i fault
 IsObserved texts es i Restart e = e ≡ restart_observation i.moment (keys_in es)
 IsObserved texts es i (Heard event concerned) e = e ≡ record { fault = None; event = event_in texts event; keys = each concerned }
 
 -- an event that is told is of this moment, the book keeps its message, and its keys differ
-abbrev pub IsHeard : Texts → ℕ → Told → Type 0
+abbrev pub IsHeard : Texts → ℕ → Observed → Type 0
 IsHeard texts moment Unheard = ⊤
 IsHeard texts moment (Fault fault) = ⊤
 IsHeard texts moment Restart = ⊤
@@ -57,7 +57,7 @@ IsHeard texts moment (Heard event concerned) =
     FitsBook texts event × (event.moment ≡ moment) × AllPairs (λ a b. a ≢ b) (each concerned) × (is_all concerned ≡ false)
 
 -- the book keeps the entry's message if it is heard, which concerns some key, under the event's number, and nothing else is kept or lost
-abbrev pub IsKept : Texts → Texts → Entry → Told → Type 0
+abbrev pub IsKept : Texts → Texts → Entry → Observed → Type 0
 IsKept old new entry Unheard = new ≡ old
 IsKept old new entry (Fault fault) = new ≡ old
 IsKept old new entry Restart = (new ≡ old) × ConcernsNone (item entry)

@@ -18,7 +18,7 @@ abbrev pub IsFaulty : List ℕ → ReadError → Type 0
 IsFaulty bytes (message.Fault fault) = Says bytes (stops fault)
 IsFaulty bytes message.Memory = ⊤
 
--- and why an entry has none: one without a message always has one
+-- why an entry has no canonical form: its message has none; an entry without a message always has one
 abbrev pub HasNoForm : Action → List ℕ → ReadError → Type 0
 HasNoForm action bytes error = (has_message action ≡ true) × IsFaulty bytes error
 

@@ -11,10 +11,10 @@ use Rattle.sip_verdict.specs.declared.finding.Finding.{Finding}
 use Rattle.sip_verdict.specs.declared.finding.Finding.TheVariants.{Malformed, Breach, Undecided}
 use Rattle.sip_verdict.specs.declared.troubled.Troubled.{Troubled}
 use Rattle.sip_standard.specs.Observation.{Observation}
-use Rattle.sip_verdict.specs.Keyed.{concerns, newest_moment}
+use Rattle.sip_verdict.specs.Entries.{newest_moment}
+use Rattle.sip_verdict.specs.inner.Keyed.{concerns}
 use Rattle.sip_standard.specs.VerdictOf.{RunsOver, keys_in}
 use Rattle.sip_verdict.specs.SurveyOf.{IsSound, Breaks, Widens}
-use Rattle.sip_verdict.specs.MessageReading.{key_machines}
 use Rattle.sip_verdict.specs.inner.Tracking.{IsReady, GoesOn}
 use Rattle.sip_verdict.specs.inner.TablesTracking.{LeadsOf, key_keeping, is_among, AreOnRecord}
 
@@ -53,7 +53,7 @@ pub record IsNumberOf (P : KeyParts → Type 0) (keys : List KeyParts) (number :
 -- the set of a key leads to its runs over the entries, if the key is in no trouble; else to those over no event
 abbrev pub IsFollowed : Texts → Times → List (Observation KeyParts) → KeyParts → AnySet → Bool → Type 0
 IsFollowed texts p es key set true = LeadsOf texts p (machine_of_key p.rules key) [] (newest_moment es) set × ¬ (IsSound p es key)
-IsFollowed texts p es key set false = IsReady (key_machines p) (key_keeping texts p) es (key, set) × IsSound p es key
+IsFollowed texts p es key set false = IsReady (key_keeping texts p) es (key, set) × IsSound p es key
 
 -- none of the entries is before one that stands before it
 abbrev pub IsOrdered : List (Observation KeyParts) → Type 0
@@ -73,9 +73,9 @@ module _ (texts : Texts) (p : Times) (es : List (Observation KeyParts)) (e : Obs
   IsPassing waits b number key set true =
       LeadsOf texts p (machine_of_key p.rules key) [] e.event.moment set × (¬ (IsSound p es key) ⊎ (Contains b.broken.items number ⊎ Contains b.wide.items number))
   IsPassing waits b number key set false =
-      IsSound p es key × MatchBool (waits number) (IsReady (key_machines p) (key_keeping texts p) es (key, set)) (GoesOn (key_machines p) (key_keeping texts p) es e (key, set))
+      IsSound p es key × MatchBool (waits number) (IsReady (key_keeping texts p) es (key, set)) (GoesOn p (key_keeping texts p) es e (key, set))
 
-  -- so it is of each, and those that came into trouble have run out of runs or are too wide
+  -- each transaction is passing the entry, and those that came into trouble there have no run any more or are too wide
   pub record ArePassing (waits : ℕ → Bool) (t : Tabled) (b : Troubled) : Type 0 where
     pub broken : (number : ℕ) → Contains b.broken.items number → IsNumberOf (Breaks p es e) t.keys number
     pub wide : (number : ℕ) → Contains b.wide.items number → IsNumberOf (λ key. Widens p es e key × RunsOver p (es ++ e ∷ []) key) t.keys number
@@ -85,7 +85,7 @@ module _ (texts : Texts) (p : Times) (es : List (Observation KeyParts)) (e : Obs
   -- the entry has this event and concerns each key with one of these numbers
   abbrev pub AreConcerned : NumberedEvent → List ℕ → List KeyParts → Type 0
   AreConcerned event numbers keys =
-      (n : ℕ) (key : KeyParts) → slice_get keys n ≡ Some key → is_among numbers (n + 1) ≡ true → (e.event ≡ event_in texts event) × (concerns (key_machines p) key e ≡ true)
+      (n : ℕ) (key : KeyParts) → slice_get keys n ≡ Some key → is_among numbers (n + 1) ≡ true → (e.event ≡ event_in texts event) × (concerns key e ≡ true)
 
 -- no key has passed the entry
 abbrev pub any : ℕ → Bool
@@ -106,7 +106,7 @@ fault_listing entry (Some fault) = Malformed entry fault ∷ []
 abbrev pub listing : ℕ → List ℕ → List ℕ → List Finding
 listing entry broken wide = map (λ transaction. Breach entry transaction) broken ++ map (λ transaction. Undecided entry transaction) wide
 
--- the same numbers, each once and ascending
+-- the second list has the numbers of the first, each once and ascending
 abbrev pub AreAscending : List ℕ → List ℕ → Type 0
 AreAscending numbers ascending = AllPairs (λ i k. i < k) ascending × ((n : ℕ) → Contains ascending n ↔ Contains numbers n)
 

@@ -5,7 +5,7 @@ use Rattle.sip_standard.specs.Key.{KeyParts}
 use Rattle.sip_standard.specs.LogEntry.{Item}
 use Rattle.sip_standard.specs.LogSays.{LogEnd, most_entries, line_feed}
 use Rattle.sip_part.specs.Part.{PartOf}
-use Rattle.sip_log.specs.Reading.{Place, entries}
+use Rattle.sip_log.specs.Reading.{ProgressState, entries}
 use Rattle.sip_verdict.specs.declared.finding.Finding.{Finding}
 use Rattle.sip_standard.specs.declared.judge_error.JudgeError.{JudgeError}
 use Rattle.sip_verdict.specs.declared.summary.Summary.{Summary}
@@ -22,8 +22,7 @@ use Rattle.sip_verdict.specs.inner.Walking.{HasRead}
 use Rattle.sip_standard.specs.Times.{Times}
 use Rattle.sip_verdict.specs.declared.finding.Finding.TheVariants.{Malformed, Breach, Undecided}
 use Rattle.sip_verdict.specs.declared.transaction.Transaction.{Transaction}
-use Rattle.sip_verdict.specs.MessageReading.{message_reading}
-use Rattle.sip_verdict.specs.Reading.{AreObserved}
+use Rattle.sip_standard.specs.Seen.{AreSeen}
 use Rattle.sip_standard.specs.Rendering.{rendered}
 use Rattle.sip_standard.specs.VerdictOf.{keys_in}
 use Rattle.sip_log.specs.Reading as log
@@ -34,7 +33,7 @@ abbrev pub unsurveyed : JudgeError → SurveyError
 unsurveyed judging.Io = Read
 unsurveyed judging.Memory = Memory
 
--- so much more was counted as these findings are
+-- these findings were counted besides those before
 pub record AreCounted (found : List Finding) (old new : Counts) : Type 0 where
   pub findings : new.findings ≡ old.findings + length found
   pub undecided : new.undecided ≡ old.undecided + length (filter is_undecided found)
@@ -49,7 +48,7 @@ pub record AreTold (found : List Finding) (lines : List ℕ) (counts : Counts) (
 abbrev pub words_of : Transaction → List ℕ
 words_of t = transaction_words t.key.now t.branch.now t.first t.last
 
--- the line of a finding with them, where the transaction is known
+-- the line of a finding, with the words for its transaction where that is known
 abbrev pub line_with : Finding → Option Transaction → List ℕ
 line_with f None = rendered (verdict_of f) ++ line_feed ∷ []
 line_with f (Some t) = rendered (verdict_of f) ++ words_of t ++ line_feed ∷ []
@@ -59,7 +58,7 @@ abbrev pub Tells : Surveying → ℕ → Option Transaction → Type 0
 Tells s number told = (es : List (Observation KeyParts)) → SurveysFor s es → 0 < number
     → IfSome (slice_get (keys_in es) (number - 1)) (λ key. IsSomeAnd told (λ t. (t.key.now ≡ key) × IsFirstOf es key t.first t.branch.now × IsLastOf es key t.last))
 
--- the one of which something is found; none of a message with a fault
+-- the survey tells the transaction of the finding; a message with a fault has none
 abbrev pub TellsOf : Surveying → Finding → Option Transaction → Type 0
 TellsOf s (Malformed entry fault) told = told ≡ None
 TellsOf s (Breach entry number) told = Tells s number told
@@ -69,7 +68,7 @@ TellsOf s (Undecided entry number) told = Tells s number told
 abbrev pub IsLineBy : Surveying → Finding → List ℕ → Type 0
 IsLineBy s f line = (p : Times) (es : List (Observation KeyParts)) (e : Observation KeyParts) → SurveysFor s (es ++ e ∷ []) → IsFoundAt p es e f → IsLineOf (es ++ e ∷ []) f line
 
--- and these are the lines of such findings, one after another
+-- these are the lines of findings at the newest entry, one after another
 abbrev pub AreLinesBy : Surveying → List Finding → List ℕ → Type 0
 AreLinesBy s [] text = text ≡ []
 AreLinesBy s (f ∷ found) text = (line : List ℕ) × (more : List ℕ) × IsLineBy s f line × AreLinesBy s found more × (text ≡ line ++ more)
@@ -90,7 +89,7 @@ abbrev pub IsSurveyIn : Option PartOf → List ℕ → List Finding → SurveyEn
 IsSurveyIn None input found end = IsSurveyOf input found end
 IsSurveyIn (Some part) input found end = IsPartSurveyOf part input found end
 
--- and its text
+-- the survey of the whole input, or of the part, with its text
 abbrev pub IsToldIn : Option PartOf → List ℕ → List Finding → SurveyEnd → List ℕ → Type 0
 IsToldIn None input found end text = IsToldOf input found end text
 IsToldIn (Some part) input found end text = IsPartToldOf part input found end text
@@ -104,7 +103,7 @@ pub record IsWritten (part : Option PartOf) (input : List ℕ) (summary : Summar
   pub written : Appends before after text
 
 -- the survey goes on, and took all entries that were read up to this place
-pub record IsSurveyAt (s : Surveying) (place : Place) : Type 0 where
+pub record IsSurveyAt (s : Surveying) (place : ProgressState) : Type 0 where
   pub on : place.stage ≡ entries
   pub goes_on : s.failed ≡ false
   pub counts : s.number ≡ place.count
@@ -117,7 +116,7 @@ pub record SurveysRead (part : Option PartOf) (s : Surveying) (found : List Find
   pub taken : List Item
   pub es : List (Observation KeyParts)
   pub are_taken : AreTaken part items taken
-  pub seen : AreObserved message_reading [] taken es
+  pub seen : AreSeen [] taken es
   pub follows : SurveysFor s es
   pub read : HasRead start s.tables.times items now
   pub front : (rest : List Item) (close : LogEnd) (later : List Finding) (end : SurveyEnd) → IsSurveyAfter s.tables.times es rest close later end

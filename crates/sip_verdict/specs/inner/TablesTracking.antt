@@ -1,4 +1,4 @@
-use Rattle.std.specs.Prelude.{◌≡◌, ◌≢◌, ◌||◌, ◌≤◌, ◌<◌, ◌+◌, ◌-◌, [], ◌∷◌, ℕ, nat_eq, Bool, true, false, Option, Some, None, List, All, AllPairs, IfSome, length, slice_get, ⊤}
+use Rattle.std.specs.Prelude.{◌≡◌, ◌≢◌, ◌||◌, ◌≤◌, ◌<◌, ◌+◌, ◌-◌, ◌⊎◌, ◌++◌, [], ◌∷◌, ℕ, nat_eq, Bool, true, false, Option, Some, None, List, All, AllPairs, Contains, IfSome, length, slice_get, ⊤}
 use Rattle.std.specs.List.{zip, list_any}
 use Rattle.sip_standard.specs.Key.{KeyParts}
 use Rattle.sip_standard.specs.Times.{Times}
@@ -12,6 +12,7 @@ use Rattle.sip_standard.specs.KeyMachine.{MachineKind, machine_of_key}
 use Rattle.sip_states.specs.KeySets.{key_rules, StateOf, set_of}
 use Rattle.sip_states.specs.Meaning.{Meaning}
 use Rattle.sip_states.specs.AnySet.{meaning_of, moment_of, IsKnownSet, IsQuietSet, IsAgendaOf}
+use Rattle.sip_states.specs.Sweep.{numbers_of}
 use Rattle.sip_states.specs.Tables.{Tabled, IsGiven, Touches, with_set, with_record}
 use Rattle.sip_states.specs.declared.any_set.AnySet.{AnySet}
 use Rattle.sip_standard.specs.declared.action.Action.TheVariants.{Restart}
@@ -22,8 +23,7 @@ use Rattle.sip_verdict.specs.declared.passing.Fate.TheVariants.{Runs, NoRun, Too
 use Rattle.sip_verdict.specs.declared.passing.Outcome.{Outcome}
 use Rattle.sip_verdict.specs.declared.passing.Outcome.TheVariants as all
 use Rattle.sip_standard.specs.Observation.{Observation}
-use Rattle.sip_verdict.specs.Keyed.{concerns}
-use Rattle.sip_verdict.specs.MessageReading.{key_machines}
+use Rattle.sip_verdict.specs.inner.Keyed.{concerns}
 use Rattle.sip_verdict.specs.inner.Stepping.{LeadsTo, IsStepped}
 use Rattle.sip_verdict.specs.inner.Tracking.{Keeping, Tracks, TracksBefore, outcome_of, first_of}
 use Rattle.sip_verdict.specs.inner.Concerned.{each, is_all}
@@ -44,7 +44,7 @@ StandsOf texts p machine events e set = (s : Held Times (StateOf machine)) × (s
     × StandFor (meaning_of machine).names (meaning_of machine).in_range (meaning_of machine).seen texts (AfterRun (key_rules p machine) events e) s.states
 
 -- each key has a set of its machine
-abbrev pub key_keeping : Texts → Times → Keeping KeyParts (KeyParts × AnySet)
+abbrev pub key_keeping : Texts → Times → Keeping (KeyParts × AnySet)
 key_keeping texts p = record { key = λ t. t.0; Leads = λ t events from. LeadsOf texts p (machine_of_key p.rules t.0) events from t.1; Stands = λ t events e. StandsOf texts p (machine_of_key p.rules t.0) events e t.1 }
 
 -- the keys of tables, each with its set
@@ -53,11 +53,11 @@ transactions_of t = zip t.keys t.sets
 
 -- the tables follow the entries
 abbrev pub TablesTrack : Texts → List (Observation KeyParts) → Tabled → Type 0
-TablesTrack texts es t = Tracks (key_machines t.times) (key_keeping texts t.times) es (transactions_of t)
+TablesTrack texts es t = Tracks t.times (key_keeping texts t.times) es (transactions_of t)
 
 -- they did not pass the last one yet
 abbrev pub TablesTrackBefore : Texts → List (Observation KeyParts) → Observation KeyParts → Tabled → Type 0
-TablesTrackBefore texts es e t = TracksBefore (key_machines t.times) (key_keeping texts t.times) es e (transactions_of t)
+TablesTrackBefore texts es e t = TracksBefore t.times (key_keeping texts t.times) es e (transactions_of t)
 
 -- the numbers of the transactions that an event names one by one, if there is one
 abbrev pub hearers : Option Hearing → List ℕ
@@ -73,15 +73,31 @@ abbrev pub concerns_number : Option Hearing → ℕ → Bool
 concerns_number None number = false
 concerns_number (Some h) number = is_all h.concerned || is_among (each h.concerned) number
 
+-- a set that the event does not concern stays as it is
+abbrev pub LeavesOthers : Option Hearing → Tabled → Tabled → Type 0
+LeavesOthers hearing old new = (n : ℕ) → concerns_number hearing (n + 1) ≡ false → slice_get new.sets n ≡ slice_get old.sets n
+
+-- what P says of each set but those of these transactions
+abbrev pub OthersAre : (AnySet → Type 0) → Concerned ℕ → Tabled → Type 0
+OthersAre P concerned t = is_all concerned ≡ false → (n : ℕ) (set : AnySet) → is_among (each concerned) (n + 1) ≡ false → slice_get t.sets n ≡ Some set → P set
+
 -- what is observed of an entry of this moment, as far as the key with this number goes: it hears the event, or waits
 pub record IsTold (texts : Texts) (moment : ℕ) (hearing : Option Hearing) (number : ℕ) (key : KeyParts) (e : Observation KeyParts) : Type 0 where
   pub at : e.event.moment ≡ moment
   pub event : IfSome hearing (λ h. e.event ≡ event_in texts h.event)
-  pub concerned : (p : Times) → concerns (key_machines p) key e ≡ concerns_number hearing number
+  pub concerned : concerns key e ≡ concerns_number hearing number
 
 -- the entry tells this to each of the keys
 abbrev pub AreTold : Texts → List KeyParts → ℕ → Option Hearing → Observation KeyParts → Type 0
 AreTold texts keys moment hearing e = (n : ℕ) (key : KeyParts) → slice_get keys n ≡ Some key → IsTold texts moment hearing (n + 1) key e
+
+-- the transaction with this number does not name the message
+abbrev pub NamesNot : Tabled → ℕ → ℕ → Type 0
+NamesNot t message number = (set : AnySet) → slice_get t.sets (number - 1) ≡ Some set → ¬ Contains (numbers_of set) message
+
+-- the newest message was forgotten, which no set names, or none was
+abbrev pub IsForgotten : List AnySet → ℕ → Texts → Texts → Type 0
+IsForgotten sets number old new = (new ≡ old) ⊎ ((bytes : List ℕ) × (old ≡ new ++ (number, bytes) ∷ []) × All (λ set. ¬ Contains (numbers_of set) number) sets)
 
 -- these keys were looked up one after another, and have these numbers
 abbrev pub TouchesEach : List KeyParts → List ℕ → Tabled → Tabled → Type 0
@@ -129,11 +145,11 @@ pub record AreOnRecord (waits : List ℕ) (t : Tabled) : Type 0 where
   pub long : length t.records ≡ length t.keys
   pub each : (n : ℕ) (set : AnySet) (recorded : Option (Option ℕ)) → slice_get t.sets n ≡ Some set → slice_get t.records n ≡ Some recorded → IsOnRecord waits (n + 1) set recorded
 
--- the same where none is still to hear one
+-- each last moment is on record
 abbrev pub AllAreOnRecord : Tabled → Type 0
 AllAreOnRecord t = AreOnRecord [] t
 
--- the same after an entry, unless it is in trouble
+-- after an entry each last moment is on record, unless the entry is in trouble
 abbrev pub AreOnRecordIf : Outcome → Tabled → Type 0
 AreOnRecordIf all.Fine t = AllAreOnRecord t
 AreOnRecordIf (all.NoRun number) t = ⊤
@@ -154,7 +170,7 @@ pub record Hears (texts : Texts) (e : NumberedEvent) (number : ℕ) (old new : T
   pub stepped : (p : Times) (machine : MachineKind) (events : List MachineEvent) (from : ℕ) → from ≤ e.moment → LeadsOf texts p machine events from before
       → IsStepped (key_rules p machine) events (event_in texts e) (λ es. LeadsOf texts p machine es e.moment after) (λ f. StandsOf texts p machine events f after) fate
 
--- the same, with the outcome
+-- the set with this number has heard the event, and the outcome says what that leaves of its runs
 abbrev pub HearsOne : Texts → NumberedEvent → ℕ → Tabled → Tabled → Outcome → Type 0
 HearsOne texts e number old new outcome = (fate : Fate) × Hears texts e number old new fate × (outcome ≡ outcome_of number fate)
 

@@ -6,61 +6,65 @@ use Rattle.sip_verdict.specs.declared.passing.Fate.TheVariants.{Runs, NoRun, Too
 use Rattle.sip_verdict.specs.declared.passing.Outcome.{Outcome}
 use Rattle.sip_verdict.specs.declared.passing.Outcome.TheVariants as all
 use Rattle.sip_standard.specs.Observation.{Observation}
-use Rattle.sip_verdict.specs.Keyed.{Machines, concerns, keys_of, events_of, newest_moment, HasRun}
-use Rattle.sip_verdict.specs.Verdicts.{IsFirst, IsTooWide, IsGood, IsTrouble}
+use Rattle.sip_standard.specs.VerdictOf.{keys_in, events_for, RunsOver, IsWideAt, IsFirstKey, HasTrouble}
+use Rattle.sip_verdict.specs.Entries.{newest_moment}
+use Rattle.sip_verdict.specs.LegalLog.{IsGood}
+use Rattle.sip_verdict.specs.inner.Keyed.{concerns}
+use Rattle.sip_standard.specs.Key.{KeyParts}
+use Rattle.sip_standard.specs.Times.{Times}
 
--- How what is kept of transactions follows the entries of a log, for any keys, machines and sets.
+-- How what is kept of transactions follows the entries of a log, whatever is kept of each.
 
 -- the key of what is kept, whether it leads, from a moment on, to where the runs of its key over the events stand, and whether it is just where those stand that end with one more
-pub record Keeping (K T : Type 0) : Type 1 where
-  pub key : T → K
+pub record Keeping (T : Type 0) : Type 1 where
+  pub key : T → KeyParts
   pub Leads : T → List MachineEvent → ℕ → Type 0
   pub Stands : T → List MachineEvent → MachineEvent → Type 0
 
 -- it leads to the runs of its key over the entries, from the newest on
-abbrev pub IsReady : {K T : Type 0} → Machines K → Keeping K T → List (Observation K) → T → Type 0
-IsReady m k es t = k.Leads t (events_of m (k.key t) es) (newest_moment es)
+abbrev pub IsReady : {T : Type 0} → Keeping T → List (Observation KeyParts) → T → Type 0
+IsReady k es t = k.Leads t (events_for (k.key t) es) (newest_moment es)
 
 -- if the entry after these concerns its key, it is just where the runs stand that end with that entry
-abbrev pub IsStanding : {K T : Type 0} → Machines K → Keeping K T → List (Observation K) → Observation K → T → Type 0
-IsStanding m k es e t = concerns m (k.key t) e ≡ true → k.Stands t (events_of m (k.key t) es) e.event
+abbrev pub IsStanding : {T : Type 0} → Keeping T → List (Observation KeyParts) → Observation KeyParts → T → Type 0
+IsStanding k es e t = concerns (k.key t) e ≡ true → k.Stands t (events_for (k.key t) es) e.event
 
 -- the transactions are those of the entries, and lead to their runs over these; no entry is in trouble
-pub record Tracks {K T : Type 0} (m : Machines K) (k : Keeping K T) (es : List (Observation K)) (ts : List T) : Type 0 where
-  pub keys : map k.key ts ≡ keys_of m es
-  pub ready : All (IsReady m k es) ts
-  pub good : IsGood m es
+pub record Tracks {T : Type 0} (p : Times) (k : Keeping T) (es : List (Observation KeyParts)) (ts : List T) : Type 0 where
+  pub keys : map k.key ts ≡ keys_in es
+  pub ready : All (IsReady k es) ts
+  pub good : IsGood p es
 
 -- the transactions are those of the entries and of one more, which they did not pass yet
-pub record TracksBefore {K T : Type 0} (m : Machines K) (k : Keeping K T) (es : List (Observation K)) (e : Observation K) (ts : List T) : Type 0 where
-  pub keys : map k.key ts ≡ keys_of m (es ++ e ∷ [])
-  pub ready : All (IsReady m k es) ts
-  pub good : IsGood m es
+pub record TracksBefore {T : Type 0} (p : Times) (k : Keeping T) (es : List (Observation KeyParts)) (e : Observation KeyParts) (ts : List T) : Type 0 where
+  pub keys : map k.key ts ≡ keys_in (es ++ e ∷ [])
+  pub ready : All (IsReady k es) ts
+  pub good : IsGood p es
 
 -- what is judged of an entry after others: it is in no trouble, or this is its verdict
-abbrev pub IsJudged : {K T : Type 0} → Machines K → Keeping K T → List (Observation K) → Observation K → List T → Option Verdict → Type 0
-IsJudged m k es e ts None = Tracks m k (es ++ e ∷ []) ts × All (IsStanding m k es e) ts
-IsJudged m k es e ts (Some verdict) = IsTrouble m es e verdict
+abbrev pub IsJudged : {T : Type 0} → Times → Keeping T → List (Observation KeyParts) → Observation KeyParts → List T → Option Verdict → Type 0
+IsJudged p k es e ts None = Tracks p k (es ++ e ∷ []) ts × All (IsStanding k es e) ts
+IsJudged p k es e ts (Some verdict) = HasTrouble p es e verdict
 
 -- the key has a run over the entries and one more, is not too wide, and its transaction leads on
-pub record GoesOn {K T : Type 0} (m : Machines K) (k : Keeping K T) (es : List (Observation K)) (e : Observation K) (t : T) : Type 0 where
-  pub runs : HasRun m (k.key t) (es ++ e ∷ [])
-  pub narrow : ¬ IsTooWide m es e (k.key t)
-  pub ready : IsReady m k (es ++ e ∷ []) t
-  pub stands : IsStanding m k es e t
+pub record GoesOn {T : Type 0} (p : Times) (k : Keeping T) (es : List (Observation KeyParts)) (e : Observation KeyParts) (t : T) : Type 0 where
+  pub runs : RunsOver p (es ++ e ∷ []) (k.key t)
+  pub narrow : ¬ IsWideAt p es e (k.key t)
+  pub ready : IsReady k (es ++ e ∷ []) t
+  pub stands : IsStanding k es e t
 
 -- what one more entry leaves of the runs of one transaction
-abbrev pub IsPassed : {K T : Type 0} → Machines K → Keeping K T → List (Observation K) → Observation K → T → Fate → Type 0
-IsPassed m k es e t Runs = GoesOn m k es e t
-IsPassed m k es e t NoRun = ¬ HasRun m (k.key t) (es ++ e ∷ [])
-IsPassed m k es e t TooWide = HasRun m (k.key t) (es ++ e ∷ []) × IsTooWide m es e (k.key t)
+abbrev pub IsPassed : {T : Type 0} → Times → Keeping T → List (Observation KeyParts) → Observation KeyParts → T → Fate → Type 0
+IsPassed p k es e t Runs = GoesOn p k es e t
+IsPassed p k es e t NoRun = ¬ RunsOver p (es ++ e ∷ []) (k.key t)
+IsPassed p k es e t TooWide = RunsOver p (es ++ e ∷ []) (k.key t) × IsWideAt p es e (k.key t)
 
 -- what it leaves of those of all, with the number of the first transaction in trouble
-abbrev pub IsOutcome : {K T : Type 0} → Machines K → Keeping K T → List (Observation K) → Observation K → List T → Outcome → Type 0
-IsOutcome m k es e ts all.Fine = All (GoesOn m k es e) ts
-IsOutcome m k es e ts (all.NoRun number) = IsFirst (λ key. ¬ HasRun m key (es ++ e ∷ [])) (map k.key ts) number
-IsOutcome m k es e ts (all.TooWide number) =
-    All (λ key. HasRun m key (es ++ e ∷ [])) (map k.key ts) × IsFirst (IsTooWide m es e) (map k.key ts) number
+abbrev pub IsOutcome : {T : Type 0} → Times → Keeping T → List (Observation KeyParts) → Observation KeyParts → List T → Outcome → Type 0
+IsOutcome p k es e ts all.Fine = All (GoesOn p k es e) ts
+IsOutcome p k es e ts (all.NoRun number) = IsFirstKey (λ key. ¬ RunsOver p (es ++ e ∷ []) key) (map k.key ts) number
+IsOutcome p k es e ts (all.TooWide number) =
+    All (RunsOver p (es ++ e ∷ [])) (map k.key ts) × IsFirstKey (IsWideAt p es e) (map k.key ts) number
 
 -- the outcome of one transaction
 abbrev pub outcome_of : ℕ → Fate → Outcome
@@ -84,6 +88,6 @@ first_of (all.TooWide i) (all.NoRun k) = all.NoRun k
 first_of (all.TooWide i) (all.TooWide k) = all.TooWide (min i k)
 
 -- one of the transactions has the key, or this one comes last, which has it
-abbrev pub IsTouched : {K T : Type 0} → Keeping K T → T → List T → List T → Type 0
+abbrev pub IsTouched : {T : Type 0} → Keeping T → T → List T → List T → Type 0
 IsTouched k fresh old new =
     ((new ≡ old) × Contains (map k.key old) (k.key fresh)) ⊎ (¬ Contains (map k.key old) (k.key fresh) × (new ≡ old ++ fresh ∷ []))

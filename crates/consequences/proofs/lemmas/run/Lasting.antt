@@ -7,7 +7,7 @@ use Rattle.sip_standard.specs.Figure.{Figure, Owing, Lasts}
 use Rattle.sip_machine.specs.FigureRules.{IsFigure, closes_of, closes_at}
 use Rattle.sip_machine.specs.inner.OwesLaws.{IsWithin-owed}
 use Rattle.sip_standard.specs.KeyMachine.{MachineKind, transaction_of}
-use Rattle.sip_states.specs.KeySets.{coded_holds}
+use Rattle.sip_states.proofs.keyed.KeySetLaws.{coded_holds}
 use Rattle.sip_standard.specs.Stands.{Stands}
 use Rattle.sip_states.proofs.runs.StandsLemmas.{stands-runs}
 use Rattle.consequences.proofs.lemmas.run.Lists.{All-front, All-back}

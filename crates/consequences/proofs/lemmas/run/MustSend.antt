@@ -27,7 +27,7 @@ module _ (debt : Owed) (must : debt.must ≡ true) where
   pub more-owed : (owes more : List Owed) → Contains owes debt → Contains (owes ++ more) debt
   more-owed owes more owed = Contains-append_left owes more debt owed
 
-  -- and its transaction neither ends nor lasts past its deadline
+  -- while the debt is there its transaction does not end
   pub no-end : {X : Type 0} (f : Figure X) (p : Times) (x : Owing X) (h : ℕ) → Contains x.owes debt → ¬ (MayEnd f p x h)
   no-end f p x h owed may = true-false (sym (list_any-from_Any (λ o. o.must) x.owes (owed.0, debt, owed.1, owed.2, must)) ∙ may.1)
     where

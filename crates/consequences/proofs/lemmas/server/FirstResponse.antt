@@ -52,6 +52,7 @@ module _ {X : Type 0} (f : Figure X) (p : Times) (held : InviteServerPhase → X
       other : ¬ (Completed r final s repeat interval ≡ Proceeding reliable set None)
       other same = cc
 
+  -- what it sends within 200 ms is a response in time
   sends : (reliable : Bool) (es : List MachineEvent) (e : MachineEvent) (y : Owing X) → e.moment ≤ close_at p invite.moment 200 → (e.action ≡ Sent) ⊎ (e.action ≡ Failed)
       → Emits f p e (quiet (held (Proceeding reliable invite.moment None))) y → Any (InTime (SendsResponse IsAnyCode)) (es ++ e ∷ [])
   sends reliable es e y low out (inl (row, is_row, to)) = by (is.sent (Proceeding reliable invite.moment None) e.kind e row is_row)

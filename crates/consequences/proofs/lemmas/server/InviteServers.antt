@@ -19,7 +19,7 @@ pub record IsServer {X : Type 0} (f : Figure X) (p : Times) (held : InviteServer
   pub idle : f.idle ≡ held Idle
   pub ended : f.ended ≡ held Idle
   pub received : (x : InviteServerPhase) (k : Kind) (e : MachineEvent) (y : X × Change) → f.Receives p (held x) k e y → (row : Row) × corrected.Receives p x k e row × (y ≡ (held row.0, row.1))
-  -- but for a 2xx in proceeding
+  -- a row of a sent message is one of the corrected machine, or it is of a 2xx in proceeding
   pub sent : (x : InviteServerPhase) (k : Kind) (e : MachineEvent) (y : X × Change) → f.Sends p (held x) k e y → ((row : Row) × corrected.Sends p x k e row × (y ≡ (held row.0, row.1)))
       ⊎ ((reliable : Bool) × (set : ℕ) × (last : Option (List ℕ)) × (x ≡ Proceeding reliable set last) × ((code : ℕ) × (k ≡ Response code) × IsSuccess code))
   pub paid : (x : InviteServerPhase) (k : Kind) (e : MachineEvent) (message : List ℕ) → f.Satisfies (held x) k e message → message ≡ e.text

@@ -23,7 +23,7 @@ use Rattle.consequences.specs.Tolerance.{AreOneKind}
 abbrev HasItsKind : MachineEvent → Type 0
 HasItsKind a = ((a.text ≡ []) × (a.kind ≡ Request Other)) ⊎ ((s : Said) × Says a.text (gives s) × (a.kind ≡ kind_of s.start) × (1 ≤ length a.text))
 
--- so it is with an entry that concerns a key
+-- the event of an entry that concerns a key has the kind that its bytes say
 abbrev IsKnown : Observation KeyParts → Type 0
 IsKnown e = (e.keys ≡ []) ⊎ HasItsKind e.event
 

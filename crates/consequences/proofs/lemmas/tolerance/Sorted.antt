@@ -208,7 +208,7 @@ module _ (p : Times) where
   sorted-sent (server.Completed reliable final set repeat interval) (Response code) e row owes sorted h = rw h.1 sorted
   sorted-sent x k e row owes sorted h = absurd h
 
-  -- so it is told by its bytes
+  -- whether a debt must be sent is told by the bytes of its message
   told : (x : server.InviteServerPhase) (owes : List Owed) → AreSorted x owes → All (λ o. (o.must ≡ true → ¬ (MayIn x o.message)) × (o.must ≡ false → MayIn x o.message)) owes
   told server.Idle owes sorted = rw sorted (All-nil (λ o. (o.must ≡ true → ¬ (Unit {0})) × (o.must ≡ false → Unit {0})))
   told (server.Proceeding reliable set last) owes sorted = sorted

@@ -88,7 +88,7 @@ later-due t _ _ (extra n os ns may rest) due = All-cons (λ o. o.must ≡ true �
     true-false : ¬ (true ≡ false)
     true-false same = cc
 
--- and there is some as there was
+-- something must be sent by the one tolerance exactly where something must by the other
 later-must : (os ns : List Owed) → Later os ns → list_any (λ o. o.must) ns ≡ list_any (λ o. o.must) os
 later-must _ _ nothing = refl
 later-must _ _ (both o n os ns message must deadline rest) = rw (must, later-must os ns rest) refl

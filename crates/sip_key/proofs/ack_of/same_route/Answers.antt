@@ -1,6 +1,6 @@
 use Rattle.std.proofs.Common.{◌∙◌, ap, sym}
 use Rattle.std.specs.List.{join_with_byte}
-use Rattle.sip_message.specs.Params.{comma}
+use Rattle.sip_message.specs.inner.Marks.{comma}
 use Rattle.sip_standard.specs.Solid.{solid}
 use Rattle.sip_key.proofs.SolidLemmas.{same-items}
 use Rattle.sip_key.proofs.ack_of.same_route.Goals as goal

@@ -11,7 +11,7 @@ use Rattle.sip_key.proofs.concern.key_of.Goals as goal
 pub key_with-requires : goal.key_with-requires
 key_with-requires c =
     let P : Element → Type 0 = λ e. IfSome e.1.port Port in
-    subst P (sym c.top_via-via.ensures) (top-port _ _ c.known.ensures.parts.is)
+    subst P (sym c.top_via-via.ensures) (top-port _ _ c.known.ensures.1.parts.is)
 
 pub returns : goal.returns
 returns c =

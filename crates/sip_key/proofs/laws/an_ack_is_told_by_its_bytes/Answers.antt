@@ -1,5 +1,5 @@
-use Rattle.sip_key.proofs.AckOfLemmas.{ack-of_bytes}
+use Rattle.sip_key.proofs.AckOfLemmas.{ack-of_says}
 use Rattle.sip_key.proofs.laws.an_ack_is_told_by_its_bytes.Goals as goal
 
 pub returns : goal.returns
-returns c = ack-of_bytes
+returns c = ack-of_says

@@ -1,4 +1,4 @@
-use Rattle.sip_ledger.proofs.BitsLemmas.{has-without_same, has-without_other}
+use Rattle.sip_ledger.proofs.masks.BitsLemmas.{has-without_same, has-without_other}
 use Rattle.sip_ledger.proofs.bits.clear.Goals as goal
 
 pub returns-clause-same : goal.returns-clause-same

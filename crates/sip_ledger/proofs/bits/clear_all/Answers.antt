@@ -1,6 +1,6 @@
 use Rattle.std.proofs.Common.{◌/◌, length, inl, inr, arith}
 use Rattle.std.proofs.lemmas.Bool.{cases_lt}
-use Rattle.sip_ledger.proofs.BitsLemmas.{has-past, has-zero_word}
+use Rattle.sip_ledger.proofs.masks.BitsLemmas.{has-past, has-zero_word}
 use Rattle.sip_ledger.proofs.bits.clear_all.Goals as goal
 
 pub returns : goal.returns

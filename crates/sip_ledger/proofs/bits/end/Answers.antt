@@ -1,7 +1,7 @@
 use Rattle.std.proofs.Common.{◌≡◌, ◌*◌, ◌<◌, ◌+◌, ◌-◌, get_or, sym, ap, ◌∙◌, inl, inr, arith}
 use Rattle.std.proofs.lemmas.Bool.{cases_lt}
 use Rattle.sip_ledger.specs.Bits.{has}
-use Rattle.sip_ledger.proofs.BitsLemmas.{test-of, top-set, top-above, has-past, has-zero_word}
+use Rattle.sip_ledger.proofs.masks.BitsLemmas.{test-of, top-set, top-above, has-past, has-zero_word}
 use Rattle.sip_ledger.proofs.bits.end.Goals as goal
 
 pub loop-count-init : goal.loop-count-init

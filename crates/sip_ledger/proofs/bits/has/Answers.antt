@@ -1,6 +1,6 @@
 use Rattle.std.proofs.Common.{◌/◌, ◌%◌, get_or, length, sym, ◌∙◌, arith}
 use Rattle.std.proofs.lemmas.Bool.{le-ltb}
-use Rattle.sip_ledger.proofs.BitsLemmas.{test-code, has-is, has-past}
+use Rattle.sip_ledger.proofs.masks.BitsLemmas.{test-code, has-is, has-past}
 use Rattle.sip_ledger.proofs.bits.has.Goals as goal
 
 pub returns-then-word-words : goal.returns-then-word-words

@@ -1,7 +1,7 @@
 use Rattle.std.proofs.Common.{◌≡◌, ◌/◌, ◌%◌, ◌^◌, get_or, inl, inr, arith}
 use Rattle.std.proofs.lemmas.Bool.{cases_lt}
 use Rattle.std.proofs.lemmas.Nat.{shr_le}
-use Rattle.sip_ledger.proofs.BitsLemmas.{next-here, has-rest_none, has-past}
+use Rattle.sip_ledger.proofs.masks.BitsLemmas.{next-here, has-rest_none, has-past}
 use Rattle.sip_ledger.proofs.bits.next.Goals as goal
 
 pub returns-then-rest-ne0-clause-found : goal.returns-then-rest-ne0-clause-found

@@ -1,4 +1,4 @@
-use Rattle.sip_ledger.proofs.BitsLemmas.{has-with_same, has-with_other}
+use Rattle.sip_ledger.proofs.masks.BitsLemmas.{has-with_same, has-with_other}
 use Rattle.sip_ledger.proofs.bits.set.Goals as goal
 
 pub returns-clause-same : goal.returns-clause-same

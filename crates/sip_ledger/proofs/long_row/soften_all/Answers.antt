@@ -1,4 +1,4 @@
-use Rattle.sip_ledger.proofs.LongLemmas.{soft-all}
+use Rattle.sip_ledger.proofs.debts.LongLemmas.{soft-all}
 use Rattle.sip_ledger.proofs.long_row.soften_all.Goals as goal
 
 pub returns-clause-debts : goal.returns-clause-debts

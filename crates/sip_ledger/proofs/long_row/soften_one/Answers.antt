@@ -1,7 +1,7 @@
 use Rattle.std.proofs.Common.{sym, ap, ◌∙◌}
 use Rattle.sip_ledger.specs.Debts.{softened_debt}
 use Rattle.sip_ledger.specs.inner.Longs.{softened_all}
-use Rattle.sip_ledger.proofs.LongLemmas.{soften-set}
+use Rattle.sip_ledger.proofs.debts.LongLemmas.{soften-set}
 use Rattle.sip_ledger.proofs.long_row.soften_one.Goals as goal
 
 pub returns-in-Some-clause-all : goal.returns-in-Some-clause-all

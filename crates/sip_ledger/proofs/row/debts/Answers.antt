@@ -1,7 +1,7 @@
 use Rattle.std.proofs.Common.{◌≡◌, ◌∷◌, [], ◌++◌, get_or, sym, ap, ◌∙◌, arith, append-nil}
 use Rattle.sip_ledger.specs.Bits.{has}
 use Rattle.sip_ledger.specs.Rows.{debts_from, debt_of}
-use Rattle.sip_ledger.proofs.ListedLemmas.{no_entry, front, front-next, parts, back-none}
+use Rattle.sip_ledger.proofs.debts.ListedLemmas.{no_entry, front, front-next, parts, back-none}
 use Rattle.sip_ledger.proofs.row.debts.Goals as goal
 
 pub loop-at-preserved : goal.loop-at-preserved

@@ -5,7 +5,7 @@ use Rattle.sip_ledger.specs.declared.debt.Debt.{Debt}
 use Rattle.sip_ledger.specs.Bits.{has}
 use Rattle.sip_ledger.specs.Debts.{earliest}
 use Rattle.sip_ledger.specs.Rows.{debts_from, debt_of}
-use Rattle.sip_ledger.proofs.ListedLemmas.{no_entry, front, front-next, parts, back-none, listed-must, earliest-push}
+use Rattle.sip_ledger.proofs.debts.ListedLemmas.{no_entry, front, front-next, parts, back-none, listed-must, earliest-push}
 use Rattle.sip_ledger.proofs.row.earliest_must.Goals as goal
 
 pub loop-at-preserved : goal.loop-at-preserved

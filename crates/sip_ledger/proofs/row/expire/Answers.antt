@@ -1,6 +1,6 @@
 use Rattle.std.proofs.Common.{◌∙◌}
 use Rattle.sip_ledger.specs.Bits.{has}
-use Rattle.sip_ledger.proofs.RowLemmas.{expired-open, expired-debts}
+use Rattle.sip_ledger.proofs.grids.RowLemmas.{expired-open, expired-debts}
 use Rattle.sip_ledger.proofs.row.expire.Goals as goal
 
 pub settle-requires-clause-given : goal.settle-requires-clause-given

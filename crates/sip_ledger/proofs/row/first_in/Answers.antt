@@ -1,6 +1,6 @@
 use Rattle.std.proofs.Common.{arith}
 use Rattle.std.proofs.lemmas.Nat.{and_le_l}
-use Rattle.sip_ledger.proofs.WordLemmas.{first-in, none-in}
+use Rattle.sip_ledger.proofs.masks.WordLemmas.{first-in, none-in}
 use Rattle.sip_ledger.proofs.row.first_in.Goals as goal
 
 pub returns-clause-found : goal.returns-clause-found

@@ -6,7 +6,7 @@ use Rattle.sip_ledger.specs.declared.debt.Debt.{Debt}
 use Rattle.sip_ledger.specs.declared.debt.Entry.{Entry}
 use Rattle.sip_ledger.specs.Bits.{has}
 use Rattle.sip_ledger.specs.Debts.{earliest}
-use Rattle.sip_ledger.proofs.ListedLemmas.{no_entry, back, back-over, back-set, back-none, listed-All, listed-must, earliest-first}
+use Rattle.sip_ledger.proofs.debts.ListedLemmas.{no_entry, back, back-over, back-set, back-none, listed-All, listed-must, earliest-first}
 use Rattle.sip_ledger.proofs.row.first_must.Goals as goal
 
 pub returns-in-Some : goal.returns-in-Some

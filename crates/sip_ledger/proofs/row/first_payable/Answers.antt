@@ -5,8 +5,8 @@ use Rattle.sip_ledger.specs.declared.debt.Entry.{Entry}
 use Rattle.sip_ledger.specs.Bits.{has}
 use Rattle.sip_ledger.specs.Debts.{is_any_payable}
 use Rattle.sip_ledger.specs.Rows.{debt_of}
-use Rattle.sip_ledger.proofs.ListedLemmas.{no_entry}
-use Rattle.sip_ledger.proofs.RowLemmas.{before-next}
+use Rattle.sip_ledger.proofs.debts.ListedLemmas.{no_entry}
+use Rattle.sip_ledger.proofs.grids.RowLemmas.{before-next}
 use Rattle.sip_ledger.proofs.row.first_payable.Goals as goal
 
 pub returns-then-is_paid-clause-found : goal.returns-then-is_paid-clause-found

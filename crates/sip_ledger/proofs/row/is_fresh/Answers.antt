@@ -3,8 +3,8 @@ use Rattle.std.proofs.lemmas.Bool.{OnTrue_from, leb-true}
 use Rattle.std.proofs.lemmas.List.{get_or_default}
 use Rattle.sip_ledger.specs.declared.debt.Entry.{Entry}
 use Rattle.sip_ledger.specs.Bits.{has}
-use Rattle.sip_ledger.proofs.ListedLemmas.{no_entry}
-use Rattle.sip_ledger.proofs.WordLemmas.{fresh-first}
+use Rattle.sip_ledger.proofs.debts.ListedLemmas.{no_entry}
+use Rattle.sip_ledger.proofs.masks.WordLemmas.{fresh-first}
 use Rattle.sip_ledger.proofs.row.is_fresh.Goals as goal
 
 pub returns-in-Some : goal.returns-in-Some

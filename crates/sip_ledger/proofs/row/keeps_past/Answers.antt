@@ -1,6 +1,6 @@
 use Rattle.std.proofs.Common.{arith}
 use Rattle.std.proofs.lemmas.Bool.{OnTrue_from, eqb-true}
-use Rattle.sip_ledger.proofs.WordLemmas.{fresh-word}
+use Rattle.sip_ledger.proofs.masks.WordLemmas.{fresh-word}
 use Rattle.sip_ledger.proofs.row.keeps_past.Goals as goal
 
 pub returns : goal.returns

@@ -3,7 +3,7 @@ use Rattle.std.proofs.lemmas.List.{append_assoc, map-append}
 use Rattle.sip_ledger.specs.declared.debt.Debt.{Debt}
 use Rattle.sip_ledger.specs.Bits.{has}
 use Rattle.sip_ledger.specs.Rows.{debts_from, debt_of}
-use Rattle.sip_ledger.proofs.ListedLemmas.{no_entry, front, front-next, parts, back-none, listed-messages}
+use Rattle.sip_ledger.proofs.debts.ListedLemmas.{no_entry, front, front-next, parts, back-none, listed-messages}
 use Rattle.sip_ledger.proofs.row.names.Goals as goal
 
 pub loop-at-preserved : goal.loop-at-preserved

@@ -1,5 +1,5 @@
 use Rattle.std.proofs.lemmas.Bool.{eqb-true, eq-eqb}
-use Rattle.sip_ledger.proofs.RowLemmas.{owes-nothing}
+use Rattle.sip_ledger.proofs.grids.RowLemmas.{owes-nothing}
 use Rattle.sip_ledger.proofs.row.owes_nothing.Goals as goal
 
 pub returns : goal.returns

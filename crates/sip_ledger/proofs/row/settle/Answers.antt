@@ -2,7 +2,7 @@ use Rattle.std.proofs.Common.{◌≡◌, ℕ, ◌+◌, List, max, sym, subst, �
 use Rattle.sip_ledger.specs.Bits.{has}
 use Rattle.sip_ledger.specs.Rows.{row_debts}
 use Rattle.sip_ledger.specs.inner.Places.{IsOpenRow}
-use Rattle.sip_ledger.proofs.RowLemmas.{stays-open, moved-open, moved-debts}
+use Rattle.sip_ledger.proofs.grids.RowLemmas.{stays-open, moved-open, moved-debts}
 use Rattle.sip_ledger.proofs.row.settle.Goals as goal
 use Rattle.sip_ledger.proofs.row.settle.Goals.{then-to-at, else-to-at}
 

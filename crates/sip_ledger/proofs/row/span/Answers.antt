@@ -3,8 +3,8 @@ use Rattle.sip_ledger.specs.declared.debt.Debt.{Debt}
 use Rattle.sip_ledger.specs.Bits.{has}
 use Rattle.sip_ledger.specs.Debts.{IsSpan}
 use Rattle.sip_ledger.specs.Rows.{row_debts, debts_from, debt_of}
-use Rattle.sip_ledger.proofs.ListedLemmas.{no_entry, front, front-next, parts, back-none, listed-none, listed-messages}
-use Rattle.sip_ledger.proofs.SpanLemmas.{if-none, span-one, span-more, span-messages}
+use Rattle.sip_ledger.proofs.debts.ListedLemmas.{no_entry, front, front-next, parts, back-none, listed-none, listed-messages}
+use Rattle.sip_ledger.proofs.debts.SpanLemmas.{if-none, span-one, span-more, span-messages}
 use Rattle.sip_ledger.proofs.row.span.Goals as goal
 
 pub returns-in_err-first-clause-none : goal.returns-in_err-first-clause-none

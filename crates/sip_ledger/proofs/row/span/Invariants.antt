@@ -1,7 +1,7 @@
 use Rattle.std.proofs.Common.{◌-◌, ◌≤◌, length}
 use Rattle.sip_ledger.specs.Bits.{has}
 use Rattle.sip_ledger.specs.Debts.{IsSpan}
-use Rattle.sip_ledger.proofs.ListedLemmas.{front}
+use Rattle.sip_ledger.proofs.debts.ListedLemmas.{front}
 use Rattle.sip_ledger.proofs.row.span.Given as goal
 
 abbrev pub invariant-loop-at : goal.invariant-loop-at

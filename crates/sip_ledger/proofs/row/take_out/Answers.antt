@@ -2,8 +2,8 @@ use Rattle.std.proofs.Common.{sym, ◌∙◌}
 use Rattle.std.specs.Prelude.{IsTrue}
 use Rattle.std.proofs.lemmas.Bool.{true≢false}
 use Rattle.sip_ledger.specs.Bits.{has}
-use Rattle.sip_ledger.proofs.ListedLemmas.{no_entry}
-use Rattle.sip_ledger.proofs.RowLemmas.{removed}
+use Rattle.sip_ledger.proofs.debts.ListedLemmas.{no_entry}
+use Rattle.sip_ledger.proofs.grids.RowLemmas.{removed}
 use Rattle.sip_ledger.proofs.row.take_out.Goals as goal
 
 pub returns-clause-taken : goal.returns-clause-taken

@@ -1,6 +1,6 @@
 use Rattle.std.proofs.Common.{◌≡◌, ◌∙◌, sym, length, arith, true≢false}
 use Rattle.sip_ledger.specs.inner.Ends.{EndsWith}
-use Rattle.sip_ledger.proofs.RunLemmas.{widened-run, pushed-run}
+use Rattle.sip_ledger.proofs.debts.RunLemmas.{widened-run, pushed-run}
 use Rattle.sip_ledger.proofs.run.append.Goals as goal
 
 pub returns-then-ends_with : goal.returns-then-ends_with

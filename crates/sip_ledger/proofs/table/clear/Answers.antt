@@ -1,6 +1,6 @@
 use Rattle.std.proofs.Common.{◌≡◌, false, subst, sym, ◌∙◌}
 use Rattle.sip_ledger.specs.Bits.{has}
-use Rattle.sip_ledger.proofs.TableLemmas.{length-span, written-part, written-changes}
+use Rattle.sip_ledger.proofs.grids.TableLemmas.{length-span, written-part, written-changes}
 use Rattle.sip_ledger.proofs.table.clear.Goals as goal
 
 pub returns-clause-changes : goal.returns-clause-changes

@@ -1,5 +1,5 @@
-use Rattle.sip_ledger.proofs.TableLemmas.{pasted-changes}
-use Rattle.sip_ledger.proofs.WordsLemmas.{pasted-row}
+use Rattle.sip_ledger.proofs.grids.TableLemmas.{pasted-changes}
+use Rattle.sip_ledger.proofs.grids.WordsLemmas.{pasted-row}
 use Rattle.sip_ledger.proofs.table.copy.Goals as goal
 
 pub returns-clause-changes : goal.returns-clause-changes

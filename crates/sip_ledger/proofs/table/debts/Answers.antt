@@ -3,7 +3,7 @@ use Rattle.std.specs.Prelude.{IfOk}
 use Rattle.sip_ledger.specs.Bits.{has}
 use Rattle.sip_ledger.specs.Rows.{row_debts}
 use Rattle.sip_ledger.specs.Grids.{part}
-use Rattle.sip_ledger.proofs.TableLemmas.{span, span-is}
+use Rattle.sip_ledger.proofs.grids.TableLemmas.{span, span-is}
 use Rattle.sip_ledger.proofs.table.debts.Goals as goal
 
 pub debts-requires-clause-within : goal.debts-requires-clause-within

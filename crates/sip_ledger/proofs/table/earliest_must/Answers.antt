@@ -3,7 +3,7 @@ use Rattle.sip_ledger.specs.Bits.{has}
 use Rattle.sip_ledger.specs.Debts.{debt_deadlines, earliest}
 use Rattle.sip_ledger.specs.Rows.{IsRow, row_debts}
 use Rattle.sip_ledger.specs.Grids.{part}
-use Rattle.sip_ledger.proofs.TableLemmas.{span-is}
+use Rattle.sip_ledger.proofs.grids.TableLemmas.{span-is}
 use Rattle.sip_ledger.proofs.table.earliest_must.Goals as goal
 
 pub earliest_must-requires-clause-within : goal.earliest_must-requires-clause-within

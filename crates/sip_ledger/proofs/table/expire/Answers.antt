@@ -3,7 +3,7 @@ use Rattle.sip_ledger.specs.Bits.{has}
 use Rattle.sip_ledger.specs.Debts.{counts_at}
 use Rattle.sip_ledger.specs.Rows.{IsRow, row_debts}
 use Rattle.sip_ledger.specs.Grids.{part}
-use Rattle.sip_ledger.proofs.TableLemmas.{span, span-is, length-span, in-place, table-changes}
+use Rattle.sip_ledger.proofs.grids.TableLemmas.{span, span-is, length-span, in-place, table-changes}
 use Rattle.sip_ledger.proofs.table.expire.Goals as goal
 
 pub expire-requires-clause-row : goal.expire-requires-clause-row

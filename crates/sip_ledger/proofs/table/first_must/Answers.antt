@@ -3,8 +3,8 @@ use Rattle.sip_ledger.specs.Bits.{has}
 use Rattle.sip_ledger.specs.Debts.{debt_deadlines, earliest}
 use Rattle.sip_ledger.specs.Rows.{IsRow, row_debts}
 use Rattle.sip_ledger.specs.Grids.{part}
-use Rattle.sip_ledger.proofs.TableLemmas.{span-is}
-use Rattle.sip_ledger.proofs.WordLemmas.{own-word}
+use Rattle.sip_ledger.proofs.grids.TableLemmas.{span-is}
+use Rattle.sip_ledger.proofs.masks.WordLemmas.{own-word}
 use Rattle.sip_ledger.proofs.table.first_must.Goals as goal
 
 pub first_must-requires-clause-within : goal.first_must-requires-clause-within

@@ -3,7 +3,7 @@ use Rattle.std.specs.Prelude.{IfSome, IfNone}
 use Rattle.sip_ledger.specs.Bits.{has}
 use Rattle.sip_ledger.specs.Debts.{is_any_payable}
 use Rattle.sip_ledger.specs.inner.Places.{IsFirst, NonePasses}
-use Rattle.sip_ledger.proofs.TableLemmas.{span-is}
+use Rattle.sip_ledger.proofs.grids.TableLemmas.{span-is}
 use Rattle.sip_ledger.proofs.table.first_payable.Goals as goal
 
 pub first_payable-requires-clause-within : goal.first_payable-requires-clause-within

@@ -3,8 +3,8 @@ use Rattle.sip_ledger.specs.Bits.{has}
 use Rattle.sip_ledger.specs.Rows.{debt_of, row_debts, IsRow}
 use Rattle.sip_ledger.specs.Grids.{part}
 use Rattle.sip_ledger.specs.inner.Places.{IsGainedAt}
-use Rattle.sip_ledger.proofs.RowLemmas.{gains}
-use Rattle.sip_ledger.proofs.TableLemmas.{span, span-is, length-span, in-place, table-changes}
+use Rattle.sip_ledger.proofs.grids.RowLemmas.{gains}
+use Rattle.sip_ledger.proofs.grids.TableLemmas.{span, span-is, length-span, in-place, table-changes}
 use Rattle.sip_ledger.proofs.table.gain.Goals as goal
 
 pub owe-requires-clause-free : goal.owe-requires-clause-free

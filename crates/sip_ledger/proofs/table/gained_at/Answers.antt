@@ -1,7 +1,7 @@
 use Rattle.std.proofs.Common.{◌≡◌, ℕ, ◌<◌, true, length, subst, sym}
 use Rattle.sip_ledger.specs.Bits.{has}
 use Rattle.sip_ledger.specs.inner.Places.{IsGainedAt}
-use Rattle.sip_ledger.proofs.TableLemmas.{span-is}
+use Rattle.sip_ledger.proofs.grids.TableLemmas.{span-is}
 use Rattle.sip_ledger.proofs.table.gained_at.Goals as goal
 
 pub gained_at-requires-clause-within : goal.gained_at-requires-clause-within

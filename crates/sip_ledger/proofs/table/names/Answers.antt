@@ -4,7 +4,7 @@ use Rattle.sip_ledger.specs.declared.debt.Debt.{Debt}
 use Rattle.sip_ledger.specs.Bits.{has}
 use Rattle.sip_ledger.specs.Rows.{row_debts}
 use Rattle.sip_ledger.specs.Grids.{part}
-use Rattle.sip_ledger.proofs.TableLemmas.{span-is}
+use Rattle.sip_ledger.proofs.grids.TableLemmas.{span-is}
 use Rattle.sip_ledger.proofs.table.names.Goals as goal
 
 pub names-requires-clause-within : goal.names-requires-clause-within

@@ -3,7 +3,7 @@ use Rattle.std.specs.Prelude.{IsTrue, ◌↔◌}
 use Rattle.sip_ledger.specs.Bits.{has}
 use Rattle.sip_ledger.specs.Rows.{row_debts, IsRow}
 use Rattle.sip_ledger.specs.Grids.{part}
-use Rattle.sip_ledger.proofs.TableLemmas.{span-is}
+use Rattle.sip_ledger.proofs.grids.TableLemmas.{span-is}
 use Rattle.sip_ledger.proofs.table.owes_nothing.Goals as goal
 
 pub returns : goal.returns

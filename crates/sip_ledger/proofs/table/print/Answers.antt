@@ -1,7 +1,7 @@
 use Rattle.std.proofs.Common.{ap, ◌∙◌}
 use Rattle.std.specs.List.{fold}
 use Rattle.sip_ledger.specs.Prints.{mixed}
-use Rattle.sip_ledger.proofs.TableLemmas.{span-is}
+use Rattle.sip_ledger.proofs.grids.TableLemmas.{span-is}
 use Rattle.sip_ledger.proofs.table.print.Goals as goal
 
 pub returns-clause-print : goal.returns-clause-print

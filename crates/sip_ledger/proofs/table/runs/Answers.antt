@@ -4,7 +4,7 @@ use Rattle.sip_ledger.specs.Bits.{has}
 use Rattle.sip_ledger.specs.Rows.{row_debts}
 use Rattle.sip_ledger.specs.Runs.{AreRuns}
 use Rattle.sip_ledger.specs.Grids.{part}
-use Rattle.sip_ledger.proofs.TableLemmas.{span, span-is}
+use Rattle.sip_ledger.proofs.grids.TableLemmas.{span, span-is}
 use Rattle.sip_ledger.proofs.table.runs.Goals as goal
 
 pub runs-requires-clause-within : goal.runs-requires-clause-within

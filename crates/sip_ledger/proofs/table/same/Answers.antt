@@ -1,7 +1,7 @@
 use Rattle.std.specs.Prelude.{◌≡◌, ◌∷◌, [], get_or}
 use Rattle.std.proofs.Common.{◌∙◌, ap, sym, arith}
 use Rattle.std.proofs.lemmas.Bool.Decides.{nat_tests}
-use Rattle.sip_ledger.proofs.WordLemmas.{own-word}
+use Rattle.sip_ledger.proofs.masks.WordLemmas.{own-word}
 use Rattle.sip_ledger.proofs.table.same.Goals as goal
 
 pub returns-then-width-eq1-clause-same : goal.returns-then-width-eq1-clause-same

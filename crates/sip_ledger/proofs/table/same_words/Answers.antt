@@ -3,7 +3,7 @@ use Rattle.std.specs.Prelude.{IsTrue, ◌↔◌}
 use Rattle.std.proofs.lemmas.Bool.Decides.{Decides-eqb}
 use Rattle.std.proofs.lemmas.Slice.Eq.{slice_eq-Decides}
 use Rattle.sip_ledger.specs.Grids.{part}
-use Rattle.sip_ledger.proofs.TableLemmas.{span, span-is}
+use Rattle.sip_ledger.proofs.grids.TableLemmas.{span, span-is}
 use Rattle.sip_ledger.proofs.table.same_words.Goals as goal
 
 pub returns : goal.returns

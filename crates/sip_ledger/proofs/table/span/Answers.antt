@@ -4,8 +4,8 @@ use Rattle.sip_ledger.specs.Bits.{has}
 use Rattle.sip_ledger.specs.Debts.{IsSpan}
 use Rattle.sip_ledger.specs.Rows.{row_debts}
 use Rattle.sip_ledger.specs.Grids.{part}
-use Rattle.sip_ledger.proofs.TableLemmas.{span-is}
-use Rattle.sip_ledger.proofs.SpanLemmas.{some-at, none-at}
+use Rattle.sip_ledger.proofs.grids.TableLemmas.{span-is}
+use Rattle.sip_ledger.proofs.debts.SpanLemmas.{some-at, none-at}
 use Rattle.sip_ledger.proofs.table.span.Goals as goal
 
 pub span-requires-clause-within : goal.span-requires-clause-within

@@ -5,7 +5,7 @@ use Rattle.sip_ledger.specs.Debts.{IsWithoutFirst}
 use Rattle.sip_ledger.specs.Rows.{IsRow, row_debts}
 use Rattle.sip_ledger.specs.Grids.{part}
 use Rattle.sip_ledger.specs.inner.Places.{IsBit, IsFirst}
-use Rattle.sip_ledger.proofs.TableLemmas.{span, span-is, length-span, in-place, table-changes}
+use Rattle.sip_ledger.proofs.grids.TableLemmas.{span, span-is, length-span, in-place, table-changes}
 use Rattle.sip_ledger.proofs.table.take_out.Goals as goal
 
 pub take_out-requires-clause-row : goal.take_out-requires-clause-row

@@ -1,6 +1,6 @@
 use Rattle.std.proofs.Common.{◌-◌, take, ◌∙◌, ap}
 use Rattle.std.specs.List.{copy_within}
-use Rattle.sip_ledger.proofs.WordsLemmas.{dropped-first}
+use Rattle.sip_ledger.proofs.grids.WordsLemmas.{dropped-first}
 use Rattle.sip_ledger.proofs.words.drop_first.Goals as goal
 
 pub returns : goal.returns

@@ -1,5 +1,5 @@
 use Rattle.std.proofs.Common.{◌≡◌, subst, arith}
-use Rattle.sip_ledger.proofs.WordsLemmas.{IsNarrowing, narrowing-none, narrowing-more, narrowed}
+use Rattle.sip_ledger.proofs.grids.WordsLemmas.{IsNarrowing, narrowing-none, narrowing-more, narrowed}
 use Rattle.sip_ledger.proofs.words.narrow.Goals as goal
 
 pub loop-row-init : goal.loop-row-init

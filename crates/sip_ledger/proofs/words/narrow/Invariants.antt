@@ -1,4 +1,4 @@
-use Rattle.sip_ledger.proofs.WordsLemmas.{IsNarrowing}
+use Rattle.sip_ledger.proofs.grids.WordsLemmas.{IsNarrowing}
 use Rattle.sip_ledger.proofs.words.narrow.Given as goal
 
 abbrev pub invariant-loop-row : goal.invariant-loop-row

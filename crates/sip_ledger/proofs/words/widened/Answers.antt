@@ -1,4 +1,4 @@
-use Rattle.sip_ledger.proofs.TableLemmas.{span-is, widened-more}
+use Rattle.sip_ledger.proofs.grids.TableLemmas.{span-is, widened-more}
 use Rattle.sip_ledger.proofs.words.widened.Goals as goal
 
 pub loop-row-preserved : goal.loop-row-preserved

@@ -1,5 +1,5 @@
 use Rattle.std.proofs.Common.{◌≡◌, ◌++◌, take, flat_map, replicate, string_bytes}
-use Rattle.sip_listing.specs.inner.FieldLaws.{debts_fields}
+use Rattle.sip_listing.specs.inner.FieldWords.{debts_fields}
 use Rattle.sip_listing.proofs.fields.push_owes.Given as goal
 
 abbrev pub invariant-loop-run : goal.invariant-loop-run

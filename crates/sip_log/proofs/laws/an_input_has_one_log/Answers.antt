@@ -1,5 +1,8 @@
-use Rattle.sip_log.proofs.logs.Logs.{log_is_one}
+use Rattle.sip_log.proofs.logs.Logs.{log_has_header, log_is_one}
 use Rattle.sip_log.proofs.laws.an_input_has_one_log.Goals as goal
 
-pub returns : goal.returns
-returns c = log_is_one
+pub returns-clause-either : goal.returns-clause-either
+returns-clause-either c = log_has_header
+
+pub returns-clause-one : goal.returns-clause-one
+returns-clause-one c = log_is_one

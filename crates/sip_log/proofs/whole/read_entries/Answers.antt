@@ -1,8 +1,7 @@
 use Rattle.std.proofs.Common.{◌≡◌, ◌++◌, ◌∷◌, [], Some, inr, IfSome, List, map, subst, sym, ap, ◌∙◌, arith}
 use Rattle.std.proofs.lemmas.List.{map-append}
 use Rattle.sip_standard.specs.LogEntry.{Item}
-use Rattle.sip_log.specs.Log.{IsFaultOf}
-use Rattle.sip_log.specs.Told.{FailsAs, item}
+use Rattle.sip_log.specs.Told.{FailsAs, item, IsFaultOf}
 use Rattle.sip_log.specs.Reading.{ReaderState, beside_source}
 use Rattle.sip_log.proofs.answers.CallerLemmas.{Stands, Stands-gives, Stands-fault, Nexts-counted, Nexts-fine}
 use Rattle.sip_log.proofs.whole.read_entries.Goals as goal

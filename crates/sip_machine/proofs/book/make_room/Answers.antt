@@ -1,6 +1,6 @@
 use Rattle.std.proofs.Common.{◌≡◌, ◌∙◌, ap, length, get_or, take, drop, arith}
 use Rattle.std.proofs.lemmas.List.{get_or_default}
-use Rattle.sip_machine.specs.declared.book.Run.{Run}
+use Rattle.sip_machine.specs.declared.book.PlaceRun.{PlaceRun}
 use Rattle.sip_machine.proofs.texts.RunLaws.{places-halved, led_halved}
 use Rattle.sip_machine.proofs.book.make_room.Goals as goal
 
@@ -9,23 +9,23 @@ returns-then-gap-clause-places c =
     let runs = c.args.runs.now.items in
     let run = c.index_mut.result.now in
     let is : run ≡ get_or runs c.args.gap.run run = rw c.in_ok-reserve.ensures.items at c.index_mut.ensures.value in
-    let head : Run = record { first = run.first; places = c.split_off.new.self } in
-    let tail : Run = record { first = c.index-first.result.now; places = c.in_ok-places.places } in
+    let head : PlaceRun = record { first = run.first; places = c.split_off.new.self } in
+    let tail : PlaceRun = record { first = c.index-first.result.now; places = c.in_ok-places.places } in
     rw (c.in_ok-insert.ensures.items, c.in_ok-reserve.ensures.items)
     (places-halved runs c.args.gap.run 64 run head tail c.requires.inside.run
-    (c.in_ok-places.ensures.items ∙ ap (λ (r : Run). take 64 r.places.items) is) (c.in_ok-places.ensures.tail ∙ ap (λ (r : Run). drop 64 r.places.items) is))
+    (c.in_ok-places.ensures.items ∙ ap (λ (r : PlaceRun). take 64 r.places.items) is) (c.in_ok-places.ensures.tail ∙ ap (λ (r : PlaceRun). drop 64 r.places.items) is))
 
 pub returns-then-gap-clause-led : goal.returns-then-gap-clause-led
 returns-then-gap-clause-led c =
     let runs = c.args.runs.now.items in
     let run = c.index_mut.result.now in
     let is : run ≡ get_or runs c.args.gap.run run = rw c.in_ok-reserve.ensures.items at c.index_mut.ensures.value in
-    let head : Run = record { first = run.first; places = c.split_off.new.self } in
-    let tail : Run = record { first = c.index-first.result.now; places = c.in_ok-places.places } in
+    let head : PlaceRun = record { first = run.first; places = c.split_off.new.self } in
+    let tail : PlaceRun = record { first = c.index-first.result.now; places = c.in_ok-places.places } in
     let same : c.index.result.now ≡ get_or runs c.args.gap.run run = c.index.ensures ∙ get_or_default runs c.args.gap.run c.index.result.now run c.requires.inside.run in
     rw (c.in_ok-insert.ensures.items, c.in_ok-reserve.ensures.items)
-    (led_halved runs c.args.gap.run 64 run head tail c.requires.inside.run c.requires.led (omega arith) (omega (arith, ap (λ (r : Run). length r.places.items) same, c.len.ensures, c.if-len-lt-MOST.false)) (ap (λ (r : Run). r.first) is)
-    (c.in_ok-places.ensures.items ∙ ap (λ (r : Run). take 64 r.places.items) is) (c.in_ok-places.ensures.tail ∙ ap (λ (r : Run). drop 64 r.places.items) is)
+    (led_halved runs c.args.gap.run 64 run head tail c.requires.inside.run c.requires.led (omega arith) (omega (arith, ap (λ (r : PlaceRun). length r.places.items) same, c.len.ensures, c.if-len-lt-MOST.false)) (ap (λ (r : PlaceRun). r.first) is)
+    (c.in_ok-places.ensures.items ∙ ap (λ (r : PlaceRun). take 64 r.places.items) is) (c.in_ok-places.ensures.tail ∙ ap (λ (r : PlaceRun). drop 64 r.places.items) is)
     c.index-first.ensures)
 
 pub returns-clause-places : goal.returns-clause-places
@@ -33,21 +33,21 @@ returns-clause-places c =
     let runs = c.args.runs.now.items in
     let run = c.index_mut.result.now in
     let is : run ≡ get_or runs c.args.gap.run run = rw c.in_ok-reserve.ensures.items at c.index_mut.ensures.value in
-    let head : Run = record { first = run.first; places = c.split_off.new.self } in
-    let tail : Run = record { first = c.index-first.result.now; places = c.in_ok-places.places } in
+    let head : PlaceRun = record { first = run.first; places = c.split_off.new.self } in
+    let tail : PlaceRun = record { first = c.index-first.result.now; places = c.in_ok-places.places } in
     rw (c.in_ok-insert.ensures.items, c.in_ok-reserve.ensures.items)
     (places-halved runs c.args.gap.run 64 run head tail c.requires.inside.run
-    (c.in_ok-places.ensures.items ∙ ap (λ (r : Run). take 64 r.places.items) is) (c.in_ok-places.ensures.tail ∙ ap (λ (r : Run). drop 64 r.places.items) is))
+    (c.in_ok-places.ensures.items ∙ ap (λ (r : PlaceRun). take 64 r.places.items) is) (c.in_ok-places.ensures.tail ∙ ap (λ (r : PlaceRun). drop 64 r.places.items) is))
 
 pub returns-clause-led : goal.returns-clause-led
 returns-clause-led c =
     let runs = c.args.runs.now.items in
     let run = c.index_mut.result.now in
     let is : run ≡ get_or runs c.args.gap.run run = rw c.in_ok-reserve.ensures.items at c.index_mut.ensures.value in
-    let head : Run = record { first = run.first; places = c.split_off.new.self } in
-    let tail : Run = record { first = c.index-first.result.now; places = c.in_ok-places.places } in
+    let head : PlaceRun = record { first = run.first; places = c.split_off.new.self } in
+    let tail : PlaceRun = record { first = c.index-first.result.now; places = c.in_ok-places.places } in
     let same : c.index.result.now ≡ get_or runs c.args.gap.run run = c.index.ensures ∙ get_or_default runs c.args.gap.run c.index.result.now run c.requires.inside.run in
     rw (c.in_ok-insert.ensures.items, c.in_ok-reserve.ensures.items)
-    (led_halved runs c.args.gap.run 64 run head tail c.requires.inside.run c.requires.led (omega arith) (omega (arith, ap (λ (r : Run). length r.places.items) same, c.len.ensures, c.if-len-lt-MOST.false)) (ap (λ (r : Run). r.first) is)
-    (c.in_ok-places.ensures.items ∙ ap (λ (r : Run). take 64 r.places.items) is) (c.in_ok-places.ensures.tail ∙ ap (λ (r : Run). drop 64 r.places.items) is)
+    (led_halved runs c.args.gap.run 64 run head tail c.requires.inside.run c.requires.led (omega arith) (omega (arith, ap (λ (r : PlaceRun). length r.places.items) same, c.len.ensures, c.if-len-lt-MOST.false)) (ap (λ (r : PlaceRun). r.first) is)
+    (c.in_ok-places.ensures.items ∙ ap (λ (r : PlaceRun). take 64 r.places.items) is) (c.in_ok-places.ensures.tail ∙ ap (λ (r : PlaceRun). drop 64 r.places.items) is)
     c.index-first.ensures)

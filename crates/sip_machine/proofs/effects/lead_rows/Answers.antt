@@ -2,7 +2,7 @@ use Rattle.std.specs.Prelude.{length, filter, get_or, set, take, List, []}
 use Rattle.std.proofs.Common.{arith, ◌∙◌, ap, sym}
 use Rattle.sip_ledger.specs.declared.debt.Debt.{Debt}
 use Rattle.sip_ledger.specs.Debts.{counts_at}
-use Rattle.sip_ledger.proofs.EachLemmas.{changing-none, changing-more, changing-all, changing-length, changing-front}
+use Rattle.sip_ledger.proofs.lists.EachLemmas.{changing-none, changing-more, changing-all, changing-length, changing-front}
 use Rattle.sip_machine.specs.Owing.{changed_debts}
 use Rattle.sip_machine.proofs.texts.RunLaws.{always_err}
 use Rattle.sip_machine.proofs.effects.lead_rows.Goals as goal

@@ -2,13 +2,13 @@ use Rattle.std.proofs.Common.{◌≡◌, ℕ, ◌+◌, ◌*◌, ◌<◌, ◌≤�
 use Rattle.std.proofs.lemmas.List.{length-set, take_all}
 use Rattle.std.proofs.lemmas.Simd.{get_or-chunk}
 use Rattle.sip_masks.specs.Bits.{test}
-use Rattle.sip_masks.specs.Marks.{is_control, is_other, Marks, words_for}
+use Rattle.sip_masks.specs.Marks.{is_control, is_other, BitsTell, words_for}
 use Rattle.sip_masks.proofs.WordLemmas.{marks-more, ones-past, front-ends}
 use Rattle.sip_masks.proofs.masks.mark.Goals as goal
 
 -- the last two words
-last-two : (p : ℕ → Bool) (text words : List ℕ) (k w : ℕ) → p 0 ≡ true → k + 1 < length words → length text < 64 * (k + 1) → 64 * k ≤ length text → Marks p text words (64 * k)
-    → ((i : ℕ) → i < 64 → test w i ≡ p (get_or text (64 * k + i) 0)) → Marks p text (set (set words k w) (k + 1) 18446744073709551615) (64 * words_for (length text))
+last-two : (p : ℕ → Bool) (text words : List ℕ) (k w : ℕ) → p 0 ≡ true → k + 1 < length words → length text < 64 * (k + 1) → 64 * k ≤ length text → BitsTell p text words (64 * k)
+    → ((i : ℕ) → i < 64 → test w i ≡ p (get_or text (64 * k + i) 0)) → BitsTell p text (set (set words k w) (k + 1) 18446744073709551615) (64 * words_for (length text))
 last-two p text words k w nul room past there before now i below =
     marks-more p text (set words k w) (k + 1) 18446744073709551615 (omega (arith, room, length-set words k w)) (marks-more p text words k w (omega (arith, room)) before now)
     (λ j h. ones-past p text (64 * (k + 1)) j nul (omega (arith, past)) h) i (omega (arith, below, past, there))
@@ -29,7 +29,7 @@ pub returns-clause-other : goal.returns-clause-other
 returns-clause-other c =
     let text = c.args.text.now in
     let l = c.loop-word in
-    subst (λ t. Marks is_other t (set (set l.other l.word c.others-2.result) (l.word + 1) 18446744073709551615) (64 * words_for (length text))) (sym (take_all (length text) text (omega arith)))
+    subst (λ t. BitsTell is_other t (set (set l.other l.word c.others-2.result) (l.word + 1) 18446744073709551615) (64 * words_for (length text))) (sym (take_all (length text) text (omega arith)))
     (last-two is_other text l.other l.word c.others-2.result refl (omega (arith, l.invariant.3, c.requires.0, l.invariant.2)) (omega (arith, c.loop-word-test.false)) l.invariant.2 l.invariant.0
     (λ i h. c.others-2.ensures i h ∙ ap is_other (c.tail-v.ensures i h)))
 
@@ -37,7 +37,7 @@ pub returns-clause-control : goal.returns-clause-control
 returns-clause-control c =
     let text = c.args.text.now in
     let l = c.loop-word in
-    subst (λ t. Marks is_control t (set (set l.control l.word c.controls.result) (l.word + 1) 18446744073709551615) (64 * words_for (length text))) (sym (take_all (length text) text (omega arith)))
+    subst (λ t. BitsTell is_control t (set (set l.control l.word c.controls.result) (l.word + 1) 18446744073709551615) (64 * words_for (length text))) (sym (take_all (length text) text (omega arith)))
     (last-two is_control text l.control l.word c.controls.result refl (omega (arith, l.invariant.4, c.requires.1, l.invariant.2)) (omega (arith, c.loop-word-test.false)) l.invariant.2 l.invariant.1
     (λ i h. c.controls.ensures i h ∙ ap is_control (c.tail-v.ensures i h)))
 

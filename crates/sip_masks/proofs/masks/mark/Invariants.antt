@@ -1,10 +1,10 @@
 use Rattle.std.proofs.Common.{◌≡◌, ◌*◌, ◌-◌, ◌≤◌, length}
-use Rattle.sip_masks.specs.Marks.{is_control, is_other, Marks}
+use Rattle.sip_masks.specs.Marks.{is_control, is_other, BitsTell}
 use Rattle.sip_masks.proofs.masks.mark.Given as goal
 
 abbrev pub invariant-loop-word : goal.invariant-loop-word
 invariant-loop-word l =
-    Marks is_other l.text l.other (64 * l.word) × Marks is_control l.text l.control (64 * l.word)
+    BitsTell is_other l.text l.other (64 * l.word) × BitsTell is_control l.text l.control (64 * l.word)
     × (64 * l.word ≤ length l.text) × (length l.other ≡ length l.initial.other) × (length l.control ≡ length l.initial.control)
 
 abbrev pub decreases-loop-word : goal.decreases-loop-word

@@ -1,7 +1,7 @@
 use Rattle.std.proofs.Common.{sym, arith}
 use Rattle.std.proofs.lemmas.List.{append-nil}
-use Rattle.sip_message.specs.inner.Appends.{fields_text}
-use Rattle.sip_message.specs.Views.{slice_fields}
+use Rattle.sip_message.specs.inner.Canon.{fields_text}
+use Rattle.sip_message.specs.inner.Views.{slice_fields}
 use Rattle.sip_message.proofs.lemmas.canon.Fields.{appended-more, appended-part, appended-all}
 use Rattle.sip_message.proofs.canon.append_fields.Goals as goal
 

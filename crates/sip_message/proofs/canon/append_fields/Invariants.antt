@@ -1,6 +1,6 @@
 use Rattle.std.proofs.Common.{take, map, ◌≡◌, ◌++◌}
-use Rattle.sip_message.specs.inner.Appends.{fields_text}
-use Rattle.sip_message.specs.Views.{field_parts}
+use Rattle.sip_message.specs.inner.Canon.{fields_text}
+use Rattle.sip_message.specs.inner.Views.{field_parts}
 use Rattle.sip_message.proofs.canon.append_fields.Given as goal
 
 abbrev pub invariant-fields : goal.invariant-fields

@@ -1,6 +1,6 @@
 use Rattle.std.proofs.Common.{sym, ◌∙◌, subst}
 use Rattle.sip_standard.specs.Canonical.{unfolded}
-use Rattle.sip_message.specs.inner.Appends.{Appends}
+use Rattle.sip_message.specs.inner.Canon.{Appends}
 use Rattle.sip_message.proofs.lemmas.canon.Spelling.{unfolded-same}
 use Rattle.sip_message.proofs.lemmas.lines.HeadEnd.{inner-none}
 use Rattle.sip_message.proofs.lemmas.canon.Unfolding.{unfold-start, unfold-blank, unfold-solid, unfold-part, part-more}

@@ -2,7 +2,7 @@ use Rattle.std.proofs.Common.{◌-◌, ◌≤◌, length}
 use Rattle.sip_message.specs.inner.Lines.{ArePaired}
 use Rattle.sip_message.proofs.ends.blocks_len.Given as goal
 
--- so it is in the blocks so far
+-- in the blocks up to here no line end is bare
 abbrev pub invariant-loop-at : goal.invariant-loop-at
 invariant-loop-at l = (l.at ≤ length l.text) × ArePaired l.text 0 l.at
 

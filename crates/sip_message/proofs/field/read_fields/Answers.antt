@@ -2,7 +2,7 @@ use Rattle.std.proofs.Common.{◌+◌, ◌∷◌, [], map, sym, ap, ◌∙◌, s
 use Rattle.std.proofs.lemmas.List.{map-append, length-map}
 use Rattle.sip_standard.specs.Outcome.{stops}
 use Rattle.sip_message.specs.inner.Faults.{FieldOf, FieldsOf}
-use Rattle.sip_message.specs.Views.{field_parts, fields_parts}
+use Rattle.sip_message.specs.inner.Views.{field_parts, fields_parts}
 use Rattle.sip_message.specs.inner.Settles.{outcome_of}
 use Rattle.std.specs.Global.{Vec}
 use Rattle.sip_message.specs.declared.field.Field.{Field as Code}

@@ -1,7 +1,7 @@
 use Rattle.std.proofs.Common.{ℕ, List, length}
 use Rattle.sip_message.specs.inner.Lines.{AreLines}
 use Rattle.sip_message.specs.inner.Kept.{KeptOf}
-use Rattle.sip_message.specs.Views.{fields_parts}
+use Rattle.sip_message.specs.inner.Views.{fields_parts}
 use Rattle.sip_message.proofs.lemmas.lines.Reading.{SoFar}
 use Rattle.sip_message.proofs.field.read_fields.Given as goal
 

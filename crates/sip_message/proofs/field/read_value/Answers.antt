@@ -1,10 +1,10 @@
 use Rattle.std.proofs.Common.{sym, subst}
 use Rattle.std.proofs.lemmas.Bool.{both_ways}
 use Rattle.sip_text.specs.Parts.{IsOnlyValue}
-use Rattle.sip_message.specs.Field.{Row}
+use Rattle.sip_message.specs.inner.FieldText.{Row}
 use Rattle.sip_message.specs.inner.Faults.{IsValue}
 use Rattle.sip_message.specs.inner.Fronts.{text_parts}
-use Rattle.sip_message.specs.Views.{name_parts}
+use Rattle.sip_message.specs.inner.Views.{name_parts}
 use Rattle.sip_message.proofs.field.read_value.Goals as goal
 
 pub returns-in_err-value-clause-value : goal.returns-in_err-value-clause-value

@@ -1,6 +1,5 @@
 -- An address is read step by step, and what is read is the grammar's text.
 use Rattle.std.proofs.Common.{◌≡◌, ℕ, zero, suc, ◌<◌, ◌≤◌, Bool, true, false, ◌||◌, not, nat_eq, nat_lt, List, [], ◌∷◌, ◌++◌, Option, Some, None, IfSome, length, take, drop, get_or, slice_index, refl, sym, ap, ◌∙◌, subst, inl, inr, arith}
-use Rattle.std.specs.Prelude.{codes}
 use Rattle.std.specs.Bool.{Decides}
 use Rattle.std.specs.List.{prefix_len}
 use Rattle.std.proofs.Math.Seq.{drop-cons}
@@ -8,7 +7,8 @@ use Rattle.std.proofs.lemmas.Bool.{both_ways, eqb-true, eq-eqb, or_parts, and_pa
 use Rattle.std.proofs.lemmas.List.{append_assoc, length-drop, take-append-drop}
 use Rattle.sip_standard.specs.Text.{◌then◌, Many}
 use Rattle.sip_standard.specs.Profile.{Token, Sws, Blanks}
-use Rattle.sip_text.specs.Bytes.{colon, dquote, semicolon, is_token_byte, is_one_of}
+use Rattle.sip_text.specs.Bytes.{colon, dquote, semicolon, is_token_byte}
+use Rattle.sip_standard.specs.Chars.{is_among}
 use Rattle.sip_text.specs.Parts.{led, IsLongestFront}
 use Rattle.sip_text.specs.Uri.{UriText}
 use Rattle.sip_text.specs.inner.Cut.{before, behind, past}
@@ -16,7 +16,8 @@ use Rattle.sip_text.proofs.cuts.CutLemmas.{cut-whole, past-some, before-led, beh
 use Rattle.sip_text.proofs.texts.ManyLemmas.{some-many}
 use Rattle.sip_text.proofs.texts.LacksLemmas.{Lacks}
 use Rattle.sip_standard.specs.Field.{is_lws_byte}
-use Rattle.sip_message.specs.Params.{left_angle, right_angle, Mark, ParamsPart, BehindBlanks}
+use Rattle.sip_message.specs.inner.Marks.{left_angle, right_angle, Mark}
+use Rattle.sip_message.specs.Params.{ParamsPart, BehindBlanks}
 use Rattle.sip_message.specs.Address.{AddressParts, AddressText, name_addr, addr_spec, BeforeUri, DisplayName}
 use Rattle.sip_message.specs.inner.Fronts.{Stops, Behind, IsOnlyBehind, both}
 use Rattle.sip_message.specs.Reading.{AddressValue}
@@ -205,7 +206,7 @@ pub cut-no_display : (text : List ℕ) → (HasScheme text → ⊥) → NotRead 
 cut-no_display text no_has none c (named inner display uri rest) = none (c.display, inner) display
 cut-no_display text no_has none c (plain has is all stops whole) = no_has has
 
--- nor is one whose angle is not closed
+-- an address whose angle is not closed is not read
 pub cut-open : (text inner : List ℕ) (d : Option (List ℕ)) → (HasScheme text → ⊥) → ReadAs (DisplayFront text) (d, inner) → None ≡ behind right_angle inner → NotRead (AddressCut text)
 cut-open text inner d no_has is missing c (named i display uri rest) =
     let same : ◌≡◌ {A = Option (List ℕ) × List ℕ} (c.display, i) (d, inner) = is.1 (c.display, i) display in
@@ -241,7 +242,7 @@ tail-empty text params behind some none p is =
     at [] e whole = both_ways (nat_eq (length text) 0) some (ap (λ t. nat_eq (length t) 0) whole)
     at (b ∷ q) e whole = absurd (omega (arith, e))
 
--- nor does what is no parameters
+-- a text that is no parameters is no tail
 pub tail-no_params : (text params : List ℕ) → IsOnlyBehind text params → (((ps : List (List ℕ × Option (List ℕ))) × ParamsPart params ps) → ⊥) → NotRead (TailText text)
 tail-no_params text params behind none p is =
     none (is.1.0, subst (λ t. ParamsPart t is.1.0) (behind.1 p (tail-behind text p is)) is.1.1)
@@ -267,7 +268,7 @@ before-display (Some name) d text inner fits (e, t, e_is, (s, l, sws, l_is, t_is
     at (inl quoted) = inl (quoted, flat)
     at (inr words) = inr (words, (left_angle ∷ inner, behind_is, refl), flat)
 
--- and back
+-- a display name that is read at the front stands before the URI
 display-before : (display : Option (List ℕ)) (text inner : List ℕ) → DisplayFront text (display, inner) → (d : List ℕ) × BeforeUri display d × (text ≡ d ++ inner)
 display-before None text inner is = (left_angle ∷ [], refl, is)
 display-before (Some name) text inner (rest, is, (stops, (s, y, sws, y_is, rest_is))) = (
@@ -289,13 +290,13 @@ display-fits (Some name) text inner (rest, inr words, behind) = inr words.0
 not-plain : (b : ℕ) → is_lws_byte b ≡ true → is_unmarked_byte b ≡ false
 not-plain = blank_is (λ b. is_unmarked_byte b ≡ false) refl refl refl refl
 
-plain-all : (u : List ℕ) → All (λ b. not (is_lws_byte b)) u → All (λ b. not (is_one_of (codes ",?;") b)) u → All is_unmarked_byte u
+plain-all : (u : List ℕ) → All (λ b. not (is_lws_byte b)) u → All (λ b. not (is_among ",?;" b)) u → All is_unmarked_byte u
 plain-all [] solid other = tt
-plain-all (b ∷ u) solid other = (and_from (not (is_lws_byte b)) (not (is_one_of (codes ",?;") b)) solid.0 other.0, plain-all u solid.1 other.1)
+plain-all (b ∷ u) solid other = (and_from (not (is_lws_byte b)) (not (is_among ",?;" b)) solid.0 other.0, plain-all u solid.1 other.1)
 
-all-other : (u : List ℕ) → All is_unmarked_byte u → All (λ b. not (is_one_of (codes ",?;") b)) u
+all-other : (u : List ℕ) → All is_unmarked_byte u → All (λ b. not (is_among ",?;" b)) u
 all-other [] all = tt
-all-other (b ∷ u) all = ((and_parts (not (is_lws_byte b)) (not (is_one_of (codes ",?;") b)) all.0).1, all-other u all.1)
+all-other (b ∷ u) all = ((and_parts (not (is_lws_byte b)) (not (is_among ",?;" b)) all.0).1, all-other u all.1)
 
 fails-plain : (u : List ℕ) → Fails is_unmarked_byte u → Stops is_unmarked_byte u
 fails-plain [] fails = absurd fails
@@ -332,7 +333,7 @@ address-steps text a (name_addr fits (d, w1, before_is, (u, w2, u_is, (g, w3, g_
 address-steps text a (addr_spec fits none plain_is (u, w, u_is, tail, whole)) =
     both (make a.display a.uri_text w)
     (plain (has.0, has.1 ++ w, has.2, flat ∙ ap (λ t. t ++ w) has.3 ∙ append_assoc has.0 (colon ∷ has.1) w) none
-    (plain-all a.uri_text (solid-uri a.uri_text a.uri fits.uri) (each-many (λ b. not (is_one_of (codes ",?;") b)) _ (each-one (λ b. not (is_one_of (codes ",?;") b)) (λ b. not (is_one_of (codes ",?;") b)) (λ b is. is)) a.uri_text plain_is))
+    (plain-all a.uri_text (solid-uri a.uri_text a.uri fits.uri) (each-many (λ b. not (is_among ",?;" b)) _ (each-one (λ b. not (is_among ",?;" b)) (λ b. not (is_among ",?;" b)) (λ b is. is)) a.uri_text plain_is))
     (tail-stops w a.params (tail, fits.params)) flat)
     (both a.uri fits.uri (both a.params (tail, fits.params) refl))
   where
@@ -359,7 +360,7 @@ steps-address text x (both c (named inner display uri_is rest_is) (both uri is_u
 steps-address text x (both c (plain has none all stops whole) (both uri is_uri (both params tail is))) =
     subst (AddressValue text) (sym is) (
       addr_spec (record { display = subst (λ d. IfSome d DisplayName) (sym none) tt; uri = is_uri; params = tail.1 }) none
-          (all-run (λ b. not (is_one_of (codes ",?;") b)) c.uri (all-other c.uri all)) (c.uri, c.rest, refl, tail.0, whole),
+          (all-run (λ b. not (is_among ",?;" b)) c.uri (all-other c.uri all)) (c.uri, c.rest, refl, tail.0, whole),
       refl,
     )
 
@@ -371,7 +372,7 @@ one-steps text =
     one-seq (TailText c.rest) _ (one-tail c.rest) (λ params.
     one-last (text, record { display = c.display; uri_text = c.uri; uri = uri; params = params }))))
 
--- and in one way by the grammar
+-- the grammar gives an address in one way
 pub one-address : (text : List ℕ) (a b : AddressParts) → AddressText text a → AddressText text b → a ≡ b
 one-address text a b one other = ap (λ x. x.1) (one-steps text (text, a) (text, b) (address-steps text a one) (address-steps text b other))
 

@@ -3,16 +3,16 @@ use Rattle.std.proofs.Common.{◌≡◌, ℕ, ◌+◌, ◌⊎◌, Bool, true, fa
 use Rattle.std.specs.Char.{is_ascii_alphabetic, is_ascii_alphanumeric, is_ascii_digit, to_ascii_lowercase}
 use Rattle.std.specs.Int.{is_in_range}
 use Rattle.std.specs.List.{list_all}
-use Rattle.std.specs.Prelude.{codes}
 use Rattle.std.specs.Str.Parse.{digits_value}
 use Rattle.std.proofs.lemmas.Bool.{both_ways, eqb-true, or_left, or_right, or_cases, and_from, leb-true, le-leb, ltb-true, ltb-false}
 use Rattle.std.proofs.lemmas.List.{take_all}
 use Rattle.sip_standard.specs.Text.{One}
 use Rattle.sip_standard.specs.Case.{folded}
 use Rattle.sip_standard.specs.Profile.{Scheme, User, Password, Port, UriParameters, Headers}
-use Rattle.sip_text.specs.Bytes.{colon, semicolon, question, at_sign, ampersand, equals, is_token_byte, is_one_of}
+use Rattle.sip_text.specs.Bytes.{colon, semicolon, question, at_sign, ampersand, equals, is_token_byte}
+use Rattle.sip_standard.specs.Chars.{is_among}
 use Rattle.sip_text.specs.Parts.{led}
-use Rattle.sip_text.specs.Case.{SameText}
+use Rattle.sip_text.specs.inner.Case.{SameText}
 use Rattle.sip_text.specs.Host.{HostParts, HostText, host_text}
 use Rattle.sip_text.specs.Uri.{SipParts, SipFits, userinfo_text, hostport_text, sip_text, scheme_name, UriParts, sip, other, UriText}
 use Rattle.sip_text.specs.inner.Class.{is_scheme_byte, is_user_unreserved, is_password_unreserved, is_hnv_unreserved, is_reserved}
@@ -27,7 +27,7 @@ use Rattle.sip_text.proofs.uris.UriPartLemmas.{lack-param}
 use Rattle.sip_text.proofs.uris.UriPortLemmas.{port-length, port-end, no-port, port-there}
 use Rattle.sip_text.proofs.uris.UriHostLemmas.{IsForeign, lack-host}
 use Rattle.sip_text.proofs.uris.UriSipLemmas.{cuts-agree, sip-cut, parts-only}
-use Rattle.sip_message.specs.Params.{right_angle}
+use Rattle.sip_message.specs.inner.Marks.{right_angle}
 use Rattle.sip_message.specs.inner.AddressFronts.{HasScheme}
 use Rattle.sip_message.proofs.lemmas.text.Cuts.{All, same_front}
 use Rattle.sip_message.proofs.lemmas.text.Each.{Each, each-one, each-then, each-many}
@@ -43,7 +43,7 @@ lower-token b is = at (nat_lt b 65) (nat_lt b 91) refl refl is
     at false true x_is y_is pass =
         let high = ltb-true b 91 y_is in
         let low = ltb-false b 65 x_is in
-        or_left (is_ascii_alphanumeric b) (is_one_of (codes "-.!%*_+`'~") b)
+        or_left (is_ascii_alphanumeric b) (is_among "-.!%*_+`'~" b)
         (or_left (is_in_range 48 57 b || is_in_range 65 90 b) (is_in_range 97 122 b)
         (or_right (is_in_range 48 57 b) (is_in_range 65 90 b) (and_from (nat_le 65 b) (nat_le b 90) (le-leb 65 b low) (le-leb b 90 (omega (arith, high))))))
 
@@ -58,8 +58,8 @@ name-token true = (refl, (refl, (refl, (refl, tt))))
 name-token false = (refl, (refl, (refl, tt)))
 
 scheme-token : (b : ℕ) → is_scheme_byte b ≡ true → is_token_byte b ≡ true
-scheme-token b is = elim (or_cases (is_ascii_alphanumeric b) (is_one_of (codes "+-.") b) is) [
-  | inl alnum ↦ or_left (is_ascii_alphanumeric b) (is_one_of (codes "-.!%*_+`'~") b) alnum
+scheme-token b is = elim (or_cases (is_ascii_alphanumeric b) (is_among "+-." b) is) [
+  | inl alnum ↦ or_left (is_ascii_alphanumeric b) (is_among "-.!%*_+`'~" b) alnum
   | inr one ↦ elim (or_cases (nat_eq 43 b) _ one) [
     | inl e ↦ subst (λ x. is_token_byte x ≡ true) (eqb-true 43 b e) refl
     | inr two ↦ elim (or_cases (nat_eq 45 b) _ two) [
@@ -76,7 +76,7 @@ scheme-token b is = elim (or_cases (is_ascii_alphanumeric b) (is_one_of (codes "
 pub each-scheme : Each is_token_byte Scheme
 each-scheme =
     each-then is_token_byte _ _
-    (each-one is_token_byte is_ascii_alphabetic (λ b is. or_left (is_ascii_alphanumeric b) (is_one_of (codes "-.!%*_+`'~") b) (alphanumeric-alphabetic b is)))
+    (each-one is_token_byte is_ascii_alphabetic (λ b is. or_left (is_ascii_alphanumeric b) (is_among "-.!%*_+`'~" b) (alphanumeric-alphabetic b is)))
     (each-many is_token_byte _ (each-one is_token_byte is_scheme_byte scheme-token))
 
 -- a URI begins with a scheme

@@ -14,11 +14,11 @@ use Rattle.sip_message.specs.declared.name.Known.TheVariants as known_name
 use Rattle.sip_message.specs.declared.values.CSeq.{CSeq}
 use Rattle.sip_message.specs.declared.via.Via.{Via}
 use Rattle.sip_message.specs.Name.{known, is_name_of}
-use Rattle.sip_message.specs.Field.{Field, Row}
+use Rattle.sip_message.specs.Field.{Field}
+use Rattle.sip_message.specs.inner.FieldText.{Row}
 use Rattle.sip_standard.specs.Body.{length_in}
-use Rattle.sip_message.specs.Message.{found, found_from, IsFirstFound, content_length}
-use Rattle.sip_message.specs.Reading.{CSeqValue}
-use Rattle.sip_message.specs.Values.{Digits}
+use Rattle.sip_message.specs.inner.MessageText.{found, found_from, IsFirstFound, content_length}
+use Rattle.sip_message.specs.inner.Values.{CSeqValue, Digits}
 use Rattle.sip_message.specs.ViaParts.{element}
 use Rattle.sip_message.specs.ValueParts.{cseq_parts}
 use Rattle.sip_message.specs.inner.ElementFronts.{FirstVia}

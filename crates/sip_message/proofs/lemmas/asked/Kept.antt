@@ -11,9 +11,10 @@ use Rattle.sip_message.specs.declared.values.CSeq.{CSeq}
 use Rattle.sip_message.specs.declared.name.Known.{Known}
 use Rattle.sip_message.specs.declared.name.Known.TheVariants as known_name
 use Rattle.sip_message.specs.Name.{known, is_name_of}
-use Rattle.sip_message.specs.Field.{Field, Row}
+use Rattle.sip_message.specs.Field.{Field}
+use Rattle.sip_message.specs.inner.FieldText.{Row}
 use Rattle.sip_message.specs.Elements.{values}
-use Rattle.sip_message.specs.Reading.{CSeqValue}
+use Rattle.sip_message.specs.inner.Values.{CSeqValue}
 use Rattle.sip_message.specs.ViaParts.{element}
 use Rattle.sip_message.specs.ValueParts.{cseq_parts}
 use Rattle.sip_message.specs.inner.ElementFronts.{FirstVia}
@@ -106,7 +107,7 @@ some-is R parts o a x o_is is said =
 pub via-some : (fields : List Field) (kept : Kept) (text : List ℕ) → KeptOf fields kept → IsFirstOf (values known_name.Via fields) text → IsSome kept.via
 via-some fields kept text of first = let said = says-some FirstVia element _ first.0 text kept.via of.via first.1 in is-some element kept.via said.0 said.2
 
--- and it is the top one
+-- the Via that was kept is the top one
 pub via-is : (fields : List Field) (kept : Kept) (text : List ℕ) (v : Via) → KeptOf fields kept → IsFirstOf (values known_name.Via fields) text → kept.via ≡ Some v → FirstVia text (element v)
 via-is fields kept text v of first is =
     let said = says-some FirstVia element _ first.0 text kept.via of.via first.1 in
@@ -116,7 +117,7 @@ via-is fields kept text v of first is =
 pub cseq-some : (fields : List Field) (kept : Kept) (text : List ℕ) → KeptOf fields kept → IsFirstOf (values known_name.CSeq fields) text → IsSome kept.cseq
 cseq-some fields kept text of first = let said = says-some CSeqValue cseq_parts _ first.0 text kept.cseq of.cseq first.1 in is-some cseq_parts kept.cseq said.0 said.2
 
--- and it is that of the field
+-- the CSeq that was kept is that of the first field with its name
 pub cseq-is : (fields : List Field) (kept : Kept) (text : List ℕ) (c : CSeq) → KeptOf fields kept → IsFirstOf (values known_name.CSeq fields) text → kept.cseq ≡ Some c → CSeqValue text (cseq_parts c)
 cseq-is fields kept text c of first is =
     let said = says-some CSeqValue cseq_parts _ first.0 text kept.cseq of.cseq first.1 in

@@ -2,16 +2,18 @@
 use Rattle.std.proofs.Common.{◌≡◌, ℕ, List, [], ◌∷◌, ◌++◌, refl, sym, ap, ◌∙◌, subst}
 use Rattle.sip_message.specs.declared.name.Known.{Known}
 use Rattle.sip_message.specs.declared.name.Known.TheVariants as known_name
-use Rattle.sip_message.specs.Params.{comma}
+use Rattle.sip_message.specs.inner.Marks.{comma}
 use Rattle.sip_message.specs.Address.{AddressParts, AddressText}
 use Rattle.sip_message.specs.Field.{Field}
 use Rattle.sip_message.specs.inner.Fronts.{Behind, MarkFront}
 use Rattle.sip_message.specs.Elements.{Element, MoreElements, ElementsText, AreElements, values}
-use Rattle.sip_message.specs.Reading.{AddressValue, CSeqValue, Parts, HasParts}
+use Rattle.sip_message.specs.Reading.{AddressValue, Parts, HasParts}
+use Rattle.sip_standard.specs.Values.{CSeqSays}
 use Rattle.sip_message.proofs.lemmas.front.Cuts.{mark-parts, same-behind}
 use Rattle.sip_message.proofs.lemmas.via.Elements.{more-mark, no_mark-nil, ends-more}
 use Rattle.sip_message.proofs.lemmas.message.Views.{same-value}
 use Rattle.sip_message.proofs.lemmas.value.CSeq.{same-cseq}
+use Rattle.sip_message.proofs.lemmas.says.Values.{said-value}
 use Rattle.sip_message.proofs.lemmas.via.Steps.{one-via}
 use Rattle.sip_message.proofs.lemmas.address.Reading.{one-address}
 use Rattle.sip_standard.specs.Says.{IsFirstOf}
@@ -76,7 +78,7 @@ parts-one fields p q a b =
     let to = same-address known_name.To fields p.to q.to a.to b.to in
     let call_id = same-value known_name.CallId fields a.call_id b.call_id in
     let text : b.cseq.0 ≡ a.cseq.0 = same-value known_name.CSeq fields b.cseq.1 a.cseq.1 in
-    let cseq : p.cseq ≡ q.cseq = same-cseq a.cseq.0 p.cseq q.cseq a.cseq.2 (subst (λ t. CSeqValue t q.cseq) text b.cseq.2) in
+    let cseq : p.cseq ≡ q.cseq = same-cseq a.cseq.0 p.cseq q.cseq (said-value a.cseq.0 p.cseq a.cseq.2) (said-value a.cseq.0 q.cseq (subst (λ t. CSeqSays q.cseq t) text b.cseq.2)) in
     ap (λ v. make v p.others p.from p.to p.call_id p.cseq) via ∙ ap (λ o. make q.via o p.from p.to p.call_id p.cseq) others
     ∙ ap (λ f. make q.via q.others f p.to p.call_id p.cseq) from ∙ ap (λ t. make q.via q.others q.from t p.call_id p.cseq) to
     ∙ ap (λ i. make q.via q.others q.from q.to i p.cseq) call_id ∙ ap (λ c. make q.via q.others q.from q.to q.call_id c) cseq

@@ -5,13 +5,17 @@ use Rattle.std.proofs.lemmas.Slice.Eq.{bytes_eq-Decides}
 use Rattle.std.proofs.lemmas.Bool.{both_ways}
 use Rattle.sip_message.specs.declared.name.Known.{Known}
 use Rattle.sip_message.specs.declared.name.Known.TheVariants as known_name
-use Rattle.sip_message.specs.Via.{ViaParts, MoreVias}
+use Rattle.sip_message.specs.Via.{ViaParts}
+use Rattle.sip_message.specs.inner.ElementFronts.{MoreVias}
 use Rattle.sip_message.specs.Name.{FieldName, known, other, name_of, long_name, is_name_of}
-use Rattle.sip_message.specs.Field.{Field, Row}
-use Rattle.sip_message.specs.Message.{Message, found_from, IsFirstFound, MessageText}
+use Rattle.sip_message.specs.Field.{Field}
+use Rattle.sip_message.specs.inner.FieldText.{Row}
+use Rattle.sip_message.specs.Message.{Message}
+use Rattle.sip_message.specs.inner.MessageText.{found_from, IsFirstFound, MessageText}
 use Rattle.sip_message.specs.Elements.{Element, MoreElements, ElementsText, AreElements, values}
 use Rattle.sip_message.specs.Reading.{Parts, HasParts}
 use Rattle.sip_message.proofs.lemmas.canon.Law.{fields-rows}
+use Rattle.sip_message.proofs.lemmas.says.Values.{cseq-said}
 use Rattle.sip_standard.specs.Says.{IsFirstOf}
 
 -- a name is the one that its long form spells
@@ -106,6 +110,6 @@ has-parts bytes m text =
         from = (text.fits.from.0.1, from, (from_row.1, refl));
         to = (text.fits.to.0.1, to, (to_row.1, refl));
         call_id = call_id;
-        cseq = (text.fits.cseq.0.1, cseq, cseq_row.2);
+        cseq = (text.fits.cseq.0.1, cseq, cseq-said text.fits.cseq.0.1 cseq_row.0 cseq_row.1 cseq_row.2);
       },
     )

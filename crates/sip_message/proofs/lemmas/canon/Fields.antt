@@ -2,11 +2,10 @@
 use Rattle.std.proofs.Common.{◌≡◌, ℕ, zero, suc, ◌+◌, ◌<◌, List, [], ◌∷◌, ◌++◌, length, take, map, slice_index_or, add-one, false, refl, sym, ap, ◌∙◌, arith}
 use Rattle.std.proofs.lemmas.List.{append_assoc, append-nil}
 use Rattle.sip_message.specs.declared.field.Field.{Field as Code}
-use Rattle.sip_message.specs.Lines.{with_end}
-use Rattle.sip_message.specs.Message.{unfolded_field}
-use Rattle.sip_message.specs.Canon.{field_text}
-use Rattle.sip_message.specs.Views.{field_parts}
-use Rattle.sip_message.specs.inner.Appends.{Appends, fields_text}
+use Rattle.sip_message.specs.inner.Lines.{with_end}
+use Rattle.sip_message.specs.inner.MessageText.{unfolded_field}
+use Rattle.sip_message.specs.inner.Canon.{field_text, Appends, fields_text}
+use Rattle.sip_message.specs.inner.Views.{field_parts}
 use Rattle.std.specs.Prelude.{Result, Ok, Err, IsErr}
 use Rattle.std.proofs.Math.Seq.{take-length}
 use Rattle.std.proofs.lemmas.Bool.{both_ways}

@@ -16,23 +16,26 @@ use Rattle.std.proofs.lemmas.List.{append_assoc, append-nil, length-append, leng
 use Rattle.sip_standard.specs.Text.{One}
 use Rattle.sip_standard.specs.Case.{folded}
 use Rattle.sip_standard.specs.Profile.{Token}
-use Rattle.sip_text.specs.Bytes.{carriage_return, line_feed, space, colon, is_wsp, is_token_byte}
+use Rattle.sip_text.specs.Bytes.{carriage_return, line_feed, space, colon, is_token_byte}
+use Rattle.sip_text.specs.inner.Blanks.{is_wsp}
 use Rattle.sip_text.proofs.texts.ManyLemmas.{many-nil}
 use Rattle.sip_message.specs.declared.name.Known.{Known}
 use Rattle.sip_message.specs.declared.name.Known.TheVariants as known_name
 use Rattle.sip_standard.specs.Lines.{OpensBlank}
-use Rattle.sip_message.specs.Lines.{is_inner_byte, with_end}
-use Rattle.sip_message.specs.Unfold.{OpensSolid, EndsSolid}
+use Rattle.sip_message.specs.inner.Lines.{is_inner_byte, with_end}
+use Rattle.sip_message.specs.Params.{OpensSolid}
+use Rattle.sip_message.specs.inner.FieldText.{EndsSolid, Row, FieldText, FieldsText}
 use Rattle.sip_standard.specs.Field.{is_lws_byte}
 use Rattle.sip_standard.specs.Canonical.{unfolded, start_text}
-use Rattle.sip_message.specs.Name.{FieldName, known, other, spellings, name_by, name_of, long_name, name_text, is_name_of}
+use Rattle.sip_message.specs.Name.{FieldName, known, other, spellings, name_by, name_of, long_name, is_name_of}
+use Rattle.sip_message.specs.inner.Canon.{name_text, field_text, canon}
 use Rattle.sip_standard.specs.StartLine.{StartLine, request, status}
-use Rattle.sip_message.specs.StartLine.{StartText, CodeText, is_reason_byte}
-use Rattle.sip_message.specs.Values.{Digits}
-use Rattle.sip_message.specs.Field.{Field, Row, FieldText, FieldsText}
+use Rattle.sip_message.specs.inner.StartLine.{StartText, CodeText, is_reason_byte}
+use Rattle.sip_message.specs.inner.Values.{Digits}
+use Rattle.sip_message.specs.Field.{Field}
 use Rattle.sip_standard.specs.Body.{length_in, cut_body}
-use Rattle.sip_message.specs.Message.{Message, found_from, found, HasField, IsNotTwice, IsStream, MethodFits, is_stream, content_length, IsEnough, IsNoMore, MessageFits, MessageText, unfolded_field, message_of, Spells}
-use Rattle.sip_message.specs.Canon.{field_text, canon}
+use Rattle.sip_message.specs.Message.{Message}
+use Rattle.sip_message.specs.inner.MessageText.{found_from, found, HasField, IsNotTwice, IsStream, MethodFits, is_stream, content_length, IsEnough, IsNoMore, MessageFits, MessageText, unfolded_field, message_of, Spells}
 use Rattle.sip_message.proofs.lemmas.text.Cuts.{All, all_both}
 use Rattle.sip_message.proofs.lemmas.text.Each.{each-many, each-one, each-between, is_solid, solid_class, wsp-blank}
 use Rattle.sip_message.proofs.lemmas.field.OneWay.{each-token, blank-token}
@@ -254,7 +257,7 @@ field-cut line f is =
     at (b ∷ name) token begins =
         both_ways (is_token_byte b) (blank-token b (wsp-blank b begins)) (each-token (b ∷ name) token).0
 
--- so are the lines of fields
+-- the canonical lines of fields spell the fields, unfolded
 fields-canon : (lines : List (List ℕ)) (fs : List Field) → FieldsText lines fs → FieldsText (map field_text (map unfolded_field fs)) (map unfolded_field fs)
 fields-canon [] fs is = subst (λ gs. FieldsText (map field_text (map unfolded_field gs)) (map unfolded_field gs)) (sym is) refl
 fields-canon (line ∷ lines) fs (f, more, is, are, whole) =
@@ -405,7 +408,7 @@ fits-unfolded start fs rest rows fits = record {
     method (status code reason) is = tt
 
 -- the canonical form is spelled by the message itself
-canon-text : (bytes : List ℕ) (s : Message) → MessageText bytes s → MessageText (canon (message_of s)) (message_of s)
+pub canon-text : (bytes : List ℕ) (s : Message) → MessageText bytes s → MessageText (canon (message_of s)) (message_of s)
 canon-text bytes s text =
     let start = start-inner text.first s.start text.is_start in
     let inner : AreInner (start_text s.start ∷ map field_text (map unfolded_field s.fields)) = (start, fields-inner text.others s.fields text.are_fields) in

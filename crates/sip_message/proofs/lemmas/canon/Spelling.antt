@@ -3,10 +3,11 @@ use Rattle.std.proofs.Common.{◌≡◌, ℕ, ◌+◌, ◌≤◌, Bool, true, fa
 use Rattle.std.specs.List.{AllByRecursion, flat_map, list_any}
 use Rattle.std.proofs.lemmas.Bool.{both_ways}
 use Rattle.std.proofs.lemmas.List.{append_assoc, append-nil, length-append}
-use Rattle.sip_text.specs.Bytes.{crlf, carriage_return, line_feed, space, is_wsp}
+use Rattle.sip_text.specs.Bytes.{crlf, carriage_return, line_feed, space}
+use Rattle.sip_text.specs.inner.Blanks.{is_wsp}
 use Rattle.sip_text.proofs.texts.ManyLemmas.{many-nil, many-cons, many-append, many-one}
 use Rattle.sip_standard.specs.Lines.{CutSays}
-use Rattle.sip_message.specs.Lines.{is_inner_byte, HasNoBareEnd, IsFolded, with_end}
+use Rattle.sip_message.specs.inner.Lines.{is_inner_byte, HasNoBareEnd, IsFolded, with_end}
 use Rattle.sip_standard.specs.Field.{is_lws_byte}
 use Rattle.sip_standard.specs.Canonical.{is_end_byte, unfolded_run, unfolded_from, unfolded}
 use Rattle.sip_message.proofs.lemmas.text.Cuts.{Cuts, first_longer, same_length, second_longer, two_cuts, All, all_right, all_both}
@@ -86,7 +87,7 @@ from-same (b ∷ text) run inner all = at (is_lws_byte b) (from-same text (run +
     at true left right = left ∙ append_assoc run (b ∷ []) text
     at false left right = ap (λ t. t ++ b ∷ unfolded_from [] text) (inner-run run inner) ∙ ap (λ t. run ++ b ∷ t) right
 
--- and unfolding leaves such a text as it is
+-- a text without line ends stays as it is when it is unfolded
 pub unfolded-same : (text : List ℕ) → Inner text → unfolded text ≡ text
 unfolded-same text inner = from-same text [] tt inner
 
@@ -162,7 +163,7 @@ inner-many : (line : List ℕ) → Inner line → HasNoBareEnd line
 inner-many [] inner = many-nil _
 inner-many (b ∷ line) inner = many-cons _ (b ∷ []) line (inr (b, inner.0, refl)) (inner-many line inner.1)
 
--- and no bare line end
+-- lines without line ends in them have no bare one together
 pub inner-no_bare : (lines : List (List ℕ)) → AreInner lines → HasNoBareEnd (flat_map with_end lines)
 inner-no_bare [] inner = many-nil _
 inner-no_bare (l ∷ ls) inner =

@@ -7,8 +7,8 @@ use Rattle.std.proofs.lemmas.List.{append-nil, append_assoc, drop_more, length-d
 use Rattle.std.proofs.lemmas.Str.{digit_value_digit}
 use Rattle.sip_standard.specs.Field.{is_lws_byte}
 use Rattle.sip_standard.specs.Canonical.{unfolded_run, unfolded_from, unfolded}
-use Rattle.sip_message.specs.StartLine.{CodeText}
-use Rattle.sip_message.specs.inner.Appends.{Appends}
+use Rattle.sip_message.specs.inner.StartLine.{CodeText}
+use Rattle.sip_message.specs.inner.Canon.{Appends}
 use Rattle.sip_message.proofs.lemmas.canon.Law.{code-decimal}
 
 -- what was written, with what is left unfolded, is the text unfolded

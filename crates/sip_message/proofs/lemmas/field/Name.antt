@@ -2,12 +2,13 @@
 use Rattle.std.proofs.Common.{◌≡◌, ℕ, Bool, true, false, cond, List, [], ◌∷◌, ◌++◌, Some, None, refl, sym, ap, ◌∙◌}
 use Rattle.std.proofs.lemmas.Option.{none-some}
 use Rattle.sip_standard.specs.Text.{One, Many}
-use Rattle.sip_text.specs.Bytes.{colon, is_wsp}
+use Rattle.sip_text.specs.Bytes.{colon}
+use Rattle.sip_text.specs.inner.Blanks.{is_wsp}
 use Rattle.sip_text.specs.inner.Cut.{past}
 use Rattle.sip_text.proofs.texts.ManyLemmas.{many-nil, many-cons}
 use Rattle.sip_text.proofs.cuts.CutLemmas.{past-some}
 use Rattle.sip_message.specs.Name.{FieldName, name_of}
-use Rattle.sip_message.specs.Field.{NameText}
+use Rattle.sip_message.specs.inner.FieldText.{NameText}
 use Rattle.sip_message.specs.inner.Faults.{HasName}
 use Rattle.sip_message.specs.inner.Fronts.{TokenFront, past_wsp}
 use Rattle.sip_message.proofs.lemmas.text.Cuts.{All}
@@ -37,7 +38,7 @@ name-token line rest name n =
 pub named-no_token : (line : List ℕ) → NotRead (TokenFront line) → NotRead (HasName line)
 named-no_token line none (name, rest) n = none (n.spelled, n.whole.3.0 ++ colon ∷ rest) (name-token line rest name n)
 
--- nor without the colon
+-- a line without a colon after its token has no name
 pub named-no_colon : (line token rest : List ℕ) → ReadAs (TokenFront line) (token, rest) → past colon (past_wsp rest) ≡ None → NotRead (HasName line)
 named-no_colon line token rest read none (name, more) n =
     let same : n.whole.3.0 ++ colon ∷ more ≡ rest = ap (λ x. x.1) (read.1 (n.spelled, n.whole.3.0 ++ colon ∷ more) (name-token line more name n)) in

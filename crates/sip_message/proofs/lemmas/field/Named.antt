@@ -7,13 +7,13 @@ use Rattle.sip_message.specs.declared.field.Field.{Field as Code}
 use Rattle.sip_standard.specs.declared.fault.Fault.{Fault}
 use Rattle.sip_message.specs.Name.{is_name_of}
 use Rattle.sip_message.specs.Field.{Field}
-use Rattle.sip_message.specs.Message.{found, found_from, IsFirstFound}
+use Rattle.sip_message.specs.inner.MessageText.{found, found_from, IsFirstFound}
 use Rattle.sip_standard.specs.declared.fault.Reason.TheVariants as reason
 use Rattle.sip_standard.specs.Outcome.{Outcome, gives, stops, passes, stopped}
 use Rattle.sip_standard.specs.Faults.{fault_in_line, second_line}
 use Rattle.sip_standard.specs.Field.{FirstOf, OneOf}
 use Rattle.sip_message.specs.inner.Finds.{IsFound}
-use Rattle.sip_message.specs.Views.{name_parts, field_parts}
+use Rattle.sip_message.specs.inner.Views.{name_parts, field_parts}
 use Rattle.sip_message.specs.inner.Settles.{outcome_of}
 use Rattle.sip_message.proofs.lemmas.message.Outcome.{given-then}
 

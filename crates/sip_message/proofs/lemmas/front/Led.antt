@@ -3,7 +3,7 @@ use Rattle.std.proofs.Common.{◌≡◌, ℕ, ◌<◌, ◌≤◌, ◌⊎◌, Boo
 use Rattle.std.proofs.lemmas.Bool.{both_ways}
 use Rattle.std.proofs.lemmas.List.{append_assoc, length-append}
 use Rattle.sip_standard.specs.Field.{is_lws_byte}
-use Rattle.sip_message.specs.Params.{comma, Mark}
+use Rattle.sip_message.specs.inner.Marks.{comma, Mark}
 use Rattle.sip_message.specs.inner.Fronts.{Stops, Behind, TokenFront, MarkFront}
 use Rattle.sip_message.specs.inner.ElementFronts.{EndsElement}
 use Rattle.sip_message.specs.inner.ParamFronts.{LedFront}
@@ -22,7 +22,7 @@ pub led-some : (mark : ℕ) (Part : List ℕ → List ℕ × List ℕ → Type 0
 led-some mark Part text inner part rest solid one found is =
     read-one (LedFront mark Part text) (Some part, rest) (one-led mark Part text solid one) (inner, found.0, is)
 
--- and without one nothing is read
+-- where nothing is read after the mark, nothing is read with it
 pub no-led : (mark : ℕ) (Part : List ℕ → List ℕ × List ℕ → Type 0) (text inner : List ℕ) → ReadAs (MarkFront mark text) inner → NotRead (Part inner) → NotRead (LedFront mark Part text)
 no-led mark Part text inner found none (None, rest) (no_mark, is) = no_mark inner found.0
 no-led mark Part text inner found none (Some part, rest) (t, mark_too, is) =

@@ -1,13 +1,13 @@
 -- What is read from the front of a text is read in one way: laws over lists, for each step.
 use Rattle.std.proofs.Common.{◌≡◌, ℕ, ◌≤◌, Bool, true, false, ◌||◌, nat_eq, nat_le, List, [], ◌∷◌, ◌++◌, Some, None, length, slice_index, refl, sym, ap, ◌∙◌, subst, inl, inr, arith}
 use Rattle.std.specs.Int.{is_in_range}
-use Rattle.std.specs.Prelude.{codes}
 use Rattle.std.specs.Char.{is_ascii_alphabetic, is_ascii_alphanumeric, is_ascii_digit, is_ascii_hexdigit}
 use Rattle.std.proofs.lemmas.Bool.{both_ways, eqb-true, or_left, or_right, or_cases, and_parts, and_from, leb-true, le-leb}
 use Rattle.std.proofs.lemmas.List.{append_assoc}
 use Rattle.sip_standard.specs.Text.{One, Exactly, ◌or◌, Many}
 use Rattle.sip_standard.specs.Profile.{Token, Hostname, Ipv4, Hexseq, Ipv6, Quoted}
-use Rattle.sip_text.specs.Bytes.{colon, dot, hyphen, dquote, left_bracket, right_bracket, is_token_byte, is_one_of, Byte}
+use Rattle.sip_text.specs.Bytes.{colon, dot, hyphen, dquote, left_bracket, right_bracket, Byte, is_token_byte}
+use Rattle.sip_standard.specs.Chars.{is_among}
 use Rattle.sip_text.specs.Host.{HostText}
 use Rattle.sip_text.specs.inner.Class.{is_label_byte}
 use Rattle.sip_text.specs.inner.Cut.{behind}
@@ -99,7 +99,7 @@ wider low high lower higher b l h is =
 
 -- letters and digits are bytes of tokens
 token-alnum : (b : ℕ) → is_ascii_alphanumeric b ≡ true → is_token_byte b ≡ true
-token-alnum b is = or_left (is_ascii_alphanumeric b) (is_one_of (codes "-.!%*_+`'~") b) is
+token-alnum b is = or_left (is_ascii_alphanumeric b) (is_among "-.!%*_+`'~" b) is
 
 -- a digit is a byte of a token
 pub token-digit : (b : ℕ) → is_ascii_digit b ≡ true → is_token_byte b ≡ true
@@ -145,7 +145,7 @@ each-hostname =
     labels : Each T (Many (One is_label_byte))
     labels = each-many T _ (each-one T is_label_byte token-label)
 
--- so has an IPv4 address
+-- all bytes of an IPv4 address are bytes of tokens
 pub each-v4 : Each T Ipv4
 each-v4 =
     each-then T _ _ group (each-then T _ _ (token-byte dot refl) (each-then T _ _ group (each-then T _ _ (token-byte dot refl)
@@ -159,7 +159,7 @@ pub bare-all : (u : List ℕ) → All T u → All B u
 bare-all [] all = tt
 bare-all (b ∷ u) all = (bare-token b all.0, bare-all u all.1)
 
--- and so are those of an IPv6 address
+-- all bytes of an IPv6 address are bytes of tokens or colons
 pub each-v6 : Each B Ipv6
 each-v6 =
     each-or B _ _ (each-then B _ _ hexpart (each-optional B _ (each-then B _ _ (bare-byte colon refl) v4_bare)))

@@ -16,7 +16,7 @@ prefix-cut test (b ∷ text) = at (prefix-cut test text) (test b) refl
         let next : 1 + prefix_len test text ≡ suc (prefix_len test text) = omega arith in
         subst (λ n. All test (take n (b ∷ text)) × Stops test (drop n (b ∷ text))) (sym next) ((is, more.0), more.1)
 
--- the same by its length
+-- the longest front whose bytes pass the test, by its length
 pub prefix-at : (test : ℕ → Bool) (text : List ℕ) (n : ℕ) → n ≡ prefix_len test text → All test (take n text) × Stops test (drop n text)
 prefix-at test text n is = subst (λ m. All test (take m text) × Stops test (drop m text)) (sym is) (prefix-cut test text)
 
@@ -25,7 +25,7 @@ pub all-run : (test : ℕ → Bool) (u : List ℕ) → All test u → Many (One 
 all-run test [] all = many-nil (One test)
 all-run test (b ∷ u) all = many-cons (One test) (b ∷ []) u (b, all.0, refl) (all-run test u all.1)
 
--- and if there is one, one or more
+-- bytes that pass the test are one or more of them, if there is one
 pub all-some : (test : ℕ → Bool) (u : List ℕ) → All test u → (u ≡ [] → ⊥) → OneOrMore (One test) u
 all-some test u all some = elim (some-many (One test) u (all-run test u all)) [
   | inl none ↦ absurd (some none)

@@ -9,8 +9,7 @@ use Rattle.sip_standard.specs.Text.{One, Exactly, ◌or◌}
 use Rattle.sip_text.specs.Bytes.{crlf, carriage_return, line_feed}
 use Rattle.sip_text.proofs.texts.ManyLemmas.{many-nil, many-cons}
 use Rattle.sip_standard.specs.Lines.{CutSays, LinesSay}
-use Rattle.sip_message.specs.Lines.{is_inner_byte, HasNoBareEnd, with_end}
-use Rattle.sip_message.specs.inner.Lines.{AreLines, IsPaired, ArePaired, BeginsWithFeed}
+use Rattle.sip_message.specs.inner.Lines.{is_inner_byte, HasNoBareEnd, with_end, AreLines, IsPaired, ArePaired, BeginsWithFeed}
 use Rattle.sip_message.specs.inner.Fronts.{LineFront}
 use Rattle.sip_message.proofs.lemmas.text.Cuts.{All}
 use Rattle.sip_message.proofs.lemmas.front.Cuts.{ReadAs, NotRead}
@@ -249,7 +248,7 @@ clean-paired a (b ∷ c ∷ t) no_end clean = at (clean-first b (c ∷ t) clean)
           (next, two (ap (λ x. nat_eq x carriage_return) c_is) (subst HasNoBareEnd (sym t_is) rest)),
         )
 
--- and the other way round
+-- a text in which a LF stands after each CR, and after no other byte, has no bare line end
 paired-clean : (a : ℕ) (t : List ℕ) → nat_eq a carriage_return ≡ false → Paired a t → HasNoBareEnd t
 paired-clean a [] no_end paired = many-nil CleanPiece
 paired-clean a (b ∷ []) no_end paired =
@@ -277,7 +276,7 @@ pub is_not : (b : Bool) → (b ≡ true → ⊥) → not b ≡ true
 is_not true none = absurd (none refl)
 is_not false none = refl
 
--- and it begins with no LF
+-- a text without a bare line end does not begin with a LF
 pub clean-opens : (t : List ℕ) → HasNoBareEnd t → BeginsWithFeed t → ⊥
 clean-opens [] clean feed = absurd (omega (arith, feed))
 clean-opens (b ∷ t) clean feed = both_ways (nat_eq b line_feed) (sym (clean-paired 0 (b ∷ t) refl clean).0) (eq-eqb b line_feed feed)

@@ -3,9 +3,10 @@ use Rattle.std.proofs.Common.{◌≡◌, ℕ, Bool, true, false, nat_eq, List, [
 use Rattle.std.specs.List.{AllByRecursion, flat_map}
 use Rattle.std.proofs.lemmas.Bool.{both_ways, eqb-true, eq-eqb}
 use Rattle.std.proofs.lemmas.List.{append_assoc, length-append}
-use Rattle.sip_text.specs.Bytes.{crlf, carriage_return, line_feed, is_wsp}
+use Rattle.sip_text.specs.Bytes.{crlf, carriage_return, line_feed}
+use Rattle.sip_text.specs.inner.Blanks.{is_wsp}
 use Rattle.sip_standard.specs.Lines.{CutSays, OpensBlank, LinesSay}
-use Rattle.sip_message.specs.Lines.{IsFolded, with_end}
+use Rattle.sip_message.specs.inner.Lines.{IsFolded, with_end}
 use Rattle.sip_message.proofs.lemmas.text.Cuts.{Cuts, first_longer, same_length, second_longer, two_cuts, same_by_front}
 
 -- bytes have at most one head

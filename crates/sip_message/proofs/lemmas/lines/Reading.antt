@@ -10,10 +10,10 @@ use Rattle.sip_message.specs.declared.fault.ReadError.{ReadError}
 use Rattle.sip_message.specs.declared.fault.ReadError.TheVariants as error
 use Rattle.sip_message.specs.inner.Settles.{Settles}
 use Rattle.sip_standard.specs.Outcome.{Outcome, gives, stops, passes, stopped}
-use Rattle.sip_message.specs.Lines.{with_end}
-use Rattle.sip_message.specs.inner.Lines.{AreLines}
+use Rattle.sip_message.specs.inner.Lines.{with_end, AreLines}
 use Rattle.sip_message.specs.inner.Fronts.{LineFront}
-use Rattle.sip_message.specs.Field.{Field, FieldText, FieldsText}
+use Rattle.sip_message.specs.Field.{Field}
+use Rattle.sip_message.specs.inner.FieldText.{FieldText, FieldsText}
 use Rattle.sip_message.specs.inner.Faults.{FieldOf, FieldsOf}
 use Rattle.sip_message.proofs.lemmas.lines.OneWay.{no_blank}
 use Rattle.sip_message.proofs.lemmas.front.Cuts.{ReadAs, NotRead}

@@ -3,7 +3,8 @@ use Rattle.std.proofs.Common.{◌≡◌, ℕ, ◌+◌, ◌-◌, ◌≤◌, ◌�
 use Rattle.std.proofs.lemmas.Bool.{both_ways, and_parts, and_from}
 use Rattle.std.proofs.lemmas.Option.{none-some}
 use Rattle.std.proofs.Math.Seq.{take-append_seam, drop-append_seam}
-use Rattle.sip_text.specs.Bytes.{crlf, carriage_return, line_feed, is_wsp}
+use Rattle.sip_text.specs.Bytes.{crlf, carriage_return, line_feed}
+use Rattle.sip_text.specs.inner.Blanks.{is_wsp}
 use Rattle.sip_text.specs.Parts.{led}
 use Rattle.sip_text.specs.inner.Cut.{before, behind, up_to}
 use Rattle.sip_text.proofs.cuts.CutLemmas.{cut-whole, lacks-before}
@@ -11,7 +12,7 @@ use Rattle.sip_text.proofs.cuts.EndLemmas.{up_to-some, up_to-mark}
 use Rattle.std.proofs.lemmas.List.{append_assoc, append-nil, length-append, append_cancel_left, take-append-drop, length-take-le}
 use Rattle.sip_text.proofs.texts.LacksLemmas.{Lacks}
 use Rattle.sip_standard.specs.Lines.{OpensBlank}
-use Rattle.sip_message.specs.Lines.{IsFolded}
+use Rattle.sip_message.specs.inner.Lines.{IsFolded}
 use Rattle.sip_message.specs.inner.Fronts.{LineFront, ends_cr, begins_wsp, is_line}
 use Rattle.sip_message.proofs.lemmas.text.Cuts.{Cuts, first_longer, same_length, second_longer, two_cuts, same_by_end}
 use Rattle.sip_message.proofs.lemmas.lines.OneWay.{same_first}
@@ -118,7 +119,7 @@ cut-lf t front rest front_is rest_is = (
   subst (Lacks line_feed) (sym front_is) (lacks-before line_feed t),
 )
 
--- or at none
+-- a text without a LF has no line at its front
 pub cut-none : (text : List ℕ) (at : ℕ) → Scanned (take at text) (drop at text) → None ≡ behind line_feed (drop at text) → NotRead (LineFront text)
 cut-none text at scanned none =
     subst (λ t. NotRead (LineFront t)) (take-append-drop at text)
@@ -187,7 +188,7 @@ line-found text front rest at within scanned front_is rest_is line =
         ∙ ap (take (length (take at text ++ f.0))) (append_assoc (take at text) f.0 (crlf ++ rest) ∙ sym whole)
         ∙ ap (λ n. take n text) (omega (arith, length-append (take at text) f.0, length-take-le at text within, ap length f.1, length-append f.0 (carriage_return ∷ [])))
 
--- or it does not, and is scanned
+-- a line end that is none is passed, and the scan goes on
 pub line-on : (text front rest : List ℕ) (at : ℕ) → at ≤ length text → Scanned (take at text) (drop at text) → front ≡ before line_feed (drop at text) → Some rest ≡ behind line_feed (drop at text) → is_line front rest ≡ false → (at + length front + 1 ≤ length text) × Scanned (take (at + length front + 1) text) (drop (at + length front + 1) text)
 line-on text front rest at within scanned front_is rest_is line = (
   omega (arith, size, ap length whole, length-append (take at text ++ (front ++ line_feed ∷ [])) rest),

@@ -11,17 +11,16 @@ use Rattle.sip_standard.specs.declared.fault.Reason.TheVariants as reason
 use Rattle.sip_message.specs.declared.start_line.StartLine.{StartLine as Code}
 use Rattle.sip_message.specs.declared.start_line.StartLine.TheVariants as variant
 use Rattle.sip_standard.specs.StartLine.{StartLine, request}
-use Rattle.sip_message.specs.Via.{ViaParts, ViasText}
-use Rattle.sip_message.specs.Values.{CSeqText}
+use Rattle.sip_message.specs.Via.{ViaParts}
+use Rattle.sip_message.specs.inner.ElementFronts.{ViasText, ViaFront, FirstVia}
+use Rattle.sip_message.specs.inner.Values.{CSeqText, CSeqValue}
 use Rattle.sip_message.specs.Field.{Field}
 use Rattle.sip_standard.specs.Body.{length_in, cut_body}
-use Rattle.sip_message.specs.Message.{found, content_length, is_stream, IsStream, MethodFits, HasLength, IsEnough}
+use Rattle.sip_message.specs.inner.MessageText.{found, content_length, is_stream, IsStream, MethodFits, HasLength, IsEnough}
 use Rattle.sip_standard.specs.Outcome.{gives, stops, passes, stopped}
 use Rattle.sip_standard.specs.Faults.{fault_in_line, fault_in_body}
 use Rattle.sip_message.specs.inner.Faults.{BodyOf}
 use Rattle.sip_message.specs.Elements.{Element}
-use Rattle.sip_message.specs.inner.ElementFronts.{ViaFront, FirstVia}
-use Rattle.sip_message.specs.Reading.{CSeqValue}
 use Rattle.sip_message.specs.ValueParts.{start_parts}
 use Rattle.sip_message.proofs.lemmas.front.Cuts.{ReadAs}
 use Rattle.sip_message.proofs.lemmas.asked.Parts.{more-elements}

@@ -4,9 +4,11 @@ use Rattle.sip_message.specs.declared.name.Known.{Known}
 use Rattle.sip_message.specs.declared.name.Known.TheVariants as known_name
 use Rattle.sip_standard.specs.Outcome.{gives, passes}
 use Rattle.sip_standard.specs.StartLine.{StartLine}
-use Rattle.sip_message.specs.StartLine.{StartText}
-use Rattle.sip_message.specs.Field.{Field, Row, NameText, ValueText, FieldsText}
-use Rattle.sip_message.specs.Message.{Message, IsFirstFound, MethodFits, HasLength, IsNoMore, MessageFits, MessageText, message_of, Spells, content_length, found}
+use Rattle.sip_message.specs.inner.StartLine.{StartText}
+use Rattle.sip_message.specs.Field.{Field}
+use Rattle.sip_message.specs.inner.FieldText.{Row, NameText, ValueText, FieldsText}
+use Rattle.sip_message.specs.Message.{Message}
+use Rattle.sip_message.specs.inner.MessageText.{IsFirstFound, MethodFits, HasLength, IsNoMore, MessageFits, MessageText, message_of, Spells, content_length, found}
 use Rattle.sip_standard.specs.Body.{cut_body}
 use Rattle.sip_standard.specs.Field.{FirstOf, OneOf}
 use Rattle.sip_standard.specs.Lines.{CutSays}
@@ -16,7 +18,7 @@ use Rattle.sip_message.proofs.lemmas.start_line.OneWay.{same_start}
 use Rattle.sip_message.proofs.lemmas.field.OneWay.{same_name, same_value}
 use Rattle.sip_message.proofs.lemmas.message.Outcome.{IsOne, given, one-gives, one-demand, one-holds, one-then, given-then}
 
--- each step has one outcome
+-- each step of reading a message has at most one outcome: what it reads, or the first fault
 one-field : (n : ℕ) (line : List ℕ) → IsOne (FieldOf n line)
 one-field n line =
     one-then (one-demand (HasName line) _ (λ x y one other. let same = same_name line x.1 y.1 x.0 y.0 one other in ap (λ m. (m, x.1)) same.0 ∙ ap (λ r. (y.0, r)) same.1)) (λ named.
@@ -26,7 +28,7 @@ one-fields : (n : ℕ) (lines : List (List ℕ)) → IsOne (FieldsOf n lines)
 one-fields n [] = one-gives []
 one-fields n (line ∷ lines) = one-then (one-field n line) (λ f. one-then (one-fields (n + 1) lines) (λ fs. one-gives (f ∷ fs)))
 
--- the first of a list
+-- equal lists have the same first element
 same_cons : (x y : ℕ × List ℕ) (xs ys : List (ℕ × List ℕ)) → x ∷ xs ≡ y ∷ ys → x ≡ y
 same_cons x y xs ys is = ap head is
   where
@@ -82,7 +84,7 @@ read-fields n (line ∷ lines) fields is =
       given more.2,
     )
 
--- and fields are read
+-- lines that are fields are read as them
 pub fields-read : (n : ℕ) (lines : List (List ℕ)) (fields : List Field) → FieldsText lines fields → FieldsOf n lines (gives fields)
 fields-read n [] fields is = ap (λ fs. gives fs) is
 fields-read n (line ∷ lines) fields (f, fs, is, are, whole) =
@@ -150,7 +152,7 @@ read-text bytes m is =
       body_is = fits.1;
     })
 
--- and the bytes of a message are read
+-- the bytes of a message are read as it
 pub text-read : (bytes : List ℕ) (m : Message) → MessageText bytes m → ReadOf bytes (gives m)
 text-read bytes m text =
     let fits = text.fits in

@@ -9,11 +9,11 @@ use Rattle.sip_message.specs.declared.values.CSeq.{CSeq}
 use Rattle.sip_message.specs.declared.via.Via.{Via}
 use Rattle.sip_message.specs.Elements.{Element, values}
 use Rattle.sip_message.specs.Field.{Field}
-use Rattle.sip_message.specs.Message.{found, IsNotTwice}
+use Rattle.sip_message.specs.inner.MessageText.{found, IsNotTwice}
 use Rattle.sip_standard.specs.Outcome.{gives, passes}
 use Rattle.sip_standard.specs.Field.{OneOf}
 use Rattle.sip_message.specs.inner.Faults.{BodyOf}
-use Rattle.sip_message.specs.Reading.{CSeqValue}
+use Rattle.sip_message.specs.inner.Values.{CSeqValue}
 use Rattle.sip_standard.specs.StartLine.{StartLine}
 use Rattle.sip_standard.specs.Says.{IsFirstOf}
 use Rattle.sip_message.specs.ValueParts.{start_parts, cseq_parts}

@@ -43,7 +43,7 @@ one-demand R fault same (gives x) (stops g) one other = absurd (other.0 x one)
 one-demand R fault same (stops f) (gives y) one other = absurd (one.0 y other)
 one-demand R fault same (stops f) (stops g) one other = ap (λ z. stops z) (one.1 ∙ sym other.1)
 
--- so is a demand, kept or not
+-- a demand has one outcome, kept or not
 pub one-holds : (A : Type 0) (fault : Fault) → IsOne (Holds A fault)
 one-holds A fault = one-demand (λ _. A) fault (λ x y _ _. refl)
 

@@ -6,20 +6,21 @@ use Rattle.sip_standard.specs.declared.fault.Fault.{Fault}
 use Rattle.sip_message.specs.declared.fault.ReadError.{ReadError}
 use Rattle.sip_message.specs.declared.fault.ReadError.TheVariants as error
 use Rattle.sip_standard.specs.Lines.{CutSays, LinesSay}
-use Rattle.sip_message.specs.Lines.{HasNoBareEnd}
-use Rattle.sip_message.specs.inner.Lines.{AreLines}
+use Rattle.sip_message.specs.inner.Lines.{HasNoBareEnd, AreLines}
 use Rattle.sip_standard.specs.StartLine.{StartLine}
-use Rattle.sip_message.specs.StartLine.{StartText}
+use Rattle.sip_message.specs.inner.StartLine.{StartText}
 use Rattle.sip_message.specs.Field.{Field}
-use Rattle.sip_message.specs.Message.{Message, MessageText, content_length}
+use Rattle.sip_message.specs.Message.{Message}
+use Rattle.sip_message.specs.inner.MessageText.{MessageText, content_length}
 use Rattle.sip_standard.specs.Outcome.{Outcome, gives, stops, passes}
 use Rattle.sip_message.specs.inner.Faults.{FieldsOf, NamesOf, BodyOf, LinesOf, ReadOf}
 use Rattle.sip_message.specs.inner.Settles.{Settles}
 use Rattle.sip_message.specs.Only.{IsOnly}
-use Rattle.sip_message.specs.Reading.{Reading, Parts, HasParts, Keeps, CSeqValue}
+use Rattle.sip_message.specs.Reading.{Reading, Parts, HasParts}
+use Rattle.sip_message.specs.inner.Kept.{Keeps, KeepsRead}
+use Rattle.sip_message.specs.inner.Values.{CSeqValue}
 use Rattle.sip_message.specs.Elements.{Element}
 use Rattle.sip_message.specs.inner.ElementFronts.{FirstVia}
-use Rattle.sip_message.specs.inner.Kept.{KeepsRead}
 use Rattle.sip_message.specs.Reads.{Reads, ReadsTo}
 use Rattle.sip_message.specs.inner.Stages.{Names, Stand}
 use Rattle.sip_message.proofs.lemmas.lines.OneWay.{head-lines}
@@ -79,7 +80,7 @@ pub found-text : {bytes rest first body : List ℕ} {start : StartLine} {fields 
 found-text {bytes = bytes} {body = body} {start = start} {fields = fields} {n = n} f =
     read-text bytes _ (begun f.is_begun (passes start f.is_start (passes fields f.are_fields (passes (n.via, n.cseq) f.are_names (passes body f.is_body refl)))))
 
--- and what it keeps is so
+-- a message that was found keeps where its named fields stand
 pub found-keeps : {bytes rest first body : List ℕ} {start : StartLine} {fields : List Field} {n : Names} (e : Element) (s : ℕ × List ℕ) → Found bytes rest first start fields n body → FirstVia (n.via.1) e → CSeqValue (n.cseq.1) s
     → (p : Parts) × KeepsRead (record { start = start; fields = fields; body = body }) p e n.from n.to n.call_id s
 found-keeps {bytes = bytes} {n = n} e s f first said =
@@ -105,7 +106,7 @@ found-keeps {bytes = bytes} {n = n} e s f first said =
       },
     )
 
--- and the bytes are read
+-- the bytes are read as the message that was found
 pub found-reads : {bytes rest first body : List ℕ} {start : StartLine} {fields : List Field} {n : Names} (r : Reading) → Found bytes rest first start fields n body
     → ◌≡◌ {A = Message} r.message (record { start = start; fields = fields; body = body }) → IsOnly (HasParts r.message.fields) r.parts → Reads bytes r
 found-reads {bytes = bytes} r f is parts = text-reads bytes r (subst (MessageText bytes) (sym is) (found-text f)) parts

@@ -4,7 +4,8 @@ use Rattle.std.proofs.Common.{refl}
 use Rattle.sip_standard.specs.declared.fault.Fault.{Fault}
 use Rattle.sip_message.specs.declared.name.Known.{Known}
 use Rattle.sip_message.specs.Field.{Field}
-use Rattle.sip_message.specs.Message.{Message, found}
+use Rattle.sip_message.specs.Message.{Message}
+use Rattle.sip_message.specs.inner.MessageText.{found}
 use Rattle.sip_standard.specs.Outcome.{Outcome, gives, stops, Gives, Demand, Then, passes, stopped}
 use Rattle.sip_standard.specs.Field.{OneOf}
 use Rattle.sip_message.specs.inner.Faults.{FieldOf, FieldsOf, NamesOf, ReadOf}
@@ -61,7 +62,7 @@ comes-read bytes =
     comes-then _ _ (comes-demand _ _) (λ _ _. comes-gives _))))) (λ body _. comes-gives _))))
     (λ out of_lines. never out (lines.0, lines.1, lines.2, of_lines))))
 
--- so bytes have a reading or a fault
+-- no bytes are without a reading and without a fault
 pub reading-or-fault : (bytes : List ℕ) → ((r : Reading) → ¬ (Reads bytes r)) → ¬ ((fault : Fault) → ¬ (Says bytes (stops fault)))
 reading-or-fault bytes no_reading no_fault = comes-read bytes at
   where

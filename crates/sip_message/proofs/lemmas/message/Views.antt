@@ -6,24 +6,30 @@ use Rattle.sip_message.specs.declared.name.Known.{Known}
 use Rattle.sip_message.specs.declared.name.Known.TheVariants as known_name
 use Rattle.sip_message.specs.Field.{Field}
 use Rattle.sip_standard.specs.Outcome.{Outcome, gives}
+use Rattle.sip_standard.specs.Values.{CSeqSays}
 use Rattle.sip_standard.specs.Says.{IsFirstOf}
-use Rattle.sip_message.specs.Message.{Message, MessageText}
-use Rattle.sip_message.specs.Only.{IsOnly, ExactlyOne, the}
+use Rattle.sip_message.specs.Message.{Message}
+use Rattle.sip_message.specs.inner.MessageText.{MessageText}
+use Rattle.sip_message.specs.Only.{IsOnly}
+use Rattle.sip_message.specs.inner.Only.{ExactlyOne, the}
 use Rattle.sip_message.specs.Elements.{Element, values, AreElements}
 use Rattle.sip_message.specs.inner.ElementFronts.{ViaFront}
-use Rattle.sip_message.specs.Reading.{AddressValue, CSeqValue, Reading, Parts, HasParts, Keeps}
+use Rattle.sip_message.specs.Reading.{AddressValue, Reading, Parts, HasParts}
+use Rattle.sip_message.specs.inner.Values.{CSeqValue}
+use Rattle.sip_message.specs.inner.Kept.{Keeps, KeepsRead}
 use Rattle.sip_message.specs.inner.Codes.{parts_code}
-use Rattle.sip_message.specs.inner.Kept.{KeepsRead}
 use Rattle.sip_message.specs.Reads.{Reads}
 use Rattle.sip_message.proofs.lemmas.message.Faults.{text-read, one-read}
 use Rattle.sip_message.proofs.lemmas.via.Elements.{first-front, One-is}
+use Rattle.sip_message.proofs.lemmas.says.Values.{said-value}
+use Rattle.sip_message.proofs.lemmas.says.Told.{tells-text}
 
 -- what must be read is read
 pub some-read : {A X : Type 0} (R : List ℕ → X → Type 0) (parts : A → X) (text : List ℕ) {x : X} (r : Option A) → IsOnlyValue R parts text r → R text x → IsSome r
 some-read R parts text None none is = absurd (none _ is)
 some-read R parts text (Some a) read is = refl
 
--- and it is what it must be
+-- what is read of a text that is of the form is what it must be
 pub read-is : {A X : Type 0} (R : List ℕ → X → Type 0) (parts : A → X) (text : List ℕ) {x : X} (r : Option A) (a : A) → r ≡ Some a → IsOnlyValue R parts text r → R text x → parts a ≡ x
 read-is R parts text {x = x} r a some read is = sym ((subst (IsOnlyValue R parts text) some read).1 x is)
 
@@ -37,15 +43,15 @@ same-value known fields {a = a} {b = b} one other =
 pub keeps-from : {m : Message} {p : Parts} {v f t i c : List ℕ} → Keeps m p v f t i c → AddressValue f p.from
 keeps-from {m = m} {p = p} k = subst (λ x. AddressValue x p.from) (same-value known_name.From m.fields k.parts.is.from.1 k.from) k.parts.is.from.2
 
--- so is the To
+-- the value of the first To is an address, with the parts that the message has
 pub keeps-to : {m : Message} {p : Parts} {v f t i c : List ℕ} → Keeps m p v f t i c → AddressValue t p.to
 keeps-to {m = m} {p = p} k = subst (λ x. AddressValue x p.to) (same-value known_name.To m.fields k.parts.is.to.1 k.to) k.parts.is.to.2
 
 -- the CSeq
 pub keeps-cseq : {m : Message} {p : Parts} {v f t i c : List ℕ} → Keeps m p v f t i c → CSeqValue c p.cseq
-keeps-cseq {m = m} {p = p} k = subst (λ x. CSeqValue x p.cseq) (same-value known_name.CSeq m.fields k.parts.is.cseq.1 k.cseq) k.parts.is.cseq.2
+keeps-cseq {m = m} {p = p} {c = c} k = said-value c p.cseq (subst (λ x. CSeqSays p.cseq x) (same-value known_name.CSeq m.fields k.parts.is.cseq.1 k.cseq) k.parts.is.cseq.2)
 
--- and the Call-ID
+-- the value of the first Call-ID is that of the message
 pub keeps-call_id : {m : Message} {p : Parts} {v f t i c : List ℕ} → Keeps m p v f t i c → i ≡ p.call_id
 keeps-call_id {m = m} k = same-value known_name.CallId m.fields k.call_id k.parts.is.call_id
 
@@ -82,10 +88,10 @@ same_text bytes m n one other =
     let same : ◌≡◌ {A = Outcome Message} (gives m) (gives n) = one-read bytes (gives m) (gives n) (text-read bytes m one) (text-read bytes n other) in
     cc
 
--- and are read in one way
+-- bytes are read in one way
 pub same_reading : (bytes : List ℕ) (r s : Reading) → Reads bytes r → Reads bytes s → r ≡ s
 same_reading bytes r s one other =
-    let message = same_text bytes r.message s.message one.text other.text in
+    let message = same_text bytes r.message s.message (tells-text bytes r.message one.tells) (tells-text bytes s.message other.tells) in
     let parts : s.parts ≡ r.parts = one.parts.only s.parts (subst (λ m. HasParts m.fields s.parts) (sym message) other.parts.is) in
     ap (λ m. record { message = m; parts = r.parts }) message ∙ ap (λ p. record { message = s.message; parts = p }) (sym parts)
 

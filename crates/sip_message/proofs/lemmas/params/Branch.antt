@@ -96,7 +96,7 @@ decides-all text rest first none so =
     or-none None = refl
     or-none (Some v) = refl
 
--- the first of two branches, as the code has it
+-- to copy the first of two values that is there is to take the first of their copies
 pub copied-or : (a b : Option (Bor (List ℕ))) → option_copied (option_or a b) ≡ option_or (option_copied a) (option_copied b)
 copied-or None b = refl
 copied-or (Some v) b = refl

@@ -5,13 +5,14 @@ use Rattle.std.proofs.lemmas.Bool.{both_ways}
 use Rattle.std.proofs.lemmas.List.{append_assoc, length-append}
 use Rattle.sip_standard.specs.Text.{One, Exactly, ◌then◌, ◌or◌, Many, OneOrMore, Between}
 use Rattle.sip_standard.specs.Profile.{Token, Lws, Blanks, Sws, Hexseq, Ipv6, Bracketed, Quoted}
-use Rattle.sip_text.specs.Bytes.{space, semicolon, equals, dquote, colon, is_token_byte, Byte}
+use Rattle.sip_text.specs.Bytes.{space, semicolon, equals, dquote, colon, Byte, is_token_byte}
 use Rattle.sip_text.specs.inner.Pieces.{Qdtext, QuotedPair, Hex4, Hexpart}
 use Rattle.sip_text.proofs.texts.ManyLemmas.{many-nil, many-cons}
-use Rattle.sip_message.specs.Unfold.{OpensSolid, EndsSolid}
+use Rattle.sip_message.specs.Params.{OpensSolid, ParamText, ParamsText, ParamsPart, BehindBlanks}
+use Rattle.sip_message.specs.inner.FieldText.{EndsSolid}
 use Rattle.sip_standard.specs.Field.{is_lws_byte}
 use Rattle.sip_standard.specs.Via.{GenValue}
-use Rattle.sip_message.specs.Params.{Mark, ParamText, ParamsText, ParamsPart, BehindBlanks}
+use Rattle.sip_message.specs.inner.Marks.{Mark}
 use Rattle.sip_message.proofs.lemmas.text.Cuts.{All}
 use Rattle.sip_message.proofs.lemmas.text.Each.{Each, each-sws, each-blanks, is_solid}
 use Rattle.sip_message.proofs.lemmas.text.Solid.{solid-token, solid-v6, solid-v6_reference}
@@ -27,7 +28,7 @@ blanks-space = (space ∷ [], [], lws-space, many-nil Lws, refl)
 pub closed-blanks : Closed Blanks
 closed-blanks = closed-blank Blanks each-blanks blanks-space
 
--- and blanks that may be none stay so
+-- blanks that may be none stay so when a fold in them is unfolded
 pub closed-sws : Closed Sws
 closed-sws = closed-blank Sws each-sws (inr blanks-space)
 
@@ -43,7 +44,7 @@ closed-byte b is = closed-solid (Byte b) (each-byte b is)
 pub open-byte : (b : ℕ) → is_solid b ≡ true → AllOpen (Byte b)
 open-byte b is u v text = subst (λ t. OpensSolid (t ++ v)) (sym text) (solid_is b is)
 
--- and ends solid
+-- a byte that is no blank is firm
 pub firm-byte : (b : ℕ) → is_solid b ≡ true → AllFirm (Byte b)
 firm-byte b is u text = subst Firm (sym text) (solid_is b is)
 
@@ -77,7 +78,7 @@ some-run class u run none = absurd (omega (arith, ap length none, ap length run.
 pub firm-token : AllFirm Token
 firm-token = firm-solid Token solid-token (some-run is_token_byte)
 
--- and opens solid
+-- a token begins without a blank
 pub open-token : AllOpen Token
 open-token = open-solid Token solid-token (some-run is_token_byte)
 
@@ -138,7 +139,7 @@ firm-quoted =
     firm-then_right (Byte dquote) (Many (Qdtext or QuotedPair) then Byte dquote)
     (firm-then_right (Many (Qdtext or QuotedPair)) (Byte dquote) (firm-byte dquote refl))
 
--- and opens solid
+-- a quoted string begins without a blank
 pub open-quoted : (u : List ℕ) → Quoted u → OpensSolid u
 open-quoted u = opens-then (Byte dquote) (Many (Qdtext or QuotedPair) then Byte dquote) (open-byte dquote refl) u
 

@@ -8,10 +8,10 @@ use Rattle.sip_standard.specs.Profile.{Token, Ipv6}
 use Rattle.sip_text.specs.Bytes.{semicolon, equals, dquote, left_bracket, right_bracket, is_token_byte}
 use Rattle.sip_text.specs.inner.Cut.{past}
 use Rattle.sip_text.proofs.cuts.CutLemmas.{past-some}
-use Rattle.sip_message.specs.Unfold.{OpensSolid}
+use Rattle.sip_message.specs.Params.{OpensSolid, ParamText, ParamsText, ParamsPart, BehindBlanks}
 use Rattle.sip_standard.specs.Field.{is_lws_byte}
 use Rattle.sip_standard.specs.Via.{GenValue}
-use Rattle.sip_message.specs.Params.{comma, Mark, ParamText, ParamsText, ParamsPart, BehindBlanks}
+use Rattle.sip_message.specs.inner.Marks.{comma, Mark}
 use Rattle.sip_message.specs.inner.Fronts.{StopsBlank, TokenFront, MarkFront, both}
 use Rattle.sip_message.specs.inner.ParamFronts.{Param, is_bare_byte, ValueFront, LedFront, ParamFront, ParamsFront, AllParamsFront}
 use Rattle.sip_message.proofs.lemmas.text.Cuts.{All}
@@ -254,7 +254,7 @@ params-some text inner rest found all = (to rest all.0 all.1, from)
     from : AreParams text → IsTrue (nat_eq (length rest) 0)
     from are = ap (λ t. nat_eq (length t) 0) (params-is text all.0 are.0 rest all.1 are.1.1)
 
--- and another exactly if it is empty
+-- a text without a semicolon is parameters exactly if it is empty
 pub params-none : (text : List ℕ) → past semicolon text ≡ None → IsTrue (nat_eq (length text) 0) ↔ AreParams text
 params-none text none = (to text, (λ are. ap (λ t. nat_eq (length t) 0) (params-closed text are.0 none are.1)))
   where

@@ -143,7 +143,7 @@ pub no-bracket : (text : List ℕ) → past left_bracket text ≡ None → NotRe
 no-bracket text none x bracket =
     none-some (bracket.0 ++ right_bracket ∷ (x.1)) (sym none ∙ ap (past left_bracket) (bracket-whole text x bracket) ∙ past-here left_bracket _)
 
--- nor without a closing one
+-- a value with an open bracket and no closing one is not read as one in brackets
 pub no-close : (text inner : List ℕ) → past left_bracket text ≡ Some inner → behind right_bracket inner ≡ None → NotRead (BracketFront text)
 no-close text inner found none x bracket =
     let both : left_bracket ∷ inner ≡ left_bracket ∷ (bracket.0 ++ right_bracket ∷ (x.1)) = sym (past-some left_bracket text inner found) ∙ bracket-whole text x bracket in
@@ -165,7 +165,7 @@ one-closed text inner rest found ends =
     read-one (BracketFront text) (take (length text - length rest) text, rest) (one-bracket text)
     (before right_bracket inner, lacks-before right_bracket inner, part_is, whole ∙ ap (λ x. x ++ rest) (sym part_is))
 
--- and leaves no more than there was
+-- what is left after the brackets is no longer than the text
 pub closed-short : (text inner rest : List ℕ) → past left_bracket text ≡ Some inner → behind right_bracket inner ≡ Some rest → length rest ≤ length text
 closed-short text inner rest found ends =
     rest-short text (left_bracket ∷ (before right_bracket inner ++ right_bracket ∷ [])) rest (closed text inner rest found ends)
@@ -231,7 +231,7 @@ value-quoted text value rest is = read-one (ValueFront text) (value, rest) (one-
 pub value-reference : (text value rest : List ℕ) → ReadAs (ReferenceFront text) (value, rest) → ReadAs (ValueFront text) (value, rest)
 value-reference text value rest is = read-one (ValueFront text) (value, rest) (one-value text) (inr (inl is.0))
 
--- or it is bare
+-- a value that is neither quoted nor in brackets is read as a bare one
 pub value-bare : {A : Type 0} (parts : A → List ℕ × List ℕ) (text : List ℕ) (r : Option A) → NotRead (QuotedFront text) → NotRead (ReferenceFront text) → IsOnlyValue BareFront parts text r → IsOnlyValue ValueFront parts text r
 value-bare parts text None quoted reference none = at
   where

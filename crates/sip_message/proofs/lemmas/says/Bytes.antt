@@ -13,16 +13,18 @@ use Rattle.sip_text.specs.Bytes.{Byte}
 use Rattle.sip_message.specs.declared.name.Known.{Known}
 use Rattle.sip_message.specs.declared.name.Known.TheVariants as known_name
 use Rattle.sip_standard.specs.declared.fault.Reason.TheVariants as reason
-use Rattle.sip_message.specs.Unfold.{OpensSolid, EndsSolid}
+use Rattle.sip_message.specs.Params.{OpensSolid}
+use Rattle.sip_message.specs.inner.FieldText.{EndsSolid, Row}
 use Rattle.sip_standard.specs.Field.{is_lws_byte, full_name, RowSays, SaidField, all, IsTrimmed, FieldSays, FieldsSay, FirstOf, NoSecond, OneOf, NamesSay}
-use Rattle.sip_message.specs.Lines.{HasNoBareEnd}
+use Rattle.sip_message.specs.inner.Lines.{HasNoBareEnd}
 use Rattle.sip_standard.specs.StartLine.{StartLine, request, status, StartSays}
-use Rattle.sip_message.specs.StartLine.{StartText}
+use Rattle.sip_message.specs.inner.StartLine.{StartText}
 use Rattle.sip_message.specs.Name.{FieldName, name_of, is_name_of}
-use Rattle.sip_message.specs.Field.{Field, Row}
+use Rattle.sip_message.specs.Field.{Field}
 use Rattle.sip_message.specs.Elements.{Element, ElementsText}
 use Rattle.sip_standard.specs.Body.{length_in, cut_body, MethodSays, StreamSays, BodySays}
-use Rattle.sip_message.specs.Message.{Message, found, found_from, is_stream, IsStream, MethodFits, HasLength, IsEnough, IsNoMore, content_length}
+use Rattle.sip_message.specs.Message.{Message}
+use Rattle.sip_message.specs.inner.MessageText.{found, found_from, is_stream, IsStream, MethodFits, HasLength, IsEnough, IsNoMore, content_length}
 use Rattle.sip_standard.specs.Outcome.{Outcome, Gives, Demand, Holds, Then}
 use Rattle.sip_standard.specs.Faults.{fault_in_head, fault_in_line, fault_in_body}
 use Rattle.sip_message.specs.inner.Faults.{HasName, IsValue, FieldOf, FieldsOf, NamesOf, BodyOf, LinesOf, ReadOf}

@@ -1,26 +1,30 @@
--- The canonical form, of the message that bytes spell and of what they tell.
-use Rattle.std.proofs.Common.{◌≡◌, ℕ, Bool, true, false, cond, ◌||◌, List, [], ◌∷◌, ◌++◌, map, flat_map, refl, sym, ap, ap₂, ◌∙◌}
-use Rattle.std.specs.Prelude.{bytes_eq, codes, ◌+◌}
+-- The canonical form of what bytes tell, and of the message that is kept of them.
+use Rattle.std.proofs.Common.{◌≡◌, ◌↔◌, ℕ, Bool, true, false, cond, ◌||◌, List, [], ◌∷◌, ◌++◌, map, flat_map, refl, sym, ap, ap₂, ◌∙◌, subst}
+use Rattle.std.specs.Prelude.{bytes_eq, codes}
 use Prim.Native.String.{String}
 use Rattle.sip_standard.specs.Case.{folded}
-use Rattle.sip_standard.specs.StartLine.{StartLine}
-use Rattle.sip_standard.specs.Outcome.{Outcome, gives, stops}
+use Rattle.sip_standard.specs.StartLine.{StartLine, request, status}
+use Rattle.sip_standard.specs.Outcome.{gives}
 use Rattle.sip_standard.specs.Field.{SaidField}
 use Rattle.sip_standard.specs.Says.{BytesTell}
-use Rattle.sip_standard.specs.Canonical.{unfolded, start_text, canonical, IsCanonical}
+use Rattle.sip_standard.specs.Canonical.{unfolded, start_text, canonical}
 use Rattle.sip_standard.specs.Canonical as form
 use Rattle.sip_text.specs.Bytes.{crlf, colon, space}
 use Rattle.sip_message.specs.declared.name.Known.{Known}
 use Rattle.sip_message.specs.declared.name.Known.TheVariants as known_name
-use Rattle.sip_message.specs.Name.{FieldName, known, name_of, long_name, name_text}
-use Rattle.sip_message.specs.Lines.{with_end}
-use Rattle.sip_message.specs.Field.{Field}
-use Rattle.sip_message.specs.Canon.{field_text, canon}
-use Rattle.sip_message.specs.Message.{Message, MessageText, unfolded_field, message_of, Spells}
-use Rattle.sip_message.specs.inner.Faults.{ReadOf}
-use Rattle.sip_message.proofs.lemmas.message.Faults.{read-text, text-read}
-use Rattle.sip_message.proofs.lemmas.says.Alike.{Alike}
-use Rattle.sip_message.proofs.lemmas.says.Bytes.{IsField, AreFields, IsTold, same-read}
+use Rattle.sip_message.specs.Name.{FieldName, known, name_of, long_name}
+use Rattle.sip_message.specs.Field.{Field, field_of}
+use Rattle.sip_message.specs.Message.{Message}
+use Rattle.sip_message.specs.Reading.{Reading}
+use Rattle.sip_message.specs.Reads.{Reads}
+use Rattle.sip_message.specs.Canon.{IsFormOf, in_full, TellsInFull, SameInFull}
+use Rattle.sip_message.specs.inner.Lines.{with_end}
+use Rattle.sip_message.specs.inner.StartLine.{StartText}
+use Rattle.sip_message.specs.inner.Canon.{name_text, field_text, canon, HasCode}
+use Rattle.sip_message.specs.inner.MessageText.{unfolded_field, message_of}
+use Rattle.sip_message.proofs.lemmas.start_line.OneWay.{status_parts}
+use Rattle.sip_message.proofs.lemmas.canon.Law.{canon-text, same_canon}
+use Rattle.sip_message.proofs.lemmas.says.Told.{text-tells, tells-text}
 
 -- a name that has no compact form, and one that has
 one : (b : Bool) (k : Known) (name : FieldName) {text : List ℕ} → name_text name ≡ text → name_text (cond b (known k) name) ≡ cond b (long_name k) text
@@ -49,39 +53,79 @@ long-name token =
     (two (has "supported") (has "k") known_name.Supported _
     (one (has "route") known_name.Route _ refl)))))))))))
 
--- and so are fields
-same-text : (n : ℕ) (f : Field) (g : SaidField) → IsField n f g → field_text (unfolded_field f) ≡ form.field_text g
-same-text n f g (f_is, g_is, line_is, value_is) =
-    ap₂ (λ name value. name ++ colon ∷ space ∷ unfolded value) (ap name_text f_is ∙ long-name g.spelled) (sym value_is)
-
-same-texts : (n : ℕ) (fs : List Field) (gs : List SaidField) → AreFields n fs gs → map field_text (map unfolded_field fs) ≡ map form.field_text gs
-same-texts n [] [] are = refl
-same-texts n [] (g ∷ gs) are = absurd are
-same-texts n (f ∷ fs) [] are = absurd are
-same-texts n (f ∷ fs) (g ∷ gs) (is, are) = ap₂ (λ t ts. t ∷ ts) (same-text n f g is) (same-texts (n + 1) fs gs are)
+-- the canonical text of a field is the same, as it is read and as it is said
+same-texts : (gs : List SaidField) → map field_text (map unfolded_field (map field_of gs)) ≡ map form.field_text gs
+same-texts [] = refl
+same-texts (g ∷ gs) = ap₂ (λ (t : List ℕ) (ts : List (List ℕ)). t ∷ ts) (ap (λ name. name ++ colon ∷ space ∷ unfolded g.value) (long-name g.spelled)) (same-texts gs)
 
 -- the form of a message is that of what is told of it
-same-form : (m : Message) (told : StartLine × List SaidField × List ℕ) → IsTold m told → canon (message_of m) ≡ canonical told
-same-form m (start, gs, body) (start_is, are, body_is) =
-    let fields = same-texts 1 m.fields gs are in
-    λ i. flat_map with_end (start_text (start_is i) ∷ fields i) ++ (crlf ++ body_is i)
+same-form : (m : Message) (gs : List SaidField) → m.fields ≡ map field_of gs → canon (message_of m) ≡ canonical (m.start, gs, m.body)
+same-form m gs are =
+    ap (λ (texts : List (List ℕ)). flat_map with_end (start_text m.start ∷ texts) ++ (crlf ++ m.body))
+    (ap (λ (fs : List Field). map field_text (map unfolded_field fs)) are ∙ same-texts gs)
 
--- bytes that spell a message have its canonical form
-pub text-canonical : (bytes : List ℕ) (m : Message) → MessageText bytes m → IsCanonical bytes (canon (message_of m))
-text-canonical bytes m text = let told = (same-read bytes).to (gives m) (text-read bytes m text) in at told.0 told.1 told.2
+-- the form of a message is that of all bytes that are read as it
+pub reads-canonical : (r : Reading) → IsFormOf r (canon (message_of r.message))
+reads-canonical r bytes reads =
+    ((r.message.start, reads.tells.0, r.message.body), reads.tells.1, same-form r.message reads.tells.0 reads.tells.2)
+
+-- what is kept of a message that bytes tell
+abbrev kept : StartLine → List SaidField → List ℕ → Message
+kept start gs body = record { start = start; fields = map field_of gs; body = body }
+
+-- a field by its name in full
+abbrev shown : Field → List ℕ × List ℕ
+shown f = (name_text f.name, f.value)
+
+shown-told : (gs : List SaidField) → map shown (map field_of gs) ≡ map (λ g. (form.long_name g.spelled, g.value)) gs
+shown-told [] = refl
+shown-told (g ∷ gs) = ap₂ (λ (name : List ℕ) (more : List (List ℕ × List ℕ)). (name, g.value) ∷ more) (long-name g.spelled) (shown-told gs)
+
+shown-in_full : (gs : List SaidField) → map shown (map unfolded_field (map field_of gs)) ≡ in_full gs
+shown-in_full [] = refl
+shown-in_full (g ∷ gs) = ap₂ (λ (name : List ℕ) (more : List (List ℕ × List ℕ)). (name, unfolded g.value) ∷ more) (long-name g.spelled) (shown-in_full gs)
+
+-- the canonical form tells the message itself
+pub canonical-tells : (bytes : List ℕ) (start : StartLine) (gs : List SaidField) (body : List ℕ) → BytesTell bytes (gives (start, gs, body)) → TellsInFull (start, gs, body) (canonical (start, gs, body))
+canonical-tells bytes start gs body tells =
+    let m = kept start gs body in
+    let again = text-tells (canon (message_of m)) (message_of m) (canon-text bytes m (tells-text bytes m (gs, tells, refl))) in
+    (again.0, subst (λ t. BytesTell t (gives (start, again.0, body))) (same-form m gs refl) again.1, sym (shown-told again.0) ∙ ap (map shown) (sym again.2) ∙ shown-in_full gs)
+
+-- a line of a field by its name in full
+abbrev line_of : List ℕ × List ℕ → List ℕ
+line_of f = f.0 ++ (codes ": " ++ f.1)
+
+lines-in_full : (gs : List SaidField) → map form.field_text gs ≡ map line_of (in_full gs)
+lines-in_full [] = refl
+lines-in_full (g ∷ gs) = ap (λ ts. form.field_text g ∷ ts) (lines-in_full gs)
+
+-- messages have one canonical form exactly if they are the same with each name in full
+pub same-canonical : (a b : List ℕ) (x y : StartLine × List SaidField × List ℕ) → BytesTell a (gives x) → BytesTell b (gives y) → (canonical x ≡ canonical y) ↔ SameInFull x y
+same-canonical a b (s, gs, t) (r, hs, u) one other = (to, from)
   where
-    at : (b : Outcome (StartLine × List SaidField × List ℕ)) → BytesTell bytes b → Alike IsTold (gives m) b → IsCanonical bytes (canon (message_of m))
-    at (gives y) tells is_told = (y, tells, same-form m y is_told)
-    at (stops f) tells is_told = absurd is_told
+    to : canonical (s, gs, t) ≡ canonical (r, hs, u) → SameInFull (s, gs, t) (r, hs, u)
+    to same =
+        let m = kept s gs t in
+        let n = kept r hs u in
+        let is : message_of m ≡ message_of n =
+        same_canon a b (message_of m) (message_of n) (m, tells-text a m (gs, one, refl), refl) (n, tells-text b n (hs, other, refl), refl)
+        (same-form m gs refl ∙ same ∙ sym (same-form n hs refl)) in
+        record {
+          start = ap (λ (k : Message). k.start) is;
+          fields = sym (shown-in_full gs) ∙ ap (λ (k : Message). map shown k.fields) is ∙ shown-in_full hs;
+          body = ap (λ (k : Message). k.body) is;
+        }
 
--- and what has a canonical form spells a message
-pub canonical-spells : (bytes text : List ℕ) → IsCanonical bytes text → (m : Message) × Spells bytes m × (text ≡ canon m)
-canonical-spells bytes text (told, tells, is) = let read = (same-read bytes).back (gives told) tells in at read.0 read.1 read.2
-  where
-    at : (a : Outcome Message) → ReadOf bytes a → Alike IsTold a (gives told) → (m : Message) × Spells bytes m × (text ≡ canon m)
-    at (gives m) read is_told = (message_of m, (m, read-text bytes m read, refl), is ∙ sym (same-form m told is_told))
-    at (stops f) read is_told = absurd is_told
+    from : SameInFull (s, gs, t) (r, hs, u) → canonical (s, gs, t) ≡ canonical (r, hs, u)
+    from same =
+        let lines : map form.field_text gs ≡ map form.field_text hs = lines-in_full gs ∙ ap (map line_of) same.fields ∙ sym (lines-in_full hs) in
+        λ i. flat_map with_end (start_text (same.start i) ∷ lines i) ++ (crlf ++ same.body i)
 
-pub spells-canonical : (bytes text : List ℕ) → (m : Message) × Spells bytes m × (text ≡ canon m) → IsCanonical bytes text
-spells-canonical bytes text (m, (spelled, is_text, m_is), is) =
-    let has = text-canonical bytes spelled is_text in (has.0, has.1, is ∙ (ap canon m_is ∙ has.2))
+-- a status line has a code of three digits
+has-code : (line : List ℕ) (start : StartLine) → StartText line start → HasCode start
+has-code line (request method uri) is = tt
+has-code line (status code why) is = let parts = status_parts line code why is in (parts.is_code.low, parts.is_code.high)
+
+pub reads-code : (r : Reading) → (bytes : List ℕ) × Reads bytes r → HasCode r.message.start
+reads-code r (bytes, reads) = let text = tells-text bytes r.message reads.tells in has-code text.first r.message.start text.is_start

@@ -9,7 +9,7 @@ use Rattle.sip_standard.specs.Case.{folded}
 use Rattle.sip_message.specs.declared.name.Known.{Known}
 use Rattle.sip_message.specs.declared.name.Known.TheVariants as known_name
 use Rattle.sip_message.specs.Name.{FieldName, known, other, spellings, name_by, name_of, is_name_of}
-use Rattle.sip_message.specs.Field.{Row}
+use Rattle.sip_message.specs.inner.FieldText.{Row}
 use Rattle.sip_standard.specs.Via.{SaidVia, ViasSay}
 use Rattle.sip_standard.specs.Values.{Address, CSeqSays}
 use Rattle.sip_standard.specs.Field.{full_name, RowSays}
@@ -60,7 +60,7 @@ foreign-name f (via, (v, (from, (f_, (to, (t, (call_id, (i, (cseq, (content_leng
     skip (bytes_eq f (codes "v")) _ _ (miss f _ v) ∙ skip (bytes_eq f (codes "f")) _ _ (miss f _ f_) ∙ skip (bytes_eq f (codes "t")) _ _ (miss f _ t)
     ∙ skip (bytes_eq f (codes "i")) _ _ (miss f _ i) ∙ skip (bytes_eq f (codes "l")) _ _ (miss f _ l)
 
--- and its value is not looked into
+-- the value of a field with a foreign name is not looked into
 foreign-row : (f v : List ℕ) → IsForeign f → Ways (Row (other f) v) (RowSays f v)
 foreign-row f value (via, (v, (from, (f_, (to, (t, (call_id, (i, (cseq, (content_length, (l, (contact, (m, (content_encoding, (e, (content_type, (c, (subject, (s, (supported, (k, (route, end)))))))))))))))))))))) =
     let one = skips (bytes_eq f (codes "via")) _ _ (miss f _ via) in
@@ -95,7 +95,7 @@ row-said token v =
     (via-row v, (via-row v, (address-row v, (address-row v, (address-row v, (address-row v, (same-row _, (same-row _, (cseq-row v, (same-row _, (same-row _, (same-row _, (same-row _, (same-row _, (same-row _, (same-row _, (same-row _, (same-row _, (same-row _, (same-row _, (same-row _, (same-row _, tt))))))))))))))))))))))
     (λ foreign. let row = foreign-row (folded token) v foreign in subst (λ f. Ways (Row (other token) v) (RowSays f v)) (sym (foreign-name (folded token) foreign)) row)
 
--- and so are the names that are asked for
+-- a name is the one that is asked for exactly if its full form has these bytes
 named : (k : Known) (key : List ℕ) → AllByRecursion (λ s. is_name_of k (known (s.1)) ≡ bytes_eq (full_name (s.0)) key) spellings → ((f : List ℕ) → IsForeign f → f ≡ key → ⊥)
     → (token : List ℕ) → is_name_of k (name_of token) ≡ bytes_eq (full_name (folded token)) key
 named k key each differs token =

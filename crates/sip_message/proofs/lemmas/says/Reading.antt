@@ -7,12 +7,14 @@ use Rattle.sip_standard.specs.declared.fault.Fault.{Fault}
 use Rattle.sip_message.specs.declared.name.Known.{Known}
 use Rattle.sip_message.specs.declared.name.Known.TheVariants as known_name
 use Rattle.sip_message.specs.Name.{name_of, is_name_of}
-use Rattle.sip_message.specs.Params.{comma}
+use Rattle.sip_message.specs.inner.Marks.{comma}
 use Rattle.sip_standard.specs.StartLine.{StartLine}
 use Rattle.sip_message.specs.Address.{AddressParts}
 use Rattle.sip_message.specs.Field.{Field}
 use Rattle.sip_message.specs.Elements.{Element, AreElements, values}
-use Rattle.sip_message.specs.Message.{Message, MessageText, message_of, Spells}
+use Rattle.sip_message.specs.Message.{Message}
+use Rattle.sip_message.specs.inner.MessageText.{MessageText}
+use Rattle.sip_message.specs.inner.Kept.{Keeps}
 use Rattle.sip_message.specs.Only.{IsOnly}
 use Rattle.sip_standard.specs.Outcome.{Outcome, gives, stops, passes, stopped}
 use Rattle.sip_message.specs.inner.Faults.{ReadOf}
@@ -30,9 +32,9 @@ use Rattle.sip_message.proofs.lemmas.message.Faults.{read-text, text-read, one-r
 use Rattle.sip_message.proofs.lemmas.message.Views.{same_reading}
 use Rattle.sip_message.proofs.lemmas.says.Alike.{Alike}
 use Rattle.sip_message.proofs.lemmas.says.Via.{are-said, said-are}
-use Rattle.sip_message.proofs.lemmas.says.Values.{value-said, said-value}
 use Rattle.sip_message.proofs.lemmas.says.Names.{named-via, named-from, named-to, named-call-id, named-cseq, named-route}
 use Rattle.sip_message.proofs.lemmas.says.Bytes.{AreFields, IsTold, all-found, same-read}
+use Rattle.sip_message.proofs.lemmas.says.Told.{text-tells, tells-text}
 
 -- the values of a name are those that are said
 values-said : (k : Known) (key : String) → ((token : List ℕ) → is_name_of k (name_of token) ≡ bytes_eq (full_name (folded token)) (codes key)) → (fs : List Field) (gs : List SaidField) → AreFields 1 fs gs → values k fs ≡ said_values key gs
@@ -59,7 +61,7 @@ parts-tell m start gs body p (start_is, are, body_is) parts =
       from = subst (IsFirstOf (said_values "from" gs)) (whole-of p.from parts.from.0 parts.from.2) (subst (λ vs. IsFirstOf vs parts.from.0) from parts.from.1);
       to = subst (IsFirstOf (said_values "to" gs)) (whole-of p.to parts.to.0 parts.to.2) (subst (λ vs. IsFirstOf vs parts.to.0) to parts.to.1);
       call_id = subst (λ vs. IsFirstOf vs p.call_id) call_id parts.call_id;
-      cseq = (parts.cseq.0, subst (λ vs. IsFirstOf vs parts.cseq.0) cseq parts.cseq.1, value-said parts.cseq.0 p.cseq parts.cseq.2);
+      cseq = (parts.cseq.0, subst (λ vs. IsFirstOf vs parts.cseq.0) cseq parts.cseq.1, parts.cseq.2);
       route_is = ap (join_with_byte comma) route;
     }
 
@@ -89,7 +91,7 @@ tell-parts m start gs body p s (start_is, are, body_is) parts tells = at es.0 es
             from = parts.from;
             to = parts.to;
             call_id = subst (λ vs. IsFirstOf vs s.call_id) (sym (values-said known_name.CallId "call-id" named-call-id m.fields gs are)) tells.call_id;
-            cseq = (tells.cseq.0, subst (λ vs. IsFirstOf vs tells.cseq.0) (sym (values-said known_name.CSeq "cseq" named-cseq m.fields gs are)) tells.cseq.1, said-value tells.cseq.0 s.cseq tells.cseq.2);
+            cseq = (tells.cseq.0, subst (λ vs. IsFirstOf vs tells.cseq.0) (sym (values-said known_name.CSeq "cseq" named-cseq m.fields gs are)) tells.cseq.1, tells.cseq.2);
           },
           (λ i. record { start = start_same i; via = via i; others = others i; from = from i; to = to i; call_id = s.call_id; cseq = s.cseq; route = route i }),
         )
@@ -102,11 +104,15 @@ text-says bytes r text parts = let told = (same-read bytes).to (gives r.message)
     at (gives y) tells is_told = passes y tells (said_of r, parts-tell r.message y.0 y.1 y.2 r.parts is_told parts, refl)
     at (stops f) tells is_told = absurd is_told
 
--- so they are read as that message
+-- bytes that spell a message are read as it
 pub text-reads : (bytes : List ℕ) (r : Reading) → MessageText bytes r.message → IsOnly (HasParts r.message.fields) r.parts → Reads bytes r
-text-reads bytes r text parts = record { says = text-says bytes r text parts.is; text = text; parts = parts }
+text-reads bytes r text parts = record { says = text-says bytes r text parts.is; tells = text-tells bytes r.message text; parts = parts }
 
--- and have a reading that says it
+-- what is kept of a message is read from some bytes
+pub keeps-reads : {m : Message} {p : Parts} {v f t i c : List ℕ} → Keeps m p v f t i c → (bytes : List ℕ) × Reads bytes (record { message = m; parts = p })
+keeps-reads {m = m} {p = p} k = (k.spelled.0, text-reads k.spelled.0 (record { message = m; parts = p }) k.spelled.1 k.parts)
+
+-- bytes that say something have a reading that says it
 pub says-reads : (bytes : List ℕ) (s : Said) → Says bytes (gives s) → (r : Reading) × Reads bytes r × (s ≡ said_of r)
 says-reads bytes s (stopped f tells is) = absurd (no_value is)
 says-reads bytes s (passes y tells (t, fields, is)) = let read = (same-read bytes).back (gives y) tells in at read.0 read.1 read.2
@@ -122,7 +128,7 @@ says-reads bytes s (passes y tells (t, fields, is)) = let read = (same-read byte
           q.2,
         )
 
--- and their first fault is the one with which they are not read
+-- the first fault with which bytes are not read is the one that they say
 pub fault-says : (bytes : List ℕ) (f : Fault) → ReadOf bytes (stops f) → Says bytes (stops f)
 fault-says bytes f read = let told = (same-read bytes).to (stops f) read in at told.0 told.1 told.2
   where
@@ -138,7 +144,7 @@ says-fault bytes f (stopped g tells is) = let read = (same-read bytes).back (sto
     at (gives m) read is_told = absurd is_told
     at (stops h) read same = subst (λ z. ReadOf bytes (stops z)) (same ∙ sym (fault_is is)) read
 
--- so they say one message
+-- bytes that are read as a message say what that message says
 pub said-is : (bytes : List ℕ) (r : Reading) (s : Said) → Reads bytes r → Says bytes (gives s) → s ≡ said_of r
 said-is bytes r s reads says =
     let other = says-reads bytes s says in
@@ -151,22 +157,13 @@ says-one bytes (gives s) (gives t) one other =
     ap (λ x. gives x) (read.2 ∙ sym (said-is bytes read.0 t read.1 other))
 says-one bytes (gives s) (stops f) one other =
     let read = says-reads bytes s one in
-    absurd (no_value (one-read bytes (gives read.0.message) (stops f) (text-read bytes read.0.message read.1.text) (says-fault bytes f other)))
+    absurd (no_value (one-read bytes (gives read.0.message) (stops f) (text-read bytes read.0.message (tells-text bytes read.0.message read.1.tells)) (says-fault bytes f other)))
 says-one bytes (stops f) (gives s) one other =
     let read = says-reads bytes s other in
-    absurd (no_value (one-read bytes (gives read.0.message) (stops f) (text-read bytes read.0.message read.1.text) (says-fault bytes f one)))
+    absurd (no_value (one-read bytes (gives read.0.message) (stops f) (text-read bytes read.0.message (tells-text bytes read.0.message read.1.tells)) (says-fault bytes f one)))
 says-one bytes (stops f) (stops g) one other =
     ap (λ x. stops x) (fault_is (one-read bytes (stops f) (stops g) (says-fault bytes f one) (says-fault bytes g other)))
 
 -- a message and a fault are not said of the same bytes
 pub says-no_fault : (bytes : List ℕ) (s : Said) (f : Fault) → Says bytes (gives s) → Says bytes (stops f) → ⊥
 says-no_fault bytes s f one other = no_value (says-one bytes (gives s) (stops f) one other)
-
--- bytes that say something spell a message, and the other way round
-pub says-spells : (bytes : List ℕ) (s : Said) → Says bytes (gives s) → (m : Message) × Spells bytes m
-says-spells bytes s says = let read = says-reads bytes s says in (message_of read.0.message, (read.0.message, read.1.text, refl))
-
-pub spells-says : (bytes : List ℕ) (m : Message) → Spells bytes m → (s : Said) × Says bytes (gives s)
-spells-says bytes m (spelled, text, is) =
-    let parts = has-parts bytes spelled text in
-    (said_of (record { message = spelled; parts = parts.0 }), text-says bytes (record { message = spelled; parts = parts.0 }) text parts.1)

@@ -1,21 +1,21 @@
 -- What start lines, addresses and CSeq say, and their parts.
 use Rattle.std.proofs.Common.{ℕ, List, [], ◌∷◌, ◌++◌, Option, None, Some, IfSome, inl, inr, refl, sym, ap, ◌∙◌, subst}
-use Rattle.std.specs.Prelude.{⊤, codes, not}
+use Rattle.std.specs.Prelude.{⊤, not}
 use Rattle.std.specs.Str.Parse.{digits_value}
 use Rattle.std.proofs.lemmas.List.{append-nil}
 use Rattle.sip_standard.specs.Text.{One, Exactly, ◌then◌, ◌or◌, Optional, Many}
 use Rattle.sip_standard.specs.Profile.{Token, Sws, Blanks}
-use Rattle.sip_text.specs.Bytes.{equals, is_one_of, Byte}
+use Rattle.sip_text.specs.Bytes.{equals, Byte}
+use Rattle.sip_standard.specs.Chars.{is_among}
 use Rattle.sip_standard.specs.Profile as profile
 use Rattle.sip_text.proofs.texts.ManyLemmas.{many-map}
 use Rattle.sip_text.proofs.hosts.ProfileLemmas.{uri-parts, parts-uri}
 use Rattle.sip_standard.specs.Via.{GenValue}
-use Rattle.sip_message.specs.Params.{left_angle, Mark}
+use Rattle.sip_message.specs.inner.Marks.{left_angle, Mark}
 use Rattle.sip_message.specs.Address.{DisplayName, AddressParts, BeforeUri, AddressText, name_addr, addr_spec}
 use Rattle.sip_standard.specs.StartLine.{StartLine, request, status, StartSays}
-use Rattle.sip_message.specs.StartLine.{is_reason_byte, StartText}
-use Rattle.sip_message.specs.Values.{Digits, CSeqText}
-use Rattle.sip_message.specs.Reading.{CSeqValue}
+use Rattle.sip_message.specs.inner.StartLine.{is_reason_byte, StartText}
+use Rattle.sip_message.specs.inner.Values.{Digits, CSeqText, CSeqValue}
 use Rattle.sip_standard.specs.Values.{Address, CSeqSays}
 use Rattle.sip_message.proofs.lemmas.params.Closed.{ParamSet, AllOk, TailSet, tail-set, set-tail}
 
@@ -79,7 +79,7 @@ uri-before text (inl angle) = (None, tt, angle)
 uri-before text (inr (x, y, fits, rest, whole)) = (Some x, fits, (x, y, refl, rest, whole))
 
 abbrev Bare : List ℕ → Type 0
-Bare = Many (One (λ byte. not (is_one_of (codes ",?;") byte)))
+Bare = Many (One (λ byte. not (is_among ",?;" byte)))
 
 -- addresses
 pub address-said : (text : List ℕ) (a : AddressParts) → AddressText text a → Address text
@@ -132,9 +132,6 @@ said-cseq text n m (low, (d, w, (digits, n_is), (s, word, blanks, (token, m_is),
   is_method = subst Token (sym m_is) token;
   whole = (d, w, refl, (s, word, blanks, sym m_is, w_is), whole);
 }
-
-pub value-said : (text : List ℕ) (c : ℕ × List ℕ) → CSeqValue text c → CSeqSays c text
-value-said text (n, m) = cseq-said text n m
 
 pub said-value : (text : List ℕ) (c : ℕ × List ℕ) → CSeqSays c text → CSeqValue text c
 said-value text (n, m) = said-cseq text n m

@@ -8,14 +8,14 @@ use Rattle.sip_standard.specs.Case.{folded}
 use Rattle.sip_standard.specs.Chars.{EachSays}
 use Rattle.sip_standard.specs.Profile.{Token, Port}
 use Rattle.sip_text.specs.Bytes.{semicolon}
-use Rattle.sip_text.specs.Case.{SameText}
+use Rattle.sip_text.specs.inner.Case.{SameText}
 use Rattle.sip_text.specs.Host.{host_text}
 use Rattle.sip_standard.specs.Profile as profile
 use Rattle.sip_text.proofs.hosts.ProfileLemmas.{host-parts, parts-host}
-use Rattle.sip_message.specs.Unfold.{OpensSolid}
+use Rattle.sip_message.specs.Params.{OpensSolid, ParamText, ParamsText, ParamsPart, BehindBlanks}
 use Rattle.sip_standard.specs.Field.{is_lws_byte}
-use Rattle.sip_message.specs.Params.{ParamText, ParamsText, ParamsPart, BehindBlanks}
-use Rattle.sip_message.specs.Via.{ViaParts, IsBranch, ColonPort, ViaText, MoreVias, ViasText}
+use Rattle.sip_message.specs.Via.{ViaParts, IsBranch, ColonPort, ViaText}
+use Rattle.sip_message.specs.inner.ElementFronts.{MoreVias, ViasText}
 use Rattle.sip_message.specs.Elements.{Element, MoreElements, ElementsText, AreElements}
 use Rattle.sip_standard.specs.Via.{SaidVia, PortSays, ParamSays, first_some, ViaSays, ViasSay, GenValue}
 use Rattle.sip_standard.specs.Says.{ViasTell}
@@ -222,7 +222,7 @@ pub elements-via : (text : List ℕ) (es : List Element) → ElementsText text e
 elements-via text [] none = absurd none
 elements-via text (e ∷ es) are = let row = elements-first text e es are in (e.1, row.0, row.1)
 
--- and the other way round
+-- the Vias of a text are its elements
 pub via-elements : (text : List ℕ) (v : ViaParts) (vias : List ViaParts) → ViasText text v vias → (x : List ℕ) × (es : List Element) × ElementsText text ((x, v) ∷ es)
 via-elements text v vias (x, y, via, more, whole) =
     let later = more-elements vias y more in

@@ -9,7 +9,7 @@ use Rattle.sip_standard.specs.Text.{One}
 use Rattle.sip_standard.specs.Case.{folded}
 use Rattle.sip_text.specs.Bytes.{space, is_token_byte}
 use Rattle.sip_standard.specs.StartLine.{StartLine, request, status}
-use Rattle.sip_message.specs.StartLine.{Version, CodeText, StartText}
+use Rattle.sip_message.specs.inner.StartLine.{Version, CodeText, StartText}
 use Rattle.sip_message.proofs.lemmas.text.Cuts.{same_front, same_by_front, same_by_end, All}
 use Rattle.sip_message.proofs.lemmas.field.OneWay.{each-token}
 

@@ -12,16 +12,15 @@ use Rattle.sip_standard.specs.Text.{One, Many}
 use Rattle.sip_standard.specs.Case.{folded}
 use Rattle.sip_standard.specs.Profile.{Token}
 use Rattle.sip_text.specs.Bytes.{space}
-use Rattle.sip_text.specs.Case.{SameText}
+use Rattle.sip_text.specs.inner.Case.{SameText}
 use Rattle.sip_text.specs.Uri.{UriParts, UriText}
 use Rattle.sip_text.specs.inner.Cut.{past}
 use Rattle.sip_text.proofs.texts.ManyLemmas.{many-some}
-use Rattle.sip_message.specs.Values.{Digits}
+use Rattle.sip_message.specs.inner.Values.{Digits}
 use Rattle.sip_text.proofs.cuts.CutLemmas.{past-some}
 use Rattle.sip_text.proofs.texts.RunLemmas.{run-list_all, list_all-run}
 use Rattle.sip_standard.specs.StartLine.{StartLine, request, status}
-use Rattle.sip_message.specs.StartLine.{Version, CodeText, is_reason_byte, StartText}
-use Rattle.sip_message.specs.inner.StartFronts.{RequestLine, StatusLine, CodeFront}
+use Rattle.sip_message.specs.inner.StartLine.{Version, CodeText, is_reason_byte, StartText, RequestLine, StatusLine, CodeFront}
 use Rattle.sip_message.specs.inner.Fronts.{TokenFront}
 use Rattle.sip_message.proofs.lemmas.text.Cuts.{same_by_front, same_by_end}
 use Rattle.sip_message.proofs.lemmas.front.Cuts.{ReadAs, NotRead}
@@ -60,7 +59,7 @@ pub request-no_token : (line : List ℕ) → NotRead (TokenFront line) → NotRe
 request-no_token line none (method, uri) is =
     let p = request_parts line method uri is in none (method, space ∷ (uri ++ space ∷ p.version)) (token-first line method uri p is.0)
 
--- nor without the SP after it
+-- a line without a SP after its token is no request line
 pub request-no_space : (line token rest : List ℕ) → ReadAs (TokenFront line) (token, rest) → past space rest ≡ None → NotRead (RequestLine line)
 request-no_space line token rest read none (method, uri) is =
     let r = request-cut line token rest method uri read is in
@@ -74,7 +73,7 @@ behind-space line token rest more method uri read found is =
     let inner : more ≡ uri ++ space ∷ r.1.version = cc in
     (r.1.version, r.1.is_version, inner)
 
--- nor without room for the version
+-- a line without room for the version is no request line
 pub request-short : (line token rest more : List ℕ) → ReadAs (TokenFront line) (token, rest) → past space rest ≡ Some more → length more < 8 → NotRead (RequestLine line)
 request-short line token rest more read found short (method, uri) is =
     let b = behind-space line token rest more method uri read found is in
@@ -85,14 +84,14 @@ at-end : (more uri v : List ℕ) (at : ℕ) → at + 8 ≡ length more → Versi
 at-end more uri v at len version is =
     same_by_end (take at more) (drop at more) uri (space ∷ v) (omega (arith, length-drop at more, len, length-version v version)) (take-append-drop at more ∙ is)
 
--- nor without the version
+-- a line without the version at its end is no request line
 pub request-no_version : (line token rest more : List ℕ) (at : ℕ) → ReadAs (TokenFront line) (token, rest) → past space rest ≡ Some more → at + 8 ≡ length more → (SameText (drop at more) (codes " SIP/2.0") → ⊥) → NotRead (RequestLine line)
 request-no_version line token rest more at read found len none (method, uri) is =
     let b = behind-space line token rest more method uri read found is in
     let e = at-end more uri b.0 at len b.1 b.2 in
     none (ap folded e.1 ∙ ap (λ t. space ∷ t) b.1)
 
--- nor without the URI
+-- a line without a URI between token and version is no request line
 pub request-no_uri : (line token rest more : List ℕ) (at : ℕ) → ReadAs (TokenFront line) (token, rest) → past space rest ≡ Some more → at + 8 ≡ length more → NotRead (UriText (take at more)) → NotRead (RequestLine line)
 request-no_uri line token rest more at read found len none (method, uri) is =
     let b = behind-space line token rest more method uri read found is in
@@ -145,7 +144,7 @@ digits-code d n digits len value low high =
     let count : length many.0 ≡ 3 = omega (arith, length-digits many.0 many.1, ap length many.2, len) in
     record { digits = (many.0, many.1, many.2, omega (arith, count), omega (arith, count)); code_is = value; low = low; high = omega (arith, high) }
 
--- and a code is three digits
+-- a status code is three digits
 code-digits : (d : List ℕ) (n : ℕ) → CodeText d n → Digits d
 code-digits d n is = at is.digits.0 is.digits.1 is.digits.2 is.digits.3
   where
@@ -165,20 +164,20 @@ pub code-short : (text : List ℕ) → length text < 3 → NotRead (CodeFront te
 code-short text short (code, reason) is =
     let f = code-front text code reason is in absurd (omega (arith, short, length-code (take 3 text) code f.0, length-take 3 text))
 
--- nor without the SP
+-- without a SP after it no status code is read
 pub code-no_space : (text : List ℕ) → past space (drop 3 text) ≡ None → NotRead (CodeFront text)
 code-no_space text none (code, reason) is = none-some reason (sym none ∙ ap (past space) (code-front text code reason is).1)
 
--- nor without digits
+-- without three digits no status code is read
 pub code-no_digits : (text : List ℕ) → (Digits (take 3 text) → ⊥) → NotRead (CodeFront text)
 code-no_digits text none (code, reason) is = none (code-digits (take 3 text) code (code-front text code reason is).0)
 
--- nor with a number too high
+-- a number above 699 is no status code
 pub code-high : (text : List ℕ) → Digits (take 3 text) → (Digits (take 3 text) → 699 < digits_value 10 (take 3 text)) → NotRead (CodeFront text)
 code-high text digits high (code, reason) is =
     let f = code-front text code reason is in absurd (omega (arith, high digits, f.0.high, f.0.code_is))
 
--- or too low
+-- a number below 100 is no status code
 pub code-low : (text : List ℕ) (n : ℕ) → n ≡ digits_value 10 (take 3 text) → n < 100 → NotRead (CodeFront text)
 code-low text n value low (code, reason) is =
     let f = code-front text code reason is in absurd (omega (arith, value, low, f.0.low, f.0.code_is))
@@ -233,15 +232,15 @@ status-line line code reason is =
 pub status-short : (line : List ℕ) → length line < 8 → NotRead (StatusLine line)
 status-short line short (code, reason) is = absurd (omega (arith, short, (status-line line code reason is).2))
 
--- nor without the version
+-- a line that does not begin with the version is no status line
 pub status-no_version : (line : List ℕ) → (SameText (take 8 line) (codes "SIP/2.0 ") → ⊥) → NotRead (StatusLine line)
 status-no_version line none (code, reason) is = none (status-line line code reason is).0
 
--- nor without the code
+-- a line without a status code after the version is no status line
 pub status-no_code : (line : List ℕ) → NotRead (CodeFront (drop 8 line)) → NotRead (StatusLine line)
 status-no_code line none (code, reason) is = none (code, reason) (status-line line code reason is).1
 
--- nor where a byte of the reason is none
+-- a line with a byte that no reason has is no status line
 pub status-no_reason : (line : List ℕ) (n : ℕ) (rest : List ℕ) → ReadAs (CodeFront (drop 8 line)) (n, rest) → list_all is_reason_byte rest ≡ false → NotRead (StatusLine line)
 status-no_reason line n rest read none (code, reason) is =
     let same = read.1 (code, reason) (status-line line code reason is).1 in

@@ -43,12 +43,12 @@ pub all_left : (test : ℕ → Bool) (u v : List ℕ) → All test (u ++ v) → 
 all_left test [] v all = tt
 all_left test (b ∷ u) v all = (all.0, all_left test u v all.1)
 
--- so do those of the right one
+-- where all bytes of two texts in a row pass the test, those of the second do
 pub all_right : (test : ℕ → Bool) (u v : List ℕ) → All test (u ++ v) → All test v
 all_right test [] v all = all
 all_right test (b ∷ u) v all = all_right test u v all.1
 
--- and where both parts pass, the whole does
+-- where the bytes of both texts pass the test, those of the whole do
 pub all_both : (test : ℕ → Bool) (u v : List ℕ) → All test u → All test v → All test (u ++ v)
 all_both test [] v left right = right
 all_both test (b ∷ u) v left right = (left.0, all_both test u v left.1 right)

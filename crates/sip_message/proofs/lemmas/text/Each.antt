@@ -4,7 +4,8 @@ use Rattle.std.specs.List.{AllByRecursion, concat}
 use Rattle.std.proofs.lemmas.Bool.{both_ways, eqb-true}
 use Rattle.sip_standard.specs.Text.{One, Exactly, ◌then◌, ◌or◌, Optional, Many, OneOrMore, Between}
 use Rattle.sip_standard.specs.Profile.{Lws, Blanks, Sws}
-use Rattle.sip_text.specs.Bytes.{space, tab, carriage_return, line_feed, crlf, is_wsp}
+use Rattle.sip_text.specs.Bytes.{space, tab, carriage_return, line_feed, crlf}
+use Rattle.sip_text.specs.inner.Blanks.{is_wsp}
 use Rattle.sip_standard.specs.Field.{is_lws_byte}
 use Rattle.sip_message.proofs.lemmas.text.Cuts.{All, all_both}
 
@@ -102,6 +103,6 @@ each-lws =
 pub each-blanks : Each is_lws_byte Blanks
 each-blanks = each-some is_lws_byte Lws each-lws
 
--- so are blanks that may be none
+-- all bytes of blanks, which may be none, are SP, HTAB, CR or LF
 pub each-sws : Each is_lws_byte Sws
 each-sws = each-optional is_lws_byte Blanks each-blanks

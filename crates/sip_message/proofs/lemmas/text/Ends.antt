@@ -3,7 +3,8 @@ use Rattle.std.proofs.Common.{ℕ, List, [], ◌∷◌, ◌++◌, sym, subst, in
 use Rattle.std.specs.List.{AllByRecursion, concat}
 use Rattle.std.proofs.lemmas.List.{append-nil}
 use Rattle.sip_standard.specs.Text.{◌then◌, Many}
-use Rattle.sip_message.specs.Unfold.{OpensSolid, EndsSolid}
+use Rattle.sip_message.specs.Params.{OpensSolid}
+use Rattle.sip_message.specs.inner.FieldText.{EndsSolid}
 use Rattle.sip_message.proofs.lemmas.text.Cuts.{All}
 use Rattle.sip_message.proofs.lemmas.text.Each.{Each, is_solid}
 use Rattle.sip_message.proofs.lemmas.text.Closed.{solid_is, Seam}
@@ -24,7 +25,7 @@ firm-right p [] firm = absurd firm
 firm-right [] (b ∷ z) firm = firm
 firm-right (a ∷ p) (b ∷ z) firm = ends-onto (a ∷ p) b z firm
 
--- or by what stands before an end that may be empty
+-- a text is firm if its front is and its end, which may be empty, ends without a blank
 pub firm-left : (p q : List ℕ) → Firm p → EndsSolid q → Firm (p ++ q)
 firm-left p [] firm ends = subst Firm (sym (append-nil p)) firm
 firm-left p (b ∷ z) firm ends = firm-right p (b ∷ z) ends
@@ -65,7 +66,7 @@ AllOpen P = (u v : List ℕ) → P u → OpensSolid (u ++ v)
 pub firm-then_right : (P Q : List ℕ → Type 0) → AllFirm Q → AllFirm (P then Q)
 firm-then_right P Q firm u both = subst Firm (sym both.4) (firm-right both.0 both.1 (firm both.1 both.3))
 
--- or if the first is, and the second ends solid
+-- texts of two sets in a row are firm if the first are and the second end without a blank
 pub firm-then_left : (P Q : List ℕ → Type 0) → AllFirm P → AllEnd Q → AllFirm (P then Q)
 firm-then_left P Q firm ends u both = subst Firm (sym both.4) (firm-left both.0 both.1 (firm both.0 both.2) (ends both.1 both.3))
 
@@ -81,7 +82,7 @@ end-firm P firm u is = ends-firm u (firm u is)
 pub end-each : (P : List ℕ → Type 0) → Each is_solid P → AllEnd P
 end-each P each u is = ends-solid u (each u is)
 
--- and repetitions of texts that do
+-- repetitions of texts that end without a blank end without one
 pub end-many : (P : List ℕ → Type 0) → AllEnd P → AllEnd (Many P)
 end-many P ends u many = subst EndsSolid (sym many.2) (go many.0 many.1)
   where

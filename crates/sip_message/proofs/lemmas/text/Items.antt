@@ -5,13 +5,15 @@ use Rattle.std.proofs.lemmas.Bool.{both_ways}
 use Rattle.std.proofs.lemmas.List.{append_assoc, append-nil, length-append}
 use Rattle.sip_standard.specs.Text.{One, ◌or◌, Many}
 use Rattle.sip_standard.specs.Profile.{Lws}
-use Rattle.sip_text.specs.Bytes.{space, backslash, is_wsp}
+use Rattle.sip_text.specs.Bytes.{space, backslash}
+use Rattle.sip_text.specs.inner.Blanks.{is_wsp}
 use Rattle.sip_text.specs.inner.Class.{is_quoted_byte}
 use Rattle.sip_text.specs.inner.Pieces.{Qdtext, QuotedPair}
 use Rattle.sip_text.proofs.texts.ManyLemmas.{many-nil, many-cons}
-use Rattle.sip_message.specs.Unfold.{OpensSolid, EndsSolid}
+use Rattle.sip_message.specs.Params.{OpensSolid}
+use Rattle.sip_message.specs.inner.FieldText.{EndsSolid}
 use Rattle.sip_standard.specs.Field.{is_lws_byte}
-use Rattle.sip_message.specs.Values.{is_value_byte, OtherText}
+use Rattle.sip_message.specs.inner.Values.{is_value_byte, OtherText}
 use Rattle.sip_message.proofs.lemmas.text.Cuts.{Cuts, first_longer, same_length, second_longer, two_cuts, All, all_left, all_right}
 use Rattle.sip_message.proofs.lemmas.text.Each.{each-lws, is_solid, solid_class}
 use Rattle.sip_message.proofs.lemmas.field.OneWay.{ends_blank}

@@ -5,7 +5,7 @@ use Rattle.std.specs.Prelude.{IfSome}
 use Rattle.sip_standard.specs.Text.{One, Exactly, Many, OneOrMore}
 use Rattle.sip_standard.specs.Case.{folded}
 use Rattle.sip_standard.specs.Profile.{Token, Hostname, Ipv4, Hexseq, Ipv6, Bracketed, User, Password, Port, UriParameters, Headers}
-use Rattle.sip_text.specs.Bytes.{space, tab, carriage_return, line_feed, colon, at_sign, question, is_token_byte, Byte}
+use Rattle.sip_text.specs.Bytes.{space, tab, carriage_return, line_feed, colon, at_sign, question, Byte, is_token_byte}
 use Rattle.sip_text.specs.Parts.{led}
 use Rattle.sip_text.specs.Host.{HostParts, HostText, host_text, name, v4, v6}
 use Rattle.sip_text.specs.Uri.{SipParts, SipFits, userinfo_text, hostport_text, sip_text, scheme_name, UriParts, UriText, sip, other}
@@ -29,7 +29,7 @@ solid-byte b is u text = subst (All S) (sym text) (is, tt)
 pub solid-token : Each S Token
 solid-token = each-some S _ (solid-one is_token_byte refl refl refl refl)
 
--- so are digits
+-- digits are no blanks
 pub solid-digits : Each S (OneOrMore (One is_ascii_digit))
 solid-digits = each-some S _ (solid-one is_ascii_digit refl refl refl refl)
 
@@ -75,7 +75,7 @@ solid-v6 =
     each-or S _ _ (each-then S _ _ solid-hexpart (each-optional S _ (each-then S _ _ (solid-byte colon refl) solid-v4)))
     (each-then S _ _ (each-or S _ _ (each-then S _ _ solid-hexseq solid-double) solid-double) solid-v4)
 
--- and one in brackets
+-- an IPv6 address in brackets has no blanks
 pub solid-v6_reference : Each S Bracketed
 solid-v6_reference = each-then S _ _ (solid-byte 91 refl) (each-then S _ _ solid-v6 (solid-byte 93 refl))
 

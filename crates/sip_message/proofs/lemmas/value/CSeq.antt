@@ -7,9 +7,8 @@ use Rattle.sip_standard.specs.Profile.{Blanks, Token}
 use Rattle.sip_text.specs.Parts.{IsLongestFront}
 use Rattle.std.proofs.lemmas.List.{append-nil, take-append-drop, length-take-le}
 use Rattle.sip_standard.specs.Field.{is_lws_byte}
-use Rattle.sip_message.specs.Values.{Digits, CSeqText}
+use Rattle.sip_message.specs.inner.Values.{Digits, CSeqText, CSeqValue}
 use Rattle.sip_message.specs.inner.Fronts.{Stops, StopsBlank, Behind, BlanksFront}
-use Rattle.sip_message.specs.Reading.{CSeqValue}
 use Rattle.sip_message.proofs.lemmas.text.Cuts.{same_front}
 use Rattle.sip_message.proofs.lemmas.text.Each.{Each, each-one, each-then, each-many, blank_is}
 use Rattle.sip_message.proofs.lemmas.via.Transport.{Fails, fail-then, fail-blanks}

@@ -12,7 +12,7 @@ use Rattle.sip_standard.specs.Text.{One, Many}
 use Rattle.sip_text.proofs.texts.ManyLemmas.{many-some}
 use Rattle.sip_text.proofs.texts.RunLemmas.{run-list_all, list_all-run}
 use Rattle.sip_text.proofs.uris.UriPortLemmas.{digit-above}
-use Rattle.sip_message.specs.Values.{Digits}
+use Rattle.sip_message.specs.inner.Values.{Digits}
 
 -- the digits before the index write the number
 pub record ReadsNumber (text : List ℕ) (at number most : ℕ) : Type 0 where

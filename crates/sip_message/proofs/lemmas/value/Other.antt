@@ -6,14 +6,13 @@ use Rattle.std.proofs.lemmas.Bool.{and_parts, eqb-true, eq-eqb, or_left, or_righ
 use Rattle.std.proofs.lemmas.List.{append-nil, append_assoc, length-append, drop-drop}
 use Rattle.sip_standard.specs.Text.{One, Exactly, ◌then◌, ◌or◌, Many}
 use Rattle.sip_standard.specs.Profile.{Lws}
-use Rattle.sip_text.specs.Bytes.{carriage_return, line_feed, crlf, is_wsp}
+use Rattle.sip_text.specs.Bytes.{carriage_return, line_feed, crlf}
+use Rattle.sip_text.specs.inner.Blanks.{is_wsp, Blank, begins_with_fold}
 use Rattle.sip_text.specs.Parts.{HasFront}
-use Rattle.sip_text.specs.inner.Blanks.{Blank, begins_with_fold}
 use Rattle.sip_text.proofs.texts.ManyLemmas.{many-one, many-map, many-flat, many-append, IsStep, longest_many, front-rest, front-within, front-whole}
 use Rattle.sip_text.proofs.strings.BlanksLemmas.{blanks-lws, lws-blank}
 use Rattle.sip_text.proofs.texts.RunLemmas.{run-front}
-use Rattle.sip_message.specs.Values.{is_value_byte, OtherText}
-use Rattle.sip_message.specs.inner.ValueFronts.{is_plain_byte}
+use Rattle.sip_message.specs.inner.Values.{is_value_byte, OtherText, is_plain_byte}
 use Rattle.sip_message.proofs.lemmas.text.Cuts.{Stops}
 use Rattle.sip_message.proofs.lemmas.front.Prefix.{prefix-at}
 
@@ -92,7 +91,7 @@ other-items text many = many-flat (Lws or One is_value_byte) OtherItem text each
     each u (inl lws) = many-map Blank OtherItem u blank-item (blanks-lws u lws)
     each u (inr (b, is, u_is)) = many-one OtherItem u (inl (b, or_left (is_value_byte b) (is_wsp b) is, u_is))
 
--- and pieces are such a value
+-- a text of such pieces is a value of any other field
 items-other : (text : List ℕ) → Many OtherItem text → OtherText text
 items-other text many = many-map OtherItem (Lws or One is_value_byte) text each many
   where
@@ -121,7 +120,7 @@ other-run text rest n k front rest_is k_is =
     front-more text n k front
     (subst (HasFront (Many OtherItem) (drop n text)) len (run.0, run.1, many-map (One is_plain_byte) OtherItem run.0 (λ u one. inl one) run.2, run.3, run.4))
 
--- and a fold
+-- a fold after the front is one piece more
 pub other-fold : (text rest : List ℕ) (n : ℕ) → HasFront (Many OtherItem) text n → rest ≡ drop n text → begins_with_fold rest ≡ true → HasFront (Many OtherItem) text (n + 3)
 other-fold text rest n front rest_is fold =
     let one = subst (λ t. HasFront OtherItem t 3) rest_is (fold-front rest fold) in

@@ -11,10 +11,10 @@ use Rattle.sip_text.specs.Parts.{IsLongestFront, IsOnlyValue}
 use Rattle.sip_text.specs.inner.Blanks.{Blank}
 use Rattle.sip_text.proofs.texts.ManyLemmas.{many-nil, many-one, many-append, front-whole}
 use Rattle.sip_text.proofs.strings.BlanksLemmas.{units-blanks, blanks-units}
-use Rattle.sip_message.specs.Unfold.{OpensSolid, EndsSolid}
+use Rattle.sip_message.specs.Params.{OpensSolid}
+use Rattle.sip_message.specs.inner.FieldText.{EndsSolid, ValueText}
 use Rattle.sip_standard.specs.Field.{is_lws_byte}
-use Rattle.sip_message.specs.Field.{ValueText}
-use Rattle.sip_message.specs.inner.ValueFronts.{is_solid}
+use Rattle.sip_message.specs.inner.Values.{is_solid}
 use Rattle.sip_message.proofs.lemmas.text.Cuts.{All, Stops, all_both, all_right, same_front}
 use Rattle.sip_message.proofs.lemmas.text.Each.{each-sws}
 use Rattle.sip_message.proofs.lemmas.field.OneWay.{same_solid}
@@ -104,7 +104,7 @@ pub trimmed-value : (text front value back : List ℕ) → IsTrimmed text front 
 trimmed-value text front value back is left right =
     record { opens = is.opens; ends = is.ends; whole = (front, value ++ back, left, (value, back, refl, right, refl), is.whole) }
 
--- and any value has blank runs at its ends
+-- a value has blank runs at both of its ends
 pub value-trimmed : (text front value back w : List ℕ) → IsTrimmed text front value back → ValueText text w → Sws front × Sws back
 value-trimmed text front value back w is of = at w of.opens of.ends (of.whole.4 ∙ ap (λ t. of.whole.0 ++ t) (of.whole.3.4 ∙ ap (λ t. t ++ b) of.whole.3.2))
   where

@@ -10,16 +10,18 @@ use Rattle.std.specs.Char.{is_ascii_alphabetic}
 use Rattle.sip_standard.specs.Text.{Exactly, ◌then◌, Many}
 use Rattle.sip_standard.specs.Case.{folded}
 use Rattle.sip_standard.specs.Profile.{Token, Blanks, Label, Port, Quoted}
-use Rattle.sip_text.specs.Bytes.{colon, dquote, is_token_byte, Byte}
-use Rattle.sip_text.specs.Case.{SameText}
+use Rattle.sip_text.specs.Bytes.{colon, dquote, Byte, is_token_byte}
+use Rattle.sip_text.specs.inner.Case.{SameText}
 use Rattle.sip_text.specs.Host.{HostParts, HostText, host_text, name, v4, v6}
 use Rattle.sip_text.specs.inner.Pieces.{DecimalGroup}
 use Rattle.sip_text.proofs.texts.ManyLemmas.{many-nil, many-cons}
-use Rattle.sip_message.specs.Unfold.{OpensSolid, EndsSolid}
+use Rattle.sip_message.specs.Params.{OpensSolid}
+use Rattle.sip_message.specs.inner.FieldText.{EndsSolid}
 use Rattle.sip_standard.specs.Canonical.{unfolded}
-use Rattle.sip_message.specs.Params.{slash, comma, Mark}
-use Rattle.sip_message.specs.Via.{ViaParts, IsBranch, ColonPort, ViaText, MoreVias}
-use Rattle.sip_message.specs.Message.{TopTransport}
+use Rattle.sip_message.specs.inner.Marks.{slash, comma, Mark}
+use Rattle.sip_message.specs.Via.{ViaParts, IsBranch, ColonPort, ViaText}
+use Rattle.sip_message.specs.inner.ElementFronts.{MoreVias}
+use Rattle.sip_message.specs.inner.MessageText.{TopTransport}
 use Rattle.sip_message.proofs.lemmas.text.Cuts.{All}
 use Rattle.sip_message.proofs.lemmas.text.Each.{Each, is_solid}
 use Rattle.sip_message.proofs.lemmas.field.OneWay.{each-token}

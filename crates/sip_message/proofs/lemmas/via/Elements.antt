@@ -3,7 +3,7 @@ use Rattle.std.proofs.Common.{◌≡◌, ℕ, zero, suc, ◌+◌, ◌<◌, List,
 use Rattle.std.proofs.Math.Logic.{∥∥₁_elim}
 use Rattle.std.specs.Coded.{Coded, Coded-set}
 use Rattle.std.proofs.lemmas.List.{append_assoc, length-append}
-use Rattle.sip_message.specs.Params.{comma}
+use Rattle.sip_message.specs.inner.Marks.{comma}
 use Rattle.sip_message.specs.Via.{ViaParts, ViaText}
 use Rattle.sip_message.specs.inner.Fronts.{StopsBlank, MarkFront}
 use Rattle.sip_message.proofs.lemmas.via.Protocol.{token-stops}
@@ -11,14 +11,15 @@ use Rattle.sip_message.proofs.lemmas.front.Cuts.{ReadAs, NotRead}
 use Rattle.sip_message.specs.declared.name.Known.{Known}
 use Rattle.sip_message.specs.declared.field.Field.{Field as Code}
 use Rattle.sip_message.specs.Name.{is_name_of}
-use Rattle.sip_message.specs.Only.{IsOnly, ExactlyOne, the, One-prop}
+use Rattle.sip_message.specs.Only.{IsOnly}
+use Rattle.sip_message.specs.inner.Only.{ExactlyOne, the, One-prop}
 use Rattle.std.specs.Prelude.{MatchOption, ⊤}
 use Rattle.std.specs.Borrow.{Bor}
 use Rattle.std.specs.Iterator.{YieldsFirstBy, MakesProgress, item_count}
 use Rattle.sip_message.specs.Elements.{Element, values, MoreElements, ElementsText, AreElements}
 use Rattle.sip_message.specs.inner.ElementFronts.{AreLeft, NextText, EndsElement, ViaFront}
 use Rattle.sip_message.specs.inner.Codes.{elements_code}
-use Rattle.sip_message.specs.Views.{name_parts, field_parts}
+use Rattle.sip_message.specs.inner.Views.{name_parts, field_parts}
 
 -- the values from a place on, by the field that stands there
 values-suc : (known : Known) (xs : List Code) (i : ℕ) (d : Code) → i < length xs → values known (drop i (map field_parts xs)) ≡ cond (is_name_of known (name_parts (slice_index_or xs i d).name)) ((slice_index_or xs i d).value.now ∷ values known (drop (suc i) (map field_parts xs))) (values known (drop (suc i) (map field_parts xs)))
@@ -164,7 +165,7 @@ pub One-next : (rest text : List ℕ) (vals more : List (List ℕ)) (e : Element
 One-next rest text vals more e behind next read one =
     ∥∥₁_elim one.1 (One-prop elements_code (AreLeft behind more)) (λ p. let read_it = read-only rest text vals more e behind one.0 (next one.0 p.is) read p in (read_it.0, ∣ read_it.2 ∣₁))
 
--- and the first is the one that was read
+-- the first element is the one that was read
 pub One-first : (rest text : List ℕ) (vals more : List (List ℕ)) (e : Element) (behind : List ℕ) → ((es : List Element) → AreLeft rest vals es → NextText rest vals text more) → ReadAs (ViaFront text) (e, behind) → (one : ExactlyOne (AreLeft rest vals)) (then : ExactlyOne (AreLeft behind more)) → the one ≡ e ∷ the then
 unfolding the
 One-first rest text vals more e behind next read one then =

@@ -154,7 +154,7 @@ port-front (Some port) p rest fits (m, t, mark, t_is, p_is) next = (
   (fits, token-front port rest (port-token port fits) (next-stops is_separator is_token_byte rest blank-token separator-token next)),
 )
 
--- and what is read is a port
+-- what is read after the colon is a port
 pub front-port : (port : Option (List ℕ)) (text rest : List ℕ) → LedFront colon PortFront text (port, rest) → (p : List ℕ) × ColonPort port p × IfSome port Port × (text ≡ p ++ rest)
 front-port None text rest (none, rest_is) = ([], refl, tt, sym rest_is)
 front-port (Some port) text rest (inner, mark, (fits, token)) =

@@ -1,10 +1,9 @@
 -- The steps by which sent-protocol is read are its grammar.
 use Rattle.std.proofs.Common.{ℕ, List, [], ◌∷◌, ◌++◌, refl, sym, ap, ◌∙◌, subst}
 use Rattle.sip_standard.specs.Text.{Exactly, ◌then◌}
-use Rattle.sip_standard.specs.Profile.{Token}
+use Rattle.sip_standard.specs.Profile.{Token, Blanks}
 use Rattle.sip_text.specs.Bytes.{is_token_byte}
-use Rattle.sip_message.specs.Params.{slash, Mark}
-use Rattle.sip_message.specs.Via.{ProtocolText}
+use Rattle.sip_message.specs.inner.Marks.{slash, Mark}
 use Rattle.sip_message.specs.inner.Fronts.{Stops, StopsBlank, TokenFront, MarkFront, both, ProtocolParts, ProtocolFront}
 use Rattle.sip_message.proofs.lemmas.field.OneWay.{blank-token}
 use Rattle.sip_message.proofs.lemmas.text.Solid.{solid-token}
@@ -12,6 +11,11 @@ use Rattle.sip_message.proofs.lemmas.text.Closed.{solid_is}
 use Rattle.sip_message.proofs.lemmas.via.Transport.{Fails, AllFail, fail-then, fail-blanks, fail-slash}
 use Rattle.sip_message.proofs.lemmas.params.Closed.{some-run}
 use Rattle.sip_message.proofs.lemmas.front.Cuts.{stops-byte}
+
+-- sent-protocol LWS, with its parts
+abbrev pub ProtocolText : List ℕ → List ℕ → List ℕ → (List ℕ → Type 0) → List ℕ → Type 0
+ProtocolText protocol version transport Rest =
+    Exactly protocol then Mark slash then Exactly version then Mark slash then Exactly transport then Blanks then Rest
 
 -- the parts are tokens, no blank run stands after them, and the text is the grammar's
 pub record IsProtocol (text : List ℕ) (p : ProtocolParts) : Type 0 where

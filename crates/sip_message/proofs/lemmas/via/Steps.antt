@@ -6,9 +6,9 @@ use Rattle.sip_standard.specs.Profile.{Port}
 use Rattle.sip_text.specs.Bytes.{colon, semicolon}
 use Rattle.sip_text.specs.Host.{HostParts, HostText, host_text}
 use Rattle.std.specs.Prelude.{IfSome}
-use Rattle.sip_message.specs.Unfold.{OpensSolid}
-use Rattle.sip_message.specs.Params.{slash, comma, ParamsText, ParamsPart, BehindBlanks}
-use Rattle.sip_message.specs.Via.{ViaParts, ColonPort, ProtocolText}
+use Rattle.sip_message.specs.Params.{OpensSolid, ParamsText, ParamsPart, BehindBlanks}
+use Rattle.sip_message.specs.inner.Marks.{slash, comma}
+use Rattle.sip_message.specs.Via.{ViaParts, ColonPort}
 use Rattle.sip_message.specs.inner.Fronts.{StopsBlank, Behind, TokenFront, MarkFront, BlanksFront, ProtocolParts, ProtocolFront, both}
 use Rattle.sip_message.specs.Elements.{Element}
 use Rattle.sip_message.specs.inner.ElementFronts.{EndsElement, ViaFront}
@@ -16,7 +16,7 @@ use Rattle.sip_message.specs.inner.ParamFronts.{Param, LedFront}
 use Rattle.sip_message.specs.inner.ViaFronts.{HostFront, PortFront, TailFront, ViaSteps}
 use Rattle.sip_message.proofs.lemmas.text.Cuts.{same_by_end}
 use Rattle.sip_message.proofs.lemmas.front.Cuts.{ReadAs, NotRead, stops-byte, same-behind}
-use Rattle.sip_message.proofs.lemmas.via.Protocol.{IsProtocol, protocol-steps, steps-protocol}
+use Rattle.sip_message.proofs.lemmas.via.Protocol.{ProtocolText, IsProtocol, protocol-steps, steps-protocol}
 use Rattle.sip_message.proofs.lemmas.front.OneWay.{AtMostOne, read-one, one-seq, one-last, one-token, one-mark, one-blanks, one-led}
 use Rattle.sip_message.proofs.lemmas.params.Value.{front-is, rest-short}
 use Rattle.sip_message.proofs.lemmas.front.Led.{Next, ends-next, mark-next}
@@ -35,7 +35,7 @@ one-protocol text =
     one-seq (BlanksFront (transport.1)) _ (one-blanks (transport.1)) (λ rest.
     one-last {X = ProtocolParts} (record { protocol = protocol.0; version = version.0; transport = transport.0; rest = rest })))))))
 
--- and so are the parts of an element
+-- the parts of an element are read in at most one way
 pub one-via_steps : (text : List ℕ) → AtMostOne (ViaSteps text)
 one-via_steps text =
     one-seq (ProtocolFront text) _ (one-protocol text) (λ sent.
@@ -56,7 +56,7 @@ behind-part : (part q : List ℕ) → OpensSolid part → BehindBlanks part q �
 behind-part [] q opens q_is = subst (λ t. Behind t []) (sym q_is) (refl, ([], [], inl refl, refl, refl))
 behind-part (b ∷ part) q opens blanks = (stops-byte b part opens, blanks)
 
--- and the other way round
+-- the parameters of a text are what is left after its blanks
 part-behind : (ps : List Param) (q part : List ℕ) → ParamsText q ps → Behind q part → ParamsPart part ps × BehindBlanks part q
 part-behind [] q part q_is (stops, (u, v, sws, v_is, whole)) = at part (none u v (sym whole ∙ q_is)) v_is
   where
@@ -128,7 +128,7 @@ protocol-before a b c text rest w r rest_is (a0, w1, a_is, (s, w2, slash1, (b0, 
   (λ Q is. (a0, s ++ (b0 ++ (r0 ++ (c0 ++ (sp ++ w)))), a_is, (s, b0 ++ (r0 ++ (c0 ++ (sp ++ w))), slash1, (b0, r0 ++ (c0 ++ (sp ++ w)), b_is, (r0, c0 ++ (sp ++ w), slash2, (c0, sp ++ w, c_is, (sp, w, blanks, is, refl), refl), refl), refl), refl), refl)),
 )
 
--- and what the steps read is the grammar's
+-- what the steps read is an element of the grammar
 pub steps-via : (text : List ℕ) (v : ViaParts) (rest : List ℕ) → ViaSteps text (v, rest) → (whole : List ℕ) × ViaFront text ((whole, v), rest)
 steps-via text v rest (both sent protocol (both (h, r1) host (both (port, r2) led (both ((params, branch), r3) (is_branch, (x, x_is, behind)) (ends, v_is))))) =
     subst (λ y. (whole : List ℕ) × ViaFront text ((whole, y.0), y.1)) (sym v_is) (
@@ -178,7 +178,7 @@ one-via text ((w, v), r) ((x, y), s) a b =
 pub via-missing : (text : List ℕ) → NotRead (ViaSteps text) → NotRead (ViaFront text)
 via-missing text none (e, rest) is = none (e.1, rest) (via-steps text e rest is)
 
--- and what they read is one
+-- what the steps read is the only element there
 pub via-found : (text : List ℕ) (v : ViaParts) (rest : List ℕ) → ViaSteps text (v, rest) → ReadAs (ViaFront text) ((take (length text - length rest) text, v), rest)
 via-found text v rest steps =
     let is = steps-via text v rest steps in

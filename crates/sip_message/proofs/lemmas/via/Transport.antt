@@ -6,8 +6,8 @@ use Rattle.sip_standard.specs.Text.{One, Exactly, ◌then◌, Many, OneOrMore}
 use Rattle.sip_standard.specs.Profile.{Token, Blanks, Sws}
 use Rattle.sip_text.specs.Bytes.{is_token_byte}
 use Rattle.sip_standard.specs.Field.{is_lws_byte}
-use Rattle.sip_message.specs.Params.{slash, Mark}
-use Rattle.sip_message.specs.Message.{TopTransport}
+use Rattle.sip_message.specs.inner.Marks.{slash, Mark}
+use Rattle.sip_message.specs.inner.MessageText.{TopTransport}
 use Rattle.sip_message.proofs.lemmas.text.Cuts.{same_front, Stops, All}
 use Rattle.sip_message.proofs.lemmas.text.Each.{Each, each-then, each-exactly, each-sws, each-blanks, blank_is}
 use Rattle.sip_message.proofs.lemmas.field.OneWay.{each-token, blank-token}

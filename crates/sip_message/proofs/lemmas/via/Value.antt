@@ -1,11 +1,11 @@
 -- The elements of a Via value, read one after another.
 use Rattle.std.proofs.Common.{◌≡◌, ◌↔◌, ℕ, ◌<◌, List, [], ◌∷◌, ◌++◌, length, refl, sym, ap, ◌∙◌, subst, inl, inr, arith}
 use Rattle.std.proofs.lemmas.List.{append_assoc, length-append}
-use Rattle.sip_message.specs.Params.{comma}
-use Rattle.sip_message.specs.Via.{ViaParts, ViaText, MoreVias, ViasText}
+use Rattle.sip_message.specs.inner.Marks.{comma}
+use Rattle.sip_message.specs.Via.{ViaParts, ViaText}
+use Rattle.sip_message.specs.inner.ElementFronts.{MoreVias, ViasText, EndsElement, ViaFront, FirstVia}
 use Rattle.sip_message.specs.inner.Fronts.{StopsBlank, MarkFront}
 use Rattle.sip_message.specs.Elements.{Element}
-use Rattle.sip_message.specs.inner.ElementFronts.{EndsElement, ViaFront, FirstVia}
 use Rattle.sip_message.proofs.lemmas.front.Cuts.{ReadAs, NotRead}
 use Rattle.sip_message.proofs.lemmas.via.Protocol.{token-stops}
 use Rattle.sip_message.proofs.lemmas.via.Elements.{no_mark-nil}

@@ -1,7 +1,7 @@
 use Rattle.std.proofs.Common.{ℕ, refl, arith}
 use Rattle.std.proofs.lemmas.Simd.{zip2_splat, length-chunk}
 use lib.Lanes.{chunk}
-use Rattle.sip_message.specs.inner.ValueFronts.{is_plain_byte}
+use Rattle.sip_message.specs.inner.Values.{is_plain_byte}
 use Rattle.sip_message.proofs.LaneLemmas.{joined, all_pass}
 use Rattle.sip_message.proofs.other.is_plain_half.Goals as goal
 

@@ -1,6 +1,6 @@
 use Rattle.std.proofs.Common.{sym, ◌∙◌, arith}
 use Rattle.std.proofs.lemmas.List.Sums.{prefix_len_is}
-use Rattle.sip_message.specs.inner.ValueFronts.{is_plain_byte}
+use Rattle.sip_message.specs.inner.Values.{is_plain_byte}
 use Rattle.sip_message.proofs.other.plain_len.Goals as goal
 
 pub returns-else-is_plain-clause-run : goal.returns-else-is_plain-clause-run

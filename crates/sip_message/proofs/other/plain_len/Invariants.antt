@@ -1,5 +1,5 @@
 use Rattle.std.proofs.Common.{◌-◌, ◌≤◌, length}
-use Rattle.sip_message.specs.inner.ValueFronts.{ArePlain}
+use Rattle.sip_message.specs.inner.Values.{ArePlain}
 use Rattle.sip_message.proofs.other.plain_len.Given as goal
 
 -- the bytes so far are plain

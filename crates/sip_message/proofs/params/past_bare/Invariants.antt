@@ -2,7 +2,7 @@ use Rattle.std.proofs.Common.{length}
 use Rattle.sip_message.proofs.lemmas.params.Value.{BareSoFar}
 use Rattle.sip_message.proofs.params.past_bare.Given as goal
 
--- so far all are bytes of tokens and colons
+-- all bytes up to here are of tokens and colons
 abbrev pub invariant-colons : goal.invariant-colons
 invariant-colons l = BareSoFar l.fn.text l.rest
 

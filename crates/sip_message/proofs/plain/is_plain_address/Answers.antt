@@ -1,6 +1,6 @@
 use Rattle.sip_standard.specs.Text.{◌then◌}
 use Rattle.sip_text.specs.Bytes.{Byte}
-use Rattle.sip_message.specs.Params.{right_angle}
+use Rattle.sip_message.specs.inner.Marks.{right_angle}
 use Rattle.sip_message.specs.inner.Plain.{segment, Opening, SomeUri, SomeParams}
 use Rattle.sip_message.proofs.PlainLemmas.{then-stands, whole-stands, address-plain}
 use Rattle.sip_message.proofs.plain.is_plain_address.Goals as goal

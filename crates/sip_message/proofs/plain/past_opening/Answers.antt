@@ -2,7 +2,7 @@ use Rattle.std.proofs.lemmas.Option.{IfSome_then}
 use Rattle.sip_standard.specs.Text.{◌then◌}
 use Rattle.sip_standard.specs.Profile.{Sws}
 use Rattle.sip_text.specs.Bytes.{Byte}
-use Rattle.sip_message.specs.Params.{left_angle}
+use Rattle.sip_message.specs.inner.Marks.{left_angle}
 use Rattle.sip_message.specs.Address.{DisplayName}
 use Rattle.sip_message.specs.inner.Plain.{Opening}
 use Rattle.sip_message.proofs.PlainLemmas.{stands-as, then-stands, opening-none, opening-some}

@@ -1,7 +1,7 @@
 use Rattle.std.proofs.Common.{refl, subst}
 use Rattle.std.specs.Prelude.{codes}
-use Rattle.sip_text.specs.Case.{SameText}
-use Rattle.sip_message.specs.inner.StartFronts.{CodeFront}
+use Rattle.sip_text.specs.inner.Case.{SameText}
+use Rattle.sip_message.specs.inner.StartLine.{CodeFront}
 use Rattle.sip_message.proofs.lemmas.front.Cuts.{ReadAs}
 use Rattle.sip_message.proofs.lemmas.start_line.Reading.{status-read}
 use Rattle.sip_message.proofs.PlainStartLemmas.{reason-open}

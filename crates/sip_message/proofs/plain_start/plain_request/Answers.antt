@@ -1,7 +1,7 @@
 use Rattle.std.proofs.Common.{◌≡◌, refl, sym, subst}
 use Rattle.std.specs.Prelude.{codes}
 use Rattle.sip_standard.specs.StartLine.{request}
-use Rattle.sip_message.specs.StartLine.{StartText}
+use Rattle.sip_message.specs.inner.StartLine.{StartText}
 use Rattle.sip_message.specs.inner.Plain.{segment}
 use Rattle.sip_message.proofs.PlainStartLemmas.{request-plain}
 use Rattle.sip_message.proofs.plain_start.plain_request.Goals as goal

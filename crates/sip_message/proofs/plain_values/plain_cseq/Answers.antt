@@ -1,6 +1,6 @@
 use Rattle.std.proofs.Common.{◌≡◌, ◌<◌, ◌^◌, sym, subst}
 use Rattle.std.specs.Str.Parse.{digits_value}
-use Rattle.sip_message.specs.Values.{Digits, CSeqText}
+use Rattle.sip_message.specs.inner.Values.{Digits, CSeqText}
 use Rattle.sip_message.specs.inner.Plain.{segment, LiesWithin, PlainRun}
 use Rattle.sip_message.proofs.PlainValueLemmas.{cseq-plain}
 use Rattle.sip_message.proofs.plain_values.plain_cseq.Goals as goal

@@ -1,9 +1,9 @@
 use Rattle.std.proofs.Common.{rules, ◌≡◌, false, refl, sym, ap, ◌∙◌, subst}
 use Rattle.sip_message.specs.declared.name.Known.TheVariants as known_name
 use Rattle.sip_message.specs.Name.{known, is_name_of}
-use Rattle.sip_message.specs.Field.{Row}
-use Rattle.sip_message.specs.Values.{Digits, OtherText}
-use Rattle.sip_message.specs.Views.{name_parts}
+use Rattle.sip_message.specs.inner.FieldText.{Row}
+use Rattle.sip_message.specs.inner.Values.{Digits, OtherText}
+use Rattle.sip_message.specs.inner.Views.{name_parts}
 use Rattle.sip_message.specs.inner.Plain.{segment}
 use Rattle.sip_message.proofs.QuickLemmas.{open-other}
 use Rattle.sip_message.proofs.lemmas.asked.Asked.{asks-via, asks-from, asks-to, asks-call_id, asks-cseq, asks-content_length, asks-other}

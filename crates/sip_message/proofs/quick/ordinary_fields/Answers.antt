@@ -1,5 +1,5 @@
 use Rattle.std.proofs.Common.{◌+◌, map, sym, ap, subst, arith}
-use Rattle.sip_message.specs.Views.{field_parts, fields_parts}
+use Rattle.sip_message.specs.inner.Views.{field_parts, fields_parts}
 use Rattle.sip_message.specs.inner.Asked.{AskedOf}
 use Rattle.sip_message.proofs.QuickLemmas.{LinesSoFar, so_far-none, so_far-more, so_far-all}
 use Rattle.sip_message.proofs.quick.ordinary_fields.Goals as goal

@@ -1,5 +1,5 @@
 use Rattle.std.proofs.Common.{◌-◌, length}
-use Rattle.sip_message.specs.Views.{fields_parts}
+use Rattle.sip_message.specs.inner.Views.{fields_parts}
 use Rattle.sip_message.specs.inner.Asked.{AskedOf}
 use Rattle.sip_message.proofs.QuickLemmas.{LinesSoFar}
 use Rattle.sip_message.proofs.quick.ordinary_fields.Given as goal

@@ -2,9 +2,10 @@ use Rattle.std.proofs.Common.{◌≡◌, ℕ, ◌+◌, ◌<◌, List, [], ◌∷
 use Rattle.std.proofs.lemmas.List.{take_rest, map-append}
 use Rattle.sip_standard.specs.Profile.{Token}
 use Rattle.sip_text.specs.Bytes.{colon}
-use Rattle.sip_message.specs.Views.{name_parts, field_parts, fields_parts}
+use Rattle.sip_message.specs.inner.Views.{name_parts, field_parts, fields_parts}
 use Rattle.sip_message.specs.Name.{name_of}
-use Rattle.sip_message.specs.Field.{Field, NameText, ValueText}
+use Rattle.sip_message.specs.Field.{Field}
+use Rattle.sip_message.specs.inner.FieldText.{NameText, ValueText}
 use Rattle.sip_message.specs.inner.Plain.{segment}
 use Rattle.sip_message.proofs.QuickLemmas.{plain-run, plain-named, behind-open, value-open}
 use Rattle.sip_message.proofs.quick.push_ordinary.Goals as goal

@@ -1,6 +1,6 @@
 use Rattle.std.proofs.Common.{◌≡◌, ◌+◌, ◌++◌, length, drop, ap, ◌∙◌}
 use Rattle.std.proofs.lemmas.List.{take_rest, append_assoc, drop-append-le}
-use Rattle.sip_message.specs.Views.{fields_parts}
+use Rattle.sip_message.specs.inner.Views.{fields_parts}
 use Rattle.sip_message.specs.ValueParts.{start_parts}
 use Rattle.sip_message.proofs.QuickLemmas.{ordinary-head, front-rest}
 use Rattle.sip_message.proofs.quick.read_ordinary.Goals as goal

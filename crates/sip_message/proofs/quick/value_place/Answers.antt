@@ -1,7 +1,7 @@
 use Rattle.std.proofs.Common.{◌∷◌, [], option_copied, sym, ap, ◌∙◌, subst, arith}
 use Rattle.sip_text.specs.Bytes.{space}
 use Rattle.sip_text.proofs.cuts.CutLemmas.{past-some}
-use Rattle.sip_message.specs.Field.{ValueText}
+use Rattle.sip_message.specs.inner.FieldText.{ValueText}
 use Rattle.sip_message.specs.inner.Plain.{segment}
 use Rattle.sip_message.proofs.PlainLemmas.{front-cut}
 use Rattle.sip_message.proofs.lemmas.value.Trimmed.{one-space, no-space}

@@ -2,8 +2,8 @@ use Rattle.std.proofs.Common.{rules, ◌≡◌, ◌↔◌, false, refl, sym, ap,
 use Rattle.std.specs.Prelude.{IsTrue}
 use Rattle.sip_message.specs.declared.name.Known.TheVariants as known_name
 use Rattle.sip_message.specs.Name.{known, is_name_of}
-use Rattle.sip_message.specs.Field.{Row}
-use Rattle.sip_message.specs.Views.{name_parts}
+use Rattle.sip_message.specs.inner.FieldText.{Row}
+use Rattle.sip_message.specs.inner.Views.{name_parts}
 use Rattle.sip_message.proofs.lemmas.asked.Kept.{via-row, via-keeps, cseq-row, cseq-keeps, named-keeps, other-keeps}
 use Rattle.sip_message.proofs.row.is_of_row.Goals as goal
 

@@ -1,7 +1,7 @@
 use Rattle.std.proofs.Common.{sym, ap, ◌∙◌, subst, option_copied}
 use Rattle.sip_text.specs.Bytes.{space}
 use Rattle.sip_text.proofs.cuts.CutLemmas.{past-some}
-use Rattle.sip_message.specs.Field.{ValueText}
+use Rattle.sip_message.specs.inner.FieldText.{ValueText}
 use Rattle.sip_message.proofs.lemmas.field.OneWay.{same_value}
 use Rattle.sip_message.proofs.lemmas.value.Trimmed.{one-space}
 use Rattle.sip_message.proofs.row.trim.Goals as goal

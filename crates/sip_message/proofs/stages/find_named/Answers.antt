@@ -3,7 +3,7 @@ use Rattle.sip_message.specs.declared.name.Known.TheVariants as known_name
 use Rattle.sip_standard.specs.Outcome.{passes, stopped}
 use Rattle.sip_message.specs.inner.Faults.{NamesOf}
 use Rattle.sip_message.specs.inner.Stages.{names_parts}
-use Rattle.sip_message.specs.Views.{slice_fields}
+use Rattle.sip_message.specs.inner.Views.{slice_fields}
 use Rattle.sip_message.proofs.lemmas.asked.Parts.{first-value}
 use Rattle.sip_message.proofs.lemmas.field.Named.{stops-there, once-first}
 use Rattle.sip_message.proofs.stages.find_named.Goals as goal

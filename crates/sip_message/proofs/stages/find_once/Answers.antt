@@ -1,9 +1,9 @@
 use Rattle.sip_standard.specs.Field.{OneOf}
 use Rattle.sip_message.specs.inner.Finds.{found_parts}
-use Rattle.sip_message.specs.Views.{slice_fields}
+use Rattle.sip_message.specs.inner.Views.{slice_fields}
 use Rattle.sip_message.proofs.lemmas.field.Named.{stops-there, once-absent, once-twice, once-one}
 use Rattle.sip_message.proofs.stages.find_once.Goals as goal
-use Rattle.sip_message.specs.Message.{found}
+use Rattle.sip_message.specs.inner.MessageText.{found}
 
 pub returns-in_err-value : goal.returns-in_err-value
 returns-in_err-value c =

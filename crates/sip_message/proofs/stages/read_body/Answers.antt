@@ -1,7 +1,7 @@
 use Rattle.std.proofs.Common.{sym, subst}
 use Rattle.sip_message.specs.declared.name.Known.TheVariants as known_name
 use Rattle.sip_message.specs.inner.Faults.{BodyOf}
-use Rattle.sip_message.specs.Views.{slice_fields}
+use Rattle.sip_message.specs.inner.Views.{slice_fields}
 use Rattle.sip_message.specs.ValueParts.{start_parts}
 use Rattle.sip_message.specs.inner.Fronts.{text_parts}
 use Rattle.sip_message.specs.inner.Settles.{outcome_of}

@@ -1,10 +1,10 @@
 use Rattle.std.proofs.Common.{false, refl, sym, subst, arith}
 use Rattle.std.proofs.lemmas.Bool.{both_ways}
 use Rattle.sip_text.specs.Parts.{IsOnlyValue}
-use Rattle.sip_text.specs.Case.{SameText}
+use Rattle.sip_text.specs.inner.Case.{SameText}
 use Rattle.sip_text.specs.Uri.{UriText, uri_parts}
 use Rattle.std.specs.Prelude.{codes}
-use Rattle.sip_message.specs.inner.StartFronts.{RequestLine}
+use Rattle.sip_message.specs.inner.StartLine.{RequestLine}
 use Rattle.sip_message.specs.inner.Fronts.{pair_parts}
 use Rattle.sip_message.proofs.lemmas.front.Cuts.{ReadAs, NotRead}
 use Rattle.sip_message.proofs.lemmas.start_line.Reading.{request-no_token, request-no_space, request-short, request-no_version, request-no_uri, request-read}

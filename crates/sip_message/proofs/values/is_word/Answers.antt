@@ -1,7 +1,7 @@
 use Rattle.std.proofs.Common.{sym, ap, ◌∙◌}
 use Rattle.std.specs.List.{list_all}
 use Rattle.std.proofs.lemmas.List.{take_rest}
-use Rattle.sip_message.specs.inner.Pieces.{is_word_byte}
+use Rattle.sip_message.specs.inner.Values.{is_word_byte}
 use Rattle.sip_standard.specs.Text.{One}
 use Rattle.sip_text.proofs.uris.UriCharLemmas.{some-decides}
 use Rattle.sip_message.proofs.lemmas.value.Number.{all-decides}

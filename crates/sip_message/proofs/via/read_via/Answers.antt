@@ -4,9 +4,8 @@ use Rattle.sip_text.specs.Parts.{IsOnlyValue}
 use Rattle.sip_text.specs.Host.{HostParts, host_parts}
 use Rattle.sip_message.specs.Via.{ViaParts}
 use Rattle.sip_message.specs.inner.Fronts.{ProtocolParts}
-use Rattle.sip_message.specs.inner.ElementFronts.{ViaFront}
+use Rattle.sip_message.specs.inner.ElementFronts.{ViaFront, front_parts}
 use Rattle.sip_message.specs.inner.ViaFronts.{ViaSteps}
-use Rattle.sip_message.specs.ViaParts.{front_parts}
 use Rattle.sip_message.proofs.lemmas.front.Cuts.{stop, go-stop}
 use Rattle.sip_message.proofs.lemmas.via.Steps.{parts_of, via-steps_of, via-missing, via-found, via-short}
 use Rattle.sip_message.proofs.via.read_via.Goals as goal

@@ -1,7 +1,7 @@
 use Rattle.std.proofs.Common.{drop}
 use Rattle.sip_message.specs.declared.name.Known.TheVariants as known_name
 use Rattle.sip_message.specs.Elements.{values}
-use Rattle.sip_message.specs.Views.{slice_fields}
+use Rattle.sip_message.specs.inner.Views.{slice_fields}
 use Rattle.sip_message.proofs.lemmas.via.Elements.{next-behind, next-cut}
 use Rattle.sip_message.proofs.vias.next_text.Goals as goal
 

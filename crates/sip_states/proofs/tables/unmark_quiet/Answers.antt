@@ -40,7 +40,7 @@ loop-place-preserved-then-is_quiet g c =
     let inv = c.loop-place.invariant in
     let set = c.index.result.now in
     let at = rw inv.same at c.index.ensures in
-    let quiet : IsQuietSet set = c.is_quiet.ensures c.if-is_quiet.true in
+    let quiet : IsQuietSet set = c.is_quiet.ensures.0 c.if-is_quiet.true in
     let as_long : length marks ≡ length moved = omega (arith, inv.long, inv.as_long, c.requires.long.0, c.requires.long.1) in
     record {
       long = ap length c.unmark.ensures ∙ length-set moved index false ∙ inv.long;

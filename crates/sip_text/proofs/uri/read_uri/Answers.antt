@@ -1,7 +1,7 @@
 use Rattle.std.proofs.Common.{◌≡◌, false, true, not, option_copied, sym, ap, ◌∙◌, subst}
 use Rattle.std.proofs.lemmas.Bool.{both_ways}
 use Rattle.sip_text.specs.Parts.{IsOnlyValue}
-use Rattle.sip_text.specs.Case.{SameText}
+use Rattle.sip_text.specs.inner.Case.{SameText}
 use Rattle.sip_text.specs.Uri.{UriText, uri_parts, scheme_name}
 use Rattle.sip_text.specs.inner.Class.{is_reserved}
 use Rattle.sip_text.proofs.uris.UriCharLemmas.{decides-some}

@@ -1,6 +1,6 @@
 use Rattle.std.proofs.lemmas.Result.{on_ok_weaker}
 use Rattle.sip_log.specs.Told.{item}
-use Rattle.sip_verdict.proofs.surveys.Found.{found_here}
+use Rattle.sip_verdict.proofs.surveys.found.Found.{found_here}
 use Rattle.sip_verdict.proofs.entries.find.Goals as goal
 
 pub returns-clause-found : goal.returns-clause-found

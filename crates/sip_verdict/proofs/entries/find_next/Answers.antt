@@ -2,7 +2,7 @@ use Rattle.std.proofs.Common.{◌≤◌, ◌+◌, ◌++◌, ◌∷◌, [], ◌�
 use Rattle.sip_verdict.proofs.sweeps.FollowedLemmas.{swept_take}
 use Rattle.sip_verdict.proofs.keys.Keys.{newest_moment-push}
 use Rattle.sip_verdict.proofs.sweeps.SweptBook.{same_within, within_keeps}
-use Rattle.sip_verdict.proofs.surveys.Kept.{surveyed_kept, surveyed_swept}
+use Rattle.sip_verdict.proofs.surveys.kept.Kept.{surveyed_kept, surveyed_swept}
 use Rattle.sip_verdict.proofs.entries.find_next.Goals as goal
 
 pub returns-then-kept-left-clause-found : goal.returns-then-kept-left-clause-found

@@ -6,8 +6,8 @@ use Rattle.sip_verdict.specs.inner.TablesTracking.{MayHear}
 use Rattle.sip_verdict.proofs.judges.StandingLemmas.{grown_may, few_keys, may_hear, may_next, same_some}
 use Rattle.sip_verdict.proofs.tables.TablesTouching.{touches_may}
 use Rattle.sip_verdict.proofs.verdicts.MessageUnique.{observes_one}
-use Rattle.sip_verdict.proofs.surveys.Histories.{silent_histories, restart_histories, heard_histories, message_says, touched_low}
-use Rattle.sip_verdict.proofs.surveys.Taken.{unheard_taken, fault_taken, restart_taken, heard_taken, watched_touched}
+use Rattle.sip_verdict.proofs.surveys.kept.Histories.{silent_histories, restart_histories, heard_histories, message_says, touched_low}
+use Rattle.sip_verdict.proofs.surveys.passing.Taken.{unheard_taken, fault_taken, restart_taken, heard_taken, watched_touched}
 use Rattle.sip_verdict.proofs.entries.take.Goals as goal
 
 pub pass_each-requires-in-Heard-clause-may : goal.pass_each-requires-in-Heard-clause-may
@@ -38,19 +38,19 @@ note_each-requires g c =
 pub returns-in_ok-pass_each-in-Unheard-clause-histories : goal.returns-in_ok-pass_each-in-Unheard-clause-histories
 returns-in_ok-pass_each-in-Unheard-clause-histories g c = λ es e told keys counts seen.
     let (f, f_seen, (fine, at, none)) = (rw c.in-Unheard.is at c.in_ok-told.ensures.observed) es in
-    silent_histories c.args.standing.now.tables.times es e c.args.histories.now (ap (λ o. o.keys) (observes_one es (item c.args.entry.now) e f seen f_seen) ∙ none) told
+    silent_histories es e c.args.histories.now (ap (λ o. o.keys) (observes_one es (item c.args.entry.now) e f seen f_seen) ∙ none) told
 
 pub returns-in_ok-pass_each-in-Fault-clause-histories : goal.returns-in_ok-pass_each-in-Fault-clause-histories
 returns-in_ok-pass_each-in-Fault-clause-histories g c = λ es e told keys counts seen.
     let (f, f_seen, is) = (rw c.in-Fault.is at c.in_ok-told.ensures.observed) es in
-    silent_histories c.args.standing.now.tables.times es e c.args.histories.now (ap (λ o. o.keys) (observes_one es (item c.args.entry.now) e f seen f_seen ∙ is)) told
+    silent_histories es e c.args.histories.now (ap (λ o. o.keys) (observes_one es (item c.args.entry.now) e f seen f_seen ∙ is)) told
 
 pub returns-in_ok-pass_each-in-Restart-clause-histories : goal.returns-in_ok-pass_each-in-Restart-clause-histories
 returns-in_ok-pass_each-in-Restart-clause-histories g c = λ es e told keys counts seen.
     let b = c.args.histories.now in
     let number = c.args.entry.now.number in
     let (f, f_seen, is) = (rw c.in-Restart.is at c.in_ok-told.ensures.observed) es in
-    restart_histories c.args.standing.now.tables.times es e b (record { each = b.each; restart = number }) number
+    restart_histories es e b (record { each = b.each; restart = number }) number
     (ap (λ o. o.keys) (observes_one es (item c.args.entry.now) e f seen f_seen ∙ is)) counts refl refl told
 
 pub returns-in_ok-pass_each-in-Heard-clause-histories : goal.returns-in_ok-pass_each-in-Heard-clause-histories
@@ -61,7 +61,7 @@ returns-in_ok-pass_each-in-Heard-clause-histories g c = λ es e told t_keys coun
     let noted = c.in_ok-note_each-in-Heard.ensures in
     let (f, f_seen, f_is) = (rw c.in-Heard.is at c.in_ok-told.ensures.observed) es in
     let is = observes_one es (item entry) e f seen f_seen ∙ f_is in
-    heard_histories s.tables.times es e c.args.histories.now c.note_each.new.self entry.number entry.bytes.items s.tables c.touch_each.new.tables (each c.in-Heard.concerned) (each c.in_ok-concerned-in-Heard.concerned)
+    heard_histories es e c.args.histories.now c.note_each.new.self entry.number entry.bytes.items s.tables c.touch_each.new.tables (each c.in-Heard.concerned) (each c.in_ok-concerned-in-Heard.concerned)
     told t_keys c.requires.may.passes.long counts c.in_ok-concerned-in-Heard.ensures.touched c.known-in-Heard.ensures.unique noted.noted c.note_each.ensures.restart (ap (λ o. o.keys) is)
     (message_says es (item entry) e kept.0 seen) (ap (λ o. o.event.text) is ∙ kept.3)
 

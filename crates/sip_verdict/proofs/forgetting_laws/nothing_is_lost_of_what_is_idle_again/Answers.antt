@@ -1,4 +1,4 @@
-use Rattle.sip_verdict.proofs.surveys.Remembered.{found_idle}
+use Rattle.sip_verdict.proofs.surveys.forgetting.Remembered.{found_idle}
 use Rattle.sip_verdict.proofs.forgetting_laws.nothing_is_lost_of_what_is_idle_again.Goals as goal
 
 pub returns : goal.returns

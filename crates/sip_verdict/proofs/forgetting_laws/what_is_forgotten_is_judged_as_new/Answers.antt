@@ -1,4 +1,4 @@
-use Rattle.sip_verdict.proofs.surveys.Remembered.{found_forgotten}
+use Rattle.sip_verdict.proofs.surveys.forgetting.Remembered.{found_forgotten}
 use Rattle.sip_verdict.proofs.forgetting_laws.what_is_forgotten_is_judged_as_new.Goals as goal
 
 pub returns : goal.returns

@@ -1,4 +1,4 @@
-use Rattle.sip_verdict.proofs.surveys.Remembered.{found_kept}
+use Rattle.sip_verdict.proofs.surveys.forgetting.Remembered.{found_kept}
 use Rattle.sip_verdict.proofs.forgetting_laws.what_is_kept_is_judged_on.Goals as goal
 
 pub returns : goal.returns

@@ -3,7 +3,7 @@ use Rattle.sip_log.specs.Reading as log
 use Rattle.sip_log.specs.Reading.{beside_source}
 use Rattle.sip_verdict.specs.inner.SurveyingLogs.{SurveysRead}
 use Rattle.sip_verdict.proofs.judges.StandingLemmas.{same_some}
-use Rattle.sip_verdict.proofs.surveys.Gathering.{gathered_on, gathered_end, gathered_stop}
+use Rattle.sip_verdict.proofs.surveys.written.Gathering.{gathered_on, gathered_end, gathered_stop}
 use Rattle.sip_verdict.proofs.gathering.gather_entries.Goals as goal
 
 pub loop-found-init : goal.loop-found-init

@@ -1,19 +1,19 @@
 use Rattle.std.proofs.Common.{◌≡◌, Some, None, false, [], sym, subst, rules}
 use Rattle.std.proofs.lemmas.Result.{IfOk-weaker}
 use Rattle.sip_log.specs.Reading as log
-use Rattle.sip_log.specs.Reading.{Place, beside_source}
+use Rattle.sip_log.specs.Reading.{ProgressState, beside_source}
 use Rattle.sip_standard.specs.declared.log_reason.LogReason.TheVariants.{Header}
 use Rattle.sip_verdict.specs.declared.survey_end.SurveyEnd.TheVariants.{LogFault}
 use Rattle.sip_verdict.specs.SurveyOf.{IsSurveyOf}
 use Rattle.sip_verdict.specs.inner.SurveyingLogs.{SurveysRead}
-use Rattle.sip_verdict.proofs.surveys.Gathering.{gathered_header}
-use Rattle.sip_verdict.proofs.surveys.Writing.{surveys_none}
+use Rattle.sip_verdict.proofs.surveys.written.Gathering.{gathered_header}
+use Rattle.sip_verdict.proofs.surveys.written.Writing.{surveys_none}
 use Rattle.sip_verdict.proofs.gathering.survey_bytes.Goals as goal
 
 pub returns-in-Ok-clause-survey : goal.returns-in-Ok-clause-survey
 returns-in-Ok-clause-survey g c =
     let start = Some c.args.bytes.now in
-    let state : Place → log.ReaderState = λ place. beside_source place (Some c.read_header.new.reader.now) false in
+    let state : ProgressState → log.ReaderState = λ place. beside_source place (Some c.read_header.new.reader.now) false in
     let read = rw c.in-Ok.is at c.in_ok-params.ensures.reads in
     let times : c.new-survey.result.tables.times ≡ c.in-Ok.params = search rules in
     IfOk-weaker c.gather_entries.result _ _

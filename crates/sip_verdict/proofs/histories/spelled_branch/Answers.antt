@@ -3,7 +3,7 @@ use Rattle.std.specs.Option.{option_copied}
 use Rattle.sip_message.specs.Elements.{Element}
 use Rattle.sip_message.specs.SaidOf.{said_of}
 use Rattle.sip_verdict.specs.inner.Histories.{SpellsBranch}
-use Rattle.sip_verdict.proofs.surveys.Histories.{led_spells, read_spells, fault_spells}
+use Rattle.sip_verdict.proofs.surveys.kept.Histories.{led_spells, read_spells, fault_spells}
 use Rattle.sip_verdict.proofs.histories.spelled_branch.Goals as goal
 
 pub returns-in-Some : goal.returns-in-Some

@@ -1,4 +1,4 @@
-use Rattle.sip_verdict.proofs.verdicts.LegalMessages.{legal_log}
+use Rattle.sip_verdict.proofs.verdicts.LegalRuns.{legal_log}
 use Rattle.sip_verdict.proofs.laws.a_legal_log_has_runs.Goals as goal
 
 pub returns : goal.returns

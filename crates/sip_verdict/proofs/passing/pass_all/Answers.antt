@@ -1,12 +1,11 @@
-use Rattle.std.proofs.Common.{[], inl, sym, refl, subst, arith}
+use Rattle.std.proofs.Common.{[], ◌+◌, inl, sym, refl, subst, arith}
 use Rattle.std.proofs.lemmas.Bool.{false≢true}
 use Rattle.std.proofs.lemmas.Result.{IfOk-weaker}
 use Rattle.sip_verdict.specs.inner.Tracking.{IsOutcome}
 use Rattle.sip_verdict.specs.inner.TablesTracking.{key_keeping, transactions_of, MayPass, MayHear, HearsEach}
 use Rattle.sip_verdict.specs.inner.Concerned.{each}
-use Rattle.sip_verdict.specs.MessageReading.{key_machines}
 use Rattle.sip_verdict.proofs.tables.Halfway.{mark_outcome, heard_outcome, quiet_others}
-use Rattle.sip_verdict.proofs.tables.TablesPassing.{on_record_if, heard_recorded, recorded_more}
+use Rattle.sip_verdict.proofs.tables.TablesPassing.{on_record_if, heard_recorded, recorded_more, hears_others, others_left}
 use Rattle.sip_verdict.proofs.passing.pass_all.Goals as goal
 
 pub returns-in_default-clause-recorded : goal.returns-in_default-clause-recorded
@@ -15,7 +14,7 @@ returns-in_default-clause-recorded g c = on_record_if _ c.args.tables.now (λ fi
 pub returns-in_default-clause-outcome : goal.returns-in_default-clause-outcome
 returns-in_default-clause-outcome g c = λ p es e newest told ready.
     let t = c.args.tables.now in
-    subst (IsOutcome (key_machines p) (key_keeping c.args.book.now p) es e (transactions_of t)) (sym c.overdue-overdue.ensures)
+    subst (IsOutcome p (key_keeping c.args.book.now p) es e (transactions_of t)) (sym c.overdue-overdue.ensures)
     (mark_outcome c.args.book.now p es e c.args.moment _ t c.requires.may [] (rw c.in_default.is at c.requires.recorded) (rw c.in_default.is at told) ready newest (λ n among. absurd (false≢true among)) (λ n key s at here none. inl refl) refl)
 
 pub hear_each-requires-clause-hear : goal.hear_each-requires-clause-hear
@@ -56,3 +55,11 @@ returns-clause-outcome g c =
     (quiet_others c.args.book.now p es e c.args.moment h t c.requires.may told_it ready newest hear heard.1.0 hearers) h.event (λ n key at. (told_it n key at).event)
     (omega (arith, newest, hear.at)) hearers.given hearers.apart u heard.0.long outcome
     (subst (λ o. HearsEach c.args.book.now h.event heard.1.0 t o u outcome) c.overdue-overdue.ensures heard.1.2)) c.hear_each.ensures.heard
+
+pub returns-clause-others : goal.returns-clause-others
+returns-clause-others g c =
+    let h = c.in-Some.hearing.now in
+    IfOk-weaker c.hear_each.result _ _
+    (λ outcome heard n none.
+    hears_others c.args.book.now h.event heard.1.0 c.args.tables.now c.hear_each.new.tables c.overdue-overdue.result outcome heard.1.1.given heard.1.2 n
+    (others_left h.concerned heard.1.0 (n + 1) heard.1.1.heard (rw c.in-Some.is at none))) c.hear_each.ensures.heard

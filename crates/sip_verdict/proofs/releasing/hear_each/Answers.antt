@@ -3,7 +3,7 @@ use Rattle.std.proofs.lemmas.Result.{on_ok_weaker}
 use Rattle.sip_verdict.specs.inner.Concerned.{each, is_all}
 use Rattle.sip_verdict.specs.inner.Surveying.{HearsNumbers}
 use Rattle.sip_verdict.proofs.tables.TablesPassing.{given_still, named_hearers}
-use Rattle.sip_verdict.proofs.surveys.Numbered.{hears_none, hears_one, hears_two}
+use Rattle.sip_verdict.proofs.surveys.found.Numbered.{hears_none, hears_one, hears_two}
 use Rattle.sip_verdict.proofs.releasing.hear_each.Goals as goal
 
 pub returns-in-None-clause-watched : goal.returns-in-None-clause-watched

@@ -2,7 +2,7 @@ use Rattle.std.proofs.Common.{◌+◌, ◌∙◌, drop, get_or, subst, arith}
 use Rattle.sip_verdict.specs.inner.TablesTracking.{is_among}
 use Rattle.sip_verdict.specs.inner.Surveying.{AreWatched, ArePassing}
 use Rattle.sip_verdict.proofs.tables.TablesPassing.{given_still}
-use Rattle.sip_verdict.proofs.surveys.Numbered.{next_number, next_apart, none_left, concerned_rest}
+use Rattle.sip_verdict.proofs.surveys.found.Numbered.{next_number, next_apart, none_left, concerned_rest}
 use Rattle.sip_verdict.proofs.releasing.hear_numbers.Goals as goal
 
 pub hear_or_release-requires-clause-given : goal.hear_or_release-requires-clause-given

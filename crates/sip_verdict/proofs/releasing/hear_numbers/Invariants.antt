@@ -2,7 +2,7 @@ use Rattle.std.proofs.Common.{◌≡◌, ◌≢◌, ◌≤◌, List, AllPairs, l
 use Rattle.sip_standard.specs.Key.{KeyParts}
 use Rattle.sip_standard.specs.Times.{Times}
 use Rattle.sip_standard.specs.Observation.{Observation}
-use Rattle.sip_verdict.specs.Keyed.{newest_moment}
+use Rattle.sip_verdict.specs.Entries.{newest_moment}
 use Rattle.sip_verdict.specs.inner.TablesTracking.{MayPass, is_among}
 use Rattle.sip_verdict.specs.inner.Surveying.{AreWatched, ArePassing, AreConcerned}
 use Rattle.sip_verdict.proofs.releasing.hear_numbers.Given as goal

@@ -2,8 +2,8 @@ use Rattle.std.proofs.Common.{◌≤◌, ◌-◌, inl, inr, Some, refl, ap, ◌�
 use Rattle.std.proofs.lemmas.Result.{on_ok_weaker}
 use Rattle.sip_states.specs.AnySet.{moment_of, start_of, IsKnownSet, IsEmpty}
 use Rattle.sip_verdict.proofs.tables.TablesPassing.{All-place, set-place, settles_leaves}
-use Rattle.sip_verdict.proofs.surveys.Watching.{watched_on, watched_off, watched_deaf, passes_with, passes_anew, anew_sets}
-use Rattle.sip_verdict.proofs.surveys.Hearing.{deaf_on, heard_on, heard_broken, heard_wide}
+use Rattle.sip_verdict.proofs.surveys.passing.Watching.{watched_on, watched_off, watched_deaf, passes_with, passes_anew, anew_sets}
+use Rattle.sip_verdict.proofs.surveys.passing.Hearing.{deaf_on, heard_on, heard_broken, heard_wide}
 use Rattle.sip_verdict.proofs.releasing.hear_or_release.Goals as goal
 
 pub returns-then-has-clause-watched : goal.returns-then-has-clause-watched

@@ -1,10 +1,10 @@
 use Rattle.std.proofs.Common.{◌≤◌, Some, None, [], sym, ◌∙◌, subst}
 use Rattle.std.proofs.lemmas.Result.{on_ok_weaker}
-use Rattle.sip_verdict.specs.Keyed.{newest_moment}
+use Rattle.sip_verdict.specs.Entries.{newest_moment}
 use Rattle.sip_verdict.specs.inner.Concerned.{each}
 use Rattle.sip_verdict.specs.inner.TablesTracking.{AreTold, MayPass, MayHear}
-use Rattle.sip_verdict.proofs.surveys.Waiting.{mark_passes, event_waits, event_concerns, hear_still}
-use Rattle.sip_verdict.proofs.surveys.Watching.{watched_more}
+use Rattle.sip_verdict.proofs.surveys.passing.Waiting.{mark_passes, event_waits, event_concerns, hear_still}
+use Rattle.sip_verdict.proofs.surveys.passing.Watching.{watched_more}
 use Rattle.sip_verdict.proofs.releasing.pass_each.Goals as goal
 
 pub returns-in_default-clause-may : goal.returns-in_default-clause-may

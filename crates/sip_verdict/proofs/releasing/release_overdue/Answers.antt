@@ -1,9 +1,9 @@
 use Rattle.std.proofs.Common.{◌<◌, ◌-◌, ◌∙◌, length, sym, ap, subst}
 use Rattle.std.proofs.lemmas.List.{length-set}
 use Rattle.sip_states.specs.AnySet.{start_of}
-use Rattle.sip_verdict.proofs.surveys.Hearing.{overdue_broken}
-use Rattle.sip_verdict.proofs.surveys.Lasts.{lasts, one_less}
-use Rattle.sip_verdict.proofs.surveys.Watching.{watched_released, passes_anew}
+use Rattle.sip_verdict.proofs.surveys.passing.Hearing.{overdue_broken}
+use Rattle.sip_verdict.proofs.surveys.passing.Lasts.{lasts, one_less}
+use Rattle.sip_verdict.proofs.surveys.passing.Watching.{watched_released, passes_anew}
 use Rattle.sip_verdict.proofs.releasing.release_overdue.Goals as goal
 
 pub loop-number-preserved : goal.loop-number-preserved

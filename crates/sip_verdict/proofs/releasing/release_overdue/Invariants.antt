@@ -3,10 +3,10 @@ use Rattle.sip_standard.specs.Key.{KeyParts}
 use Rattle.sip_standard.specs.Times.{Times}
 use Rattle.sip_machine.specs.Texts.{Texts}
 use Rattle.sip_standard.specs.Observation.{Observation}
-use Rattle.sip_verdict.specs.Keyed.{newest_moment}
+use Rattle.sip_verdict.specs.Entries.{newest_moment}
 use Rattle.sip_verdict.specs.inner.TablesTracking.{MayPass}
 use Rattle.sip_verdict.specs.inner.Surveying.{AreWatched, ArePassing, any}
-use Rattle.sip_verdict.proofs.surveys.Lasts.{lasts}
+use Rattle.sip_verdict.proofs.surveys.passing.Lasts.{lasts}
 use Rattle.sip_verdict.proofs.releasing.release_overdue.Given as goal
 
 abbrev pub invariant-loop-number : goal.invariant-loop-number

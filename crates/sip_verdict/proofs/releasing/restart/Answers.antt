@@ -5,7 +5,7 @@ use Rattle.sip_verdict.specs.declared.concerned.Concerned.TheVariants as concern
 use Rattle.sip_verdict.specs.inner.TablesTracking.{MayPass, AreHearers}
 use Rattle.sip_verdict.specs.inner.Surveying.{AreWatched, HearsNumbers}
 use Rattle.sip_verdict.proofs.tables.TablesPassing.{all_hearers}
-use Rattle.sip_verdict.proofs.surveys.Watching.{watched_more}
+use Rattle.sip_verdict.proofs.surveys.passing.Watching.{watched_more}
 use Rattle.sip_verdict.proofs.releasing.restart.Goals as goal
 
 pub hear_numbers-requires-clause-given : goal.hear_numbers-requires-clause-given

@@ -1,5 +1,5 @@
-use Rattle.sip_verdict.proofs.surveys.OneFinding.{runs_over_fewer}
+use Rattle.sip_verdict.proofs.keys.FewerEntries.{fewer-entries}
 use Rattle.sip_verdict.proofs.survey_laws.a_breach_stays.Goals as goal
 
 pub returns : goal.returns
-returns c = runs_over_fewer
+returns c = fewer-entries

@@ -1,4 +1,4 @@
-use Rattle.sip_verdict.proofs.surveys.PartFaults.{part_faults}
+use Rattle.sip_verdict.proofs.surveys.parts.PartFaults.{part_faults}
 use Rattle.sip_verdict.proofs.survey_laws.a_fault_is_found_where_its_message_stays.Goals as goal
 
 pub returns : goal.returns

@@ -1,5 +1,5 @@
 use Rattle.std.specs.Prelude.{[]}
-use Rattle.sip_verdict.proofs.surveys.ByBranch.{branch_cut}
+use Rattle.sip_verdict.proofs.surveys.parts.ByBranch.{branch_cut}
 use Rattle.sip_verdict.proofs.survey_laws.a_log_can_be_cut_by_branch.Goals as goal
 
 pub returns : goal.returns

@@ -1,4 +1,4 @@
-use Rattle.sip_verdict.proofs.surveys.CutLogs.{cut_keeps}
+use Rattle.sip_verdict.proofs.surveys.parts.CutLogs.{cut_keeps}
 use Rattle.sip_verdict.proofs.survey_laws.a_log_may_be_cut.Goals as goal
 
 pub returns : goal.returns

@@ -1,4 +1,4 @@
-use Rattle.sip_verdict.proofs.surveys.Parts.{part_is_whole}
+use Rattle.sip_verdict.proofs.surveys.parts.Parts.{part_is_whole}
 use Rattle.sip_verdict.proofs.survey_laws.a_part_finds_what_the_whole_finds.Goals as goal
 
 pub returns : goal.returns

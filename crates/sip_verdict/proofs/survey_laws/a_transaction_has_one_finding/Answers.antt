@@ -1,4 +1,4 @@
-use Rattle.sip_verdict.proofs.surveys.OneFinding.{one_finding}
+use Rattle.sip_verdict.proofs.surveys.found.OneFinding.{one_finding}
 use Rattle.sip_verdict.proofs.survey_laws.a_transaction_has_one_finding.Goals as goal
 
 pub returns : goal.returns

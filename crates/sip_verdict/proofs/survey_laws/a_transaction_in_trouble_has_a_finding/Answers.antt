@@ -1,4 +1,4 @@
-use Rattle.sip_verdict.proofs.surveys.OneFinding.{some_finding}
+use Rattle.sip_verdict.proofs.surveys.found.OneFinding.{some_finding}
 use Rattle.sip_verdict.proofs.survey_laws.a_transaction_in_trouble_has_a_finding.Goals as goal
 
 pub returns : goal.returns

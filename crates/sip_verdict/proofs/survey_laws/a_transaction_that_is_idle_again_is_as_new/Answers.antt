@@ -1,4 +1,4 @@
-use Rattle.sip_verdict.proofs.surveys.IdleAgain.{idle_is_new}
+use Rattle.sip_verdict.proofs.surveys.forgetting.IdleAgain.{idle_is_new}
 use Rattle.sip_verdict.proofs.survey_laws.a_transaction_that_is_idle_again_is_as_new.Goals as goal
 
 pub returns : goal.returns

@@ -1,4 +1,4 @@
-use Rattle.sip_verdict.proofs.surveys.HasSurvey.{has_survey}
+use Rattle.sip_verdict.proofs.surveys.found.HasSurvey.{has_survey}
 use Rattle.sip_verdict.proofs.survey_laws.an_input_has_a_survey.Goals as goal
 
 pub returns : goal.returns

@@ -1,4 +1,4 @@
-use Rattle.sip_verdict.proofs.surveys.Named.{trouble_is_named}
+use Rattle.sip_verdict.proofs.surveys.found.Named.{trouble_is_named}
 use Rattle.sip_verdict.proofs.survey_laws.each_trouble_is_named.Goals as goal
 
 pub returns : goal.returns

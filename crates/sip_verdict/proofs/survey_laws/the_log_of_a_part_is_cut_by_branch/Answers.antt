@@ -1,5 +1,5 @@
 use Rattle.std.proofs.Common.{[]}
-use Rattle.sip_verdict.proofs.surveys.PartLogs.{part_cut}
+use Rattle.sip_verdict.proofs.surveys.parts.PartLogs.{part_cut}
 use Rattle.sip_verdict.proofs.survey_laws.the_log_of_a_part_is_cut_by_branch.Goals as goal
 
 pub returns : goal.returns

@@ -1,4 +1,4 @@
-use Rattle.sip_verdict.proofs.surveys.FirstFinding.{verdict_is_in}
+use Rattle.sip_verdict.proofs.surveys.found.FirstFinding.{verdict_is_in}
 use Rattle.sip_verdict.proofs.survey_laws.the_verdict_is_in_the_survey.Goals as goal
 
 pub returns : goal.returns

@@ -1,4 +1,4 @@
-use Rattle.sip_verdict.proofs.surveys.Forgetting.{found_new}
+use Rattle.sip_verdict.proofs.surveys.forgetting.Forgetting.{found_new}
 use Rattle.sip_verdict.proofs.survey_laws.what_is_idle_again_can_be_forgotten.Goals as goal
 
 pub returns : goal.returns

@@ -2,7 +2,7 @@ use Rattle.std.proofs.Common.{◌<◌, ◌∙◌, ◌++◌, length, take, sym, s
 use Rattle.std.proofs.KnownBytes.{Appends-trans}
 use Rattle.std.proofs.lemmas.List.{take_more}
 use Rattle.sip_verdict.specs.inner.SurveyingLogs.{AreCounted, AreLinesBy}
-use Rattle.sip_verdict.proofs.surveys.Writing.{counted_more, lines_push, some_of_ok}
+use Rattle.sip_verdict.proofs.surveys.written.Writing.{counted_more, lines_push, some_of_ok}
 use Rattle.sip_verdict.proofs.surveying.put_findings.Goals as goal
 
 pub loop-finding-preserved : goal.loop-finding-preserved

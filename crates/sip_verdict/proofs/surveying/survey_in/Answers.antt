@@ -1,18 +1,18 @@
 use Rattle.std.proofs.Common.{◌≡◌, ◌∙◌, [], subst, rules}
 use Rattle.std.specs.Option.{option_copied}
 use Rattle.sip_log.specs.Reading as log
-use Rattle.sip_log.specs.Reading.{Place, beside_source}
+use Rattle.sip_log.specs.Reading.{ProgressState, beside_source}
 use Rattle.sip_standard.specs.declared.log_reason.LogReason.TheVariants.{Header}
 use Rattle.sip_verdict.specs.declared.survey_end.SurveyEnd.TheVariants.{LogFault}
 use Rattle.sip_verdict.specs.inner.SurveyingLogs.{SurveysRead}
-use Rattle.sip_verdict.proofs.surveys.Writing.{all_told, as_told, still_fine, summed, surveys_header, surveys_none}
+use Rattle.sip_verdict.proofs.surveys.written.Writing.{all_told, as_told, still_fine, summed, surveys_header, surveys_none}
 use Rattle.sip_verdict.proofs.surveying.survey_in.Goals as goal
 
 pub returns-in-Ok-clause-surveyed : goal.returns-in-Ok-clause-surveyed
 returns-in-Ok-clause-surveyed g c =
     let part = option_copied c.args.part in
     let start = g.R.Source.left c.args.reader.now in
-    let state : Place → log.ReaderState = λ place. beside_source place (g.R.Source.left c.read_header.new.reader) (g.R.Source.has_failed c.read_header.new.reader) in
+    let state : ProgressState → log.ReaderState = λ place. beside_source place (g.R.Source.left c.read_header.new.reader) (g.R.Source.has_failed c.read_header.new.reader) in
     let read = rw c.in-Ok.is at c.in_ok-params.ensures.reads in
     let times : c.new-survey.result.tables.times ≡ c.in-Ok.params = search rules in
     all_told part _ c.write_entries.result start (g.W.Sink.written c.args.writer.now) (g.W.Sink.written c.write_entries.new.writer) c.write_entries.ensures.surveyed

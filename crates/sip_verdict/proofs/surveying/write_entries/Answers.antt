@@ -7,7 +7,7 @@ use Rattle.sip_verdict.specs.declared.finding.Finding.{Finding}
 use Rattle.sip_verdict.specs.declared.survey_end.SurveyEnd.TheVariants.{LogFault}
 use Rattle.sip_verdict.specs.SurveyText.{end_text}
 use Rattle.sip_verdict.specs.inner.SurveyingLogs.{AreLinesBy}
-use Rattle.sip_verdict.proofs.surveys.Writing.{told_none, told_nothing, told_more, summed, surveys_on, surveys_end, surveys_stop}
+use Rattle.sip_verdict.proofs.surveys.written.Writing.{told_none, told_nothing, told_more, summed, surveys_on, surveys_end, surveys_stop}
 use Rattle.sip_verdict.proofs.judges.StandingLemmas.{same_some}
 use Rattle.sip_verdict.proofs.surveying.write_entries.Goals as goal
 

@@ -4,7 +4,7 @@ use Rattle.std.specs.Option.{option_copied}
 use Rattle.sip_log.specs.Reading.{beside_source}
 use Rattle.sip_verdict.specs.declared.finding.Finding.{Finding}
 use Rattle.sip_verdict.specs.inner.SurveyingLogs.{AreTold, IsSurveyAt, SurveysRead}
-use Rattle.sip_verdict.proofs.surveys.Writing.{Told}
+use Rattle.sip_verdict.proofs.surveys.written.Writing.{ToldSoFar}
 use Rattle.sip_verdict.proofs.surveying.write_entries.Given as goal
 
 abbrev pub invariant-loop-found : goal.invariant-loop-found
@@ -16,7 +16,7 @@ invariant-loop-found g l =
       counts_are : l.count ≡ l.survey.number;
       told : (found : List Finding) × (lines : List ℕ) × AreTold found lines l.counts (g.W.Sink.written l.fn.writer) (g.W.Sink.written l.writer)
           × ((start : Option (List ℕ)) → SurveysRead (option_copied l.fn.part) l.fn.survey [] start (beside_source l.fn.progress (g.R.Source.left l.fn.reader) (g.R.Source.has_failed l.fn.reader))
-          → Told (option_copied l.fn.part) l.survey found lines start (beside_source l.progress (g.R.Source.left l.reader) (g.R.Source.has_failed l.reader)));
+          → ToldSoFar (option_copied l.fn.part) l.survey found lines start (beside_source l.progress (g.R.Source.left l.reader) (g.R.Source.has_failed l.reader)));
     }
 
 abbrev pub decreases-loop-found : goal.decreases-loop-found

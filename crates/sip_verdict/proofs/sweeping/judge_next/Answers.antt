@@ -1,13 +1,14 @@
-use Rattle.std.proofs.Common.{◌≤◌, ◌+◌, All, Contains, length, subst, arith}
+use Rattle.std.proofs.Common.{◌≤◌, ◌+◌, Contains, length, arith}
+use Rattle.std.proofs.lemmas.List.Elements.{All-contains, All-weaker}
 use Rattle.sip_log.specs.Told.{item}
 use Rattle.sip_verdict.proofs.sweeps.FollowedLemmas.{followed_kept, followed_swept, swept_take}
-use Rattle.sip_verdict.proofs.sweeps.SweptBook.{same_within, within_keeps}
+use Rattle.sip_verdict.proofs.sweeps.SweptBook.{within_keeps}
 use Rattle.sip_verdict.proofs.sweeping.judge_next.Goals as goal
 
 pub returns-then-kept-left-clause-judged : goal.returns-then-kept-left-clause-judged
 returns-then-kept-left-clause-judged g c =
     let s = c.args.standing.now in
-    let mid = c.entry.new.self in
+    let mid = c.judge.new.self in
     let e = c.args.entry.now in
     let left = c.args.left.now in
     let few : length mid.book ≤ left + left + 64 = omega (arith, c.kept.ensures.kept, c.if-kept-left.true) in
@@ -15,7 +16,7 @@ returns-then-kept-left-clause-judged g c =
 
 pub returns-clause-may : goal.returns-clause-may
 returns-clause-may g c =
-    let mid = c.entry.new.self in
+    let mid = c.judge.new.self in
     let new = c.sweep.new.self in
     let e = c.args.entry.now in
     let swept = c.in_ok-sweep.ensures in
@@ -24,23 +25,20 @@ returns-clause-may g c =
 pub returns-clause-left : goal.returns-clause-left
 returns-clause-left g c =
     let may = rw c.in_default.is at c.in_ok-verdict.ensures.may in
-    let fewer = within_keeps c.entry.new.self.book c.sweep.new.self.book c.in_ok-sweep.ensures.fewer in
+    let fewer = within_keeps c.judge.new.self.book c.sweep.new.self.book c.in_ok-sweep.ensures.fewer in
     let high = c.kept-2.ensures.few (c.args.entry.now.number + 1) (λ n keeps. may.numbered n (fewer n keeps)) in
     omega (arith, high, c.requires.count)
 
 pub returns-clause-keyless : goal.returns-clause-keyless
-returns-clause-keyless g c none = subst (λ b. All (Contains b) c.sweep.new.self.book) (c.in_ok-verdict.ensures.keyless none) c.in_ok-sweep.ensures.fewer
-
-pub returns-then-kept-left-clause-keyless : goal.returns-then-kept-left-clause-keyless
-returns-then-kept-left-clause-keyless g c none = same_within c.args.standing.now.book c.entry.new.self.book (c.in_ok-verdict.ensures.keyless none)
-
-pub returns-in-Some-clause-keyless : goal.returns-in-Some-clause-keyless
-returns-in-Some-clause-keyless g c none = same_within c.args.standing.now.book c.entry.new.self.book (c.in_ok-verdict.ensures.keyless none)
+returns-clause-keyless g c none =
+    let old = c.args.standing.now.book in
+    let mid = c.judge.new.self.book in
+    All-weaker (Contains mid) (Contains old) (λ x has. All-contains (Contains old) mid x (c.in_ok-verdict.ensures.keyless none) has) c.sweep.new.self.book c.in_ok-sweep.ensures.fewer
 
 pub returns-clause-judged : goal.returns-clause-judged
 returns-clause-judged g c =
     let s = c.args.standing.now in
-    let mid = c.entry.new.self in
+    let mid = c.judge.new.self in
     let new = c.sweep.new.self in
     let e = c.args.entry.now in
     let swept = c.in_ok-sweep.ensures in

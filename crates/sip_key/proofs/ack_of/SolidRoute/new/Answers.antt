@@ -2,7 +2,7 @@ use Rattle.std.specs.Prelude.{List, ℕ, ◌++◌, ◌∷◌, refl}
 use Rattle.std.specs.Borrow.{Bor}
 use Rattle.std.specs.List.{flat_map}
 use Rattle.std.proofs.Common.{◌∙◌, ap}
-use Rattle.sip_message.specs.Params.{comma}
+use Rattle.sip_message.specs.inner.Marks.{comma}
 use Rattle.sip_standard.specs.Solid.{solid}
 use Rattle.sip_key.proofs.AckOfLemmas.{solid-begins}
 use Rattle.sip_key.proofs.ack_of.SolidRoute.new.Goals as goal

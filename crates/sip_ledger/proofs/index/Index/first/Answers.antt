@@ -2,7 +2,7 @@ use Rattle.std.proofs.Common.{subst}
 use Rattle.std.specs.Prelude.{IfSome, IfNone}
 use Rattle.std.specs.Option.{option_copied}
 use Rattle.sip_ledger.specs.inner.Indexes.{IsFirstFrom, NoneFrom}
-use Rattle.sip_ledger.proofs.IndexLemmas.{first-pair, no-first, copied-none}
+use Rattle.sip_ledger.proofs.lists.IndexLemmas.{first-pair, no-first, copied-none}
 use Rattle.sip_ledger.proofs.index.Index.first.Goals as goal
 
 pub returns-clause-found : goal.returns-clause-found

@@ -2,7 +2,7 @@ use Rattle.std.proofs.Common.{◌≡◌, ℕ, false, subst}
 use Rattle.std.specs.Prelude.{IfSome, IfNone}
 use Rattle.std.specs.Option.{option_copied}
 use Rattle.sip_ledger.specs.inner.Indexes.{holds, IsLastPair}
-use Rattle.sip_ledger.proofs.IndexLemmas.{last-pair, no-last, copied-none}
+use Rattle.sip_ledger.proofs.lists.IndexLemmas.{last-pair, no-last, copied-none}
 use Rattle.sip_ledger.proofs.index.Index.last.Goals as goal
 
 pub returns-clause-found : goal.returns-clause-found

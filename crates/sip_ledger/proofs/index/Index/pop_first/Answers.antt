@@ -1,7 +1,7 @@
 use Rattle.std.proofs.Common.{◌≡◌, ℕ, false, subst}
 use Rattle.std.specs.Prelude.{IfSome, IfNone}
 use Rattle.sip_ledger.specs.inner.Indexes.{holds, IsWithoutPair}
-use Rattle.sip_ledger.proofs.IndexLemmas.{first-taken, no-last}
+use Rattle.sip_ledger.proofs.lists.IndexLemmas.{first-taken, no-last}
 use Rattle.sip_ledger.proofs.index.Index.pop_first.Goals as goal
 
 pub returns-clause-found : goal.returns-clause-found

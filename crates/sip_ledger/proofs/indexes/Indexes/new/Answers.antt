@@ -1,4 +1,4 @@
-use Rattle.sip_ledger.proofs.IndexLemmas.{holds-none}
+use Rattle.sip_ledger.proofs.lists.IndexLemmas.{holds-none}
 use Rattle.sip_ledger.proofs.indexes.Indexes.new.Goals as goal
 
 pub returns : goal.returns

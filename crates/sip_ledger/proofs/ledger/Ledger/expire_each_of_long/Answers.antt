@@ -2,7 +2,7 @@ use Rattle.std.proofs.Common.{arith, ◌∙◌, ap, sym, get_or, set, []}
 use Rattle.std.specs.Prelude.{length, filter}
 use Rattle.sip_ledger.specs.Debts.{counts_at}
 use Rattle.sip_ledger.specs.Ledgers.{rows_of}
-use Rattle.sip_ledger.proofs.EachLemmas.{changing-none, changing-more, changing-all, changing-length}
+use Rattle.sip_ledger.proofs.lists.EachLemmas.{changing-none, changing-more, changing-all, changing-length}
 use Rattle.sip_ledger.proofs.ledger.Ledger.expire_each_of_long.Goals as goal
 
 pub loop-row-init : goal.loop-row-init

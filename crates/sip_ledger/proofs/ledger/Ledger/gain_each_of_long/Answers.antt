@@ -2,7 +2,7 @@ use Rattle.std.proofs.Common.{arith, ◌∙◌, ap, sym, get_or, set, List, [], 
 use Rattle.std.specs.Prelude.{length, take}
 use Rattle.sip_ledger.specs.declared.debt.Debt.{Debt}
 use Rattle.sip_ledger.specs.Ledgers.{rows_of}
-use Rattle.sip_ledger.proofs.EachLemmas.{changing-none, changing-more, changing-all, changing-length, changing-front, always_err}
+use Rattle.sip_ledger.proofs.lists.EachLemmas.{changing-none, changing-more, changing-all, changing-length, changing-front, always_err}
 use Rattle.sip_ledger.proofs.ledger.Ledger.gain_each_of_long.Goals as goal
 
 pub loop-row-init : goal.loop-row-init

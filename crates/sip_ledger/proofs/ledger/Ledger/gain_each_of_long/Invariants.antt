@@ -1,6 +1,6 @@
 use Rattle.std.specs.Prelude.{◌≡◌, ◌≤◌, ◌++◌, ◌∷◌, []}
 use Rattle.sip_ledger.specs.Ledgers.{rows_of}
-use Rattle.sip_ledger.proofs.EachLemmas.{changing}
+use Rattle.sip_ledger.proofs.lists.EachLemmas.{changing}
 use Rattle.sip_ledger.proofs.ledger.Ledger.gain_each_of_long.Given as goal
 
 -- the rows so far owe one more

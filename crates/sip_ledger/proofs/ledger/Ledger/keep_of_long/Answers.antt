@@ -1,7 +1,7 @@
 use Rattle.std.proofs.Common.{◌<◌, [], length, ◌∙◌, arith}
 use Rattle.std.proofs.lemmas.List.Elements.{All-get_or}
 use Rattle.sip_ledger.specs.Ledgers.{rows_of}
-use Rattle.sip_ledger.proofs.KeepLemmas.{rise-above, rise-few, kept-more, kept-all}
+use Rattle.sip_ledger.proofs.lists.KeepLemmas.{rise-above, rise-few, kept-more, kept-all}
 use Rattle.sip_ledger.proofs.ledger.Ledger.keep_of_long.Goals as goal
 
 pub copy-requires-clause-to : goal.copy-requires-clause-to

@@ -1,6 +1,6 @@
 use Rattle.std.specs.Prelude.{[]}
 use Rattle.sip_ledger.specs.Ledgers.{rows_of}
-use Rattle.sip_ledger.proofs.KeepLemmas.{IsKeptTo}
+use Rattle.sip_ledger.proofs.lists.KeepLemmas.{IsKeptTo}
 use Rattle.sip_ledger.proofs.ledger.Ledger.keep_of_long.Given as goal
 
 abbrev pub invariant-loop-to : goal.invariant-loop-to

@@ -2,8 +2,8 @@ use Rattle.std.proofs.Common.{arith, ◌∙◌, ap, sym, get_or, set, []}
 use Rattle.std.specs.Prelude.{length}
 use Rattle.sip_ledger.specs.Debts.{paid_by}
 use Rattle.sip_ledger.specs.Ledgers.{rows_of}
-use Rattle.sip_ledger.proofs.PayLemmas.{paid-row}
-use Rattle.sip_ledger.proofs.EachLemmas.{changing-none, changing-more, changing-all, changing-length}
+use Rattle.sip_ledger.proofs.debts.PayLemmas.{paid-row}
+use Rattle.sip_ledger.proofs.lists.EachLemmas.{changing-none, changing-more, changing-all, changing-length}
 use Rattle.sip_ledger.proofs.ledger.Ledger.pay_each_of_long.Goals as goal
 
 pub loop-row-init : goal.loop-row-init

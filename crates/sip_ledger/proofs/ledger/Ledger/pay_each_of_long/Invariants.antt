@@ -1,7 +1,7 @@
 use Rattle.std.specs.Prelude.{◌≡◌, ◌≤◌}
 use Rattle.sip_ledger.specs.Debts.{paid_by}
 use Rattle.sip_ledger.specs.Ledgers.{rows_of}
-use Rattle.sip_ledger.proofs.EachLemmas.{changing}
+use Rattle.sip_ledger.proofs.lists.EachLemmas.{changing}
 use Rattle.sip_ledger.proofs.ledger.Ledger.pay_each_of_long.Given as goal
 
 -- the rows so far have paid

@@ -1,7 +1,7 @@
 use Rattle.std.proofs.Common.{◌≡◌, Some, None, subst}
 use Rattle.std.specs.Map.{values_of}
 use Rattle.sip_ledger.specs.Debts.{debt_deadlines, earliest}
-use Rattle.sip_ledger.proofs.LongLemmas.{earliest-is, no-earliest}
+use Rattle.sip_ledger.proofs.debts.LongLemmas.{earliest-is, no-earliest}
 use Rattle.sip_ledger.proofs.long_row.LongRow.earliest_must.Goals as goal
 
 pub returns-in-Some : goal.returns-in-Some

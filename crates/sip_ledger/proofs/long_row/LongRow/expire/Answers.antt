@@ -1,4 +1,4 @@
-use Rattle.sip_ledger.proofs.LongLemmas.{expiring-first, expiring-further, expired-all}
+use Rattle.sip_ledger.proofs.debts.LongLemmas.{expiring-first, expiring-further, expired-all}
 use Rattle.sip_ledger.proofs.long_row.LongRow.expire.Goals as goal
 
 pub loop-past-init : goal.loop-past-init

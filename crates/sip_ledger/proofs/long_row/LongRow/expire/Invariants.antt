@@ -1,5 +1,5 @@
 use Rattle.std.proofs.Common.{◌+◌, ◌-◌, ◌*◌, ◌^◌}
-use Rattle.sip_ledger.proofs.LongLemmas.{IsExpiring}
+use Rattle.sip_ledger.proofs.debts.LongLemmas.{IsExpiring}
 use Rattle.sip_ledger.proofs.long_row.LongRow.expire.Given as goal
 
 abbrev pub invariant-loop-past : goal.invariant-loop-past

@@ -1,6 +1,6 @@
 use Rattle.std.proofs.Common.{◌+◌, take, slice_index_or}
 use Rattle.sip_ledger.specs.Debts.{is_any_payable, is_payable}
-use Rattle.sip_ledger.proofs.LongLemmas.{found-either, found-nothing, one-more_message}
+use Rattle.sip_ledger.proofs.debts.LongLemmas.{found-either, found-nothing, one-more_message}
 use Rattle.sip_ledger.proofs.long_row.LongRow.first_of_any.Goals as goal
 
 pub loop-message-init : goal.loop-message-init

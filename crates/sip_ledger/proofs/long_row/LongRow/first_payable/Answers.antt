@@ -2,7 +2,7 @@ use Rattle.std.proofs.Common.{◌≡◌, Some, None, true, false, sym, ◌∙◌
 use Rattle.std.specs.Prelude.{nat_le}
 use Rattle.sip_ledger.specs.Debts.{is_payable}
 use Rattle.sip_ledger.specs.inner.Longs.{IsFound, debt_at, passes}
-use Rattle.sip_ledger.proofs.LongLemmas.{payable-found, payable-further, payable-none}
+use Rattle.sip_ledger.proofs.debts.LongLemmas.{payable-found, payable-further, payable-none}
 use Rattle.sip_ledger.proofs.long_row.LongRow.first_payable.Goals as goal
 
 pub returns-then-counts : goal.returns-then-counts

@@ -2,7 +2,7 @@ use Rattle.std.proofs.Common.{◌≡◌, ◌++◌, ◌∷◌, [], ℕ, subst, ap
 use Rattle.std.specs.Map.{values_of}
 use Rattle.std.proofs.lemmas.List.{map-append}
 use Rattle.sip_ledger.specs.declared.debt.Debt.{Debt}
-use Rattle.sip_ledger.proofs.LongLemmas.{put-last}
+use Rattle.sip_ledger.proofs.debts.LongLemmas.{put-last}
 use Rattle.sip_ledger.proofs.long_row.LongRow.gain.Goals as goal
 
 pub returns-clause-ok : goal.returns-clause-ok

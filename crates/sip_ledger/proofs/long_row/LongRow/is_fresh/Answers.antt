@@ -2,7 +2,7 @@ use Rattle.std.proofs.Common.{◌≡◌, ℕ, filter, subst}
 use Rattle.std.specs.Prelude.{nat_le}
 use Rattle.std.specs.Map.{values_of}
 use Rattle.sip_ledger.specs.Debts.{counts_at}
-use Rattle.sip_ledger.proofs.LongLemmas.{fresh-all, fresh-none, on-true, below-or_same}
+use Rattle.sip_ledger.proofs.debts.LongLemmas.{fresh-all, fresh-none, on-true, below-or_same}
 use Rattle.sip_ledger.proofs.long_row.LongRow.is_fresh.Goals as goal
 
 pub returns-in-Some : goal.returns-in-Some

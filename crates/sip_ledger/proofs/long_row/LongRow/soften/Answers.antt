@@ -3,7 +3,7 @@ use Rattle.std.specs.Map.{values_of}
 use Rattle.sip_ledger.specs.declared.debt.Debt.{Debt}
 use Rattle.sip_ledger.specs.Debts.{softened_debt}
 use Rattle.sip_ledger.specs.inner.Longs.{IsIndexed, IsLong, is_due}
-use Rattle.sip_ledger.proofs.LongLemmas.{soft-long, softened-values}
+use Rattle.sip_ledger.proofs.debts.LongLemmas.{soft-long, softened-values}
 use Rattle.sip_ledger.proofs.long_row.LongRow.soften.Goals as goal
 
 pub invariant_of-self : goal.invariant_of-self

@@ -2,7 +2,7 @@ use Rattle.std.proofs.Common.{◌≡◌, [], sym, subst}
 use Rattle.std.specs.Prelude.{IfNone}
 use Rattle.std.specs.Map.{values_of}
 use Rattle.sip_ledger.specs.Debts.{IsSpan}
-use Rattle.sip_ledger.proofs.LongLemmas.{no-debts, span-is}
+use Rattle.sip_ledger.proofs.debts.LongLemmas.{no-debts, span-is}
 use Rattle.sip_ledger.proofs.long_row.LongRow.span.Goals as goal
 
 pub returns-in_err-least-clause-none : goal.returns-in_err-least-clause-none

@@ -1,4 +1,4 @@
-use Rattle.sip_ledger.proofs.LongLemmas.{taken-out}
+use Rattle.sip_ledger.proofs.debts.LongLemmas.{taken-out}
 use Rattle.sip_ledger.proofs.long_row.LongRow.take_out.Goals as goal
 
 pub returns-in-Some-clause-taken : goal.returns-in-Some-clause-taken

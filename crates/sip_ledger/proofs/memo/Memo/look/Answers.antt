@@ -1,6 +1,6 @@
 use Rattle.std.proofs.Common.{◌+◌, subst, sym, ◌∙◌, arith}
 use Rattle.sip_ledger.specs.inner.Memos.{asked, IsMask}
-use Rattle.sip_ledger.proofs.MemoLemmas.{mask-with, mask-without}
+use Rattle.sip_ledger.proofs.masks.MemoLemmas.{mask-with, mask-without}
 use Rattle.sip_ledger.proofs.memo.Memo.look.Goals as goal
 use Rattle.sip_ledger.proofs.memo.Memo.look.Goals.{then-passes, else-passes}
 

@@ -1,5 +1,5 @@
 use Rattle.sip_ledger.specs.inner.Memos.{asked}
-use Rattle.sip_ledger.proofs.MemoLemmas.{mask-none}
+use Rattle.sip_ledger.proofs.masks.MemoLemmas.{mask-none}
 use Rattle.sip_ledger.proofs.memo.Memo.of.Goals as goal
 
 pub returns-clause-memo : goal.returns-clause-memo

@@ -2,8 +2,8 @@ use Rattle.std.proofs.Common.{[], ◌∙◌}
 use Rattle.std.proofs.lemmas.List.{with_items_is}
 use Rattle.sip_ledger.specs.Bits.{has}
 use Rattle.sip_ledger.specs.Grids.{grid_of, part}
-use Rattle.sip_ledger.proofs.GridLemmas.{changed, changed-to, row-within, cleared, unset-debts}
-use Rattle.sip_ledger.proofs.TableLemmas.{row-inside}
+use Rattle.sip_ledger.proofs.grids.GridLemmas.{changed, changed-to, row-within, cleared, unset-debts}
+use Rattle.sip_ledger.proofs.grids.TableLemmas.{row-inside}
 use Rattle.sip_ledger.proofs.rows.Rows.clear.Goals as goal
 
 pub clear-requires : goal.clear-requires

@@ -2,8 +2,8 @@ use Rattle.std.proofs.Common.{sym, ap₂, ◌∙◌}
 use Rattle.std.proofs.lemmas.List.{with_items_is}
 use Rattle.sip_ledger.specs.Rows.{row_debts}
 use Rattle.sip_ledger.specs.Grids.{grid_of, grid_row}
-use Rattle.sip_ledger.proofs.GridLemmas.{changed, changed-to, row-within, row-before_change, copied}
-use Rattle.sip_ledger.proofs.TableLemmas.{row-inside}
+use Rattle.sip_ledger.proofs.grids.GridLemmas.{changed, changed-to, row-within, row-before_change, copied}
+use Rattle.sip_ledger.proofs.grids.TableLemmas.{row-inside}
 use Rattle.sip_ledger.proofs.rows.Rows.copy.Goals as goal
 
 pub copy-requires-clause-from : goal.copy-requires-clause-from

@@ -1,8 +1,8 @@
 use Rattle.std.proofs.Common.{◌≡◌, length, drop, min, sym, ap, ◌∙◌, arith}
 use Rattle.std.proofs.lemmas.List.{drop_min}
 use Rattle.sip_ledger.specs.Grids.{grid_of, grid_rows}
-use Rattle.sip_ledger.proofs.GridLemmas.{shortened-rows, words-fit, rows-length}
-use Rattle.sip_ledger.proofs.TableLemmas.{fewer-words}
+use Rattle.sip_ledger.proofs.grids.GridLemmas.{shortened-rows, words-fit, rows-length}
+use Rattle.sip_ledger.proofs.grids.TableLemmas.{fewer-words}
 use Rattle.sip_ledger.proofs.rows.Rows.drop_first.Goals as goal
 
 pub overflow_mul-first : goal.overflow_mul-first

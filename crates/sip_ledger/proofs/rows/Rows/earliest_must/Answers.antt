@@ -1,8 +1,8 @@
 use Rattle.std.proofs.Common.{◌^◌, ◌<◌, length, sym, ap, ◌∙◌, arith}
 use Rattle.sip_ledger.specs.Debts.{debt_deadlines, earliest}
 use Rattle.sip_ledger.specs.Grids.{grid_of}
-use Rattle.sip_ledger.proofs.GridLemmas.{row-within, row-before_change}
-use Rattle.sip_ledger.proofs.TableLemmas.{row-inside, table-row}
+use Rattle.sip_ledger.proofs.grids.GridLemmas.{row-within, row-before_change}
+use Rattle.sip_ledger.proofs.grids.TableLemmas.{row-inside, table-row}
 use Rattle.sip_ledger.proofs.rows.Rows.earliest_must.Goals as goal
 
 pub first_must-requires-clause-inside : goal.first_must-requires-clause-inside

@@ -3,8 +3,8 @@ use Rattle.std.proofs.lemmas.Bool.{OnTrue_at}
 use Rattle.std.proofs.lemmas.List.{with_items_is}
 use Rattle.sip_ledger.specs.Debts.{counts_at}
 use Rattle.sip_ledger.specs.Grids.{grid_of, grid_rows, grid_row}
-use Rattle.sip_ledger.proofs.GridLemmas.{changed, changed-to, unchanged-others, row-within, row-before_change}
-use Rattle.sip_ledger.proofs.TableLemmas.{table-row}
+use Rattle.sip_ledger.proofs.grids.GridLemmas.{changed, changed-to, unchanged-others, row-within, row-before_change}
+use Rattle.sip_ledger.proofs.grids.TableLemmas.{table-row}
 use Rattle.sip_ledger.proofs.rows.Rows.expire.Goals as goal
 
 pub returns-then-is_fresh-clause-rows : goal.returns-then-is_fresh-clause-rows

@@ -6,7 +6,7 @@ use Rattle.sip_ledger.specs.Debts.{counts_at}
 use Rattle.sip_ledger.specs.Grids.{Grid, grid_of, grid_rows}
 use Rattle.sip_ledger.specs.inner.Marks.{AreDistinct}
 use Rattle.sip_ledger.specs.inner.Memos.{IsMask, asked_of}
-use Rattle.sip_ledger.proofs.ExpireEachLemmas.{expires-all}
+use Rattle.sip_ledger.proofs.masks.ExpireEachLemmas.{expires-all}
 use Rattle.sip_ledger.proofs.rows.Rows.expire_distinct.Goals as goal
 
 pub invariant_of-self : goal.invariant_of-self

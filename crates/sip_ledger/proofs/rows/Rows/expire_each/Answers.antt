@@ -2,7 +2,7 @@ use Rattle.std.proofs.Common.{length, subst, sym}
 use Rattle.std.specs.Prelude.{None}
 use Rattle.sip_ledger.specs.Grids.{grid_of}
 use Rattle.sip_ledger.specs.inner.Memos.{IsMask, asked_of}
-use Rattle.sip_ledger.proofs.WordRowLemmas.{fresh-rows}
+use Rattle.sip_ledger.proofs.masks.WordRowLemmas.{fresh-rows}
 use Rattle.sip_ledger.proofs.rows.Rows.expire_each.Goals as goal
 
 pub returns-then-past-eq0 : goal.returns-then-past-eq0

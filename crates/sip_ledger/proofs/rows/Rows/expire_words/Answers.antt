@@ -6,10 +6,10 @@ use Rattle.sip_ledger.specs.declared.debt.Entry.{Entry}
 use Rattle.sip_ledger.specs.Debts.{counts_at}
 use Rattle.sip_ledger.specs.Grids.{Grid, grid_of, grid_rows, grid_row}
 use Rattle.sip_ledger.specs.inner.Memos.{IsMask, asked_of}
-use Rattle.sip_ledger.proofs.GridLemmas.{rows-length, row-within, unchanged-others}
-use Rattle.sip_ledger.proofs.WordLemmas.{word-part}
-use Rattle.sip_ledger.proofs.WordRowLemmas.{row-in_word, word-fresh, word-row}
-use Rattle.sip_ledger.proofs.EachLemmas.{changing-none, changing-more, changing-all, changing-length}
+use Rattle.sip_ledger.proofs.grids.GridLemmas.{rows-length, row-within, unchanged-others}
+use Rattle.sip_ledger.proofs.masks.WordLemmas.{word-part}
+use Rattle.sip_ledger.proofs.masks.WordRowLemmas.{row-in_word, word-fresh, word-row}
+use Rattle.sip_ledger.proofs.lists.EachLemmas.{changing-none, changing-more, changing-all, changing-length}
 use Rattle.sip_ledger.proofs.rows.Rows.expire_words.Goals as goal
 use Rattle.sip_ledger.proofs.rows.Rows.expire_words.Goals.{then-not-keeps_past, else-not-keeps_past}
 

@@ -1,8 +1,8 @@
 use Rattle.std.proofs.Common.{◌^◌, ◌<◌, length, refl, arith}
 use Rattle.sip_ledger.specs.Debts.{is_any_payable}
 use Rattle.sip_ledger.specs.Grids.{grid_of}
-use Rattle.sip_ledger.proofs.GridLemmas.{row-within, found-any}
-use Rattle.sip_ledger.proofs.TableLemmas.{row-inside, table-row}
+use Rattle.sip_ledger.proofs.grids.GridLemmas.{row-within, found-any}
+use Rattle.sip_ledger.proofs.grids.TableLemmas.{row-inside, table-row}
 use Rattle.sip_ledger.proofs.rows.Rows.first_of_any.Goals as goal
 
 pub first_payable-requires-clause-inside : goal.first_payable-requires-clause-inside

@@ -3,9 +3,9 @@ use Rattle.sip_ledger.specs.declared.debt.Entry.{Entry}
 use Rattle.sip_ledger.specs.Debts.{is_payable}
 use Rattle.sip_ledger.specs.Grids.{Grid, grid_of}
 use Rattle.sip_ledger.specs.inner.Memos.{IsMask}
-use Rattle.sip_ledger.proofs.GridLemmas.{row-within, found-any}
-use Rattle.sip_ledger.proofs.WordLemmas.{word-part}
-use Rattle.sip_ledger.proofs.WordRowLemmas.{row-in_word, IsWordRow, word-found, word-none}
+use Rattle.sip_ledger.proofs.grids.GridLemmas.{row-within, found-any}
+use Rattle.sip_ledger.proofs.masks.WordLemmas.{word-part}
+use Rattle.sip_ledger.proofs.masks.WordRowLemmas.{row-in_word, IsWordRow, word-found, word-none}
 use Rattle.sip_ledger.proofs.rows.Rows.first_payable.Goals as goal
 
 pub index-requires : goal.index-requires

@@ -4,8 +4,8 @@ use Rattle.sip_ledger.specs.declared.debt.Entry.{Entry}
 use Rattle.sip_ledger.specs.Bits.{has}
 use Rattle.sip_ledger.specs.Grids.{grid_of, part}
 use Rattle.sip_ledger.specs.inner.Tables.{IsPlace}
-use Rattle.sip_ledger.proofs.GridLemmas.{changed, rows-length, row-is, free-at}
-use Rattle.sip_ledger.proofs.TableLemmas.{row-inside, table-row}
+use Rattle.sip_ledger.proofs.grids.GridLemmas.{changed, rows-length, row-is, free-at}
+use Rattle.sip_ledger.proofs.grids.TableLemmas.{row-inside, table-row}
 use Rattle.sip_ledger.proofs.rows.Rows.gain.Goals as goal
 
 pub gain-requires-clause-owed : goal.gain-requires-clause-owed

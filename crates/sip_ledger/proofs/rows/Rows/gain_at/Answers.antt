@@ -6,7 +6,7 @@ use Rattle.sip_ledger.specs.declared.debt.Entry.{Entry}
 use Rattle.sip_ledger.specs.Rows.{debt_of}
 use Rattle.sip_ledger.specs.Grids.{Grid, grid_of, grid_rows}
 use Rattle.sip_ledger.specs.inner.Marks.{IsFreeFrom}
-use Rattle.sip_ledger.proofs.GainLemmas.{again-gain, gains-all}
+use Rattle.sip_ledger.proofs.grids.GainLemmas.{again-gain, gains-all}
 use Rattle.sip_ledger.proofs.rows.Rows.gain_at.Goals as goal
 
 pub invariant_of-self : goal.invariant_of-self

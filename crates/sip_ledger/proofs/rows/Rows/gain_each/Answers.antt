@@ -3,7 +3,7 @@ use Rattle.std.proofs.lemmas.Bool.{true≢false}
 use Rattle.sip_ledger.specs.declared.debt.Entry.{Entry}
 use Rattle.sip_ledger.specs.Bits.{has}
 use Rattle.sip_ledger.specs.Grids.{Grid}
-use Rattle.sip_ledger.proofs.BitsLemmas.{has-past}
+use Rattle.sip_ledger.proofs.masks.BitsLemmas.{has-past}
 use Rattle.sip_ledger.proofs.rows.Rows.gain_each.Goals as goal
 
 -- no words have a bit

@@ -7,8 +7,8 @@ use Rattle.sip_ledger.specs.Rows.{debt_of}
 use Rattle.sip_ledger.specs.Grids.{Grid, grid_of, grid_rows}
 use Rattle.sip_ledger.specs.inner.Marks.{IsSetFrom}
 use Rattle.sip_ledger.specs.inner.Memos.{asked}
-use Rattle.sip_ledger.proofs.GainLemmas.{new-gain, gains-all}
-use Rattle.sip_ledger.proofs.MemoLemmas.{mask-grown}
+use Rattle.sip_ledger.proofs.grids.GainLemmas.{new-gain, gains-all}
+use Rattle.sip_ledger.proofs.masks.MemoLemmas.{mask-grown}
 use Rattle.sip_ledger.proofs.rows.Rows.gain_new.Goals as goal
 
 pub invariant_of-self-then-due : goal.invariant_of-self-then-due

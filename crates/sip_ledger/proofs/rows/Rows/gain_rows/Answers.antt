@@ -2,8 +2,8 @@ use Rattle.std.proofs.Common.{◌≡◌, arith, ◌∙◌, ap, sym, get_or, set,
 use Rattle.std.specs.Prelude.{length, take}
 use Rattle.sip_ledger.specs.declared.debt.Debt.{Debt}
 use Rattle.sip_ledger.specs.Grids.{grid_of, grid_rows}
-use Rattle.sip_ledger.proofs.GridLemmas.{rows-length}
-use Rattle.sip_ledger.proofs.EachLemmas.{changing-none, changing-more, changing-all, changing-length, changing-front, always_err}
+use Rattle.sip_ledger.proofs.grids.GridLemmas.{rows-length}
+use Rattle.sip_ledger.proofs.lists.EachLemmas.{changing-none, changing-more, changing-all, changing-length, changing-front, always_err}
 use Rattle.sip_ledger.proofs.rows.Rows.gain_rows.Goals as goal
 
 pub loop-row-init : goal.loop-row-init

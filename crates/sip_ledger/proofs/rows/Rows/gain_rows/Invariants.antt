@@ -1,6 +1,6 @@
 use Rattle.std.specs.Prelude.{◌≡◌, ◌≤◌, ◌++◌, ◌∷◌, []}
 use Rattle.sip_ledger.specs.Grids.{grid_rows}
-use Rattle.sip_ledger.proofs.EachLemmas.{changing}
+use Rattle.sip_ledger.proofs.lists.EachLemmas.{changing}
 use Rattle.sip_ledger.proofs.rows.Rows.gain_rows.Given as goal
 
 -- the rows so far owe one more

@@ -2,8 +2,8 @@ use Rattle.std.proofs.Common.{◌+◌, ◌*◌, ◌^◌, ◌<◌, ◌≤◌, [],
 use Rattle.sip_ledger.specs.Grids.{grid_of}
 use Rattle.sip_ledger.specs.inner.Memos.{asked}
 use Rattle.sip_ledger.specs.inner.Tables.{IsGrown}
-use Rattle.sip_ledger.proofs.GridLemmas.{more-widened}
-use Rattle.sip_ledger.proofs.MemoLemmas.{mask-grown}
+use Rattle.sip_ledger.proofs.grids.GridLemmas.{more-widened}
+use Rattle.sip_ledger.proofs.masks.MemoLemmas.{mask-grown}
 use Rattle.sip_ledger.proofs.rows.Rows.grow.Goals as goal
 
 pub rise-rises-requires : goal.rise-rises-requires

@@ -1,6 +1,6 @@
 use Rattle.std.proofs.Common.{length, sym, ap, ◌∙◌}
 use Rattle.sip_ledger.specs.Grids.{grid_of, grid_rows}
-use Rattle.sip_ledger.proofs.GridLemmas.{rows-length}
+use Rattle.sip_ledger.proofs.grids.GridLemmas.{rows-length}
 use Rattle.sip_ledger.proofs.rows.Rows.is_crowded.Goals as goal
 
 pub returns-then-self-gt0 : goal.returns-then-self-gt0

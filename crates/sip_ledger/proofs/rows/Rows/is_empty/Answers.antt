@@ -1,5 +1,5 @@
 use Rattle.std.proofs.lemmas.Bool.{eqb-true, eq-eqb}
-use Rattle.sip_ledger.proofs.GridLemmas.{no-rows}
+use Rattle.sip_ledger.proofs.grids.GridLemmas.{no-rows}
 use Rattle.sip_ledger.proofs.rows.Rows.is_empty.Goals as goal
 
 pub returns : goal.returns

@@ -5,10 +5,10 @@ use Rattle.sip_ledger.specs.declared.debt.Entry.{Entry}
 use Rattle.sip_ledger.specs.Debts.{counts_at}
 use Rattle.sip_ledger.specs.Grids.{Grid, grid_of, grid_row}
 use Rattle.sip_ledger.specs.inner.Memos.{IsMask, asked_of}
-use Rattle.sip_ledger.proofs.GridLemmas.{row-within, row-before_change}
-use Rattle.sip_ledger.proofs.TableLemmas.{row-inside}
-use Rattle.sip_ledger.proofs.WordLemmas.{word-part}
-use Rattle.sip_ledger.proofs.WordRowLemmas.{row-in_word, word-fresh, word-row}
+use Rattle.sip_ledger.proofs.grids.GridLemmas.{row-within, row-before_change}
+use Rattle.sip_ledger.proofs.grids.TableLemmas.{row-inside}
+use Rattle.sip_ledger.proofs.masks.WordLemmas.{word-part}
+use Rattle.sip_ledger.proofs.masks.WordRowLemmas.{row-in_word, word-fresh, word-row}
 use Rattle.sip_ledger.proofs.rows.Rows.is_fresh.Goals as goal
 use Rattle.std.specs.Bool.{OnTrue}
 use Rattle.sip_ledger.proofs.rows.Rows.is_fresh.Goals.{then-self, else-self}

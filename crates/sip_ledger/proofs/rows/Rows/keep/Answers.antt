@@ -1,8 +1,8 @@
 use Rattle.std.proofs.Common.{◌≡◌, ◌<◌, length, sym, ◌∙◌, subst}
 use Rattle.std.specs.Prelude.{All}
 use Rattle.sip_ledger.specs.Grids.{grid_of, grid_rows}
-use Rattle.sip_ledger.proofs.KeepLemmas.{kept-words}
-use Rattle.sip_ledger.proofs.MarkLemmas.{word-count}
+use Rattle.sip_ledger.proofs.lists.KeepLemmas.{kept-words}
+use Rattle.sip_ledger.proofs.masks.MarkLemmas.{word-count}
 use Rattle.sip_ledger.proofs.rows.Rows.keep.Goals as goal
 
 pub keep_words-requires-clause-within : goal.keep_words-requires-clause-within

@@ -1,6 +1,6 @@
 use Rattle.std.proofs.Common.{length, sym, ap, ◌∙◌}
 use Rattle.sip_ledger.specs.Grids.{Grid, grid_rows}
-use Rattle.sip_ledger.proofs.GridLemmas.{rows-length}
+use Rattle.sip_ledger.proofs.grids.GridLemmas.{rows-length}
 use Rattle.sip_ledger.proofs.rows.Rows.len.Goals as goal
 
 pub returns : goal.returns

@@ -1,7 +1,7 @@
 use Rattle.std.proofs.Common.{◌^◌, ◌<◌, length, arith}
 use Rattle.sip_ledger.specs.Grids.{grid_of}
-use Rattle.sip_ledger.proofs.GridLemmas.{row-within, row-before_change}
-use Rattle.sip_ledger.proofs.TableLemmas.{row-inside, table-row}
+use Rattle.sip_ledger.proofs.grids.GridLemmas.{row-within, row-before_change}
+use Rattle.sip_ledger.proofs.grids.TableLemmas.{row-inside, table-row}
 use Rattle.sip_ledger.proofs.rows.Rows.names.Goals as goal
 
 pub names-requires-clause-inside : goal.names-requires-clause-inside

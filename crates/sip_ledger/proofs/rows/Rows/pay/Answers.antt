@@ -1,7 +1,7 @@
 use Rattle.std.proofs.Common.{refl, ap}
 use Rattle.sip_ledger.specs.Debts.{is_payable}
 use Rattle.sip_ledger.specs.Grids.{grid_rows}
-use Rattle.sip_ledger.proofs.GridLemmas.{unchanged-others, rows-inside, unpaid-row}
+use Rattle.sip_ledger.proofs.grids.GridLemmas.{unchanged-others, rows-inside, unpaid-row}
 use Rattle.sip_ledger.proofs.rows.Rows.pay.Goals as goal
 
 pub take_out-requires-clause-row : goal.take_out-requires-clause-row

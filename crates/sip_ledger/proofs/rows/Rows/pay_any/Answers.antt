@@ -1,6 +1,6 @@
 use Rattle.std.proofs.Common.{refl}
 use Rattle.sip_ledger.specs.Debts.{is_any_payable}
-use Rattle.sip_ledger.proofs.GridLemmas.{unchanged-others, rows-inside, unpaid-row}
+use Rattle.sip_ledger.proofs.grids.GridLemmas.{unchanged-others, rows-inside, unpaid-row}
 use Rattle.sip_ledger.proofs.rows.Rows.pay_any.Goals as goal
 
 pub take_out-requires-clause-bit : goal.take_out-requires-clause-bit

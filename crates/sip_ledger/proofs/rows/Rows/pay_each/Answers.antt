@@ -5,7 +5,7 @@ use Rattle.sip_ledger.specs.Debts.{is_payable, paid_by}
 use Rattle.sip_ledger.specs.Grids.{Grid, grid_of, grid_rows}
 use Rattle.sip_ledger.specs.inner.Marks.{AreDistinct}
 use Rattle.sip_ledger.specs.inner.Memos.{IsMask}
-use Rattle.sip_ledger.proofs.PayEachLemmas.{pays-all}
+use Rattle.sip_ledger.proofs.masks.PayEachLemmas.{pays-all}
 use Rattle.sip_ledger.proofs.rows.Rows.pay_each.Goals as goal
 
 pub invariant_of-self : goal.invariant_of-self

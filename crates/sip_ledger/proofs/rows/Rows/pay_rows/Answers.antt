@@ -2,9 +2,9 @@ use Rattle.std.proofs.Common.{◌≡◌, arith, ◌∙◌, ap, sym, get_or, set,
 use Rattle.std.specs.Prelude.{length}
 use Rattle.sip_ledger.specs.Debts.{paid_by}
 use Rattle.sip_ledger.specs.Grids.{grid_of, grid_rows}
-use Rattle.sip_ledger.proofs.GridLemmas.{rows-length}
-use Rattle.sip_ledger.proofs.PayLemmas.{paid-row}
-use Rattle.sip_ledger.proofs.EachLemmas.{changing-none, changing-more, changing-all, changing-length}
+use Rattle.sip_ledger.proofs.grids.GridLemmas.{rows-length}
+use Rattle.sip_ledger.proofs.debts.PayLemmas.{paid-row}
+use Rattle.sip_ledger.proofs.lists.EachLemmas.{changing-none, changing-more, changing-all, changing-length}
 use Rattle.sip_ledger.proofs.rows.Rows.pay_rows.Goals as goal
 
 pub loop-row-init : goal.loop-row-init

@@ -1,7 +1,7 @@
 use Rattle.std.specs.Prelude.{◌≡◌, ◌≤◌}
 use Rattle.sip_ledger.specs.Debts.{paid_by}
 use Rattle.sip_ledger.specs.Grids.{grid_rows}
-use Rattle.sip_ledger.proofs.EachLemmas.{changing}
+use Rattle.sip_ledger.proofs.lists.EachLemmas.{changing}
 use Rattle.sip_ledger.proofs.rows.Rows.pay_rows.Given as goal
 
 -- the rows so far have paid

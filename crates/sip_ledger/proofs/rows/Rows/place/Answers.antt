@@ -3,8 +3,8 @@ use Rattle.sip_ledger.specs.Bits.{has}
 use Rattle.sip_ledger.specs.Grids.{grid_of, part, grid_rows}
 use Rattle.sip_ledger.specs.inner.Places.{IsGainedAt}
 use Rattle.sip_ledger.specs.inner.Tables.{IsPlace, IsGrown}
-use Rattle.sip_ledger.proofs.GridLemmas.{row-within, placed}
-use Rattle.sip_ledger.proofs.TableLemmas.{row-inside, table-row}
+use Rattle.sip_ledger.proofs.grids.GridLemmas.{row-within, placed}
+use Rattle.sip_ledger.proofs.grids.TableLemmas.{row-inside, table-row}
 use Rattle.sip_ledger.proofs.rows.Rows.place.Goals as goal
 
 pub gained_at-at-requires-clause-inside : goal.gained_at-at-requires-clause-inside

@@ -1,7 +1,7 @@
 use Rattle.std.proofs.Common.{sym, ◌∙◌}
 use Rattle.sip_ledger.specs.Grids.{grid_of}
-use Rattle.sip_ledger.proofs.GridLemmas.{row-within, same-prints, print-is}
-use Rattle.sip_ledger.proofs.TableLemmas.{row-inside}
+use Rattle.sip_ledger.proofs.grids.GridLemmas.{row-within, same-prints, print-is}
+use Rattle.sip_ledger.proofs.grids.TableLemmas.{row-inside}
 use Rattle.sip_ledger.proofs.rows.Rows.print.Goals as goal
 
 pub print-owed-requires : goal.print-owed-requires

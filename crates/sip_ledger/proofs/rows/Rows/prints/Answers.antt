@@ -3,8 +3,8 @@ use Rattle.std.specs.Prelude.{IfOk}
 use Rattle.std.proofs.lemmas.Result.{IfOk-weaker}
 use Rattle.sip_ledger.specs.Grids.{grid_of, grid_rows, grid_row}
 use Rattle.sip_ledger.specs.Prints.{mixed, grid_print}
-use Rattle.sip_ledger.proofs.GridLemmas.{row-within, same-prints}
-use Rattle.sip_ledger.proofs.MarkLemmas.{word-count, word-print}
+use Rattle.sip_ledger.proofs.grids.GridLemmas.{row-within, same-prints}
+use Rattle.sip_ledger.proofs.masks.MarkLemmas.{word-count, word-print}
 use Rattle.sip_ledger.proofs.rows.Rows.prints.Goals as goal
 
 pub prints-requires : goal.prints-requires

@@ -2,7 +2,7 @@ use Rattle.std.proofs.Common.{ℕ, [], ◌∷◌, ◌++◌, replicate, ap, ap₂
 use Rattle.std.proofs.lemmas.List.{length-replicate}
 use Rattle.sip_ledger.specs.Bits.{has}
 use Rattle.sip_ledger.specs.Grids.{grid_of, grid_rows}
-use Rattle.sip_ledger.proofs.GridLemmas.{pushed-row, unset-row, unset-debts, has-none}
+use Rattle.sip_ledger.proofs.grids.GridLemmas.{pushed-row, unset-row, unset-debts, has-none}
 use Rattle.sip_ledger.proofs.rows.Rows.push.Goals as goal
 
 pub invariant_of-self : goal.invariant_of-self

@@ -1,8 +1,8 @@
 use Rattle.std.proofs.Common.{◌≡◌, ◌+◌, ◌-◌, ◌++◌, length, ap, ◌∙◌, arith}
 use Rattle.sip_ledger.specs.Grids.{grid_of, grid_rows}
 use Rattle.sip_ledger.specs.Ledgers.{from_to}
-use Rattle.sip_ledger.proofs.GridLemmas.{words-fit, rows-length}
-use Rattle.sip_ledger.proofs.CopyLemmas.{copied-rows, span-inside}
+use Rattle.sip_ledger.proofs.grids.GridLemmas.{words-fit, rows-length}
+use Rattle.sip_ledger.proofs.grids.CopyLemmas.{copied-rows, span-inside}
 use Rattle.sip_ledger.proofs.rows.Rows.push_copies.Goals as goal
 
 pub overflow_mul-start : goal.overflow_mul-start

@@ -1,7 +1,7 @@
 use Rattle.std.proofs.Common.{[], ◌∷◌, ◌++◌, sym, ap, ap₂, ◌∙◌}
 use Rattle.sip_ledger.specs.Grids.{grid_of, part, grid_rows}
-use Rattle.sip_ledger.proofs.GridLemmas.{pushed-row, row-within, row-before_change}
-use Rattle.sip_ledger.proofs.TableLemmas.{row-inside, length-part}
+use Rattle.sip_ledger.proofs.grids.GridLemmas.{pushed-row, row-within, row-before_change}
+use Rattle.sip_ledger.proofs.grids.TableLemmas.{row-inside, length-part}
 use Rattle.sip_ledger.proofs.rows.Rows.push_copy.Goals as goal
 
 pub copy_row-requires-clause-owed : goal.copy_row-requires-clause-owed

@@ -2,8 +2,8 @@ use Rattle.std.proofs.Common.{◌≡◌, ◌++◌, length, filter, sym, ap, ap�
 use Rattle.sip_ledger.specs.Grids.{Grid, grid_of, grid_rows, IsGrid}
 use Rattle.sip_ledger.specs.Ledgers.{from_to}
 use Rattle.sip_ledger.specs.inner.Marks.{IsTold}
-use Rattle.sip_ledger.proofs.GridLemmas.{rows-length}
-use Rattle.sip_ledger.proofs.MarkLemmas.{word-grid}
+use Rattle.sip_ledger.proofs.grids.GridLemmas.{rows-length}
+use Rattle.sip_ledger.proofs.masks.MarkLemmas.{word-grid}
 use Rattle.sip_ledger.proofs.rows.Rows.push_marked.Goals as goal
 
 pub put_marked-requires-clause-owed : goal.put_marked-requires-clause-owed

@@ -6,7 +6,7 @@ use Rattle.sip_ledger.specs.Debts.{is_payable, is_timely}
 use Rattle.sip_ledger.specs.Grids.{Grid, grid_rows}
 use Rattle.sip_ledger.specs.Ledgers.{from_to}
 use Rattle.sip_ledger.specs.inner.Memos.{IsMask, asked_of}
-use Rattle.sip_ledger.proofs.MarkLemmas.{payable-told, none-payable}
+use Rattle.sip_ledger.proofs.masks.MarkLemmas.{payable-told, none-payable}
 use Rattle.sip_ledger.proofs.rows.Rows.push_payable.Goals as goal
 
 pub returns-then-payable-eq0-clause-ok : goal.returns-then-payable-eq0-clause-ok

@@ -4,8 +4,8 @@ use Rattle.sip_ledger.specs.Debts.{is_timely}
 use Rattle.sip_ledger.specs.Grids.{Grid, grid_of, grid_rows}
 use Rattle.sip_ledger.specs.Ledgers.{from_to}
 use Rattle.sip_ledger.specs.inner.Memos.{IsMask, asked_of}
-use Rattle.sip_ledger.proofs.MarkLemmas.{timely-told}
-use Rattle.sip_ledger.proofs.CopyLemmas.{timely-rows}
+use Rattle.sip_ledger.proofs.masks.MarkLemmas.{timely-told}
+use Rattle.sip_ledger.proofs.grids.CopyLemmas.{timely-rows}
 use Rattle.sip_ledger.proofs.rows.Rows.push_timely.Goals as goal
 
 pub returns-then-self-eq1-clause-ok : goal.returns-then-self-eq1-clause-ok

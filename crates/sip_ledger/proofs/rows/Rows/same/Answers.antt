@@ -1,8 +1,8 @@
 use Rattle.std.proofs.Common.{sym, ◌∙◌}
 use Rattle.std.proofs.lemmas.Bool.{true≢false}
 use Rattle.sip_ledger.specs.Grids.{grid_of}
-use Rattle.sip_ledger.proofs.GridLemmas.{row-within, same-debts, same-owed, same-must}
-use Rattle.sip_ledger.proofs.TableLemmas.{row-inside}
+use Rattle.sip_ledger.proofs.grids.GridLemmas.{row-within, same-debts, same-owed, same-must}
+use Rattle.sip_ledger.proofs.grids.TableLemmas.{row-inside}
 use Rattle.sip_ledger.proofs.rows.Rows.same.Goals as goal
 
 pub same-requires-clause-row : goal.same-requires-clause-row

@@ -3,9 +3,9 @@ use Rattle.std.proofs.lemmas.List.{with_items_is}
 use Rattle.sip_ledger.specs.Bits.{has}
 use Rattle.sip_ledger.specs.Debts.{softened_debt}
 use Rattle.sip_ledger.specs.Grids.{grid_of, part, grid_row}
-use Rattle.sip_ledger.proofs.ListedLemmas.{listed-softened}
-use Rattle.sip_ledger.proofs.GridLemmas.{changed, changed-to, row-within, row-before_change, softened}
-use Rattle.sip_ledger.proofs.TableLemmas.{row-inside}
+use Rattle.sip_ledger.proofs.debts.ListedLemmas.{listed-softened}
+use Rattle.sip_ledger.proofs.grids.GridLemmas.{changed, changed-to, row-within, row-before_change, softened}
+use Rattle.sip_ledger.proofs.grids.TableLemmas.{row-inside}
 use Rattle.sip_ledger.proofs.rows.Rows.soften.Goals as goal
 
 pub clear-requires : goal.clear-requires

@@ -1,9 +1,9 @@
 use Rattle.std.proofs.Common.{◌≡◌, ℕ, ◌^◌, ◌<◌, [], length, arith}
 use Rattle.sip_ledger.specs.Debts.{IsSpan}
 use Rattle.sip_ledger.specs.Grids.{grid_of, row_at}
-use Rattle.sip_ledger.proofs.SpanLemmas.{some-now, none-now}
-use Rattle.sip_ledger.proofs.GridLemmas.{row-within, row-before_change}
-use Rattle.sip_ledger.proofs.TableLemmas.{row-inside, table-row}
+use Rattle.sip_ledger.proofs.debts.SpanLemmas.{some-now, none-now}
+use Rattle.sip_ledger.proofs.grids.GridLemmas.{row-within, row-before_change}
+use Rattle.sip_ledger.proofs.grids.TableLemmas.{row-inside, table-row}
 use Rattle.sip_ledger.proofs.rows.Rows.span.Goals as goal
 
 pub span-requires-clause-inside : goal.span-requires-clause-inside

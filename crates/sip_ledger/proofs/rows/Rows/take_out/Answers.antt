@@ -2,8 +2,8 @@ use Rattle.std.proofs.Common.{◌^◌, ◌<◌, length, ◌∙◌, arith}
 use Rattle.std.specs.Prelude.{IsTrue}
 use Rattle.std.proofs.lemmas.List.{with_items_is}
 use Rattle.sip_ledger.specs.Grids.{grid_of}
-use Rattle.sip_ledger.proofs.GridLemmas.{changed, changed-first, changed-others, row-within}
-use Rattle.sip_ledger.proofs.TableLemmas.{table-row}
+use Rattle.sip_ledger.proofs.grids.GridLemmas.{changed, changed-first, changed-others, row-within}
+use Rattle.sip_ledger.proofs.grids.TableLemmas.{table-row}
 use Rattle.sip_ledger.proofs.rows.Rows.take_out.Goals as goal
 
 pub take_out-requires-clause-rising : goal.take_out-requires-clause-rising

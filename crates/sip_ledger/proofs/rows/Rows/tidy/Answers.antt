@@ -1,8 +1,8 @@
 use Rattle.std.proofs.Common.{◌*◌, min, sym, ap, ◌∙◌, subst}
 use Rattle.sip_ledger.specs.Grids.{grid_of, grid_rows}
 use Rattle.sip_ledger.specs.inner.Places.{AreRising}
-use Rattle.sip_ledger.proofs.GridLemmas.{tidied}
-use Rattle.sip_ledger.proofs.MemoLemmas.{rising-drop}
+use Rattle.sip_ledger.proofs.grids.GridLemmas.{tidied}
+use Rattle.sip_ledger.proofs.masks.MemoLemmas.{rising-drop}
 use Rattle.sip_ledger.proofs.rows.Rows.tidy.Goals as goal
 
 pub invariant_of-self : goal.invariant_of-self

@@ -1,6 +1,6 @@
 use Rattle.std.proofs.Common.{length, take, ap, ◌∙◌, arith}
 use Rattle.sip_ledger.specs.Grids.{grid_of, grid_rows}
-use Rattle.sip_ledger.proofs.GridLemmas.{cut-rows, words-fit, rows-length, kept-all}
+use Rattle.sip_ledger.proofs.grids.GridLemmas.{cut-rows, words-fit, rows-length, kept-all}
 use Rattle.sip_ledger.proofs.rows.Rows.truncate.Goals as goal
 
 pub overflow_mul-kept : goal.overflow_mul-kept

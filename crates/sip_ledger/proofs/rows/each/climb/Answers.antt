@@ -2,7 +2,7 @@ use Rattle.std.proofs.Common.{◌≡◌, ◌<◌, ◌-◌, length, get_or, ap, i
 use Rattle.std.proofs.lemmas.Bool.{cases_lt}
 use Rattle.std.proofs.lemmas.List.{get_or_default}
 use Rattle.sip_ledger.specs.declared.debt.Entry.{Entry}
-use Rattle.sip_ledger.proofs.ListedLemmas.{no_entry}
+use Rattle.sip_ledger.proofs.debts.ListedLemmas.{no_entry}
 use Rattle.sip_ledger.proofs.rows.each.climb.Goals as goal
 
 pub loop-at-preserved : goal.loop-at-preserved

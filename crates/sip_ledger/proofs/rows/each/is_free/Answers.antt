@@ -1,7 +1,7 @@
 use Rattle.std.proofs.Common.{◌≡◌, get_or, ap, ◌∙◌, inl, inr, arith}
 use Rattle.std.proofs.lemmas.Bool.{cases_lt}
 use Rattle.sip_masks.specs.Bits.{test}
-use Rattle.sip_ledger.proofs.GainLemmas.{none-behind}
+use Rattle.sip_ledger.proofs.grids.GainLemmas.{none-behind}
 use Rattle.sip_ledger.proofs.rows.each.is_free.Goals as goal
 
 pub loop-row-preserved : goal.loop-row-preserved

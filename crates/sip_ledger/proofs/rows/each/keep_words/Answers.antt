@@ -1,7 +1,7 @@
 use Rattle.std.proofs.Common.{◌≡◌, ◌<◌, ◌+◌, length, get_or, set, sym, ◌∙◌, subst, arith}
 use Rattle.std.proofs.lemmas.List.{get_or_default}
 use Rattle.std.proofs.lemmas.List.Elements.{All-get_or}
-use Rattle.sip_ledger.proofs.KeepLemmas.{IsKeptTo, rise-above, rise-few, kept-more, kept-all}
+use Rattle.sip_ledger.proofs.lists.KeepLemmas.{IsKeptTo, rise-above, rise-few, kept-more, kept-all}
 use Rattle.sip_ledger.proofs.rows.each.keep_words.Goals as goal
 
 pub index_mut-requires : goal.index_mut-requires

@@ -1,4 +1,4 @@
-use Rattle.sip_ledger.proofs.KeepLemmas.{IsKeptTo}
+use Rattle.sip_ledger.proofs.lists.KeepLemmas.{IsKeptTo}
 use Rattle.sip_ledger.proofs.rows.each.keep_words.Given as goal
 
 abbrev pub invariant-loop-to : goal.invariant-loop-to

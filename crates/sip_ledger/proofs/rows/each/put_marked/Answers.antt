@@ -2,7 +2,7 @@ use Rattle.std.proofs.Common.{◌≡◌, ◌<◌, ◌++◌, ◌∷◌, [], ◌+�
 use Rattle.std.proofs.lemmas.List.{get_or_default, length_push}
 use Rattle.sip_ledger.specs.Grids.{grid_of, IsGrid}
 use Rattle.sip_ledger.specs.inner.Marks.{ArePut}
-use Rattle.sip_ledger.proofs.MarkLemmas.{put-ledger, put-with, put-without, put-end}
+use Rattle.sip_ledger.proofs.masks.MarkLemmas.{put-ledger, put-with, put-without, put-end}
 use Rattle.sip_ledger.proofs.rows.each.put_marked.Goals as goal
 use Rattle.sip_ledger.proofs.rows.each.put_marked.Goals.{then-is_marked, else-is_marked}
 

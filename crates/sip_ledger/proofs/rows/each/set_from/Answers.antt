@@ -1,5 +1,5 @@
 use Rattle.std.proofs.Common.{arith}
-use Rattle.sip_ledger.proofs.GainLemmas.{set-from}
+use Rattle.sip_ledger.proofs.grids.GainLemmas.{set-from}
 use Rattle.sip_ledger.proofs.rows.each.set_from.Goals as goal
 
 pub returns : goal.returns

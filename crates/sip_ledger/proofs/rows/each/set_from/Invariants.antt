@@ -1,5 +1,5 @@
 use Rattle.std.proofs.Common.{◌≡◌, ◌<◌, ◌≤◌, ℕ, length, get_or}
-use Rattle.sip_ledger.proofs.BitsLemmas.{with_bit}
+use Rattle.sip_ledger.proofs.masks.BitsLemmas.{with_bit}
 use Rattle.sip_ledger.proofs.rows.each.set_from.Given as goal
 
 -- the words so far have the bit

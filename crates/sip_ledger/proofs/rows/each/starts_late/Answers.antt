@@ -2,8 +2,8 @@ use Rattle.std.proofs.Common.{◌<◌, length, get_or, ap, arith}
 use Rattle.std.proofs.lemmas.Bool.{leb-true}
 use Rattle.std.proofs.lemmas.List.{get_or_default}
 use Rattle.sip_ledger.specs.declared.debt.Entry.{Entry}
-use Rattle.sip_ledger.proofs.ListedLemmas.{no_entry}
-use Rattle.sip_ledger.proofs.CopyLemmas.{none-late}
+use Rattle.sip_ledger.proofs.debts.ListedLemmas.{no_entry}
+use Rattle.sip_ledger.proofs.grids.CopyLemmas.{none-late}
 use Rattle.sip_ledger.proofs.rows.each.starts_late.Goals as goal
 
 pub returns-then-count-eq0 : goal.returns-then-count-eq0

@@ -1,6 +1,6 @@
 use Rattle.std.proofs.Common.{◌≡◌, Err, subst, sym, ap, ◌∙◌, refl}
 use Rattle.sip_log.specs.declared.progress.Stage.TheVariants as code
-use Rattle.sip_log.specs.Reading.{Place, beside_source, Nexts}
+use Rattle.sip_log.specs.Reading.{ProgressState, beside_source, Nexts}
 use Rattle.sip_log.specs.inner.Place.{stage_of, held_at, FitsStage}
 use Rattle.sip_log.proofs.answers.ReadingLemmas.{entries-step, fresh-step, fault-step}
 use Rattle.sip_log.proofs.progress.Progress.next_into.Goals as goal
@@ -14,8 +14,8 @@ returns-in-Ok g c =
     let failed2 = g.R.Source.has_failed c.entry.new.source in
     let stage : inside.stage ≡ code.Fresh = sym c.replace.ensures.value ∙ c.in-Fresh.is in
     let fits = subst (λ s. FitsStage s inside.params inside.count inside.last) stage c.self.invariant.1 in
-    let old : Place = record { stage = stage_of inside.stage; held = held_at inside.stage; format = inside.format; times = inside.params; count = inside.count; last = inside.last } in
-    subst (λ (p : Place). Nexts (beside_source p left failed) (beside_source c.entry.new.self left2 failed2) c.entry.result) c.self.view_is
+    let old : ProgressState = record { stage = stage_of inside.stage; held = held_at inside.stage; format = inside.format; times = inside.params; count = inside.count; last = inside.last } in
+    subst (λ (p : ProgressState). Nexts (beside_source p left failed) (beside_source c.entry.new.self left2 failed2) c.entry.result) c.self.view_is
     (fresh-step old c.entry.new.self left left2 failed failed2 c.in_ok-window-in-Fresh.window (ap held_at stage ∙ sym c.in_ok-window-in-Fresh.ensures) _ _ c.in-Ok.header.0 c.in-Ok.header.1 c.entry.result
     (ap stage_of stage) fits.0 fits.1 fits.2 c.entry.ensures.moves c.entry.ensures.format c.entry.ensures.times c.in-Ok.ensures c.entry.ensures.says)
 
@@ -28,9 +28,9 @@ returns-in-Err g c =
     let failed2 = g.R.Source.has_failed c.read_header.new.source in
     let stage : inside.stage ≡ code.Fresh = sym c.replace.ensures.value ∙ c.in-Fresh.is in
     let fits = subst (λ s. FitsStage s inside.params inside.count inside.last) stage c.self.invariant.1 in
-    let old : Place = record { stage = stage_of inside.stage; held = held_at inside.stage; format = inside.format; times = inside.params; count = inside.count; last = inside.last } in
-    let new : Place = record { stage = stage_of c.replace.new.dest; held = held_at c.replace.new.dest; format = inside.format; times = inside.params; count = inside.count; last = inside.last } in
-    subst (λ (p : Place). Nexts (beside_source p left failed) (beside_source new left2 failed2) (Err c.in-Err.error)) c.self.view_is
+    let old : ProgressState = record { stage = stage_of inside.stage; held = held_at inside.stage; format = inside.format; times = inside.params; count = inside.count; last = inside.last } in
+    let new : ProgressState = record { stage = stage_of c.replace.new.dest; held = held_at c.replace.new.dest; format = inside.format; times = inside.params; count = inside.count; last = inside.last } in
+    subst (λ (p : ProgressState). Nexts (beside_source p left failed) (beside_source new left2 failed2) (Err c.in-Err.error)) c.self.view_is
     (fault-step old new left left2 failed failed2 c.in_ok-window-in-Fresh.window (ap held_at stage ∙ sym c.in_ok-window-in-Fresh.ensures) c.in-Err.error
     (ap stage_of stage) fits.0 (ap stage_of c.replace.ensures.after) refl refl fits.0 c.in-Err.ensures)
 
@@ -44,7 +44,7 @@ returns-in-Entries g c =
     let window = c.in-Entries.window in
     let stage : inside.stage ≡ code.Entries window = sym c.replace.ensures.value ∙ c.in-Entries.is in
     let fits = subst (λ s. FitsStage s inside.params inside.count inside.last) stage c.self.invariant.1 in
-    let old : Place = record { stage = stage_of inside.stage; held = held_at inside.stage; format = inside.format; times = inside.params; count = inside.count; last = inside.last } in
-    subst (λ (p : Place). Nexts (beside_source p left failed) (beside_source c.entry-in-Entries.new.self left2 failed2) c.entry-in-Entries.result) c.self.view_is
+    let old : ProgressState = record { stage = stage_of inside.stage; held = held_at inside.stage; format = inside.format; times = inside.params; count = inside.count; last = inside.last } in
+    subst (λ (p : ProgressState). Nexts (beside_source p left failed) (beside_source c.entry-in-Entries.new.self left2 failed2) c.entry-in-Entries.result) c.self.view_is
     (entries-step old c.entry-in-Entries.new.self left left2 failed failed2 window (ap held_at stage) c.entry-in-Entries.result
     (ap stage_of stage) fits c.entry-in-Entries.ensures.moves c.entry-in-Entries.ensures.format c.entry-in-Entries.ensures.times c.entry-in-Entries.ensures.says)

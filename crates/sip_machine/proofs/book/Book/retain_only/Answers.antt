@@ -1,11 +1,50 @@
-use Rattle.std.proofs.Common.{◌∙◌, sym, ap, subst, All}
+use Rattle.std.proofs.Common.{◌∙◌, sym, ap, ap₂, subst, All}
+use Rattle.std.specs.List.{filter_map}
 use Rattle.sip_machine.specs.Texts.{IsBook, Keeps}
 use Rattle.sip_machine.specs.Retained.{only}
-use Rattle.sip_machine.specs.inner.Order.{texts_of, places_of, IsOrder}
+use Rattle.sip_machine.specs.inner.Order.{texts_of, placed, places_of, IsOrder}
+use Rattle.sip_machine.specs.inner.Retain.{moved}
 use Rattle.sip_machine.specs.inner.Tos.{AreTos}
 use Rattle.sip_machine.proofs.acks.ToLemmas.{AreTos-only}
-use Rattle.sip_machine.proofs.texts.RetainLemmas.{merged_is, IsBook-only, IsOrder-only}
+use Rattle.sip_machine.proofs.texts.RetainLemmas.{merged_is, IsBook-only}
+use Rattle.sip_machine.proofs.texts.NewestLaws.{placed_texts, placed_up, stand_placed, retained_order}
 use Rattle.sip_machine.proofs.book.Book.retain_only.Goals as goal
+
+pub move_all-requires-clause-rising : goal.move_all-requires-clause-rising
+move_all-requires-clause-rising c = rw c.placed.ensures (placed_up c.is_some-is_loose.result c.args.numbers.now c.requires.rising)
+
+pub move_all-requires-clause-short : goal.move_all-requires-clause-short
+move_all-requires-clause-short c = (stand_placed (texts_of c.self.inside.kept.items) c.self.inside.order.items c.self.inside.loose c.self.invariant.1).short
+
+pub loosened-self-inside-requires-clause-book : goal.loosened-self-inside-requires-clause-book
+loosened-self-inside-requires-clause-book c =
+    let texts = texts_of c.self.inside.kept.items in
+    let numbers = c.args.numbers.now in
+    let book = c.self.invariant.0 in
+    let kept : All (Keeps texts) numbers = rw c.self.view_is c.requires.kept in
+    let is = c.keep_only.ensures ∙ merged_is numbers texts c.requires.rising book.rising kept in
+    rw c.deref-2.ensures.value (subst IsBook (sym is) (IsBook-only texts numbers book c.requires.rising kept))
+
+pub loosened-self-inside-requires-clause-order : goal.loosened-self-inside-requires-clause-order
+loosened-self-inside-requires-clause-order c =
+    let texts = texts_of c.self.inside.kept.items in
+    let loose = c.is_some-is_loose.result in
+    let numbers = c.args.numbers.now in
+    let book = c.self.invariant.0 in
+    let kept : All (Keeps texts) numbers = rw c.self.view_is c.requires.kept in
+    let is = c.keep_only.ensures ∙ merged_is numbers texts c.requires.rising book.rising kept in
+    let old = places_of c.self.inside.order.items in
+    let now = places_of c.move_all.new.runs.items in
+    let front = ap texts_of (c.placed-kept.ensures ∙ ap (placed loose) c.deref.ensures.value) ∙ placed_texts loose c.self.inside.kept.items in
+    let places = c.move_all.ensures.places ∙ ap₂ (λ ts ns. filter_map (moved ts ns) old) front c.placed.ensures in
+    let stand = stand_placed texts c.self.inside.order.items c.self.inside.loose c.self.invariant.1 in
+    let before = subst (λ b. IsOrder (placed b texts) old) (sym c.is_some-is_loose.ensures) stand.order in
+    let order = retained_order loose texts numbers book c.requires.rising kept old before in
+    rw (c.deref-2.ensures.value, c.deref-3.ensures.value) (record {
+      order = subst (λ ts. IsOrder (placed loose ts) now) (sym is) (subst (IsOrder (placed loose (only numbers texts))) (sym places) order);
+      led = c.move_all.ensures.led;
+      short = c.move_all.ensures.short;
+    })
 
 pub invariant_of-self : goal.invariant_of-self
 invariant_of-self c =
@@ -13,15 +52,9 @@ invariant_of-self c =
     let numbers = c.args.numbers.now in
     let book = c.self.invariant.0 in
     let kept : All (Keeps texts) numbers = rw c.self.view_is c.requires.kept in
-    let is = c.keep_only.ensures ∙ merged_is numbers texts c.requires.rising book.rising kept in
-    let places = rw c.deref.ensures.value at c.move_all.ensures.places in
-    let order = IsOrder-only texts numbers book c.requires.rising kept (places_of c.self.inside.order.items) c.self.invariant.1.order in (
+    let is = c.keep_only.ensures ∙ merged_is numbers texts c.requires.rising book.rising kept in (
       subst IsBook (sym is) (IsBook-only texts numbers book c.requires.rising kept),
-      record {
-        order = subst (λ ts. IsOrder ts (places_of c.move_all.new.runs.items)) (sym is) (subst (IsOrder (only numbers texts)) (sym places) order);
-        led = c.move_all.ensures.led;
-        short = c.move_all.ensures.short;
-      },
+      rw (c.deref-2.ensures.value, c.deref-3.ensures.value) at c.loosened-self-inside.ensures,
       subst (λ ts. AreTos ts c.retain.new.self) (sym is) (AreTos-only texts numbers book c.requires.rising kept c.self.inside.tos c.retain.new.self c.self.invariant.2 c.retain.ensures),
     )
 

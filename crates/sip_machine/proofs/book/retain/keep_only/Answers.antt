@@ -1,11 +1,11 @@
 use Rattle.std.proofs.Common.{◌∙◌, ◌<◌, ℕ, List, ap, length, arith}
-use Rattle.sip_machine.specs.declared.book.Kept.{Kept}
+use Rattle.sip_machine.specs.declared.book.KeptMessage.{KeptMessage}
 use Rattle.sip_machine.specs.inner.Order.{texts_of}
 use Rattle.sip_machine.proofs.texts.RetainLemmas.{keeps_more, keeps_less, keeps_end, keeps_all}
 use Rattle.sip_machine.proofs.book.retain.keep_only.Goals as goal
 use Rattle.sip_machine.proofs.book.retain.keep_only.Goals.{then-left-numbers+then-index-numbers, else-left-numbers, else-left-numbers-via-then-left-numbers+else-index-numbers, else-left-numbers-via-else-left-numbers}
 
-abbrev text : Kept → ℕ × List ℕ
+abbrev text : KeptMessage → ℕ × List ℕ
 text k = (k.number, k.bytes.items)
 
 pub loop-i-preserved : goal.loop-i-preserved

@@ -1,7 +1,7 @@
 use Rattle.std.specs.Prelude.{None}
 use Rattle.sip_ledger.specs.Ledgers.{rows_of}
 use Rattle.sip_machine.specs.inner.Dues.{rows_in, AreDues}
-use Rattle.sip_ledger.proofs.EachLemmas.{on_ok}
+use Rattle.sip_ledger.proofs.lists.EachLemmas.{on_ok}
 use Rattle.sip_machine.proofs.debts.DuesEachLemmas.{AreDues-gained}
 use Rattle.sip_machine.proofs.dues.Dues.gain_each.Goals as goal
 use Rattle.sip_machine.proofs.dues.Dues.gain_each.Goals.{in-Some+else-is_err, in-None+in_ok-opened_from-in-None+in-Some-1, in-None+in_ok-opened_from-in-None+in-None-1}

@@ -1,6 +1,6 @@
 use Rattle.std.proofs.Common.{◌≡◌, ◌<◌, ◌+◌, ◌++◌, ◌∷◌, [], ◌∙◌, ap, arith, get_or, length, sym}
 use Rattle.std.proofs.lemmas.List.{get_or_default, length_push}
-use Rattle.sip_machine.specs.declared.slots.Kept.{Kept}
+use Rattle.sip_machine.specs.declared.slots.SlotPrint.{SlotPrint}
 use Rattle.sip_machine.specs.inner.Slots.{slot_of}
 use Rattle.sip_machine.proofs.pools.SlotsLemmas.{slots-more}
 use Rattle.sip_machine.proofs.slots.Slots.push.Goals as goal
@@ -11,7 +11,7 @@ invariant_of-self-2 c =
     let all = inside.newest.items in
     let kept = inside.kept.items in
     let slot = c.slot_of-slot.result in
-    let x : Kept = record { print = c.args.print; older = c.index-older.result.now } in
+    let x : SlotPrint = record { print = c.args.print; older = c.index-older.result.now } in
     let within = c.slot_of-slot.ensures.within in
     let low : slot < length all = omega (arith, within, c.len.ensures, inside.newest.ok.0) in
     let is : slot ≡ slot_of (length all) c.args.print = c.slot_of-slot.ensures.is ∙ ap (λ n. slot_of n c.args.print) (c.len.ensures ∙ inside.newest.ok.0) in

@@ -1,5 +1,5 @@
 use Rattle.std.proofs.Common.{option_copied}
-use Rattle.sip_message.specs.Views.{fields_parts}
+use Rattle.sip_message.specs.inner.Views.{fields_parts}
 use Rattle.sip_message.specs.ValueParts.{cseq_parts}
 use Rattle.sip_message.specs.ViaParts.{element}
 use Rattle.sip_message.proofs.lemmas.canon.Law.{fields-rows}

@@ -1,15 +1,15 @@
 use Rattle.std.proofs.Common.{rules, map, refl, subst, sym}
 use Rattle.std.specs.List.{AllByRecursion}
 use Rattle.sip_message.specs.declared.name.Known.TheVariants as known_name
-use Rattle.sip_message.specs.Field.{Row}
+use Rattle.sip_message.specs.inner.FieldText.{Row}
 use Rattle.sip_message.proofs.lemmas.canon.Law.{fields-rows}
 use Rattle.sip_message.proofs.lemmas.message.Faults.{read-fields}
 use Rattle.sip_standard.specs.Outcome.{stops, gives, passes, stopped}
 use Rattle.sip_standard.specs.Says.{IsFirstOf}
 use Rattle.sip_message.specs.Elements.{values}
 use Rattle.sip_message.specs.inner.Faults.{FieldsOf, NamesOf, BodyOf}
-use Rattle.sip_message.specs.Message.{content_length}
-use Rattle.sip_message.specs.Views.{field_parts, fields_parts}
+use Rattle.sip_message.specs.inner.MessageText.{content_length}
+use Rattle.sip_message.specs.inner.Views.{field_parts, fields_parts}
 use Rattle.sip_message.specs.ValueParts.{start_parts, cseq_parts}
 use Rattle.sip_message.specs.ViaParts.{element}
 use Rattle.std.specs.Global.{Vec}

@@ -9,9 +9,11 @@ use Rattle.sip_states.proofs.sets.Following.{Follows}
 use Rattle.sip_states.proofs.sets.Taking.{took_kept}
 use Rattle.sip_states.proofs.state_set.StateSet.take_each.Goals as goal
 
+-- the book has all that the states of the set name
 pub given_rows-requires-clause-known : goal.given_rows-requires-clause-known
 given_rows-requires-clause-known g c = rw (← c.self.view_is) at c.requires.known
 
+-- after the event the set keeps its invariant: its states follow the rules of its machine, each is there once, and they are few
 pub invariant_of-self : goal.invariant_of-self
 invariant_of-self g c =
     let m = c.self.inside.machine in
@@ -28,6 +30,7 @@ invariant_of-self g c =
     (took_kept g.M.Machine.names g.M.Machine.in_range g.M.Machine.seen g.M.Machine.rules g.M.Machine.ended g.M.Machine.end_window g.M.Machine.until m follows c.args.book.now _ (event_in c.args.book.now c.args.event.now) states
     stand (unseen-distinct (g.M.Machine.seen c.args.book.now) states stand.distinct) few)
 
+-- the states that are kept are exactly those that the event gives
 pub returns-in-Ok-clause-states : goal.returns-in-Ok-clause-states
 returns-in-Ok-clause-states g c =
     let m = c.self.inside.machine in
@@ -37,6 +40,7 @@ returns-in-Ok-clause-states g c =
     let kept : c.keep.new.self ≡ states = rw c.deref.ensures.value at c.keep.ensures d in
     rw (← c.self.view_is, kept) (c.in-Ok.ensures.gives d)
 
+-- the states that are kept are no more than a set follows
 pub returns-in-Ok-clause-few : goal.returns-in-Ok-clause-few
 returns-in-Ok-clause-few g c =
     let m = c.self.inside.machine in

@@ -18,6 +18,7 @@ advance_each-requires-clause-inside g c =
     let within = slice_get_within marks index true mark in
     omega (arith, within, c.self.invariant.2)
 
+-- where memory is refused the tables keep their invariant: they have as many sets, and the marks are right for those that have waited and those that have not
 pub invariant_of-self : goal.invariant_of-self
 invariant_of-self g c =
     let inv = c.self.invariant in

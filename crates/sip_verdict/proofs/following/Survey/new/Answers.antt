@@ -1,6 +1,6 @@
 use Rattle.std.proofs.Common.{refl}
-use Rattle.sip_verdict.proofs.surveys.Kept.{surveyed_begun}
-use Rattle.sip_verdict.proofs.surveys.Histories.{none_yet}
+use Rattle.sip_verdict.proofs.surveys.kept.Kept.{surveyed_begun}
+use Rattle.sip_verdict.proofs.surveys.kept.Histories.{none_yet}
 use Rattle.sip_verdict.proofs.following.Survey.new.Goals as goal
 
 pub returns-clause-stands : goal.returns-clause-stands

@@ -1,7 +1,7 @@
 use Rattle.std.proofs.Common.{◌≡◌, ◌-◌, ◌∙◌, Some, slice_get, sym, ap, subst, refl, rules}
 use Rattle.sip_verdict.specs.SurveyText.{IsFirstOf, IsLastOf}
 use Rattle.sip_verdict.specs.Surveys.{AreHistories}
-use Rattle.sip_verdict.proofs.surveys.Histories.{IfSome-at, history_at}
+use Rattle.sip_verdict.proofs.surveys.kept.Histories.{IfSome-at, history_at}
 use Rattle.sip_verdict.proofs.following.Survey.transaction.Goals as goal
 
 pub returns : goal.returns

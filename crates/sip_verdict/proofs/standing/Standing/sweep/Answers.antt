@@ -1,13 +1,12 @@
 use Rattle.std.proofs.Common.{All, Contains, length, refl, sym, subst}
-use Rattle.sip_verdict.specs.Named.{IsNamed, AreMany, key_messages}
-use Rattle.sip_verdict.specs.MessageReading.{key_machines}
+use Rattle.sip_verdict.specs.Named.{IsNamed, AreMany}
 use Rattle.sip_verdict.specs.inner.TablesTracking.{MayPass, TablesTrack}
 use Rattle.sip_verdict.proofs.tables.NamedTables.{many_named}
 use Rattle.sip_verdict.specs.Surveys.{IsStillNamed}
 use Rattle.sip_verdict.specs.inner.Surveying.{TablesSurvey}
 use Rattle.sip_verdict.proofs.sweeps.SweptBook.{only_within}
 use Rattle.sip_verdict.proofs.sweeps.SweptTables.{named_is, swept_may, swept_track, swept_recorded, swept_kept}
-use Rattle.sip_verdict.proofs.surveys.Swept.{swept_survey, swept_many}
+use Rattle.sip_verdict.proofs.surveys.kept.Swept.{swept_survey, swept_many}
 use Rattle.sip_verdict.proofs.standing.Standing.sweep.Goals as goal
 
 pub retain_only-requires-clause-rising : goal.retain_only-requires-clause-rising
@@ -75,7 +74,7 @@ returns-clause-named g c =
     let named = named_is u c.new-named.result.items c.named.new.out.items c.new-named.ensures.items c.in_ok-named.ensures.ok numbers c.deref.ensures.value in
     let advances = c.in_ok-advance_all.ensures.ok in
     let kept = swept_kept s.book c.known.ensures s.tables u c.args.moment advances c.requires.may numbers named.0 named.1 in
-    λ es tracks newest. subst (λ b. AreMany (IsNamed (key_machines s.tables.times) (key_messages s.tables.times) es) (length b)) (sym c.retain_only.ensures)
+    λ es tracks newest. subst (λ b. AreMany (IsNamed s.tables.times es) (length b)) (sym c.retain_only.ensures)
     (many_named s.book c.known.ensures s.tables.times c.args.moment es s.tables u refl tracks c.requires.may.long newest c.requires.may.order advances.long advances.each numbers named.0 named.1 kept)
 
 pub returns-clause-surveyed : goal.returns-clause-surveyed

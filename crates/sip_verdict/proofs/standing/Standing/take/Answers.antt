@@ -1,14 +1,17 @@
-use Rattle.std.proofs.Common.{[], ◌∙◌, ap, inl, length, refl, arith, subst, sym}
+use Rattle.std.proofs.Common.{[], ◌||◌, Some, None, ◌∙◌, ap, inl, length, refl, arith, subst, sym}
+use Rattle.std.proofs.lemmas.Bool.{false≢true}
 use Rattle.sip_machine.specs.Texts.{Keeps}
 use Rattle.sip_log.specs.Told.{item}
 use Rattle.sip_standard.specs.Observation.{fault_observation}
-use Rattle.sip_verdict.specs.MessageReading.{message_reading}
+use Rattle.sip_standard.specs.VerdictOf.{Sees}
 use Rattle.sip_verdict.specs.inner.Numbering.{StaysNumbered}
-use Rattle.sip_verdict.specs.inner.TablesTracking.{HaveNumbers, MayHear}
+use Rattle.sip_verdict.specs.inner.TablesTracking.{is_among, HaveNumbers, MayHear}
 use Rattle.sip_verdict.specs.inner.Concerned.{each}
 use Rattle.sip_verdict.proofs.listings.NumberingLemmas.{numbered_none, numbered_heard, unless_trouble}
 use Rattle.sip_verdict.proofs.judges.StandingLemmas.{listed_each, grown_may, may_restart, restart_judged, touched_recorded, few_keys, are_given, may_hear, same_some, may_next, unheard_judged, heard_judged}
 use Rattle.sip_verdict.proofs.tables.TablesTouching.{touches_may, have_numbers}
+use Rattle.sip_verdict.specs.declared.concerned.Concerned.TheVariants as concerned
+use Rattle.sip_verdict.proofs.sweeps.NewestLemmas.{others_known}
 use Rattle.sip_verdict.proofs.standing.Standing.take.Goals as goal
 
 pub pass-requires-in-Restart-clause-may : goal.pass-requires-in-Restart-clause-may
@@ -101,7 +104,7 @@ pub returns-in-Fault-clause-judged : goal.returns-in-Fault-clause-judged
 returns-in-Fault-clause-judged g c = λ es tracks counts newest.
     let (e, seen, is) = (rw c.in-Fault.is at c.in_ok-told.ensures.observed) es in (
       fault_observation (item c.args.entry.now) c.in-Fault.fault,
-      subst (message_reading.Observes es (item c.args.entry.now)) is seen,
+      subst (Sees es (item c.args.entry.now)) is seen,
       (counts, refl),
       tt,
     )
@@ -150,3 +153,24 @@ returns-in_ok-verdict-in-Heard-clause-judged g c = λ es tracks counts newest.
       h.2,
       subst (λ ns. HaveNumbers new.tables.keys ns h.0.keys) (sym (listed_each (length new.tables.keys) c.in_ok-concerned-in-Heard.concerned some)) h.3,
     )
+
+pub returns-in_ok-verdict-in-Unheard-clause-others : goal.returns-in_ok-verdict-in-Unheard-clause-others
+returns-in_ok-verdict-in-Unheard-clause-others g c =
+    let s = c.args.self.now in
+    others_known s.book concerned.None None s.tables c.pass.new.self.tables c.requires.may.passes.known c.in_ok-verdict-in-Unheard.ensures.others (λ n some among. refl)
+
+pub returns-in-Fault-clause-others : goal.returns-in-Fault-clause-others
+returns-in-Fault-clause-others g c =
+    let s = c.args.self.now in
+    others_known s.book concerned.None None s.tables s.tables c.requires.may.passes.known (λ n none. refl) (λ n some among. refl)
+
+pub returns-in_ok-verdict-in-Restart-clause-others : goal.returns-in_ok-verdict-in-Restart-clause-others
+returns-in_ok-verdict-in-Restart-clause-others g c some = absurd (false≢true (sym some))
+
+pub returns-in_ok-verdict-in-Heard-clause-others : goal.returns-in_ok-verdict-in-Heard-clause-others
+returns-in_ok-verdict-in-Heard-clause-others g c =
+    let s = c.args.self.now in
+    let u = c.touch_each.new.tables in
+    let numbers = c.in_ok-concerned-in-Heard.concerned in
+    let may = touches_may s.book c.args.entry.now.moment (each c.in-Heard.concerned) (each numbers) s.tables u c.requires.may.passes c.in_ok-concerned-in-Heard.ensures.touched in
+    others_known s.book numbers (Some (record { event = c.in-Heard.event; concerned = numbers })) u c.pass-in-Heard.new.self.tables may.known c.in_ok-verdict-in-Heard.ensures.others (λ n some among. ap (λ b. b || is_among (each numbers) n) some ∙ among)

@@ -3,7 +3,7 @@ use Rattle.sip_log.specs.Reading as log
 use Rattle.sip_log.specs.Reading.{beside_source}
 use Rattle.sip_standard.specs.VerdictOf.{IsVerdictOf}
 use Rattle.sip_verdict.specs.inner.TablesTracking.{MayTake}
-use Rattle.sip_verdict.specs.inner.Walking.{IsBehind}
+use Rattle.sip_verdict.specs.inner.Walking.{ComesAfter}
 use Rattle.sip_verdict.proofs.tables.JudgeTables.{may_later, transactions_long}
 use Rattle.sip_verdict.proofs.listings.WalksLemmas.{walks_on, walks_end, walks_fault}
 use Rattle.sip_verdict.proofs.walking.Walk.step.Goals as goal
@@ -39,5 +39,5 @@ returns-in-Fault-clause-walks g c start walks =
     let s = c.args.self.now.standing in
     let old : log.ReaderState = beside_source c.args.self.now.progress (g.R.Source.left c.args.reader.now) (g.R.Source.has_failed c.args.reader.now) in
     let gives = (rw c.in-Fault.is at c.in_ok-entry.ensures.gives) start s.tables.times walks.judged.items walks.judged.read in
-    subst (λ v. IfSome start (λ input. IsVerdictOf input v) × IsBehind c.args.self.now.count v) (sym c.fault.ensures)
+    subst (λ v. IfSome start (λ input. IsVerdictOf input v) × ComesAfter c.args.self.now.count v) (sym c.fault.ensures)
     (walks_fault start old s.book s.tables walks c.args.self.now.count c.in-Fault.reason c.requires.counts gives, refl)

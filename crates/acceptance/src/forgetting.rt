@@ -1,0 +1,236 @@
+//! Surveys that forget transactions that are over.
+use crate::notation::log_of;
+use crate::surveys::{Hasher, Surveyed, take};
+use crate::wants::{holds, reads};
+use sip_verdict::{Finding, StepError, Survey, SurveyEnd};
+use std::alloc::{AllocError, Global};
+use std::process::Abort;
+use std::test::Fail;
+
+/// The words of a log; how many entries there are after the one up to which is forgotten; how many transactions are left after each entry;
+/// and the entry and the transaction of each breach that is found.
+type Row = (&'static str, u32, &'static [u32], &'static [(u32, u32)]);
+
+/// Each worked by hand, with T1 500, T4 5000 and a tolerance of 50 milliseconds.
+const ROWS: [Row; 9] = [
+    // The client of a ends by 5060 (timer K, 17.1.2.2), and the server of b is idle again by 32160 (timer J, 17.2.2). The client of c is silent
+    // and breaks.
+    (
+        "S 0 OPTIONS a; R 10 OPTIONS a 200; R 100 OPTIONS b; S 110 OPTIONS b 200; S 120 OPTIONS c; M 20000; M 40000; S 40010 OPTIONS c; R 40020 OPTIONS b",
+        0,
+        &[1, 1, 2, 2, 3, 1, 0, 1, 2],
+        &[(6, 3)],
+    ),
+    // The last entry of a is the second: it is kept as long as the second is one of the newest two.
+    (
+        "S 0 OPTIONS a; R 10 OPTIONS a 200; M 20000; M 20000; M 20000",
+        2,
+        &[1, 1, 1, 0, 0],
+        &[],
+    ),
+    // A client that was answered rests in Completed: a request that it sends again there is a breach.
+    (
+        "S 0 OPTIONS a; R 10 OPTIONS a 200; S 20 OPTIONS a",
+        0,
+        &[1, 1, 0],
+        &[(3, 1)],
+    ),
+    // One that has to send again is not over before it is too late.
+    ("S 0 OPTIONS a; M 400; M 600", 0, &[1, 1, 0], &[(3, 1)]),
+    // A restart ends the client of a, and the server of b is idle again. What b sends then nobody has asked.
+    (
+        "early 50 late 50; S 0 OPTIONS a; R 0 OPTIONS b; Z 100; M 200; S 300 OPTIONS a; S 310 OPTIONS b 200",
+        0,
+        &[1, 2, 0, 0, 1, 1],
+        &[(6, 2)],
+    ),
+    // It is the last entry of both.
+    (
+        "early 50 late 50; S 0 OPTIONS a; R 0 OPTIONS b; Z 100; M 200; S 300 OPTIONS a; S 310 OPTIONS b 200",
+        1,
+        &[1, 2, 2, 0, 1, 2],
+        &[(6, 2)],
+    ),
+    // The others are numbered anew.
+    (
+        "S 0 OPTIONS a; R 10 OPTIONS a 200; S 20 OPTIONS b; M 20000; S 20010 OPTIONS c; M 30000",
+        0,
+        &[1, 1, 2, 0, 1, 0],
+        &[(4, 2), (6, 1)],
+    ),
+    // A response that answers nothing leaves its transaction idle.
+    ("R 0 OPTIONS a 200; M 10", 0, &[0, 0], &[]),
+    // A client that has heard a 2xx to its INVITE ends by 64*T1 and 50 later (timer M, RFC 6026).
+    (
+        "S 0 INVITE a; R 10 INVITE a 200; M 31000; M 32100",
+        0,
+        &[1, 1, 1, 0],
+        &[],
+    ),
+];
+
+/// How many transactions the survey has.
+fn push_count(survey: &Survey<Hasher>, left: &mut Vec<u32>) -> Result<(), AllocError> {
+    if let Some(SurveyEnd::Clean { transactions, .. }) = survey.end() {
+        left.push(transactions)?;
+    }
+    Ok(())
+}
+
+/// Takes the entries of a log, and forgets after each what is over and concerned none of so many newest entries. After each it notes how many
+/// transactions are left.
+fn takes_and_forgets(
+    rt: &impl Abort,
+    surveyed: &mut Surveyed<'_>,
+    behind: u32,
+    found: &mut Vec<Finding>,
+    left: &mut Vec<u32>,
+) -> Result<(), Fail> {
+    for _ in 0..100 {
+        let Some(entry) = surveyed.next()? else {
+            break;
+        };
+        take(rt, &mut surveyed.survey, &entry, found)?;
+        surveyed.survey.forget(entry.number.saturating_sub(behind))?;
+        push_count(&surveyed.survey, left)?;
+    }
+    Ok(())
+}
+
+/// The entries and the transactions of these breaches.
+fn breaches(alloc: Global, found: &[Finding]) -> Result<Vec<(u32, u32)>, AllocError> {
+    let mut numbers = Vec::new(alloc);
+    for finding in found {
+        if let Finding::Breach { entry, transaction } = *finding {
+            numbers.push((entry, transaction))?;
+        }
+    }
+    Ok(numbers)
+}
+
+/// A survey of the log of these words forgets so, and finds this.
+fn forgets(rt: &(impl Abort + AllocGlobal), (words, behind, left, found): Row) -> Result<(), Fail> {
+    let log = log_of(rt.alloc(), words)?;
+    let mut are_left = Vec::new(rt.alloc());
+    let mut are_found = Vec::new(rt.alloc());
+    let mut surveyed = Surveyed::open(rt.alloc(), log.as_str().as_bytes())?;
+    let done = takes_and_forgets(rt, &mut surveyed, behind, &mut are_found, &mut are_left);
+    surveyed.end();
+    done?;
+    holds(rt, are_left.as_slice() == left, words);
+    let numbers = breaches(rt.alloc(), are_found.as_slice())?;
+    holds(rt, numbers.as_slice() == found, words);
+    holds(rt, are_found.len() == found.len(), words);
+    Ok(())
+}
+
+#[test]
+fn a_survey_forgets_what_is_over(rt: HostRuntime) -> Result<(), Fail> {
+    for row in &ROWS {
+        forgets(&rt, *row)?;
+    }
+    Ok(())
+}
+
+/// The first transaction of the survey began at this entry, and has this branch.
+fn first_is(
+    rt: &impl Abort,
+    survey: &Survey<Hasher>,
+    (entry, branch): (u32, &str),
+) -> Result<(), Fail> {
+    let told = survey.transaction(1).ok_or("no transaction")?;
+    holds(rt, told.first == entry && told.last == entry, "its entries");
+    let spelled = str::from_utf8(told.branch).map_err(|_| "no text")?;
+    reads(rt, spelled, branch, "its branch");
+    Ok(())
+}
+
+/// Takes the entries of a log, forgets after each all that is over, and tells the first transaction that is left.
+fn takes_and_tells(
+    rt: &impl Abort,
+    surveyed: &mut Surveyed<'_>,
+    found: &mut Vec<Finding>,
+    left: &mut Vec<u32>,
+) -> Result<(), Fail> {
+    takes_and_forgets(rt, surveyed, 0, found, left)?;
+    first_is(rt, &surveyed.survey, (3, "z9hG4bKb"))
+}
+
+/// The server of b has the first number once the client of a is forgotten, and its history is its own. The next entry has the next number.
+#[test]
+fn what_is_left_is_told_by_its_new_number(rt: HostRuntime) -> Result<(), Fail> {
+    let log = log_of(
+        rt.alloc(),
+        "S 0 OPTIONS a; R 10 OPTIONS a 200; R 15000 OPTIONS b",
+    )?;
+    let mut left = Vec::new(rt.alloc());
+    let mut found = Vec::new(rt.alloc());
+    let mut surveyed = Surveyed::open(rt.alloc(), log.as_str().as_bytes())?;
+    let done = takes_and_tells(&rt, &mut surveyed, &mut found, &mut left);
+    let end = surveyed.end();
+    done?;
+    let clean = SurveyEnd::Clean {
+        entries: 3,
+        transactions: 1,
+    };
+    holds(&rt, end == Some(clean), "at the end");
+    Ok(())
+}
+
+/// A survey that fails where it forgets wants memory, and says that it failed from then on.
+fn forgets_or_fails(
+    rt: &impl Abort,
+    survey: &mut Survey<Hasher>,
+    until: u32,
+) -> Result<(), StepError> {
+    let Err(error) = survey.forget(until) else {
+        return Ok(());
+    };
+    holds(rt, error == StepError::Memory, "want of memory");
+    let again = survey.forget(until);
+    holds(
+        rt,
+        again == Err(StepError::Failed),
+        "of a survey that failed",
+    );
+    Err(error)
+}
+
+/// Takes the entries of a log, and forgets after each all that is over, until the survey fails there.
+fn takes_and_fails(
+    rt: &impl Abort,
+    surveyed: &mut Surveyed<'_>,
+    found: &mut Vec<Finding>,
+) -> Result<Option<StepError>, Fail> {
+    for _ in 0..100 {
+        let Some(entry) = surveyed.next()? else {
+            break;
+        };
+        take(rt, &mut surveyed.survey, &entry, found)?;
+        if let Err(error) = forgets_or_fails(rt, &mut surveyed.survey, entry.number) {
+            return Ok(Some(error));
+        }
+    }
+    Ok(None)
+}
+
+/// `tests/growths` refuses each growth in turn. A survey that failed has no end, and one that did not has the server of b alone.
+#[test]
+fn refused_while_a_survey_forgets(rt: HostRuntime) -> Result<(), Fail> {
+    let words = "S 0 OPTIONS a; R 10 OPTIONS a 200; R 15000 OPTIONS b";
+    let log = log_of(rt.alloc(), words)?;
+    let mut found = Vec::new(rt.alloc());
+    let mut surveyed = Surveyed::open(rt.alloc(), log.as_str().as_bytes())?;
+    let failed = takes_and_fails(&rt, &mut surveyed, &mut found);
+    let end = surveyed.end();
+    let Some(error) = failed? else {
+        let clean = SurveyEnd::Clean {
+            entries: 3,
+            transactions: 1,
+        };
+        holds(&rt, end == Some(clean), "at the end");
+        return Ok(());
+    };
+    holds(&rt, end.is_none(), "of a survey that failed");
+    Err(error.into())
+}

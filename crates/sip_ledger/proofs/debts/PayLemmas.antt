@@ -1,0 +1,38 @@
+-- What a payment leaves of debts.
+use Rattle.std.proofs.Common.{◌≡◌, ◌∙◌, ℕ, Bool, true, false, List, [], ◌∷◌, ◌++◌, All, refl, sym, ap, cond}
+use Rattle.std.specs.Prelude.{IsTrue}
+use Rattle.std.specs.Bool.{OnTrue, OnFalse}
+use Rattle.std.proofs.lemmas.Bool.{false_from_ne_true}
+use Rattle.std.proofs.lemmas.List.Elements.{All-head, All-tail}
+use Rattle.sip_ledger.specs.declared.debt.Debt.{Debt}
+use Rattle.sip_ledger.specs.Debts.{IsWithoutFirst, is_payable, paid_by}
+
+module _ (message t : ℕ) where
+  abbrev Unpaid : Debt → Type 0
+  Unpaid debt = ¬ (IsTrue (is_payable message t debt))
+
+  -- after debts that it does not pay, a send pays the first that it does
+  paid-behind : (before : List Debt) (first : Debt) (after : List Debt) → All Unpaid before → IsTrue (is_payable message t first) →
+      paid_by message t (before ++ first ∷ after) ≡ before ++ after
+  paid-behind [] first after none pays = ap (λ b. cond b after (first ∷ paid_by message t after)) pays
+  paid-behind (debt ∷ before) first after none pays =
+      let unpaid = false_from_ne_true (is_payable message t debt) (All-head Unpaid debt before none) in
+      ap (λ b. cond b (before ++ first ∷ after) (debt ∷ paid_by message t (before ++ first ∷ after))) unpaid
+      ∙ ap (λ debts. debt ∷ debts) (paid-behind before first after (All-tail Unpaid debt before none) pays)
+
+  pub paid-is : (debts left : List Debt) → IsWithoutFirst (λ debt. IsTrue (is_payable message t debt)) debts left → left ≡ paid_by message t debts
+  paid-is debts left a = a.rest ∙ sym (paid-behind a.before a.first a.after a.none_before a.holds) ∙ ap (paid_by message t) (sym a.whole)
+
+  -- where it pays none, all stay
+  pub unpaid-is : (debts : List Debt) → All Unpaid debts → paid_by message t debts ≡ debts
+  unpaid-is [] none = refl
+  unpaid-is (debt ∷ debts) none =
+      let unpaid = false_from_ne_true (is_payable message t debt) (All-head Unpaid debt debts none) in
+      ap (λ b. cond b debts (debt ∷ paid_by message t debts)) unpaid
+      ∙ ap (λ ds. debt ∷ ds) (unpaid-is debts (All-tail Unpaid debt debts none))
+
+  -- a row after a payment
+  pub paid-row : (is : Bool) (old new : List Debt) (rows more : List (List Debt)) → OnTrue is (IsWithoutFirst (λ debt. IsTrue (is_payable message t debt)) old new) →
+      OnFalse is ((more ≡ rows) × All Unpaid old) → (more ≡ rows → new ≡ old) → new ≡ paid_by message t old
+  paid-row true old new rows more paid unpaid same = paid-is old new paid
+  paid-row false old new rows more paid unpaid same = same unpaid.0 ∙ sym (unpaid-is old unpaid.1)

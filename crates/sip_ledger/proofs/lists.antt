@@ -1,0 +1,3 @@
+pub mod EachLemmas
+pub mod IndexLemmas
+pub mod KeepLemmas

@@ -1,0 +1,125 @@
+-- Lists of which each element from one on changes, or after which some of them come once more.
+use Prim.Native.Nat.{suc, zero}
+use Rattle.std.proofs.Common.{Result, Ok, Err, OnErr, OnOk, is_err, true≢false, ◌≡◌, ◌<◌, ◌≤◌, ◌⊎◌, inl, inr, ℕ, ◌+◌, Bool, false, List, [], ◌∷◌, ◌++◌, length, drop, take, get_or, set, map, filter, refl, ap, ap₂, sym, ◌∙◌, arith, cond}
+use Rattle.std.proofs.lemmas.List.Elements.{filter_more}
+use Rattle.sip_ledger.specs.Ledgers.{from_to}
+
+-- what holds always, holds on an error
+pub always_err : {T E : Type 0} (r : Result T E) (P : Type 0) → P → OnErr r P
+always_err (Ok x) P p = tt
+always_err (Err e) P p = p
+
+-- what holds where there is no error
+pub on_ok : {T E : Type 0} (r : Result T E) (P : Type 0) → is_err r ≡ false → OnOk r P → P
+on_ok (Ok x) P is ok = ok
+on_ok (Err e) P is ok = absurd (true≢false is)
+
+module _ {X : Type 0} where
+  -- the elements from one index up to another have changed
+  abbrev pub changing : (X → X) → ℕ → ℕ → List X → List X
+  changing f from k xs = take from xs ++ map f (from_to from k xs) ++ drop k xs
+
+  -- none of no elements
+  pub from_to-none : (from to : ℕ) (xs : List X) → to ≤ from → from_to from to xs ≡ []
+  from_to-none zero zero xs le = refl
+  from_to-none zero (suc to) xs le = absurd (omega (arith, le))
+  from_to-none (suc from) zero xs le = refl
+  from_to-none (suc from) (suc to) [] le = refl
+  from_to-none (suc from) (suc to) (x ∷ xs) le = from_to-none from to xs (omega (arith, le))
+
+  pub changing-none : (f : X → X) (from : ℕ) (xs : List X) → changing f from from xs ≡ xs
+  changing-none f zero xs = refl
+  changing-none f (suc from) [] = refl
+  changing-none f (suc from) (x ∷ xs) = ap (λ ys. x ∷ ys) (changing-none f from xs)
+
+  changing-next : (f : X → X) (from k : ℕ) (xs : List X) (d : X) → from ≤ k → k < length xs →
+      set (changing f from k xs) k (f (get_or (changing f from k xs) k d)) ≡ changing f from (suc k) xs
+  changing-next f from k [] d le low = absurd (omega (arith, low))
+  changing-next f zero zero (x ∷ xs) d le low = refl
+  changing-next f zero (suc k) (x ∷ xs) d le low = ap (λ ys. f x ∷ ys) (changing-next f zero k xs d (omega arith) (omega (arith, low)))
+  changing-next f (suc from) zero (x ∷ xs) d le low = absurd (omega (arith, le))
+  changing-next f (suc from) (suc k) (x ∷ xs) d le low = ap (λ ys. x ∷ ys) (changing-next f from k xs d (omega (arith, le)) (omega (arith, low)))
+
+  pub changing-more : (f : X → X) (from k : ℕ) (xs : List X) (d : X) → from ≤ k → k < length xs →
+      set (changing f from k xs) k (f (get_or (changing f from k xs) k d)) ≡ changing f from (k + 1) xs
+  changing-more f from k xs d le low =
+      let next : suc k ≡ k + 1 = omega arith in changing-next f from k xs d le low ∙ ap (λ n. changing f from n xs) next
+
+  pub changing-length : (f : X → X) (from k : ℕ) (xs : List X) → from ≤ k → length (changing f from k xs) ≡ length xs
+  changing-length f zero zero xs le = refl
+  changing-length f zero (suc k) [] le = refl
+  changing-length f zero (suc k) (x ∷ xs) le = ap suc (changing-length f zero k xs (omega arith))
+  changing-length f (suc from) zero xs le = absurd (omega (arith, le))
+  changing-length f (suc from) (suc k) [] le = refl
+  changing-length f (suc from) (suc k) (x ∷ xs) le = ap suc (changing-length f from k xs (omega (arith, le)))
+
+  pub changing-all : (f : X → X) (from k : ℕ) (xs : List X) → length xs ≤ k → changing f from k xs ≡ take from xs ++ map f (drop from xs)
+  changing-all f zero zero [] le = refl
+  changing-all f zero (suc k) [] le = refl
+  changing-all f zero zero (x ∷ xs) le = absurd (omega (arith, le))
+  changing-all f zero (suc k) (x ∷ xs) le = ap (λ ys. f x ∷ ys) (changing-all f zero k xs (omega (arith, le)))
+  changing-all f (suc from) zero [] le = refl
+  changing-all f (suc from) (suc k) [] le = refl
+  changing-all f (suc from) zero (x ∷ xs) le = absurd (omega (arith, le))
+  changing-all f (suc from) (suc k) (x ∷ xs) le = ap (λ ys. x ∷ ys) (changing-all f from k xs (omega (arith, le)))
+
+  pub changing-front : (f : X → X) (from k : ℕ) (xs : List X) → from ≤ k → take from (changing f from k xs) ≡ take from xs
+  changing-front f zero k xs le = refl
+  changing-front f (suc from) zero xs le = absurd (omega (arith, le))
+  changing-front f (suc from) (suc k) [] le = refl
+  changing-front f (suc from) (suc k) (x ∷ xs) le = ap (λ ys. x ∷ ys) (changing-front f from k xs (omega (arith, le)))
+
+  -- a change that changes none of the elements
+  pub unchanged-each : (f : X → X) (from : ℕ) (xs : List X) → ((k : ℕ) (d : X) → k < length xs → f (get_or xs k d) ≡ get_or xs k d) → xs ≡ take from xs ++ map f (drop from xs)
+  unchanged-each f zero [] each = refl
+  unchanged-each f zero (x ∷ xs) each = ap₂ (λ y ys. y ∷ ys) (sym (each 0 x (omega arith))) (unchanged-each f zero xs (λ k d below. each (suc k) d (omega (arith, below))))
+  unchanged-each f (suc from) [] each = refl
+  unchanged-each f (suc from) (x ∷ xs) each = ap (λ ys. x ∷ ys) (unchanged-each f from xs (λ k d below. each (suc k) d (omega (arith, below))))
+
+  -- a list in which each element from one on has changed
+  pub changed-each : (f : X → X) (from : ℕ) (xs ys : List X) → length ys ≡ length xs → ((k : ℕ) (d : X) → k < from → k < length xs → get_or ys k d ≡ get_or xs k d) →
+      ((k : ℕ) (d : X) → from ≤ k → k < length xs → get_or ys k d ≡ f (get_or xs k d)) → ys ≡ take from xs ++ map f (drop from xs)
+  changed-each f zero [] [] long before behind = refl
+  changed-each f zero [] (y ∷ ys) long before behind = absurd (omega (arith, long))
+  changed-each f zero (x ∷ xs) [] long before behind = absurd (omega (arith, long))
+  changed-each f zero (x ∷ xs) (y ∷ ys) long before behind =
+      ap₂ (λ z zs. z ∷ zs) (behind 0 x (omega arith) (omega arith))
+      (changed-each f zero xs ys (omega (arith, long)) (λ k d early _. absurd (omega (arith, early))) (λ k d _ below. behind (suc k) d (omega arith) (omega (arith, below))))
+  changed-each f (suc from) [] [] long before behind = refl
+  changed-each f (suc from) [] (y ∷ ys) long before behind = absurd (omega (arith, long))
+  changed-each f (suc from) (x ∷ xs) [] long before behind = absurd (omega (arith, long))
+  changed-each f (suc from) (x ∷ xs) (y ∷ ys) long before behind =
+      ap₂ (λ z zs. z ∷ zs) (before 0 x (omega arith) (omega arith))
+      (changed-each f from xs ys (omega (arith, long)) (λ k d early below. before (suc k) d (omega (arith, early)) (omega (arith, below)))
+      (λ k d above below. behind (suc k) d (omega (arith, above)) (omega (arith, below))))
+
+  -- one more of the elements that pass a test
+  passing-next : (p : X → Bool) (from k : ℕ) (xs : List X) (d : X) → from ≤ k → k < length xs →
+      filter p (from_to from (suc k) xs) ≡ filter p (from_to from k xs) ++ cond (p (get_or xs k d)) (get_or xs k d ∷ []) []
+  passing-next p zero k xs d le low = let next : suc k ≡ k + 1 = omega arith in ap (λ n. filter p (take n xs)) next ∙ filter_more p xs k d low
+  passing-next p (suc from) zero xs d le low = absurd (omega (arith, le))
+  passing-next p (suc from) (suc k) [] d le low = absurd (omega (arith, low))
+  passing-next p (suc from) (suc k) (x ∷ xs) d le low = passing-next p from k xs d (omega (arith, le)) (omega (arith, low))
+
+  pub passing-more : (p : X → Bool) (from k : ℕ) (xs : List X) (d : X) → from ≤ k → k < length xs →
+      filter p (from_to from (k + 1) xs) ≡ filter p (from_to from k xs) ++ cond (p (get_or xs k d)) (get_or xs k d ∷ []) []
+  passing-more p from k xs d le low =
+      let next : k + 1 ≡ suc k = omega arith in ap (λ n. filter p (from_to from n xs)) next ∙ passing-next p from k xs d le low
+
+  -- none of the elements passes a test
+  pub passing-none : (p : X → Bool) (from to : ℕ) (xs : List X) → ((k : ℕ) (d : X) → k < length xs → p (get_or xs k d) ≡ false) → filter p (from_to from to xs) ≡ []
+  passing-none p zero zero xs each = refl
+  passing-none p zero (suc to) [] each = refl
+  passing-none p zero (suc to) (x ∷ xs) each =
+      ap (λ b. cond b (x ∷ filter p (take to xs)) (filter p (take to xs))) (each 0 x (omega arith))
+      ∙ passing-none p zero to xs (λ k d below. each (suc k) d (omega (arith, below)))
+  passing-none p (suc from) zero xs each = refl
+  passing-none p (suc from) (suc to) [] each = refl
+  passing-none p (suc from) (suc to) (x ∷ xs) each = passing-none p from to xs (λ k d below. each (suc k) d (omega (arith, below)))
+
+  -- up to the same place
+  pub from_to-end : (from to k : ℕ) (xs : List X) → from ≤ k → to ≤ k → k ≤ to ⊎ k ≤ from → from_to from k xs ≡ from_to from to xs
+  from_to-end from to k xs le past (inl within) = let same : k ≡ to = omega (arith, past, within) in ap (λ n. from_to from n xs) same
+  from_to-end from to k xs le past (inr none) =
+      let low : to ≤ from = omega (arith, past, none) in
+      from_to-none from k xs none ∙ sym (from_to-none from to xs low)

@@ -1,0 +1,247 @@
+-- The newest message of a book: its place is put into the order later than it comes, or it is forgotten before.
+use Rattle.std.specs.Prelude.{◌≡◌, ◌≢◌, ◌<◌, ◌+◌, ◌-◌, ◌⊎◌, ℕ, Bool, true, false, Option, Some, None, is_some, List, [], ◌∷◌, ◌++◌, All, AllPairs, map, length, take}
+use Rattle.std.specs.List.{insert, filter_map}
+use Rattle.std.proofs.Common.{inl, inr, refl, sym, ◌∙◌, ap, subst, arith, get_or}
+use Rattle.std.proofs.lemmas.Bool.{false≢true}
+use Rattle.std.proofs.Math.Seq.{take-append_seam}
+use Rattle.std.proofs.lemmas.List.{get_or_default, map-append, get_or_append_left, get_or-append-add, length-append, length-map, length-take-le, get_or-take, take_all, take_more, take-map}
+use Rattle.std.proofs.lemmas.List.Elements.{All-head, All-tail}
+use Rattle.sip_machine.specs.Texts.{Texts, IsBook, Keeps, text_of}
+use Rattle.sip_machine.specs.Retained.{only}
+use Rattle.sip_machine.specs.declared.book.KeptMessage.{KeptMessage}
+use Rattle.sip_machine.specs.declared.book.Loose.{Loose}
+use Rattle.sip_machine.specs.declared.book.Place.{Place}
+use Rattle.sip_machine.specs.declared.book.PlaceRun.{PlaceRun}
+use Rattle.sip_machine.specs.declared.tos.To.{To}
+use Rattle.sip_machine.specs.inner.Order.{texts_of, placed, bytes_at, hash_of, places_of, index_of, IsOrder, IsInRuns, IsGap, IsInside, IsLoose, StandInRuns}
+use Rattle.sip_machine.specs.inner.Retain.{moved}
+use Rattle.sip_machine.specs.inner.Tos.{AreTos, IsTo, IsToOf}
+use Rattle.sip_machine.proofs.acks.ToLemmas.{AllPairs-take, AreTos-grow}
+use Rattle.sip_machine.proofs.texts.TextLaws.{Contains-nil, Keeps-grow, Keeps-grow_cases, Keeps-added, Keeps-at, text_of-at, text_of-added, text_of-grow, text_of-none, IsBook-grow}
+use Rattle.sip_machine.proofs.texts.OrderLaws.{none_in_gap, IsOrder-grow}
+use Rattle.sip_machine.proofs.texts.RetainLemmas.{kept_place, IsOrder-only}
+
+module _ (texts : Texts) (number : ℕ) (bytes : List ℕ) (book : IsBook (texts ++ (number, bytes) ∷ [])) where
+  abbrev grown : Texts
+  grown = texts ++ (number, bytes) ∷ []
+
+  long : length grown ≡ length texts + 1
+  long = length-append texts ((number, bytes) ∷ [])
+
+  -- the newest message comes last
+  last_is : get_or grown (length texts) (0, []) ≡ (number, bytes)
+  last_is =
+      let here : length texts ≡ length texts + 0 = omega arith in
+      ap (λ n. get_or grown n (0, [])) here ∙ get_or-append-add texts ((number, bytes) ∷ []) 0 (0, [])
+
+  -- its number is above those of the others
+  pub newest_above : (n : ℕ) → Keeps texts n → n < number
+  newest_above n keeps =
+      let (k, low, is) = kept_place texts n keeps in
+      let less = book.rising k (length texts) (0, []) low (omega (arith, long)) in
+      let first : ℕ × List ℕ → ℕ = λ t. t.0 in
+      let one = ap first (get_or_append_left texts ((number, bytes) ∷ []) (0, []) k low) in
+      let other = ap first last_is in
+      omega (arith, less, one, other, is)
+
+  -- no kept message before the newest has its bytes
+  pub newest_other : (n : ℕ) → Keeps texts n → text_of texts n ≢ bytes
+  newest_other n keeps same =
+      let less = newest_above n keeps in
+      let equal = book.apart n number (Keeps-grow texts number bytes n keeps) (Keeps-added texts number bytes)
+      (text_of-grow texts number bytes n keeps ∙ same ∙ sym (text_of-added texts number bytes newest_above)) in
+      omega (arith, less, equal)
+
+  -- the others are a book
+  pub IsBook-front : IsBook texts
+  IsBook-front = record {
+    rising = λ i j d lt low.
+        let first : ℕ × List ℕ → ℕ = λ t. t.0 in
+        let one = ap first (get_or_append_left texts ((number, bytes) ∷ []) d i (omega (arith, lt, low))) in
+        let other = ap first (get_or_append_left texts ((number, bytes) ∷ []) d j low) in
+        let less = book.rising i j d lt (omega (arith, low, long)) in
+        omega (arith, one, other, less);
+    apart = λ a b keeps_a keeps_b same.
+        book.apart a b (Keeps-grow texts number bytes a keeps_a) (Keeps-grow texts number bytes b keeps_b)
+        (text_of-grow texts number bytes a keeps_a ∙ same ∙ sym (text_of-grow texts number bytes b keeps_b));
+  }
+
+  -- no message before the newest is found by the bytes of the newest
+  pub none_found : (position : ℕ) → position < length texts → bytes_at texts position ≢ bytes
+  none_found position low same =
+      let x = get_or texts position (0, []) in
+      newest_other x.0 (Keeps-at texts position x low (get_or_default texts position (0, []) x low)) (text_of-at texts position x IsBook-front.rising low (get_or_default texts position (0, []) x low) ∙ same)
+
+  -- Tos of older messages stay
+  pub AreTos-front : (tos : List To) → All (λ to. to.number < number) tos → AreTos grown tos → AreTos texts tos
+  AreTos-front tos below all = record {
+    each = λ k d low.
+        let to = get_or tos k d in
+        let is = all.each k d low in
+        let under = below k d low in
+        go to under is (Keeps-grow_cases texts number bytes to.number is.kept);
+  }
+    where
+      go : (to : To) → to.number < number → IsTo grown to → Keeps texts to.number ⊎ (number ≡ to.number) → IsTo texts to
+      go to under is (inl keeps) = record { kept = keeps; text = subst (λ b. IsToOf b to.text) (text_of-grow texts number bytes to.number keeps) is.text }
+      go to under is (inr same) = absurd (omega (arith, under, same))
+
+-- Its place among those of the others.
+
+-- those whose places stand in the order while its does not
+pub placed_front : (front : Texts) (x : ℕ × List ℕ) → placed true (front ++ x ∷ []) ≡ front
+placed_front front x =
+    let size : length (front ++ x ∷ []) - 1 ≡ length front = (let long = length-append front (x ∷ []) in omega (arith, long)) in
+    ap (λ n. take n (front ++ x ∷ [])) size ∙ take-append_seam front (x ∷ [])
+
+-- where no message is kept, none has a place
+pub placed_none : (texts : Texts) → length texts ≡ 0 → placed true texts ≡ texts
+placed_none [] none = refl
+placed_none (x ∷ texts) none = absurd (omega (arith, none))
+
+-- the messages of the code, with the newest one last
+pub texts_split : (kept others : List KeptMessage) (newest : KeptMessage) → kept ≡ others ++ newest ∷ [] → texts_of kept ≡ texts_of others ++ (newest.number, newest.bytes.items) ∷ []
+texts_split kept others newest is = ap texts_of is ∙ map-append (λ k. (k.number, k.bytes.items)) others (newest ∷ [])
+
+module _ (kept others : List KeptMessage) (newest : KeptMessage) (is : kept ≡ others ++ newest ∷ []) where
+  -- the others are those that have a place
+  pub placed_others : placed true (texts_of kept) ≡ texts_of others
+  placed_others = ap (placed true) (texts_split kept others newest is) ∙ placed_front (texts_of others) (newest.number, newest.bytes.items)
+
+  -- none of them is found by the bytes of the newest
+  pub never_found : IsBook (texts_of kept) → (position : ℕ) → position < length others → bytes_at (texts_of others) position ≡ newest.bytes.items → ⊥
+  never_found book position low same =
+      none_found (texts_of others) newest.number newest.bytes.items (subst IsBook (texts_split kept others newest is) book) position (rw length-map low) same
+
+  -- the others stand in the runs
+  pub others_stand : (loose : Bool) (runs : List PlaceRun) → loose ≡ true → IsInRuns (placed loose (texts_of kept)) runs → IsInRuns (texts_of others) runs
+  others_stand loose runs true_is order = subst (λ ts. IsInRuns ts runs) (ap (λ b. placed b (texts_of kept)) true_is ∙ placed_others) order
+
+-- where the newest stands in no run yet, the others do
+pub stand_placed : (texts : Texts) (runs : List PlaceRun) (loose : Option Loose) → StandInRuns texts runs loose → IsInRuns (placed (is_some loose) texts) runs
+stand_placed texts runs None stand = stand
+stand_placed texts runs (Some newest) is = subst (λ ts. IsInRuns ts runs) (sym (ap (placed true) is.last ∙ placed_front is.others (is.number, is.bytes))) is.order
+
+-- its place in its gap is among theirs
+pub newest_placed : (texts : Texts) (runs now : List PlaceRun) (newest : Loose) (position : ℕ) → IsLoose texts runs newest → position ≡ length texts - 1
+    → places_of now ≡ insert (places_of runs) (index_of runs newest.gap) (record { hash = newest.hash; position = position }) → IsOrder texts (places_of now)
+newest_placed texts runs now newest position is at put =
+    let front = is.others in
+    let bytes = is.bytes in
+    let places = places_of runs in
+    let i = index_of runs newest.gap in
+    let place : ℕ → ℕ → Place = λ h p. record { hash = h; position = p } in
+    let size : length texts ≡ length front + 1 = ap length is.last ∙ length-append front ((is.number, bytes) ∷ []) in
+    let here : length front ≡ position = omega (arith, size, at) in
+    let grown = IsOrder-grow front places is.number bytes i is.order.order (subst (λ h. IsGap front (h, bytes) places i) is.hash is.gap) in
+    subst (λ ts. IsOrder ts (places_of now)) (sym is.last)
+    (subst (IsOrder (front ++ (is.number, bytes) ∷ [])) (ap (λ h. insert places i (place h (length front))) (sym is.hash) ∙ ap (λ p. insert places i (place newest.hash p)) here ∙ sym put) grown)
+
+-- What a book keeps, and how it stands in order.
+
+abbrev pub IsKept : Texts → List PlaceRun → Option Loose → List To → Type 0
+IsKept texts runs loose tos = IsBook texts × StandInRuns texts runs loose × AreTos texts tos
+
+-- a book keeps bytes that it did not have as its newest message
+pub kept_newest : (old new : Texts) (runs : List PlaceRun) (tos : List To) (number : ℕ) (bytes : List ℕ) (newest : Loose) → IsBook old → IsInRuns old runs → AreTos old tos
+    → ((n : ℕ) → Keeps old n → n < number) → newest.hash ≡ hash_of bytes → IsGap old (newest.hash, bytes) (places_of runs) (index_of runs newest.gap)
+    → (0 < length runs → IsInside runs newest.gap) → new ≡ old ++ (number, bytes) ∷ [] → IsKept new runs (Some newest) tos
+kept_newest old new runs tos number bytes newest book order beside above hashed gap inside is =
+    let i = index_of runs newest.gap in
+    let other = text_of-none old bytes (none_in_gap old (places_of runs) bytes i order.order (subst (λ h. IsGap old (h, bytes) (places_of runs) i) hashed gap)) in (
+      subst IsBook (sym is) (IsBook-grow old number bytes book above other),
+      record { others = old; number = number; bytes = bytes; last = is; order = order; hash = hashed; gap = gap; inside = inside },
+      subst (λ ts. AreTos ts tos) (sym is) (AreTos-grow old number bytes tos beside),
+    )
+
+-- a book keeps what is left of it where the newest message went again
+pub kept_front : (old new : Texts) (runs : List PlaceRun) (tos : List To) (number : ℕ) (bytes : List ℕ) (loose : Option Loose) → is_some loose ≡ true → IsKept old runs loose tos
+    → All (λ to. to.number < number) tos → old ≡ new ++ (number, bytes) ∷ [] → IsKept new runs None tos
+kept_front old new runs tos number bytes None some kept below is = absurd (false≢true some)
+kept_front old new runs tos number bytes (Some newest) some kept below is =
+    let (whole, stands, beside) = kept in
+    let book = subst IsBook is whole in
+    let same : stands.others ≡ new = sym (placed_front stands.others (stands.number, stands.bytes)) ∙ ap (placed true) (sym stands.last ∙ is) ∙ placed_front new (number, bytes) in
+    (IsBook-front new number bytes book, subst (λ ts. IsInRuns ts runs) same stands.order, AreTos-front new number bytes book tos below (subst (λ ts. AreTos ts tos) is beside))
+
+-- What is left in order where the newest of the messages that stay gets its place later.
+
+module _ (texts : Texts) (number : ℕ) (bytes : List ℕ) (book : IsBook (texts ++ (number, bytes) ∷ [])) (numbers : List ℕ) (up : AllPairs (λ a b. a < b) numbers)
+    (kept : All (Keeps (texts ++ (number, bytes) ∷ [])) numbers) where
+  -- all of them but the last
+  abbrev earlier : List ℕ
+  earlier = placed true numbers
+
+  at_earlier : (k d : ℕ) → k < length earlier → (k + 1 < length numbers) × (get_or earlier k d ≡ get_or numbers k d)
+  at_earlier k d low =
+      let size : length earlier ≡ length numbers - 1 = length-take-le (length numbers - 1) numbers (omega arith) in
+      let under : k < length numbers - 1 = omega (arith, low, size) in
+      (omega (arith, under), get_or-take (length numbers - 1) numbers k d under)
+
+  -- each is of a message before the newest
+  earlier_kept : All (Keeps texts) earlier
+  earlier_kept k d low =
+      let (under, is) = at_earlier k d low in
+      subst (Keeps texts) (sym is) (go (Keeps-grow_cases texts number bytes (get_or numbers k d) (kept k d (omega (arith, under)))) (Keeps-grow_cases texts number bytes (get_or numbers (k + 1) d) (kept (k + 1) d under)) (up k (k + 1) d (omega arith) under))
+    where
+      go : Keeps texts (get_or numbers k d) ⊎ (number ≡ get_or numbers k d) → Keeps texts (get_or numbers (k + 1) d) ⊎ (number ≡ get_or numbers (k + 1) d) → get_or numbers k d < get_or numbers (k + 1) d → Keeps texts (get_or numbers k d)
+      go (inl keeps) next less = keeps
+      go (inr same) (inl keeps) less = absurd (let above = newest_above texts number bytes book (get_or numbers (k + 1) d) keeps in omega (arith, above, same, less))
+      go (inr same) (inr next) less = absurd (omega (arith, same, next, less))
+
+  earlier_up : AllPairs (λ a b. a < b) earlier
+  earlier_up i j d lt low =
+      let (under, is) = at_earlier j d low in
+      let (below, was) = at_earlier i d (omega (arith, lt, low)) in
+      let less = up i j d lt (omega (arith, under)) in
+      omega (arith, is, was, less)
+
+  -- with the same bytes
+  only_grown : (ns : List ℕ) → All (Keeps texts) ns → only ns (texts ++ (number, bytes) ∷ []) ≡ only ns texts
+  only_grown [] all = refl
+  only_grown (n ∷ ns) all =
+      let first = text_of-grow texts number bytes n (All-head (Keeps texts) n ns all) in
+      let rest = only_grown ns (All-tail (Keeps texts) n ns all) in
+      (λ i. (n, first i) ∷ rest i)
+
+  only_earlier : only earlier texts ≡ placed true (only numbers (texts ++ (number, bytes) ∷ []))
+  only_earlier =
+      let f : ℕ → ℕ × List ℕ = λ n. (n, text_of (texts ++ (number, bytes) ∷ []) n) in
+      sym (only_grown earlier earlier_kept) ∙ sym (take-map f (length numbers - 1) numbers) ∙ ap (λ n. take (n - 1) (map f numbers)) (sym (length-map numbers f))
+
+  newest_order : (places : List Place) → IsOrder texts places → IsOrder (placed true (only numbers (texts ++ (number, bytes) ∷ []))) (filter_map (moved texts earlier) places)
+  newest_order places order =
+      subst (λ ts. IsOrder ts (filter_map (moved texts earlier) places)) only_earlier
+      (IsOrder-only texts earlier (IsBook-front texts number bytes book) earlier_up earlier_kept places order)
+
+-- a book that has messages has a newest one
+split_last : (texts : Texts) (last : ℕ) → length texts ≡ last + 1 → texts ≡ placed true texts ++ get_or texts last (0, []) ∷ []
+split_last texts last size =
+    let before : last ≡ length texts - 1 = omega (arith, size) in
+    sym (take_all (last + 1) texts (omega (arith, size))) ∙ take_more texts last (0, []) (omega (arith, size)) ∙ ap (λ n. take n texts ++ get_or texts last (0, []) ∷ []) before
+
+-- their numbers rise as all do
+pub placed_up : (loose : Bool) (numbers : List ℕ) → AllPairs (λ a b. a < b) numbers → AllPairs (λ a b. a < b) (placed loose numbers)
+placed_up false numbers up = up
+placed_up true numbers up = AllPairs-take (λ a b. a < b) (length numbers - 1) numbers up
+
+-- the messages of the code whose places stand in the order
+pub placed_texts : (loose : Bool) (kept : List KeptMessage) → texts_of (placed loose kept) ≡ placed loose (texts_of kept)
+placed_texts false kept = refl
+placed_texts true kept =
+    let text : KeptMessage → ℕ × List ℕ = λ k. (k.number, k.bytes.items) in
+    sym (take-map text (length kept - 1) kept) ∙ ap (λ n. take (n - 1) (map text kept)) (sym (length-map kept text))
+
+-- the places of the messages that stay are in order
+pub retained_order : (loose : Bool) (texts : Texts) (numbers : List ℕ) → IsBook texts → AllPairs (λ a b. a < b) numbers → All (Keeps texts) numbers → (places : List Place)
+    → IsOrder (placed loose texts) places → IsOrder (placed loose (only numbers texts)) (filter_map (moved (placed loose texts) (placed loose numbers)) places)
+retained_order false texts numbers book up kept places order = IsOrder-only texts numbers book up kept places order
+retained_order true [] [] book up kept places order = IsOrder-only [] [] book up kept places order
+retained_order true [] (n ∷ ns) book up kept places order = absurd (Contains-nil n (All-head (Keeps []) n ns kept))
+retained_order true (x ∷ xs) numbers book up kept places order =
+    let texts : Texts = x ∷ xs in
+    let front : Texts = placed true texts in
+    let y : ℕ × List ℕ = get_or texts (length xs) (0, []) in
+    let is : texts ≡ front ++ y ∷ [] = split_last texts (length xs) (omega arith) in
+    subst (λ ts. IsOrder (placed true (only numbers ts)) (filter_map (moved front (placed true numbers)) places)) (sym is)
+    (newest_order front y.0 y.1 (subst IsBook is book) numbers up (subst (λ ts. All (Keeps ts) numbers) is kept) places order)

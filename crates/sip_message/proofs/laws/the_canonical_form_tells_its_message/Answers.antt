@@ -1,0 +1,8 @@
+use Rattle.sip_message.proofs.lemmas.says.Canonical.{canonical-tells, same-canonical}
+use Rattle.sip_message.proofs.laws.the_canonical_form_tells_its_message.Goals as goal
+
+pub returns-clause-told : goal.returns-clause-told
+returns-clause-told c bytes (start, fields, body) = canonical-tells bytes start fields body
+
+pub returns-clause-same : goal.returns-clause-same
+returns-clause-same c = same-canonical

@@ -1,0 +1,7 @@
+use Rattle.std.proofs.Common.{ℕ, List, subst}
+use Rattle.sip_message.specs.Reads.{Reads}
+use Rattle.sip_message.proofs.lemmas.says.Reading.{keeps-reads}
+use Rattle.sip_message.proofs.message.Message.known.Goals as goal
+
+pub returns : goal.returns
+returns c = subst (λ r. (bytes : List ℕ) × Reads bytes r) c.self.view_is (keeps-reads c.self.invariant.keeps)

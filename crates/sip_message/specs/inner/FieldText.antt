@@ -1,0 +1,58 @@
+-- A line of a head as a field (RFC 3261, section 7.3).
+use Rattle.std.specs.Prelude.{◌≡◌, ℕ, false, List, [], ◌∷◌, ⊤}
+use Rattle.sip_standard.specs.Text.{One, Exactly, ◌then◌, Many}
+use Rattle.sip_standard.specs.Profile.{Token, Sws}
+use Rattle.sip_text.specs.Bytes.{colon, Byte}
+use Rattle.sip_text.specs.inner.Blanks.{is_wsp}
+use Rattle.sip_standard.specs.Field.{is_lws_byte}
+use Rattle.sip_message.specs.declared.name.Known.TheVariants as known_name
+use Rattle.sip_message.specs.Name.{FieldName, known, name_of}
+use Rattle.sip_message.specs.Params.{OpensSolid}
+use Rattle.sip_message.specs.Via.{ViaParts}
+use Rattle.sip_message.specs.inner.ElementFronts.{ViasText}
+use Rattle.sip_message.specs.Address.{AddressParts, AddressText}
+use Rattle.sip_message.specs.Field.{Field}
+use Rattle.sip_standard.specs.Values.{CallId}
+use Rattle.sip_message.specs.inner.Values.{CSeqText, Digits, OtherText}
+
+-- the text ends with no byte of a blank run
+abbrev pub EndsSolid : List ℕ → Type 0
+EndsSolid [] = ⊤
+EndsSolid (byte ∷ []) = is_lws_byte byte ≡ false
+EndsSolid (byte ∷ next ∷ text) = EndsSolid (next ∷ text)
+
+-- what a field of the name may hold
+abbrev pub Row : FieldName → List ℕ → Type 0
+Row (known known_name.Via) value = (v : ViaParts) × (vias : List ViaParts) × ViasText value v vias
+Row (known known_name.From) value = (a : AddressParts) × AddressText value a
+Row (known known_name.To) value = (a : AddressParts) × AddressText value a
+Row (known known_name.CallId) value = CallId value
+Row (known known_name.CSeq) value = (number : ℕ) × (method : List ℕ) × CSeqText value number method
+Row (known known_name.ContentLength) value = Digits value
+Row _ value = OtherText value
+
+-- header-name HCOLON: a token, any SP and HTAB, a colon, and the rest of the line
+pub record NameText (line : List ℕ) (name : FieldName) (rest : List ℕ) : Type 0 where
+  pub spelled : List ℕ
+  pub is_token : Token spelled
+  pub name_is : name ≡ name_of spelled
+  pub whole : (Exactly spelled then Many (One is_wsp) then Byte colon then Exactly rest) line
+
+-- what follows the colon is the value, without the longest blank runs at its two ends
+pub record ValueText (rest value : List ℕ) : Type 0 where
+  pub opens : OpensSolid value
+  pub ends : EndsSolid value
+  pub whole : (Sws then Exactly value then Sws) rest
+
+-- the line is the field
+pub record FieldText (line : List ℕ) (f : Field) : Type 0 where
+  pub rest : List ℕ
+  pub named : NameText line f.name rest
+  pub valued : ValueText rest f.value
+  pub row : Row f.name f.value
+
+-- the lines are the fields
+abbrev pub FieldsText : List (List ℕ) → List Field → Type 0
+FieldsText [] fields = fields ≡ []
+FieldsText (line ∷ lines) fields =
+    (f : Field) × (fs : List Field) × FieldText line f × FieldsText lines fs × (fields ≡ f ∷ fs)

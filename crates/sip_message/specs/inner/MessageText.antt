@@ -1,0 +1,117 @@
+-- The bytes of a message, as its readers read them (RFC 3261, section 7), and the message with its values unfolded.
+use Rattle.std.specs.Prelude.{◌≡◌, ◌||◌, ℕ, ◌+◌, ◌≤◌, Bool, true, IsTrue, List, [], ◌∷◌, length, map, codes, bytes_eq, Option, is_some, IfSome, if◌then◌else◌, ⊤}
+use Rattle.sip_standard.specs.Case.{folded}
+use Rattle.sip_message.specs.declared.name.Known.{Known}
+use Rattle.sip_message.specs.declared.name.Known.TheVariants as known_name
+use Rattle.sip_standard.specs.Lines.{CutSays, LinesSay}
+use Rattle.sip_message.specs.inner.Lines.{HasNoBareEnd}
+use Rattle.sip_message.specs.Name.{is_name_of}
+use Rattle.sip_standard.specs.StartLine.{StartLine, request, status}
+use Rattle.sip_message.specs.inner.StartLine.{StartText}
+use Rattle.sip_message.specs.Via.{ViaParts}
+use Rattle.sip_message.specs.inner.ElementFronts.{ViasText}
+use Rattle.sip_message.specs.inner.Values.{CSeqText}
+use Rattle.sip_message.specs.Field.{Field}
+use Rattle.sip_message.specs.Message.{Message}
+use Rattle.sip_message.specs.inner.FieldText.{FieldsText}
+use Rattle.sip_standard.specs.Canonical.{unfolded}
+use Rattle.sip_standard.specs.Body.{length_in, cut_body}
+
+-- the fields of the name, each with the number of its line, the lines being numbered from n
+abbrev pub found_from : ℕ → Known → List Field → List (ℕ × List ℕ)
+found_from n name [] = []
+found_from n name (f ∷ fs) =
+    if is_name_of name f.name then (n, f.value) ∷ found_from (n + 1) name fs else found_from (n + 1) name fs
+
+-- the fields of the name, each with the number of its line
+abbrev pub found : Known → List Field → List (ℕ × List ℕ)
+found name fields = found_from 1 name fields
+
+-- the first field of the name, with the number of its line
+abbrev pub IsFirstFound : Known → List Field → ℕ × List ℕ → Type 0
+IsFirstFound name fields one = (more : List (ℕ × List ℕ)) × (found name fields ≡ one ∷ more)
+
+-- the name stands on some line
+abbrev pub HasField : Known → List Field → Type 0
+HasField name fields = (one : ℕ × List ℕ) × IsFirstFound name fields one
+
+-- the name stands at most once
+abbrev pub IsNotTwice : Known → List Field → Type 0
+IsNotTwice name fields = length (found name fields) ≤ 1
+
+-- the top Via's transport: that of the first element
+abbrev pub TopTransport : List ℕ → List ℕ → Type 0
+TopTransport value transport =
+    (v : ViaParts) × (vias : List ViaParts) × ViasText value v vias × (transport ≡ v.transport)
+
+-- TCP and TLS are streams
+abbrev pub is_stream : List ℕ → Bool
+is_stream transport = bytes_eq (folded transport) (codes "tcp") || bytes_eq (folded transport) (codes "tls")
+
+-- the method of CSeq is that of the request (section 8.1.1.5)
+abbrev pub MethodFits : StartLine → List ℕ → Type 0
+MethodFits (request method uri) cseq = (number : ℕ) × CSeqText cseq number method
+MethodFits (status code reason) cseq = ⊤
+
+-- the top Via's transport is a stream
+abbrev pub IsStream : List ℕ → Type 0
+IsStream via = (transport : List ℕ) × TopTransport via transport × IsTrue (is_stream transport)
+
+-- a stream has a Content-Length (section 18.3)
+abbrev pub HasLength : List ℕ → Option ℕ → Type 0
+HasLength via len = IsStream via → is_some len ≡ true
+
+-- the bytes after the head are as many as Content-Length says
+abbrev pub IsEnough : Option ℕ → List ℕ → Type 0
+IsEnough len rest = IfSome len (λ n. n ≤ length rest)
+
+-- a stream has no more of them
+abbrev pub IsNoMore : List ℕ → Option ℕ → List ℕ → Type 0
+IsNoMore via len rest = IsStream via → IfSome len (λ n. length rest ≤ n)
+
+-- the number of the one Content-Length, if there is one
+abbrev pub content_length : List Field → Option ℕ
+content_length fields = length_in (found known_name.ContentLength fields)
+
+-- the demands on the fields and the body
+pub record MessageFits (start : StartLine) (fields : List Field) (rest : List ℕ) : Type 0 where
+  pub via : HasField known_name.Via fields
+  pub from_once : IsNotTwice known_name.From fields
+  pub from : HasField known_name.From fields
+  pub to_once : IsNotTwice known_name.To fields
+  pub to : HasField known_name.To fields
+  pub call_id_once : IsNotTwice known_name.CallId fields
+  pub call_id : HasField known_name.CallId fields
+  pub cseq_once : IsNotTwice known_name.CSeq fields
+  pub cseq : HasField known_name.CSeq fields
+  pub length_once : IsNotTwice known_name.ContentLength fields
+  pub method : MethodFits start (cseq.0.1)
+  pub has_length : HasLength (via.0.1) (content_length fields)
+  pub enough : IsEnough (content_length fields) rest
+  pub no_more : IsNoMore (via.0.1) (content_length fields) rest
+
+-- the bytes are the message, its values as they are spelled
+pub record MessageText (bytes : List ℕ) (m : Message) : Type 0 where
+  pub head : List ℕ
+  pub rest : List ℕ
+  pub first : List ℕ
+  pub others : List (List ℕ)
+  pub is_head : CutSays bytes (head, rest)
+  pub no_bare : HasNoBareEnd head
+  pub are_lines : LinesSay head first others
+  pub is_start : StartText first m.start
+  pub are_fields : FieldsText others m.fields
+  pub fits : MessageFits m.start m.fields rest
+  pub body_is : m.body ≡ cut_body (content_length m.fields) rest
+
+-- the field with its value unfolded
+abbrev pub unfolded_field : Field → Field
+unfolded_field f = record { name = f.name; value = unfolded f.value }
+
+-- the message with its values unfolded
+abbrev pub message_of : Message → Message
+message_of m = record { start = m.start; fields = map unfolded_field m.fields; body = m.body }
+
+-- the bytes spell the message
+abbrev pub Spells : List ℕ → Message → Type 0
+Spells bytes m = (spelled : Message) × MessageText bytes spelled × (m ≡ message_of spelled)

@@ -1,0 +1,60 @@
+-- The values of the other fields and their pieces, as their readers test them (RFC 3261, sections 7.3.1 and 25.1).
+use Rattle.std.specs.Prelude.{◌≡◌, ◌||◌, ℕ, ◌<◌, ◌^◌, Bool, List, nat_le, ◌-◌, ◌≤◌, ◌&&◌, not, nat_lt, true, length, slice_index, ◌==◌}
+use Rattle.std.specs.Char.{is_ascii_digit, is_ascii_alphanumeric}
+use Rattle.std.specs.Int.{is_in_range}
+use Rattle.std.specs.Str.Parse.{digits_value}
+use Rattle.sip_standard.specs.Text.{One, Exactly, ◌then◌, ◌or◌, Many, OneOrMore}
+use Rattle.sip_standard.specs.Profile.{Token, Blanks, Lws}
+use Rattle.sip_text.specs.inner.Blanks.{is_wsp}
+use Rattle.sip_standard.specs.Field.{is_lws_byte}
+use Rattle.sip_standard.specs.Chars.{is_among}
+use Rattle.sip_text.specs.Bytes.{dquote, backslash}
+
+-- 1*DIGIT
+abbrev pub Digits : List ℕ → Type 0
+Digits = OneOrMore (One is_ascii_digit)
+
+-- CSeq = 1*DIGIT LWS Method, the number below 2**31 (section 8.1.1.5)
+pub record CSeqText (text : List ℕ) (number : ℕ) (method : List ℕ) : Type 0 where
+  pub digits : List ℕ
+  pub are_digits : Digits digits
+  pub number_is : number ≡ digits_value 10 digits
+  pub low : number < 2 ^ 31
+  pub is_method : Token method
+  pub whole : (Exactly digits then Blanks then Exactly method) text
+
+-- a CSeq value with its number and its method as a pair
+abbrev pub CSeqValue : List ℕ → ℕ × List ℕ → Type 0
+CSeqValue text (number, method) = CSeqText text number method
+
+-- a byte of a value that the reader doesn't look into
+abbrev pub is_value_byte : ℕ → Bool
+is_value_byte byte = is_in_range 0x21 0x7E byte || nat_le 0x80 byte
+
+-- header-value = *( TEXT-UTF8char / UTF8-CONT / LWS )
+-- Lenient: any byte from %x80 on stands for UTF8-NONASCII.
+abbrev pub OtherText : List ℕ → Type 0
+OtherText = Many (Lws or One is_value_byte)
+
+-- a byte of a value that is not looked into, or a blank
+abbrev pub is_plain_byte : ℕ → Bool
+is_plain_byte byte = is_value_byte byte || is_wsp byte
+
+-- the bytes from one place up to another are such bytes
+abbrev pub ArePlain : List ℕ → ℕ → ℕ → Type 0
+ArePlain text from to = (k : ℕ) → from ≤ k → k < to → is_plain_byte (slice_index text k) ≡ true
+
+-- the text is not empty, and neither begins nor ends with a byte of a blank run
+abbrev pub is_solid : List ℕ → Bool
+is_solid text =
+    nat_lt 0 (length text) && not (is_lws_byte (slice_index text 0))
+    && not (is_lws_byte (slice_index text (length text - 1)))
+
+-- a byte of a word
+abbrev pub is_word_byte : ℕ → Bool
+is_word_byte byte =
+    is_ascii_alphanumeric byte || is_among "-.!%*_+`'~()<>:/[]?{}" byte || byte == backslash || byte == dquote
+
+-- word
+abbrev pub Word : List ℕ → Type 0
+Word = OneOrMore (One is_word_byte)

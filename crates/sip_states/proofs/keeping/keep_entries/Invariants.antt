@@ -1,0 +1,5 @@
+use Rattle.sip_states.proofs.lists.Kept.{KeepsInPlace}
+use Rattle.sip_states.proofs.keeping.keep_entries.Given as goal
+
+abbrev pub invariant-loop-at : goal.invariant-loop-at
+invariant-loop-at g l = KeepsInPlace l.flags l.initial.map.entries l.map.entries l.count l.at

@@ -1,0 +1,9 @@
+use Rattle.std.proofs.Common.{◌≡◌, true, length, All}
+use Rattle.sip_states.proofs.marks.Marks.all.Given as goal
+
+abbrev pub invariant-loop-index : goal.invariant-loop-index
+invariant-loop-index l =
+    record {
+      long : length l.marks ≡ l.index;
+      all : All (λ is_marked. is_marked ≡ true) l.marks;
+    }

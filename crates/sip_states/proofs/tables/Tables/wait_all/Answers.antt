@@ -1,0 +1,81 @@
+use Rattle.std.proofs.Common.{◌≡◌, ◌≤◌, ◌<◌, ◌∙◌, refl, sym, ap, subst, get_or, length, true, false, arith}
+use Rattle.std.proofs.lemmas.Bool.{false≢true}
+use Rattle.std.proofs.lemmas.Option.{slice_get_within}
+use Rattle.std.proofs.lemmas.Map.Entries.{length-values_of}
+use Rattle.indexmap.specs.IndexMap.{values, index_map_len}
+use Rattle.sip_states.specs.Tables.{most_keys}
+use Rattle.sip_states.specs.inner.Marks.{IsMarked}
+use Rattle.sip_states.proofs.lists.Kept.{all_marked, marked_within}
+use Rattle.sip_states.proofs.due.AdvanceLemmas.{all_advance, always_err, place_among, some_advance}
+use Rattle.sip_states.proofs.tables.Tables.wait_all.Goals as goal
+
+pub advance_each-requires-clause-inside : goal.advance_each-requires-clause-inside
+advance_each-requires-clause-inside g c =
+    λ k d low.
+    let marks = c.in_ok-moved.moved in
+    let index = get_or c.marked.result.now k d in
+    let mark : IsMarked marks index = (c.marked.ensures.members index).0 (place_among c.marked.result.now k d low) in
+    let within = slice_get_within marks index true mark in
+    omega (arith, within, c.in_ok-moved.ensures.long, c.len-2.ensures.len)
+
+-- every set is marked, whether all have waited or some
+pub invariant_of-self : goal.invariant_of-self
+invariant_of-self g c =
+    let marks = c.in_ok-marks.marks in
+    let moved = c.in_ok-moved.moved in
+    let size = c.in_err-advance_each.ensures.size in
+    let marks_long = c.in_ok-marks.ensures.long ∙ c.len.ensures.len ∙ sym size in
+    let moved_long = c.in_ok-moved.ensures.long ∙ c.len-2.ensures.len ∙ sym size in (
+      subst (λ n. n ≤ most_keys) (sym size) c.self.invariant.0,
+      c.self.invariant.1 ∙ sym size,
+      marks_long,
+      λ index set at unmarked. absurd (false≢true (all_marked marks c.in_ok-marks.ensures.marked index false unmarked)),
+      moved_long,
+      record {
+        quiet = λ index set at unmarked. absurd (false≢true (all_marked moved c.in_ok-moved.ensures.marked index false unmarked));
+        within = marked_within marks moved (marks_long ∙ sym moved_long) c.in_ok-moved.ensures.marked;
+      },
+    )
+
+pub invariant_of-self-2 : goal.invariant_of-self-2
+invariant_of-self-2 g c =
+    let marks = c.in_ok-marks.marks in
+    let moved = c.in_ok-moved.moved in
+    let size = c.in_ok-advance_each.ensures.size in
+    let marks_long = c.in_ok-marks.ensures.long ∙ c.len.ensures.len ∙ sym size in
+    let moved_long = c.in_ok-moved.ensures.long ∙ c.len-2.ensures.len ∙ sym size in (
+      subst (λ n. n ≤ most_keys) (sym size) c.self.invariant.0,
+      c.self.invariant.1 ∙ sym size,
+      marks_long,
+      λ index set at unmarked. absurd (false≢true (all_marked marks c.in_ok-marks.ensures.marked index false unmarked)),
+      moved_long,
+      record {
+        quiet = λ index set at unmarked. absurd (false≢true (all_marked moved c.in_ok-moved.ensures.marked index false unmarked));
+        within = marked_within marks moved (marks_long ∙ sym moved_long) c.in_ok-moved.ensures.marked;
+      },
+    )
+
+pub returns-in_err-advance_each-clause-err : goal.returns-in_err-advance_each-clause-err
+returns-in_err-advance_each-clause-err g c =
+    let some = c.in_err-advance_each.ensures.err in
+    always_err c.from_residual-in_err-advance_each.result _ (rw (← c.self.view_is) (record {
+      times = refl;
+      keys = c.in_err-advance_each.ensures.keys;
+      records = refl;
+      long = some.2.long;
+      each = some_advance c.args.moment some.0 (values c.self.inside.sets) (values c.advance_each.new.sets) some.2;
+    }))
+
+pub returns-clause-ok : goal.returns-clause-ok
+returns-clause-ok g c =
+    let up = c.in_ok-advance_each.ensures.ok in
+    let sets = c.self.inside.sets in
+    let marks = c.in_ok-moved.moved in
+    rw (← c.self.view_is) (record {
+      times = refl;
+      keys = c.in_ok-advance_each.ensures.keys;
+      records = refl;
+      long = up.long;
+      each = all_advance c.args.moment c.marked.result.now marks (values sets) (values c.advance_each.new.sets)
+          (c.in_ok-moved.ensures.long ∙ c.len-2.ensures.len ∙ sym (length-values_of sets.entries)) c.in_ok-moved.ensures.marked c.marked.ensures.members up;
+    })

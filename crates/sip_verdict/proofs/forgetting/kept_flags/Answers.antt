@@ -1,0 +1,20 @@
+use Rattle.std.proofs.Common.{◌≡◌, ◌+◌, ◌-◌, ◌∙◌, ◌∷◌, [], Some, length, length-append, slice_get, sym, ap, subst, arith}
+use Rattle.std.specs.Prelude.{not}
+use Rattle.sip_verdict.specs.inner.Forgetting.{TellsPast}
+use Rattle.sip_verdict.proofs.surveys.forgetting.Forgotten.{flags_more}
+use Rattle.sip_verdict.proofs.forgetting.kept_flags.Goals as goal
+
+pub loop-index-preserved : goal.loop-index-preserved
+loop-index-preserved g c =
+    let t = c.args.tables.now in
+    let b = c.args.histories.now in
+    let inv = c.loop-index.invariant in
+    let flags = c.loop-index.flags.items in
+    let past = c.is_past.result in
+    let pushed = c.in_ok-push.ensures.items in
+    let place : length flags ≡ c.loop-index.index + 1 - 1 = omega (arith, inv.long) in
+    record {
+      long = ap length pushed ∙ length-append flags (not past ∷ []) ∙ ap (λ n. n + 1) inv.long;
+      each = subst (TellsPast c.args.until t b) (sym pushed) (flags_more c.args.until t b flags past (λ set h at of.
+          c.is_past.ensures set h (subst (λ k. slice_get t.sets k ≡ Some set) place at) (subst (λ k. slice_get b.each.items k ≡ Some h) place of)) inv.each);
+    }

@@ -1,0 +1,5 @@
+use Rattle.sip_verdict.proofs.surveys.forgetting.Onward.{later_kept}
+use Rattle.sip_verdict.proofs.forgetting_laws.what_is_kept_is_found_at_the_same_entries.Goals as goal
+
+pub returns : goal.returns
+returns c p kept key old items es others is seen saw = later_kept key p kept is old items es others seen saw

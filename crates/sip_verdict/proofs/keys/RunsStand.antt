@@ -1,0 +1,48 @@
+-- The runs by the rules of a machine are those in the words of the standard.
+use Rattle.std.proofs.Common.{◌≢◌, ◌<◌, ℕ, List, length, All, AllPairs}
+use Rattle.std.proofs.lemmas.List.Elements.{All-weaker}
+use Rattle.sip_standard.specs.Times.{Times}
+use Rattle.sip_standard.specs.MachineEvent.{MachineEvent}
+use Rattle.sip_standard.specs.KeyMachine.{MachineKind, transaction_of}
+use Rattle.sip_standard.specs.Stands.{Stands, StandsAfter}
+use Rattle.sip_states.specs.KeySets.{PhaseOf, key_rules}
+use Rattle.sip_states.proofs.keyed.KeySetLaws.{coded_holds}
+use Rattle.sip_states.specs.Runs.{AfterRun, IsWide}
+use Rattle.sip_states.proofs.runs.StandsLemmas.{stands-runs, stands-after}
+use Rattle.sip_verdict.specs.inner.Stepping.{RunsUntil}
+
+-- a run of the machine over the events stands at the moment
+abbrev pub StandsUntil : Times → MachineKind → List MachineEvent → ℕ → Type 0
+StandsUntil p machine events moment = (y : PhaseOf machine) × Stands (transaction_of machine).figure p events moment y
+
+-- more than 1,024 states of the machine of which P holds
+abbrev pub AreTooMany : (machine : MachineKind) → (PhaseOf machine → Type 0) → Type 0
+AreTooMany machine P = (many : List (PhaseOf machine)) × AllPairs (λ x y. x ≢ y) many × (1024 < length many) × All P many
+
+module _ (p : Times) (machine : MachineKind) (events : List MachineEvent) where
+  -- where the machine has a run by its rules, it stands somewhere in the words of the standard
+  pub run-stands : (moment : ℕ) → RunsUntil (key_rules p machine) events moment → StandsUntil p machine events moment
+  run-stands moment (y, run) = (y, (stands-runs (transaction_of machine).figure (coded_holds machine).is_figure p events moment y).1 run)
+
+  pub stands-run : (moment : ℕ) → StandsUntil p machine events moment → RunsUntil (key_rules p machine) events moment
+  stands-run moment (y, stands) = (y, (stands-runs (transaction_of machine).figure (coded_holds machine).is_figure p events moment y).0 stands)
+
+  -- the last states of runs are too many
+  module _ (e : MachineEvent) where
+    abbrev Last : PhaseOf machine → Type 0
+    Last y = AfterRun (key_rules p machine) events e y
+
+    abbrev After : PhaseOf machine → Type 0
+    After y = StandsAfter (transaction_of machine).figure p events e y
+
+    pub wide-stands : IsWide Last → AreTooMany machine After
+    wide-stands wide =
+        (wide.many, wide.distinct, wide.wide, All-weaker Last After (λ y last. (stands-after (transaction_of machine).figure (coded_holds machine).is_figure p events e y).1 last) wide.many wide.each)
+
+    pub stands-wide : AreTooMany machine After → IsWide Last
+    stands-wide (many, distinct, wide, each) = record {
+      many = many;
+      distinct = distinct;
+      wide = wide;
+      each = All-weaker After Last (λ y after. (stands-after (transaction_of machine).figure (coded_holds machine).is_figure p events e y).0 after) many each;
+    }

@@ -1,0 +1,12 @@
+use Rattle.std.proofs.Common.{inl, inr}
+use Rattle.sip_verdict.proofs.sweeps.NewestLemmas.{all_unnamed}
+use Rattle.sip_verdict.proofs.standing.Standing.forget.Goals as goal
+
+pub returns-then-not-may_name-clause-book : goal.returns-then-not-may_name-clause-book
+returns-then-not-may_name-clause-book g c =
+    let t = c.args.self.now.tables in
+    let unnamed = c.may_name.ensures c.if-not-may_name.true in
+    elim c.forget_newest.ensures [
+      | inl same ↦ inl same
+      | inr gone ↦ inr (gone.0, gone.1, all_unnamed c.args.number c.args.concerned t unnamed.0 c.requires.others unnamed.1)
+    ]

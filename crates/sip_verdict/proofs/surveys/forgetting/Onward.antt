@@ -1,0 +1,369 @@
+-- The same entries, as they are observed where nothing was forgotten and where transactions were. A restart concerns others then, and all the same is found of a
+-- transaction that was kept, and of one that was idle again.
+use Rattle.std.proofs.Common.{◌≡◌, ◌≢◌, ◌≤◌, ◌<◌, ◌↔◌, ◌⊎◌, inl, inr, ℕ, Bool, true, false, cond, List, [], ◌∷◌, ◌++◌, ◌||◌, All, AllPairs, length, map, get_or, append_assoc, append-nil, refl, sym, ap, ap₂, ◌∙◌, subst, arith, zero-le}
+use Rattle.std.specs.Prelude.{filter, fold, flat_map}
+use Rattle.std.specs.List.{list_any, AllZip}
+use Rattle.std.proofs.lemmas.Bool.{false≢true}
+use Rattle.std.proofs.lemmas.Grind.{flat_map-append}
+use Rattle.std.proofs.lemmas.List.{get_or-map, length-map, map-append}
+use Rattle.std.proofs.lemmas.List.Elements.{All-nil, All-cons}
+use Rattle.std.proofs.lemmas.List.Folds.{list_any-append}
+use Rattle.sip_standard.specs.Key.{KeyParts, same_key}
+use Rattle.sip_key.specs.inner.KeyLaws.{same_key-decides}
+use Rattle.sip_standard.specs.Times.{Times}
+use Rattle.sip_standard.specs.declared.action.Action.{Action}
+use Rattle.sip_standard.specs.declared.action.Action.TheVariants.{Sent, Received, Failed, Mark, Restart}
+use Rattle.sip_standard.specs.declared.role.Direction.TheVariants as way
+use Rattle.sip_standard.specs.Figure.{Owing, quiet}
+use Rattle.sip_standard.specs.Stands.{Stands, begins, waits, takes}
+use Rattle.sip_standard.specs.KeyMachine.{MachineKind, machine_of_key, transaction_of}
+use Rattle.sip_standard.specs.LogEntry.{Item}
+use Rattle.sip_standard.specs.Observation.{Observation}
+use Rattle.sip_standard.specs.Seen.{AreSeen}
+use Rattle.sip_standard.specs.VerdictOf.{keys_in, events_for, IsWideAt}
+use Rattle.sip_verdict.specs.Forgetting.{HasSameTroubleAfter, remembered}
+use Rattle.sip_verdict.specs.Entries.{newest_moment}
+use Rattle.sip_verdict.specs.inner.Keyed.{with_key}
+use Rattle.sip_verdict.specs.SurveyLaws.{IsCutOf, IsIdleAgain}
+use Rattle.sip_verdict.specs.SurveyOf.{IsSound, Breaks, Widens}
+use Rattle.sip_verdict.specs.inner.Surveying.{IsOrdered}
+use Rattle.sip_verdict.proofs.keys.FewerEntries.{newest-before}
+use Rattle.sip_verdict.proofs.keys.Keys.{newest_moment-push, keys_in-push, events_for-concerned}
+use Rattle.sip_verdict.proofs.verdicts.MessageUnique.{message_one}
+use Rattle.sip_verdict.proofs.verdicts.Unique.{All-middle}
+use Rattle.sip_verdict.proofs.surveys.parts.CutLogs.{SeenAs, seen_moment}
+use Rattle.sip_verdict.proofs.surveys.parts.Cutting.{filter_keys, keys_cut, trouble_cut}
+use Rattle.sip_verdict.proofs.surveys.forgetting.Forgetting.{found_new, stands_new}
+use Rattle.sip_verdict.proofs.surveys.forgetting.Lasting.{idle_lasts, idle_stays}
+use Rattle.sip_verdict.proofs.surveys.found.Once.{ordered_front}
+use Rattle.sip_verdict.proofs.surveys.forgetting.Remembered.{idle_forgotten, order_kept, restart_stands, sound_forgotten, stands_idle, zip_left, zip_remembered}
+use Rattle.sip_verdict.proofs.surveys.found.Sound.{sound_push}
+
+abbrev pub Entries : Type 0
+Entries = List (Observation KeyParts)
+
+-- no entry is among none
+no_entry : {A : Type 0} (front : List A) (e : A) (rest : List A) → [] ≡ front ++ e ∷ rest → ⊥
+no_entry [] e rest is = cc
+no_entry (x ∷ front) e rest is = cc
+
+-- the moments of entries are those of what was read
+seen_moments : (done : Entries) (items : List Item) (es : Entries) → AreSeen done items es → map (λ e. e.event.moment) es ≡ map (λ i. i.moment) items
+seen_moments done [] [] seen = refl
+seen_moments done [] (e ∷ es) seen = absurd seen
+seen_moments done (item ∷ items) [] seen = absurd seen
+seen_moments done (item ∷ items) (e ∷ es) (sees, seen) = ap₂ (λ m ms. m ∷ ms) (seen_moment done item e item.action sees) (seen_moments (done ++ e ∷ []) items es seen)
+
+remembered_moments : (kept : KeyParts → Bool) (es : Entries) → map (λ e. e.event.moment) (remembered kept es) ≡ map (λ e. e.event.moment) es
+remembered_moments kept [] = refl
+remembered_moments kept (e ∷ es) = ap (λ ms. e.event.moment ∷ ms) (remembered_moments kept es)
+
+-- entries of the same moments are in the same order
+order_by : (xs ys : Entries) → map (λ e. e.event.moment) xs ≡ map (λ e. e.event.moment) ys → IsOrdered xs → IsOrdered ys
+order_by xs ys same order i j d low high =
+    let m : Observation KeyParts → ℕ = λ e. e.event.moment in
+    let long : length xs ≡ length ys = sym (length-map xs m) ∙ ap length same ∙ length-map ys m in
+    let at : (k : ℕ) → k < length ys → (get_or xs k d).event.moment ≡ (get_or ys k d).event.moment =
+    λ k inside. sym (get_or-map m xs k d 0 (omega (arith, inside, long))) ∙ ap (λ ms. get_or ms k 0) same ∙ get_or-map m ys k d 0 inside in
+    let first = at i (omega (arith, low, high)) in
+    let second = at j high in
+    let was = order i j d low (omega (arith, high, long)) in
+    omega (arith, first, second, was)
+
+module _ (key : KeyParts) where
+  -- the keys that are this one
+  abbrev own : List KeyParts → List KeyParts
+  own keys = filter (same_key key) keys
+
+  same_back : (k : KeyParts) → same_key key k ≡ true → k ≡ key
+  same_back k e = sym ((same_key-decides key k).0 e)
+
+  -- among the keys of entries it is once, if it is there
+  stays_one : (keys : List KeyParts) → fold with_key (key ∷ []) (own keys) ≡ key ∷ []
+  stays_one [] = refl
+  stays_one (k ∷ keys) = go (same_key key k) refl (stays_one keys)
+    where
+      known : same_key key k ≡ true → with_key (key ∷ []) k ≡ key ∷ []
+      known e = ap (λ b. cond (b || false) (key ∷ []) (key ∷ k ∷ [])) ((same_key-decides k key).1 (same_back k e))
+
+      go : (b : Bool) → same_key key k ≡ b → fold with_key (key ∷ []) (own keys) ≡ key ∷ [] → fold with_key (key ∷ []) (cond (same_key key k) (k ∷ own keys) (own keys)) ≡ key ∷ []
+      go false e rest = ap (λ b. fold with_key (key ∷ []) (cond b (k ∷ own keys) (own keys))) e ∙ rest
+      go true e rest =
+          ap (λ b. fold with_key (key ∷ []) (cond b (k ∷ own keys) (own keys))) e ∙ ap (λ start. fold with_key start (own keys)) (known e) ∙ rest
+
+  becomes_one : (keys : List KeyParts) → list_any (same_key key) keys ≡ true → fold with_key [] (own keys) ≡ key ∷ []
+  becomes_one [] some = absurd (false≢true some)
+  becomes_one (k ∷ keys) some = go (same_key key k) refl some (becomes_one keys)
+    where
+      go : (b : Bool) → same_key key k ≡ b → (same_key key k || list_any (same_key key) keys) ≡ true → (list_any (same_key key) keys ≡ true → fold with_key [] (own keys) ≡ key ∷ [])
+          → fold with_key [] (cond (same_key key k) (k ∷ own keys) (own keys)) ≡ key ∷ []
+      go false e any rest =
+          ap (λ b. fold with_key [] (cond b (k ∷ own keys) (own keys))) e ∙ rest (sym (ap (λ b. b || list_any (same_key key) keys) e) ∙ any)
+      go true e any rest =
+          ap (λ b. fold with_key [] (cond b (k ∷ own keys) (own keys))) e ∙ ap (λ z. fold with_key (z ∷ []) (own keys)) (same_back k e) ∙ stays_one keys
+
+  or_last : (a b : Bool) → b ≡ true → (a || b) ≡ true
+  or_last true b e = refl
+  or_last false b e = e
+
+  -- an entry that concerns it leaves it there once
+  own_with : (es : Entries) (e : Observation KeyParts) → list_any (same_key key) e.keys ≡ true → own (keys_in (es ++ e ∷ [])) ≡ key ∷ []
+  own_with es e some =
+      let all = flat_map (λ f. f.keys) es in
+      let whole : flat_map (λ f. f.keys) (es ++ e ∷ []) ≡ all ++ e.keys = flat_map-append (λ f. f.keys) es (e ∷ []) ∙ ap (λ keys. all ++ keys) (append-nil e.keys) in
+      let any : list_any (same_key key) (all ++ e.keys) ≡ true = list_any-append (same_key key) all e.keys ∙ or_last (list_any (same_key key) all) (list_any (same_key key) e.keys) some in
+      ap (λ keys. own (fold with_key [] keys)) whole ∙ sym (filter_keys (same_key key) [] (all ++ e.keys)) ∙ becomes_one (all ++ e.keys) any
+
+  -- what of an entry concerns it
+  abbrev cut_of : Observation KeyParts → Observation KeyParts
+  cut_of e = record { fault = e.fault; event = e.event; keys = own e.keys }
+
+  cut_self : (e : Observation KeyParts) → IsCutOf (same_key key) e (cut_of e)
+  cut_self e = (refl, refl, λ some. refl)
+
+  module _ (p : Times) where
+    -- one entry more
+    own_push : (done left : Entries) (e f : Observation KeyParts) → own (keys_in done) ≡ own (keys_in left) → own e.keys ≡ own f.keys → own (keys_in (done ++ e ∷ [])) ≡ own (keys_in (left ++ f ∷ []))
+    own_push done left e f same here =
+        ap own (keys_in-push done e) ∙ sym (filter_keys (same_key key) (keys_in done) e.keys)
+        ∙ ap₂ (λ start keys. fold with_key start keys) same here
+        ∙ filter_keys (same_key key) (keys_in left) f.keys ∙ sym (ap own (keys_in-push left f))
+
+    -- an entry as it is seen after others concerns it alike, if those do
+    alike : (done left : Entries) → own (keys_in done) ≡ own (keys_in left) → (item : Item) (e f : Observation KeyParts) (a : Action) → SeenAs done item e a → SeenAs left item f a → IsCutOf (same_key key) f (cut_of e)
+    alike done left same item e f Sent sees saw = subst (λ g. IsCutOf (same_key key) g (cut_of e)) (message_one way.Sent item e f sees saw) (cut_self e)
+    alike done left same item e f Received sees saw = subst (λ g. IsCutOf (same_key key) g (cut_of e)) (message_one way.Received item e f sees saw) (cut_self e)
+    alike done left same item e f Failed sees saw = subst (λ g. IsCutOf (same_key key) g (cut_of e)) (message_one way.Sent item e f sees saw) (cut_self e)
+    alike done left same item e f Mark sees saw = subst (λ g. IsCutOf (same_key key) g (cut_of e)) (sees ∙ sym saw) (cut_self e)
+    alike done left same item e f Restart sees saw = (
+      ap (λ g. g.event.moment) sees ∙ sym (ap (λ g. g.event.moment) saw),
+      ap (λ g. own g.keys) sees ∙ same ∙ sym (ap (λ g. own g.keys) saw),
+      λ some. ap (λ g. g.event) sees ∙ sym (ap (λ g. g.event) saw),
+    )
+
+    -- the entries of both logs are cut alike
+    abbrev AreAlike : Entries → Entries → Type 0
+    AreAlike es fs = (cs : Entries) × AllZip (IsCutOf (same_key key)) es cs × AllZip (IsCutOf (same_key key)) fs cs
+
+    all_alike : (done left : Entries) → own (keys_in done) ≡ own (keys_in left) → (items : List Item) (es fs : Entries) → AreSeen done items es → AreSeen left items fs → AreAlike es fs
+    all_alike done left same [] [] [] seen saw = ([], tt, tt)
+    all_alike done left same [] [] (f ∷ fs) seen saw = absurd saw
+    all_alike done left same [] (e ∷ es) fs seen saw = absurd seen
+    all_alike done left same (item ∷ items) [] fs seen saw = absurd seen
+    all_alike done left same (item ∷ items) (e ∷ es) [] seen saw = absurd saw
+    all_alike done left same (item ∷ items) (e ∷ es) (f ∷ fs) (sees, seen) (saw, seen_left) =
+        let here = alike done left same item e f item.action sees saw in
+        let more = all_alike (done ++ e ∷ []) (left ++ f ∷ []) (own_push done left e f same here.1) items es fs seen seen_left in
+        (cut_of e ∷ more.0, (cut_self e, more.1), (here, more.2))
+
+    -- splits of both at the same place
+    pub record SplitAlike (front back : Entries) (e f : Observation KeyParts) : Type 0 where
+      pub mid : Entries
+      pub cut : Observation KeyParts
+      pub fronts : AllZip (IsCutOf (same_key key)) front mid
+      pub backs : AllZip (IsCutOf (same_key key)) back mid
+      pub first : IsCutOf (same_key key) e cut
+      pub second : IsCutOf (same_key key) f cut
+
+    split_alike : (front back cs : Entries) (e f : Observation KeyParts) (rest more : Entries) → AllZip (IsCutOf (same_key key)) (front ++ e ∷ rest) cs → AllZip (IsCutOf (same_key key)) (back ++ f ∷ more) cs
+        → length front ≡ length back → SplitAlike front back e f
+    split_alike [] [] [] e f rest more one other long = absurd one
+    split_alike [] [] (c ∷ cs) e f rest more one other long = record { mid = []; cut = c; fronts = tt; backs = tt; first = one.0; second = other.0 }
+    split_alike [] (y ∷ back) cs e f rest more one other long = absurd (omega (arith, long))
+    split_alike (x ∷ front) [] cs e f rest more one other long = absurd (omega (arith, long))
+    split_alike (x ∷ front) (y ∷ back) [] e f rest more one other long = absurd one
+    split_alike (x ∷ front) (y ∷ back) (c ∷ cs) e f rest more one other long =
+        let s = split_alike front back cs e f rest more one.1 other.1 (omega (arith, long)) in
+        record { mid = c ∷ s.mid; cut = s.cut; fronts = (one.0, s.fronts); backs = (other.0, s.backs); first = s.first; second = s.second }
+
+    zip_join : (xs ys us vs : Entries) → AllZip (IsCutOf (same_key key)) xs ys → AllZip (IsCutOf (same_key key)) us vs → AllZip (IsCutOf (same_key key)) (xs ++ us) (ys ++ vs)
+    zip_join [] [] us vs zip more = more
+    zip_join [] (y ∷ ys) us vs zip more = absurd zip
+    zip_join (x ∷ xs) [] us vs zip more = absurd zip
+    zip_join (x ∷ xs) (y ∷ ys) us vs zip more = (zip.0, zip_join xs ys us vs zip.1 more)
+
+    here_same : same_key key key ≡ true
+    here_same = (same_key-decides key key).1 refl
+
+    -- the same is found of the transaction at two entries, each after others
+    abbrev Alike : Entries → Observation KeyParts → Entries → Observation KeyParts → Type 0
+    Alike front e back f = (Breaks p front e key ↔ Breaks p back f key) × (Widens p front e key ↔ Widens p back f key)
+
+    through : (front mid back : Entries) (e c f : Observation KeyParts) → Alike front e mid c → Alike back f mid c → Alike front e back f
+    through front mid back e c f a b = ((λ h. b.0.1 (a.0.0 h), λ h. a.0.1 (b.0.0 h)), (λ h. b.1.1 (a.1.0 h), λ h. a.1.1 (b.1.0 h)))
+
+    -- the same is found of it where both are cut to the same entries
+    alike_by : (front mid back : Entries) (e c f : Observation KeyParts) → AllZip (IsCutOf (same_key key)) front mid → AllZip (IsCutOf (same_key key)) back mid → IsCutOf (same_key key) e c → IsCutOf (same_key key) f c
+        → Alike front e back f
+    alike_by front mid back e c f fronts backs first second =
+        through front mid back e c f (trouble_cut (same_key key) key here_same p front mid e c fronts first) (trouble_cut (same_key key) key here_same p back mid f c backs second)
+
+    -- A transaction that is kept.
+
+    pub later_kept : (kept : KeyParts → Bool) → kept key ≡ true → (old : Entries) (items : List Item) (es fs : Entries) → AreSeen old items es → AreSeen (remembered kept old) items fs
+        → HasSameTroubleAfter p old (remembered kept old) es fs key
+    later_kept kept is old items es fs seen saw front back e f rest more split other long =
+        let only = remembered (same_key key) old in
+        let whole = zip_remembered (same_key key) old in
+        let left = zip_left kept key is old in
+        let same : own (keys_in old) ≡ own (keys_in (remembered kept old)) = sym (keys_cut (same_key key) old only whole) ∙ keys_cut (same_key key) (remembered kept old) only left in
+        let (cs, ones, others) = all_alike old (remembered kept old) same items es fs seen saw in
+        let s = split_alike front back cs e f rest more (subst (λ xs. AllZip (IsCutOf (same_key key)) xs cs) split ones) (subst (λ xs. AllZip (IsCutOf (same_key key)) xs cs) other others) long in
+        alike_by (old ++ front) (only ++ s.mid) (remembered kept old ++ back) e s.cut f (zip_join old only front s.mid whole s.fronts) (zip_join (remembered kept old) only back s.mid left s.backs) s.first s.second
+
+    -- A transaction that is idle again.
+
+    abbrev kind : MachineKind
+    kind = machine_of_key p.rules key
+
+    -- the transaction is idle after the entries, and in no trouble
+    pub record Rests (es : Entries) : Type 0 where
+      pub again : IsIdleAgain kind p (events_for key es) (newest_moment es)
+      pub sound : IsSound p es key
+
+    -- the entry does not concern it, or is a restart
+    abbrev Passes : Observation KeyParts → Type 0
+    Passes e = (list_any (same_key key) e.keys ≡ false) ⊎ (e.event.action ≡ Restart)
+
+    -- the events of one such entry are restarts
+    all_restarts : (e : Observation KeyParts) → Passes e → All (λ d. d.action ≡ Restart) (events_for key (e ∷ []))
+    all_restarts e passes = go (list_any (same_key key) e.keys) refl passes
+      where
+        go : (b : Bool) → list_any (same_key key) e.keys ≡ b → Passes e → All (λ d. d.action ≡ Restart) (map (λ f. f.event) (cond (list_any (same_key key) e.keys) (e ∷ []) []))
+        go false none any = subst (λ b. All (λ d. d.action ≡ Restart) (map (λ f. f.event) (cond b (e ∷ []) []))) (sym none) (All-nil (λ d. d.action ≡ Restart))
+        go true some (inl none) = absurd (false≢true (sym none ∙ some))
+        go true some (inr is) = subst (λ b. All (λ d. d.action ≡ Restart) (map (λ f. f.event) (cond b (e ∷ []) []))) (sym some) (All-cons (λ d. d.action ≡ Restart) e.event [] is (All-nil (λ d. d.action ≡ Restart)))
+
+    -- over it alone the transaction is idle
+    idle_here : (e : Observation KeyParts) → Passes e → Stands (transaction_of kind).figure p (events_for key (e ∷ [])) e.event.moment (quiet (transaction_of kind).figure.idle)
+    idle_here e passes = go (list_any (same_key key) e.keys) refl passes
+      where
+        go : (b : Bool) → list_any (same_key key) e.keys ≡ b → Passes e → Stands (transaction_of kind).figure p (map (λ g. g.event) (cond (list_any (same_key key) e.keys) (e ∷ []) [])) e.event.moment (quiet (transaction_of kind).figure.idle)
+        go false none any =
+            subst (λ b. Stands (transaction_of kind).figure p (map (λ g. g.event) (cond b (e ∷ []) [])) e.event.moment (quiet (transaction_of kind).figure.idle)) (sym none)
+            (waits [] 0 e.event.moment (quiet (transaction_of kind).figure.idle) begins zero-le (idle_lasts kind p e.event.moment))
+        go true some (inl none) = absurd (false≢true (sym none ∙ some))
+        go true some (inr is) =
+            subst (λ b. Stands (transaction_of kind).figure p (map (λ g. g.event) (cond b (e ∷ []) [])) e.event.moment (quiet (transaction_of kind).figure.idle)) (sym some)
+            (restart_stands (transaction_of kind).figure p (idle_lasts kind p) e.event is)
+
+    -- the moment of one entry more is not before the others
+    late_push : (es : Entries) (e : Observation KeyParts) → IsOrdered (es ++ e ∷ []) → newest_moment es ≤ e.event.moment
+    late_push es e order = All-middle (λ g. newest_moment es ≤ g.event.moment) [] [] e (newest-before 0 es (e ∷ []) (λ i d within. zero-le) order)
+
+    -- more than one state are not all the same one
+    not_many : {X : Type 0} (q : X) (many : List X) → AllPairs (λ x y. x ≢ y) many → 1024 < length many → All (λ x. x ≡ q) many → ⊥
+    not_many q many distinct long all = distinct 0 1 q (omega arith) (omega (arith, long)) (all 0 q (omega (arith, long)) ∙ sym (all 1 q (omega (arith, long))))
+
+    rests_on : (es : Entries) (e : Observation KeyParts) → IsOrdered (es ++ e ∷ []) → Rests es → Passes e → Rests (es ++ e ∷ [])
+    rests_on es e order r passes =
+        let f = (transaction_of kind).figure in
+        let now = newest_moment-push es e in
+        let both = stands_new p key es r.again (e ∷ []) order e.event.moment (late_push es e order) in
+        let idle = quiet f.idle in
+        let stands : Stands f p (events_for key (es ++ e ∷ [])) e.event.moment idle = (both idle).1 (idle_here e passes) in
+        let only : (x : Owing (transaction_of kind).Phase) → Stands f p (events_for key (es ++ e ∷ [])) e.event.moment x → x ≡ idle =
+        λ x there. stands_idle f p (idle_stays kind p) (events_for key (e ∷ [])) e.event.moment x ((both x).0 there) (all_restarts e passes) in
+        record {
+          again = subst (IsIdleAgain kind p (events_for key (es ++ e ∷ []))) (sym now) (stands, only);
+          sound = sound_push p es e key r.sound (idle, subst (λ m. Stands f p (events_for key (es ++ e ∷ [])) m idle) (sym now) stands) (λ wide. narrow only wide);
+        }
+      where
+        narrow : ((x : Owing (transaction_of kind).Phase) → Stands (transaction_of kind).figure p (events_for key (es ++ e ∷ [])) e.event.moment x → x ≡ quiet (transaction_of kind).figure.idle) → ¬ (IsWideAt p es e key)
+        narrow only (concerned, (many, distinct, long, all)) =
+            let f = (transaction_of kind).figure in
+            not_many (quiet f.idle) many distinct long (λ k d within.
+            let (x, before, does) = all k d within in
+            only (get_or many k d) (subst (λ events. Stands f p events e.event.moment (get_or many k d)) (sym (events_for-concerned key es e concerned)) (takes (events_for key es) e.event x (get_or many k d) before does)))
+
+    -- at such an entry nothing is found of it
+    nothing_found : (es : Entries) (e : Observation KeyParts) → Rests (es ++ e ∷ []) → ¬ (Breaks p es e key) × ¬ (Widens p es e key)
+    nothing_found es e r = (λ breaks. breaks.1 r.sound.0, λ widens. r.sound.1 es e [] refl widens.1)
+
+    -- an entry that comes: it is seen alike and concerns the transaction, or passes it by
+    abbrev Comes : Observation KeyParts → Observation KeyParts → Type 0
+    Comes e f = ((e ≡ f) × (list_any (same_key key) e.keys ≡ true)) ⊎ (Passes e × Passes f)
+
+    message : (e f : Observation KeyParts) → e ≡ f → (b : Bool) → list_any (same_key key) e.keys ≡ b → Comes e f
+    message e f same true some = inl (same, some)
+    message e f same false none = inr (inl none, inl (ap (λ g. list_any (same_key key) g.keys) (sym same) ∙ none))
+
+    comes : (done left : Entries) (item : Item) (e f : Observation KeyParts) (a : Action) → SeenAs done item e a → SeenAs left item f a → Comes e f
+    comes done left item e f Sent sees saw = message e f (message_one way.Sent item e f sees saw) (list_any (same_key key) e.keys) refl
+    comes done left item e f Received sees saw = message e f (message_one way.Received item e f sees saw) (list_any (same_key key) e.keys) refl
+    comes done left item e f Failed sees saw = message e f (message_one way.Sent item e f sees saw) (list_any (same_key key) e.keys) refl
+    comes done left item e f Mark sees saw = inr (inl (ap (λ g. list_any (same_key key) g.keys) sees), inl (ap (λ g. list_any (same_key key) g.keys) saw))
+    comes done left item e f Restart sees saw = inr (inr (ap (λ g. g.event.action) sees), inr (ap (λ g. g.event.action) saw))
+
+    -- the front of entries in order, with one of them
+    ordered_to : (old front : Entries) (e : Observation KeyParts) (rest : Entries) → IsOrdered (old ++ (front ++ e ∷ rest)) → IsOrdered (old ++ (front ++ e ∷ []))
+    ordered_to old front e rest order =
+        ordered_front (λ a b. a.event.moment ≤ b.event.moment) (old ++ (front ++ e ∷ [])) rest
+        (subst IsOrdered (sym (append_assoc old (front ++ e ∷ []) rest ∙ ap (λ xs. old ++ xs) (append_assoc front (e ∷ []) rest))) order)
+
+    -- once an entry has come that concerns it, both are as a new one
+    found_both : (old left : Entries) (g : Observation KeyParts) (es fs : Entries) → list_any (same_key key) g.keys ≡ true → IsOrdered (old ++ g ∷ es) → IsOrdered (left ++ g ∷ fs) → Rests old → Rests left
+        → AreAlike es fs → HasSameTroubleAfter p old left (g ∷ es) (g ∷ fs) key
+    found_both old left g es fs some order order_left r r_left (cs, ones, others) front back e f rest more split other long =
+        let s = split_alike front back (cut_of g ∷ cs) e f rest more (subst (λ xs. AllZip (IsCutOf (same_key key)) xs (cut_of g ∷ cs)) split (cut_self g, ones)) (subst (λ xs. AllZip (IsCutOf (same_key key)) xs (cut_of g ∷ cs)) other (cut_self g, others)) long in
+        let new = found_new p key old r.again r.sound front e (ordered_to old front e rest (subst (λ xs. IsOrdered (old ++ xs)) split order)) in
+        let new_left = found_new p key left r_left.again r_left.sound back f (ordered_to left back f more (subst (λ xs. IsOrdered (left ++ xs)) other order_left)) in
+        let same = alike_by front s.mid back e s.cut f s.fronts s.backs s.first s.second in
+        through (old ++ front) front (left ++ back) e e f new (through (left ++ back) back front f f e new_left same)
+
+    later_rests : (old left : Entries) (items : List Item) (es fs : Entries) → IsOrdered (old ++ es) → IsOrdered (left ++ fs) → Rests old → Rests left → AreSeen old items es → AreSeen left items fs → HasSameTroubleAfter p old left es fs key
+    later_rests old left [] [] fs order order_left r r_left seen saw front back e f rest more split other long = absurd (no_entry front e rest split)
+    later_rests old left [] (g ∷ es) fs order order_left r r_left seen saw front back e f rest more split other long = absurd seen
+    later_rests old left (item ∷ items) [] fs order order_left r r_left seen saw front back e f rest more split other long = absurd seen
+    later_rests old left (item ∷ items) (g ∷ es) [] order order_left r r_left seen saw front back e f rest more split other long = absurd saw
+    later_rests old left (item ∷ items) (g ∷ es) (h ∷ fs) order order_left r r_left (sees, seen) (saw, seen_left) front back e f rest more split other long =
+        by (comes old left item g h item.action sees saw) (λ now now_left.
+        later_rests (old ++ g ∷ []) (left ++ h ∷ []) items es fs (subst IsOrdered (sym (append_assoc old (g ∷ []) es)) order) (subst IsOrdered (sym (append_assoc left (h ∷ []) fs)) order_left) now now_left seen seen_left)
+      where
+        first : IsOrdered (old ++ g ∷ [])
+        first = ordered_to old [] g es order
+
+        first_left : IsOrdered (left ++ h ∷ [])
+        first_left = ordered_to left [] h fs order_left
+
+        at : Rests (old ++ g ∷ []) → Rests (left ++ h ∷ []) → HasSameTroubleAfter p (old ++ g ∷ []) (left ++ h ∷ []) es fs key
+            → (front back : Entries) (e f : Observation KeyParts) (rest more : Entries) → g ∷ es ≡ front ++ e ∷ rest → h ∷ fs ≡ back ++ f ∷ more → length front ≡ length back → Alike (old ++ front) e (left ++ back) f
+        at now now_left later [] [] e f rest more split other long =
+            let is : g ≡ e = cc in
+            let is_left : h ≡ f = cc in
+            let none = nothing_found old g now in
+            let none_left = nothing_found left h now_left in
+            subst (λ x. Alike (old ++ []) x (left ++ []) f) is (subst (λ x. Alike (old ++ []) g (left ++ []) x) is_left
+            (subst (λ xs. Alike xs g (left ++ []) h) (sym (append-nil old)) (subst (λ xs. Alike old g xs h) (sym (append-nil left))
+            ((λ b. absurd (none.0 b), λ b. absurd (none_left.0 b)), (λ w. absurd (none.1 w), λ w. absurd (none_left.1 w))))))
+        at now now_left later [] (y ∷ back) e f rest more split other long = absurd (omega (arith, long))
+        at now now_left later (x ∷ front) [] e f rest more split other long = absurd (omega (arith, long))
+        at now now_left later (x ∷ front) (y ∷ back) e f rest more split other long =
+            let is : g ≡ x = cc in
+            let is_left : h ≡ y = cc in
+            let tail : es ≡ front ++ e ∷ rest = cc in
+            let tail_left : fs ≡ back ++ f ∷ more = cc in
+            subst (λ xs. Alike xs e (left ++ y ∷ back) f) (append_assoc old (g ∷ []) front ∙ ap (λ z. old ++ z ∷ front) is)
+            (subst (λ xs. Alike ((old ++ g ∷ []) ++ front) e xs f) (append_assoc left (h ∷ []) back ∙ ap (λ z. left ++ z ∷ back) is_left)
+            (later front back e f rest more tail tail_left (omega (arith, long))))
+
+        by : Comes g h → (Rests (old ++ g ∷ []) → Rests (left ++ h ∷ []) → HasSameTroubleAfter p (old ++ g ∷ []) (left ++ h ∷ []) es fs key) → Alike (old ++ front) e (left ++ back) f
+        by (inl (same, some)) on =
+            let own_same : own (keys_in (old ++ g ∷ [])) ≡ own (keys_in (left ++ h ∷ [])) = own_with old g some ∙ sym (own_with left h (ap (λ x. list_any (same_key key) x.keys) (sym same) ∙ some)) in
+            found_both old left g es fs some order (subst (λ x. IsOrdered (left ++ x ∷ fs)) (sym same) order_left) r r_left (all_alike (old ++ g ∷ []) (left ++ h ∷ []) own_same items es fs seen seen_left)
+            front back e f rest more split (ap (λ x. x ∷ fs) same ∙ other) long
+        by (inr (passes, passes_left)) on =
+            let now = rests_on old g first r passes in
+            let now_left = rests_on left h first_left r_left passes_left in
+            at now now_left (on now now_left) front back e f rest more split other long
+
+    pub later_idle : (kept : KeyParts → Bool) → kept key ≡ false → (old : Entries) (items : List Item) (es fs : Entries) → IsOrdered (old ++ es)
+        → IsIdleAgain (machine_of_key p.rules key) p (events_for key old) (newest_moment old) → IsSound p old key → AreSeen old items es → AreSeen (remembered kept old) items fs
+        → HasSameTroubleAfter p old (remembered kept old) es fs key
+    later_idle kept not old items es fs order again sound seen saw =
+        let m : Observation KeyParts → ℕ = λ e. e.event.moment in
+        let left = remembered kept old in
+        let same : map m (old ++ es) ≡ map m (left ++ fs) =
+        map-append m old es ∙ ap₂ (λ a b. a ++ b) (sym (remembered_moments kept old)) (seen_moments old items es seen ∙ sym (seen_moments left items fs saw)) ∙ sym (map-append m left fs) in
+        later_rests old left items es fs order (order_by (old ++ es) (left ++ fs) same order) (record { again = again; sound = sound })
+        (record { again = idle_forgotten kept key not p old; sound = sound_forgotten kept key not p old }) seen saw

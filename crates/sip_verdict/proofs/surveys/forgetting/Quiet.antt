@@ -1,0 +1,55 @@
+-- A transaction whose set is quiet is idle again, or has ended.
+use Rattle.std.proofs.Common.{◌≡◌, ◌≤◌, ◌↔◌, ◌⊎◌, inl, inr, ℕ, List, [], ◌∷◌, Contains, get_or, map, refl, sym, ap, ◌∙◌, subst, arith}
+use Rattle.sip_standard.specs.Times.{Times}
+use Rattle.sip_standard.specs.MachineEvent.{MachineEvent}
+use Rattle.sip_standard.specs.Figure.{Owing, quiet}
+use Rattle.sip_standard.specs.Stands.{Stands}
+use Rattle.sip_standard.specs.KeyMachine.{MachineKind, transaction_of}
+use Rattle.sip_machine.specs.Texts.{Texts}
+use Rattle.sip_states.specs.Held.{Held}
+use Rattle.sip_states.specs.Runs.{Wait}
+use Rattle.sip_states.specs.KeySets.{PhaseOf, StateOf}
+use Rattle.sip_states.proofs.keyed.KeySetLaws.{coded_holds}
+use Rattle.sip_states.specs.AnySet.{meaning_of, moment_of, IsQuietSet}
+use Rattle.sip_states.specs.declared.any_set.AnySet.{AnySet}
+use Rattle.sip_states.proofs.keyed.ByMachine.{first_of, last_of, first_is_of, last_is_of, moment_is, quiet_in}
+use Rattle.sip_states.proofs.keyed.QuietLemmas.{IsStill, quiet_still, waits_still}
+use Rattle.sip_states.proofs.runs.StandsLemmas.{stands-runs}
+use Rattle.sip_verdict.specs.Forgetting.{HasEnded}
+use Rattle.sip_verdict.specs.SurveyLaws.{IsIdleAgain}
+use Rattle.sip_verdict.specs.inner.TablesTracking.{LeadsOf}
+
+module _ (texts : Texts) (p : Times) (machine : MachineKind) (events : List MachineEvent) (n : ℕ) (set : AnySet) (leads : LeadsOf texts p machine events n set) (low : moment_of set ≤ n) where
+  abbrev held : Held Times (StateOf machine)
+  held = leads.0
+
+  not_later : held.moment ≤ n
+  not_later = subst (λ m. m ≤ n) (ap moment_of leads.1 ∙ moment_is machine held) low
+
+  -- the runs stand in its one state alone
+  module _ (x : StateOf machine) (q : Owing (transaction_of machine).Phase) (one : held.states ≡ x ∷ []) (still : IsStill p machine texts x) (is : (meaning_of machine).seen texts x ≡ q) where
+    waits : (y : PhaseOf machine) → Wait ((meaning_of machine).rules p) (Contains (map ((meaning_of machine).seen texts) held.states)) held.moment n y ↔ (y ≡ q)
+    waits y =
+        subst (λ xs. Wait ((meaning_of machine).rules p) (Contains (map ((meaning_of machine).seen texts) xs)) held.moment n y ↔ (y ≡ q)) (sym one)
+        (subst (λ z. Wait ((meaning_of machine).rules p) (Contains (map ((meaning_of machine).seen texts) (x ∷ []))) held.moment n y ↔ (y ≡ z)) is (waits_still p machine texts x still held.moment n not_later y))
+
+    stands : (y : Owing (transaction_of machine).Phase) → Stands (transaction_of machine).figure p events n y ↔ (y ≡ q)
+    stands y =
+        let runs = leads.2.leads.runs n y (omega arith) not_later in
+        let by = stands-runs (transaction_of machine).figure (coded_holds machine).is_figure p events n y in
+        (λ h. (waits y).0 (runs.1 (by.0 h)), λ same. by.1 (runs.0 ((waits y).1 same)))
+
+  pub quiet_over : IsQuietSet set → IsIdleAgain machine p events n ⊎ HasEnded machine p events n
+  quiet_over quiet_set =
+      let at_rest = quiet_in machine held (subst IsQuietSet leads.1 quiet_set) in
+      let (x, one, still) = quiet_still p machine texts held at_rest in
+      elim at_rest [
+        | inl first ↦
+            let is = ap (λ z. (meaning_of machine).seen texts z) (ap (λ l. get_or l 0 x) (sym one ∙ first)) ∙ first_is_of machine texts p in
+            let at = stands x (quiet (transaction_of machine).figure.idle) one still is in
+            inl ((at (quiet (transaction_of machine).figure.idle)).1 refl, λ y h. (at y).0 h)
+        | inr last ↦
+            let is = ap (λ z. (meaning_of machine).seen texts z) (ap (λ l. get_or l 0 x) (sym one ∙ last)) ∙ last_is_of machine texts p in
+            let at = stands x (quiet (transaction_of machine).figure.ended) one still is in
+            inr ((at (quiet (transaction_of machine).figure.ended)).1 refl, λ y h. (at y).0 h)
+      ]

@@ -1,0 +1,12 @@
+pub mod FirstFinding
+pub mod Found
+pub mod FoundParts
+pub mod HasSurvey
+pub mod Named
+pub mod Numbered
+pub mod Numbers
+pub mod Once
+pub mod OneFinding
+pub mod OneSurvey
+pub mod Ordered
+pub mod Sound

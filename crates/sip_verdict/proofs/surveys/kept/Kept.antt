@@ -1,0 +1,47 @@
+-- How many messages a survey keeps, after an entry and a sweep.
+use Rattle.std.proofs.Common.{◌≡◌, ◌≤◌, ◌+◌, ℕ, Bool, List, [], ◌∷◌, ◌++◌, length, append_assoc, append-nil, refl, sym, ap, ◌∙◌, subst, arith}
+use Rattle.sip_standard.specs.Key.{KeyParts}
+use Rattle.sip_standard.specs.Times.{Times}
+use Rattle.sip_machine.specs.Texts.{Texts}
+use Rattle.sip_standard.specs.KeyMachine.{machine_of_key}
+use Rattle.sip_states.specs.Tables.{Tabled}
+use Rattle.sip_states.proofs.lists.Listed.{Contains-none}
+use Rattle.sip_standard.specs.Observation.{Observation}
+use Rattle.sip_verdict.specs.Named.{AreMany}
+use Rattle.sip_verdict.specs.Surveys.{IsStillNamed, WereStillNamed, AreSurveyed}
+use Rattle.sip_verdict.specs.inner.Surveying.{TablesSurvey}
+use Rattle.sip_verdict.proofs.tables.NamedTables.{no_events_silent}
+
+-- what was named stays what was named
+named_more : (p : Times) (es : List (Observation KeyParts)) (e : Observation KeyParts) (count : ℕ) → WereStillNamed p es count → WereStillNamed p (es ++ e ∷ []) count
+named_more p es e count h = record { front = h.front; rest = h.rest ++ e ∷ []; whole = ap (λ xs. xs ++ e ∷ []) h.whole ∙ append_assoc h.front h.rest (e ∷ []); many = h.many }
+
+-- few enough are kept without a sweep
+pub surveyed_kept : (texts mid : Texts) (t u : Tabled) (deaf now : List Bool) (left : ℕ) (es : List (Observation KeyParts)) (e : Observation KeyParts) → u.times ≡ t.times → AreSurveyed texts t deaf left es
+    → length mid ≤ left + left + 64 → TablesSurvey mid (es ++ e ∷ []) u now → AreSurveyed mid u now left (es ++ e ∷ [])
+surveyed_kept texts mid t u deaf now left es e times h few tracks =
+    record { tracks = tracks; named = subst (λ p. WereStillNamed p (es ++ e ∷ []) left) (sym times) (named_more t.times es e left h.named); few = few }
+
+-- a sweep leaves the messages that transactions in no trouble name
+pub surveyed_swept : (new : Texts) (u v : Tabled) (now : List Bool) (left : ℕ) (es : List (Observation KeyParts)) → v.times ≡ u.times → left ≡ length new
+    → TablesSurvey new es v now × AreMany (IsStillNamed u.times es) (length new) → AreSurveyed new v now left es
+surveyed_swept new u v now left es times is (tracks, many) = record {
+  tracks = tracks;
+  named = record { front = es; rest = []; whole = sym (append-nil es); many = subst (λ p. AreMany (IsStillNamed p es) left) (sym times) (subst (AreMany (IsStillNamed u.times es)) (sym is) many) };
+  few = (let same = is in omega (arith, same));
+}
+
+-- before the first entry none is
+pub surveyed_none : (p : Times) → AreSurveyed [] (record { times = p; keys = []; sets = []; records = [] }) [] 0 []
+surveyed_none p = record {
+  tracks = record { order = λ i j d low high. absurd (omega (arith, high)); keys = refl; each = λ n key set d at. absurd cc };
+  named = record { front = []; rest = []; whole = refl; many = record { texts = []; distinct = λ i j d low high. absurd (omega (arith, high)); just = λ text. (λ h. absurd (Contains-none text h), λ h. absurd (none h)); counts = refl } };
+  few = omega arith;
+}
+  where
+    none : {text : List ℕ} → IsStillNamed p [] text → ⊥
+    none {text} h = no_events_silent p 0 (machine_of_key p.rules h.key) [] text refl (h.state, h.stands, h.names)
+
+pub surveyed_begun : (p : Times) (texts : Texts) (t : Tabled) (deaf : List Bool) → texts ≡ [] → t ≡ record { times = p; keys = []; sets = []; records = [] } → deaf ≡ [] → AreSurveyed texts t deaf 0 []
+surveyed_begun p texts t deaf no_texts no_tables no_deaf =
+    subst (λ x. AreSurveyed x t deaf 0 []) (sym no_texts) (subst (λ x. AreSurveyed [] x deaf 0 []) (sym no_tables) (subst (λ x. AreSurveyed [] (record { times = p; keys = []; sets = []; records = [] }) x 0 []) (sym no_deaf) (surveyed_none p)))

@@ -1,0 +1,93 @@
+-- A log can be cut by branch: all that a message concerns has the branch of its top Via.
+use Rattle.std.proofs.Common.{◌≡◌, inl, inr, ℕ, Bool, true, false, Option, Some, None, MatchOption, List, [], ◌∷◌, ◌++◌, All, if◌then◌else◌, refl, sym, ap, ◌∙◌, subst}
+use Rattle.std.specs.Prelude.{option_map, option_to_list, codes, bytes_eq}
+use Rattle.std.proofs.lemmas.List.Elements.{All-nil, All-cons, All-append, All-weaker}
+use Rattle.sip_standard.specs.Says.{Said}
+use Rattle.sip_standard.specs.declared.role.Role.{Role}
+use Rattle.sip_standard.specs.declared.role.Role.TheVariants.{Client}
+use Rattle.sip_standard.specs.declared.role.Direction.{Direction}
+use Rattle.sip_standard.specs.declared.role.Direction.TheVariants as way
+use Rattle.sip_standard.specs.Key.{KeyParts}
+use Rattle.sip_standard.specs.Branch.{cookie_branch}
+use Rattle.sip_standard.specs.Concerns.{Concerns, role_of, sent_by_of, method_of, is_sent}
+use Rattle.sip_standard.specs.declared.action.Action.{Action}
+use Rattle.sip_standard.specs.declared.action.Action.TheVariants.{Sent, Received, Failed, Mark, Restart}
+use Rattle.sip_standard.specs.LogEntry.{Item}
+use Rattle.sip_standard.specs.Observation.{Observation, direction_of, silent_observation, ObservesMessage, has_fault, has_no_cookie, is_heard}
+use Rattle.sip_standard.specs.Seen.{AreSeen}
+use Rattle.sip_standard.specs.VerdictOf.{keys_in, Sees}
+use Rattle.sip_verdict.specs.SurveyLaws.{StaysOrIsMark, IsCutLog}
+
+-- a key of a branch has that branch
+own_branch : (role : Role) (sent_by method : List ℕ) (branch : Option (List ℕ))
+    → All {X = KeyParts} (λ key. branch ≡ Some key.branch) (option_to_list (option_map (λ text. record { role = role; branch = text; sent_by = sent_by; method = method }) branch))
+own_branch role sent_by method None = All-nil (λ key. None ≡ Some key.branch)
+own_branch role sent_by method (Some text) =
+    All-cons (λ key. Some text ≡ Some key.branch) (record { role = role; branch = text; sent_by = sent_by; method = method }) [] refl (All-nil (λ key. Some text ≡ Some key.branch))
+
+cancelled_branch : (cancels : Bool) (branch : Option (List ℕ))
+    → All {X = KeyParts} (λ key. branch ≡ Some key.branch) (option_to_list (if cancels then option_map (λ text. record { role = Client; branch = text; sent_by = []; method = codes "INVITE" }) branch else None))
+cancelled_branch true branch = own_branch Client [] (codes "INVITE") branch
+cancelled_branch false branch = All-nil (λ key. branch ≡ Some key.branch)
+
+-- all that a message concerns has the branch of its top Via
+pub of_one_branch : (s : Said) (direction : Direction) (keys : List KeyParts) → Concerns s direction keys → All (λ key. cookie_branch s.via.branch ≡ Some key.branch) keys
+of_one_branch s direction keys concerns =
+    let branch = cookie_branch s.via.branch in
+    subst (All {X = KeyParts} (λ key. branch ≡ Some key.branch)) (sym concerns)
+    (All-append (λ key. branch ≡ Some key.branch) _ _ (own_branch (role_of s.start direction) (sent_by_of (role_of s.start direction) s.via) (method_of s.start s.cseq.1) branch)
+    (cancelled_branch (is_sent (λ method. bytes_eq method (codes "CANCEL")) s.start direction) branch))
+
+module _ (chosen : List ℕ → Bool) where
+  -- an item as it is in the log of the chosen branches
+  abbrev Cut : Item → Observation KeyParts → Type 0
+  Cut item e = (cut : Item) × StaysOrIsMark (λ key. chosen key.branch) item e cut
+
+  -- one that concerns nothing stays
+  none_stays : (item : Item) (e : Observation KeyParts) → e.keys ≡ [] → Cut item e
+  none_stays item e none = (item, inl (refl, inr (subst (All (λ key. chosen key.branch ≡ true)) (sym none) (All-nil (λ key. chosen key.branch ≡ true)))))
+
+  -- one that concerns keys of one branch stays, or becomes a mark
+  one_cut : (item : Item) (e : Observation KeyParts) (branch : Option (List ℕ)) → All {X = KeyParts} (λ key. branch ≡ Some key.branch) e.keys → Cut item e
+  one_cut item e None all = (item, inl (refl, inr (All-weaker (λ key. None ≡ Some key.branch) (λ key. chosen key.branch ≡ true) (λ key is. absurd (cc)) e.keys all)))
+  one_cut item e (Some text) all = by (chosen text) refl
+    where
+      same : (key : KeyParts) → Some text ≡ Some key.branch → text ≡ key.branch
+      same key is = cc
+
+      by : (b : Bool) → chosen text ≡ b → Cut item e
+      by true is = (item, inl (refl, inr (All-weaker (λ key. Some text ≡ Some key.branch) (λ key. chosen key.branch ≡ true) (λ key has. ap chosen (sym (same key has)) ∙ is) e.keys all)))
+      by false is = (
+        record { action = Mark; moment = item.moment; text = [] },
+        inr (refl, All-weaker (λ key. Some text ≡ Some key.branch) (λ key. chosen key.branch ≡ false) (λ key has. ap chosen (sym (same key has)) ∙ is) e.keys all),
+      )
+
+  message_cut : (direction : Direction) (item : Item) (e : Observation KeyParts) → ObservesMessage direction item e → Cut item e
+  message_cut direction item e (has_fault fault says is) = none_stays item e (ap (λ f. f.keys) is)
+  message_cut direction item e (has_no_cookie s says lacks is) = none_stays item e (ap (λ f. f.keys) is)
+  message_cut direction item e (is_heard s keys says has concerns is) =
+      one_cut item e (cookie_branch s.via.branch) (subst (All (λ key. cookie_branch s.via.branch ≡ Some key.branch)) (sym (ap (λ f. f.keys) is)) (of_one_branch s direction keys concerns))
+
+  -- what is seen of an item with which this was done
+  abbrev SeenAs : List (Observation KeyParts) → Item → Observation KeyParts → Action → Type 0
+  SeenAs es item e a = MatchOption (direction_of a) (e ≡ silent_observation a item.moment (keys_in es)) (λ direction. ObservesMessage direction item e)
+
+  item_cut : (done : List (Observation KeyParts)) (item : Item) (e : Observation KeyParts) → Sees done item e → Cut item e
+  item_cut done item e sees = by item.action refl sees
+    where
+      by : (a : Action) → item.action ≡ a → SeenAs done item e a → Cut item e
+      by Sent is seen = message_cut way.Sent item e seen
+      by Received is seen = message_cut way.Received item e seen
+      by Failed is seen = message_cut way.Sent item e seen
+      by Mark is seen = none_stays item e (ap (λ f. f.keys) seen)
+      by Restart is seen = (item, inl (refl, inl is))
+
+  -- there is a log of the chosen branches
+  pub branch_cut : (done : List (Observation KeyParts)) (items : List Item) (es : List (Observation KeyParts)) → AreSeen done items es → (cuts : List Item) × IsCutLog (λ key. chosen key.branch) items es cuts
+  branch_cut done [] [] seen = ([], tt)
+  branch_cut done [] (e ∷ es) seen = absurd seen
+  branch_cut done (item ∷ items) [] seen = absurd seen
+  branch_cut done (item ∷ items) (e ∷ es) (sees, seen) =
+      let one = item_cut done item e sees in
+      let rest = branch_cut (done ++ e ∷ []) items es seen in
+      (one.0 ∷ rest.0, (one.1, rest.1))

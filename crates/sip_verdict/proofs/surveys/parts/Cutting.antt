@@ -1,0 +1,213 @@
+-- In the log of some keys each of them has the trouble that it has in the whole log.
+use Rattle.std.proofs.Common.{◌≡◌, ◌≢◌, ◌↔◌, ℕ, Bool, true, false, cond, ◌||◌, List, [], ◌∷◌, ◌++◌, All, length, map, refl, sym, ap, ap₂, ◌∙◌, subst, arith}
+use Rattle.std.specs.Prelude.{filter, fold, flat_map}
+use Rattle.std.specs.List.{list_any, AllZip}
+use Rattle.std.proofs.lemmas.Bool.{false≢true}
+use Rattle.std.proofs.lemmas.List.{append-nil}
+use Rattle.std.proofs.lemmas.List.Elements.{filter-append}
+use Rattle.sip_standard.specs.Key.{KeyParts, same_key}
+use Rattle.sip_key.specs.inner.KeyLaws.{same_key-decides}
+use Rattle.sip_standard.specs.Times.{Times}
+use Rattle.sip_standard.specs.MachineEvent.{MachineEvent}
+use Rattle.sip_standard.specs.Stands.{Stands, StandsAfter}
+use Rattle.sip_standard.specs.KeyMachine.{machine_of_key, transaction_of}
+use Rattle.sip_standard.specs.Observation.{Observation}
+use Rattle.sip_verdict.specs.Entries.{newest_moment}
+use Rattle.sip_verdict.specs.inner.Keyed.{with_key, concerns}
+use Rattle.sip_standard.specs.VerdictOf.{keys_in, events_for, RunsOver, IsWideAt}
+use Rattle.sip_verdict.specs.SurveyOf.{IsSound, Breaks, Widens}
+use Rattle.sip_verdict.specs.SurveyLaws.{IsCutOf, HasSameTrouble}
+
+module _ (chosen : KeyParts → Bool) where
+  -- a chosen key is among keys exactly if it is among the chosen ones of them
+  pub among_chosen : (key : KeyParts) → chosen key ≡ true → (keys : List KeyParts) → list_any (same_key key) (filter chosen keys) ≡ list_any (same_key key) keys
+  among_chosen key is [] = refl
+  among_chosen key is (k ∷ keys) = go (chosen k) refl (same_key key k) refl (among_chosen key is keys)
+    where
+      go : (b : Bool) → chosen k ≡ b → (t : Bool) → same_key key k ≡ t → list_any (same_key key) (filter chosen keys) ≡ list_any (same_key key) keys
+          → list_any (same_key key) (cond (chosen k) (k ∷ filter chosen keys) (filter chosen keys)) ≡ (same_key key k || list_any (same_key key) keys)
+      go true e t same rest = ap (λ b. list_any (same_key key) (cond b (k ∷ filter chosen keys) (filter chosen keys))) e ∙ ap (λ b. same_key key k || b) rest
+      go false e true same rest = absurd (false≢true (sym e ∙ ap chosen (sym ((same_key-decides key k).0 same)) ∙ is))
+      go false e false same rest =
+          ap (λ b. list_any (same_key key) (cond b (k ∷ filter chosen keys) (filter chosen keys))) e ∙ rest ∙ ap (λ b. b || list_any (same_key key) keys) (sym same)
+
+  -- what that says, where it is known whether the key is chosen, and whether it is new
+  abbrev OneMore : List KeyParts → KeyParts → Bool → Bool → Type 0
+  OneMore keys k b t = filter chosen (cond t keys (keys ++ k ∷ [])) ≡ fold with_key (filter chosen keys) (cond b (k ∷ []) [])
+
+  -- the chosen ones of keys with one more
+  filter_with_key : (keys : List KeyParts) (k : KeyParts) → filter chosen (with_key keys k) ≡ fold with_key (filter chosen keys) (filter chosen (k ∷ []))
+  filter_with_key keys k = go (chosen k) refl (list_any (same_key k) keys) refl
+    where
+      one : (b : Bool) → chosen k ≡ b → filter chosen (keys ++ k ∷ []) ≡ filter chosen keys ++ cond b (k ∷ []) []
+      one b e = filter-append chosen keys (k ∷ []) ∙ ap (λ t. filter chosen keys ++ cond t (k ∷ []) []) e
+
+      there : (t : Bool) → list_any (same_key k) keys ≡ t → chosen k ≡ true → list_any (same_key k) (filter chosen keys) ≡ t
+      there t e is = among_chosen k is keys ∙ e
+
+      by : (b t : Bool) → chosen k ≡ b → list_any (same_key k) keys ≡ t → OneMore keys k b t
+      by true true e f = sym (ap (λ t. cond t (filter chosen keys) (filter chosen keys ++ k ∷ [])) (there true f e))
+      by true false e f = one true e ∙ sym (ap (λ t. cond t (filter chosen keys) (filter chosen keys ++ k ∷ [])) (there false f e))
+      by false true e f = refl
+      by false false e f = one false e ∙ append-nil (filter chosen keys)
+
+      go : (b : Bool) → chosen k ≡ b → (t : Bool) → list_any (same_key k) keys ≡ t → OneMore keys k (chosen k) (list_any (same_key k) keys)
+      go b e t f = subst (λ c. OneMore keys k c (list_any (same_key k) keys)) (sym e) (subst (λ c. OneMore keys k b c) (sym f) (by b t e f))
+
+  -- the chosen ones of several more
+  pub filter_keys : (keys more : List KeyParts) → fold with_key (filter chosen keys) (filter chosen more) ≡ filter chosen (fold with_key keys more)
+  filter_keys keys [] = refl
+  filter_keys keys (k ∷ more) =
+      by (chosen k) refl ∙ ap (λ start. fold with_key start (filter chosen more)) (sym (filter_with_key keys k)) ∙ filter_keys (with_key keys k) more
+    where
+      by : (b : Bool) → chosen k ≡ b → fold with_key (filter chosen keys) (cond (chosen k) (k ∷ filter chosen more) (filter chosen more))
+          ≡ fold with_key (fold with_key (filter chosen keys) (cond (chosen k) (k ∷ []) [])) (filter chosen more)
+      by true e = ap (λ b. fold with_key (filter chosen keys) (cond b (k ∷ filter chosen more) (filter chosen more))) e
+          ∙ sym (ap (λ b. fold with_key (fold with_key (filter chosen keys) (cond b (k ∷ []) [])) (filter chosen more)) e)
+      by false e = ap (λ b. fold with_key (filter chosen keys) (cond b (k ∷ filter chosen more) (filter chosen more))) e
+          ∙ sym (ap (λ b. fold with_key (fold with_key (filter chosen keys) (cond b (k ∷ []) [])) (filter chosen more)) e)
+
+  all_keys : (es cs : List (Observation KeyParts)) → AllZip (IsCutOf chosen) es cs → flat_map (λ c. c.keys) cs ≡ filter chosen (flat_map (λ e. e.keys) es)
+  all_keys [] [] zip = refl
+  all_keys [] (c ∷ cs) zip = absurd zip
+  all_keys (e ∷ es) [] zip = absurd zip
+  all_keys (e ∷ es) (c ∷ cs) (here, rest) = ap₂ (λ a b. a ++ b) here.1 (all_keys es cs rest) ∙ sym (filter-append chosen e.keys (flat_map (λ f. f.keys) es))
+
+  -- the keys of the cut log are the chosen ones of the log's
+  pub keys_cut : (es cs : List (Observation KeyParts)) → AllZip (IsCutOf chosen) es cs → keys_in cs ≡ filter chosen (keys_in es)
+  keys_cut es cs zip = ap (fold with_key []) (all_keys es cs zip) ∙ filter_keys [] (flat_map (λ e. e.keys) es)
+
+  -- one entry more
+  pub zip_push : (es cs : List (Observation KeyParts)) (e c : Observation KeyParts) → AllZip (IsCutOf chosen) es cs → IsCutOf chosen e c → AllZip (IsCutOf chosen) (es ++ e ∷ []) (cs ++ c ∷ [])
+  zip_push [] [] e c zip here = (here, tt)
+  zip_push [] (d ∷ cs) e c zip here = absurd zip
+  zip_push (f ∷ es) [] e c zip here = absurd zip
+  zip_push (f ∷ es) (d ∷ cs) e c zip here = (zip.0, zip_push es cs e c zip.1 here)
+
+  -- the newest moments are the same
+  pub newest_cut : (last : ℕ) (es cs : List (Observation KeyParts)) → AllZip (IsCutOf chosen) es cs → fold (λ moment e. e.event.moment) last cs ≡ fold (λ moment e. e.event.moment) last es
+  newest_cut last [] [] zip = refl
+  newest_cut last [] (c ∷ cs) zip = absurd zip
+  newest_cut last (e ∷ es) [] zip = absurd zip
+  newest_cut last (e ∷ es) (c ∷ cs) (here, rest) =
+      ap (λ t. fold (λ moment e. e.event.moment) t cs) here.0 ∙ newest_cut e.event.moment es cs rest
+
+  module _ (key : KeyParts) (is : chosen key ≡ true) where
+    concerns_cut : (e c : Observation KeyParts) → IsCutOf chosen e c → concerns key c ≡ concerns key e
+    concerns_cut e c cut = ap (list_any (same_key key)) cut.1 ∙ among_chosen key is e.keys
+
+    not_nil : (keys : List KeyParts) → list_any (same_key key) keys ≡ true → keys ≢ []
+    not_nil keys any none = false≢true (sym (ap (list_any (same_key key)) none) ∙ any)
+
+    -- the events with one entry before them, where it is known whether it concerns the key
+    abbrev events_with : Bool → Observation KeyParts → List (Observation KeyParts) → List MachineEvent
+    events_with b f fs = map (λ g. g.event) (cond b (f ∷ filter (concerns key) fs) (filter (concerns key) fs))
+
+    -- an entry that concerns the key has its event
+    event_cut : (e c : Observation KeyParts) → IsCutOf chosen e c → concerns key c ≡ true → c.event ≡ e.event
+    event_cut e c cut any = cut.2 (not_nil c.keys any)
+
+    pub events_cut : (es cs : List (Observation KeyParts)) → AllZip (IsCutOf chosen) es cs → events_for key cs ≡ events_for key es
+    events_cut [] [] zip = refl
+    events_cut [] (c ∷ cs) zip = absurd zip
+    events_cut (e ∷ es) [] zip = absurd zip
+    events_cut (e ∷ es) (c ∷ cs) (here, rest) = go (concerns key c) refl (events_cut es cs rest)
+      where
+        by : (b : Bool) → concerns key c ≡ b → events_for key cs ≡ events_for key es → events_with b c cs ≡ events_with b e es
+        by true any same = ap₂ (λ f fs. f ∷ fs) (event_cut e c here any) same
+        by false any same = same
+
+        go : (b : Bool) → concerns key c ≡ b → events_for key cs ≡ events_for key es → events_with (concerns key c) c cs ≡ events_with (concerns key e) e es
+        go b any same = ap (λ t. events_with t c cs) any ∙ by b any same ∙ ap (λ t. events_with t e es) (sym any ∙ concerns_cut e c here)
+
+    module _ (p : Times) where
+      pub runs_cut : (es cs : List (Observation KeyParts)) → AllZip (IsCutOf chosen) es cs → RunsOver p es key ↔ RunsOver p cs key
+      runs_cut es cs zip =
+          let f = (transaction_of (machine_of_key p.rules key)).figure in (
+            λ runs. (runs.0, subst (λ m. Stands f p (events_for key cs) m runs.0) (sym (newest_cut 0 es cs zip)) (subst (λ events. Stands f p events (newest_moment es) runs.0) (sym (events_cut es cs zip)) runs.1)),
+            λ runs. (runs.0, subst (λ m. Stands f p (events_for key es) m runs.0) (newest_cut 0 es cs zip) (subst (λ events. Stands f p events (newest_moment cs) runs.0) (events_cut es cs zip) runs.1)),
+          )
+
+      pub wide_cut : (es cs : List (Observation KeyParts)) (e c : Observation KeyParts) → AllZip (IsCutOf chosen) es cs → IsCutOf chosen e c → IsWideAt p es e key ↔ IsWideAt p cs c key
+      wide_cut es cs e c zip here =
+          let f = (transaction_of (machine_of_key p.rules key)).figure in
+          let same = events_cut es cs zip in (
+            λ wide. let any = concerns_cut e c here ∙ wide.0 in (
+              any,
+              (
+                wide.1.0,
+                wide.1.1,
+                wide.1.2,
+                subst (λ event. All (StandsAfter f p (events_for key cs) event) wide.1.0) (sym (event_cut e c here any)) (subst (λ events. All (StandsAfter f p events e.event) wide.1.0) (sym same) wide.1.3),
+              ),
+            ),
+            λ wide. (
+              sym (concerns_cut e c here) ∙ wide.0,
+              (
+                wide.1.0,
+                wide.1.1,
+                wide.1.2,
+                subst (λ event. All (StandsAfter f p (events_for key es) event) wide.1.0) (event_cut e c here wide.0) (subst (λ events. All (StandsAfter f p events c.event) wide.1.0) same wide.1.3),
+              ),
+            ),
+          )
+
+      -- a split of one log is one of the other
+      pub split_left : (es front : List (Observation KeyParts)) (c : Observation KeyParts) (rest : List (Observation KeyParts)) → AllZip (IsCutOf chosen) es (front ++ c ∷ rest)
+          → (back : List (Observation KeyParts)) × (e : Observation KeyParts) × (more : List (Observation KeyParts)) × (es ≡ back ++ e ∷ more) × AllZip (IsCutOf chosen) back front × IsCutOf chosen e c
+      split_left [] [] c rest zip = absurd zip
+      split_left (e ∷ es) [] c rest zip = ([], e, es, refl, tt, zip.0)
+      split_left [] (f ∷ front) c rest zip = absurd zip
+      split_left (e ∷ es) (f ∷ front) c rest zip =
+          let found = split_left es front c rest zip.1 in
+          (e ∷ found.0, found.1, found.2, ap (λ xs. e ∷ xs) found.3, (zip.0, found.4), found.5)
+
+      pub split_right : (front cs : List (Observation KeyParts)) (e : Observation KeyParts) (rest : List (Observation KeyParts)) → AllZip (IsCutOf chosen) (front ++ e ∷ rest) cs
+          → (back : List (Observation KeyParts)) × (c : Observation KeyParts) × (more : List (Observation KeyParts)) × (cs ≡ back ++ c ∷ more) × AllZip (IsCutOf chosen) front back × IsCutOf chosen e c
+      split_right [] [] e rest zip = absurd zip
+      split_right [] (c ∷ cs) e rest zip = ([], c, cs, refl, tt, zip.0)
+      split_right (f ∷ front) [] e rest zip = absurd zip
+      split_right (f ∷ front) (c ∷ cs) e rest zip =
+          let found = split_right front cs e rest zip.1 in
+          (c ∷ found.0, found.1, found.2, ap (λ xs. c ∷ xs) found.3, (zip.0, found.4), found.5)
+
+      pub sound_cut : (es cs : List (Observation KeyParts)) → AllZip (IsCutOf chosen) es cs → IsSound p es key ↔ IsSound p cs key
+      sound_cut es cs zip = (
+        λ sound. (
+          (runs_cut es cs zip).0 sound.0,
+          λ front c rest is wide.
+              let found = split_left es front c rest (subst (AllZip (IsCutOf chosen) es) is zip) in
+              sound.1 found.0 found.1 found.2 found.3 ((wide_cut found.0 front found.1 c found.4 found.5).1 wide),
+        ),
+        λ sound. (
+          (runs_cut es cs zip).1 sound.0,
+          λ front e rest is wide.
+              let found = split_right front cs e rest (subst (λ xs. AllZip (IsCutOf chosen) xs cs) is zip) in
+              sound.1 found.0 found.1 found.2 found.3 ((wide_cut front found.0 e found.1 found.4 found.5).0 wide),
+        ),
+      )
+
+      -- splits at the same place
+      split_same : (front back : List (Observation KeyParts)) (e c : Observation KeyParts) (rest others : List (Observation KeyParts)) → AllZip (IsCutOf chosen) (front ++ e ∷ rest) (back ++ c ∷ others)
+          → length front ≡ length back → AllZip (IsCutOf chosen) front back × IsCutOf chosen e c
+      split_same [] [] e c rest others zip long = (tt, zip.0)
+      split_same [] (d ∷ back) e c rest others zip long = absurd (omega (arith, long))
+      split_same (f ∷ front) [] e c rest others zip long = absurd (omega (arith, long))
+      split_same (f ∷ front) (d ∷ back) e c rest others zip long =
+          let found = split_same front back e c rest others zip.1 (omega (arith, long)) in ((zip.0, found.0), found.1)
+
+      -- a key has the same trouble at an entry and at the one that stands for it in the cut log
+      pub trouble_cut : (front back : List (Observation KeyParts)) (e c : Observation KeyParts) → AllZip (IsCutOf chosen) front back → IsCutOf chosen e c
+          → (Breaks p front e key ↔ Breaks p back c key) × (Widens p front e key ↔ Widens p back c key)
+      trouble_cut front back e c zip here =
+          let sound = sound_cut front back zip in
+          let runs = runs_cut (front ++ e ∷ []) (back ++ c ∷ []) (zip_push front back e c zip here) in
+          let wide = wide_cut front back e c zip here in (
+            (λ breaks. (sound.0 breaks.0, λ run. breaks.1 (runs.1 run)), λ breaks. (sound.1 breaks.0, λ run. breaks.1 (runs.0 run))),
+            (λ widens. (sound.0 widens.0, wide.0 widens.1), λ widens. (sound.1 widens.0, wide.1 widens.1)),
+          )
+
+      pub same_trouble : (es cs : List (Observation KeyParts)) → AllZip (IsCutOf chosen) es cs → HasSameTrouble p es cs key
+      same_trouble es cs zip front back e c rest others split other long =
+          let both = split_same front back e c rest others (subst (λ xs. AllZip (IsCutOf chosen) xs (back ++ c ∷ others)) split (subst (AllZip (IsCutOf chosen) es) other zip)) long in
+          trouble_cut front back e c both.0 both.1

@@ -1,0 +1,238 @@
+-- What a survey writes of what it finds, line after line, and what it comes to at the end of the log.
+use Rattle.std.proofs.Common.{◌≡◌, ◌+◌, ◌∙◌, ℕ, Option, Some, IfSome, Result, Ok, Err, IfOk, OnOk, Bool, false, List, [], ◌∷◌, ◌++◌, length, filter, refl, sym, ap, subst, arith, ◌-◌, suc, None, IsSomeAnd, Contains, slice_get, append_assoc}
+use Rattle.std.proofs.lemmas.List.{length-append, append-nil}
+use Rattle.std.proofs.lemmas.List.Elements.{filter-append}
+use Rattle.std.specs.Io.KnownBytes.{Appends}
+use Rattle.std.proofs.KnownBytes.{Appends-nil, Appends-trans}
+use Rattle.sip_standard.specs.Key.{KeyParts}
+use Rattle.sip_standard.specs.Times.{Times}
+use Rattle.sip_part.specs.Part.{PartOf}
+use Rattle.sip_log.specs.declared.entry.Entry.{Entry}
+use Rattle.sip_standard.specs.LogSays.{LogEnd, Clean, Stops, LogSays, line_feed}
+use Rattle.sip_log.specs.Told.{item}
+use Rattle.sip_log.proofs.answers.ReadingLemmas.{IfSome-map}
+use Rattle.sip_verdict.specs.declared.finding.Finding.{Finding}
+use Rattle.sip_standard.specs.declared.log_reason.LogReason.{LogReason}
+use Rattle.sip_standard.specs.declared.log_reason.LogReason.TheVariants.{Header}
+use Rattle.sip_verdict.specs.declared.summary.Summary.{Summary}
+use Rattle.sip_verdict.specs.declared.survey_end.SurveyEnd.{SurveyEnd}
+use Rattle.sip_verdict.specs.declared.surveying.Counts.{Counts}
+use Rattle.sip_standard.specs.declared.verdict.Verdict.{Verdict}
+use Rattle.sip_standard.specs.Observation.{Observation}
+use Rattle.sip_standard.specs.ListingOf.{trouble_of}
+use Rattle.sip_standard.specs.VerdictOf.{keys_in, IsVerdictOf, Sees}
+use Rattle.sip_verdict.specs.SurveyOf.{AreFoundAt, IsSurveyAfter, HoldsOf, IsFoundAt, verdict_of}
+use Rattle.sip_verdict.specs.SurveyText.{SumsUp, end_text, is_undecided, AreWordsOf, IsFirstOf, IsLastOf, IsTextOf, entry_of, transaction_words}
+use Rattle.sip_verdict.specs.Surveys.{Surveying, SurveysFor}
+use Rattle.sip_verdict.specs.inner.SurveyingLogs.{AreCounted, AreTold, IsSurveyIn, IsTaken, IsWritten, SurveysRead, AreLinesBy, IsLineBy, IsToldIn, Tells, TellsOf, line_with, words_of}
+use Rattle.sip_verdict.specs.inner.Walking.{HasRead}
+use Rattle.sip_verdict.proofs.surveys.written.Gathering.{found_on, entries_in, gathered_of, header_lacks, told_without}
+use Rattle.std.specs.Option.{ok_or}
+use Rattle.sip_verdict.specs.declared.finding.Finding.TheVariants.{Malformed, Breach, Undecided}
+use Rattle.sip_verdict.specs.declared.transaction.Transaction.{Transaction}
+use Rattle.sip_standard.specs.Rendering.{rendered}
+use Rattle.sip_log.specs.Reading as log
+use Rattle.sip_verdict.specs.declared.survey_end.SurveyEnd.TheVariants as ended
+
+-- nothing was told yet
+pub told_none : (counts : Counts) (w : Option (List ℕ)) → counts.findings ≡ 0 → counts.undecided ≡ 0 → AreTold [] [] counts w w
+told_none counts w none nothing = record { findings = none; undecided = nothing; written = Appends-nil w }
+
+-- what is found at one entry more is told too
+pub told_more : (found here : List Finding) (lines text : List ℕ) (a b : Counts) (before mid after : Option (List ℕ)) → AreTold found lines a before mid → AreCounted here a b → Appends mid after text
+    → AreTold (found ++ here) (lines ++ text) b before after
+told_more found here lines text a b before mid after told counted written =
+    let long = length-append found here in
+    let undecided = ap length (filter-append is_undecided found here) ∙ length-append (filter is_undecided found) (filter is_undecided here) in
+    let one = told.findings in
+    let two = counted.findings in
+    let three = told.undecided in
+    let four = counted.undecided in
+    record { findings = omega (arith, long, one, two); undecided = omega (arith, undecided, three, four); written = Appends-trans before mid after lines text told.written written }
+
+-- one finding more is counted
+pub counted_more : (found : List Finding) (f : Finding) (a b c : Counts) (o : Option Counts) → AreCounted found a b → IfSome o (AreCounted (f ∷ []) b) → o ≡ Some c → AreCounted (found ++ f ∷ []) a c
+counted_more found f a b c o told one is =
+    let next = subst (λ x. IfSome x (AreCounted (f ∷ []) b)) is one in
+    let long = length-append found (f ∷ []) in
+    let undecided = ap length (filter-append is_undecided found (f ∷ [])) ∙ length-append (filter is_undecided found) (filter is_undecided (f ∷ [])) in
+    let p = told.findings in
+    let q = next.findings in
+    let r = told.undecided in
+    let s = next.undecided in
+    record { findings = omega (arith, long, p, q); undecided = omega (arith, undecided, r, s) }
+
+pub some_of_ok : {A E : Type 0} (o : Option A) (e : E) (a : A) → ok_or o e ≡ Ok a → o ≡ Some a
+some_of_ok None e a is = absurd cc
+some_of_ok (Some x) e a is = let same : x ≡ a = cc in ap Some same
+
+-- The lines of findings.
+
+-- one line more
+pub lines_push : (s : Surveying) (found : List Finding) (f : Finding) (text line : List ℕ) → AreLinesBy s found text → IsLineBy s f line → AreLinesBy s (found ++ f ∷ []) (text ++ line)
+lines_push s [] f text line none is = (line, [], is, refl, ap (λ t. t ++ line) none ∙ sym (append-nil line))
+lines_push s (g ∷ found) f text line (first, more, first_is, are, whole) is =
+    (first, more ++ line, first_is, lines_push s found f more line are is, ap (λ t. t ++ line) whole ∙ append_assoc first more line)
+
+-- the line that is written is that of the finding
+at_place : {A : Type 0} (before : List A) (a : A) (rest : List A) → slice_get (before ++ a ∷ rest) (length before) ≡ Some a
+at_place [] a rest = refl
+at_place (b ∷ before) a rest = at_place before a rest
+
+line_with-told : (s : Surveying) (f : Finding) (number : ℕ) (told : Option Transaction) (line : List ℕ) → Tells s number told → line ≡ line_with f told → (es : List (Observation KeyParts)) → SurveysFor s es
+    → (P : KeyParts → Type 0) → HoldsOf P (keys_in es) number
+    → (words : List ℕ) × HoldsOf (AreWordsOf es words) (keys_in es) number × (line ≡ rendered (verdict_of f) ++ words ++ line_feed ∷ [])
+line_with-told s f number told line tells is es stands P (before, key, rest, whole, holds, counts) =
+    by told (subst (λ o. IfSome o (λ k. IsSomeAnd told (λ t. (t.key.now ≡ k) × IsFirstOf es k t.first t.branch.now × IsLastOf es k t.last))) at (tells es stands (omega (arith, counts)))) is
+  where
+    at : slice_get (keys_in es) (number - 1) ≡ Some key
+    at = ap (slice_get (keys_in es)) (let n : number - 1 ≡ length before = omega (arith, counts) in n) ∙ ap (λ ks. slice_get ks (length before)) whole ∙ at_place before key rest
+
+    by : (o : Option Transaction) → IsSomeAnd o (λ t. (t.key.now ≡ key) × IsFirstOf es key t.first t.branch.now × IsLastOf es key t.last) → line ≡ line_with f o
+        → (words : List ℕ) × HoldsOf (AreWordsOf es words) (keys_in es) number × (line ≡ rendered (verdict_of f) ++ words ++ line_feed ∷ [])
+    by None none same = absurd none
+    by (Some t) (key_is, first, last) same = (
+      words_of t,
+      (before, key, rest, whole, (t.branch.now, t.first, t.last, first, last, ap (λ k. transaction_words k t.branch.now t.first t.last) key_is), counts),
+      same,
+    )
+
+pub line_by : (s : Surveying) (f : Finding) (told : Option Transaction) (line : List ℕ) → TellsOf s f told → line ≡ line_with f told → IsLineBy s f line
+line_by s (Malformed entry fault) told line none is p es e stands found = is ∙ ap (line_with (Malformed entry fault)) none
+line_by s (Breach entry number) told line tells is p es e stands found = line_with-told s (Breach entry number) number told line tells is (es ++ e ∷ []) stands _ found.1
+line_by s (Undecided entry number) told line tells is p es e stands found = line_with-told s (Undecided entry number) number told line tells is (es ++ e ∷ []) stands _ found.1
+
+-- they are the text of what is found at the newest entry
+found_text : (s : Surveying) (p : Times) (es : List (Observation KeyParts)) (e : Observation KeyParts) → SurveysFor s (es ++ e ∷ []) → (found : List Finding) (text : List ℕ)
+    → ((f : Finding) → Contains found f → IsFoundAt p es e f) → AreLinesBy s found text → IsTextOf (es ++ e ∷ []) found text
+found_text s p es e stands [] text at none = none
+found_text s p es e stands (f ∷ found) text at (line, more, is, are, whole) =
+    let here = at f (0, omega arith, refl) in (
+      es ++ e ∷ [],
+      [],
+      line,
+      more,
+      sym (append-nil (es ++ e ∷ [])),
+      length-append es (e ∷ []) ∙ sym (at_entry f here),
+      is p es e stands here,
+      found_text s p es e stands found more (λ g has. at g (suc has.0, omega (arith, has.1), has.2)) are,
+      whole,
+    )
+  where
+    at_entry : (g : Finding) → IsFoundAt p es e g → entry_of g ≡ length es + 1
+    at_entry (Malformed entry fault) h = h.0
+    at_entry (Breach entry transaction) h = h.0
+    at_entry (Undecided entry transaction) h = h.0
+
+-- a text stays that of the same findings where entries come
+text_more : (es more : List (Observation KeyParts)) (found : List Finding) (text : List ℕ) → IsTextOf es found text → IsTextOf (es ++ more) found text
+text_more es more [] text none = none
+text_more es more (f ∷ found) text (front, rest, line, lines, whole, counts, is, are, text_is) =
+    (front, rest ++ more, line, lines, ap (λ xs. xs ++ more) whole ∙ append_assoc front rest more, counts, is, text_more es more found lines are, text_is)
+
+-- two texts, one after the other
+text_append : (es : List (Observation KeyParts)) (found here : List Finding) (a b : List ℕ) → IsTextOf es found a → IsTextOf es here b → IsTextOf es (found ++ here) (a ++ b)
+text_append es [] here a b none are = subst (IsTextOf es here) (ap (λ t. t ++ b) (sym none)) are
+text_append es (f ∷ found) here a b (front, rest, line, lines, whole, counts, is, more, text_is) are =
+    (front, rest, line, lines ++ b, whole, counts, is, text_append es found here lines b more are, ap (λ t. t ++ b) text_is ∙ append_assoc line lines b)
+
+-- the last line was written, which is the answer
+pub summed : {E Q : Type 0} {P : Summary → Type 0} (r : Result Summary E) (counts : Counts) (end : SurveyEnd)
+    → IfOk r (λ s. (s.end ≡ end) × (s.findings ≡ counts.findings) × (s.undecided ≡ counts.undecided)) → OnOk r Q
+    → ((s : Summary) → s.end ≡ end → s.findings ≡ counts.findings → s.undecided ≡ counts.undecided → Q → P s) → IfOk r P
+summed (Ok s) counts end sums wrote f = f s sums.0 sums.1 sums.2 wrote
+summed (Err e) counts end sums wrote f = tt
+
+-- nothing was read yet
+pub surveys_none : (part : Option PartOf) (s : Surveying) (p : Times) (start : Option (List ℕ)) (now : log.ReaderState) → s.tables.times ≡ p → SurveysFor s [] → HasRead start p [] now
+    → SurveysRead part s [] start now
+surveys_none part s p start now times stands read =
+    record { items = []; taken = []; es = []; are_taken = tt; seen = tt; follows = stands; read = subst (λ t. HasRead start t [] now) (sym times) read; front = λ rest close later end is. is }
+
+-- what was read of a log, and the text of what was found
+pub record ToldSoFar (part : Option PartOf) (s : Surveying) (found : List Finding) (lines : List ℕ) (start : Option (List ℕ)) (now : log.ReaderState) : Type 0 where
+  pub read : SurveysRead part s found start now
+  pub lines_are : IsTextOf read.es found lines
+
+pub told_nothing : (part : Option PartOf) (s : Surveying) (start : Option (List ℕ)) (now : log.ReaderState) → SurveysRead part s [] start now → ToldSoFar part s [] [] start now
+told_nothing part s start now read = record { read = read; lines_are = refl }
+
+module _ (part : Option PartOf) (start : Option (List ℕ)) (now : log.ReaderState) (s : Surveying) (found : List Finding) (lines : List ℕ) (told_so : ToldSoFar part s found lines start now) where
+  abbrev pub read : SurveysRead part s found start now
+  read = told_so.read
+
+  -- one more entry was read and taken so, and this was found at it, and these lines were written of it
+  pub surveys_on : (e cut : Entry) (new : log.ReaderState) → HasRead start s.tables.times (read.items ++ item e ∷ []) new → IsTaken part (item e) (item cut) → (k : Surveying) → k.tables.times ≡ s.tables.times
+      → (items : List Finding)
+      → ((es : List (Observation KeyParts)) → SurveysFor s es → (seen : Observation KeyParts) × (here : List Finding) × Sees es (item cut) seen
+      × AreFoundAt s.tables.times es seen here × (items ≡ here) × SurveysFor k (es ++ seen ∷ []))
+      → (text : List ℕ) → AreLinesBy k items text → ToldSoFar part k (found ++ items) (lines ++ text) start new
+  unfolding found_on
+  surveys_on e cut new more is_taken k times items says text are_lines =
+      let (seen, here, observed, are, same, stands) = says read.es read.follows in
+      subst (λ fs. ToldSoFar part k (found ++ fs) (lines ++ text) start new) (sym same) (record {
+        read = found_on part start now s found read e cut new more is_taken k times seen here observed are stands;
+        lines_are = text_append (read.es ++ seen ∷ []) found here lines text (text_more read.es (seen ∷ []) found lines told_so.lines_are)
+            (found_text k s.tables.times read.es seen stands here text (λ f has. (are.1 f).0 has) (subst (λ fs. AreLinesBy k fs text) same are_lines));
+      })
+
+  module _ (counts : Counts) (summary : Summary) (before mid after : Option (List ℕ)) (told : AreTold found lines counts before mid)
+      (findings : summary.findings ≡ counts.findings) (undecided : summary.undecided ≡ counts.undecided) where
+    -- the log ends so after them
+    ends : (close : LogEnd) (end : SurveyEnd) → summary.end ≡ end → Appends mid after (end_text end counts.findings) → IsSurveyAfter s.tables.times read.es [] close [] end
+        → IfSome start (λ input. LogSays input s.tables.times read.items close) → IfSome start (λ input. IsWritten part input summary before after)
+    ends close end is last left logs =
+        let text = lines ++ end_text end (length found) in
+        IfSome-map start (λ input. LogSays input s.tables.times read.items close) (λ input. IsWritten part input summary before after)
+        (λ input says.
+        let survey : IsSurveyIn part input found end = gathered_of part start now s found read close end left input says in
+        record {
+          found = found;
+          text = text;
+          told = subst (λ e. IsToldIn part input found e text) (sym is)
+              (entries_in part input s.tables.times read.items read.taken read.es close found end text says read.are_taken read.seen survey (lines, told_so.lines_are, refl));
+          sums = record { findings = findings ∙ told.findings; undecided = undecided ∙ told.undecided };
+          written = Appends-trans before mid after lines (end_text end (length found)) told.written (subst (λ n. Appends mid after (end_text end n)) told.findings last);
+        }) logs
+
+    pub surveys_end : summary.end ≡ ended.Clean (length read.es) (length (keys_in read.es)) → Appends mid after (end_text (ended.Clean (length read.es) (length (keys_in read.es))) counts.findings)
+        → IfSome start (λ input. LogSays input s.tables.times read.items Clean) → IfSome start (λ input. IsWritten part input summary before after)
+    surveys_end is last logs = ends Clean (ended.Clean (length read.es) (length (keys_in read.es))) is last (refl, refl) logs
+
+    pub surveys_stop : (count : ℕ) (reason : LogReason) → count ≡ s.number → summary.end ≡ ended.LogFault (count + 1) reason → Appends mid after (end_text (ended.LogFault (count + 1) reason) counts.findings)
+        → (fault : LogReason) × (reason ≡ fault) × IfSome start (λ input. LogSays input s.tables.times read.items (Stops fault)) → IfSome start (λ input. IsWritten part input summary before after)
+    surveys_stop count reason counted is last (fault, same, logs) =
+        ends (Stops fault) (ended.LogFault (count + 1) reason) is last
+        (refl, ap (λ n. ended.LogFault (n + 1) reason) (counted ∙ read.follows.number) ∙ ap (ended.LogFault (length read.es + 1)) same) logs
+
+pub surveys_header : (part : Option PartOf) (start : Option (List ℕ)) (v : Verdict) (counts : Counts) (summary : Summary) (before after : Option (List ℕ)) → IfSome start (λ input. IsVerdictOf input v) → trouble_of v ≡ Some 0
+    → counts.findings ≡ 0 → counts.undecided ≡ 0 → summary.end ≡ ended.LogFault 0 Header → summary.findings ≡ counts.findings → summary.undecided ≡ counts.undecided
+    → Appends before after (end_text (ended.LogFault 0 Header) counts.findings) → IfSome start (λ input. IsWritten part input summary before after)
+surveys_header part start v counts summary before after is none no_findings no_undecided end findings undecided last =
+    IfSome-map start (λ input. IsVerdictOf input v) (λ input. IsWritten part input summary before after)
+    (λ input verdict. record {
+      found = [];
+      text = end_text summary.end 0;
+      told = told_without part input summary.end (header_lacks input v verdict none) end;
+      sums = record { findings = findings ∙ no_findings; undecided = undecided ∙ no_undecided };
+      written = subst (λ e. Appends before after (end_text e 0)) (sym end) (subst (λ n. Appends before after (end_text (ended.LogFault 0 Header) n)) no_findings last);
+    }) is
+
+-- what is written of an input, as it is told of a whole log
+pub as_told : (part : Option PartOf) (start : Option (List ℕ)) (summary : Summary) (before after : Option (List ℕ)) → IfSome start (λ input. IsWritten part input summary before after)
+    → IfSome start (λ input. (found : List Finding) × (text : List ℕ) × IsToldIn part input found summary.end text × SumsUp found summary × Appends before after text)
+as_told part start summary before after written =
+    IfSome-map start (λ input. IsWritten part input summary before after)
+    (λ input. (found : List Finding) × (text : List ℕ) × IsToldIn part input found summary.end text × SumsUp found summary × Appends before after text)
+    (λ input w. (w.found, w.text, w.told, w.sums, w.written)) written
+
+pub all_told : {E : Type 0} (part : Option PartOf) (S : Option (List ℕ) → Type 0) (r : Result Summary E) (start before after : Option (List ℕ))
+    → IfOk r (λ summary. (given : Option (List ℕ)) → S given → IfSome given (λ input. IsWritten part input summary before after)) → S start
+    → IfOk r (λ summary. IfSome start (λ input. (found : List Finding) × (text : List ℕ) × IsToldIn part input found summary.end text × SumsUp found summary × Appends before after text))
+all_told part S (Ok summary) start before after writes read = as_told part start summary before after (writes start read)
+all_told part S (Err e) start before after writes read = tt
+
+-- what has not failed before has not failed after
+pub still_fine : {A E : Type 0} (Q : Type 0) (r : Result A E) (old new : Bool) → OnOk r ((new ≡ old) × Q) → old ≡ false → OnOk r ((new ≡ false) × Q)
+still_fine Q (Ok a) old new fine before = (fine.0 ∙ before, fine.1)
+still_fine Q (Err e) old new fine before = tt

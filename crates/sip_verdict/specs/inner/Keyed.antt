@@ -1,0 +1,12 @@
+use Rattle.std.specs.Prelude.{Bool, List, [], ◌∷◌, ◌++◌, if◌then◌else◌}
+use Rattle.std.specs.List.{list_any}
+use Rattle.sip_standard.specs.Key.{KeyParts, same_key}
+use Rattle.sip_standard.specs.Observation.{Observation}
+
+-- the keys with one more, at the end if it is new
+abbrev pub with_key : List KeyParts → KeyParts → List KeyParts
+with_key keys key = if list_any (same_key key) keys then keys else keys ++ key ∷ []
+
+-- whether the entry concerns the key
+abbrev pub concerns : KeyParts → Observation KeyParts → Bool
+concerns key e = list_any (same_key key) e.keys

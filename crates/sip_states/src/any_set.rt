@@ -17,17 +17,17 @@ use std::alloc::{AllocError, Global};
 /// The states in which the runs of one of the machines of RFC 3261 section 17 can stand.
 #[derive(Debug, Drop)]
 pub enum AnySet {
-    /// Section 17.1.1.
+    /// Section 17.1.1, with the accepted state of RFC 6026.
     InviteClient(StateSet<InviteClient>),
     /// Section 17.1.2.
     PlainClient(StateSet<PlainClient>),
-    /// Section 17.2.1.
+    /// Section 17.2.1, with the accepted state of RFC 6026.
     InviteServer(StateSet<InviteServer>),
     /// Section 17.2.2.
     PlainServer(StateSet<PlainServer>),
     /// Section 17.1.1, without the accepted state of RFC 6026.
     InviteClient3261(StateSet<InviteClient3261>),
-    /// Section 17.2.1, without it.
+    /// Section 17.2.1, without the accepted state of RFC 6026.
     InviteServer3261(StateSet<InviteServer3261>),
 }
 
@@ -134,7 +134,7 @@ impl AnySet {
         each_machine!(self, set => set.may_name(number))
     }
 
-    /// Whether its one state is the one before anything was sent or received, or the one after an end.
+    /// Whether it has one state alone, which is the one before anything was sent or received, or the one after an end.
     pub fn is_quiet(&self) -> bool
         ensures { IsTrue result ↔ IsQuietSet self.now }
     {

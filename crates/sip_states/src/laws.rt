@@ -50,8 +50,9 @@ pub fn a_run_holds_one_over_fewer_events<M: Machine>(_machine: &M)
         RuledRun (M.rules _machine.now) (events ++ more) n y → (x : M.Seen) × RuledRun (M.rules _machine.now) events m x }
 {}
 
-/// After the final response to its INVITE a client sends nothing but ACK and CANCEL (RFC 3261 sections 17.1.1.2, 17.1.1.3 and 9.1),
-/// and after that to any other request it sends nothing (section 17.1.2.2).
+/// By the rules of RFC 6026 a client that has received a final response to its INVITE sends nothing but ACK and CANCEL
+/// (RFC 3261 sections 17.1.1.2, 17.1.1.3 and 9.1, RFC 6026 section 7.2). By either rules a client that has received a final response
+/// to any other request sends nothing (RFC 3261 section 17.1.2.2).
 pub fn after_a_final_response_a_client_sends_no_request()
     ensures invite { (p : Times) (before between later : List MachineEvent) (request final e : MachineEvent) (code : ℕ) (y : PhaseOf (machine_of R6026 Client true)) →
         request.action ≡ Sent → request.kind ≡ Request Invite → final.action ≡ Received → final.kind ≡ Response code → IsFinal code → e.action ≡ Sent →
@@ -61,8 +62,8 @@ pub fn after_a_final_response_a_client_sends_no_request()
         StandsAfter (transaction_of (machine_of rules Client false)).figure p (before ++ request ∷ (between ++ final ∷ later)) e y → ⊥ }
 {}
 
-/// The INVITE with which a client begins is sent again byte for byte, over an unreliable transport alone, and T1 later at the earliest,
-/// the tolerance aside (section 17.1.1.2).
+/// By the rules of RFC 6026 a client whose first event is an INVITE that it sends repeats it byte for byte, over an unreliable transport alone, and
+/// no earlier than T1 after it, less the time by which a timer may fire early (RFC 3261 section 17.1.1.2).
 pub fn an_invite_is_sent_again_after_t1()
     ensures { (p : Times) (first : MachineEvent) (between : List MachineEvent) (e : MachineEvent) (y : PhaseOf (machine_of R6026 Client true)) → first.action ≡ Sent → first.kind ≡ Request Invite →
         e.action ≡ Sent → e.kind ≡ Request Invite →

@@ -316,8 +316,8 @@ impl<H: BuildHasher> Tables<H> {
         out.extend_from_slice(&found)
     }
 
-    /// The numbers of the sets that a restart of the element may change: those that were lent to be changed since the last one, and
-    /// what it left with more than one state.
+    /// The numbers of the sets that a restart of the element may change: those that were lent to be changed since the last restart,
+    /// and those that it left with more than one state; after `wait_all` or `keep`, all of them.
     pub fn to_restart(&self) -> Result<Vec<u32>, AllocError>
         ensures { IfOk result (λ numbers. AreToRestart self.now numbers.items) }
     {

@@ -204,7 +204,7 @@ invite_sends p e x y (inl (row, is_row, to)) low = invite_sends_row p x.phase e.
 invite_sends p e x y (inr (inr (stays, same))) low = absurd stays
 invite_sends p e x y (inr (inl (left, pays, to))) low = inl (pays_ack x.phase e.kind e pays.first.message pays.holds.0)
 
--- after a final response of its INVITE a client sends ACK and CANCEL alone
+-- by the rules of RFC 6026 a client that has received a final response to its INVITE sends ACK and CANCEL alone
 pub invite_after_final : (p : Times) (before between later : List MachineEvent) (request final e : MachineEvent) (code : ℕ) (y : Owing invite.InviteClientPhase) → request.action ≡ Sent → request.kind ≡ Request Invite →
     final.action ≡ Received → final.kind ≡ Response code → IsFinal code → e.action ≡ Sent →
     AfterRun (key_rules p OfInviteClient) (before ++ request ∷ (between ++ final ∷ later)) e y → (e.kind ≡ Request Ack) ⊎ (e.kind ≡ Request Cancel)
@@ -277,7 +277,7 @@ module _ (p : Times) (one : MachineEvent) where
       (subst (λ g. Steps invite.invite_client p g.action g (record { phase = invite.Idle; owes = [] }) z) same does.1.1) in
       goes_keep invite.invite_client p Awaits awaits_kept z e.moment steps y m goes (awaits_opens z emits is)
 
-  -- the INVITE that begins a run is sent again byte for byte, over an unreliable transport, and T1 later or more, the tolerance aside
+  -- by the rules of RFC 6026 the INVITE that begins a run is sent again byte for byte, over an unreliable transport, and no earlier than T1 after it, less early
   pub invite_again : (between : List MachineEvent) (e : MachineEvent) (y : Owing invite.InviteClientPhase) → one.action ≡ Sent → one.kind ≡ Request Invite → e.action ≡ Sent → e.kind ≡ Request Invite →
       AfterRun (key_rules p OfInviteClient) (one ∷ between) e y → (e.text ≡ one.text) × (one.reliable ≡ false) × (open_at p one.moment p.t1 ≤ e.moment)
   invite_again between e y one_sent one_is e_sent e_is after =
@@ -351,7 +351,7 @@ plain_sends p e x y (inl (row, is_row, to)) low = plain_sends_row p x.phase e.ki
 plain_sends p e x y (inr (inr (stays, same))) low = absurd stays
 plain_sends p e x y (inr (inl (left, pays, to))) low = pays.holds.0
 
--- after a final response of its request a client sends nothing
+-- a client that has received a final response to a request that is no INVITE sends nothing
 plain_silent : (p : Times) (before between later : List MachineEvent) (request final e : MachineEvent) (code : ℕ) (y : Owing plain.PlainClientPhase) → request.action ≡ Sent → IsRequest request.kind →
     final.action ≡ Received → final.kind ≡ Response code → IsFinal code → e.action ≡ Sent →
     AfterRun (key_rules p OfPlainClient) (before ++ request ∷ (between ++ final ∷ later)) e y → ⊥
@@ -359,7 +359,7 @@ plain_silent p =
     after_final plain.plain_client p plain_rank (plain_ranked p) IsRequest (λ k. ⊥) (plain_opens p)
     (λ code e x y h is final low. plain_finishes p code e y is final x.phase x.owes low h) (plain_sends p)
 
--- by whichever rules it was built
+-- a client that has received a final response to a request that is no INVITE sends nothing, whichever rules it was built by
 pub plain_after_final : (p : Times) (rules : Rules) (before between later : List MachineEvent) (request final e : MachineEvent) (code : ℕ) (y : PhaseOf (machine_of rules Client false)) →
     request.action ≡ Sent → IsRequest request.kind → final.action ≡ Received → final.kind ≡ Response code → IsFinal code → e.action ≡ Sent →
     AfterRun (key_rules p (machine_of rules Client false)) (before ++ request ∷ (between ++ final ∷ later)) e y → ⊥

@@ -31,7 +31,7 @@ use std::alloc::{AllocError, Global};
 use std::hash::BuildHasher;
 use std::marker::Model;
 
-/// Judges the entries of a log as they come, each transaction for itself, and goes on after those that are in trouble. It forgets the
+/// Judges the entries of a log as they come, each transaction for itself, and goes on after those that are in trouble. It drops the
 /// messages that it does not need any more.
 #[derive(Drop)]
 pub struct Survey<H: BuildHasher> {

@@ -27,7 +27,7 @@ use Rattle.sip_standard.specs.VerdictOf.{events_for}
 use Rattle.sip_verdict.specs.Entries.{newest_moment}
 use Rattle.sip_verdict.specs.inner.Concerned.{each, is_all}
 use Rattle.sip_verdict.specs.inner.Tracking.{IsReady, IsStanding, Tracks, IsJudged}
-use Rattle.sip_verdict.specs.inner.TablesTracking.{LeadsOf, StandsOf, key_keeping, transactions_of, is_among, concerns_number, LeavesOthers, OthersAre, NamesNot, IsForgotten, MayPass, AllAreOnRecord, MayTake}
+use Rattle.sip_verdict.specs.inner.TablesTracking.{LeadsOf, StandsOf, key_keeping, transactions_of, is_among, concerns_number, LeavesOthers, OthersAre, NamesNot, DropsUnnamed, MayPass, AllAreOnRecord, MayTake}
 use Rattle.sip_verdict.specs.declared.concerned.Concerned.{Concerned}
 use Rattle.sip_verdict.specs.declared.passing.Hearing.{Hearing}
 use Rattle.sip_verdict.proofs.keys.Leading.{Leads-book}
@@ -117,19 +117,19 @@ module _ (number : ℕ) (bytes : List ℕ) (new : Texts) where
         (All-place (IsStanding (key_keeping old p) es e) (transactions_of t) n x at stand concerned))
 
 -- what was judged of an entry without trouble
-pub forgotten_judged : (number : ℕ) (old new : Texts) (p : Times) (es : List (Observation KeyParts)) (e : Observation KeyParts) (t : Tabled) → IsForgotten t.sets number old new
+pub dropped_judged : (number : ℕ) (old new : Texts) (p : Times) (es : List (Observation KeyParts)) (e : Observation KeyParts) (t : Tabled) → DropsUnnamed t.sets number old new
     → IsJudged p (key_keeping old p) es e (transactions_of t) None → IsJudged p (key_keeping new p) es e (transactions_of t) None
-forgotten_judged number old new p es e t (inl same) judged = subst (λ texts. IsJudged p (key_keeping texts p) es e (transactions_of t) None) (sym same) judged
-forgotten_judged number old new p es e t (inr (bytes, is, unnamed)) judged =
+dropped_judged number old new p es e t (inl same) judged = subst (λ texts. IsJudged p (key_keeping texts p) es e (transactions_of t) None) (sym same) judged
+dropped_judged number old new p es e t (inr (bytes, is, unnamed)) judged =
     let before = subst (λ texts. IsJudged p (key_keeping texts p) es e (transactions_of t) None) is judged in (
       record { keys = before.0.keys; ready = unnamed_ready number bytes new p (es ++ e ∷ []) t unnamed before.0.ready; good = before.0.good },
       unnamed_standing number bytes new p es t unnamed e before.1,
     )
 
 -- the next entry may come
-pub forgotten_take : (number : ℕ) (old new : Texts) (t : Tabled) (next moment : ℕ) → IsForgotten t.sets number old new → MayTake old t next moment → MayTake new t next moment
-forgotten_take number old new t next moment (inl same) may = subst (λ texts. MayTake texts t next moment) (sym same) may
-forgotten_take number old new t next moment (inr (bytes, is, unnamed)) may =
+pub dropped_take : (number : ℕ) (old new : Texts) (t : Tabled) (next moment : ℕ) → DropsUnnamed t.sets number old new → MayTake old t next moment → MayTake new t next moment
+dropped_take number old new t next moment (inl same) may = subst (λ texts. MayTake texts t next moment) (sym same) may
+dropped_take number old new t next moment (inr (bytes, is, unnamed)) may =
     let before = subst (λ texts. MayTake texts t next moment) is may in
     record {
       passes = record {
@@ -143,10 +143,10 @@ forgotten_take number old new t next moment (inr (bytes, is, unnamed)) may =
       few = before.few;
     }
 
--- what is left where the newest message was forgotten was kept before
-pub forgotten_within : (sets : List AnySet) (number : ℕ) (old new : Texts) → IsForgotten sets number old new → All (Contains old) new
-forgotten_within sets number old new (inl same) = same_within old new same
-forgotten_within sets number old new (inr (bytes, is, unnamed)) k d low =
+-- what is left where the newest message was dropped was kept before
+pub dropped_within : (sets : List AnySet) (number : ℕ) (old new : Texts) → DropsUnnamed sets number old new → All (Contains old) new
+dropped_within sets number old new (inl same) = same_within old new same
+dropped_within sets number old new (inr (bytes, is, unnamed)) k d low =
     subst (λ texts. Contains texts (get_or new k d)) (sym is) (Contains-append_left new ((number, bytes) ∷ []) (get_or new k d) (Contains-get_or new k d low))
 
 -- where none of some transactions names a message, the sets of their numbers do not

@@ -1,7 +1,7 @@
 use Rattle.std.proofs.Common.{inl, inr}
-use Rattle.sip_verdict.specs.inner.TablesTracking.{IsForgotten}
+use Rattle.sip_verdict.specs.inner.TablesTracking.{DropsUnnamed}
 use Rattle.sip_verdict.proofs.sweeps.NewestLemmas.{all_unnamed}
-use Rattle.sip_verdict.proofs.standing.Standing.forget.Goals as goal
+use Rattle.sip_verdict.proofs.standing.Standing.drop_unnamed.Goals as goal
 
 pub returns-clause-book : goal.returns-clause-book
 returns-clause-book g c =

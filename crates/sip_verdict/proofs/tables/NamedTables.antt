@@ -143,6 +143,7 @@ module _ (texts : Texts) (book : IsBook texts) (p : Times) (moment : ℕ) where
         let (number, has, text_is) = (at_key n key old new at here there text).0 named in
         (number, Contains-flat_map numbers_of u.sets new number (n, slice_get_within u.sets n new there, get_or_from_slice_get u.sets n new new there) has, text_is)
 
+    -- the texts that are named in the log are those of the messages that the sets name
     pub tables_named : (text : List ℕ) → IsNamed p es text ↔ IsNumberOf texts (flat_map numbers_of u.sets) text
     tables_named text = (
       λ h. from_key h.key text (h.state, subst (λ n. Stands (transaction_of (machine_of_key p.rules h.key)).figure p (events_for h.key es) n h.state) newest h.stands, h.names)

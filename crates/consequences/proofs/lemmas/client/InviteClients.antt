@@ -47,7 +47,7 @@ pub record IsReceiving (R : Receiving) : Type 0 where
       Answers reliable request k e y
   pub completed : (p : Times) (reliable : Bool) (request : List ℕ) (set : ℕ) (k : Kind) (e : MachineEvent) (y : Row) → R p (Completed reliable request set) k e y →
       (code : ℕ) × (k ≡ Response code) × IsUnsuccessful code × (y ≡ (Completed reliable request set, gains true e.text))
-  -- there is one for each 300 to 699 while it waits for one
+  -- each 300 to 699 has a row in calling, in proceeding and in completed
   pub takes_calling : (p : Times) (w : Waiting) (code : ℕ) (e : MachineEvent) → IsUnsuccessful code → R p (Calling w) (Response code) e (Completed w.reliable w.request e.moment, gains true e.text)
   pub takes_proceeding : (p : Times) (reliable : Bool) (request : List ℕ) (cancel : Option ℕ) (code : ℕ) (e : MachineEvent) → IsUnsuccessful code →
       R p (Proceeding reliable request cancel) (Response code) e (Completed reliable request e.moment, gains true e.text)

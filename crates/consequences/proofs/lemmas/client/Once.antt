@@ -17,14 +17,15 @@ use Rattle.consequences.proofs.lemmas.server.Asleep.{nothing-to-pay}
 use Rattle.consequences.proofs.lemmas.client.InviteClients.{Row, Receiving, client, IsDone, Answers, IsReceiving, pays-nothing, sends-idle, sends-calling, sends-proceeding, sends-accepted, sends-completed, sends-ended}
 use Rattle.consequences.proofs.lemmas.run.Running.{IsKept, left_at, step-of, stands-run, Cut, cut, run-keeps}
 
--- phases after the request: no row leads back, and the ended one sends only what it may and stays
+-- a client of which HasAsked says whether a phase comes after its request: no row leads back before it; the ended phase receives nothing, sends only
+-- what MaySend allows, and stays
 pub record IsOnce {X : Type 0} (f : Figure X) (p : Times) (HasAsked : X → Type 0) (IsRequest MaySend : Kind → Type 0) : Type 0 where
   pub idle : ¬ (HasAsked f.idle)
   pub ended : HasAsked f.ended
   pub received : (x : X) (k : Kind) (e : MachineEvent) (y : X × Change) → HasAsked x → f.Receives p x k e y → HasAsked y.0
   pub sent : (x : X) (k : Kind) (e : MachineEvent) (y : X × Change) → HasAsked x → f.Sends p x k e y → HasAsked y.0
   pub asks : (e : MachineEvent) (x y : Owing X) → IsRequest e.kind → Emits f p e x y → HasAsked y.phase
-  pub deaf : (k : Kind) (e : MachineEvent) (y : X × Change) → ¬ (f.Receives p f.ended k e y)
+  pub none_received : (k : Kind) (e : MachineEvent) (y : X × Change) → ¬ (f.Receives p f.ended k e y)
   pub over : (k : Kind) (e : MachineEvent) (y : X × Change) → f.Sends p f.ended k e y → MaySend k × (y ≡ (f.ended, keeps))
   pub unmoved : (x : X) (k : Kind) → ¬ (f.Stays x k)
 
@@ -54,6 +55,7 @@ module _ {X : Type 0} (f : Figure X) (p : Times) (HasAsked : X → Type 0) (IsRe
     as_it_takes = λ es e x y asked take. steps e.action e (record { phase = x.phase; owes = left_at e x }) y asked take;
   }
 
+  -- what is sent in the ended phase is what MaySend allows, and the client stays there
   pub over-emits : (e : MachineEvent) (y : Owing X) → Emits f p e (quiet f.ended) y → MaySend e.kind × (y ≡ quiet f.ended)
   over-emits e y (inl (row, is_row, to)) = let sends = once.over e.kind e row is_row in (sends.0, rw (to, sends.1))
   over-emits e y (inr (inl (left, pays, to))) = absurd (nothing-to-pay _ left pays)
@@ -64,7 +66,7 @@ module _ {X : Type 0} (f : Figure X) (p : Times) (HasAsked : X → Type 0) (IsRe
   over-fails false e y h = (over-emits e y h).1
 
   pub over-steps : (a : Action) (e : MachineEvent) (y : Owing X) → Steps f p a e (quiet f.ended) y → y ≡ quiet f.ended
-  over-steps Received e y (inl (row, is_row, to)) = absurd (once.deaf e.kind e row is_row)
+  over-steps Received e y (inl (row, is_row, to)) = absurd (once.none_received e.kind e row is_row)
   over-steps Received e y (inr (none, same)) = same
   over-steps Sent e y h = (over-emits e y h).1
   over-steps Failed e y h = over-fails (f.ends_refused f.ended e.kind) e y h
@@ -164,7 +166,7 @@ module _ (R : Receiving) (is : IsReceiving R) (p : Times) where
   asks e x y invites (inr (inr (stays, same))) = absurd stays
 
   pub invites-once : IsOnce (client R) p IsInvited (λ k. k ≡ Request Invite) (λ k. k ≡ Request Cancel)
-  invites-once = record { idle = λ h. h; ended = tt; received = received; sent = sent; asks = asks; deaf = is.ended p; over = sends-ended p; unmoved = λ x k h. h }
+  invites-once = record { idle = λ h. h; ended = tt; received = received; sent = sent; asks = asks; none_received = is.ended p; over = sends-ended p; unmoved = λ x k h. h }
 
 -- The client of any other method.
 
@@ -199,7 +201,7 @@ asks-once p = record {
   received = plain-received p;
   sent = λ x k e row asked h. plain-sent p x k e row h;
   asks = λ e x y asks h. plain-asks p e x y h;
-  deaf = λ k e row h. h;
+  none_received = λ k e row h. h;
   over = λ k e row h. absurd h;
   unmoved = λ x k h. h;
 }

@@ -2,40 +2,22 @@
 use Rattle.std.proofs.Common.{◌≡◌, ◌≤◌, ◌↔◌, ◌⊎◌, inl, inr, ℕ, List, [], ◌∷◌, ◌++◌, Contains, map, refl, sym, ap, ap₂, ◌∙◌, subst}
 use Rattle.std.specs.List.{flat_map}
 use Rattle.std.proofs.lemmas.List.{map-append}
-use Rattle.std.proofs.lemmas.List.Elements.{Contains-append_left, Contains-append_right, Contains-append_cases}
 use Rattle.sip_standard.specs.Times.{Times}
 use Rattle.sip_ledger.specs.declared.debt.Debt.{Debt}
 use Rattle.sip_machine.specs.Texts.{Texts, text_of}
 use Rattle.sip_machine.specs.Owes.{owes_seen, owes_names}
 use Rattle.sip_standard.specs.MachineEvent.{MachineEvent}
 use Rattle.sip_machine.specs.Rules.{MachineRules, IsLawful, StandFor}
-use Rattle.sip_machine.proofs.texts.TextLaws.{Contains-nil, Contains-cons_cases}
 use Rattle.sip_states.specs.Runs.{Wait, RuledRun}
 use Rattle.sip_standard.specs.KeyMachine.{MachineKind}
 use Rattle.sip_states.specs.KeySets.{coded_of, StateOf}
 use Rattle.sip_states.proofs.keyed.KeySetLaws.{coded_holds}
 use Rattle.sip_states.specs.AnySet.{meaning_of}
-use Rattle.sip_states.proofs.lists.Listed.{Contains-map, Contains-from_map, Contains-here, Contains-there, Contains-none}
+use Rattle.sip_states.proofs.lists.Listed.{Contains-map, Contains-from_map, Contains-none}
+use Rattle.sip_states.proofs.keyed.NamesLemmas.{Contains-flat_map, Contains-from_flat_map}
 use Rattle.sip_states.proofs.sets.Waiting.{StaysFrom, EndsFrom, Wait-cases}
 use Rattle.sip_verdict.specs.inner.Leads.{Leads}
 use Rattle.sip_verdict.specs.Named.{messages_of}
-
--- an element of a list that one of several gives
-pub Contains-flat_map : {X Y : Type 0} (f : X → List Y) (xs : List X) (x : X) (y : Y) → Contains xs x → Contains (f x) y → Contains (flat_map f xs) y
-Contains-flat_map f [] x y among has = absurd (Contains-nil x among)
-Contains-flat_map f (u ∷ xs) x y among has =
-    elim (Contains-cons_cases u xs x among) [
-      | inl same ↦ Contains-append_left (f u) (flat_map f xs) y (subst (λ v. Contains (f v) y) (sym same) has)
-      | inr rest ↦ Contains-append_right (f u) (flat_map f xs) y (Contains-flat_map f xs x y rest has)
-    ]
-
-pub Contains-from_flat_map : {X Y : Type 0} (f : X → List Y) (xs : List X) (y : Y) → Contains (flat_map f xs) y → (x : X) × Contains xs x × Contains (f x) y
-Contains-from_flat_map f [] y has = absurd (Contains-nil y has)
-Contains-from_flat_map f (u ∷ xs) y has =
-    elim (Contains-append_cases (f u) (flat_map f xs) y has) [
-      | inl here ↦ (u, Contains-here u xs, here)
-      | inr more ↦ (let (x, among, is) = Contains-from_flat_map f xs y more in (x, Contains-there u xs x among, is))
-    ]
 
 -- a number of the set stands for the text
 abbrev pub IsNumberOf : Texts → List ℕ → List ℕ → Type 0

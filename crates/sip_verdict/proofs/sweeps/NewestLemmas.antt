@@ -31,7 +31,7 @@ use Rattle.sip_verdict.specs.inner.TablesTracking.{LeadsOf, StandsOf, key_keepin
 use Rattle.sip_verdict.specs.declared.concerned.Concerned.{Concerned}
 use Rattle.sip_verdict.specs.declared.passing.Hearing.{Hearing}
 use Rattle.sip_verdict.proofs.keys.Leading.{Leads-book}
-use Rattle.sip_verdict.proofs.sweeps.NamedLemmas.{Contains-flat_map, Contains-from_flat_map}
+use Rattle.sip_states.proofs.keyed.NamesLemmas.{Contains-flat_map, Contains-from_flat_map}
 use Rattle.sip_verdict.proofs.sweeps.SweptBook.{same_within}
 use Rattle.sip_verdict.proofs.tables.TablesPassing.{All-place, All-places, place-zip, among_one}
 

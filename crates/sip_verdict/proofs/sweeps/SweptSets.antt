@@ -25,7 +25,7 @@ use Rattle.sip_verdict.specs.inner.Leads.{Leads}
 use Rattle.sip_verdict.specs.inner.TablesTracking.{LeadsOf}
 use Rattle.sip_verdict.proofs.keys.Leading.{iff_trans, Leads-book}
 use Rattle.sip_states.proofs.keyed.ByMachine.{some_machine, lawful_of, moment_is, numbers_are, of_set, to_set, of_sets, seen_by_names_of}
-use Rattle.sip_verdict.proofs.sweeps.NamedLemmas.{Contains-flat_map}
+use Rattle.sip_states.proofs.keyed.NamesLemmas.{Contains-flat_map}
 
 -- once a set that leads has waited, it leads
 pub waited_leads : {X S : Type 0} (names : S → List ℕ) (InRange : S → Type 0) (seen : Texts → S → X) (texts : Texts) (r : MachineRules X) → IsLawful r → (events : List MachineEvent) (from at moment : ℕ) (old new : List S) → at ≤ moment

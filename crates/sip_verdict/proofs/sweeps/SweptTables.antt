@@ -22,7 +22,7 @@ use Rattle.sip_verdict.specs.inner.Tracking.{IsReady, Tracks}
 use Rattle.sip_verdict.specs.inner.TablesTracking.{key_keeping, transactions_of, TablesTrack, MayPass, IsOnRecord, AllAreOnRecord}
 use Rattle.sip_states.proofs.keyed.ByMachine.{some_machine, moment_is, numbers_are, of_set, to_set, of_sets}
 use Rattle.sip_verdict.proofs.tables.TablesPassing.{at_place, All-place, All-places, zip-place, place-zip, keys_are}
-use Rattle.sip_verdict.proofs.sweeps.NamedLemmas.{Contains-flat_map, Contains-from_flat_map}
+use Rattle.sip_states.proofs.keyed.NamesLemmas.{Contains-flat_map, Contains-from_flat_map}
 use Rattle.sip_verdict.proofs.sweeps.SweptSets.{swept_leads, swept_agenda}
 
 -- numbers that were appended to none

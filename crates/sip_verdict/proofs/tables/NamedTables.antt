@@ -35,7 +35,8 @@ use Rattle.sip_verdict.specs.inner.Tracking.{IsReady}
 use Rattle.sip_verdict.proofs.keys.Keys.{among-contains, new_key}
 use Rattle.sip_states.proofs.keyed.ByMachine.{lawful_of, moment_is, numbers_are, of_sets}
 use Rattle.sip_verdict.proofs.tables.TablesPassing.{at_place, All-place, zip-place, keys_are}
-use Rattle.sip_verdict.proofs.sweeps.NamedLemmas.{RunNames, IsNumberOf, waited_names, silent_names, named_of, first_silent, ended_silent, Contains-flat_map, Contains-from_flat_map}
+use Rattle.sip_states.proofs.keyed.NamesLemmas.{Contains-flat_map, Contains-from_flat_map}
+use Rattle.sip_verdict.proofs.sweeps.NamedLemmas.{RunNames, IsNumberOf, waited_names, silent_names, named_of, first_silent, ended_silent}
 
 -- a run over no event stands in the first state
 stays_first : {X : Type 0} (r : MachineRules X) → IsLawful r → (m : ℕ) (y : X) → RuledRun r [] m y → y ≡ r.first

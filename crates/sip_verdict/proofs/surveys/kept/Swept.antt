@@ -21,7 +21,8 @@ use Rattle.sip_verdict.specs.Surveys.{IsStillNamed}
 use Rattle.sip_verdict.specs.inner.TablesTracking.{LeadsOf, MayPass}
 use Rattle.sip_verdict.specs.inner.Surveying.{IsFollowed, TablesSurvey}
 use Rattle.sip_verdict.proofs.keys.Keys.{among-contains, new_key}
-use Rattle.sip_verdict.proofs.sweeps.NamedLemmas.{IsNumberOf, Contains-flat_map, Contains-from_flat_map}
+use Rattle.sip_states.proofs.keyed.NamesLemmas.{Contains-flat_map, Contains-from_flat_map}
+use Rattle.sip_verdict.proofs.sweeps.NamedLemmas.{IsNumberOf}
 use Rattle.sip_verdict.proofs.tables.NamedTables.{no_events_silent, key_named, many_texts, StandsNaming}
 use Rattle.sip_verdict.proofs.sweeps.SweptSets.{swept_leads}
 use Rattle.sip_verdict.proofs.sweeps.SweptTables.{before, within}

@@ -22,7 +22,7 @@ All-from_splits P (x ∷ xs) each =
     All-cons P x xs (each [] x xs refl) (All-from_splits P xs (λ front y rest is. each (x ∷ front) y rest (ap (λ z. x ∷ z) is)))
 
 -- a list is empty or has a last element
-empty_or_last : {A : Type 0} (xs : List A) → (xs ≡ []) ⊎ ((front : List A) × (x : A) × (xs ≡ front ++ x ∷ []))
+pub empty_or_last : {A : Type 0} (xs : List A) → (xs ≡ []) ⊎ ((front : List A) × (x : A) × (xs ≡ front ++ x ∷ []))
 empty_or_last [] = inl refl
 empty_or_last {A} (x ∷ xs) = go (empty_or_last xs)
   where

@@ -24,6 +24,13 @@ use Rattle.consequences.proofs.lemmas.server.Said.{IsOut, IsSaid, IsSaidLast, al
 use Rattle.consequences.proofs.lemmas.run.Running.{IsKept, left_at, step-of, stands-run, Cut, cut, run-keeps, append-none}
 use Rattle.consequences.proofs.lemmas.server.InviteServers.{Row, IsServer, ReceivedRow, comes, again, again_after, acknowledged, received-row, SentRow, provisional, success, unsuccessful, success_again, repeats, sent-row}
 
+-- one code is not both a success and another final one
+pub one-code : (e : MachineEvent) → IsResponse IsUnsuccessful e → ¬ (IsResponse IsSuccess e)
+one-code e (code, kind, unsuccessful) (other, again, success) = absurd (omega (arith, codes-are-one code other (sym kind ∙ again), unsuccessful.0, success.1))
+  where
+    codes-are-one : (a b : ℕ) → Response a ≡ Response b → a ≡ b
+    codes-are-one a b same = cc
+
 module _ {X : Type 0} (f : Figure X) (p : Times) (held : InviteServerPhase → X) (is : IsServer f p held) where
   -- the state holds a phase of which K is so
   abbrev pub HoldsIn : (InviteServerPhase → List Owed → Type 0) → Owing X → Type 0

@@ -14,7 +14,8 @@ use Rattle.sip_verdict.specs.SurveyLaws.{IsIdleAgain}
 use Rattle.sip_verdict.proofs.keys.FewerEntries.{newest-to, newest-before, events-all, events-append}
 use Rattle.sip_verdict.proofs.keys.Keys.{newest_moment-push}
 use Rattle.sip_verdict.proofs.verdicts.Unique.{All-middle}
-use Rattle.sip_verdict.proofs.surveys.forgetting.IdleAgain.{idle_is_new, last_of_list}
+use Rattle.sip_verdict.proofs.verdicts.LegalRuns.{empty_or_last}
+use Rattle.sip_verdict.proofs.surveys.forgetting.IdleAgain.{idle_is_new}
 use Rattle.sip_verdict.proofs.surveys.found.Once.{ordered_front}
 use Rattle.sip_verdict.proofs.surveys.found.Sound.{sound_nil}
 
@@ -108,7 +109,7 @@ module _ (p : Times) (key : KeyParts) (old : List (Observation KeyParts)) (again
         narrow new front e rest wide (inr (zs, before, is)) = new.1 zs e rest is ((wide_new zs e (order_at zs e rest is)).0 (subst (λ xs. IsWideAt p xs e key) before wide))
 
         runs_of : (es : List (Observation KeyParts)) → order_of es → RunsOver p (old ++ es) key → RunsOver p es key
-        runs_of es order runs = by (last_of_list es)
+        runs_of es order runs = by (empty_or_last es)
           where
             by : (es ≡ []) ⊎ ((front : List (Observation KeyParts)) × (e : Observation KeyParts) × (es ≡ front ++ e ∷ [])) → RunsOver p es key
             by (inl none) = subst (λ xs. RunsOver p xs key) (sym none) (sound_nil p key).0
@@ -117,7 +118,7 @@ module _ (p : Times) (key : KeyParts) (old : List (Observation KeyParts)) (again
                 ((runs_new front e (subst order_of is order)).0 (subst (λ xs. RunsOver p xs key) (ap (λ xs. old ++ xs) is ∙ sym (append_assoc old front (e ∷ []))) runs))
 
         runs_both : (es : List (Observation KeyParts)) → order_of es → RunsOver p es key → RunsOver p (old ++ es) key
-        runs_both es order runs = by (last_of_list es)
+        runs_both es order runs = by (empty_or_last es)
           where
             by : (es ≡ []) ⊎ ((front : List (Observation KeyParts)) × (e : Observation KeyParts) × (es ≡ front ++ e ∷ [])) → RunsOver p (old ++ es) key
             by (inl none) = subst (λ xs. RunsOver p (old ++ xs) key) (sym none) (subst (λ xs. RunsOver p xs key) (sym (append-nil old)) sound.0)

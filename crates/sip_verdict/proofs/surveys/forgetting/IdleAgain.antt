@@ -9,6 +9,7 @@ use Rattle.sip_standard.specs.Figure.{Figure, Owing, quiet, Lasts, MayEnd}
 use Rattle.sip_standard.specs.Stands.{Stands, begins, waits, ends, takes}
 use Rattle.sip_standard.specs.KeyMachine.{MachineKind, transaction_of}
 use Rattle.sip_verdict.specs.SurveyLaws.{IsIdleAgain}
+use Rattle.sip_verdict.proofs.verdicts.LegalRuns.{empty_or_last}
 use Rattle.sip_verdict.proofs.verdicts.Unique.{All-middle}
 use Rattle.sip_verdict.proofs.surveys.forgetting.Lasting.{idle_lasts, idle_stays, lasts_earlier}
 
@@ -20,15 +21,6 @@ IsFrom m e = m ≤ e.moment
 
 All-front : {X : Type 0} (P : X → Type 0) (xs : List X) (x : X) → All P (xs ++ x ∷ []) → All P xs
 All-front P xs x all k d low = subst P (get_or_append_left xs (x ∷ []) d k low) (all k d (let long = length-append xs (x ∷ []) in omega (arith, low, long)))
-
--- a list is empty or has a last element
-pub last_of_list : {A : Type 0} (xs : List A) → (xs ≡ []) ⊎ ((front : List A) × (x : A) × (xs ≡ front ++ x ∷ []))
-last_of_list [] = inl refl
-last_of_list {A} (x ∷ xs) = go (last_of_list xs)
-  where
-    go : (xs ≡ []) ⊎ ((front : List A) × (y : A) × (xs ≡ front ++ y ∷ [])) → (x ∷ xs ≡ []) ⊎ ((front : List A) × (y : A) × (x ∷ xs ≡ front ++ y ∷ []))
-    go (inl e) = inr ([], x, ap (λ z. x ∷ z) e)
-    go (inr h) = inr (x ∷ h.0, h.1, ap (λ z. x ∷ z) h.2)
 
 module _ {X : Type 0} (f : Figure X) (p : Times) (lasts : (m : ℕ) → Lasts f p (quiet f.idle) m) (has_no_end : (m : ℕ) → ¬ (MayEnd f p (quiet f.idle) m)) where
   -- no event of a run is after where it stands
@@ -76,7 +68,7 @@ module _ {X : Type 0} (f : Figure X) (p : Times) (lasts : (m : ℕ) → Lasts f 
     off all k y (waits evs h n x stands low lasting) high more is from = go (dec_le m h) (λ late. off evs h x stands late more is from)
       where
         none : (ys : List MachineEvent) → evs ≡ old ++ ys → All (IsFrom m) ys → h < m → ys ≡ []
-        none ys are later early = by (last_of_list ys)
+        none ys are later early = by (empty_or_last ys)
           where
             by : (ys ≡ []) ⊎ ((front : List MachineEvent) × (e : MachineEvent) × (ys ≡ front ++ e ∷ [])) → ys ≡ []
             by (inl e) = e
@@ -93,7 +85,7 @@ module _ {X : Type 0} (f : Figure X) (p : Times) (lasts : (m : ℕ) → Lasts f 
             let here : Stands f p old m x = waits old h m x (subst (λ es. Stands f p es h x) (is ∙ ap (λ ys. old ++ ys) nil ∙ append-nil old) stands) (omega (arith, early)) (lasts_earlier f p x m n high lasting) in
             subst (λ es. Stands f p es n x) (sym nil) (subst (Stands f p [] n) (sym (only x here)) (new n))
     off all k y (ends evs h x stands may) high more is from = ends more h x (off evs h x stands high more is from) may
-    off all k y (takes evs e x z stands does) high more is from = go (last_of_list more) (λ front are later. off evs e.moment x stands high front are later)
+    off all k y (takes evs e x z stands does) high more is from = go (empty_or_last more) (λ front are later. off evs e.moment x stands high front are later)
       where
         go : (more ≡ []) ⊎ ((front : List MachineEvent) × (d : MachineEvent) × (more ≡ front ++ d ∷ [])) → ((front : List MachineEvent) → evs ≡ old ++ front → All (IsFrom m) front → Stands f p front e.moment x) → Stands f p more e.moment z
         go (inl nil) before =

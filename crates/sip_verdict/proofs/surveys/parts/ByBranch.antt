@@ -1,5 +1,5 @@
 -- A log can be cut by branch: all that a message concerns has the branch of its top Via.
-use Rattle.std.proofs.Common.{◌≡◌, inl, inr, ℕ, Bool, true, false, Option, Some, None, MatchOption, List, [], ◌∷◌, ◌++◌, All, if◌then◌else◌, refl, sym, ap, ◌∙◌, subst}
+use Rattle.std.proofs.Common.{◌≡◌, inl, inr, ℕ, Bool, true, false, Option, Some, None, List, [], ◌∷◌, ◌++◌, All, if◌then◌else◌, refl, sym, ap, ◌∙◌, subst}
 use Rattle.std.specs.Prelude.{option_map, option_to_list, codes, bytes_eq}
 use Rattle.std.proofs.lemmas.List.Elements.{All-nil, All-cons, All-append, All-weaker}
 use Rattle.sip_standard.specs.Says.{Said}
@@ -13,10 +13,11 @@ use Rattle.sip_standard.specs.Concerns.{Concerns, role_of, sent_by_of, method_of
 use Rattle.sip_standard.specs.declared.action.Action.{Action}
 use Rattle.sip_standard.specs.declared.action.Action.TheVariants.{Sent, Received, Failed, Mark, Restart}
 use Rattle.sip_standard.specs.LogEntry.{Item}
-use Rattle.sip_standard.specs.Observation.{Observation, direction_of, silent_observation, ObservesMessage, has_fault, has_no_cookie, is_heard}
+use Rattle.sip_standard.specs.Observation.{Observation, ObservesMessage, has_fault, has_no_cookie, is_heard}
 use Rattle.sip_standard.specs.Seen.{AreSeen}
-use Rattle.sip_standard.specs.VerdictOf.{keys_in, Sees}
+use Rattle.sip_standard.specs.VerdictOf.{Sees}
 use Rattle.sip_verdict.specs.SurveyLaws.{StaysOrIsMark, IsCutLog}
+use Rattle.sip_verdict.proofs.surveys.parts.CutLogs.{SeenAs}
 
 -- a key of a branch has that branch
 own_branch : (role : Role) (sent_by method : List ℕ) (branch : Option (List ℕ))
@@ -67,10 +68,6 @@ module _ (chosen : List ℕ → Bool) where
   message_cut direction item e (has_no_cookie s says lacks is) = none_stays item e (ap (λ f. f.keys) is)
   message_cut direction item e (is_heard s keys says has concerns is) =
       one_cut item e (cookie_branch s.via.branch) (subst (All (λ key. cookie_branch s.via.branch ≡ Some key.branch)) (sym (ap (λ f. f.keys) is)) (of_one_branch s direction keys concerns))
-
-  -- what is seen of an item with which this was done
-  abbrev SeenAs : List (Observation KeyParts) → Item → Observation KeyParts → Action → Type 0
-  SeenAs es item e a = MatchOption (direction_of a) (e ≡ silent_observation a item.moment (keys_in es)) (λ direction. ObservesMessage direction item e)
 
   item_cut : (done : List (Observation KeyParts)) (item : Item) (e : Observation KeyParts) → Sees done item e → Cut item e
   item_cut done item e sees = by item.action refl sees

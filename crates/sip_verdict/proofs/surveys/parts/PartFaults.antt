@@ -1,5 +1,5 @@
 -- A fault is found in the log of some transactions exactly where it is found in the whole and its message stays.
-use Rattle.std.proofs.Common.{◌≡◌, ◌↔◌, ◌<◌, ◌+◌, inl, inr, ℕ, zero, suc, Bool, Some, None, List, [], ◌∷◌, ◌++◌, Contains, length, refl, sym, ap, ◌∙◌, subst, arith, append_assoc, append-nil, MatchOption, length-append}
+use Rattle.std.proofs.Common.{◌≡◌, ◌↔◌, ◌<◌, ◌+◌, inl, inr, ℕ, zero, suc, Bool, Some, None, List, [], ◌∷◌, ◌++◌, Contains, length, refl, sym, ap, ◌∙◌, subst, arith, append_assoc, append-nil, length-append}
 use Rattle.sip_standard.specs.declared.fault.Fault.{Fault}
 use Rattle.sip_standard.specs.Key.{KeyParts}
 use Rattle.sip_standard.specs.declared.action.Action.{Action}
@@ -10,13 +10,13 @@ use Rattle.sip_standard.specs.LogSays.{LogEnd}
 use Rattle.sip_verdict.specs.declared.finding.Finding.{Finding}
 use Rattle.sip_verdict.specs.declared.finding.Finding.TheVariants.{Malformed}
 use Rattle.sip_verdict.specs.declared.survey_end.SurveyEnd.{SurveyEnd}
-use Rattle.sip_standard.specs.Observation.{Observation, direction_of, silent_observation, ObservesMessage}
+use Rattle.sip_standard.specs.Observation.{Observation}
 use Rattle.sip_standard.specs.Seen.{AreSeen}
-use Rattle.sip_standard.specs.VerdictOf.{keys_in, Sees}
+use Rattle.sip_standard.specs.VerdictOf.{Sees}
 use Rattle.sip_verdict.specs.SurveyOf.{IsFoundAt, IsSurveyAfter}
 use Rattle.sip_verdict.specs.SurveyLaws.{StaysOrIsMark, IsCutLog, StaysAt}
 use Rattle.sip_verdict.proofs.verdicts.MessageUnique.{observes_one}
-use Rattle.sip_verdict.proofs.surveys.parts.CutLogs.{log_cut}
+use Rattle.sip_verdict.proofs.surveys.parts.CutLogs.{SeenAs, log_cut}
 use Rattle.sip_verdict.proofs.surveys.found.Named.{found_at, found_is}
 use Rattle.sip_verdict.proofs.surveys.parts.Parts.{same_split}
 
@@ -118,10 +118,6 @@ cut_long chosen done back (item ∷ items) cuts [] cs seen saw cut = absurd seen
 cut_long chosen done back (item ∷ items) [] (e ∷ es) cs seen saw cut = absurd cut
 cut_long chosen done back (item ∷ items) (i ∷ cuts) (e ∷ es) [] seen saw cut = absurd saw
 cut_long chosen done back (item ∷ items) (i ∷ cuts) (e ∷ es) (c ∷ cs) seen saw cut = let rest = cut_long chosen (done ++ e ∷ []) (back ++ c ∷ []) items cuts es cs seen.1 saw.1 cut.1 in omega (arith, rest)
-
--- what is seen of an item with which this was done
-abbrev SeenAs : List (Observation KeyParts) → Item → Observation KeyParts → Action → Type 0
-SeenAs es item e a = MatchOption (direction_of a) (e ≡ silent_observation a item.moment (keys_in es)) (λ direction. ObservesMessage direction item e)
 
 -- an item has one fault, whatever stands before it
 same_fault : (xs ys : List (Observation KeyParts)) (item : Item) (e c : Observation KeyParts) → Sees xs item e → Sees ys item c → e.fault ≡ c.fault

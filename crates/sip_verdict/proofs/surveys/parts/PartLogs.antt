@@ -11,12 +11,13 @@ use Rattle.sip_standard.specs.declared.action.Action.TheVariants.{Sent, Received
 use Rattle.sip_standard.specs.LogEntry.{Item}
 use Rattle.sip_part.specs.Part.{PartOf, TellsBranch, compared, falls_into}
 use Rattle.sip_part.proofs.Told.{told_branch}
-use Rattle.sip_standard.specs.Observation.{Observation, direction_of, silent_observation, ObservesMessage, has_fault, has_no_cookie, is_heard}
+use Rattle.sip_standard.specs.Observation.{Observation, direction_of, ObservesMessage, has_fault, has_no_cookie, is_heard}
 use Rattle.sip_standard.specs.Seen.{AreSeen}
-use Rattle.sip_standard.specs.VerdictOf.{keys_in, Sees}
+use Rattle.sip_standard.specs.VerdictOf.{Sees}
 use Rattle.sip_verdict.specs.SurveyLaws.{StaysOrIsMark, IsCutLog}
 use Rattle.sip_verdict.specs.SurveyParts.{IsPartItem, IsPartLog}
 use Rattle.sip_verdict.proofs.surveys.parts.ByBranch.{of_one_branch}
+use Rattle.sip_verdict.proofs.surveys.parts.CutLogs.{SeenAs}
 use Rattle.sip_verdict.proofs.surveys.parts.Taking.{mark_of}
 
 -- a branch with the cookie is as it is compared
@@ -50,9 +51,6 @@ module _ (part : PartOf) where
       (λ key of. ap (falls_into part) (sym (told ∙ cookie_compared s.via.branch key.branch of))) keys (of_one_branch s direction keys concerns) in
       kept item cut e (falls_into part branch) (subst (All (λ key. Chosen key ≡ falls_into part branch)) (sym (ap (λ f. f.keys) is)) all) same
 
-  abbrev SeenSo : List (Observation KeyParts) → Item → Observation KeyParts → Action → Type 0
-  SeenSo es item e a = MatchOption (direction_of a) (e ≡ silent_observation a item.moment (keys_in es)) (λ direction. ObservesMessage direction item e)
-
   abbrev CutSo : Item → Item → Action → Type 0
   CutSo item cut a =
       MatchOption (direction_of a) (cut ≡ item) (λ direction. (branch : List ℕ) × TellsBranch item.text branch × (cut ≡ if falls_into part branch then item else mark_of item))
@@ -60,7 +58,7 @@ module _ (part : PartOf) where
   item_part : (done : List (Observation KeyParts)) (item cut : Item) (e : Observation KeyParts) → Sees done item e → IsPartItem part item cut → StaysOrIsMark Chosen item e cut
   item_part done item cut e sees is_cut = by item.action refl sees is_cut
     where
-      by : (a : Action) → item.action ≡ a → SeenSo done item e a → CutSo item cut a → StaysOrIsMark Chosen item e cut
+      by : (a : Action) → item.action ≡ a → SeenAs done item e a → CutSo item cut a → StaysOrIsMark Chosen item e cut
       by Sent is seen (branch, tells, same) = message_part way.Sent item cut e seen branch tells same
       by Received is seen (branch, tells, same) = message_part way.Received item cut e seen branch tells same
       by Failed is seen (branch, tells, same) = message_part way.Sent item cut e seen branch tells same

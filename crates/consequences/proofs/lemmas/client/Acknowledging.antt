@@ -2,6 +2,7 @@
 use Rattle.std.proofs.Common.{◌≡◌, ◌≤◌, ◌<◌, ◌*◌, ◌⊎◌, inl, inr, ℕ, Bool, true, false, Some, None, List, [], ◌∷◌, ◌++◌, All, Contains, refl, sym, subst, ◌∙◌, arith}
 use Rattle.std.specs.List.{Any}
 use Rattle.std.proofs.lemmas.List.Elements.{Contains-push}
+use Rattle.std.proofs.lemmas.List.{append-nil}
 use Rattle.sip_standard.specs.AckOf.{AckOf}
 use Rattle.sip_standard.specs.declared.action.Action.{Action}
 use Rattle.sip_standard.specs.declared.action.Action.TheVariants.{Sent, Received, Failed, Mark, Restart}
@@ -20,7 +21,7 @@ use Rattle.consequences.specs.Acknowledged.{Acknowledges}
 use Rattle.consequences.specs.Events.{SendsRequest, GetsResponse, IsRefused, IsRestart}
 use Rattle.consequences.proofs.lemmas.run.Lists.{any-last, any-earlier}
 use Rattle.consequences.proofs.lemmas.run.MustSend.{still-owed, other-paid, more-owed, no-end, in-time}
-use Rattle.consequences.proofs.lemmas.run.Running.{IsKept, left_at, step-of, stands-run, Cut, cut, run-keeps, append-none}
+use Rattle.consequences.proofs.lemmas.run.Running.{IsKept, left_at, step-of, stands-run, Cut, cut, run-keeps}
 use Rattle.consequences.proofs.lemmas.client.InviteClients.{Row, Receiving, client, Answers, IsReceiving, pays-completed, sends-calling, sends-proceeding, sends-completed}
 use Rattle.consequences.proofs.lemmas.client.Unanswered.{CallsFrom, begins-calling}
 
@@ -125,7 +126,7 @@ module _ (R : Receiving) (is : IsReceiving R) (p : Times) (invite : MachineEvent
     where
       as_it_waits : (es : List MachineEvent) (h m : ℕ) (x : Owing InviteClientPhase) → Awaits es h x → h ≤ m → Lasts f p x m → Awaits es m x
       as_it_waits es h m x (from, inl waits) low lasts = (omega (arith, from, low), inl waits)
-      as_it_waits es h m x (from, inr over) low lasts = (omega (arith, from, low), inr (subst (λ fs. Over fs m) (append-none es) (over-later es [] h m low over)))
+      as_it_waits es h m x (from, inr over) low lasts = (omega (arith, from, low), inr (subst (λ fs. Over fs m) (append-nil es) (over-later es [] h m low over)))
 
       as_it_ends : (es : List MachineEvent) (h : ℕ) (x : Owing InviteClientPhase) → Awaits es h x → MayEnd f p x h → Awaits es h (quiet Ended)
       as_it_ends es h x (from, inl waits) may = (from, inr (waits-ends es h x.phase x.owes waits may))
@@ -236,6 +237,7 @@ module _ (R : Receiving) (is : IsReceiving R) (p : Times) (invite : MachineEvent
         as_it_takes es e x y (inr (inl acked)) take = inr (inl (any-earlier (Acknowledges p invite response) es (e ∷ []) acked))
         as_it_takes es e x y (inr (inr broken)) take = inr (inr (any-earlier (λ g. IsRefused g ⊎ IsRestart g) es (e ∷ []) broken))
 
+    -- once the time to acknowledge a 300 to 699 is over, its ACK has been sent, or a message was refused, or the element began anew
     pub acknowledged : (lasts : (events : List MachineEvent) (m : ℕ) (x : Owing InviteClientPhase) → Stands f p events m x → Lasts f p x m) (before between after : List MachineEvent) (m : ℕ) (y : Owing InviteClientPhase) →
         All (λ g. ¬ (SendsRequest Invite g)) before → SendsRequest Invite invite → ¬ (Over between response.moment) → GetsResponse IsUnsuccessful response →
         Stands f p (before ++ invite ∷ (between ++ response ∷ after)) m y → close_at p response.moment 0 < m → Any (Acknowledges p invite response) after ⊎ Any (λ g. IsRefused g ⊎ IsRestart g) after

@@ -65,6 +65,7 @@ module _ {X : Type 0} (f : Figure X) (p : Times) (HasAsked : X → Type 0) (IsRe
   over-fails true e y h = h.1
   over-fails false e y h = (over-emits e y h).1
 
+  -- no step leads away from the end
   pub over-steps : (a : Action) (e : MachineEvent) (y : Owing X) → Steps f p a e (quiet f.ended) y → y ≡ quiet f.ended
   over-steps Received e y (inl (row, is_row, to)) = absurd (once.none_received e.kind e row is_row)
   over-steps Received e y (inr (none, same)) = same
@@ -101,6 +102,7 @@ module _ {X : Type 0} (f : Figure X) (p : Times) (HasAsked : X → Type 0) (IsRe
           by-restart found.to (once.asks request (record { phase = found.from.phase; owes = left_at request found.from }) found.to asks (step-of f p Sent request found.from found.to sent found.step))
           (cut f p found.to request.moment between restart after m y found.goes)
 
+  -- after its request and a restart a client sends only what MaySend allows
   pub restart-silences : (before between after : List MachineEvent) (request restart e : MachineEvent) (y : Owing X) → request.action ≡ Sent → IsRequest request.kind → IsRestart restart →
       e.action ≡ Sent → StandsAfter f p (before ++ request ∷ (between ++ restart ∷ after)) e y → MaySend e.kind
   restart-silences before between after request restart e y sent asks restarts is_sent (x, stands, take) =
@@ -109,6 +111,7 @@ module _ {X : Type 0} (f : Figure X) (p : Times) (HasAsked : X → Type 0) (IsRe
 
 -- The INVITE clients.
 
+-- the INVITE was sent: the phase is not idle
 abbrev pub IsInvited : invite.InviteClientPhase → Type 0
 IsInvited invite.Idle = ⊥
 IsInvited x = Unit {0}
@@ -165,15 +168,18 @@ module _ (R : Receiving) (is : IsReceiving R) (p : Times) where
   asks e x y invites (inr (inl (left, pays, to))) = absurd (no-ack (sym invites ∙ (pays-nothing x.phase e.kind e pays.first.message pays.holds.0).4))
   asks e x y invites (inr (inr (stays, same))) = absurd stays
 
+  -- an INVITE client sends its INVITE once, and after the end CANCEL alone
   pub invites-once : IsOnce (client R) p IsInvited (λ k. k ≡ Request Invite) (λ k. k ≡ Request Cancel)
   invites-once = record { idle = λ h. h; ended = tt; received = received; sent = sent; asks = asks; none_received = is.ended p; over = sends-ended p; unmoved = λ x k h. h }
 
 -- The client of any other method.
 
+-- the request was sent: the phase is not idle
 abbrev pub IsAsked : plain.PlainClientPhase → Type 0
 IsAsked plain.Idle = ⊥
 IsAsked x = Unit {0}
 
+-- a request, whatever its method
 abbrev pub IsAnyRequest : Kind → Type 0
 IsAnyRequest k = (method : Method) × (k ≡ Request method)
 
@@ -194,6 +200,7 @@ plain-asks p e x y (inl (row, is_row, to)) = rw to (plain-sent p x.phase e.kind 
 plain-asks p e x y (inr (inl (left, pays, to))) = absurd pays.holds.0
 plain-asks p e x y (inr (inr (stays, same))) = absurd stays
 
+-- a client of any other method sends its request once, and nothing after the end
 pub asks-once : (p : Times) → IsOnce plain.plain_client p IsAsked IsAnyRequest (λ k. ⊥)
 asks-once p = record {
   idle = λ h. h;

@@ -1,6 +1,7 @@
 -- An INVITE client before a response has come: it sends no CANCEL, and ends by timer B.
 use Rattle.std.proofs.Common.{◌≡◌, ◌≤◌, ◌<◌, ◌*◌, ◌⊎◌, inl, inr, ℕ, Bool, true, false, Some, None, List, [], ◌∷◌, ◌++◌, All, refl, sym, ap, subst, ◌∙◌, arith}
 use Rattle.std.specs.List.{Any}
+use Rattle.std.proofs.lemmas.List.{append-nil}
 use Rattle.sip_standard.specs.declared.action.Action.{Action}
 use Rattle.sip_standard.specs.declared.action.Action.TheVariants.{Sent, Received, Failed, Mark, Restart}
 use Rattle.sip_standard.specs.declared.kind.Method.TheVariants.{Invite, Ack, Cancel}
@@ -18,7 +19,7 @@ use Rattle.sip_standard.specs.Stands.{Stands, StandsAfter}
 use Rattle.consequences.specs.Events.{SendsRequest, GetsResponse, IsAnyCode, IsRefused, IsRestart}
 use Rattle.consequences.proofs.lemmas.run.Lists.{any-last, any-earlier, any-none, All-front, All-last}
 use Rattle.consequences.proofs.lemmas.client.Once.{IsInvited, invites-once, over-emits, over-steps}
-use Rattle.consequences.proofs.lemmas.run.Running.{Runs, IsKept, left_at, step-of, stands-run, Cut, cut, run-keeps, append-none}
+use Rattle.consequences.proofs.lemmas.run.Running.{Runs, IsKept, left_at, step-of, stands-run, Cut, cut, run-keeps}
 use Rattle.consequences.proofs.lemmas.client.InviteClients.{Row, Receiving, client, IsDone, Answers, IsReceiving, pays-nothing, sends-idle, sends-calling, sends-proceeding, sends-accepted, sends-completed, sends-ended}
 
 no-cancel : ¬ (Request Invite ≡ Request Cancel)
@@ -161,7 +162,7 @@ module _ (R : Receiving) (is : IsReceiving R) (p : Times) where
       where
         as_it_waits : (es : List MachineEvent) (h m : ℕ) (x : Owing InviteClientPhase) → Calls es h x → h ≤ m → Lasts f p x m → Calls es m x
         as_it_waits es h m x (inl calls) low lasts = inl calls
-        as_it_waits es h m x (inr over) low lasts = inr (subst (λ fs. Over fs m) (append-none es) (over-later es [] h m low over))
+        as_it_waits es h m x (inr over) low lasts = inr (subst (λ fs. Over fs m) (append-nil es) (over-later es [] h m low over))
 
         as_it_ends : (es : List MachineEvent) (h : ℕ) (x : Owing InviteClientPhase) → Calls es h x → MayEnd f p x h → Calls es h (quiet Ended)
         as_it_ends es h x (inl calls) may = inr (calls-ends es h x.phase x.owes calls may)
@@ -340,6 +341,7 @@ module _ (R : Receiving) (is : IsReceiving R) (p : Times) where
 
   -- timer B, section 17.1.1.2, where what stands lasts
   module _ (lasts : (events : List MachineEvent) (m : ℕ) (x : Owing InviteClientPhase) → Stands f p events m x → Lasts f p x m) where
+    -- an INVITE that has no response is over once timer B has to have fired
     pub over-by-timer-b : (before after : List MachineEvent) (invite : MachineEvent) (m : ℕ) (y : Owing InviteClientPhase) → SendsRequest Invite invite →
         All (λ g. ¬ (GetsResponse IsAnyCode g)) after → Stands f p (before ++ invite ∷ after) m y → close_at p invite.moment (64 * p.t1) < m → y ≡ quiet Ended
     over-by-timer-b before after invite m y sent unanswered stands late =
@@ -360,6 +362,7 @@ module _ (R : Receiving) (is : IsReceiving R) (p : Times) where
             let calls = invite-calls invite found.from.phase (left_at invite found.from) found.to sent.1 began (step-of f p Sent invite found.from found.to sent.0 found.step) in
             by (run-keeps f p (Waits invite.moment) (waits-kept invite.moment) after found.to invite.moment m y (inl calls) found.goes)
 
+    -- once timer B has to have fired for an INVITE that has no response, CANCEL alone is sent
     pub silent-after-timer-b : (before after : List MachineEvent) (invite e : MachineEvent) (y : Owing InviteClientPhase) → SendsRequest Invite invite →
         All (λ g. ¬ (GetsResponse IsAnyCode g)) after → e.action ≡ Sent → StandsAfter f p (before ++ invite ∷ after) e y → close_at p invite.moment (64 * p.t1) < e.moment → e.kind ≡ Request Cancel
     silent-after-timer-b before after invite e y sent unanswered is_sent (x, stands, take) late =

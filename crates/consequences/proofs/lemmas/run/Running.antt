@@ -1,6 +1,7 @@
 -- A run, cut at one of its events: what leads there, the step, and what leads on. And what a run keeps.
-use Rattle.std.proofs.Common.{◌≡◌, ◌≤◌, ◌||◌, ℕ, List, [], ◌∷◌, ◌++◌, filter, refl, ap, subst, sym, append_assoc}
+use Rattle.std.proofs.Common.{◌≡◌, ◌≤◌, ◌||◌, ℕ, List, [], ◌∷◌, ◌++◌, filter, subst, sym, append_assoc}
 use Rattle.std.specs.Prelude.{nat_le}
+use Rattle.std.proofs.lemmas.List.{append-nil}
 use Rattle.sip_standard.specs.declared.action.Action.{Action}
 use Rattle.sip_standard.specs.Debts.{Owed}
 use Rattle.sip_standard.specs.Times.{Times}
@@ -32,10 +33,6 @@ left_at e x = filter (λ owed. owed.must || nat_le e.moment owed.deadline) x.owe
 -- the step of an event with this action
 pub step-of : {X : Type 0} (f : Figure X) (p : Times) (a : Action) (e : MachineEvent) (x y : Owing X) → e.action ≡ a → Takes f p x e y → Steps f p a e (record { phase = x.phase; owes = left_at e x }) y
 step-of f p a e x y is take = subst (λ b. Steps f p b e (record { phase = x.phase; owes = left_at e x }) y) is take
-
-pub append-none : {A : Type 0} (xs : List A) → xs ++ [] ≡ xs
-append-none [] = refl
-append-none (x ∷ xs) = ap (λ ys. x ∷ ys) (append-none xs)
 
 module _ {X : Type 0} (f : Figure X) (p : Times) where
   run-waits : (x : Owing X) (h : ℕ) (es : List MachineEvent) (k m : ℕ) (y : Owing X) → Runs f p x h es k y → k ≤ m → Lasts f p y m → Runs f p x h es m y
@@ -78,12 +75,13 @@ module _ {X : Type 0} (f : Figure X) (p : Times) where
     rest-keeps es x h _ _ holds (rest_waits k m y rest low lasts) = kept.as_it_waits es k m y (rest-keeps es x h k y holds rest) low lasts
     rest-keeps es x h _ _ holds (rest_ends m y rest may) = kept.as_it_ends es m y (rest-keeps es x h m y holds rest) may
 
-    -- what holds of its first state and no event holds of its last state and all its events
+    -- what holds of events and a state holds of these events with those of a run from there, and of its last state
     run-keeps-after : (es more : List MachineEvent) (x : Owing X) (h m : ℕ) (y : Owing X) → P es h x → Runs f p x h more m y → P (es ++ more) m y
-    run-keeps-after es [] x h m y holds run = subst (λ fs. P fs m y) (sym (append-none es)) (rest-keeps es x h m y holds run)
+    run-keeps-after es [] x h m y holds run = subst (λ fs. P fs m y) (sym (append-nil es)) (rest-keeps es x h m y holds run)
     run-keeps-after es (e ∷ more) x h m y holds (a, b, rest, take, run) =
         subst (λ fs. P fs m y) (append_assoc es (e ∷ []) more)
         (run-keeps-after (es ++ e ∷ []) more b e.moment m y (kept.as_it_takes es e a b (rest-keeps es x h e.moment a holds rest) take) run)
 
+    -- what holds of its first state and no event holds of its last state and its events
     pub run-keeps : (es : List MachineEvent) (x : Owing X) (h m : ℕ) (y : Owing X) → P [] h x → Runs f p x h es m y → P es m y
     run-keeps es x h m y holds run = run-keeps-after [] es x h m y holds run

@@ -2,6 +2,7 @@
 use Rattle.std.proofs.Common.{◌≡◌, ◌≤◌, ◌<◌, ◌*◌, ◌⊎◌, inl, inr, ℕ, Bool, true, false, Option, Some, IsSomeAnd, List, [], ◌∷◌, ◌++◌, All, refl, sym, ap, subst, ◌∙◌, arith}
 use Rattle.std.specs.List.{Any}
 use Rattle.std.proofs.lemmas.List.Elements.{All-nil, All-filter, All-push, All-weaker, All-map}
+use Rattle.std.proofs.lemmas.List.{append-nil}
 use Rattle.sip_standard.specs.declared.action.Action.{Action}
 use Rattle.sip_standard.specs.declared.action.Action.TheVariants.{Sent, Received, Failed, Mark, Restart}
 use Rattle.sip_standard.specs.declared.kind.Method.TheVariants.{Invite, Ack}
@@ -21,7 +22,7 @@ use Rattle.consequences.specs.Servers.{BeginNoneAnew}
 use Rattle.consequences.proofs.lemmas.server.Asleep.{nothing-to-pay}
 use Rattle.consequences.proofs.lemmas.run.Lists.{any-last, any-earlier, any-none, All-front, All-last}
 use Rattle.consequences.proofs.lemmas.server.Said.{IsOut, IsSaid, IsSaidLast, all-without, all-first, said-later, said-last-later, not-provisional, not-said}
-use Rattle.consequences.proofs.lemmas.run.Running.{IsKept, left_at, step-of, stands-run, Cut, cut, run-keeps, append-none}
+use Rattle.consequences.proofs.lemmas.run.Running.{IsKept, left_at, step-of, stands-run, Cut, cut, run-keeps}
 use Rattle.consequences.proofs.lemmas.server.InviteServers.{Row, IsServer, ReceivedRow, comes, again, again_after, acknowledged, received-row, SentRow, provisional, success, unsuccessful, success_again, repeats, sent-row}
 
 -- one code is not both a success and another final one
@@ -51,6 +52,7 @@ module _ {X : Type 0} (f : Figure X) (p : Times) (held : InviteServerPhase → X
       All-weaker (λ o. (o.deadline ≤ close_at p h 0) × IsSaid es o.message) (λ o. (o.deadline ≤ close_at p m 0) × IsSaid (es ++ more) o.message)
       (λ o said. (omega (arith, low, said.0), said-later es more o.message said.1)) owes all
 
+  -- before the final response a server is idle and owes nothing, or proceeds and owes what it said
   abbrev pub Opens : List MachineEvent → ℕ → InviteServerPhase → List Owed → Type 0
   Opens es m Idle owes = owes ≡ []
   Opens es m (Proceeding reliable set last) owes = IsSaidLast es last × AreSaid es m owes
@@ -61,6 +63,7 @@ module _ {X : Type 0} (f : Figure X) (p : Times) (held : InviteServerPhase → X
   opens-later es more h m (Proceeding reliable set last) owes low opens = (said-last-later es more last opens.0, are-said-later es more h m owes low opens.1)
   opens-later es more h m x owes low opens = absurd opens
 
+  -- that is so of what is still owed when an event comes
   pub opens-left : (es : List MachineEvent) (e : MachineEvent) (m : ℕ) (x : InviteServerPhase) (y : Owing X) → Opens es m x y.owes → Opens es m x (left_at e y)
   opens-left es e m Idle y opens = rw opens refl
   opens-left es e m (Proceeding reliable set last) y opens = (opens.0, All-filter _ (λ o. (o.deadline ≤ close_at p m 0) × IsSaid es o.message) y.owes opens.1)
@@ -129,12 +132,13 @@ module _ {X : Type 0} (f : Figure X) (p : Times) (held : InviteServerPhase → X
   abbrev pub BeforeFinal : List MachineEvent → ℕ → Owing X → Type 0
   BeforeFinal es m y = All (λ g. ¬ (SendsResponse IsFinal g)) es → HoldsIn (Opens es m) y
 
+  -- a run keeps that
   pub before-final-kept : IsKept f p BeforeFinal
   before-final-kept = record { as_it_waits = as_it_waits; as_it_ends = as_it_ends; as_it_takes = as_it_takes }
     where
       as_it_waits : (es : List MachineEvent) (h m : ℕ) (x : Owing X) → BeforeFinal es h x → h ≤ m → Lasts f p x m → BeforeFinal es m x
       as_it_waits es h m x holds low lasts all =
-          let (phase, owes, same, opens) = holds all in (phase, owes, same, subst (λ fs. Opens fs m phase owes) (append-none es) (opens-later es [] h m phase owes low opens))
+          let (phase, owes, same, opens) = holds all in (phase, owes, same, subst (λ fs. Opens fs m phase owes) (append-nil es) (opens-later es [] h m phase owes low opens))
 
       as_it_ends : (es : List MachineEvent) (h : ℕ) (x : Owing X) → BeforeFinal es h x → MayEnd f p x h → BeforeFinal es h (quiet f.ended)
       as_it_ends es h x holds may all = (Idle, [], ap quiet is.ended, refl)
@@ -312,7 +316,7 @@ module _ {X : Type 0} (f : Figure X) (p : Times) (held : InviteServerPhase → X
       where
         as_it_waits : (es : List MachineEvent) (h m : ℕ) (x : Owing X) → (BeginNoneAnew p final es → HoldsIn (Closes es h) x) → h ≤ m → Lasts f p x m → BeginNoneAnew p final es → HoldsIn (Closes es m) x
         as_it_waits es h m x holds low lasts anew =
-            let (phase, owes, same, closes) = holds anew in (phase, owes, same, subst (λ fs. Closes fs m phase owes) (append-none es) (closes-later es [] h m phase owes low closes))
+            let (phase, owes, same, closes) = holds anew in (phase, owes, same, subst (λ fs. Closes fs m phase owes) (append-nil es) (closes-later es [] h m phase owes low closes))
 
         as_it_ends : (es : List MachineEvent) (h : ℕ) (x : Owing X) → (BeginNoneAnew p final es → HoldsIn (Closes es h) x) → MayEnd f p x h → BeginNoneAnew p final es → HoldsIn (Closes es h) (quiet f.ended)
         as_it_ends es h x holds may anew =

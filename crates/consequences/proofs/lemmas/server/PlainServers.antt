@@ -2,6 +2,7 @@
 use Rattle.std.proofs.Common.{◌≡◌, ◌≤◌, ◌<◌, ◌*◌, ◌⊎◌, inl, inr, ℕ, Bool, true, false, List, [], ◌∷◌, ◌++◌, All, Contains, refl, sym, subst, arith}
 use Rattle.std.specs.List.{Any}
 use Rattle.std.proofs.lemmas.List.Elements.{All-nil, All-filter, All-push, All-weaker, Contains-push}
+use Rattle.std.proofs.lemmas.List.{append-nil}
 use Rattle.sip_standard.specs.declared.action.Action.{Action}
 use Rattle.sip_standard.specs.declared.action.Action.TheVariants.{Sent, Received, Failed, Mark, Restart}
 use Rattle.sip_standard.specs.declared.kind.Method.{Method}
@@ -21,7 +22,7 @@ use Rattle.consequences.proofs.lemmas.server.Asleep.{nothing-to-pay}
 use Rattle.consequences.proofs.lemmas.run.Lists.{any-last, any-earlier, any-none, All-front, All-last}
 use Rattle.consequences.proofs.lemmas.server.Said.{IsOut, IsSaid, all-without, all-first, said-later, not-provisional, not-said}
 use Rattle.consequences.proofs.lemmas.run.MustSend.{still-owed, other-paid, more-owed, no-end, in-time}
-use Rattle.consequences.proofs.lemmas.run.Running.{IsKept, left_at, step-of, stands-run, Cut, cut, run-keeps, append-none}
+use Rattle.consequences.proofs.lemmas.run.Running.{IsKept, left_at, step-of, stands-run, Cut, cut, run-keeps}
 
 abbrev Row : Type 0
 Row = PlainServerPhase × Change
@@ -202,7 +203,7 @@ module _ (p : Times) where
       where
         as_it_waits : (es : List MachineEvent) (h m : ℕ) (x : Owing PlainServerPhase) → IsCompleted x.phase ⊎ Past es h → h ≤ m → Lasts f p x m → IsCompleted x.phase ⊎ Past es m
         as_it_waits es h m x (inl done) low lasts = inl done
-        as_it_waits es h m x (inr past) low lasts = inr (subst (λ fs. Past fs m) (append-none es) (past-later es [] h m low past))
+        as_it_waits es h m x (inr past) low lasts = inr (subst (λ fs. Past fs m) (append-nil es) (past-later es [] h m low past))
 
         as_it_ends : (es : List MachineEvent) (h : ℕ) (x : Owing PlainServerPhase) → IsCompleted x.phase ⊎ Past es h → MayEnd f p x h → IsCompleted Idle ⊎ Past es h
         as_it_ends es h x (inl done) may = inr (inl (completed-ends x.phase x.owes h done may))

@@ -76,5 +76,6 @@ named_of machine texts x =
 pub first_silent : (machine : MachineKind) (p : Times) → messages_of machine ((meaning_of machine).rules p).first ≡ []
 first_silent machine p = ap (λ messages. messages ++ []) (coded_holds machine).idle_silent
 
+-- the ended state names nothing
 pub ended_silent : (machine : MachineKind) (p : Times) → messages_of machine ((meaning_of machine).rules p).ended ≡ []
 ended_silent machine p = ap (λ messages. messages ++ []) (coded_holds machine).ended_silent

@@ -111,6 +111,7 @@ module _ {X S : Type 0} (seen : Texts → S → X) (r : MachineRules X) (lawful 
             }),
           )
 
+  -- a last moment beside one book is one beside the other
   pub agenda_any : (a b : Texts) (states : List S) (h : ℕ) (limit : Option ℕ) → IsAgenda r (Contains (map (seen a) states)) h limit → IsAgenda r (Contains (map (seen b) states)) h limit
   agenda_any a b states h limit agenda m low = (λ some. (agenda m low).0 (some_wait b a states h m some), λ within. some_wait a b states h m ((agenda m low).1 within))
 

@@ -90,6 +90,7 @@ module _ (texts : Texts) (book : IsBook texts) (t u : Tabled) (moment : ℕ) (ad
         only-Keeps texts numbers book up kept number (within n new at number (subst (λ ns. Contains ns number) (sym (ap numbers_of is ∙ numbers_are machine s)) has))) in
         subst (IsKnownSet (only numbers texts)) (sym is) (to_set (λ X M S m s. IsKnown m (only numbers texts) s) machine s known))
 
+    -- after the sweep the sets may pass an entry at the moment
     pub swept_may : MayPass (only numbers texts) u moment
     swept_may = record { order = swept_order; known = swept_known; long = advances.long ∙ may.long ∙ sym (ap length advances.keys) }
 

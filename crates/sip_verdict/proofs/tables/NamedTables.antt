@@ -112,6 +112,7 @@ module _ (texts : Texts) (book : IsBook texts) (p : Times) (moment : ℕ) where
       λ h. absurd (Contains-none h.0 (subst (λ ns. Contains ns h.0) (ap numbers_of same ∙ silent) h.1)),
     )
 
+    -- what runs of the key name is what the set names that has waited
     pub key_named : IsAdvanced moment old new → StandsNaming p machine events moment text ↔ IsNumberOf texts (numbers_of new) text
     key_named advanced = iff_trans (names_stand p machine events moment text) (by_set advanced)
 

@@ -48,6 +48,7 @@ module _ (texts : Texts) (book : IsBook texts) (t u : Tabled) (moment : ℕ) (ad
   follows n old new was is key true (h, unsound) = (leads n old new was is key [] h, unsound)
   follows n old new was is key false (h, sound) = (leads n old new was is key (events_for key es) h, sound)
 
+  -- after the sweep the tables follow the same entries
   pub swept_survey : TablesSurvey (only numbers texts) es u deaf
   swept_survey = record {
     order = tracks.order;

@@ -72,7 +72,7 @@ completed_6026 : (p : Times) (reliable : Bool) (request : List ℕ) (set : ℕ) 
 completed_6026 p reliable request set (Response code) e y h = (code, refl, h.0, h.1)
 completed_6026 p reliable request set k e y h = absurd h
 
--- the rows of RFC 6026 are so
+-- the rows by RFC 6026 are such rows of a client
 pub receives_6026 : IsReceiving Receives
 receives_6026 = record {
   idle = λ p k e y h. h;
@@ -98,7 +98,7 @@ proceeding_3261 p reliable request cancel (Response code) e y (inl h) = (code, r
 proceeding_3261 p reliable request cancel (Response code) e y (inr h) = (code, refl, inr (inr h))
 proceeding_3261 p reliable request cancel k e y h = absurd h
 
--- the rows of RFC 3261 alone are so
+-- the rows by RFC 3261 alone are such rows of a client
 pub receives_3261 : IsReceiving without.Receives
 receives_3261 = record {
   idle = λ p k e y h. h;

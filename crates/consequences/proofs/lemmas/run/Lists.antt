@@ -41,7 +41,7 @@ contains-here xs ys x = Contains-append_right xs (x ∷ ys) x (0, omega arith, r
 pub contains-later : {X : Type 0} (y : X) (ys : List X) (x : X) → Contains ys x → Contains (y ∷ ys) x
 contains-later y ys x c = Contains-append_right (y ∷ []) ys x c
 
--- it is in front, or it is this one, or it comes after
+-- an element of a list is the one in its middle, or it is among the others
 pub contains-cases : {X : Type 0} (xs ys : List X) (y x : X) → Contains (xs ++ y ∷ ys) x → Contains (xs ++ ys) x ⊎ (y ≡ x)
 contains-cases xs ys y x c = by (Contains-append_cases xs (y ∷ ys) x c)
   where

@@ -74,7 +74,7 @@ module _ (old mid : Texts) (number : ℕ) (bytes : List ℕ) (grown : IsGrown ol
   Tells told = (es : List (Observation KeyParts)) → (e : Observation KeyParts) × Sees es i e × IsObserved mid es i told e
 
   module _ (t u : Tabled) (b c : Troubled) (long : length b.deaf.items ≡ length t.keys) (sets : length t.sets ≡ length t.keys) (fresh : IsFresh b) (keys : u.keys ≡ t.keys) where
-    -- an entry that concerns none
+    -- an entry that concerns no transaction is taken
     silent_taken : (es : List (Observation KeyParts)) (e : Observation KeyParts) (fault : Option Fault) → Sees es i e → e.fault ≡ fault → e.event.moment ≡ moment → e.keys ≡ [] → Passes mid moment None t b u c
         → TablesSurvey old es t b.deaf.items → newest_moment es ≤ moment → IsTaken mid t.times es i moment fault u c
     silent_taken es e fault seen fault_is now none passes tracks late = (

@@ -280,7 +280,7 @@ heard_says direction i e (has_no_cookie s says lacks is) key of = absurd (some_k
 heard_says direction i e (is_heard s keys says fine concerns is) key of =
     (s, says, branch_of s direction keys concerns (some_keys key keys (sym (ap (λ o. list_any (same_key key) o.keys) is) ∙ of)))
 
--- a message that concerns a key says the branch of the key
+-- a message that concerns a key says a branch
 pub message_says : (es : Entries) (i : Item) (e : Observation KeyParts) → has_message i.action ≡ true → Sees es i e → (key : KeyParts) → is_of key e ≡ true
     → (s : Said) × Says i.text (gives s) × ((branch : List ℕ) × (s.via.branch ≡ Some branch))
 message_says es i e says seen key of =

@@ -9,7 +9,6 @@ use Rattle.sip_standard.specs.Times.{Times}
 use Rattle.sip_standard.specs.MachineEvent.{MachineEvent}
 use Rattle.sip_standard.specs.KeyMachine.{MachineKind, machine_of_key}
 use Rattle.sip_standard.specs.Observation.{Observation}
-use Rattle.sip_standard.specs.declared.verdict.Verdict.{Verdict}
 use Rattle.sip_machine.specs.Texts.{Texts, Keeps, text_of}
 use Rattle.sip_machine.specs.Rules.{Knows}
 use Rattle.sip_machine.proofs.rules.RuleLaws.{AgreeOn, StandFor-book}
@@ -26,8 +25,8 @@ use Rattle.sip_states.proofs.keyed.ByMachine.{seen_by_names_of, some_machine, nu
 use Rattle.sip_standard.specs.VerdictOf.{events_for}
 use Rattle.sip_verdict.specs.Entries.{newest_moment}
 use Rattle.sip_verdict.specs.inner.Concerned.{each, is_all}
-use Rattle.sip_verdict.specs.inner.Tracking.{IsReady, IsStanding, Tracks, IsJudged}
-use Rattle.sip_verdict.specs.inner.TablesTracking.{LeadsOf, StandsOf, key_keeping, transactions_of, is_among, concerns_number, LeavesOthers, OthersAre, NamesNot, DropsUnnamed, MayPass, AllAreOnRecord, MayTake}
+use Rattle.sip_verdict.specs.inner.Tracking.{IsReady, IsStanding, IsJudged}
+use Rattle.sip_verdict.specs.inner.TablesTracking.{LeadsOf, StandsOf, key_keeping, transactions_of, is_among, concerns_number, LeavesOthers, OthersAre, NamesNot, DropsUnnamed, MayTake}
 use Rattle.sip_verdict.specs.declared.concerned.Concerned.{Concerned}
 use Rattle.sip_verdict.specs.declared.passing.Hearing.{Hearing}
 use Rattle.sip_verdict.proofs.keys.Leading.{Leads-book}
@@ -117,19 +116,19 @@ module _ (number : ℕ) (bytes : List ℕ) (new : Texts) where
         (All-place (IsStanding (key_keeping old p) es e) (transactions_of t) n x at stand concerned))
 
 -- what was judged of an entry without trouble
-pub dropped_judged : (number : ℕ) (old new : Texts) (p : Times) (es : List (Observation KeyParts)) (e : Observation KeyParts) (t : Tabled) → DropsUnnamed t.sets number old new
-    → IsJudged p (key_keeping old p) es e (transactions_of t) None → IsJudged p (key_keeping new p) es e (transactions_of t) None
-dropped_judged number old new p es e t (inl same) judged = subst (λ texts. IsJudged p (key_keeping texts p) es e (transactions_of t) None) (sym same) judged
-dropped_judged number old new p es e t (inr (bytes, is, unnamed)) judged =
+pub dropped_judged : (number : ℕ) (texts_before new : Texts) (p : Times) (es : List (Observation KeyParts)) (e : Observation KeyParts) (t : Tabled) → DropsUnnamed t.sets number texts_before new
+    → IsJudged p (key_keeping texts_before p) es e (transactions_of t) None → IsJudged p (key_keeping new p) es e (transactions_of t) None
+dropped_judged number texts_before new p es e t (inl same) judged = subst (λ texts. IsJudged p (key_keeping texts p) es e (transactions_of t) None) (sym same) judged
+dropped_judged number texts_before new p es e t (inr (bytes, is, unnamed)) judged =
     let before = subst (λ texts. IsJudged p (key_keeping texts p) es e (transactions_of t) None) is judged in (
       record { keys = before.0.keys; ready = unnamed_ready number bytes new p (es ++ e ∷ []) t unnamed before.0.ready; good = before.0.good },
       unnamed_standing number bytes new p es t unnamed e before.1,
     )
 
 -- the next entry may come
-pub dropped_take : (number : ℕ) (old new : Texts) (t : Tabled) (next moment : ℕ) → DropsUnnamed t.sets number old new → MayTake old t next moment → MayTake new t next moment
-dropped_take number old new t next moment (inl same) may = subst (λ texts. MayTake texts t next moment) (sym same) may
-dropped_take number old new t next moment (inr (bytes, is, unnamed)) may =
+pub dropped_take : (number : ℕ) (texts_before new : Texts) (t : Tabled) (next moment : ℕ) → DropsUnnamed t.sets number texts_before new → MayTake texts_before t next moment → MayTake new t next moment
+dropped_take number texts_before new t next moment (inl same) may = subst (λ texts. MayTake texts t next moment) (sym same) may
+dropped_take number texts_before new t next moment (inr (bytes, is, unnamed)) may =
     let before = subst (λ texts. MayTake texts t next moment) is may in
     record {
       passes = record {
@@ -144,9 +143,9 @@ dropped_take number old new t next moment (inr (bytes, is, unnamed)) may =
     }
 
 -- what is left where the newest message was dropped was kept before
-pub dropped_within : (sets : List AnySet) (number : ℕ) (old new : Texts) → DropsUnnamed sets number old new → All (Contains old) new
-dropped_within sets number old new (inl same) = same_within old new same
-dropped_within sets number old new (inr (bytes, is, unnamed)) k d low =
+pub dropped_within : (sets : List AnySet) (number : ℕ) (texts_before new : Texts) → DropsUnnamed sets number texts_before new → All (Contains texts_before) new
+dropped_within sets number texts_before new (inl same) = same_within texts_before new same
+dropped_within sets number texts_before new (inr (bytes, is, unnamed)) = λ k d low.
     subst (λ texts. Contains texts (get_or new k d)) (sym is) (Contains-append_left new ((number, bytes) ∷ []) (get_or new k d) (Contains-get_or new k d low))
 
 -- where none of some transactions names a message, the sets of their numbers do not
@@ -163,7 +162,10 @@ these_unnamed message t (m ∷ ms) none n set among at =
 
 -- a transaction whose set does not name it
 pub names_not : (message number : ℕ) (t : Tabled) (set : AnySet) → slice_get t.sets (number - 1) ≡ Some set → ¬ Contains (numbers_of set) message → NamesNot t message number
-names_not message number t set at none other is = subst (λ s. ¬ Contains (numbers_of s) message) (let same : Some set ≡ Some other = sym at ∙ is in cc) none
+names_not message number t set at none other is =
+    let same : Some set ≡ Some other = sym at ∙ is in
+    let one : set ≡ other = cc in
+    subst (λ s. ¬ Contains (numbers_of s) message) one none
 
 -- the sets that none of some transactions is, and those, name no such message
 pub all_unnamed : (number : ℕ) (concerned : Concerned ℕ) (t : Tabled) → is_all concerned ≡ false → OthersAre (λ set. ¬ Contains (numbers_of set) number) concerned t

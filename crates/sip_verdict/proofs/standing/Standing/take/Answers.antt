@@ -1,4 +1,4 @@
-use Rattle.std.proofs.Common.{[], ◌||◌, None, ◌∙◌, ap, inl, length, refl, arith, subst, sym}
+use Rattle.std.proofs.Common.{[], ◌||◌, Some, None, ◌∙◌, ap, inl, length, refl, arith, subst, sym}
 use Rattle.std.proofs.lemmas.Bool.{false≢true}
 use Rattle.sip_machine.specs.Texts.{Keeps}
 use Rattle.sip_log.specs.Told.{item}
@@ -173,4 +173,4 @@ returns-in_ok-verdict-in-Heard-clause-others g c =
     let u = c.touch_each.new.tables in
     let numbers = c.in_ok-concerned-in-Heard.concerned in
     let may = touches_may s.book c.args.entry.now.moment (each c.in-Heard.concerned) (each numbers) s.tables u c.requires.may.passes c.in_ok-concerned-in-Heard.ensures.touched in
-    others_known s.book numbers _ u c.pass-in-Heard.new.self.tables may.known c.in_ok-verdict-in-Heard.ensures.others (λ n some among. ap (λ b. b || is_among (each numbers) n) some ∙ among)
+    others_known s.book numbers (Some (record { event = c.in-Heard.event; concerned = numbers })) u c.pass-in-Heard.new.self.tables may.known c.in_ok-verdict-in-Heard.ensures.others (λ n some among. ap (λ b. b || is_among (each numbers) n) some ∙ among)

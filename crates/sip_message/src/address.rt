@@ -11,7 +11,7 @@ use crate::cursor::{cut, past, skip_blanks};
 use crate::params::{are_params, cut_quoted};
 use sip_text::{Uri, read_uri, skip_lws, token_len};
 
-/// The value of From or To (RFC 3261, section 20.10), in slices of the message.
+/// The value of From or To (RFC 3261, sections 20.20 and 20.39), in slices of the message.
 #[derive(Clone, Copy, Debug, PartialEq, Eq)]
 pub struct Address<'a> {
     /// The whole value.

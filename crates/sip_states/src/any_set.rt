@@ -31,7 +31,7 @@ pub enum AnySet {
     InviteServer3261(StateSet<InviteServer3261>),
 }
 
-/// The same of a set, whichever machine it has.
+/// What `$answer` gives of the set of states that a set of any machine holds.
 macro_rules! each_machine {
     ($any:expr, $set:ident => $answer:expr) => {
         match $any {

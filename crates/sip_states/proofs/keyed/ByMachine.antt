@@ -12,18 +12,14 @@ use Rattle.sip_machine.specs.inner.FigureLaws.{rules_lawful}
 use Rattle.sip_machine.specs.inner.OwingLaws.{owing_by_names, quiet_stands}
 use Rattle.sip_states.specs.Held.{Held}
 use Rattle.sip_standard.specs.KeyMachine.{MachineKind, transaction_of}
-use Rattle.sip_states.specs.KeySets.{coded_of, PhaseOf, key_rules, StateOf, set_of, held_of, start_of_machine}
+use Rattle.sip_states.specs.KeySets.{coded_of, PhaseOf, StateOf, set_of, held_of, start_of_machine}
 use Rattle.sip_states.proofs.keyed.KeySetLaws.{coded_holds, held_is, set_is, start_is, of_machine, to_machine, of_one_machine}
 use Rattle.sip_states.specs.Meaning.{Meaning}
 use Rattle.sip_states.specs.AnySet.{meaning_of, IsQuietIn, IsQuietSet, OfHeld, OfSet, OfHelds, OfSets, moment_of}
 use Rattle.sip_states.specs.Sweep.{names_of, numbers_of, AppendsNumbers}
 use Rattle.sip_states.specs.declared.any_set.AnySet.{AnySet}
 
--- its rules are those of its machine
-pub rules_are : (p : Times) (machine : MachineKind) → (meaning_of machine).rules p ≡ key_rules p machine
-rules_are p machine = refl
-
--- which are lawful
+-- the rules of each machine are lawful
 pub lawful_of : (machine : MachineKind) (p : Times) → IsLawful ((meaning_of machine).rules p)
 lawful_of machine p = rules_lawful (transaction_of machine).figure (coded_holds machine).is_figure p
 

@@ -1,5 +1,5 @@
 -- What is left of a list where some of its elements are kept: what a loop does that moves each of them to the front, and where each stands then.
-use Rattle.std.proofs.Common.{◌≡◌, ◌≢◌, ◌≤◌, ◌<◌, ◌+◌, ℕ, zero, suc, Bool, true, false, Some, List, [], ◌∷◌, ◌++◌, All, length, take, drop, get_or, set, refl, sym, ap, ap₂, ◌∙◌, ◌-◌, arith, append_assoc, append-nil}
+use Rattle.std.proofs.Common.{◌≡◌, ◌≢◌, ◌≤◌, ◌<◌, ◌+◌, ℕ, zero, suc, Bool, true, false, Some, List, [], ◌∷◌, ◌++◌, All, length, take, drop, get_or, refl, sym, ap, ap₂, ◌∙◌, ◌-◌, arith, append_assoc, append-nil}
 use Rattle.std.specs.Prelude.{min, swap, slice_get, slice_set}
 use Rattle.std.proofs.Math.Decide.{dec_le}
 use Rattle.std.proofs.lemmas.Option.{get_or_from_slice_get, slice_get_within, slice_get-get_or}
@@ -43,9 +43,6 @@ module _ {X : Type 0} where
     pub rest : drop i ys ≡ drop i xs
     pub behind : k ≤ i
     pub long : length ys ≡ length xs
-
-  pub keeps_begun : (flags : List Bool) (xs : List X) → KeepsInPlace flags xs xs 0 0
-  keeps_begun flags xs = record { whole = refl; rest = refl; behind = omega arith; long = refl }
 
   pub keeps_done : (flags : List Bool) (xs ys : List X) (k i : ℕ) → KeepsInPlace flags xs ys k i → min (length flags) (length xs) ≤ i → take k ys ≡ kept_of flags xs
   keeps_done flags xs ys k i h past = sym (append-nil (take k ys)) ∙ ap (λ l. take k ys ++ l) (sym (kept_end flags xs i past)) ∙ h.whole
@@ -154,10 +151,6 @@ kept_values (true ∷ flags) (e ∷ es) = ap (λ l. e.1 ∷ l) (kept_values flag
 kept_values (false ∷ flags) (e ∷ es) = kept_values flags es
 
 -- a write over the last element
-pub set_last : {X : Type 0} (xs : List X) (x y : X) → set (xs ++ x ∷ []) (length xs) y ≡ xs ++ y ∷ []
-set_last [] x y = refl
-set_last (z ∷ xs) x y = ap (λ l. z ∷ l) (set_last xs x y)
-
 pub slice_set_last : {X : Type 0} (xs : List X) (x y : X) → slice_set (xs ++ x ∷ []) (length xs) y ≡ xs ++ y ∷ []
 slice_set_last [] x y = refl
 slice_set_last (z ∷ xs) x y = ap (λ l. z ∷ l) (slice_set_last xs x y)

@@ -94,11 +94,6 @@ placed_front front x =
     let size : length (front ++ x ∷ []) - 1 ≡ length front = (let long = length-append front (x ∷ []) in omega (arith, long)) in
     ap (λ n. take n (front ++ x ∷ [])) size ∙ take-append_seam front (x ∷ [])
 
--- where no message is kept, none has a place
-pub placed_none : (texts : Texts) → length texts ≡ 0 → placed true texts ≡ texts
-placed_none [] none = refl
-placed_none (x ∷ texts) none = absurd (omega (arith, none))
-
 -- the messages of the code, with the newest one last
 pub texts_split : (kept others : List KeptMessage) (newest : KeptMessage) → kept ≡ others ++ newest ∷ [] → texts_of kept ≡ texts_of others ++ (newest.number, newest.bytes.items) ∷ []
 texts_split kept others newest is = ap texts_of is ∙ map-append (λ k. (k.number, k.bytes.items)) others (newest ∷ [])

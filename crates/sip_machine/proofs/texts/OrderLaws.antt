@@ -17,11 +17,10 @@ use Rattle.std.proofs.lemmas.List.{map-append, get_or_append_left, get_or-append
 use Rattle.std.proofs.lemmas.List.Edits.{length-insert, get_or-insert_below, get_or-insert_at, get_or-insert_above}
 use Rattle.std.proofs.lemmas.List.Elements.{All-get_or, All-from_get_or, All-append, All-cons, All-take, All-drop, All-weaker, All-from_all_within, Contains-append_left, Contains-append_right, Contains-append_cases, Contains-get_or}
 use Rattle.std.proofs.lemmas.List.Sorted.{searchable_from_sorted}
-use Rattle.sip_machine.specs.Texts.{Texts, IsBook, Keeps}
+use Rattle.sip_machine.specs.Texts.{Texts}
 use Rattle.sip_machine.specs.declared.book.KeptMessage.{KeptMessage}
 use Rattle.sip_machine.specs.declared.book.Place.{Place}
 use Rattle.sip_machine.specs.inner.Order.{texts_of, hash_of, bytes_at, key_of, compare, IsPlace, IsOrder, IsGap}
-use Rattle.sip_machine.proofs.texts.TextLaws.{text_of-none, IsBook-grow}
 
 -- hashes and bytes are ordered
 pub compare-total : IsTotalOrder compare
@@ -198,25 +197,6 @@ pub bytes_at-kept : (kept : List KeptMessage) (position : ℕ) (k : KeptMessage)
     bytes_at (texts_of kept) position ≡ k.bytes.items
 bytes_at-kept kept position k low is =
     ap (λ (t : ℕ × List ℕ). t.1) (get_or-map (λ k. (k.number, k.bytes.items)) kept position k (0, []) low) ∙ sym (ap (λ k. k.bytes.items) is)
-
--- what a book keeps, after a message was put into the gap of its bytes
-pub IsKept-grow : (kept grown : List KeptMessage) (places placed : List Place) (entry hash : ℕ) (bytes : List ℕ) (i : ℕ) → hash ≡ hash_of bytes →
-    IsBook (texts_of kept) × IsOrder (texts_of kept) places → ((n : ℕ) → Keeps (texts_of kept) n → n < entry) →
-    IsGap (texts_of kept) (hash, bytes) places i →
-    (texts_of grown ≡ texts_of kept ++ (entry, bytes) ∷ []) × (placed ≡ insert places i (record { hash = hash; position = length kept })) →
-    IsBook (texts_of grown) × IsOrder (texts_of grown) placed
-IsKept-grow kept grown places placed entry hash bytes i hashed book above gap grows =
-    let texts : Texts = texts_of kept in
-    let next : Texts = texts ++ (entry, bytes) ∷ [] in
-    let size : length texts ≡ length kept = rw length-map refl in
-    let gap' : IsGap texts (hash_of bytes, bytes) places i = subst (λ h. IsGap texts (h, bytes) places i) hashed gap in
-    let other = text_of-none texts bytes (none_in_gap texts places bytes i book.1 gap') in
-    let order = IsOrder-grow texts places entry bytes i book.1 gap' in
-    let hashes : IsOrder next (insert places i (record { hash = hash; position = length texts })) =
-    subst (λ h. IsOrder next (insert places i (record { hash = h; position = length texts }))) (sym hashed) order in
-    let positions : IsOrder next (insert places i (record { hash = hash; position = length kept })) =
-    subst (λ n. IsOrder next (insert places i (record { hash = hash; position = n }))) size hashes in
-    rw (grows.0, grows.1) (IsBook-grow texts entry bytes book.0 above other, positions)
 
 -- what follows of an answer follows of its value and of its error
 pub by_result : {T E G : Type 0} (r : Result T E) {P Q : Type 0} → OnOk r P → OnErr r Q → (P → G) → (Q → G) → G

@@ -29,7 +29,7 @@ abbrev pub cut_body : Option ℕ → List ℕ → List ℕ
 cut_body None rest = rest
 cut_body (Some n) rest = take n rest
 
--- 8 to 11: the method, and as many bytes after the head as Content-Length says, which a stream has, and no more (section 18.3); the body is given
+-- 8 to 11: the method; after the head at least as many bytes as Content-Length says; a stream has one, and no more bytes (section 18.3); the body is given
 abbrev pub BodySays : StartLine → ℕ × List ℕ → List ℕ → Option ℕ → List ℕ → Outcome (List ℕ) → Type 0
 BodySays start cseq via len rest =
     Then (Holds (MethodSays start (cseq.1)) (fault_in_line (cseq.0) reason.MethodMismatch)) (λ _.

@@ -5,6 +5,12 @@ mod today;
 mod base;
 mod fast;
 mod best;
+mod lean;
+mod beside;
+mod light;
+mod abl;
+mod slim;
+mod small;
 mod set;
 mod logs;
 use logs::{Log, make, E};
@@ -14,7 +20,7 @@ use shim::Global;
 extern "C" { fn clock() -> i64; }
 
 macro_rules! owes {
-    ($ledger:ty, $debt:path, $fallible:ident $(, $at_once:ident)?) => {
+    ($ledger:ty, $debt:path, $names:ident, $fallible:ident $(, $at_once:ident)?) => {
         impl Owes for $ledger {
             fn fresh() -> Self { <$ledger>::new(Global) }
             fn len(&self) -> usize { <$ledger>::len(self) }
@@ -47,36 +53,81 @@ macro_rules! owes {
             fn tidy(&mut self) { <$ledger>::tidy(self) }
             fn listed(&self, row: usize) -> String { format!("{:?}", <$ledger>::runs(self, Global, row).unwrap()) }
             fn told(&self) -> String { $fallible(self) }
+            fn named(&self) -> Vec<u32> { named::$names(self) }
         }
     };
+}
+mod named {
+    use crate::shim::Global;
+    pub fn today(l: &crate::today::ledger::Ledger) -> Vec<u32> {
+        let mut all = Vec::new();
+        for row in 0..l.len() { let mut own = Vec::new(); l.names(row, &mut own).unwrap(); all.append(&mut own); }
+        all
+    }
+    pub fn base(l: &crate::base::accounts::Accounts) -> Vec<u32> { let mut all = Vec::new(); l.all_names(&mut all).unwrap(); all }
+    pub fn best(l: &crate::best::accounts::Accounts) -> Vec<u32> { let mut all = Vec::new(); l.all_names(&mut all).unwrap(); all }
+    pub fn lean(l: &crate::lean::accounts::Accounts) -> Vec<u32> { let mut all = Vec::new(); l.all_names(&mut all).unwrap(); all }
+    pub fn small(l: &crate::small::accounts::Accounts) -> Vec<u32> { let mut all = Vec::new(); l.all_names(&mut all).unwrap(); all }
+    pub fn slim(l: &crate::slim::accounts::Accounts) -> Vec<u32> { let mut all = Vec::new(); l.all_names(&mut all).unwrap(); all }
+    pub fn abl(l: &crate::abl::accounts::Accounts) -> Vec<u32> { let mut all = Vec::new(); l.all_names(&mut all).unwrap(); all }
+    pub fn light(l: &crate::light::accounts::Accounts) -> Vec<u32> { let mut all = Vec::new(); l.all_names(&mut all).unwrap(); all }
+    pub fn beside(l: &crate::beside::accounts::Accounts) -> Vec<u32> { let mut all = Vec::new(); l.all_names(&mut all).unwrap(); all }
+    pub fn fast(l: &crate::fast::accounts::Accounts) -> Vec<u32> { let mut all = Vec::new(); l.all_names(&mut all).unwrap(); all }
 }
 fn none<T>(_: &T) -> String { String::new() }
 fn told_base(a: &base::accounts::Accounts) -> String { a.told() }
 fn told_best(a: &best::accounts::Accounts) -> String { a.told() }
+fn told_lean(a: &lean::accounts::Accounts) -> String { a.told() }
+fn told_small(a: &small::accounts::Accounts) -> String { a.told() }
+fn told_slim(a: &slim::accounts::Accounts) -> String { a.told() }
+fn told_abl(a: &abl::accounts::Accounts) -> String { a.told() }
+fn told_light(a: &light::accounts::Accounts) -> String { a.told() }
+fn told_beside(a: &beside::accounts::Accounts) -> String { a.told() }
 fn told_fast(a: &fast::accounts::Accounts) -> String { a.told() }
-owes!(today::ledger::Ledger, crate::today::debt::Debt, none);
-owes!(base::accounts::Accounts, crate::base::debt::Debt, told_base);
-owes!(best::accounts::Accounts, crate::best::debt::Debt, told_best, paid_at_once);
-owes!(fast::accounts::Accounts, crate::fast::debt::Debt, told_fast);
+owes!(today::ledger::Ledger, crate::today::debt::Debt, today, none);
+owes!(base::accounts::Accounts, crate::base::debt::Debt, base, told_base);
+owes!(best::accounts::Accounts, crate::best::debt::Debt, best, told_best, paid_at_once);
+owes!(lean::accounts::Accounts, crate::lean::debt::Debt, lean, told_lean, paid_at_once);
+owes!(small::accounts::Accounts, crate::small::debt::Debt, small, told_small, paid_at_once);
+owes!(slim::accounts::Accounts, crate::slim::debt::Debt, slim, told_slim, paid_at_once);
+owes!(abl::accounts::Accounts, crate::abl::debt::Debt, abl, told_abl, paid_at_once);
+owes!(light::accounts::Accounts, crate::light::debt::Debt, light, told_light, paid_at_once);
+owes!(beside::accounts::Accounts, crate::beside::debt::Debt, beside, told_beside, paid_at_once);
+owes!(fast::accounts::Accounts, crate::fast::debt::Debt, fast, told_fast);
 
 fn run<L: Owes>(which: &str, name: &str, states: usize, n: usize) {
     let log = make(name, n, states);
     let mut set = Set::<L>::new(log.plain);
     let start = unsafe { clock() };
     let (mut ok, mut done) = (true, 0);
+    // as the program's sweep: 267 sets of 1,012 states were asked for their names in 9,984 entries
+    let sweeps = std::env::var("SWEEP").is_ok();
+    let mut old: Option<Set<L>> = None;
+    let (mut asked, mut names) = (0, 0);
     for &(t, e) in &log.events {
         if t == u64::MAX {
             let (most, steps) = (set.most, set.state_steps);
-            set = Set::new(log.plain);
+            let before = std::mem::replace(&mut set, Set::new(log.plain));
+            if sweeps { old = Some(before); }
             (set.most, set.state_steps) = (most, steps);
             continue;
         }
         if !set.take(t, e, &log.codes) { ok = false; break; }
         done += 1;
+        if sweeps && done % 37 == 0 {
+            if let Some(old) = &old {
+                let mut all = old.owing.named();
+                names += all.len();
+                asked += 1;
+                all.sort_unstable();
+                all.dedup();
+                std::hint::black_box(all.len());
+            }
+        }
     }
     let s = (unsafe { clock() } - start) as f64 / 1e6;
-    println!("{which} {name} states {} n {n}: events {done} of {} {} {s:.3} s, {:.2} us an event, {:.0} ns a state and step; {}",
-        set.most, log.events.len(), if ok { "" } else { "STOPPED" }, s * 1e6 / done as f64, s * 1e9 / set.state_steps as f64, set.owing.told());
+    println!("{which}{} {name} states {} n {n}: events {done} of {} {} {s:.3} s, {:.2} us an event, {:.0} ns a state and step; {}",
+        if sweeps { format!(" with sweeps ({asked} of {names} names)") } else { String::new() }, set.most, log.events.len(), if ok { "" } else { "STOPPED" }, s * 1e6 / done as f64, s * 1e9 / set.state_steps as f64, set.owing.told());
 }
 fn play<L: Owes>(name: &str, n: usize, states: usize) {
     let log = make(name, n, states);
@@ -105,6 +156,18 @@ fn main() {
                 "base" => run::<base::accounts::Accounts>(which, name, states, n),
                 "best" => run::<best::accounts::Accounts>(which, name, states, n),
                 "play-best" => play::<best::accounts::Accounts>(name, n, states),
+                "lean" => run::<lean::accounts::Accounts>(which, name, states, n),
+                "play-lean" => play::<lean::accounts::Accounts>(name, n, states),
+                "small" => run::<small::accounts::Accounts>(which, name, states, n),
+                "play-small" => play::<small::accounts::Accounts>(name, n, states),
+                "slim" => run::<slim::accounts::Accounts>(which, name, states, n),
+                "play-slim" => play::<slim::accounts::Accounts>(name, n, states),
+                "abl" => run::<abl::accounts::Accounts>(which, name, states, n),
+                "play-abl" => play::<abl::accounts::Accounts>(name, n, states),
+                "light" => run::<light::accounts::Accounts>(which, name, states, n),
+                "play-light" => play::<light::accounts::Accounts>(name, n, states),
+                "beside" => run::<beside::accounts::Accounts>(which, name, states, n),
+                "play-beside" => play::<beside::accounts::Accounts>(name, n, states),
                 "fast" => run::<fast::accounts::Accounts>(which, name, states, n),
                 "play-base" => play::<base::accounts::Accounts>(name, n, states),
                 "play-fast" => play::<fast::accounts::Accounts>(name, n, states),

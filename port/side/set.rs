@@ -22,6 +22,7 @@ pub trait Owes {
     fn tidy(&mut self);
     fn listed(&self, row: usize) -> String;
     fn told(&self) -> String;
+    fn named(&self) -> Vec<u32>;
 }
 
 /// As the product's phase of an INVITE server: some 40 bytes.

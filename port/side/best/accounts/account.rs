@@ -33,6 +33,7 @@ pub(crate) const EMPTY: Account = Account {
 };
 
 /// The account's strikes.
+#[inline(always)]
 pub(crate) fn own(strikes: &[Strike], account: Account) -> &[Strike]
 {
     &strikes[account.first..account.last]
@@ -74,6 +75,7 @@ fn next(gains: &Gains, strikes: &[Strike], account: Account, from: usize) -> usi
 }
 
 /// A number for a message and a deadline, which tells most apart at once.
+#[inline(always)]
 fn worth(message: u32, deadline: u64) -> u64
 {
     let number = mixed(mixed(1, u64::from(message)), deadline);
@@ -81,12 +83,14 @@ fn worth(message: u32, deadline: u64) -> u64
 }
 
 /// A number with another one mixed in.
+#[inline(always)]
 fn mixed(number: u64, word: u64) -> u64
 {
     (number ^ word).wrapping_mul(11_400_714_819_323_198_485)
 }
 
 /// The account without what was gained at the place, which it owes. On an error the strikes are as before.
+#[inline(always)]
 pub(crate) fn without(
     gains: &Gains,
     strikes: &mut Vec<Strike>,
@@ -102,6 +106,7 @@ pub(crate) fn without(
     Ok(Account { must: least_must(gains, strikes, left), ..left })
 }
 
+#[inline(always)]
 fn without_one(
     gains: &Gains,
     strikes: &mut Vec<Strike>,
@@ -166,6 +171,7 @@ impl Seek {
 }
 
 /// The first place whose debt a send of the message at the moment pays.
+#[inline(always)]
 pub(crate) fn find(
     gains: &Gains,
     strikes: &[Strike],
@@ -184,6 +190,7 @@ pub(crate) fn find(
     find_slow(gains, strikes, account, seek, moment)
 }
 
+#[inline(never)]
 fn find_slow(
     gains: &Gains,
     strikes: &[Strike],
@@ -378,6 +385,7 @@ pub(crate) fn earliest_must(_gains: &Gains, _strikes: &[Strike], account: Accoun
 }
 
 /// The least deadline of what the account must send, or the last moment.
+#[inline(always)]
 fn least_must(gains: &Gains, strikes: &[Strike], account: Account) -> u64
 {
     if account.start < account.end && account.soft <= account.start && gains.rises {
@@ -389,6 +397,7 @@ fn least_must(gains: &Gains, strikes: &[Strike], account: Account) -> u64
     slow_must(gains, strikes, account).unwrap_or(u64::MAX)
 }
 
+#[inline(never)]
 fn slow_must(gains: &Gains, strikes: &[Strike], account: Account) -> Option<u64>
 {
     let mut least: Option<u64> = None;

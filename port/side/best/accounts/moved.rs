@@ -20,8 +20,8 @@ pub(crate) fn move_all(
     rows: &[Account],
 ) -> Result<Moved, AllocError>
 {
-    let mut kept = Vec::new();
-    let mut moved = Vec::new();
+    let mut kept = Vec::with_capacity(strikes.len() / 2);
+    let mut moved = Vec::with_capacity(rows.len());
     for at in 0..rows.len() {
         let account = move_one(gains, strikes, &mut kept, rows[at])?;
         moved.push(account);
@@ -70,8 +70,11 @@ fn append_some(
 /// Whether the strike strikes something that is left from the place on.
 fn strikes_some(gains: &Gains, strike: Strike, place: usize) -> bool
 {
+    if strike.to <= place || strike.to <= gains.first() {
+        return false;
+    }
     let last = gains.entry(strike.to - 1);
-    if last.left && last.message == strike.message && place < strike.to {
+    if last.left && last.message == strike.message {
         return true;
     }
     match gains.next(strike.message, strike.from.max(place)) {

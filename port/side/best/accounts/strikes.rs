@@ -79,6 +79,7 @@ fn reaches(gains: &Gains, strike: Strike, place: usize) -> bool
 }
 
 /// The account with what was gained at the place struck too: its strikes stand after all others. On an error these are as before.
+#[inline(always)]
 pub(crate) fn put(
     gains: &Gains,
     strikes: &mut Vec<Strike>,
@@ -87,7 +88,7 @@ pub(crate) fn put(
 ) -> Result<Account, AllocError>
 {
     let first = strikes.len();
-    if write(gains, strikes, account, place).is_err() {
+    if write(gains, strikes, account.first, account.last, account.start, place).is_err() {
         strikes.truncate(first);
         return Err(AllocError);
     }
@@ -98,20 +99,32 @@ pub(crate) fn put(
     })
 }
 
-/// Writes the account's strikes that end after its start after all others, and one for what was gained at the place. On an error some
-/// of them are there.
+/// Writes the account's strikes that end after its start after all others, with what was gained at the place struck too: by the one that
+/// reaches up to it, or by a new one. On an error some of them are there.
+#[inline(never)]
 fn write(
     gains: &Gains,
     strikes: &mut Vec<Strike>,
-    account: Account,
+    from: usize,
+    last: usize,
+    start: usize,
     place: usize,
 ) -> Result<(), AllocError>
 {
-    let first = strikes.len();
-    copy_some(strikes, account.first, account.last, account.start)?;
-    if !lengthen(gains, strikes, first, place) {
+    strikes.reserve(last - from + 1);
+    let gain = gains.entry(place);
+    let mut done = false;
+    for at in from..last {
+        let strike = strikes[at];
+        if start < strike.to {
+            let reaches = !done && strike.message == gain.message && gain.since <= strike.to && strike.from <= place;
+            strikes.push(if reaches { Strike { to: place + 1, ..strike } } else { strike });
+            done |= reaches;
+        }
+    }
+    if !done {
         strikes.push(Strike {
-            message: gains.entry(place).message,
+            message: gain.message,
             from: place,
             to: place + 1,
         });

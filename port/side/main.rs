@@ -6,6 +6,7 @@ mod base;
 mod fast;
 mod best;
 mod lean;
+mod hint;
 mod beside;
 mod light;
 mod abl;
@@ -72,6 +73,7 @@ mod named {
     pub fn abl(l: &crate::abl::accounts::Accounts) -> Vec<u32> { let mut all = Vec::new(); l.all_names(&mut all).unwrap(); all }
     pub fn light(l: &crate::light::accounts::Accounts) -> Vec<u32> { let mut all = Vec::new(); l.all_names(&mut all).unwrap(); all }
     pub fn beside(l: &crate::beside::accounts::Accounts) -> Vec<u32> { let mut all = Vec::new(); l.all_names(&mut all).unwrap(); all }
+    pub fn hint(l: &crate::hint::accounts::Accounts) -> Vec<u32> { let mut all = Vec::new(); l.all_names(&mut all).unwrap(); all }
     pub fn fast(l: &crate::fast::accounts::Accounts) -> Vec<u32> { let mut all = Vec::new(); l.all_names(&mut all).unwrap(); all }
 }
 fn none<T>(_: &T) -> String { String::new() }
@@ -83,6 +85,7 @@ fn told_slim(a: &slim::accounts::Accounts) -> String { a.told() }
 fn told_abl(a: &abl::accounts::Accounts) -> String { a.told() }
 fn told_light(a: &light::accounts::Accounts) -> String { a.told() }
 fn told_beside(a: &beside::accounts::Accounts) -> String { a.told() }
+fn told_hint(a: &hint::accounts::Accounts) -> String { a.told() }
 fn told_fast(a: &fast::accounts::Accounts) -> String { a.told() }
 owes!(today::ledger::Ledger, crate::today::debt::Debt, today, none);
 owes!(base::accounts::Accounts, crate::base::debt::Debt, base, told_base);
@@ -93,6 +96,7 @@ owes!(slim::accounts::Accounts, crate::slim::debt::Debt, slim, told_slim, paid_a
 owes!(abl::accounts::Accounts, crate::abl::debt::Debt, abl, told_abl, paid_at_once);
 owes!(light::accounts::Accounts, crate::light::debt::Debt, light, told_light, paid_at_once);
 owes!(beside::accounts::Accounts, crate::beside::debt::Debt, beside, told_beside, paid_at_once);
+owes!(hint::accounts::Accounts, crate::hint::debt::Debt, hint, told_hint, paid_at_once);
 owes!(fast::accounts::Accounts, crate::fast::debt::Debt, fast, told_fast);
 
 fn run<L: Owes>(which: &str, name: &str, states: usize, n: usize) {
@@ -168,6 +172,8 @@ fn main() {
                 "play-light" => play::<light::accounts::Accounts>(name, n, states),
                 "beside" => run::<beside::accounts::Accounts>(which, name, states, n),
                 "play-beside" => play::<beside::accounts::Accounts>(name, n, states),
+                "hint" => run::<hint::accounts::Accounts>(which, name, states, n),
+                "play-hint" => play::<hint::accounts::Accounts>(name, n, states),
                 "fast" => run::<fast::accounts::Accounts>(which, name, states, n),
                 "play-base" => play::<base::accounts::Accounts>(name, n, states),
                 "play-fast" => play::<fast::accounts::Accounts>(name, n, states),

@@ -69,6 +69,20 @@ not-must gains k are past = false_from_ne_true (holds gains.musts 0 k) (λ is.
     let within = are.musts k is in
     absurd (omega (arith, within, past)))
 
+-- a gain of another message does not stand under this one
+pub not-other : (gains : Gains) (m k : ℕ) → AreGains gains → (entry_at (entries_of gains) k).message ≢ m → holds gains.messages m k ≡ false
+not-other gains m k are other = false_from_ne_true (holds gains.messages m k) (λ is. absurd (other (are.messages m k is).message))
+
+-- one gain more of another message
+pub others-more : (gains : Gains) (m from at k : ℕ) → AreGains gains → ((j : ℕ) → from ≤ j → j < at → holds gains.messages m j ≡ false) → (entry_at (entries_of gains) at).message ≢ m →
+    from ≤ k → k < at + 1 → holds gains.messages m k ≡ false
+others-more gains m from at k are none other low high = elim (cases_lt k at) [
+  | inl below ↦ none k low below
+  | inr above ↦
+      let here : at ≡ k = omega (arith, above, high) in
+      subst (λ n. holds gains.messages m n ≡ false) here (not-other gains m at are other)
+]
+
 -- nothing was gained
 pub none-gained : (gains : Gains) → gains.entries.items ≡ [] → gains.end ≡ 0 → gains.messages ≡ [] → gains.musts ≡ [] → AreGains gains
 unfolding holds

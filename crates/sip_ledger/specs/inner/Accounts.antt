@@ -136,6 +136,11 @@ pub record AreAccounts (gains : Gains) (strikes : List Strike) (accounts : List 
 unfoldable pub accounts_debts : Gains → List Strike → List Account → List (List Debt)
 accounts_debts gains strikes accounts = map (account_debts gains strikes) accounts
 
+-- nothing of the message is left from a place on up to another one
+pub record IsNoneBetween (gains : Gains) (message from to : ℕ) : Type 0 where
+  pub order : from ≤ to
+  pub none : (k : ℕ) → from ≤ k → k < to → holds gains.messages message k ≡ false
+
 -- a strike of the gain's message that ends before its place, from where on nothing of that message is left
 pub record Reaches (gains : Gains) (place : ℕ) (strike : Strike) : Type 0 where
   pub message : strike.message ≡ (entry_at (entries_of gains) place).message

@@ -1,12 +1,15 @@
 //! What is not owed of what was gained.
-ghost use Rattle.std.specs.Prelude.{◌≡◌, ◌<◌, ◌≤◌, ◌++◌, ℕ, true, false, IfOk, IfSome, IfNone, OnOk, OnErr, filter, length, take, nat_lt};
+ghost use Rattle.std.specs.Prelude.{◌≡◌, ◌<◌, ◌≤◌, ◌+◌, ◌++◌, ℕ, true, false, IfOk, IfSome, IfNone, OnOk, OnErr, filter, length, take, nat_lt};
 ghost use Rattle.std.specs.Bool.{OnTrue, OnFalse};
 ghost use Rattle.sip_ledger.specs.Ledgers.{from_to};
-ghost use Rattle.sip_ledger.specs.inner.Accounts.{AreGains, IsKept, IsStruckAt, IsWritten, Lengthens, Reaches, is_out, is_struck};
+ghost use Rattle.sip_ledger.specs.inner.Accounts.{AreGains, IsKept, IsNoneBetween, IsStruckAt, IsWritten, Lengthens, Reaches, is_out, is_struck};
 
 use crate::accounts::account::Account;
 use crate::accounts::gains::Gains;
 use std::alloc::AllocError;
+
+/// So many gains are looked at one by one, where the index would be asked else.
+const FEW: usize = 8;
 
 /// Of this message nothing is owed at the places from one up to another.
 #[derive(Clone, Copy, Debug, PartialEq, Eq)]
@@ -111,10 +114,41 @@ fn reaches(gains: &Gains, strike: Strike, place: usize) -> bool
     if strike.message != gains.entry(place).message || place < strike.from {
         return false;
     }
-    match gains.next(strike.message, strike.to) {
-        Some(at) => at == place,
-        None => false,
+    none_between(gains, strike.message, strike.to, place)
+}
+
+/// Whether nothing of the message is left from a place on up to another one.
+fn none_between(gains: &Gains, message: u32, from: usize, to: usize) -> bool
+    requires gained { AreGains gains.now }
+    requires to { to ≤ gains.now.end }
+    ensures { OnTrue result (IsNoneBetween gains.now message from to) }
+{
+    if to < from {
+        return false;
     }
+    if to - from <= FEW && gains.first() <= from {
+        return are_others(gains, message, from, to);
+    }
+    match gains.next(message, from) {
+        Some(at) => to <= at,
+        None => true,
+    }
+}
+
+/// Whether none of the gains from a place on up to another one is of the message.
+fn are_others(gains: &Gains, message: u32, from: usize, to: usize) -> bool
+    requires gained { AreGains gains.now }
+    requires from { gains.now.end ≤ from + length gains.now.entries.items }
+    requires order { from ≤ to }
+    requires to { to ≤ gains.now.end }
+    ensures { OnTrue result (IsNoneBetween gains.now message from to) }
+{
+    for at in from..to {
+        if gains.entry(at).message == message {
+            return false;
+        }
+    }
+    true
 }
 
 /// The account with what was gained at the place struck too: its strikes stand after all others. On an error these are as before.

@@ -53,6 +53,11 @@ pub fn make(name: &str, n: usize, states: usize) -> Log {
                 l.events.push((u64::MAX, E::M));
             }
         }
+        "Cten" | "Aten" | "Iten" => {
+            l.r(0, 1); l.owing(10);
+            for i in 0..10 { l.s(0, 180, format!("o{i}"), 1); }
+            for i in 0..n { match name { "Cten" => l.r(0, 1), "Iten" => l.r(i as u64, 1), _ => l.s(0, 180, format!("f{i}"), 1) } }
+        }
         "wide0" => { for i in 0..n { l.r(0, 1); l.s(1, 180, "w".into(), 1); l.r(2, 31); l.s(3, 183, "w".into(), 1); l.r(4, 31); l.s(5, 180, "w".into(), 31); l.s(6, 183, "w".into(), 31); l.s(7, 200, "w".into(), 1); l.events.push((u64::MAX, E::M)); } }
         _ => panic!(),
     }

@@ -1,7 +1,7 @@
 //! What one row owes of what was gained.
 
 use crate::best::accounts::gains::Gains;
-use crate::best::accounts::strikes::{Strike, end_by, put, struck_to};
+use crate::best::accounts::strikes::{Strike, end_by, put, put_all, struck_to};
 use crate::best::debt::Debt;
 use crate::shim::{AllocError, Global};
 
@@ -331,11 +331,10 @@ fn pass_to(
     place: usize,
 ) -> Result<Account, AllocError>
 {
-    let mut passed = account;
-    for at in account.end..place {
-        passed = put(gains, strikes, passed, at)?;
+    if account.end == place {
+        return Ok(account);
     }
-    Ok(passed)
+    put_all(gains, strikes, account, place)
 }
 
 /// The account with what was gained at the place, after all that it owes.

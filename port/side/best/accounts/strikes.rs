@@ -131,3 +131,31 @@ fn write(
     }
     Ok(())
 }
+
+/// The account with what was gained at the places from its end up to this one struck too: its strikes are written once.
+#[inline(never)]
+pub(crate) fn put_all(
+    gains: &Gains,
+    strikes: &mut Vec<Strike>,
+    account: Account,
+    place: usize,
+) -> Result<Account, AllocError>
+{
+    let first = strikes.len();
+    strikes.reserve(account.last - account.first + 1);
+    copy_some(strikes, account.first, account.last, account.start)?;
+    for at in account.end..place {
+        if !lengthen(gains, strikes, first, at) {
+            strikes.push(Strike {
+                message: gains.entry(at).message,
+                from: at,
+                to: at + 1,
+            });
+        }
+    }
+    Ok(Account {
+        first,
+        last: strikes.len(),
+        ..account
+    })
+}

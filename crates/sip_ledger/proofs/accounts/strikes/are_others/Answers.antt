@@ -1,6 +1,6 @@
 use Rattle.std.proofs.Common.{◌≡◌, ◌≢◌, ap, ◌∙◌, subst, sym, arith}
 use Rattle.sip_ledger.specs.declared.debt.Entry.{Entry}
-use Rattle.sip_ledger.specs.inner.Accounts.{IsNoneBetween, entries_of, entry_at}
+use Rattle.sip_ledger.specs.inner.Accounts.{entries_of, entry_at}
 use Rattle.sip_ledger.proofs.LeftLemmas.{others-more}
 use Rattle.sip_ledger.proofs.accounts.strikes.are_others.Goals as goal
 
@@ -23,4 +23,4 @@ loop-at-preserved c =
 pub returns : goal.returns
 returns c =
     let is : c.loop-at.at ≡ c.args.to = omega arith in
-    λ yes. record { order = c.requires.order; none = λ k low high. c.loop-at.invariant k low (omega (arith, is, high)) }
+    record { order = c.requires.order; none = λ k low high. c.loop-at.invariant k low (omega (arith, is, high)) }

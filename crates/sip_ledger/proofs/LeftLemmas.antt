@@ -10,9 +10,10 @@ use Rattle.sip_ledger.specs.declared.accounts.account.Account.{Account}
 use Rattle.sip_ledger.specs.declared.accounts.gains.Gains.{Gains}
 use Rattle.sip_ledger.specs.declared.accounts.strikes.Strike.{Strike}
 use Rattle.sip_ledger.specs.Rows.{debt_of, debts_from}
-use Rattle.sip_ledger.specs.inner.Accounts.{AreGains, AreSameGains, IsDropped, IsGain, IsKept, IsLetGo, IsNoted, IsPlaceOf, blank, entries_of, entry_at, is_gone, is_left, is_struck, owes_at, strikes_of}
+use Rattle.sip_ledger.specs.inner.Accounts.{AreFlags, AreGains, AreSameGains, IsDropped, IsGain, IsKept, IsLetGo, IsNoted, IsPlaceOf, blank, entries_of, entry_at, is_gone, is_left, is_struck, owes_at, strikes_of}
 use Rattle.sip_ledger.specs.inner.Indexes.{holds}
 use Rattle.sip_ledger.specs.inner.Places.{AreRising}
+use Rattle.sip_ledger.proofs.FlagLemmas.{flags-none}
 use Rattle.sip_ledger.proofs.ListedLemmas.{no_entry}
 
 -- there are as many entries as there were gains
@@ -84,14 +85,15 @@ others-more gains m from at k are none other low high = elim (cases_lt k at) [
 ]
 
 -- nothing was gained
-pub none-gained : (gains : Gains) → gains.entries.items ≡ [] → gains.end ≡ 0 → gains.messages ≡ [] → gains.musts ≡ [] → AreGains gains
+pub none-gained : (gains : Gains) → gains.entries.items ≡ [] → gains.flags.items ≡ [] → gains.end ≡ 0 → gains.messages ≡ [] → gains.musts ≡ [] → AreGains gains
 unfolding holds
-none-gained gains entries end messages musts = record {
+none-gained gains entries flags end messages musts = record {
   long = omega (arith, ap length entries);
   small = subst (λ n. n < 2 ^ 64) (sym end) (lit< tt);
   messages = λ m k is. absurd (true≢false (sym is ∙ ap (λ l. holds l m k) messages));
   musts = λ k is. absurd (true≢false (sym is ∙ ap (λ l. holds l 0 k) musts));
   rises = λ _ i k e order below. absurd (omega (arith, below, ap length entries));
+  flags = flags-none gains entries flags;
 }
 
 pub none-entries : (gains : Gains) → gains.entries.items ≡ [] → gains.end ≡ 0 → entries_of gains ≡ []
@@ -176,8 +178,9 @@ more-entries old new entry long entries end =
 -- the gains with one more, which stands under its message
 pub gains-more : (old new : Gains) (debt : Debt) → AreGains old → new.entries.items ≡ old.entries.items ++ (record { message = debt.message; deadline = debt.deadline }) ∷ [] →
     new.end ≡ old.end + 1 → new.end < 2 ^ 64 → IsNoted old.end debt old.messages old.musts new.messages new.musts →
-    (new.rises ≡ true → AreRising (old.entries.items ++ (record { message = debt.message; deadline = debt.deadline }) ∷ [])) → AreGains new × IsGain debt old new
-gains-more old new debt are entries end small noted rises =
+    (new.rises ≡ true → AreRising (old.entries.items ++ (record { message = debt.message; deadline = debt.deadline }) ∷ [])) → (IsGain debt old new → AreFlags new) →
+    AreGains new × IsGain debt old new
+gains-more old new debt are entries end small noted rises flags =
     let n = old.end in
     let e : Entry = record { message = debt.message; deadline = debt.deadline } in
     let long = are.long in
@@ -188,7 +191,14 @@ gains-more old new debt are entries end small noted rises =
     let here : entry_at (entries_of new) n ≡ e = ap (λ l. entry_at l n) all ∙ get_or_push (entries_of old) e blank n count in
     let others : (m k : ℕ) → k ≢ n → holds new.messages m k ≡ holds old.messages m k = λ m k other.
     noted.messages m k ∙ ap (λ b. cond (m == debt.message && b) true (holds old.messages m k)) (ne_eqb k n other)
-    ∙ ap (λ b. cond b true (holds old.messages m k)) (and-false (m == debt.message)) in (
+    ∙ ap (λ b. cond b true (holds old.messages m k)) (and-false (m == debt.message)) in
+    let gain : IsGain debt old new = record {
+      entries = all;
+      message = ap (holds new.messages debt.message) count ∙ noted.messages debt.message n ∙ ap₂ (λ a b. cond (a && b) true (holds old.messages debt.message n)) (eq-eqb debt.message debt.message refl) (eq-eqb n n refl);
+      messages = λ m k other. others m k (λ same. other (same ∙ sym count));
+      must = ap (holds new.musts 0) count ∙ noted.must;
+      musts = λ k other. noted.musts k (λ same. other (same ∙ sym count));
+    } in (
       record {
         long = omega (arith, some, end, long);
         small = small;
@@ -216,14 +226,9 @@ gains-more old new debt are entries end small noted rises =
               omega (arith, within, end)
         ];
         rises = λ said. subst AreRising (sym entries) (rises said);
+        flags = flags gain;
       },
-      record {
-        entries = all;
-        message = ap (holds new.messages debt.message) count ∙ noted.messages debt.message n ∙ ap₂ (λ a b. cond (a && b) true (holds old.messages debt.message n)) (eq-eqb debt.message debt.message refl) (eq-eqb n n refl);
-        messages = λ m k other. others m k (λ same. other (same ∙ sym count));
-        must = ap (holds new.musts 0) count ∙ noted.must;
-        musts = λ k other. noted.musts k (λ same. other (same ∙ sym count));
-      },
+      gain,
     )
   where
     named : (m k : ℕ) → k ≡ old.end → holds new.messages m k ≡ true → m ≡ debt.message
@@ -237,9 +242,9 @@ gains-more old new debt are entries end small noted rises =
 
 -- the gains are as they were, and so is where they stand
 pub gains-same : (old new : Gains) → AreGains old → new.entries.items ≡ old.entries.items → new.end ≡ old.end → ((m k : ℕ) → holds new.messages m k ≡ holds old.messages m k) →
-    ((k : ℕ) → holds new.musts 0 k ≡ holds old.musts 0 k) → new.rises ≡ old.rises → AreGains new × AreSameGains old new
+    ((k : ℕ) → holds new.musts 0 k ≡ holds old.musts 0 k) → new.rises ≡ old.rises → (AreSameGains old new → AreFlags new) → AreGains new × AreSameGains old new
 unfolding entries_of
-gains-same old new are entries end messages musts rises =
+gains-same old new are entries end messages musts rises flags =
     let all : entries_of new ≡ entries_of old = ap₂ (λ (n : ℕ) (l : List Entry). replicate (n - length l) blank ++ l) end entries in
     let some = ap length entries in
     let long = are.long in (
@@ -256,6 +261,7 @@ gains-same old new are entries end messages musts rises =
             };
         musts = λ k is. let within = are.musts k (sym (musts k) ∙ is) in omega (arith, within, end);
         rises = λ said. subst AreRising (sym entries) (are.rises (sym rises ∙ said));
+        flags = flags (record { entries = all; messages = messages; musts = musts });
       },
       record { entries = all; messages = messages; musts = musts },
     )
@@ -263,13 +269,27 @@ gains-same old new are entries end messages musts rises =
 -- a gain is let go
 pub gains-let_go : (old new : Gains) (place : ℕ) → AreGains old → new.entries.items ≡ old.entries.items → new.end ≡ old.end → new.rises ≡ old.rises →
     ((m k : ℕ) → holds new.messages m k ≡ cond (m == (entry_at (entries_of old) place).message && k == place) false (holds old.messages m k)) →
-    ((m k : ℕ) → holds new.musts m k ≡ cond (m == 0 && k == place) false (holds old.musts m k)) → AreGains new × IsLetGo place old new
+    ((m k : ℕ) → holds new.musts m k ≡ cond (m == 0 && k == place) false (holds old.musts m k)) → (IsLetGo place old new → AreFlags new) →
+    AreGains new × IsLetGo place old new
 unfolding entries_of
-gains-let_go old new place are entries end rises messages musts =
+gains-let_go old new place are entries end rises messages musts flags =
     let all : entries_of new ≡ entries_of old = ap₂ (λ (n : ℕ) (l : List Entry). replicate (n - length l) blank ++ l) end entries in
     let some = ap length entries in
     let long = are.long in
-    let m0 = (entry_at (entries_of old) place).message in (
+    let m0 = (entry_at (entries_of old) place).message in
+    let gone : IsLetGo place old new = record {
+      entries = all;
+      end = end;
+      long = some;
+      here = λ m. elim (cases_eq m m0) [
+      | inl is ↦ messages m place ∙ ap₂ (λ a b. cond (a && b) false (holds old.messages m place)) (eq-eqb m m0 is) (eq-eqb place place refl)
+      | inr other ↦ messages m place ∙ ap (λ a. cond (a && place == place) false (holds old.messages m place)) (ne_eqb m m0 other)
+          ∙ false_from_ne_true (holds old.messages m place) (λ is. other (sym (are.messages m place is).message))
+      ];
+      others = λ m k other. messages m k ∙ ap (λ b. cond (m == m0 && b) false (holds old.messages m k)) (ne_eqb k place other)
+        ∙ ap (λ b. cond b false (holds old.messages m k)) (and-false (m == m0));
+      musts = λ k other. musts 0 k ∙ ap (λ b. cond (0 == 0 && b) false (holds old.musts 0 k)) (ne_eqb k place other);
+    } in (
       record {
         long = omega (arith, some, end, long);
         small = subst (λ n. n < 2 ^ 64) (sym end) are.small;
@@ -285,20 +305,9 @@ gains-let_go old new place are entries end rises messages musts =
             let within = are.musts k (fewer (0 == 0 && k == place) (holds old.musts 0 k) (sym (musts 0 k) ∙ is)) in
             omega (arith, within, end);
         rises = λ said. subst AreRising (sym entries) (are.rises (sym rises ∙ said));
+        flags = flags gone;
       },
-      record {
-        entries = all;
-        end = end;
-        long = some;
-        here = λ m. elim (cases_eq m m0) [
-          | inl is ↦ messages m place ∙ ap₂ (λ a b. cond (a && b) false (holds old.messages m place)) (eq-eqb m m0 is) (eq-eqb place place refl)
-          | inr other ↦ messages m place ∙ ap (λ a. cond (a && place == place) false (holds old.messages m place)) (ne_eqb m m0 other)
-              ∙ false_from_ne_true (holds old.messages m place) (λ is. other (sym (are.messages m place is).message))
-        ];
-        others = λ m k other. messages m k ∙ ap (λ b. cond (m == m0 && b) false (holds old.messages m k)) (ne_eqb k place other)
-            ∙ ap (λ b. cond b false (holds old.messages m k)) (and-false (m == m0));
-        musts = λ k other. musts 0 k ∙ ap (λ b. cond (0 == 0 && b) false (holds old.musts 0 k)) (ne_eqb k place other);
-      },
+      gone,
     )
   where
     fewer : (b was : Bool) → cond b false was ≡ true → was ≡ true
@@ -308,8 +317,8 @@ gains-let_go old new place are entries end rises messages musts =
 -- gains are dropped of which nothing is left
 pub gains-dropped : (old new : Gains) (place count : ℕ) → AreGains old → count + (old.end - length old.entries.items) ≡ place → place ≤ old.end →
     new.entries.items ≡ drop count old.entries.items → new.end ≡ old.end → new.messages ≡ old.messages → new.musts ≡ old.musts → new.rises ≡ old.rises →
-    ((m k : ℕ) → k < place → holds old.messages m k ≡ false) → AreGains new × IsDropped place old new
-gains-dropped old new place count are here within entries end messages musts rises none =
+    ((m k : ℕ) → k < place → holds old.messages m k ≡ false) → (IsDropped place old new → AreFlags new) → AreGains new × IsDropped place old new
+gains-dropped old new place count are here within entries end messages musts rises none flags =
     let xs = old.entries.items in
     let long = are.long in
     let fewer = length-drop count xs in
@@ -327,7 +336,13 @@ gains-dropped old new place count are here within entries end messages musts ris
           ∙ sym (entry-kept old k long kept)
       | inr past ↦
           past-entry new k (omega (arith, past, end, entries-long new short)) ∙ sym (past-entry old k (omega (arith, past, entries-long old long)))
-    ] in (
+    ] in
+    let dropped : IsDropped place old new = record {
+      long = entries-long new short ∙ end ∙ sym (entries-long old long);
+      entries = same;
+      messages = messages;
+      musts = musts;
+    } in (
       record {
         long = short;
         small = subst (λ n. n < 2 ^ 64) (sym end) are.small;
@@ -348,13 +363,9 @@ gains-dropped old new place count are here within entries end messages musts ris
             let one = ap (λ (x : Entry). x.deadline) (ap (λ (l : List Entry). get_or l i e) entries ∙ get_or-drop count xs i e) in
             let other = ap (λ (x : Entry). x.deadline) (ap (λ (l : List Entry). get_or l k e) entries ∙ get_or-drop count xs k e) in
             omega (arith, above, one, other);
+        flags = flags dropped;
       },
-      record {
-        long = entries-long new short ∙ end ∙ sym (entries-long old long);
-        entries = same;
-        messages = messages;
-        musts = musts;
-      },
+      dropped,
     )
   where
     past-entry : (gains : Gains) (k : ℕ) → length (entries_of gains) ≤ k → entry_at (entries_of gains) k ≡ blank

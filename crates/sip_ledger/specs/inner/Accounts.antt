@@ -3,6 +3,7 @@ use Rattle.std.specs.List.{list_any}
 use Rattle.sip_ledger.specs.declared.debt.Debt.{Debt}
 use Rattle.sip_ledger.specs.declared.debt.Entry.{Entry}
 use Rattle.sip_ledger.specs.declared.accounts.account.Account.{Account}
+use Rattle.sip_ledger.specs.declared.accounts.gains.Flags.{Flags}
 use Rattle.sip_ledger.specs.declared.accounts.gains.Gains.{Gains}
 use Rattle.sip_ledger.specs.declared.accounts.strikes.Strike.{Strike}
 use Rattle.sip_ledger.specs.Accounts.{debts_print}
@@ -39,6 +40,19 @@ pub record IsPlaceOf (gains : Gains) (m k : ℕ) : Type 0 where
   pub kept : IsKept gains k
   pub message : (entry_at (entries_of gains) k).message ≡ m
 
+-- what is kept beside a gain: whether it must be sent, and whether it is left
+abbrev pub no_flags : Flags
+no_flags = record { must = false; left = false }
+
+abbrev pub flags_at : Gains → ℕ → Flags
+flags_at gains k = get_or gains.flags.items (k - (gains.end - length gains.entries.items)) no_flags
+
+-- each gain that is kept has them
+pub record AreFlags (gains : Gains) : Type 0 where
+  pub many : length gains.flags.items ≡ length gains.entries.items
+  pub left : (k : ℕ) → IsKept gains k → (flags_at gains k).left ≡ is_left gains k
+  pub must : (k : ℕ) → IsKept gains k → (flags_at gains k).must ≡ holds gains.musts 0 k
+
 -- what stands under a message are gains of it, what must be sent was gained, and deadlines rise where they are said to
 pub record AreGains (gains : Gains) : Type 0 where
   pub long : length gains.entries.items ≤ gains.end
@@ -46,6 +60,7 @@ pub record AreGains (gains : Gains) : Type 0 where
   pub messages : (m k : ℕ) → holds gains.messages m k ≡ true → IsPlaceOf gains m k
   pub musts : (k : ℕ) → holds gains.musts 0 k ≡ true → k < gains.end
   pub rises : gains.rises ≡ true → AreRising gains.entries.items
+  pub flags : AreFlags gains
 
 -- the place stands under the debt's message, and among those of what must be sent if it must; no other place moves
 pub record IsNoted (place : ℕ) (debt : Debt) (named must_be named' must_be' : List (ℕ × ℕ)) : Type 0 where

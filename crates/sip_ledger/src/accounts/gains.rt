@@ -1,6 +1,6 @@
 //! What the rows gained: one list for all.
 ghost use Rattle.std.specs.Prelude.{◌≡◌, ◌<◌, ◌≤◌, ◌+◌, ◌==◌, ◌&&◌, ◌++◌, ◌∷◌, ℕ, [], IfSome, IfNone, OnOk, OnErr, cond, drop, length, true, false};
-ghost use Rattle.sip_ledger.specs.inner.Accounts.{AreGains, AreSameGains, IsDropped, IsGain, IsKept, IsLetGo, IsNoted, IsPlaceOf, entries_of, entry_at, is_left};
+ghost use Rattle.sip_ledger.specs.inner.Accounts.{AreGains, AreSameGains, IsDropped, IsGain, IsKept, IsLetGo, IsNoted, IsPlaceOf, entries_of, entry_at, flags_at, is_left};
 ghost use Rattle.sip_ledger.specs.inner.Indexes.{holds};
 ghost use Rattle.sip_ledger.specs.inner.Places.{AreRising};
 
@@ -8,11 +8,22 @@ use crate::debt::{Debt, Entry};
 use crate::index::Index;
 use std::alloc::{AllocError, Global};
 
+/// What is asked of a gain most.
+#[derive(Clone, Copy, Debug)]
+pub(crate) struct Flags {
+    /// Whether it must be sent.
+    pub must: bool,
+    /// Whether it is left.
+    pub left: bool,
+}
+
 /// What was gained, in order. A place is the number of a gain: it stays when gains before it are dropped.
 #[derive(Debug, Drop)]
 pub(crate) struct Gains {
     /// The message and the deadline of each gain that is kept: of the last ones.
     pub entries: Vec<Entry>,
+    /// The flags of each of them.
+    pub flags: Vec<Flags>,
     /// How many gains there were.
     pub end: usize,
     /// The places of the gains that are left, under the messages.
@@ -31,6 +42,7 @@ impl Gains {
     {
         Gains {
             entries: Vec::new(alloc),
+            flags: Vec::new(alloc),
             end: 0,
             messages: Index::new(alloc),
             musts: Index::new(alloc),
@@ -55,14 +67,22 @@ impl Gains {
         self.entries[place - (self.end - self.entries.len())]
     }
 
+    /// The flags of the gain at the place.
+    pub(crate) fn flags(&self, place: usize) -> Flags
+        requires gained { AreGains self.now }
+        requires kept { IsKept self.now place }
+        ensures { result ≡ flags_at self.now place }
+    {
+        self.flags[place - (self.end - self.entries.len())]
+    }
+
     /// Whether the gain at the place is left.
     pub(crate) fn is_left(&self, place: usize) -> bool
         requires gained { AreGains self.now }
         requires kept { IsKept self.now place }
         ensures { result ≡ is_left self.now place }
     {
-        let message = self.entry(place).message;
-        self.messages.has(u64::from(message), place as u64)
+        self.flags(place).left
     }
 
     /// Puts a gain after the others. On an error they are as before.
@@ -82,9 +102,14 @@ impl Gains {
         let place = self.end as u64;
         let rises = rise(&self.entries, self.rises, entry);
         self.entries.reserve(1)?;
+        self.flags.reserve(1)?;
         note(&mut self.messages, &mut self.musts, place, debt)?;
         self.rises = rises;
         self.entries.push_reserved(entry);
+        self.flags.push_reserved(Flags {
+            must: debt.must,
+            left: true,
+        });
         self.end += 1;
         Ok(())
     }
@@ -128,6 +153,11 @@ impl Gains {
         let message = self.entry(place).message;
         self.messages.take(u64::from(message), place as u64);
         self.musts.take(0, place as u64);
+        let at = place - (self.end - self.entries.len());
+        self.flags[at] = Flags {
+            must: false,
+            left: false,
+        };
     }
 
     /// Drops the gains before the place, of which none is left.
@@ -141,11 +171,12 @@ impl Gains {
     {
         let count = place - (self.end - self.entries.len());
         drop_first(&mut self.entries, count);
+        drop_first(&mut self.flags, count);
     }
 }
 
 /// Drops the first entries.
-fn drop_first(entries: &mut Vec<Entry>, count: usize)
+fn drop_first<T: Copy + Drop>(entries: &mut Vec<T>, count: usize)
     requires { count ≤ length entries.old.items }
     ensures { entries.new.items ≡ drop count entries.old.items }
 {

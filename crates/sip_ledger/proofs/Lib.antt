@@ -25,6 +25,7 @@ pub mod AccountLemmas
 pub mod WithoutLemmas
 pub mod GainedLemmas
 pub mod FindLemmas
+pub mod FlagLemmas
 pub mod ExpiringLemmas
 pub mod ToldLemmas
 pub mod SeenLemmas

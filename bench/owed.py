@@ -141,7 +141,7 @@ def acks_mixed(count, _):
 
 
 def equal_debts(count, states):
-    """So many equal debts, and then the states, and no more: a question of memory."""
+    """So many equal debts, and then the states, with nothing after them: it takes memory, and little time."""
     yield from [ASK, ("S", 0, reply(180, "e")), *count * [ASK], *widened(states)[1:]]
 
 

@@ -13,7 +13,7 @@ NICE = 10
 
 
 class Looking:
-    """Those processes."""
+    """The processes that look for the evidence of troubles, and the troubles that wait for one."""
 
     def __init__(self):
         self.waiting, self.workers, self.count = deque(), {}, 0  # by the descriptors of their outputs

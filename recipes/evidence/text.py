@@ -58,7 +58,7 @@ def breach(told):
 
 
 def details(told):
-    """What is wrong in it, and what was allowed when."""
+    """What is wrong in the message that was sent, and when what was allowed."""
     sent, seen = told.get("sent", {}), []
     for one in told.get("due", []) + told.get("together", []):
         if one["bytes"] == sent.get("bytes") and one["windows"] == sent.get("windows") or one in seen:

@@ -226,7 +226,7 @@ fn keeps_all(rt: &impl Abort, kept: &[usize]) {
     }
 }
 
-/// Each request at moment 0 waits for its response, so that no sweep forgets one.
+/// Each request at moment 0 waits for its response, so that no sweep drops one.
 #[test]
 fn keeps_what_is_needed(rt: HostRuntime) -> Result<(), Fail> {
     let log = waiting(rt.alloc())?;

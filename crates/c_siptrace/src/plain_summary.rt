@@ -14,7 +14,7 @@ pub struct PlainSummary {
     pub end: u32,
     /// Of a log that was read to its end: how many entries it has.
     pub entries: u32,
-    /// Of a log that was read to its end: how many transactions they concern.
+    /// Of a log that was read to its end: how many transactions its entries concern.
     pub transactions: u32,
     /// Of a fault of the log: the number of its entry, from 1 on; of a fault of the header 0.
     pub entry: u32,

@@ -13,7 +13,7 @@ pub struct PlainVerdict {
     pub kind: u32,
     /// Of a legal log: how many entries it has.
     pub entries: u32,
-    /// Of a legal log: how many transactions they concern.
+    /// Of a legal log: how many transactions its entries concern.
     pub transactions: u32,
     /// Of any other: the number of its entry, from 1 on; of a fault of the header 0.
     pub entry: u32,

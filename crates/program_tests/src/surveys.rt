@@ -8,7 +8,7 @@ use std::io;
 use std::process::Abort;
 use std::test::Fail;
 
-const USAGE: &str = "sipsurvey: usage: sipsurvey [--part K/N] [FILE]\n";
+const USAGE: &str = "sipsurvey: usage: sipsurvey [--forget MILLISECONDS] [--part K/N] [FILE]\n";
 
 /// Runs the whole program with these words, this on the standard input and this in the file: what it writes and tells, and the status.
 fn ends(
@@ -56,6 +56,22 @@ fn surveys_a_part_alone(rt: HostRuntime) -> Result<(), Fail> {
 }
 
 #[test]
+fn surveys_and_may_forget(rt: HostRuntime) -> Result<(), Fail> {
+    let log = hasty(rt.alloc())?;
+    let found = (
+        "breach 2 transaction 1 client REGISTER z9hG4bKr1 1 2\nend entries 2 transactions 1 findings 1\n",
+        "",
+        1,
+    );
+    ends(&rt, &["--forget", "0", PATH], "", log.as_str(), found)?;
+    let none = ("end entries 2 transactions 0 findings 0\n", "", 0);
+    let words = ["--forget", "0", "--part", "1/2"];
+    ends(&rt, &words, log.as_str(), "", none)?;
+    let header = ("log fault 0 20 Header\n", "", 2);
+    ends(&rt, &["--forget", "0"], "", "", header)
+}
+
+#[test]
 fn ends_with_the_fault_of_the_log(rt: HostRuntime) -> Result<(), Fail> {
     let header = ("log fault 0 20 Header\n", "", 2);
     ends(&rt, &[], "", "", header)?;
@@ -95,6 +111,7 @@ fn asks_by_at_most_one_word(rt: HostRuntime) -> Result<(), Fail> {
     let words = vec![in rt.alloc(); String::from_str(rt.alloc(), "--part")?]?;
     let none = asked(&[]).ok_or("no words")?;
     assert!(rt; matches!(none.log, Log::Input) && none.part.is_none());
+    assert!(rt; none.forget.is_none());
     let one = asked(words.as_slice()).ok_or("one word")?;
     assert!(rt; matches!(one.log, Log::File("--part")) && one.part.is_none());
     Ok(())
@@ -109,6 +126,21 @@ fn asks_for_a_part_by_two_words(rt: HostRuntime) -> Result<(), Fail> {
     let part = asked.part.ok_or("a part")?;
     assert!(rt; part.has_branch(b"z9hG4bKa"));
     assert!(rt; !part.has_branch(b"Z9HG4BKB"));
+    Ok(())
+}
+
+#[test]
+fn asks_to_forget_by_two_words(rt: HostRuntime) -> Result<(), Fail> {
+    let first = String::from_str(rt.alloc(), "--forget")?;
+    let mut words = vec![in rt.alloc(); first, String::from_str(rt.alloc(), "60000")?]?;
+    let some = asked(words.as_slice()).ok_or("to forget")?;
+    assert!(rt; matches!(some.log, Log::Input) && some.part.is_none());
+    assert!(rt; some.forget == Some(60000));
+    words.push(String::from_str(rt.alloc(), "--forget")?)?;
+    let file = asked(words.as_slice()).ok_or("to forget, and a file")?;
+    assert!(rt; matches!(file.log, Log::File("--forget")));
+    words.push(String::from_str(rt.alloc(), "60000")?)?;
+    assert!(rt; asked(words.as_slice()).is_none());
     Ok(())
 }
 

@@ -149,7 +149,7 @@ top_found : (b value : List ℕ) (values : List (List ℕ)) (via : SaidVia) (oth
 top_found b value values via others first ([], more, says, later, same) = absurd says
 top_found b value values via others first (v ∷ vias, more, says, later, same) = let e : via ≡ v = cc in ap (λ x. x.branch) e ∙ first v vias says
 
--- the lines of a clean head
+-- lines as one text, each with its CRLF
 abbrev Ended : List (List ℕ) → List ℕ
 Ended lines = flat_map (λ line. line ++ codes "\r\n") lines
 

@@ -16,6 +16,7 @@ use Rattle.sip_part.specs.Led.{opens_via, via_line}
 abbrev pub line_from : List ℕ → Option (List ℕ)
 line_from text = if opens_via text then Some text else via_line text
 
+-- what is found from this line on, where there is one
 abbrev pub found_in : Option (List ℕ) → Option (List ℕ)
 found_in None = None
 found_in (Some text) = line_from text
@@ -29,9 +30,11 @@ after_end (b ∷ text) = by (nat_eq b line_feed) (after_end text)
     by true on = refl
     by false on = on
 
+-- where a LF stands, it is found from the line after the first one on
 pub next_line : (k : ℕ) (text : List ℕ) → k < length text → Nowhere (Passes (is_byte 10) text) 0 k → Passes (is_byte 10) text k → via_line text ≡ line_from (drop (k + 1) text)
 next_line k text within none is = after_end text ∙ ap found_in ((before-first 10 k text within none is).1)
 
+-- where no LF stands, nothing is found
 pub no_line : (text : List ℕ) → Nowhere (Passes (is_byte 10) text) 0 (length text) → via_line text ≡ None
 no_line text none = after_end text ∙ ap found_in ((before-nowhere 10 text none).1)
 
@@ -98,6 +101,7 @@ pass_byte b us (x ∷ line) more plain same folded on =
       clean = later.clean;
     }
 
+-- a line of clean bytes is passed with its CRLF
 pub pass_line : (us : List (List ℕ)) (line more : List ℕ) → AllByRecursion Unit us → concat us ≡ line ++ (13 ∷ (10 ∷ more)) → Folded line → Passed line more
 pass_line [] [] more all is folded = absurd (cc)
 pass_line [] (x ∷ line) more all is folded = absurd (cc)

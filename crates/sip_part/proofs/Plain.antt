@@ -35,6 +35,7 @@ pub record Open (u : List ℕ) : Type 0 where
   pub is : u ≡ first ∷ rest
   pub opens : Opens first
 
+-- SP and HTAB may begin blanks
 pub wsp_opens : (b : ℕ) → is_wsp b ≡ true → Opens b
 wsp_opens b is = by (nat_eq b 32) (nat_eq b 9) refl refl is
   where
@@ -61,6 +62,7 @@ sws_open u (inr blanks) = by (units-blanks u blanks)
 abbrev pub NoToken : List ℕ → Type 0
 NoToken text = prefix_len is_token_byte text ≡ 0
 
+-- where blanks stand no token does
 pub open_no_token : (u rest : List ℕ) → Open u → NoToken (u ++ rest)
 open_no_token u rest o = by o.opens
   where
@@ -189,6 +191,7 @@ not_equal (inl is) = omega (arith, is)
 not_equal (inr (inl is)) = omega (arith, is)
 not_equal (inr (inr is)) = omega (arith, is)
 
+-- a colon begins no blanks
 pub not_colon : Opens 58 → ⊥
 not_colon (inl is) = omega (arith, is)
 not_colon (inr (inl is)) = omega (arith, is)
@@ -196,6 +199,7 @@ not_colon (inr (inr is)) = omega (arith, is)
 
 -- What the search makes of a parameter.
 
+-- a text that starts with another one is that one and what comes after it
 pub starts_is : (t needle : List ℕ) → starts_with nat_eq t needle ≡ true → t ≡ needle ++ drop (length needle) t
 starts_is t needle is = sym (take-append-drop (length needle) t) ∙ ap (λ u. u ++ drop (length needle) t) (sym (same_text needle (take (length needle) t) (sym is)))
 

@@ -27,6 +27,7 @@ same_stops b =
     by false false true = refl
     by false false false = refl
 
+-- a byte that is no comma, no semicolon and no CR is no stop
 pub no_stop : (b : ℕ) → nat_eq b 44 ≡ false → nat_eq b 59 ≡ false → nat_eq b 13 ≡ false → is_among ",;\r" b ≡ false
 no_stop b one two three = same_stops b ∙ ap (λ x. (x || nat_eq b 59) || nat_eq b 13) one ∙ ap (λ x. x || nat_eq b 13) two ∙ three
 

@@ -24,13 +24,14 @@ told_branch text s branch says tells = tells.0 s says
 pub plain_told : (text plain : List ℕ) → led_branch text ≡ Some plain → TellsBranch text (folded plain)
 plain_told text plain led = ((λ s says. sym (ap compared (led_found text plain s says led))), (λ fault has. sym (ap compared led)))
 
--- what is read of bytes tells their branch
+-- of a message that is read, the branch of its top Via is told
 pub read_told : (text : List ℕ) (r : Reading) → Reads text r → TellsBranch text (compared ((said_of r).via.branch))
 read_told text r reads = (
   (λ s says. sym (ap (λ x. compared x.via.branch) (said-is text r s reads says))),
   (λ fault has. absurd (says-no_fault text (said_of r) fault reads.says has)),
 )
 
+-- of bytes with a fault in which no branch stands plainly, the empty branch is told
 pub fault_told : (text : List ℕ) (fault : Fault) → led_branch text ≡ None → Says text (stops fault) → TellsBranch text []
 fault_told text fault none has = ((λ s says. absurd (says-no_fault text s fault says has)), (λ other also. sym (ap compared none)))
 

@@ -13,7 +13,7 @@ abbrev pub status_at_end : Result ℕ Failure → ℕ
 status_at_end (Ok status) = status
 status_at_end (Err failure) = status_without failure
 
--- what is told of it: nothing of an answer
+-- what is told of how a run ends: nothing of an answer
 abbrev pub told_at_end : Result ℕ Failure → List ℕ
 told_at_end (Ok status) = []
 told_at_end (Err failure) = line_of failure

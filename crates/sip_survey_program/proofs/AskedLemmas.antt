@@ -1,13 +1,70 @@
--- Words that begin with a part.
-use Rattle.std.proofs.Common.{◌≡◌, ◌∙◌, ℕ, true, List, [], ◌∷◌, map, drop, get_or, codes, sym, ap}
+-- Words that begin with one that says what the next one is.
+use Rattle.std.proofs.Common.{◌≡◌, ◌≢◌, ◌<◌, ◌^◌, ◌∙◌, ℕ, true, false, List, [], ◌∷◌, ◌++◌, Option, None, Some, IfSome, map, drop, get_or, codes, refl, sym, ap, subst, true≢false}
+use Rattle.std.specs.Prelude.{decimal}
+use Rattle.std.proofs.lemmas.Bool.{false≢true}
 use Rattle.std.proofs.lemmas.Slice.Eq.{bytes_eq-Decides}
-use Rattle.sip_survey_program.specs.Asked.{names_part}
+use Rattle.sip_part.specs.Part.{PartOf}
+use Rattle.sip_survey_program.specs.declared.words.Asked.{Asked}
+use Rattle.sip_survey_program.specs.declared.words.Log.{Log}
+use Rattle.sip_survey_program.specs.declared.words.Log.TheVariants.{Input, File}
+use Rattle.sip_survey_program.specs.Asked.{CanBeNamed, IsAskedBy, IsRestFor, begin_with, forget_words, log_words, part_words, words_for}
 
 module _ {X : Type 0} (f : X → List ℕ) where
-  -- words that begin with a part are its word, the part and the others
-  pub part_split : (words : List X) (b : X) → names_part (map f words) ≡ true → b ≡ get_or words 1 b → map f words ≡ codes "--part" ∷ f b ∷ map f (drop 2 words)
-  part_split [] b names second = absurd (cc)
-  part_split (x ∷ []) b names second = absurd (cc)
-  part_split (x ∷ y ∷ more) b names second =
-      let first : f x ≡ codes "--part" = (bytes_eq-Decides (f x) (codes "--part")).0 names in
-      ap (λ w. w ∷ f y ∷ map f more) first ∙ ap (λ w. codes "--part" ∷ f w ∷ map f more) (sym second)
+  -- words that begin so are that word, the next one and the others
+  pub split_first : (first : List ℕ) (words : List X) (b : X) → begin_with first (map f words) ≡ true → b ≡ get_or words 1 b → map f words ≡ first ∷ f b ∷ map f (drop 2 words)
+  split_first first [] b begins second = absurd (cc)
+  split_first first (x ∷ []) b begins second = absurd (cc)
+  split_first first (x ∷ y ∷ more) b begins second =
+      let is : f x ≡ first = (bytes_eq-Decides (f x) first).0 begins in
+      ap (λ w. w ∷ f y ∷ map f more) is ∙ ap (λ w. first ∷ f w ∷ map f more) (sym second)
+
+-- the words that ask for the same, where this has it forget
+abbrev Forgetting : Asked → Option ℕ → List (List ℕ)
+Forgetting asked forget = forget_words forget ++ part_words asked.part ++ log_words asked.log
+
+-- words that do not begin so have it forget nothing
+pub without_forget : (words : List (List ℕ)) (r : Option Asked) → begin_with (codes "--forget") words ≡ false → IsRestFor None words r → IsAskedBy words r
+without_forget words (Some asked) other (is, part, none) =
+    (is ∙ ap (Forgetting asked) (sym none), (part, subst (λ o. IfSome o (λ age. age < 2 ^ 32)) (sym none) tt))
+without_forget words None other never = λ asked can same. by asked can same asked.forget refl
+  where
+    by : (asked : Asked) → CanBeNamed asked → words ≡ words_for asked → (forget : Option ℕ) → asked.forget ≡ forget → ⊥
+    by asked can same None is = never asked can.0 (same ∙ ap (Forgetting asked) is)
+    by asked can same (Some age) is =
+        let whole : words ≡ codes "--forget" ∷ decimal age ∷ (part_words asked.part ++ log_words asked.log) = same ∙ ap (Forgetting asked) is in
+        let begins : begin_with (codes "--forget") words ≡ true = ap (begin_with (codes "--forget")) whole in
+        true≢false (sym begins ∙ other)
+
+-- words that begin so have it forget, from the next word on
+record Forgets (asked : Asked) (second : List ℕ) (more : List (List ℕ)) : Type 0 where
+  pub age : ℕ
+  pub is : asked.forget ≡ Some age
+  pub word : second ≡ decimal age
+  pub others : more ≡ part_words asked.part ++ log_words asked.log
+
+forgets : (asked : Asked) (second : List ℕ) (more : List (List ℕ)) → codes "--forget" ∷ second ∷ more ≡ words_for asked → Forgets asked second more
+forgets asked second more same =
+    let (age, is, next, rest) = by asked.forget asked.part asked.log refl same in
+    record { age = age; is = is; word = next; others = rest }
+  where
+    by : (forget : Option ℕ) (part : Option PartOf) (log : Log) → asked.forget ≡ forget → codes "--forget" ∷ second ∷ more ≡ forget_words forget ++ part_words part ++ log_words log
+        → (age : ℕ) × (asked.forget ≡ Some age) × (second ≡ decimal age) × (more ≡ part_words part ++ log_words log)
+    by None None Input is words = absurd (cc)
+    by None None (File file) is words = absurd (cc)
+    by None (Some part) log is words = absurd (false≢true (ap (begin_with (codes "--part")) words))
+    by (Some age) part log is words =
+        let next : second ≡ decimal age = cc in
+        let rest : more ≡ part_words part ++ log_words log = cc in
+        (age, is, next, rest)
+
+pub with_forget : (words : List (List ℕ)) (second : List ℕ) (more : List (List ℕ)) (age : ℕ) (r : Option Asked) → words ≡ codes "--forget" ∷ second ∷ more → age < 2 ^ 32 → second ≡ decimal age → IsRestFor (Some age) more r → IsAskedBy words r
+with_forget words second more age (Some asked) whole low next (is, part, forget) = (
+  whole ∙ ap (λ w. codes "--forget" ∷ w ∷ more) next ∙ ap (λ ws. codes "--forget" ∷ decimal age ∷ ws) is ∙ ap (Forgetting asked) (sym forget),
+  (part, subst (λ o. IfSome o (λ n. n < 2 ^ 32)) (sym forget) low),
+)
+with_forget words second more age None whole low next never = λ asked can same. never asked can.0 (forgets asked second more (sym whole ∙ same)).others
+
+pub no_forget : (words : List (List ℕ)) (second : List ℕ) (more : List (List ℕ)) → words ≡ codes "--forget" ∷ second ∷ more → ((age : ℕ) → age < 2 ^ 32 → second ≢ decimal age) → IsAskedBy words None
+no_forget words second more whole none = λ asked can same.
+    let f = forgets asked second more (sym whole ∙ same) in
+    none f.age (subst (λ o. IfSome o (λ n. n < 2 ^ 32)) f.is can.1) f.word

@@ -4,6 +4,7 @@ use Rattle.std.specs.Io.KnownBytes.{Appends}
 use Rattle.sip_verdict.specs.declared.finding.Finding.{Finding}
 use Rattle.sip_verdict.specs.declared.survey_end.SurveyEnd.{SurveyEnd}
 use Rattle.sip_part.specs.Part.{PartOf}
+use Rattle.sip_verdict.specs.ForgettingText.{IsToldForgetting}
 use Rattle.sip_verdict.specs.SurveyParts.{IsPartToldOf}
 use Rattle.sip_verdict.specs.SurveyText.{IsToldOf}
 use Rattle.sip_survey_program.specs.declared.words.Asked.{Asked}
@@ -12,15 +13,16 @@ use Rattle.sip_survey_program.specs.declared.words.Log.TheVariants.{Input, File}
 use Rattle.sip_survey_program.specs.Asked.{IsAskedBy}
 use Rattle.sip_survey_program.specs.Status.{status_of}
 
--- the survey of the input, or of the part that is named, and its text
-abbrev pub IsSurveyFor : Option PartOf → List ℕ → List Finding → SurveyEnd → List ℕ → Type 0
-IsSurveyFor None input found end text = IsToldOf input found end text
-IsSurveyFor (Some part) input found end text = IsPartToldOf part input found end text
+-- the survey of the input, or of the part that is named, and its text; one that forgets where the milliseconds are named after which it may
+abbrev pub IsSurveyFor : (forget : Option ℕ) → Option PartOf → List ℕ → List Finding → SurveyEnd → List ℕ → Type 0
+IsSurveyFor None None input found end text = IsToldOf input found end text
+IsSurveyFor None (Some part) input found end text = IsPartToldOf part input found end text
+IsSurveyFor (Some age) part input found end text = IsToldForgetting age part input found end text
 
 -- this survey of the input is written, a line for each finding and a last one, and this is its status
-abbrev pub IsSurveyed : (part : Option PartOf) (input before after : Option (List ℕ)) → ℕ → Type 0
-IsSurveyed part input before after status =
-    IfSome input (λ bytes. (found : List Finding) × (end : SurveyEnd) × (text : List ℕ) × IsSurveyFor part bytes found end text × Appends before after text
+abbrev pub IsSurveyed : (forget : Option ℕ) (part : Option PartOf) (input before after : Option (List ℕ)) → ℕ → Type 0
+IsSurveyed forget part input before after status =
+    IfSome input (λ bytes. (found : List Finding) × (end : SurveyEnd) × (text : List ℕ) × IsSurveyFor forget part bytes found end text × Appends before after text
     × (status ≡ status_of found end))
 
 -- the log that is asked for: the standard input, or what the file of that path has
@@ -32,4 +34,4 @@ log_for (File path) input file = file path.now
 pub record IsAnswerTo (words : List (List ℕ)) (input : Option (List ℕ)) (file : List ℕ → Option (List ℕ)) (before after : Option (List ℕ)) (status : ℕ) : Type 0 where
   pub asked : Asked
   pub is_asked : IsAskedBy words (Some asked)
-  pub is : IsSurveyed asked.part (log_for asked.log input file) before after status
+  pub is : IsSurveyed asked.forget asked.part (log_for asked.log input file) before after status

@@ -22,7 +22,7 @@ abbrev pub line_of : Failure → List ℕ
 line_of Read = codes "sipsurvey: cannot read\n"
 line_of Write = codes "sipsurvey: cannot write\n"
 line_of Memory = codes "sipsurvey: out of memory\n"
-line_of Usage = codes "sipsurvey: usage: sipsurvey [--part K/N] [FILE]\n"
+line_of Usage = codes "sipsurvey: usage: sipsurvey [--forget MILLISECONDS] [--part K/N] [FILE]\n"
 
 -- who is to blame for there being no survey to the end: the reader if the log cannot be read and the writer if a line cannot be written, which have failed then; never the words
 abbrev pub Blames : (has_read_failed has_write_failed : Bool) → Failure → Type 0

@@ -1,8 +1,8 @@
 //! What the words that the program is given ask for.
-ghost use Rattle.std.specs.Prelude.{◌≡◌, map, string_bytes};
-ghost use Rattle.sip_survey_program.specs.Asked.{IsAskedBy, IsLogFor, names_part};
+ghost use Rattle.std.specs.Prelude.{◌≡◌, codes, map, string_bytes};
+ghost use Rattle.sip_survey_program.specs.Asked.{IsAskedBy, IsLogFor, IsRestFor, begin_with};
 
-use crate::part_word::part_of;
+use crate::part_word::{number_of, part_of};
 use crate::words::{Asked, Log};
 
 /// The log that the words name: no word names the standard input, and one word the file at this path. More words name none.
@@ -18,23 +18,46 @@ fn log_of(words: &[String]) -> Option<Log<'_>>
 
 /// Whether the words begin with `--part` and one word more.
 fn names_part(words: &[String]) -> bool
-    ensures { result ≡ names_part (map string_bytes words.now) }
+    ensures { result ≡ begin_with (codes "--part") (map string_bytes words.now) }
 {
     words.len() >= 2 && words[0].as_str() == "--part"
 }
 
-/// What the words after the program's name ask for: no word asks for a survey of the standard input, and one word for that of the file
-/// at this path; `--part` and `K/N` before them for that of part K of N, which are numbers without leading zeros, from 1 and below 2^32.
-/// Other words ask for nothing. It takes no memory.
-pub fn asked(words: &[String]) -> Option<Asked<'_>>
-    ensures { IsAskedBy (map string_bytes words.now) result }
+/// Whether the words begin with `--forget` and one word more.
+fn names_forget(words: &[String]) -> bool
+    ensures { result ≡ begin_with (codes "--forget") (map string_bytes words.now) }
+{
+    words.len() >= 2 && words[0].as_str() == "--forget"
+}
+
+/// What the words ask for that come after those that have it forget.
+fn rest_of(words: &[String], forget: Option<u32>) -> Option<Asked<'_>>
+    ensures { IsRestFor forget (map string_bytes words.now) result }
 {
     if !names_part(words) {
         let log = log_of(words)?;
-        return Some(Asked { log, part: None });
+        return Some(Asked {
+            log,
+            part: None,
+            forget,
+        });
     }
     let part = part_of(words[1].as_str())?;
     let log = log_of(&words[2..])?;
     let part = Some(part);
-    Some(Asked { log, part })
+    Some(Asked { log, part, forget })
+}
+
+/// What the words after the program's name ask for: no word asks for a survey of the standard input, and one word for that of the file
+/// at this path; `--part` and `K/N` before them for that of part K of N, which are numbers without leading zeros, from 1 and below 2^32;
+/// `--forget` and such a number, or 0, before all of these for a survey that forgets, so many milliseconds after its last entry, a
+/// transaction that is over. Other words ask for nothing. It takes no memory.
+pub fn asked(words: &[String]) -> Option<Asked<'_>>
+    ensures { IsAskedBy (map string_bytes words.now) result }
+{
+    if !names_forget(words) {
+        return rest_of(words, None);
+    }
+    let age = number_of(words[1].as_str())?;
+    rest_of(&words[2..], Some(age))
 }

@@ -23,7 +23,7 @@ pub enum Failure {
     #[error("out of memory")]
     Memory,
     /// The words ask for nothing that it can do.
-    #[error("usage: sipsurvey [--part K/N] [FILE]")]
+    #[error("usage: sipsurvey [--forget MILLISECONDS] [--part K/N] [FILE]")]
     Usage,
 }
 
@@ -36,7 +36,8 @@ impl Failure {
             Self::Read => b"sipsurvey: cannot read\n",
             Self::Write => b"sipsurvey: cannot write\n",
             Self::Memory => b"sipsurvey: out of memory\n",
-            Self::Usage => b"sipsurvey: usage: sipsurvey [--part K/N] [FILE]\n",
+            Self::Usage =>
+                b"sipsurvey: usage: sipsurvey [--forget MILLISECONDS] [--part K/N] [FILE]\n",
         }
     }
 }

@@ -5,7 +5,7 @@ use itoa::Buffer;
 use sip_part::Part;
 
 /// The number that a word is, below 2^32 and without a leading zero.
-fn number_of(word: &str) -> Option<u32>
+pub(crate) fn number_of(word: &str) -> Option<u32>
     ensures { IsNumberFor word.now result }
 {
     let Ok(number) = word.parse::<u32>() else {

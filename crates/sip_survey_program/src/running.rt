@@ -1,6 +1,10 @@
 //! What the program does.
-ghost use Rattle.std.specs.Prelude.{◌≡◌, false, true, IfSome, OnOk, IfOk, IfErr, IsErrOf};
-ghost use Rattle.sip_survey_program.specs.Answers.{IsSurveyed, IsAnswerTo, log_for};
+ghost use Rattle.std.specs.Prelude.{◌≡◌, ℕ, false, true, List, IfSome, OnOk, IfOk, IfErr, IsErrOf};
+ghost use Rattle.std.specs.Io.KnownBytes.{Appends};
+ghost use Rattle.sip_verdict.specs.declared.finding.Finding.{Finding};
+ghost use Rattle.sip_verdict.specs.declared.survey_error.SurveyError.TheVariants.{Read as ReadError, Write as WriteError};
+ghost use Rattle.sip_verdict.specs.SurveyText.{SumsUp};
+ghost use Rattle.sip_survey_program.specs.Answers.{IsSurveyFor, IsSurveyed, IsAnswerTo, log_for};
 ghost use Rattle.sip_survey_program.specs.Asked.{IsAskedBy};
 ghost use Rattle.sip_survey_program.specs.Ending.{IsEnd};
 ghost use Rattle.sip_survey_program.specs.Failures.{Blames};
@@ -13,8 +17,34 @@ use crate::status::status_of;
 use crate::words::{Asked, Log};
 use sip_log::{Sink, Source};
 use sip_program::System;
-use sip_verdict::{survey, survey_part};
+use sip_verdict::{Summary, SurveyError, survey, survey_forgetting, survey_part};
 use std::alloc::Global;
+use std::hash::BuildHasher;
+
+/// Writes the survey that is asked for of what the system has to be read.
+fn write_survey<S: System, W: Sink, H: BuildHasher + Drop>(
+    alloc: Global,
+    system: &mut S,
+    asked: &Asked<'_>,
+    writer: &mut W,
+    seed: H,
+) -> Result<Summary, SurveyError>
+    requires { S.has_failed system.old ≡ false }
+    ensures surveyed { IfOk result (λ summary. IfSome (S.left system.old) (λ input. (found : List Finding) × (text : List ℕ) × IsSurveyFor asked.now.forget asked.now.part input found summary.end text
+        × SumsUp found summary × Appends (W.written writer.old) (W.written writer.new) text)) }
+    ensures fine { OnOk result ((S.has_failed system.new ≡ false) × (W.has_failed writer.new ≡ W.has_failed writer.old)) }
+    ensures read { IsErrOf result ReadError → S.has_failed system.new ≡ true }
+    ensures write { IsErrOf result WriteError → W.has_failed writer.new ≡ true }
+{
+    if let Some(age) = asked.forget {
+        let age = u64::from(age);
+        return survey_forgetting(alloc, system, writer, seed, asked.part.as_ref(), age);
+    }
+    match &asked.part {
+        Some(part) => survey_part(alloc, system, writer, seed, part),
+        None => survey(alloc, system, writer, seed),
+    }
+}
 
 /// Writes the survey of the log that is asked for. The answer is its status.
 fn answer<S: System, W: Sink>(
@@ -24,7 +54,7 @@ fn answer<S: System, W: Sink>(
     writer: &mut W,
 ) -> Result<u8, Failure>
     requires { S.has_failed system.old ≡ false }
-    ensures answer { IfOk result (IsSurveyed asked.entry.part (log_for asked.entry.log (S.left system.old) (S.file system.old)) (W.written writer.old) (W.written writer.new)) }
+    ensures answer { IfOk result (IsSurveyed asked.entry.forget asked.entry.part (log_for asked.entry.log (S.left system.old) (S.file system.old)) (W.written writer.old) (W.written writer.new)) }
     ensures fine { OnOk result ((S.has_failed system.new ≡ false) × (W.has_failed writer.new ≡ W.has_failed writer.old)) }
     ensures err { IfErr result (Blames (S.has_failed system.new) (W.has_failed writer.new)) }
 {
@@ -32,16 +62,8 @@ fn answer<S: System, W: Sink>(
     if let Log::File(path) = asked.log {
         system.open(path).map_err(read_failure)?;
     }
-    match &asked.part {
-        Some(part) => {
-            let summary = survey_part(alloc, system, writer, seed, part)?;
-            Ok(status_of(&summary))
-        }
-        None => {
-            let summary = survey(alloc, system, writer, seed)?;
-            Ok(status_of(&summary))
-        }
-    }
+    let summary = write_survey(alloc, system, &asked, writer, seed)?;
+    Ok(status_of(&summary))
 }
 
 /// Writes what the words of the system ask for, each line as soon as it is found. The answer is the status.

@@ -1,5 +1,6 @@
 pub mod Entries
 pub mod Forgetting
+pub mod ForgettingText
 pub mod Judging
 pub mod LegalLog
 pub mod Named

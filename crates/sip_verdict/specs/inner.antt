@@ -1,5 +1,6 @@
 pub mod Concerned
 pub mod Forgetting
+pub mod ForgettingLogs
 pub mod Histories
 pub mod Judging
 pub mod Keyed

@@ -31,7 +31,7 @@ use std::alloc::{AllocError, Global};
 use std::hash::BuildHasher;
 use std::marker::Model;
 
-/// Judges the entries of a log as they come, each transaction for itself, and goes on after those that are in trouble. It forgets the
+/// Judges the entries of a log as they come, each transaction for itself, and goes on after those that are in trouble. It drops the
 /// messages that it does not need any more.
 #[derive(Drop)]
 pub struct Survey<H: BuildHasher> {
@@ -166,6 +166,14 @@ impl<H: BuildHasher + Drop> Survey<H> {
                 Err(StepError::Memory)
             }
         }
+    }
+
+    /// How many transactions there are that it did not forget.
+    pub fn transactions(&self) -> u32
+        ensures transactions { result ≡ length self.now.tables.keys }
+        ensures are { (es : List (Observation KeyParts)) → SurveysFor self.now es → result ≡ length (keys_in es) }
+    {
+        self.standing.transactions()
     }
 
     /// How a log ends that ends after these entries: with how many they are, and how many transactions. None after an error.

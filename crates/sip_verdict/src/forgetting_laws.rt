@@ -1,5 +1,5 @@
 //! Laws of surveys that forget transactions. The functions do nothing: their contracts are the laws.
-ghost use Rattle.std.specs.Prelude.{◌≡◌, ◌↔◌, ◌≤◌, ◌++◌, ◌∷◌, [], Bool, true, false, List, AllPairs};
+ghost use Rattle.std.specs.Prelude.{◌≡◌, ◌↔◌, ◌≤◌, ◌++◌, ◌∷◌, [], ℕ, Bool, true, false, None, Some, List, AllPairs};
 ghost use Rattle.sip_standard.specs.Key.{KeyParts};
 ghost use Rattle.sip_standard.specs.KeyMachine.{machine_of_key};
 ghost use Rattle.sip_standard.specs.LogEntry.{Item};
@@ -7,10 +7,16 @@ ghost use Rattle.sip_standard.specs.Observation.{Observation};
 ghost use Rattle.sip_standard.specs.Seen.{AreSeen};
 ghost use Rattle.sip_standard.specs.Times.{Times};
 ghost use Rattle.sip_standard.specs.VerdictOf.{events_for};
+ghost use Rattle.sip_part.specs.Part.{PartOf};
+ghost use Rattle.sip_verdict.specs.declared.finding.Finding.{Finding};
+ghost use Rattle.sip_verdict.specs.declared.survey_end.SurveyEnd.{SurveyEnd};
 ghost use Rattle.sip_verdict.specs.Forgetting.{HasSameTroubleAfter, remembered};
+ghost use Rattle.sip_verdict.specs.ForgettingText.{IsToldForgetting};
 ghost use Rattle.sip_verdict.specs.Entries.{newest_moment};
 ghost use Rattle.sip_verdict.specs.SurveyLaws.{IsIdleAgain};
 ghost use Rattle.sip_verdict.specs.SurveyOf.{IsSound, Breaks, Widens};
+ghost use Rattle.sip_verdict.specs.SurveyParts.{IsPartToldOf};
+ghost use Rattle.sip_verdict.specs.SurveyText.{IsToldOf};
 
 /// A transaction that is kept is judged on: at each later entry it breaks, or is followed no further, exactly where it does if nothing is
 /// forgotten.
@@ -47,4 +53,11 @@ pub fn what_is_idle_again_is_found_at_the_same_entries()
     ensures { (p : Times) (kept : KeyParts → Bool) (key : KeyParts) (old : List (Observation KeyParts)) (items : List Item) (es others : List (Observation KeyParts)) → AllPairs (λ a b. a.event.moment ≤ b.event.moment) (old ++ es)
         → kept key ≡ false → IsIdleAgain (machine_of_key p.rules key) p (events_for key old) (newest_moment old) → IsSound p old key
         → AreSeen old items es → AreSeen (remembered kept old) items others → HasSameTroubleAfter p old (remembered kept old) es others key }
+{}
+
+/// A survey that forgets nothing is one of those that may forget: what is found and written of an input then can be what is found and written
+/// of it by a survey that forgets.
+pub fn a_survey_may_forget_nothing()
+    ensures whole { (age : ℕ) (input : List ℕ) (found : List Finding) (end : SurveyEnd) (text : List ℕ) → IsToldOf input found end text → IsToldForgetting age None input found end text }
+    ensures part { (age : ℕ) (part : PartOf) (input : List ℕ) (found : List Finding) (end : SurveyEnd) (text : List ℕ) → IsPartToldOf part input found end text → IsToldForgetting age (Some part) input found end text }
 {}

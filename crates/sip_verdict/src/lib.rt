@@ -10,6 +10,7 @@ mod forgetting;
 mod forgetting_laws;
 mod gathering;
 mod histories;
+mod horizon;
 mod judging;
 mod laws;
 mod listing;
@@ -18,6 +19,7 @@ mod observing;
 mod passing;
 mod reading;
 mod releasing;
+mod remembering;
 mod rendering;
 mod showing;
 mod siptrace;
@@ -38,9 +40,9 @@ mod walking;
 pub use finding::Finding;
 pub use following::Survey;
 pub use forgetting_laws::{
-    nothing_is_lost_of_what_is_idle_again, what_is_forgotten_is_judged_as_new,
-    what_is_idle_again_is_found_at_the_same_entries, what_is_kept_is_found_at_the_same_entries,
-    what_is_kept_is_judged_on,
+    a_survey_may_forget_nothing, nothing_is_lost_of_what_is_idle_again,
+    what_is_forgotten_is_judged_as_new, what_is_idle_again_is_found_at_the_same_entries,
+    what_is_kept_is_found_at_the_same_entries, what_is_kept_is_judged_on,
 };
 pub use gathering::survey_bytes;
 pub use judging::{judge, judge_bytes};
@@ -50,6 +52,7 @@ pub use laws::{
     an_input_has_one_verdict,
 };
 pub use listing::states_at;
+pub use remembering::survey_forgetting;
 pub use rendering::{end_line, finding_line, render};
 pub use showing::show;
 pub use sip_part::Part;

@@ -3,7 +3,7 @@ ghost use Rattle.std.specs.Prelude.{◌≡◌, true, false, IfSome, IfOk, OnOk, 
 ghost use Rattle.sip_standard.specs.ListingOf.{IsListingOf};
 ghost use Rattle.sip_verdict.specs.inner.Walking.{listed_after};
 
-use crate::walking::Walk;
+use crate::walking::{Aim, walk};
 use sip_log::Source;
 use sip_standard::{JudgeError, Listing, Verdict};
 use std::alloc::Global;
@@ -36,8 +36,8 @@ pub fn states_at<R: Source, H: BuildHasher + Drop>(
     ensures ok { OnOk result (R.has_failed reader.new ≡ false) }
     ensures io { IsErrOf result JudgeError.Io → R.has_failed reader.new ≡ true }
 {
-    match Walk::open(alloc, reader, hasher)? {
-        Ok(mut walk) => walk.listing(reader, entry),
-        Err(verdict) => Ok(Listing::Stopped(verdict)),
+    match walk(alloc, reader, hasher, Aim::Entry(entry))? {
+        Ok(listing) => Ok(listing),
+        Err(verdict) => Ok(listing_after(verdict)),
     }
 }

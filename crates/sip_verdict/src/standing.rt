@@ -22,7 +22,7 @@ ghost use Rattle.sip_verdict.specs.Surveys.{IsStillNamed};
 ghost use Rattle.sip_verdict.specs.inner.Forgetting.{AreQuietIfOver};
 ghost use Rattle.sip_verdict.specs.inner.Surveying.{TablesSurvey};
 ghost use Rattle.sip_verdict.specs.inner.Tracking.{IsJudged};
-ghost use Rattle.sip_verdict.specs.inner.TablesTracking.{key_keeping, transactions_of, TablesTrack, TablesTrackBefore, AreTold, LeavesOthers, OthersAre, NamesNot, IsForgotten, TouchesEach, HaveNumbers, hearers, MayPass, MayHear, AreOnRecord, AllAreOnRecord, MayTake};
+ghost use Rattle.sip_verdict.specs.inner.TablesTracking.{key_keeping, transactions_of, TablesTrack, TablesTrackBefore, AreTold, LeavesOthers, OthersAre, NamesNot, DropsUnnamed, TouchesEach, HaveNumbers, hearers, MayPass, MayHear, AreOnRecord, AllAreOnRecord, MayTake};
 
 use crate::concerned::Concerned;
 use crate::observing::{Observed, observe};
@@ -132,7 +132,7 @@ impl<H: BuildHasher> Standing<H> {
         Ok(())
     }
 
-    /// Lets the transactions wait until the moment, and forgets the messages that none of their states names then.
+    /// Lets the transactions wait until the moment, and drops the messages that none of their states names then.
     pub(crate) fn sweep(&mut self, alloc: Global, moment: u64) -> Result<(), AllocError>
         requires may { MayPass self.old.book self.old.tables moment }
         requires recorded { AllAreOnRecord self.old.tables }
@@ -234,16 +234,16 @@ impl<H: BuildHasher> Standing<H> {
         if let Some(verdict) = taken.verdict {
             return Ok(Some(verdict));
         }
-        self.forget(entry.number, taken.concerned);
+        self.drop_unnamed(entry.number, taken.concerned);
         Ok(None)
     }
 
-    /// Forgets the message with this number, if it is the newest and none of these transactions names it. No other one does.
-    fn forget(&mut self, number: u32, concerned: Concerned<u32>)
+    /// Drops the message with this number, if it is the newest and none of these transactions names it. No other transaction names it.
+    fn drop_unnamed(&mut self, number: u32, concerned: Concerned<u32>)
         requires given { All (IsGiven self.old.tables) (each concerned) }
         requires others { OthersAre (λ set. ¬ Contains (numbers_of set) number) concerned self.old.tables }
         ensures tables { self.new.tables ≡ self.old.tables }
-        ensures book { IsForgotten self.old.tables.sets number self.old.book self.new.book }
+        ensures book { DropsUnnamed self.old.tables.sets number self.old.book self.new.book }
     {
         if !may_name(&self.tables, number, concerned) {
             self.book.forget_newest(number);

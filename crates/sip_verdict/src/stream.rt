@@ -23,7 +23,7 @@ use std::alloc::{AllocError, Global};
 use std::hash::BuildHasher;
 use std::marker::Model;
 
-/// Judges the entries of a log as they come, and forgets the messages that it does not need any more.
+/// Judges the entries of a log as they come, and drops the messages that it does not need any more.
 #[derive(Drop)]
 pub struct Judge<H: BuildHasher> {
     alloc: Global,

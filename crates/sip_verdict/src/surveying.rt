@@ -98,7 +98,11 @@ fn survey_in<R: Source, W: Sink, H: BuildHasher + Drop>(
 }
 
 /// Leaves of an entry its moment alone, where it has a message that does not fall into the part.
-fn cut_to(alloc: Global, part: Option<&Part>, entry: &mut Entry) -> Result<(), AllocError>
+pub(crate) fn cut_to(
+    alloc: Global,
+    part: Option<&Part>,
+    entry: &mut Entry,
+) -> Result<(), AllocError>
     ensures cut { OnOk result (IsTaken (option_copied part.entry) (item entry.old) (item entry.new)) }
     ensures number { OnOk result (entry.new.number ≡ entry.old.number) }
     ensures moment { OnOk result (entry.new.moment ≡ entry.old.moment) }
@@ -159,7 +163,7 @@ fn write_entries<R: Source, W: Sink, H: BuildHasher + Drop>(
 }
 
 /// Writes a line for each of the findings of the newest entry, and counts them.
-fn put_findings<W: Sink, H: BuildHasher + Drop>(
+pub(crate) fn put_findings<W: Sink, H: BuildHasher + Drop>(
     alloc: Global,
     writer: &mut W,
     survey: &Survey<H>,
@@ -213,7 +217,7 @@ fn put_finding<W: Sink, H: BuildHasher + Drop>(
 }
 
 /// Writes the last line.
-fn finish<W: Sink>(
+pub(crate) fn finish<W: Sink>(
     alloc: Global,
     writer: &mut W,
     end: SurveyEnd,
@@ -236,14 +240,14 @@ fn finish<W: Sink>(
 
 /// How much was found, and how much of it is that a transaction is followed no further.
 #[derive(Clone, Copy)]
-struct Counts {
+pub(crate) struct Counts {
     findings: u64,
     undecided: u64,
 }
 
 impl Counts {
     /// Nothing was found.
-    fn none() -> Counts
+    pub(crate) fn none() -> Counts
         ensures { (result.findings ≡ 0) × (result.undecided ≡ 0) }
     {
         Counts {

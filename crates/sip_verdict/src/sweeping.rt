@@ -1,4 +1,4 @@
-//! Judges entries, and forgets the messages that no transaction needs any more.
+//! Judges entries, and drops the messages that no transaction needs any more.
 ghost use Rattle.std.specs.Prelude.{◌≡◌, ◌≤◌, ◌+◌, List, All, Contains, IfOk, IfNone, OnOk, length};
 ghost use Rattle.sip_standard.specs.Key.{KeyParts};
 ghost use Rattle.sip_standard.specs.Times.{last_moment};

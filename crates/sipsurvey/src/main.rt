@@ -1,6 +1,7 @@
 //! `sipsurvey`: reads the log on its standard input or in a file and writes a line for each trouble as its entry passes, of each
 //! transaction the first one, and a last line that counts them. `--part K/N` before the file has it judge the transactions alone whose
-//! branch falls into part K of N.
+//! branch falls into part K of N. `--forget MILLISECONDS` before both has it forget, so long after its last entry, a transaction that is
+//! over or in trouble.
 //!
 //! It ends with 0 where nothing is found, 1 where a message is malformed or a transaction breaks, 2 where the log cannot be read to its
 //! end, 3 where all that is found are transactions that are followed no further, 4 where it cannot read, write or get memory, and 5

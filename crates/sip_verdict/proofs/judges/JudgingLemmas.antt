@@ -12,7 +12,7 @@ use Rattle.sip_standard.specs.Observation.{Observation}
 use Rattle.sip_standard.specs.Seen.{AreSeen}
 use Rattle.sip_standard.specs.VerdictOf.{Sees, HasTrouble, IsVerdictAfter, IsVerdictOf}
 use Rattle.sip_verdict.specs.LegalLog.{IsGood}
-use Rattle.sip_verdict.specs.inner.Walking.{HasRead, Judged}
+use Rattle.sip_verdict.specs.inner.Walking.{HasRead}
 use Rattle.sip_verdict.proofs.listings.WalkingLemmas.{read_log}
 
 -- one more is observed of one more
@@ -43,21 +43,21 @@ judges_front p end v before (item ∷ items) rest (e ∷ es) seen good left =
       ),
     )
 
-module _ (p : Times) (Follows : List (Observation KeyParts) → Type 0) (start : Option (List ℕ)) (now : log.ReaderState) (judged : Judged p Follows start now) (good : IsGood p judged.es) where
+module _ (p : Times) (start : Option (List ℕ)) (items : List Item) (es : List (Observation KeyParts)) (observed : AreSeen [] items es) (good : IsGood p es) where
   -- a verdict after the entries that were judged is that of the log
-  goes_on : (rest : List Item) (end : LogEnd) (v : Verdict) → IsVerdictAfter p judged.es rest end v → (input : List ℕ) → LogSays input p (judged.items ++ rest) end → IsVerdictOf input v
-  goes_on rest end v left input is = inr (p, judged.items ++ rest, end, is, judges_front p end v [] judged.items rest judged.es judged.observed good left)
+  goes_on : (rest : List Item) (end : LogEnd) (v : Verdict) → IsVerdictAfter p es rest end v → (input : List ℕ) → LogSays input p (items ++ rest) end → IsVerdictOf input v
+  goes_on rest end v left input is = inr (p, items ++ rest, end, is, judges_front p end v [] items rest es observed good left)
 
   -- a verdict at the end of the log is that of the input
-  pub judged_ends : (end : LogEnd) (v : Verdict) → IsVerdictAfter p judged.es [] end v → IfSome start (λ input. LogSays input p judged.items end) → IfSome start (λ input. IsVerdictOf input v)
+  pub judged_ends : (end : LogEnd) (v : Verdict) → IsVerdictAfter p es [] end v → IfSome start (λ input. LogSays input p items end) → IfSome start (λ input. IsVerdictOf input v)
   judged_ends end v left logs =
-      IfSome-map start (λ input. LogSays input p judged.items end) (λ input. IsVerdictOf input v)
-      (λ input is. goes_on [] end v left input (subst (λ all. LogSays input p all end) (sym (append-nil judged.items)) is)) logs
+      IfSome-map start (λ input. LogSays input p items end) (λ input. IsVerdictOf input v)
+      (λ input is. goes_on [] end v left input (subst (λ all. LogSays input p all end) (sym (append-nil items)) is)) logs
 
   -- the next one is in trouble
-  pub judged_trouble : (i : Item) (new : log.ReaderState) → HasRead start p (judged.items ++ i ∷ []) new → (e : Observation KeyParts) → Sees judged.es i e → (v : Verdict) → HasTrouble p judged.es e v
+  pub judged_trouble : (i : Item) (new : log.ReaderState) → HasRead start p (items ++ i ∷ []) new → (e : Observation KeyParts) → Sees es i e → (v : Verdict) → HasTrouble p es e v
       → IfSome start (λ input. IsVerdictOf input v)
   judged_trouble i new read e seen v is =
-      IfSome-map start (λ input. (more : List Item) × (end : LogEnd) × LogSays input p ((judged.items ++ i ∷ []) ++ more) end) (λ input. IsVerdictOf input v)
-      (λ input l. goes_on (i ∷ l.0) l.1 v (e, seen, inl is) input (subst (λ all. LogSays input p all l.1) (append_assoc judged.items (i ∷ []) l.0) l.2))
-      (read_log start p (judged.items ++ i ∷ []) new read)
+      IfSome-map start (λ input. (more : List Item) × (end : LogEnd) × LogSays input p ((items ++ i ∷ []) ++ more) end) (λ input. IsVerdictOf input v)
+      (λ input l. goes_on (i ∷ l.0) l.1 v (e, seen, inl is) input (subst (λ all. LogSays input p all l.1) (append_assoc items (i ∷ []) l.0) l.2))
+      (read_log start p (items ++ i ∷ []) new read)

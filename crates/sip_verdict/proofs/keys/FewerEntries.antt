@@ -67,6 +67,7 @@ module _ (key : KeyParts) where
   pub events-all : (P : MachineEvent → Type 0) (es : List (Observation KeyParts)) → All (λ e. P e.event) es → All P (events_for key es)
   events-all P es all = All-map P (λ e. e.event) (filter (concerns key) es) (All-filter (concerns key) (λ e. P e.event) es all)
 
+  -- a key's events of two lists of entries are those of the first and then those of the second
   pub events-append : (front more : List (Observation KeyParts)) → events_for key (front ++ more) ≡ events_for key front ++ events_for key more
   events-append front more = ap (map (λ e. e.event)) (filter-append (concerns key) front more) ∙ map-append (λ e. e.event) (filter (concerns key) front) (filter (concerns key) more)
 

@@ -19,6 +19,7 @@ use Rattle.sip_verdict.specs.inner.Keyed.{with_key, concerns}
 pub cond_false : {A : Type 0} (b : Bool) (x y : A) → b ≡ false → cond b x y ≡ y
 cond_false b x y e = ap (λ t. cond t x y) e
 
+-- a test that holds decides for the first value
 pub cond_true : {A : Type 0} (b : Bool) (x y : A) → b ≡ true → cond b x y ≡ x
 cond_true b x y e = ap (λ t. cond t x y) e
 

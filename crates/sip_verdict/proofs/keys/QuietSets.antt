@@ -41,6 +41,7 @@ module _ (texts : Texts) (p : Times) (machine : MachineKind) (events : List Mach
   not_later : held.moment ≤ e.moment
   not_later = subst (λ m. m ≤ e.moment) (ap moment_of leads.1 ∙ moment_is machine held) low
 
+  -- a quiet set that takes the restart has runs still, and leads and stands as it did
   pub quiet_stepped : IsStepped (key_rules p machine) events (event_in texts e) (λ es. LeadsOf texts p machine es e.moment set) (λ f. StandsOf texts p machine events f set) Runs
   quiet_stepped =
       let m = meaning_of machine in

@@ -24,6 +24,7 @@ module _ (p : Times) (machine : MachineKind) (events : List MachineEvent) where
   pub run-stands : (moment : ℕ) → RunsUntil (key_rules p machine) events moment → StandsUntil p machine events moment
   run-stands moment (y, run) = (y, (stands-runs (transaction_of machine).figure (coded_holds machine).is_figure p events moment y).1 run)
 
+  -- where a run in the words of the standard stands, the machine has one by its rules
   pub stands-run : (moment : ℕ) → StandsUntil p machine events moment → RunsUntil (key_rules p machine) events moment
   stands-run moment (y, stands) = (y, (stands-runs (transaction_of machine).figure (coded_holds machine).is_figure p events moment y).0 stands)
 
@@ -35,10 +36,12 @@ module _ (p : Times) (machine : MachineKind) (events : List MachineEvent) where
     abbrev After : PhaseOf machine → Type 0
     After y = StandsAfter (transaction_of machine).figure p events e y
 
+    -- too many last states by the rules are too many in the words of the standard
     pub wide-stands : IsWide Last → AreTooMany machine After
     wide-stands wide =
         (wide.many, wide.distinct, wide.wide, All-weaker Last After (λ y last. (stands-after (transaction_of machine).figure (coded_holds machine).is_figure p events e y).1 last) wide.many wide.each)
 
+    -- too many last states in the words of the standard are too many by the rules
     pub stands-wide : AreTooMany machine After → IsWide Last
     stands-wide (many, distinct, wide, each) = record {
       many = many;

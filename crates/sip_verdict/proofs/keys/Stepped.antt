@@ -43,6 +43,7 @@ module _ {T : Type 0} (p : Times) (k : Keeping T) (es : List (Observation KeyPar
     own : events_for (k.key t) (es ++ e ∷ []) ≡ events_for (k.key t) es ++ e.event ∷ []
     own = events_for-concerned (k.key t) es e concerned
 
+    -- what became of the runs over its events is what becomes of the key with the entry
     pub own_passed : (fate : Fate) → IsStepped r (events_for (k.key t) es) e.event (λ fs. k.Leads t fs e.event.moment) (k.Stands t (events_for (k.key t) es)) fate → IsPassed p k es e t fate
     own_passed Runs h = record {
       runs = runs_key _ own h.0;
@@ -58,6 +59,7 @@ module _ {T : Type 0} (p : Times) (k : Keeping T) (es : List (Observation KeyPar
     other : events_for (k.key t) (es ++ e ∷ []) ≡ events_for (k.key t) es
     other = events_for-other (k.key t) es e unconcerned
 
+    -- where a run over its events waits until the entry, the key goes on
     pub other_passed : RunsUntil r (events_for (k.key t) es) e.event.moment → k.Leads t (events_for (k.key t) es) e.event.moment → GoesOn p k es e t
     other_passed run leads = record {
       runs = runs_key _ other run;

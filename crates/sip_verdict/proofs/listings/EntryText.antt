@@ -77,6 +77,7 @@ keys_ascii_after before (i ∷ items) (e ∷ es) ascii seen =
     (keys_ascii_after (before ++ e ∷ []) items es
     (subst (All (λ k. IsAscii k.method)) (sym (keys_in-push before e)) (more_ascii (keys_in before) e.keys ascii (entry_ascii before i e ascii seen.0))) seen.1)
 
+-- the methods of the keys that an entry concerns are ASCII
 pub observed_ascii : (items : List Item) (before : List (Observation KeyParts)) (i : Item) (e : Observation KeyParts) → AreSeen [] items before → Sees before i e
     → All (λ k. IsAscii k.method) e.keys
 observed_ascii items before i e seen observes = entry_ascii before i e (keys_ascii_after [] items before (All-nil (λ k. IsAscii k.method)) seen) observes
@@ -132,5 +133,6 @@ module _ (number : List ℕ → ℕ) (texts : Texts) (tells : TellsBook number t
       let all = key_texts (k ∷ ks) (n ∷ ns) [] text good have is in
       subst (AreKeyTexts p number es e (k ∷ ks)) (sym all.2) all.1
 
+  -- the texts of the numbers of an entry are the text of the entry
   pub entry_text : (ns : List ℕ) (text : List ℕ) → All (λ k. IsAscii k.method) e.keys → HaveNumbers t.keys ns e.keys → IsTextOf t ns text → IsEntryText p number es e e.keys text
   entry_text ns text ascii have is = texts_of e.keys ns text (λ i d low. (contains-among _ e.keys (Contains-get_or e.keys i d low), ascii i d low)) have is

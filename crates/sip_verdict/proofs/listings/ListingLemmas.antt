@@ -31,6 +31,7 @@ module _ (number : List ℕ → ℕ) (texts : Texts) (tells : TellsBook number t
       All-weaker (Knows names texts) (λ x. Tells number texts (names x))
       (λ x all. All-weaker (Keeps texts) (λ n. number (text_of texts n) ≡ n) (λ n keeps. tells n keeps) (names x) all) xs known
 
+  -- the states of a set that the book knows are told by its numbers
   pub told_set : (set : AnySet) → IsKnownSet texts set → TellsSet number texts set
   told_set set known =
       let (machine, s, is) = some_machine set in

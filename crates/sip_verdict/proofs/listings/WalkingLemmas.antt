@@ -1,5 +1,5 @@
 -- What each answer adds to the entries that were read.
-use Rattle.std.proofs.Common.{◌≡◌, inr, Bool, Ok, Err, Option, Some, None, IfSome, ℕ, List, [], ◌∷◌, ◌++◌, length, refl, subst}
+use Rattle.std.proofs.Common.{◌≡◌, inr, Bool, Ok, Err, Option, Some, None, IfSome, ℕ, List, [], ◌∷◌, ◌++◌, refl, subst}
 use Rattle.sip_standard.specs.Times.{Times}
 use Rattle.sip_log.specs.declared.entry.Entry.{Entry}
 use Rattle.sip_log.specs.declared.log_error.LogError.{LogError}
@@ -8,7 +8,7 @@ use Rattle.sip_standard.specs.LogSays.{LogEnd, Clean, LogSays}
 use Rattle.sip_log.specs.Told.{FailsAs, item}
 use Rattle.sip_log.specs.Reading.{Nexts}
 use Rattle.sip_log.proofs.answers.ReadingLemmas.{FailsAs-map}
-use Rattle.sip_log.proofs.answers.CallerLemmas.{StandsAt, StopsAt, Stands-gives, Stands-ends, Stands-stops, Stands-log, Nexts-counted, Nexts-times}
+use Rattle.sip_log.proofs.answers.CallerLemmas.{StopsAt, Stands-gives, Stands-ends, Stands-stops, Stands-log, Nexts-counted, Nexts-times}
 use Rattle.sip_standard.specs.declared.log_reason.LogReason.{LogReason}
 use Rattle.sip_verdict.specs.declared.reading.Next.TheVariants.{Fault}
 use Rattle.sip_verdict.specs.inner.Judging.{told_as}
@@ -56,7 +56,3 @@ pub read_log : (start : Option (List ℕ)) (times : Times) (items : List Item) (
     → IfSome start (λ input. (more : List Item) × (end : LogEnd) × LogSays input times (items ++ more) end)
 read_log start times items now read =
     subst (λ t. IfSome start (λ input. IfSome t (λ p. (more : List Item) × (end : LogEnd) × LogSays input p (items ++ more) end))) read.times_are (Stands-log start items now read.on read.stands)
-
--- the count is that of the entries that were read
-pub read_count : (start : Option (List ℕ)) (times : Times) (items : List Item) (now : log.ReaderState) → HasRead start times items now → now.count ≡ length items
-read_count start times items now read = (subst (λ s. StandsAt s start items now) read.on read.stands).1

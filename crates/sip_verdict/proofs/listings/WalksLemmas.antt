@@ -1,6 +1,6 @@
--- What a step of a walk adds to the entries that were judged.
-use Rattle.std.proofs.Common.{◌≡◌, inl, inr, ◌<◌, ◌≤◌, ◌+◌, ◌∙◌, ℕ, Option, Some, None, IsSomeAnd, IfSome, IfNone, List, [], ◌∷◌, ◌++◌, length, refl, sym, ap, subst, arith}
-use Rattle.std.proofs.lemmas.List.{append-nil, length-map, length_push}
+-- What a walk adds to the entries that were judged, and what it answers.
+use Rattle.std.proofs.Common.{◌≡◌, inl, inr, ◌<◌, ◌≤◌, ◌+◌, ◌∙◌, ℕ, Option, Some, None, Result, Ok, Err, IsSomeAnd, IfSome, IfNone, IfOk, OnOk, List, [], ◌∷◌, ◌++◌, length, refl, sym, ap, subst, arith}
+use Rattle.std.proofs.lemmas.List.{append-nil, length_push}
 use Rattle.sip_standard.specs.Key.{KeyParts}
 use Rattle.sip_standard.specs.Times.{Times}
 use Rattle.sip_machine.specs.Texts.{Texts}
@@ -21,46 +21,123 @@ use Rattle.sip_verdict.specs.Entries.{newest_moment}
 use Rattle.sip_verdict.specs.LegalLog.{IsGood}
 use Rattle.sip_standard.specs.VerdictOf.{keys_in, IsVerdictAfter, IsVerdictOf, Sees, HasTrouble}
 use Rattle.sip_standard.specs.ListingOf.{first_entry, trouble_of, IsListingOf}
+use Rattle.sip_verdict.specs.declared.walking.Aim.{Aim}
+use Rattle.sip_verdict.specs.declared.walking.Aim.TheVariants as aim
+use Rattle.sip_verdict.specs.Judging.{AreFollowed}
+use Rattle.sip_verdict.specs.inner.Sweeping.{AreFollowedOn}
 use Rattle.sip_verdict.specs.inner.Tracking.{Tracks, IsJudged}
 use Rattle.sip_verdict.specs.inner.TablesTracking.{key_keeping, transactions_of, TablesTrack}
 use Rattle.sip_verdict.specs.inner.Numbering.{AreNumbered, StaysNumbered, IsListedEntry}
-use Rattle.sip_verdict.specs.inner.Walking.{HasRead, Walks, WalksOn, ComesAfter, listed_after}
-use Rattle.sip_verdict.proofs.sweeps.FollowedLemmas.{observed_moment}
+use Rattle.sip_verdict.specs.inner.Walking.{HasRead, Follows, FollowsOn, JudgesOn, Walks, WalksTo, listed_after}
+use Rattle.sip_verdict.proofs.sweeps.FollowedLemmas.{observed_moment, followed_none, followed_keys}
 use Rattle.sip_verdict.proofs.judges.JudgingLemmas.{seen-push, judges_front, judged_ends, judged_trouble}
 use Rattle.sip_verdict.proofs.listings.NumberingLemmas.{numbered_start}
-use Rattle.sip_verdict.proofs.tables.TrackingLemmas.{tracks_none}
-use Rattle.sip_verdict.proofs.listings.WalkingLemmas.{read_log, read_count}
+use Rattle.sip_verdict.proofs.listings.WalkingLemmas.{read_log}
 use Rattle.sip_log.specs.Reading as log
 
+-- What is kept.
+
 -- nothing was judged yet
-pub walks_start : (start : Option (List ℕ)) (now : log.ReaderState) (p : Times) (texts : Texts) (t : Tabled) → texts ≡ [] → t ≡ record { times = p; keys = []; sets = []; records = [] } → HasRead start p [] now → Walks start now texts t
-walks_start start now p texts t none empty read = subst (Walks start now texts) (sym empty) (record {
-  judged = record {
-    items = [];
-    es = [];
-    observed = tt;
-    follows = tracks_none p (key_keeping texts p);
-    long = refl;
-    read = read;
-  };
-  numbered = numbered_start texts none;
+follows_none : (way : Aim) (p : Times) (texts : Texts) (t : Tabled) → texts ≡ [] → t ≡ record { times = p; keys = []; sets = []; records = [] } → Follows way texts t 0 [] []
+follows_none aim.End p texts t none empty = followed_none p texts t none empty
+follows_none (aim.Entry number) p texts t none empty = ((followed_none p texts t none empty).tracks, numbered_start texts none)
+
+pub walks_start : (way : Aim) (start : Option (List ℕ)) (now : log.ReaderState) (p : Times) (texts : Texts) (t : Tabled) → texts ≡ [] → t ≡ record { times = p; keys = []; sets = []; records = [] }
+    → HasRead start p [] now → Walks way start now 0 0 texts t
+walks_start way start now p texts t none empty read = record {
+  items = [];
+  es = [];
+  observed = tt;
+  follows = follows_none way p texts t none empty;
+  long = refl;
+  counts = refl;
+  read = subst (λ u. HasRead start u.times [] now) (sym empty) read;
   newest = omega arith;
-})
+}
 
--- trouble after so many entries is that of the next
-next_trouble : (p : Times) (es : List (Observation KeyParts)) (e : Observation KeyParts) (v : Verdict) (count : ℕ) → count ≡ length es → HasTrouble p es e v → ComesAfter count v
-next_trouble p es e (Legal whole transactions) count many is = absurd is
-next_trouble p es e (Malformed entry fault) count many is = omega (arith, is.0, many)
-next_trouble p es e (Breach entry transaction) count many is = omega (arith, is.0, many)
-next_trouble p es e (Undecided entry transaction) count many is = omega (arith, is.0, many)
-next_trouble p es e (FaultOfLog entry reason) count many is = absurd is
+-- the transactions are those of the entries, whatever the aim is
+tracks_of : (way : Aim) (texts : Texts) (t : Tabled) (left : ℕ) (items : List Item) (es : List (Observation KeyParts)) → Follows way texts t left items es → TablesTrack texts es t
+tracks_of aim.End texts t left items es follows = follows.tracks
+tracks_of (aim.Entry number) texts t left items es follows = follows.0
 
-trouble_low : (p : Times) (es : List (Observation KeyParts)) (e : Observation KeyParts) (v : Verdict) (count : ℕ) → count ≡ length es → HasTrouble p es e v → IsSomeAnd (trouble_of v) (λ k. k ≤ count + 1)
-trouble_low p es e (Legal whole transactions) count many is = absurd is
-trouble_low p es e (Malformed entry fault) count many is = omega (arith, is.0, many)
-trouble_low p es e (Breach entry transaction) count many is = omega (arith, is.0, many)
-trouble_low p es e (Undecided entry transaction) count many is = omega (arith, is.0, many)
-trouble_low p es e (FaultOfLog entry reason) count many is = absurd is
+-- One entry is judged.
+
+module _ (old new : Texts) (t u : Tabled) (left rest : ℕ) (e : Entry) where
+  end_on : (items : List Item) (es : List (Observation KeyParts)) (seen : Observation KeyParts) (verdict : Option Verdict) → AreFollowedOn new u rest es seen verdict
+      → FollowsOn aim.End new u rest items (item e) es seen verdict
+  end_on items es seen None follows = follows
+  end_on items es seen (Some v) trouble = trouble
+
+  -- few messages are kept
+  pub judges_end : (way : Aim) → way ≡ aim.End → (verdict : Option Verdict)
+      → ((es : List (Observation KeyParts)) → AreFollowed old t left es → e.number ≡ length es + 1 → newest_moment es ≤ e.moment
+      → (seen : Observation KeyParts) × Sees es (item e) seen × AreFollowedOn new u rest es seen verdict)
+      → JudgesOn way old t left new u rest e verdict
+  judges_end way is verdict says =
+      subst (λ a. JudgesOn a old t left new u rest e verdict) (sym is)
+      (λ items es follows long next order. let h = says es follows next order in (h.0, h.1, end_on items es h.0 verdict h.2))
+
+  entry_on : (number : ℕ) (items : List Item) (es : List (Observation KeyParts)) (seen : Observation KeyParts) (verdict : Option Verdict) → AreNumbered items old → e.number ≡ length items + 1
+      → u.times ≡ t.times → IfNone verdict (StaysNumbered (item e) e.number old new) → IsJudged t.times (key_keeping new t.times) es seen (transactions_of u) verdict
+      → FollowsOn (aim.Entry number) new u rest items (item e) es seen verdict
+  entry_on number items es seen None numbered next times stays judged = (subst (λ p. Tracks p (key_keeping new p) (es ++ seen ∷ []) (transactions_of u)) (sym times) judged.0, stays items numbered next)
+  entry_on number items es seen (Some v) numbered next times stays trouble = subst (λ p. HasTrouble p es seen v) (sym times) trouble
+
+  -- each is
+  pub judges_entry : {E : Type 0} (way : Aim) (number : ℕ) → way ≡ aim.Entry number → (result : Result (Option Verdict) E) → OnOk result (u.times ≡ t.times)
+      → IfOk result (λ verdict. IfNone verdict (StaysNumbered (item e) e.number old new))
+      → IfOk result (λ verdict. (es : List (Observation KeyParts)) → TablesTrack old es t → e.number ≡ length es + 1 → newest_moment es ≤ e.moment
+      → (seen : Observation KeyParts) × Sees es (item e) seen × IsJudged t.times (key_keeping new t.times) es seen (transactions_of u) verdict)
+      → IfOk result (JudgesOn way old t left new u rest e)
+  judges_entry way number is (Err error) times stays says = tt
+  judges_entry way number is (Ok verdict) times stays says =
+      subst (λ a. JudgesOn a old t left new u rest e verdict) (sym is) (λ items es follows long next order.
+      let h = says es follows.0 next order in
+      (h.0, h.1, entry_on number items es h.0 verdict follows.1 (next ∙ ap (λ n. n + 1) (sym long)) times stays h.2))
+
+-- Verdicts.
+
+-- trouble is that of the next entry
+trouble_at : (p : Times) (es : List (Observation KeyParts)) (e : Observation KeyParts) (v : Verdict) → HasTrouble p es e v → trouble_of v ≡ Some (length es + 1)
+trouble_at p es e (Legal whole transactions) is = absurd is
+trouble_at p es e (Malformed entry fault) is = ap Some is.0
+trouble_at p es e (Breach entry transaction) is = ap Some is.0
+trouble_at p es e (Undecided entry transaction) is = ap Some is.0
+trouble_at p es e (FaultOfLog entry reason) is = absurd is
+
+-- what is listed after trouble is its verdict
+listed_trouble : (v : Verdict) (k : ℕ) → trouble_of v ≡ Some k → listed_after v ≡ Stopped v
+listed_trouble (Legal whole transactions) k at = cc
+listed_trouble (Malformed entry fault) k at = refl
+listed_trouble (Breach entry transaction) k at = refl
+listed_trouble (Undecided entry transaction) k at = refl
+listed_trouble (FaultOfLog entry reason) k at = refl
+
+-- the verdict of trouble at an entry that is not after the aim is listed
+stops_at : (input : List ℕ) (v : Verdict) (k n : ℕ) → trouble_of v ≡ Some k → k ≤ n → IsVerdictOf input v → IsListingOf input n (Stopped v)
+stops_at input v k n at low is = (is, subst (λ o. IsSomeAnd o (λ k. k ≤ n)) (sym at) low)
+
+-- a walk answers the verdict of trouble
+pub walks_stop : (way : Aim) (start : Option (List ℕ)) (v : Verdict) (k : ℕ) → trouble_of v ≡ Some k → ((n : ℕ) → way ≡ aim.Entry n → k ≤ n) → IfSome start (λ input. IsVerdictOf input v)
+    → WalksTo way start (Err v)
+walks_stop aim.End start v k at low is = is
+walks_stop (aim.Entry n) start v k at low is =
+    IfSome-map start (λ input. IsVerdictOf input v) (λ input. IsListingOf input n (listed_after v))
+    (λ input verdict. subst (IsListingOf input n) (sym (listed_trouble v k at)) (stops_at input v k n at (low n refl) verdict)) is
+
+-- and that a log is legal
+walks_through : (way : Aim) (start : Option (List ℕ)) (count many : ℕ) → ((n : ℕ) → way ≡ aim.Entry n → count < n) → IfSome start (λ input. IsVerdictOf input (Legal count many))
+    → WalksTo way start (Err (Legal count many))
+walks_through aim.End start count many low is = is
+walks_through (aim.Entry n) start count many low is =
+    IfSome-map start (λ input. IsVerdictOf input (Legal count many)) (λ input. IsListingOf input n NoEntry) (λ input verdict. inr (count, many, verdict, low n refl)) is
+
+-- a log with a header has no entry 0
+pub none_listed : (way : Aim) (start : Option (List ℕ)) (p : Times) (now : log.ReaderState) → HasRead start p [] now → way ≡ aim.Entry 0 → WalksTo way start (Ok NoEntry)
+none_listed way start p now read zero =
+    subst (λ a. WalksTo a start (Ok NoEntry)) (sym zero)
+    (IfSome-map start (λ input. (more : List Item) × (end : LogEnd) × LogSays input p more end) (λ input. IsListingOf input 0 NoEntry) (λ input l. inl (refl, (p, l.0, l.1, l.2)))
+    (read_log start p [] now read))
 
 -- entries of which none is in trouble are a legal log
 legal_until : (p : Times) (items : List Item) (es : List (Observation KeyParts)) (count : ℕ) → AreSeen [] items es → IsGood p es → count ≡ length es
@@ -69,109 +146,91 @@ legal_until p items es count observed good counts =
     let v : Verdict = Legal count (length (keys_in es)) in
     subst (λ all. IsVerdictAfter p [] all Clean v) (append-nil items) (judges_front p Clean v [] items [] es observed good (ap (λ n. Legal n (length (keys_in es))) counts))
 
--- what is listed of a later entry where this verdict comes before it
-pub listed_before : (start : Option (List ℕ)) (entry count : ℕ) (v : Verdict) → count < entry → IfSome start (λ input. IsVerdictOf input v) → ComesAfter count v → IfSome start (λ input. IsListingOf input entry (listed_after v))
-listed_before start entry count (Legal whole transactions) low is next =
-    IfSome-map start (λ input. IsVerdictOf input (Legal whole transactions)) (λ input. IsListingOf input entry NoEntry) (λ input verdict. inr (whole, transactions, verdict, omega (arith, next, low))) is
-listed_before start entry count (Malformed at fault) low is next =
-    IfSome-map start (λ input. IsVerdictOf input (Malformed at fault)) (λ input. IsListingOf input entry (Stopped (Malformed at fault))) (λ input verdict. (verdict, omega (arith, next, low))) is
-listed_before start entry count (Breach at transaction) low is next =
-    IfSome-map start (λ input. IsVerdictOf input (Breach at transaction)) (λ input. IsListingOf input entry (Stopped (Breach at transaction))) (λ input verdict. (verdict, omega (arith, next, low))) is
-listed_before start entry count (Undecided at transaction) low is next =
-    IfSome-map start (λ input. IsVerdictOf input (Undecided at transaction)) (λ input. IsListingOf input entry (Stopped (Undecided at transaction))) (λ input verdict. (verdict, omega (arith, next, low))) is
-listed_before start entry count (FaultOfLog at reason) low is next =
-    IfSome-map start (λ input. IsVerdictOf input (FaultOfLog at reason)) (λ input. IsListingOf input entry (Stopped (FaultOfLog at reason))) (λ input verdict. (verdict, omega (arith, next, low))) is
-
-module _ (start : Option (List ℕ)) (now : log.ReaderState) (texts : Texts) (t : Tabled) (walks : Walks start now texts t) where
-  -- the count is that of the entries that were judged
-  judged_count : now.count ≡ length walks.judged.es
-  judged_count = read_count start t.times walks.judged.items now walks.judged.read ∙ walks.judged.long
-
-  -- a log with a header has no entry 0
-  pub listed_zero : (entry : ℕ) → entry ≡ 0 → IfSome start (λ input. IsListingOf input entry NoEntry)
-  listed_zero entry none =
-      IfSome-map start (λ input. (more : List Item) × (end : LogEnd) × LogSays input t.times (walks.judged.items ++ more) end) (λ input. IsListingOf input entry NoEntry)
-      (λ input l. inl (none, (t.times, walks.judged.items ++ l.0, l.1, l.2))) (read_log start t.times walks.judged.items now walks.judged.read)
+module _ (way : Aim) (start : Option (List ℕ)) (now : log.ReaderState) (count left : ℕ) (texts : Texts) (t : Tabled) (walks : Walks way start now count left texts t) where
+  tracks : TablesTrack texts walks.es t
+  tracks = tracks_of way texts t left walks.items walks.es walks.follows
 
   -- the log ends: it is legal
-  pub walks_end : (count many : ℕ) → count ≡ now.count → many ≡ length (transactions_of t) → IfSome start (λ input. LogSays input t.times walks.judged.items Clean)
-      → WalksOn start count now texts t (Some (Legal count many))
-  walks_end count many counts long logs =
-      let j = walks.judged in
-      let keys : many ≡ length (keys_in j.es) = long ∙ sym (length-map (transactions_of t) (λ x. x.0)) ∙ ap length j.follows.keys in (
-        judged_ends t.times _ start now j j.follows.good Clean (Legal count many) (ap (λ c. Legal c many) (counts ∙ judged_count) ∙ ap (Legal (length j.es)) keys) logs,
-        refl,
-      )
+  pub walks_end : (many : ℕ) → many ≡ length t.keys → length t.sets ≡ length t.keys → ((n : ℕ) → way ≡ aim.Entry n → count < n) → IfSome start (λ input. LogSays input t.times walks.items Clean)
+      → WalksTo way start (Err (Legal count many))
+  walks_end many keys long low logs =
+      walks_through way start count many low (judged_ends t.times start walks.items walks.es walks.observed tracks.good Clean (Legal count many)
+      (ap (λ c. Legal c many) walks.counts ∙ ap (Legal (length walks.es)) (keys ∙ followed_keys texts t walks.es long tracks)) logs)
 
   -- it cannot be read on
-  pub walks_fault : (count : ℕ) (reason : LogReason) → count ≡ now.count → (fault : LogReason) × (reason ≡ fault) × IfSome start (λ input. LogSays input t.times walks.judged.items (Stops fault))
-      → IfSome start (λ input. IsVerdictOf input (FaultOfLog (count + 1) reason))
-  walks_fault count reason counts (fault, is, logs) =
-      let j = walks.judged in
-      judged_ends t.times _ start now j j.follows.good (Stops fault) (FaultOfLog (count + 1) reason)
-      (ap (λ c. FaultOfLog (c + 1) reason) (counts ∙ judged_count) ∙ ap (FaultOfLog (length j.es + 1)) is) logs
+  pub walks_fault : (reason : LogReason) → ((n : ℕ) → way ≡ aim.Entry n → count < n) → (fault : LogReason) × (reason ≡ fault) × IfSome start (λ input. LogSays input t.times walks.items (Stops fault))
+      → WalksTo way start (Err (FaultOfLog (count + 1) reason))
+  walks_fault reason low (fault, is, logs) =
+      walks_stop way start (FaultOfLog (count + 1) reason) (count + 1) refl (λ n same. (let before = low n same in omega (arith, before)))
+      (judged_ends t.times start walks.items walks.es walks.observed tracks.good (Stops fault) (FaultOfLog (count + 1) reason)
+      (ap (λ c. FaultOfLog (c + 1) reason) walks.counts ∙ ap (FaultOfLog (length walks.es + 1)) is) logs)
 
-  module _ (count : ℕ) (counts : count ≡ now.count) (e : Entry) (next : e.number ≡ now.count + 1) (order : now.last ≤ e.moment) (new : log.ReaderState) (read : HasRead start t.times (walks.judged.items ++ item e ∷ []) new) where
-    number_is : e.number ≡ length walks.judged.es + 1
-    number_is = next ∙ ap (λ n. n + 1) judged_count
+  module _ (e : Entry) (next : e.number ≡ count + 1) (order : now.last ≤ e.moment) (new : log.ReaderState) (read : HasRead start t.times (walks.items ++ item e ∷ []) new) where
+    number_is : e.number ≡ length walks.es + 1
+    number_is = next ∙ ap (λ n. n + 1) walks.counts
 
-    in_order : newest_moment walks.judged.es ≤ e.moment
+    in_order : newest_moment walks.es ≤ e.moment
     in_order = (let newest = walks.newest in omega (arith, newest, order))
 
-    -- the next entry was judged
-    pub walks_on : (texts2 : Texts) (u : Tabled) (verdict : Option Verdict)
-        → ((es : List (Observation KeyParts)) → TablesTrack texts es t → e.number ≡ length es + 1 → newest_moment es ≤ e.moment
-        → (seen : Observation KeyParts) × Sees es (item e) seen × IsJudged t.times (key_keeping texts2 t.times) es seen (transactions_of u) verdict)
-        → IfNone verdict (StaysNumbered (item e) e.number texts texts2) → u.times ≡ t.times → new.last ≡ e.moment → WalksOn start count new texts2 u verdict
-    walks_on texts2 u None says numbered times last =
-        let j = walks.judged in
-        let h = says j.es j.follows number_is in_order in
+    -- it is in no trouble
+    pub walks_on : (left2 : ℕ) (texts2 : Texts) (u : Tabled) → JudgesOn way texts t left texts2 u left2 e None → u.times ≡ t.times → new.last ≡ e.moment → Walks way start new e.number left2 texts2 u
+    walks_on left2 texts2 u says times last =
+        let h = says walks.items walks.es walks.follows walks.long number_is in_order in
         record {
-          judged = record {
-            items = j.items ++ item e ∷ [];
-            es = j.es ++ h.0 ∷ [];
-            observed = seen-push [] j.items j.es (item e) h.0 j.observed h.1;
-            follows = subst (λ p. Tracks p (key_keeping texts2 p) (j.es ++ h.0 ∷ []) (transactions_of u)) (sym times) h.2.0;
-            long = length_push j.items (item e) ∙ ap (λ n. n + 1) j.long ∙ sym (length_push j.es h.0);
-            read = subst (λ p. HasRead start p (j.items ++ item e ∷ []) new) (sym times) read;
-          };
-          numbered = numbered j.items walks.numbered (number_is ∙ ap (λ n. n + 1) (sym j.long));
-          newest = omega (arith, observed_moment j.es (item e) h.0 h.1, last);
+          items = walks.items ++ item e ∷ [];
+          es = walks.es ++ h.0 ∷ [];
+          observed = seen-push [] walks.items walks.es (item e) h.0 walks.observed h.1;
+          follows = h.2;
+          long = length_push walks.items (item e) ∙ ap (λ n. n + 1) walks.long ∙ sym (length_push walks.es h.0);
+          counts = number_is ∙ sym (length_push walks.es h.0);
+          read = subst (λ p. HasRead start p (walks.items ++ item e ∷ []) new) (sym times) read;
+          newest = omega (arith, observed_moment walks.es (item e) h.0 h.1, last);
         }
-    walks_on texts2 u (Some v) says numbered times last =
-        let j = walks.judged in
-        let h = says j.es j.follows number_is in_order in
-        (judged_trouble t.times _ start now j j.follows.good (item e) new read h.0 h.1 v h.2, next_trouble t.times j.es h.0 v count (counts ∙ judged_count) h.2)
 
-    -- what is listed of it
-    pub walks_listed : (listing : Listing)
-        → ((es : List (Observation KeyParts)) (items more : List Item) → TablesTrack texts es t → AreNumbered items texts → AreSeen [] items es → length items ≡ length es → e.number ≡ length es + 1
-        → newest_moment es ≤ e.moment
-        → (seen : Observation KeyParts) × Sees es (item e) seen
-        × IsListedEntry t.times (first_entry ((items ++ item e ∷ []) ++ more)) es seen listing)
-        → IfSome start (λ input. IsListingOf input (count + 1) listing)
-    walks_listed NoEntry says = absurd (says walks.judged.es walks.judged.items [] walks.judged.follows walks.numbered walks.judged.observed walks.judged.long number_is in_order).2
-    walks_listed (Stopped v) says =
-        let j = walks.judged in
-        let h = says j.es j.items [] j.follows walks.numbered j.observed j.long number_is in_order in
-        IfSome-map start (λ input. IsVerdictOf input v) (λ input. IsListingOf input (count + 1) (Stopped v)) (λ input verdict. (verdict, trouble_low t.times j.es h.0 v count (counts ∙ judged_count) h.2))
-        (judged_trouble t.times _ start now j j.follows.good (item e) new read h.0 h.1 v h.2)
-    walks_listed (Text text) says =
-        let j = walks.judged in
-        IfSome-map start (λ input. (more : List Item) × (end : LogEnd) × LogSays input t.times ((j.items ++ item e ∷ []) ++ more) end) (λ input. IsListingOf input (count + 1) (Text text)) (λ input l.
-        let h = says j.es j.items l.0 j.follows walks.numbered j.observed j.long number_is in_order in
-        let observed = seen-push [] j.items j.es (item e) h.0 j.observed h.1 in
+    -- it is
+    pub walks_trouble : (left2 : ℕ) (texts2 : Texts) (u : Tabled) (v : Verdict) → JudgesOn way texts t left texts2 u left2 e (Some v) → u.times ≡ t.times → ((n : ℕ) → way ≡ aim.Entry n → count < n) → WalksTo way start (Err v)
+    walks_trouble left2 texts2 u v says times low =
+        let h = says walks.items walks.es walks.follows walks.long number_is in_order in
+        let is = subst (λ p. HasTrouble p walks.es h.0 v) times h.2 in
+        walks_stop way start v (length walks.es + 1) (trouble_at t.times walks.es h.0 v is) (λ n same. (let before = low n same in let counts = walks.counts in omega (arith, before, counts)))
+        (judged_trouble t.times start walks.items walks.es walks.observed tracks.good (item e) new read h.0 h.1 v is)
+
+    listed_at : (listing : Listing)
+        → ((more : List Item) → (seen : Observation KeyParts) × Sees walks.es (item e) seen × IsListedEntry t.times (first_entry ((walks.items ++ item e ∷ []) ++ more)) walks.es seen listing)
+        → IfSome start (λ input. IsListingOf input e.number listing)
+    listed_at NoEntry says = absurd (says []).2
+    listed_at (Stopped v) says =
+        let h = says [] in
+        IfSome-map start (λ input. IsVerdictOf input v) (λ input. IsListingOf input e.number (Stopped v))
+        (λ input verdict. stops_at input v (length walks.es + 1) e.number (trouble_at t.times walks.es h.0 v h.2) (omega (arith, number_is)) verdict)
+        (judged_trouble t.times start walks.items walks.es walks.observed tracks.good (item e) new read h.0 h.1 v h.2)
+    listed_at (Text text) says =
+        IfSome-map start (λ input. (more : List Item) × (end : LogEnd) × LogSays input t.times ((walks.items ++ item e ∷ []) ++ more) end) (λ input. IsListingOf input e.number (Text text)) (λ input l.
+        let h = says l.0 in
+        let observed = seen-push [] walks.items walks.es (item e) h.0 walks.observed h.1 in
         record {
           times = t.times;
-          items = j.items ++ item e ∷ [];
+          items = walks.items ++ item e ∷ [];
           rest = l.0;
           end = l.1;
           log = l.2;
-          transactions = length (keys_in (j.es ++ h.0 ∷ []));
-          legal = legal_until t.times (j.items ++ item e ∷ []) (j.es ++ h.0 ∷ []) (count + 1) observed h.2.0 (ap (λ n. n + 1) (counts ∙ judged_count) ∙ sym (length_push j.es h.0));
-          front = j.es;
+          transactions = length (keys_in (walks.es ++ h.0 ∷ []));
+          legal = legal_until t.times (walks.items ++ item e ∷ []) (walks.es ++ h.0 ∷ []) e.number observed h.2.0 (number_is ∙ sym (length_push walks.es h.0));
+          front = walks.es;
           e = h.0;
           seen = observed;
           told = h.2.1;
         })
-        (read_log start t.times (j.items ++ item e ∷ []) new read)
+        (read_log start t.times (walks.items ++ item e ∷ []) new read)
+
+    -- it is the aim: what is listed of it
+    pub walks_listed : (listing : Listing) → way ≡ aim.Entry e.number
+        → ((es : List (Observation KeyParts)) (items more : List Item) → TablesTrack texts es t → AreNumbered items texts → AreSeen [] items es → length items ≡ length es → e.number ≡ length es + 1
+        → newest_moment es ≤ e.moment
+        → (seen : Observation KeyParts) × Sees es (item e) seen
+        × IsListedEntry t.times (first_entry ((items ++ item e ∷ []) ++ more)) es seen listing)
+        → WalksTo way start (Ok listing)
+    walks_listed listing here says =
+        let follows = subst (λ a. Follows a texts t left walks.items walks.es) here walks.follows in
+        subst (λ a. WalksTo a start (Ok listing)) (sym here)
+        (listed_at listing (λ more. says walks.es walks.items more follows.0 follows.1 walks.observed walks.long number_is in_order))

@@ -2,6 +2,7 @@ pub mod Forgetting
 pub mod Forgotten
 pub mod IdleAgain
 pub mod Lasting
+pub mod Never
 pub mod Onward
 pub mod Quiet
 pub mod Remembered

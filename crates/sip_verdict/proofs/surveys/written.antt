@@ -1,2 +1,4 @@
 pub mod Gathering
+pub mod Horizons
+pub mod Remembering
 pub mod Writing

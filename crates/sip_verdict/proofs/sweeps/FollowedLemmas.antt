@@ -88,6 +88,7 @@ moment_going : (direction : Option Direction) (i : Item) (keys : List KeyParts) 
 moment_going None i keys e seen = ap (λ x. x.event.moment) seen ∙ silent_moment i.action i.moment keys
 moment_going (Some direction) i keys e seen = heard_moment direction i e seen
 
+-- after an entry the newest moment is that of the entry
 pub observed_moment : (es : List (Observation KeyParts)) (i : Item) (e : Observation KeyParts) → Sees es i e → newest_moment (es ++ e ∷ []) ≡ i.moment
 observed_moment es i e seen = newest_moment-push es e ∙ moment_going (direction_of i.action) i (keys_in es) e seen
 

@@ -26,7 +26,7 @@ use Rattle.sip_standard.specs.VerdictOf.{events_for}
 use Rattle.sip_verdict.specs.Entries.{newest_moment}
 use Rattle.sip_verdict.specs.inner.Concerned.{each, is_all}
 use Rattle.sip_verdict.specs.inner.Tracking.{IsReady, IsStanding, IsJudged}
-use Rattle.sip_verdict.specs.inner.TablesTracking.{LeadsOf, StandsOf, key_keeping, transactions_of, is_among, concerns_number, LeavesOthers, OthersAre, NamesNot, IsForgotten, MayTake}
+use Rattle.sip_verdict.specs.inner.TablesTracking.{LeadsOf, StandsOf, key_keeping, transactions_of, is_among, concerns_number, LeavesOthers, OthersAre, NamesNot, DropsUnnamed, MayTake}
 use Rattle.sip_verdict.specs.declared.concerned.Concerned.{Concerned}
 use Rattle.sip_verdict.specs.declared.passing.Hearing.{Hearing}
 use Rattle.sip_verdict.proofs.keys.Leading.{Leads-book}
@@ -116,19 +116,19 @@ module _ (number : ℕ) (bytes : List ℕ) (new : Texts) where
         (All-place (IsStanding (key_keeping old p) es e) (transactions_of t) n x at stand concerned))
 
 -- what was judged of an entry without trouble
-pub forgotten_judged : (number : ℕ) (texts_before new : Texts) (p : Times) (es : List (Observation KeyParts)) (e : Observation KeyParts) (t : Tabled) → IsForgotten t.sets number texts_before new
+pub dropped_judged : (number : ℕ) (texts_before new : Texts) (p : Times) (es : List (Observation KeyParts)) (e : Observation KeyParts) (t : Tabled) → DropsUnnamed t.sets number texts_before new
     → IsJudged p (key_keeping texts_before p) es e (transactions_of t) None → IsJudged p (key_keeping new p) es e (transactions_of t) None
-forgotten_judged number texts_before new p es e t (inl same) judged = subst (λ texts. IsJudged p (key_keeping texts p) es e (transactions_of t) None) (sym same) judged
-forgotten_judged number texts_before new p es e t (inr (bytes, is, unnamed)) judged =
+dropped_judged number texts_before new p es e t (inl same) judged = subst (λ texts. IsJudged p (key_keeping texts p) es e (transactions_of t) None) (sym same) judged
+dropped_judged number texts_before new p es e t (inr (bytes, is, unnamed)) judged =
     let before = subst (λ texts. IsJudged p (key_keeping texts p) es e (transactions_of t) None) is judged in (
       record { keys = before.0.keys; ready = unnamed_ready number bytes new p (es ++ e ∷ []) t unnamed before.0.ready; good = before.0.good },
       unnamed_standing number bytes new p es t unnamed e before.1,
     )
 
 -- the next entry may come
-pub forgotten_take : (number : ℕ) (texts_before new : Texts) (t : Tabled) (next moment : ℕ) → IsForgotten t.sets number texts_before new → MayTake texts_before t next moment → MayTake new t next moment
-forgotten_take number texts_before new t next moment (inl same) may = subst (λ texts. MayTake texts t next moment) (sym same) may
-forgotten_take number texts_before new t next moment (inr (bytes, is, unnamed)) may =
+pub dropped_take : (number : ℕ) (texts_before new : Texts) (t : Tabled) (next moment : ℕ) → DropsUnnamed t.sets number texts_before new → MayTake texts_before t next moment → MayTake new t next moment
+dropped_take number texts_before new t next moment (inl same) may = subst (λ texts. MayTake texts t next moment) (sym same) may
+dropped_take number texts_before new t next moment (inr (bytes, is, unnamed)) may =
     let before = subst (λ texts. MayTake texts t next moment) is may in
     record {
       passes = record {
@@ -142,10 +142,10 @@ forgotten_take number texts_before new t next moment (inr (bytes, is, unnamed)) 
       few = before.few;
     }
 
--- what is left where the newest message was forgotten was kept before
-pub forgotten_within : (sets : List AnySet) (number : ℕ) (texts_before new : Texts) → IsForgotten sets number texts_before new → All (Contains texts_before) new
-forgotten_within sets number texts_before new (inl same) = same_within texts_before new same
-forgotten_within sets number texts_before new (inr (bytes, is, unnamed)) = λ k d low.
+-- what is left where the newest message was dropped was kept before
+pub dropped_within : (sets : List AnySet) (number : ℕ) (texts_before new : Texts) → DropsUnnamed sets number texts_before new → All (Contains texts_before) new
+dropped_within sets number texts_before new (inl same) = same_within texts_before new same
+dropped_within sets number texts_before new (inr (bytes, is, unnamed)) = λ k d low.
     subst (λ texts. Contains texts (get_or new k d)) (sym is) (Contains-append_left new ((number, bytes) ∷ []) (get_or new k d) (Contains-get_or new k d low))
 
 -- where none of some transactions names a message, the sets of their numbers do not

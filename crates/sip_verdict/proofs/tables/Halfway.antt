@@ -79,6 +79,7 @@ module _ (texts : Texts) (p : Times) (es : List (Observation KeyParts)) (e : Obs
         subst (λ ks. IsFirstKey P ks number) (sym (names h))
         (subst (IsFirstKey P keys) (sym f.counts) (first_at P keys f.place f.key f.at f.holds (λ n key low at. f.earlier n key low at refl)))
 
+    -- where none is still to hear, the outcome so far is that of all
     pub halfway_all : (outcome : Outcome) → IsHalfway [] t outcome → IsOutcome p k es e (transactions_of t) outcome
     halfway_all all.Fine h = All-places (GoesOn p k es e) (transactions_of t) goes
       where

@@ -1,18 +1,35 @@
 -- What is kept before the first entry, and between two.
-use Rattle.std.proofs.Common.{◌≡◌, ◌≤◌, ℕ, length, sym, ap, ◌∙◌, arith}
-use Rattle.std.proofs.lemmas.List.Elements.{All-weaker}
-use Rattle.std.proofs.lemmas.List.{length-map}
-use Rattle.std.proofs.lemmas.Slice.Zip.{firsts-zip}
+use Rattle.std.proofs.Common.{◌≡◌, ◌≤◌, ◌+◌, ℕ, [], refl, sym, subst, arith}
+use Rattle.std.proofs.lemmas.List.Elements.{All-nil, All-weaker}
+use Rattle.sip_standard.specs.Times.{Times}
 use Rattle.sip_machine.specs.Texts.{Texts}
-use Rattle.sip_states.specs.AnySet.{moment_of}
+use Rattle.sip_states.specs.AnySet.{moment_of, IsKnownSet}
 use Rattle.sip_states.specs.Tables.{Tabled}
-use Rattle.sip_verdict.specs.inner.TablesTracking.{transactions_of, MayTake}
+use Rattle.sip_states.proofs.lists.Listed.{Contains-none}
+use Rattle.sip_verdict.specs.inner.TablesTracking.{MayTake}
 
--- an entry may come later
-pub may_later : (texts : Texts) (t : Tabled) (number moment later : ℕ) → moment ≤ later → MayTake texts t number moment → MayTake texts t number later
-may_later texts t number moment later low may = record {
+-- the first entry may come at any moment
+pub first_may : (texts : Texts) (t : Tabled) (p : Times) (moment : ℕ) → texts ≡ [] → t ≡ record { times = p; keys = []; sets = []; records = [] } → MayTake texts t 1 moment
+first_may texts t p moment none empty = subst (λ b. MayTake b t 1 moment) (sym none) (subst (λ u. MayTake [] u 1 moment) (sym empty) (record {
   passes = record {
-    order = All-weaker (λ set. moment_of set ≤ moment) (λ set. moment_of set ≤ later) (λ set h. omega arith) t.sets may.passes.order;
+    order = All-nil (λ set. moment_of set ≤ moment);
+    known = All-nil (IsKnownSet []);
+    long = refl;
+  };
+  recorded = record {
+    long = refl;
+    each = λ n set recorded here there. absurd cc;
+  };
+  numbered = λ n keeps. absurd (Contains-none n keeps);
+  some = λ n keeps. absurd (Contains-none n keeps);
+  few = omega arith;
+}))
+
+-- an entry may come next that has the next number and is no earlier
+pub next_may : (texts : Texts) (t : Tabled) (count last number moment : ℕ) → number ≡ count + 1 → last ≤ moment → MayTake texts t (count + 1) last → MayTake texts t number moment
+next_may texts t count last number moment next order may = subst (λ n. MayTake texts t n moment) (sym next) (record {
+  passes = record {
+    order = All-weaker (λ set. moment_of set ≤ last) (λ set. moment_of set ≤ moment) (λ set h. omega arith) t.sets may.passes.order;
     known = may.passes.known;
     long = may.passes.long;
   };
@@ -20,8 +37,4 @@ may_later texts t number moment later low may = record {
   numbered = may.numbered;
   some = may.some;
   few = may.few;
-}
-
--- there are as many transactions as keys
-pub transactions_long : (texts : Texts) (t : Tabled) (number moment : ℕ) → MayTake texts t number moment → length t.keys ≡ length (transactions_of t)
-transactions_long texts t number moment may = sym (ap length (firsts-zip t.keys t.sets may.passes.long)) ∙ length-map (transactions_of t) (λ x. x.0)
+})

@@ -47,6 +47,7 @@ zip-place (u ∷ xs) [] n x y a b = absurd cc
 zip-place (u ∷ xs) (v ∷ ys) zero x y a b = cc
 zip-place (u ∷ xs) (v ∷ ys) (suc n) x y a b = zip-place xs ys n x y a b
 
+-- a pair at a place of two lists side by side is of what stands there in each
 pub place-zip : {A B : Type 0} (xs : List A) (ys : List B) (n : ℕ) (z : A × B) → slice_get (zip xs ys) n ≡ Some z → (slice_get xs n ≡ Some z.0) × (slice_get ys n ≡ Some z.1)
 place-zip [] ys n z at = absurd cc
 place-zip (u ∷ xs) [] n z at = absurd cc
@@ -86,6 +87,7 @@ among_not n number ns h = go (nat_eq n number) refl
 pub among_first : (n number : ℕ) (ns : List ℕ) → n ≡ number → is_among (number ∷ ns) n ≡ true
 among_first n number ns same = ap (λ b. b || is_among ns n) ((unsigned_Decides n number).1 same)
 
+-- a number among some is among them and one more
 pub among_rest : (n number : ℕ) (ns : List ℕ) → is_among ns n ≡ true → is_among (number ∷ ns) n ≡ true
 among_rest n number ns h = go (nat_eq n number)
   where
@@ -110,6 +112,7 @@ leaves_keys number after Runs t u h = ap (λ x. x.keys) h.2
 leaves_keys number after NoRun t u h = ap (λ x. x.keys) h
 leaves_keys number after TooWide t u h = ap (λ x. x.keys) h
 
+-- a set that has heard stands in its place, and the other sets stand as they were
 pub leaves_sets : (number : ℕ) (after : AnySet) (fate : Fate) (t u : Tabled) → Leaves number after fate t u → u.sets ≡ set t.sets (number - 1) after
 leaves_sets number after Runs t u h = ap (λ x. x.sets) h.2
 leaves_sets number after NoRun t u h = ap (λ x. x.sets) h
@@ -142,6 +145,7 @@ module _ (t : Tabled) (number : ℕ) (ns : List ℕ) (low : 0 < number) (after :
           only None h = among_one (n + 1) number ns h (λ same. a.0 (omega (arith, same)))
           only (Some l) h = h
 
+  -- once the last moment of the set that heard is on record, those that are still to hear alone may lack one
   pub settled : (u : Tabled) → u.keys ≡ t.keys → u.sets ≡ set t.sets (number - 1) after → u.records ≡ set t.records (number - 1) (Some limit) → AreOnRecord ns u
   settled u keys sets records = record {
     long = ap length records ∙ length-set t.records (number - 1) (Some limit) ∙ old.long ∙ ap length (sym keys);
@@ -184,6 +188,7 @@ on_record_if all.Fine t h = h refl
 on_record_if (all.NoRun number) t h = tt
 on_record_if (all.TooWide number) t h = tt
 
+-- after the sets of these numbers have heard, all are on record if none is in trouble
 pub heard_recorded : (texts : Texts) (event : NumberedEvent) (ns : List ℕ) (t u : Tabled) (before after : Outcome) → All (IsGiven t) ns → AreOnRecord ns t → HearsEach texts event ns t before u after → AreOnRecordIf after u
 heard_recorded texts event ns t u before after given old h = on_record_if after u (heard_records texts event ns t u before after given old h)
 

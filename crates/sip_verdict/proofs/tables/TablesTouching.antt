@@ -34,6 +34,7 @@ touched_elim : (Q : Tabled → Type 0) → ((t : Tabled) (key : KeyParts) → Q 
 touched_elim Q more key number old new holds (inl h) = subst Q (sym h.1) holds
 touched_elim Q more key number old new holds (inr h) = subst Q (sym h.2) (more old key holds)
 
+-- what holds of tables, and of them with any key more, holds after several keys were looked up
 pub touches_elim : (Q : Tabled → Type 0) → ((t : Tabled) (key : KeyParts) → Q t → Q (with_key t key)) → (ks : List KeyParts) (ns : List ℕ) (old new : Tabled) → Q old → TouchesEach ks ns old new → Q new
 touches_elim Q more [] [] old new holds same = subst Q (sym same) holds
 touches_elim Q more [] (n ∷ ns) old new holds h = absurd h
@@ -63,6 +64,7 @@ start_at p key =
     let machine = machine_of_key p.rules key in
     ap moment_of (start_is p machine) ∙ moment_is machine (record { machine = p; moment = 0; states = first_of machine ∷ [] })
 
+-- every book knows the set that a key starts with
 pub start_known : (texts : Texts) (p : Times) (key : KeyParts) → IsKnownSet texts (start_of p key)
 start_known texts p key =
     let machine = machine_of_key p.rules key in
@@ -106,6 +108,7 @@ module _ (waits : List ℕ) where
       go i s r (inr a) (inl b) = (let within = slice_get_within old.records i r b in let same = h.long in absurd (omega (arith, a.0)))
       go i s r (inr a) (inr b) = subst (IsOnRecord waits (i + 1) s) b.1 (subst (λ n. is_among waits n ≡ true) (let same = h.long in omega (arith, counts, b.0)) waiting)
 
+  -- after keys were looked up, those that are still to hear alone may lack a last moment on record
   pub touches_recorded : (ks : List KeyParts) (ns : List ℕ) (old new : Tabled) → ((n : ℕ) → is_among ns n ≡ true → is_among waits n ≡ true) → length old.sets ≡ length old.keys → AreOnRecord waits old → TouchesEach ks ns old new
       → AreOnRecord waits new
   touches_recorded [] [] old new wait long h same = subst (AreOnRecord waits) (sym same) h

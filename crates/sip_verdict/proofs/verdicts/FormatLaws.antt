@@ -41,6 +41,7 @@ log-of-same format input other p behind items one two is =
     let whole : behind ≡ flat_map entry_says items = sym same.2 ∙ ap (λ (t : List ℕ). flat_map entry_says items ++ t) none ∙ append-nil (flat_map entry_says items) in
     clean-log format other p items (subst (Header format p other) whole two) is.few (subst (λ f. InOrder f 0 items) same.0 is.order)
 
+-- logs with the same entries and times have the same verdicts, whatever their headers are
 pub rules_verdict : (v : Verdict) (format : Format) (input other : List ℕ) (p : Times) (behind : List ℕ) (items : List Item) → Header format p input behind → Header format p other behind
     → LogSays input p items Clean → IsVerdictOf input v ↔ IsVerdictOf other v
 rules_verdict v format input other p behind items one two log =

@@ -53,6 +53,7 @@ module _ (Runs Wide : KeyParts → Type 0) (keys : List KeyParts) where
       earlier = λ n k low at among. f.earlier n k low at (less n among);
     }
 
+    -- an outcome that is said of some keys is said of fewer
     pub says_fewer : (outcome : Outcome) → Says A outcome → Says B outcome
     says_fewer all.Fine h = fewer (λ k. Runs k × ¬ Wide k) h
     says_fewer (all.NoRun number) h = first_fewer (λ k. ¬ Runs k) number h

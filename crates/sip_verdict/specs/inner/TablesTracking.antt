@@ -95,9 +95,9 @@ AreTold texts keys moment hearing e = (n : ℕ) (key : KeyParts) → slice_get k
 abbrev pub NamesNot : Tabled → ℕ → ℕ → Type 0
 NamesNot t message number = (set : AnySet) → slice_get t.sets (number - 1) ≡ Some set → ¬ Contains (numbers_of set) message
 
--- the newest message was forgotten, which no set names, or none was
-abbrev pub IsForgotten : List AnySet → ℕ → Texts → Texts → Type 0
-IsForgotten sets number old new = (new ≡ old) ⊎ ((bytes : List ℕ) × (old ≡ new ++ (number, bytes) ∷ []) × All (λ set. ¬ Contains (numbers_of set) number) sets)
+-- the newest message was dropped, which no set names, or none was
+abbrev pub DropsUnnamed : List AnySet → ℕ → Texts → Texts → Type 0
+DropsUnnamed sets number old new = (new ≡ old) ⊎ ((bytes : List ℕ) × (old ≡ new ++ (number, bytes) ∷ []) × All (λ set. ¬ Contains (numbers_of set) number) sets)
 
 -- these keys were looked up one after another, and have these numbers
 abbrev pub TouchesEach : List KeyParts → List ℕ → Tabled → Tabled → Type 0

@@ -1,5 +1,5 @@
 -- How a log is read and judged, entry by entry.
-use Rattle.std.specs.Prelude.{◌≡◌, ◌<◌, ◌≤◌, ◌+◌, ◌++◌, ◌∷◌, [], ℕ, Option, Some, None, IfSome, List, length, ⊤}
+use Rattle.std.specs.Prelude.{◌≡◌, ◌<◌, ◌≤◌, ◌+◌, ◌++◌, ◌∷◌, [], ℕ, Option, Some, None, Result, Ok, Err, IfSome, List, length, ⊤}
 use Rattle.sip_standard.specs.Key.{KeyParts}
 use Rattle.sip_standard.specs.Times.{Times}
 use Rattle.sip_machine.specs.Texts.{Texts}
@@ -7,21 +7,26 @@ use Rattle.sip_states.specs.Tables.{Tabled}
 use Rattle.sip_standard.specs.LogEntry.{Item}
 use Rattle.sip_standard.specs.LogSays.{most_entries, Clean, Stops, LogSays}
 use Rattle.sip_log.specs.Told.{item}
+use Rattle.sip_log.specs.declared.entry.Entry.{Entry as LogEntry}
 use Rattle.sip_log.specs.Reading.{ProgressState, entries, Continues}
 use Rattle.sip_log.proofs.answers.CallerLemmas.{Stands}
 use Rattle.sip_verdict.specs.declared.reading.Next.{Next}
 use Rattle.sip_verdict.specs.declared.reading.Next.TheVariants.{Entry, End, Fault}
+use Rattle.sip_verdict.specs.declared.walking.Aim.{Aim}
+use Rattle.sip_verdict.specs.declared.walking.Aim.TheVariants as aim
 use Rattle.sip_standard.specs.declared.verdict.Verdict.{Verdict}
 use Rattle.sip_standard.specs.declared.verdict.Verdict.TheVariants.{Legal, Malformed, Breach, Undecided, LogFault as FaultOfLog}
+use Rattle.sip_standard.specs.declared.log_reason.LogReason.{LogReason}
 use Rattle.sip_standard.specs.declared.listing.Listing.{Listing}
 use Rattle.sip_standard.specs.declared.listing.Listing.TheVariants.{Stopped, NoEntry}
 use Rattle.sip_standard.specs.Observation.{Observation}
 use Rattle.sip_standard.specs.Seen.{AreSeen}
+use Rattle.sip_standard.specs.VerdictOf.{Sees, HasTrouble, IsVerdictOf}
+use Rattle.sip_standard.specs.ListingOf.{IsListingOf}
 use Rattle.sip_verdict.specs.Entries.{newest_moment}
-use Rattle.sip_standard.specs.VerdictOf.{IsVerdictOf}
+use Rattle.sip_verdict.specs.Judging.{AreFollowed}
 use Rattle.sip_verdict.specs.inner.Numbering.{AreNumbered}
-use Rattle.sip_verdict.specs.inner.TablesTracking.{TablesTrack, MayTake}
-use Rattle.sip_standard.specs.declared.log_reason.LogReason.{LogReason}
+use Rattle.sip_verdict.specs.inner.TablesTracking.{TablesTrack}
 use Rattle.sip_log.specs.Reading as log
 
 -- What is read.
@@ -46,40 +51,32 @@ MovesOn old new (Fault reason) = ⊤
 
 -- What was judged of it.
 
--- these entries were read of the input and this is observed of them; what was judged follows them
-pub record Judged (times : Times) (Follows : List (Observation KeyParts) → Type 0) (start : Option (List ℕ)) (now : log.ReaderState) : Type 0 where
+-- what is kept follows these entries: few messages where the end of the log is the aim, and where an entry is each, under the number of its first entry
+abbrev pub Follows : Aim → Texts → Tabled → ℕ → List Item → List (Observation KeyParts) → Type 0
+Follows aim.End texts t left items es = AreFollowed texts t left es
+Follows (aim.Entry number) texts t left items es = TablesTrack texts es t × AreNumbered items texts
+
+-- what is judged of an entry after those that it follows: it follows this one too, or this is its verdict
+abbrev pub FollowsOn : Aim → Texts → Tabled → ℕ → List Item → Item → List (Observation KeyParts) → Observation KeyParts → Option Verdict → Type 0
+FollowsOn way texts t left items i es e None = Follows way texts t left (items ++ i ∷ []) (es ++ e ∷ [])
+FollowsOn way texts t left items i es e (Some v) = HasTrouble t.times es e v
+
+-- what is judged of the entry that comes next
+abbrev pub JudgesOn : Aim → Texts → Tabled → ℕ → Texts → Tabled → ℕ → LogEntry → Option Verdict → Type 0
+JudgesOn way old t left new u rest entry verdict = (items : List Item) (es : List (Observation KeyParts)) → Follows way old t left items es
+    → length items ≡ length es → entry.number ≡ length es + 1 → newest_moment es ≤ entry.moment
+    → (e : Observation KeyParts) × Sees es (item entry) e × FollowsOn way new u rest items (item entry) es e verdict
+
+-- these entries were read of the input and this is observed of them, of so many as the count is; what is kept follows them, and none is later than the place
+pub record Walks (way : Aim) (start : Option (List ℕ)) (now : log.ReaderState) (count left : ℕ) (texts : Texts) (t : Tabled) : Type 0 where
   pub items : List Item
   pub es : List (Observation KeyParts)
   pub observed : AreSeen [] items es
-  pub follows : Follows es
+  pub follows : Follows way texts t left items es
   pub long : length items ≡ length es
-  pub read : HasRead start times items now
-
--- book and tables follow the entries that were read of the input, and the book numbers their messages; none of them is later than the place
-pub record Walks (start : Option (List ℕ)) (now : log.ReaderState) (texts : Texts) (t : Tabled) : Type 0 where
-  pub judged : Judged t.times (λ es. TablesTrack texts es t) start now
-  pub numbered : AreNumbered judged.items texts
-  pub newest : newest_moment judged.es ≤ now.last
-
--- so many entries were read up to this place, and the next one may come
-pub record MayStep (count : ℕ) (place : ProgressState) (texts : Texts) (t : Tabled) : Type 0 where
-  pub on : place.stage ≡ entries
-  pub counts : count ≡ place.count
-  pub few : count ≤ most_entries
-  pub may : MayTake texts t (count + 1) place.last
-
--- the verdict is that after so many entries: that the log ends there, or what is wrong with the next
-abbrev pub ComesAfter : ℕ → Verdict → Type 0
-ComesAfter count (Legal whole transactions) = whole ≡ count
-ComesAfter count (Malformed entry fault) = entry ≡ count + 1
-ComesAfter count (Breach entry transaction) = entry ≡ count + 1
-ComesAfter count (Undecided entry transaction) = entry ≡ count + 1
-ComesAfter count (FaultOfLog entry reason) = entry ≡ count + 1
-
--- a step after so many entries: one more was judged and is in no trouble, or this is the verdict
-abbrev pub WalksOn : Option (List ℕ) → ℕ → log.ReaderState → Texts → Tabled → Option Verdict → Type 0
-WalksOn start count now texts t None = Walks start now texts t
-WalksOn start count now texts t (Some v) = IfSome start (λ input. IsVerdictOf input v) × ComesAfter count v
+  pub counts : count ≡ length es
+  pub read : HasRead start t.times items now
+  pub newest : newest_moment es ≤ now.last
 
 -- what is listed of an entry that the verdict comes before: the verdict, or that the log has no such entry if it is legal
 abbrev pub listed_after : Verdict → Listing
@@ -88,3 +85,10 @@ listed_after (Malformed entry fault) = Stopped (Malformed entry fault)
 listed_after (Breach entry transaction) = Stopped (Breach entry transaction)
 listed_after (Undecided entry transaction) = Stopped (Undecided entry transaction)
 listed_after (FaultOfLog entry reason) = Stopped (FaultOfLog entry reason)
+
+-- what a walk over an input answers: the verdict of the input where the end is the aim, and where an entry is what is listed of it
+abbrev pub WalksTo : Aim → Option (List ℕ) → Result Listing Verdict → Type 0
+WalksTo aim.End start (Ok listing) = ⊥
+WalksTo aim.End start (Err v) = IfSome start (λ input. IsVerdictOf input v)
+WalksTo (aim.Entry number) start (Ok listing) = IfSome start (λ input. IsListingOf input number listing)
+WalksTo (aim.Entry number) start (Err v) = IfSome start (λ input. IsListingOf input number (listed_after v))

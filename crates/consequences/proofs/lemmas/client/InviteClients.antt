@@ -13,6 +13,7 @@ use Rattle.sip_standard.specs.Figure.{Figure, Change, keeps, gains}
 use Rattle.sip_standard.specs.InviteClient.{InviteClientPhase, Idle, Ended, Calling, Proceeding, Accepted, Completed, Receives, Sends, Satisfies, invite_client}
 use Rattle.sip_standard.specs.InviteClient3261 as without
 
+-- where a row leads: a phase, and what becomes of the debts
 abbrev pub Row : Type 0
 Row = InviteClientPhase × Change
 
@@ -47,7 +48,7 @@ pub record IsReceiving (R : Receiving) : Type 0 where
       Answers reliable request k e y
   pub completed : (p : Times) (reliable : Bool) (request : List ℕ) (set : ℕ) (k : Kind) (e : MachineEvent) (y : Row) → R p (Completed reliable request set) k e y →
       (code : ℕ) × (k ≡ Response code) × IsUnsuccessful code × (y ≡ (Completed reliable request set, gains true e.text))
-  -- there is one for each 300 to 699 while it waits for one
+  -- each 300 to 699 has a row in calling, in proceeding and in completed
   pub takes_calling : (p : Times) (w : Waiting) (code : ℕ) (e : MachineEvent) → IsUnsuccessful code → R p (Calling w) (Response code) e (Completed w.reliable w.request e.moment, gains true e.text)
   pub takes_proceeding : (p : Times) (reliable : Bool) (request : List ℕ) (cancel : Option ℕ) (code : ℕ) (e : MachineEvent) → IsUnsuccessful code →
       R p (Proceeding reliable request cancel) (Response code) e (Completed reliable request e.moment, gains true e.text)
@@ -71,6 +72,7 @@ completed_6026 : (p : Times) (reliable : Bool) (request : List ℕ) (set : ℕ) 
 completed_6026 p reliable request set (Response code) e y h = (code, refl, h.0, h.1)
 completed_6026 p reliable request set k e y h = absurd h
 
+-- the rows by RFC 6026 are such rows of a client
 pub receives_6026 : IsReceiving Receives
 receives_6026 = record {
   idle = λ p k e y h. h;
@@ -96,6 +98,7 @@ proceeding_3261 p reliable request cancel (Response code) e y (inl h) = (code, r
 proceeding_3261 p reliable request cancel (Response code) e y (inr h) = (code, refl, inr (inr h))
 proceeding_3261 p reliable request cancel k e y h = absurd h
 
+-- the rows by RFC 3261 alone are such rows of a client
 pub receives_3261 : IsReceiving without.Receives
 receives_3261 = record {
   idle = λ p k e y h. h;
@@ -116,6 +119,7 @@ pub pays-nothing : (x : InviteClientPhase) (k : Kind) (e : MachineEvent) (messag
 pays-nothing (Completed reliable request set) (Request Ack) e message h = (reliable, request, set, refl, refl, h)
 pays-nothing x k e message h = absurd h
 
+-- in completed what pays a response is an ACK for it
 pub pays-completed : (reliable : Bool) (request : List ℕ) (set : ℕ) (k : Kind) (e : MachineEvent) (message : List ℕ) → Satisfies (Completed reliable request set) k e message → (k ≡ Request Ack) × AckOf e.text request message
 pays-completed reliable request set (Request Ack) e message h = (refl, h)
 pays-completed reliable request set k e message h = absurd h
@@ -143,15 +147,18 @@ sends-proceeding p reliable request (Some first) (Request Cancel) e y h = (refl,
 sends-proceeding p reliable request None k e y h = absurd h
 sends-proceeding p reliable request (Some first) k e y h = absurd h
 
+-- in accepted a CANCEL alone is sent, and the phase stays
 pub sends-accepted : (p : Times) (set : ℕ) (k : Kind) (e : MachineEvent) (y : Row) → Sends p (Accepted set) k e y → (k ≡ Request Cancel) × (y ≡ (Accepted set, keeps))
 sends-accepted p set (Request Cancel) e y h = (refl, h)
 sends-accepted p set k e y h = absurd h
 
+-- in completed a CANCEL alone is sent in its turn, and the phase stays
 pub sends-completed : (p : Times) (reliable : Bool) (request : List ℕ) (set : ℕ) (k : Kind) (e : MachineEvent) (y : Row) → Sends p (Completed reliable request set) k e y →
     (k ≡ Request Cancel) × (y ≡ (Completed reliable request set, keeps))
 sends-completed p reliable request set (Request Cancel) e y h = (refl, h)
 sends-completed p reliable request set k e y h = absurd h
 
+-- after the end a CANCEL alone is sent, and the phase stays
 pub sends-ended : (p : Times) (k : Kind) (e : MachineEvent) (y : Row) → Sends p Ended k e y → (k ≡ Request Cancel) × (y ≡ (Ended, keeps))
 sends-ended p (Request Cancel) e y h = (refl, h)
 sends-ended p k e y h = absurd h

@@ -191,6 +191,7 @@ module _ (R : Receiving) (is : IsReceiving R) (p : Times) where
     as_it_takes = λ es e x y invited take. invited-steps e.action es e (record { phase = x.phase; owes = left_at e x }) y refl invited take;
   }
 
+  -- the INVITEs of a run lie no closer than the doubling intervals
   pub invites-are-spaced : (events : List MachineEvent) (m : ℕ) (y : Owing invite.InviteClientPhase) → Stands f p events m y → IsSpaced p next (passed test events)
   invites-are-spaced events m y stands =
       invited-spaced (passed test events) y.phase
@@ -263,6 +264,7 @@ module _ (p : Times) where
     as_it_takes = λ es e x y asked take. asked-steps e.action es e (record { phase = x.phase; owes = left_at e x }) y refl asked take;
   }
 
+  -- the requests of a run lie no closer than the doubling intervals, up to T2
   pub requests-are-spaced : (events : List MachineEvent) (m : ℕ) (y : Owing plain.PlainClientPhase) → Stands plain.plain_client p events m y → IsSpaced p next-plain (passed test-plain events)
   requests-are-spaced events m y stands =
       asked-spaced (passed test-plain events) y.phase

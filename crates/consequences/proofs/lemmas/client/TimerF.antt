@@ -179,6 +179,7 @@ module _ (p : Times) where
             let waits = emits-waits request (record { phase = found.from.phase; owes = left_at request found.from }) found.to began (step-of plain_client p Sent request found.from found.to sends.1.0 found.step) in
             run-keeps plain_client p (Asks request.moment) (asks-kept request.moment) after found.to request.moment m y (inl waits) found.goes
 
+    -- a request that has no final response is over once timer F has to have fired
     pub over-by-timer-f : (m : ℕ) (y : Owing PlainClientPhase) → All (λ g. ¬ (GetsResponse IsFinal g)) after → Stands plain_client p (before ++ request ∷ after) m y → close_at p request.moment (64 * p.t1) < m → y ≡ quiet Ended
     over-by-timer-f m y unanswered stands late = by (asked m y stands)
       where
@@ -187,6 +188,7 @@ module _ (p : Times) where
         by (inr (silent, inl ended)) = ended
         by (inr (silent, inr came)) = absurd (any-none (GetsResponse IsFinal) after unanswered came)
 
+    -- what is sent for a request that has no final response is sent by the last moment at which timer F may fire
     pub silent-after-timer-f : (e : MachineEvent) (y : Owing PlainClientPhase) → e.action ≡ Sent → StandsAfter plain_client p (before ++ request ∷ after) e y → e.moment ≤ close_at p request.moment (64 * p.t1)
     silent-after-timer-f e y sent (x, stands, take) = by (asked e.moment x stands)
       where

@@ -26,6 +26,7 @@ lasts f is p events m x stands =
       halves.1,
     )
 
+-- what stands at a moment lasts until it
 pub what_stands_lasts : (machine : MachineKind) (p : Times) (events : List MachineEvent) (m : ℕ) (x : Owing (transaction_of machine).Phase) →
     Stands (transaction_of machine).figure p events m x → Lasts (transaction_of machine).figure p x m
 what_stands_lasts machine p events m x stands = lasts (transaction_of machine).figure (coded_holds machine).is_figure p events m x stands

@@ -4,10 +4,12 @@ use Rattle.std.specs.List.{Any}
 use Rattle.std.proofs.lemmas.List.Elements.{All-nil, All-cons, All-head, All-tail, All-contains, Contains-append_left, Contains-append_right, Contains-append_cases}
 use Rattle.std.proofs.lemmas.List.Quantifiers.{Any-push}
 
+-- what each element of two lists has, each of the first has
 pub All-front : {X : Type 0} (P : X → Type 0) (xs ys : List X) → All P (xs ++ ys) → All P xs
 All-front P [] ys all = All-nil P
 All-front P (x ∷ xs) ys all = All-cons P x xs (All-head P x (xs ++ ys) all) (All-front P xs ys (All-tail P x (xs ++ ys) all))
 
+-- what each element of two lists has, each of the second has
 pub All-back : {X : Type 0} (P : X → Type 0) (xs ys : List X) → All P (xs ++ ys) → All P ys
 All-back P [] ys all = all
 All-back P (x ∷ xs) ys all = All-back P xs ys (All-tail P x (xs ++ ys) all)
@@ -16,9 +18,11 @@ All-back P (x ∷ xs) ys all = All-back P xs ys (All-tail P x (xs ++ ys) all)
 pub All-last : {X : Type 0} (P : X → Type 0) (xs : List X) (x : X) → All P (xs ++ x ∷ []) → P x
 All-last P xs x all = All-head P x [] (All-back P xs (x ∷ []) all)
 
+-- where the last element has it, some element has it
 pub any-last : {X : Type 0} (P : X → Type 0) (xs : List X) (x : X) → P x → Any P (xs ++ x ∷ [])
 any-last P xs x holds = Any-push P xs x holds
 
+-- where an element has it, one of the longer list has it
 pub any-earlier : {X : Type 0} (P : X → Type 0) (xs ys : List X) → Any P xs → Any P (xs ++ ys)
 any-earlier P xs ys any = let (k, x, low, at, holds) = any in let c = Contains-append_left xs ys x (k, low, at) in (c.0, x, c.1, c.2, holds)
 
@@ -29,13 +33,15 @@ any-none P xs none any = let (k, x, low, at, holds) = any in All-contains (λ y.
 false_true : ¬ (false ≡ true)
 false_true is = cc
 
+-- a list has the element in its middle
 pub contains-here : {X : Type 0} (xs ys : List X) (x : X) → Contains (xs ++ x ∷ ys) x
 contains-here xs ys x = Contains-append_right xs (x ∷ ys) x (0, omega arith, refl)
 
+-- a list with one more before it has what it had
 pub contains-later : {X : Type 0} (y : X) (ys : List X) (x : X) → Contains ys x → Contains (y ∷ ys) x
 contains-later y ys x c = Contains-append_right (y ∷ []) ys x c
 
--- it is in front, or it is this one, or it comes after
+-- an element of a list is the one in its middle, or it is among the others
 pub contains-cases : {X : Type 0} (xs ys : List X) (y x : X) → Contains (xs ++ y ∷ ys) x → Contains (xs ++ ys) x ⊎ (y ≡ x)
 contains-cases xs ys y x c = by (Contains-append_cases xs (y ∷ ys) x c)
   where

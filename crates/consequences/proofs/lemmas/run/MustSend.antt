@@ -34,5 +34,6 @@ module _ (debt : Owed) (must : debt.must ≡ true) where
       true-false : ¬ (true ≡ false)
       true-false same = cc
 
+  -- while the debt is there no moment past its deadline is reached
   pub in-time : {X : Type 0} (f : Figure X) (p : Times) (x : Owing X) (m : ℕ) → Contains x.owes debt → Lasts f p x m → m ≤ debt.deadline
   in-time f p x m owed lasts = All-contains (λ o. o.must ≡ true → m ≤ o.deadline) x.owes debt lasts.2 owed must

@@ -34,6 +34,7 @@ nothing-to-pay P left pays = by pays.before pays.whole
     by (o ∷ os) is = cc
 
 module _ {X : Type 0} (f : Figure X) (p : Times) (Wakes : Kind → Type 0) (asleep : IsAsleep f p Wakes) where
+  -- a server that sleeps sends nothing
   pub asleep-emits : (e : MachineEvent) (y : Owing X) → ¬ (Emits f p e (quiet f.idle) y)
   asleep-emits e y (inl (row, is_row, to)) = asleep.silent e.kind e row is_row
   asleep-emits e y (inr (inl (left, pays, to))) = nothing-to-pay _ left pays
@@ -43,6 +44,7 @@ module _ {X : Type 0} (f : Figure X) (p : Times) (Wakes : Kind → Type 0) (asle
   asleep-fails true e y fails = asleep-emits e fails.0.0 fails.0.1
   asleep-fails false e y emits = asleep-emits e y emits
 
+  -- a step of a server that sleeps leaves it asleep, or is that of a request that wakes it
   pub asleep-steps : (a : Action) (e : MachineEvent) (y : Owing X) → e.action ≡ a → Steps f p a e (quiet f.idle) y → (y ≡ quiet f.idle) ⊎ ((e.action ≡ Received) × Wakes e.kind)
   asleep-steps Received e y was (inl (row, is_row, to)) = inr (was, asleep.woken e.kind e row is_row)
   asleep-steps Received e y was (inr (none, same)) = inl same
@@ -73,6 +75,7 @@ module _ {X : Type 0} (f : Figure X) (p : Times) (Wakes : Kind → Type 0) (asle
           by (inl same) = same
           by (inr wakes) = absurd (All-last (λ g. ¬ ((g.action ≡ Received) × Wakes g.kind)) es e all wakes)
 
+  -- a run that begins asleep, without a request that wakes it, ends asleep
   pub sleeps-on : (es : List MachineEvent) (x : Owing X) (h m : ℕ) (y : Owing X) → x ≡ quiet f.idle → All (λ g. ¬ ((g.action ≡ Received) × Wakes g.kind)) es → Runs f p x h es m y → y ≡ quiet f.idle
   sleeps-on es x h m y is all run = run-keeps f p Sleeps sleeps-kept es x h m y (λ none. is) run all
 
@@ -86,9 +89,11 @@ module _ {X : Type 0} (f : Figure X) (p : Times) (Wakes : Kind → Type 0) (asle
 
 -- The three servers.
 
+-- an INVITE
 abbrev pub IsInvite : Kind → Type 0
 IsInvite k = k ≡ Request Invite
 
+-- a request, whatever its method
 abbrev pub IsAnyRequest : Kind → Type 0
 IsAnyRequest k = (method : Method) × (k ≡ Request method)
 
@@ -96,6 +101,7 @@ corrected-woken : (p : Times) (k : Kind) (e : MachineEvent) (y : corrected.Invit
 corrected-woken p (Request Invite) e y h = refl
 corrected-woken p k e y h = absurd h
 
+-- the INVITE server by RFC 6026 sleeps until an INVITE comes
 pub corrected-asleep : (p : Times) → IsAsleep corrected.invite_server p IsInvite
 corrected-asleep p = record { ended_is = refl; no_end = refl; silent = λ k e y h. h; woken = corrected-woken p; unmoved = λ k h. h }
 
@@ -103,6 +109,7 @@ without-stays : (k : Kind) → ¬ (without.Stays (without.In corrected.Idle fals
 without-stays (Response code) h = cc
 without-stays (Request method) h = absurd h
 
+-- the INVITE server by RFC 3261 alone sleeps until an INVITE comes
 pub without-asleep : (p : Times) → IsAsleep without.invite_server_3261 p IsInvite
 without-asleep p =
     record { ended_is = refl; no_end = refl; silent = λ k e y h. h; woken = λ k e y h. corrected-woken p k e h.0 h.1; unmoved = without-stays }
@@ -111,5 +118,6 @@ plain-woken : (p : Times) (k : Kind) (e : MachineEvent) (y : plain.PlainServerPh
 plain-woken p (Request method) e y h = (method, refl)
 plain-woken p k e y h = absurd h
 
+-- the non-INVITE server sleeps until a request comes
 pub plain-asleep : (p : Times) → IsAsleep plain.plain_server p IsAnyRequest
 plain-asleep p = record { ended_is = refl; no_end = refl; silent = λ k e y h. h; woken = plain-woken p; unmoved = λ k h. h }

@@ -125,6 +125,7 @@ module _ {X : Type 0} (f : Figure X) (p : Times) (held : InviteServerPhase → X
             to ∙ ap (λ s. record { phase = s.0; owes = changed p invite.moment s.1 [] }) (leads ∙ ap (λ s. (held s.0, s.1)) r_is)
         by (inr (none, stays)) = absurd (none (quiet (held (Proceeding invite.reliable invite.moment None))) ((held (Proceeding invite.reliable invite.moment None), keeps), opening, refl))
 
+    -- once 200 ms and late are over after an INVITE, a response was sent in time, or the element began anew in time
     pub answered-in-time : (before after : List MachineEvent) (m : ℕ) (y : Owing X) → All (λ g. ¬ (GetsRequest Invite g)) before → GetsRequest Invite invite →
         Stands f p (before ++ invite ∷ after) m y → close_at p invite.moment 200 < m → Any (InTime (SendsResponse IsAnyCode)) after ⊎ Any (InTime IsRestart) after
     answered-in-time before after m y none gets stands late = by-cut (cut f p (quiet f.idle) 0 before invite after m y (stands-run f p (before ++ invite ∷ after) m y stands))

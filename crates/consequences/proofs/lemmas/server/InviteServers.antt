@@ -11,6 +11,7 @@ use Rattle.sip_standard.specs.InviteServer.{InviteServerPhase, Idle, Proceeding,
 use Rattle.sip_standard.specs.InviteServer as corrected
 use Rattle.sip_standard.specs.InviteServer3261 as without
 
+-- where a row leads: a phase, and what becomes of the debts
 abbrev pub Row : Type 0
 Row = InviteServerPhase × Change
 
@@ -33,6 +34,7 @@ paid-6026 : (x : InviteServerPhase) (k : Kind) (e : MachineEvent) (message : Lis
 paid-6026 x (Response code) e message h = h
 paid-6026 x (Request method) e message h = absurd h
 
+-- the server by RFC 6026 is one
 pub is-server-6026 : (p : Times) → IsServer corrected.invite_server p (λ x. x)
 is-server-6026 p = record {
   idle = refl;
@@ -70,6 +72,7 @@ unmoved-3261 x (Response code) h = never h.0
     never is = cc
 unmoved-3261 x (Request method) h = absurd h
 
+-- the server by RFC 3261 alone is one, before a 2xx
 pub is-server-3261 : (p : Times) → IsServer without.invite_server_3261 p first_in
 is-server-3261 p = record {
   idle = refl;
@@ -96,6 +99,7 @@ pub data ReceivedRow : InviteServerPhase → Kind → MachineEvent → Row → T
   acknowledged : (e : MachineEvent) (reliable : Bool) (final : List ℕ) (set repeat interval : ℕ) →
       ReceivedRow (Completed reliable final set repeat interval) (Request Ack) e (Confirmed reliable e.moment, keeps)
 
+-- each row of a received request is one of these
 pub received-row : (p : Times) (x : InviteServerPhase) (k : Kind) (e : MachineEvent) (row : Row) → corrected.Receives p x k e row → ReceivedRow x k e row
 received-row p Idle (Request Invite) e row h = subst (ReceivedRow Idle (Request Invite) e) (sym h) (comes e)
 received-row p (Proceeding reliable set (Some last)) (Request Invite) e row (inl h) =
@@ -121,6 +125,7 @@ pub data SentRow (p : Times) : InviteServerPhase → Kind → MachineEvent → R
   repeats : (e : MachineEvent) (reliable : Bool) (final : List ℕ) (set repeat interval : ℕ) (k : Kind) → e.text ≡ final →
       SentRow p (Completed reliable final set repeat interval) k e (Completed reliable final set e.moment (min (2 * interval) p.t2), keeps)
 
+-- each row of a response that is sent is one of these
 pub sent-row : (p : Times) (x : InviteServerPhase) (k : Kind) (e : MachineEvent) (row : Row) → corrected.Sends p x k e row → SentRow p x k e row
 sent-row p (Proceeding reliable set last) (Response code) e row (inl h) =
     subst (SentRow p (Proceeding reliable set last) (Response code) e) (sym h.1) (provisional e reliable set last code h.0)

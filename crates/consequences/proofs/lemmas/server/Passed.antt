@@ -107,6 +107,7 @@ module _ (p : Times) where
             final-emits phase (left_at final (record { phase = first_in phase; owes = owes })) y (opens-left f p first_in (is-server-3261 p) before final final.moment phase (record { phase = first_in phase; owes = owes }) opens)
             (step-of f p Failed final (record { phase = first_in phase; owes = owes }) y refused (subst (λ w. Takes f p w final y) same take))
 
+    -- after its first final response, a 2xx, and until an INVITE comes again, a server sends 2xx alone
     pub successes-alone : (after : List MachineEvent) (e : MachineEvent) (y : Owing InviteServer3261Phase) → All (λ g. ¬ (SendsResponse IsFinal g)) before → All (λ g. ¬ (GetsRequest Invite g)) after
         → e.action ≡ Sent → StandsAfter f p (before ++ final ∷ after) e y → IsResponse IsSuccess e
     successes-alone after e y first none sent (x, stands, take) =

@@ -19,21 +19,26 @@ IsOut e = (e.action ≡ Sent) ⊎ (e.action ≡ Failed)
 abbrev pub IsSaid : List MachineEvent → List ℕ → Type 0
 IsSaid es message = Any (λ g. SendsResponse IsProvisional g × (g.text ≡ message)) es
 
+-- the last provisional response, if there is one, was sent
 abbrev pub IsSaidLast : List MachineEvent → Option (List ℕ) → Type 0
 IsSaidLast es None = Unit {0}
 IsSaidLast es (Some last) = IsSaid es last
 
+-- what all debts have, all have that are left once one is paid
 pub all-without : (P Q : Owed → Type 0) (xs ys : List Owed) → IsWithoutFirst P xs ys → All Q xs → All Q ys
 all-without P Q xs ys a all =
     let halves : All Q (a.before ++ a.first ∷ a.after) = subst (All Q) a.whole all in
     subst (All Q) (sym a.rest) (All-append Q a.before a.after (All-front Q a.before (a.first ∷ a.after) halves) (All-tail Q a.first a.after (All-back Q a.before (a.first ∷ a.after) halves)))
 
+-- what all debts have, the one has that is paid
 pub all-first : (P Q : Owed → Type 0) (xs ys : List Owed) (a : IsWithoutFirst P xs ys) → All Q xs → Q a.first
 all-first P Q xs ys a all = All-head Q a.first a.after (All-back Q a.before (a.first ∷ a.after) (subst (All Q) a.whole all))
 
+-- what was said stays said
 pub said-later : (es more : List MachineEvent) (message : List ℕ) → IsSaid es message → IsSaid (es ++ more) message
 said-later es more message said = any-earlier (λ g. SendsResponse IsProvisional g × (g.text ≡ message)) es more said
 
+-- the last provisional response stays said
 pub said-last-later : (es more : List MachineEvent) (last : Option (List ℕ)) → IsSaidLast es last → IsSaidLast (es ++ more) last
 said-last-later es more None said = tt
 said-last-later es more (Some last) said = said-later es more last said

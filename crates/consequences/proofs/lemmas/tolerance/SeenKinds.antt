@@ -73,6 +73,7 @@ module _ (one_said : (text : List ℕ) (s t : Said) → Says text (gives s) → 
   two-kinds a b (inr (s, says, kind, long)) (inr (t, tells, other, low)) same =
       kind ∙ ap (λ r. kind_of r.start) (one_said b.text s t (subst (λ text. Says text (gives s)) same says) tells) ∙ sym other
 
+  -- the events of a transaction with equal bytes are of one kind
   pub events-are-of-one-kind : (format : Format) (items : List Item) (es : List (Observation KeyParts)) (key : KeyParts) → InOrder format 0 items → AreSeen [] items es → AreOneKind (events_for key es)
   events-are-of-one-kind format items es key order seen a b in-a in-b same =
       let known = events-known key es (all-known format 0 [] items es order seen) in

@@ -24,6 +24,7 @@ use Rattle.consequences.proofs.lemmas.server.Said.{all-without}
 use Rattle.consequences.proofs.lemmas.run.Running.{IsKept, left_at, stands-run, run-keeps}
 use Rattle.consequences.proofs.lemmas.tolerance.Wider.{IsSorted}
 
+-- two texts are the same or are not
 pub same-bytes : (a b : List ℕ) → Dec (a ≡ b)
 same-bytes a b = by (bytes_eq a b) (bytes_eq-Decides a b)
   where
@@ -44,6 +45,7 @@ IsFirm drops = Unit {0}
 IsFirm (gains true message) = Unit {0}
 IsFirm (gains false message) = ⊥
 
+-- no row of the figure makes owed what only may be sent
 pub record AreFirm {X : Type 0} (f : Figure X) (p : Times) : Type 0 where
   pub received : (x : X) (k : Kind) (e : MachineEvent) (row : X × Change) → f.Receives p x k e row → IsFirm row.1
   pub sent : (x : X) (k : Kind) (e : MachineEvent) (row : X × Change) → f.Sends p x k e row → IsFirm row.1
@@ -90,6 +92,7 @@ module _ {X : Type 0} (f : Figure X) (p : Times) (firm : AreFirm f p) where
       by : ¬ (true ≡ false)
       by same = cc
 
+  -- of such a figure nothing that is owed only may be sent
   pub firm-sorted : IsSorted f p (λ es x message. ⊥)
   firm-sorted = record {
     sorted = λ es m y one stands. All-weaker (λ o. o.must ≡ true) (λ o. (o.must ≡ true → ¬ ⊥) × (o.must ≡ false → ⊥)) (λ o must. (λ is never. never, λ may. true-false o must may)) y.owes
@@ -140,12 +143,15 @@ plain-sent p (plain.Trying w) (Request method) e row h = rw h.1 tt
 plain-sent p (plain.Proceeding w) (Request method) e row h = rw h.1 tt
 plain-sent p x k e row h = absurd h
 
+-- the INVITE client by RFC 6026 is sorted so
 pub client-sorted : (p : Times) → IsSorted client.invite_client p (λ es x message. ⊥)
 client-sorted p = firm-sorted client.invite_client p (record { received = client-received p; sent = client-sent p })
 
+-- the INVITE client by RFC 3261 alone is sorted so
 pub client-3261-sorted : (p : Times) → IsSorted client_3261.invite_client_3261 p (λ es x message. ⊥)
 client-3261-sorted p = firm-sorted client_3261.invite_client_3261 p (record { received = client-3261-received p; sent = client-sent p })
 
+-- the non-INVITE client is sorted so
 pub plain-client-sorted : (p : Times) → IsSorted plain.plain_client p (λ es x message. ⊥)
 plain-client-sorted p = firm-sorted plain.plain_client p (record { received = plain-received p; sent = plain-sent p })
 
@@ -154,6 +160,7 @@ plain-client-sorted p = firm-sorted plain.plain_client p (record { received = pl
 abbrev IsTold : Owed → Type 0
 IsTold o = (o.must ≡ true → ¬ (Is100 o.message)) × (o.must ≡ false → Is100 o.message)
 
+-- what only may be sent in a phase: in proceeding a 100, elsewhere whatever is owed
 abbrev pub MayIn : server.InviteServerPhase → List ℕ → Type 0
 MayIn (server.Proceeding reliable set last) message = Is100 message
 MayIn x message = Unit {0}
@@ -247,6 +254,7 @@ module _ (p : Times) where
   both-pay x (Request method) e a b one other = absurd one
   both-pay x (Response code) e a b one other = other ∙ sym one
 
+  -- the INVITE server by RFC 6026 is sorted by that
   pub server-sorted : IsSorted server.invite_server p (λ es x message. MayIn x message)
   server-sorted = record {
     sorted = λ es m y one stands. told y.phase y.owes
@@ -261,6 +269,7 @@ module _ (p : Times) where
   AreSorted3261 server_3261.Passed owes = owes ≡ []
   AreSorted3261 (server_3261.In x again) owes = AreSorted x owes
 
+  -- what only may be sent in a phase of the server by RFC 3261 alone
   abbrev pub MayIn3261 : server_3261.InviteServer3261Phase → List ℕ → Type 0
   MayIn3261 server_3261.Passed message = Unit {0}
   MayIn3261 (server_3261.In x again) message = MayIn x message
@@ -335,6 +344,7 @@ module _ (p : Times) where
   both-pay-3261 x (Request method) e a b one other = absurd one
   both-pay-3261 x (Response code) e a b one other = other.1 ∙ sym one.1
 
+  -- the INVITE server by RFC 3261 alone is sorted by that
   pub server-3261-sorted : IsSorted server_3261.invite_server_3261 p (λ es x message. MayIn3261 x message)
   server-3261-sorted = record {
     sorted = λ es m y one stands. told-3261 y.phase y.owes

@@ -38,6 +38,7 @@ AreSorted es (Trying reliable) owes = owes ≡ []
 AreSorted es (Proceeding reliable last) owes = IsSaid es last × All (IsTold es) owes
 AreSorted es (Completed reliable final set) owes = IsFinalSaid es final × All (IsFinalOr es final) owes
 
+-- what only may be sent in a phase: in proceeding a 100, in completed a provisional response, elsewhere whatever is owed
 abbrev pub May : List MachineEvent → PlainServerPhase → List ℕ → Type 0
 May es (Proceeding reliable last) message = Is100 message
 May es (Completed reliable final set) message = IsSaid es message
@@ -155,6 +156,7 @@ module _ (p : Times) where
       All-weaker (IsFinalOr es final) (λ o. (o.must ≡ true → ¬ (IsSaid es o.message)) × (o.must ≡ false → IsSaid es o.message))
       (λ o is. (λ must said. not-said es final one sorted.0 (subst (IsSaid es) (is.0 must) said), is.1)) owes sorted.1
 
+  -- the non-INVITE server is sorted by that
   pub plain-server-sorted : IsSorted plain_server p May
   plain-server-sorted = record {
     sorted = λ es m y one stands. told es y.phase y.owes one (run-keeps plain_server p (λ es h x. AreSorted es x.phase x.owes) kept es (quiet Idle) 0 m y refl (stands-run plain_server p es m y stands));

@@ -76,6 +76,7 @@ module _ (p : Times) (early late : ℕ) (earlier : p.early ≤ early) (later : p
   client-sends-by (client.Accepted set) h all = all
   client-sends-by (client.Completed reliable request set) h all = all
 
+  -- the INVITE client by RFC 6026 is steady
   pub client-steady : IsSteady client.invite_client p q
   client-steady = record {
     received = λ x k e row h. h;
@@ -86,6 +87,7 @@ module _ (p : Times) (early late : ℕ) (earlier : p.early ≤ early) (later : p
     sends_by = client-sends-by;
   }
 
+  -- the INVITE client by RFC 3261 alone is steady
   pub client-3261-steady : IsSteady client_3261.invite_client_3261 p q
   client-3261-steady = record {
     received = λ x k e row h. h;
@@ -124,6 +126,7 @@ module _ (p : Times) (early late : ℕ) (earlier : p.early ≤ early) (later : p
   plain-sends-by plain.Ended h all = all
   plain-sends-by (plain.Completed reliable set) h all = all
 
+  -- the non-INVITE client is steady
   pub plain-client-steady : IsSteady plain.plain_client p q
   plain-client-steady = record {
     received = λ x k e row h. h;
@@ -164,6 +167,7 @@ module _ (p : Times) (early late : ℕ) (earlier : p.early ≤ early) (later : p
   server-sends-by (server.Accepted set) h all = all
   server-sends-by (server.Confirmed reliable set) h all = all
 
+  -- the INVITE server by RFC 6026 is steady
   pub server-steady : IsSteady server.invite_server p q
   server-steady = record {
     received = λ x k e row h. h;
@@ -193,6 +197,7 @@ module _ (p : Times) (early late : ℕ) (earlier : p.early ≤ early) (later : p
   server-3261-sends-by server_3261.Passed h all = all
   server-3261-sends-by (server_3261.In x again) h all = server-sends-by x h all
 
+  -- the INVITE server by RFC 3261 alone is steady
   pub server-3261-steady : IsSteady server_3261.invite_server_3261 p q
   server-3261-steady = record {
     received = λ x k e row h. h;
@@ -215,6 +220,7 @@ module _ (p : Times) (early late : ℕ) (earlier : p.early ≤ early) (later : p
   plain-server-closes (plain_server.Trying reliable) h closing = tt
   plain-server-closes (plain_server.Proceeding reliable last) h closing = tt
 
+  -- the non-INVITE server is steady
   pub plain-server-steady : IsSteady plain_server.plain_server p q
   plain-server-steady = record {
     received = λ x k e row h. h;

@@ -1,18 +1,26 @@
-use Rattle.std.proofs.Common.{◌≡◌, ◌∙◌, ◌∷◌, true, ℕ, List, codes, drop, map, string_bytes, sym, ap, rules}
+use Rattle.std.proofs.Common.{◌≡◌, ◌∙◌, true, false, Some, codes, map, string_bytes, sym, ap, subst, rules}
 use Rattle.std.proofs.lemmas.List.{take_rest}
-use Rattle.sip_survey_program.specs.PartWords.{part_word}
-use Rattle.sip_survey_program.specs.Asked.{names_part}
-use Rattle.sip_survey_program.proofs.AskedLemmas.{part_split}
+use Rattle.sip_survey_program.specs.Asked.{IsRestFor, begin_with}
+use Rattle.sip_survey_program.proofs.AskedLemmas.{no_forget, split_first, with_forget, without_forget}
 use Rattle.sip_survey_program.proofs.asking.asked.Goals as goal
+
+pub returns-then-not-names_forget : goal.returns-then-not-names_forget
+returns-then-not-names_forget c =
+    let other : begin_with (codes "--forget") (map string_bytes c.args.words.now) ≡ false = search rules in
+    without_forget (map string_bytes c.args.words.now) c.rest_of.result other c.rest_of.ensures
+
+pub returns-in_err-age : goal.returns-in_err-age
+returns-in_err-age c =
+    let words = c.args.words.now in
+    let names : begin_with (codes "--forget") (map string_bytes words) ≡ true = search rules in
+    let split = split_first string_bytes (codes "--forget") words c.index-words-1.result names c.index-words-1.is in
+    rw c.from_residual.ensures (no_forget (map string_bytes words) _ _ split (λ age low is. c.in_err-age.ensures age low (c.as_str.ensures.value ∙ is)))
 
 pub returns : goal.returns
 returns c =
     let words = c.args.words.now in
-    let names : names_part (map string_bytes words) ≡ true = search rules in
-    let part = c.in_ok-part.ensures in
-    let split = part_split string_bytes words c.index-words-1.result names c.index-words-1.is in
-    let log = ap (map string_bytes) (sym (take_rest words 2)) ∙ c.in_ok-log-2.ensures in (
-      split ∙ ap (λ (w : List ℕ). codes "--part" ∷ w ∷ map string_bytes (drop 2 words)) (sym c.as_str.ensures.value ∙ part.1)
-          ∙ ap (λ (t : List (List ℕ)). codes "--part" ∷ part_word c.in_ok-part.part ∷ t) log,
-      part.0,
-    )
+    let names : begin_with (codes "--forget") (map string_bytes words) ≡ true = search rules in
+    let split = split_first string_bytes (codes "--forget") words c.index-words-1.result names c.index-words-1.is in
+    let age = c.in_ok-age.ensures in
+    with_forget (map string_bytes words) _ _ c.in_ok-age.age c.rest_of-2.result split age.0 (sym c.as_str.ensures.value ∙ age.1)
+    (subst (λ ws. IsRestFor (Some c.in_ok-age.age) ws c.rest_of-2.result) (ap (map string_bytes) (take_rest words 2)) c.rest_of-2.ensures)

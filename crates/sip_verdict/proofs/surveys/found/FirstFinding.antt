@@ -121,6 +121,7 @@ verdict_after p es (item ∷ items) close v found end sound (e, sees, inr (forme
     verdict_after p (es ++ e ∷ []) items close v later end (all_sound_push p es e sound runs narrow) left (subst (λ g. IsSurveyAfter p (es ++ g ∷ []) items close later end) same more)
     ∙ ap (λ fs. verdict_in fs end) (sym (is ∙ ap (λ hs. hs ++ later) none))
 
+-- a verdict of an input is the one in its survey
 pub verdict_is_in : (input : List ℕ) (v : Verdict) (found : List Finding) (end : SurveyEnd) → IsVerdictOf input v → IsSurveyOf input found end → v ≡ verdict_in found end
 verdict_is_in input v found end (inl a) (inl b) = a.1 ∙ sym (ap₂ verdict_in b.1 b.2)
 verdict_is_in input v found end (inl a) (inr (p, items, close, says, is)) = absurd (a.0 says.format p _ says.header)

@@ -56,6 +56,7 @@ module _ (texts : Texts) (event : NumberedEvent) where
       (p : Times) (es : List (Observation KeyParts)) (e : Observation KeyParts) (waits : List ℕ) → t.times ≡ p → newest_moment es ≤ event.moment → is_among waits number ≡ false
       → AreConcerned texts p es e event (number ∷ waits) t.keys → ArePassing texts p es e (is_among (number ∷ waits)) t b → ArePassing texts p es e (is_among waits) u c
 
+  -- where one hears first, a list of one number has heard
   pub hears_one : (number : ℕ) (t : Tabled) (b : Troubled) (u : Tabled) (c : Troubled) → HearsFirst number t b u c → HearsNumbers texts event (number ∷ []) t b u c
   hears_one number t b u c heard p es e times late apart concerned h = heard p es e [] times late refl concerned h
 

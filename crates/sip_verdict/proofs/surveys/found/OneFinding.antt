@@ -33,7 +33,7 @@ one_finding p key front e more last order first (inr widens) = stays_in_trouble 
 pub trouble_breaks : (p : Times) (key : KeyParts) (es : List (Observation KeyParts)) (e : Observation KeyParts) → IsSound p es key → ¬ (IsSound p (es ++ e ∷ []) key) → ¬ (¬ (Breaks p es e key ⊎ Widens p es e key))
 trouble_breaks p key es e sound unsound none = none (inl (sound, λ runs. unsound (sound_push p es e key sound runs (λ wide. none (inr (sound, wide))))))
 
--- where none is found at any entry, it is in no trouble
+-- where nothing is found of a transaction at any entry, it is in no trouble
 no_finding : (p : Times) (key : KeyParts) (done rest es : List (Observation KeyParts)) → es ≡ done ++ rest → ¬ (¬ (IsSound p done key))
     → ((front : List (Observation KeyParts)) (e : Observation KeyParts) (more : List (Observation KeyParts)) → es ≡ front ++ e ∷ more → ¬ (Breaks p front e key ⊎ Widens p front e key)) → ¬ (¬ (IsSound p es key))
 no_finding p key done [] es is sound none = λ never. sound (λ s. never (subst (λ xs. IsSound p xs key) (sym (is ∙ append-nil done)) s))

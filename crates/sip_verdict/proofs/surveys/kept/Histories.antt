@@ -37,6 +37,7 @@ use Rattle.sip_verdict.proofs.surveys.passing.Begun.{AreMore, more_each, none_mo
 use Rattle.sip_verdict.proofs.tables.TablesPassing.{at_place, set-place}
 use Rattle.sip_verdict.proofs.tables.TablesTouching.{have_numbers, push-place, same_numbers}
 
+-- what is observed of entries
 abbrev pub Entries : Type 0
 Entries = List (Observation KeyParts)
 
@@ -181,6 +182,7 @@ module _ (entry : ℕ) (text : List ℕ) where
   notes_long (k ∷ ks) [] t u old new touched long notes = absurd touched
   notes_long (k ∷ ks) (n ∷ ns) t u old new (between, one, rest) long (mid, note, notes) = notes_long ks ns between u mid new rest (note_long k n t between old mid one long note).0 notes
 
+  -- what stands at a place after the entry was noted, by what stood there before and whether it was among the numbers
   pub notes_at : (ks : List KeyParts) (ns : List ℕ) (t u : Tabled) (old new : List History) → TouchesEach ks ns t u → length old ≡ length t.keys → NotesEach entry text ns old new
       → (i : ℕ) (h : History) → slice_get new i ≡ Some h → IsAt entry text old i h (is_among ns (i + 1))
   notes_at [] [] t u old new same long is i h here = ap (λ hs. slice_get hs i) (sym is) ∙ here
@@ -229,6 +231,7 @@ module _ (es : Entries) (e : Observation KeyParts) (b c : Histories) (number : �
       let same : branch ≡ there = subst (λ o. IfSome o (λ x. branch ≡ x)) has (spells s said) in
       (es, e, [], refl, is, none_of key es none, n_is ∙ counts, (s, subst (λ x. Says x (gives s)) (sym told) said, has ∙ ap Some (sym same)))
 
+  -- the histories follow the entries with the one more that was noted
   pub heard_histories : AreHistories (es ++ e ∷ []) c
   heard_histories = record {
     long = notes_long number text ks ns t w b.each.items c.each.items touched t_long notes ∙ ap length w_keys;
@@ -277,6 +280,7 @@ heard_says direction i e (has_no_cookie s says lacks is) key of = absurd (some_k
 heard_says direction i e (is_heard s keys says fine concerns is) key of =
     (s, says, branch_of s direction keys concerns (some_keys key keys (sym (ap (λ o. list_any (same_key key) o.keys) is) ∙ of)))
 
+-- a message that concerns a key says a branch
 pub message_says : (es : Entries) (i : Item) (e : Observation KeyParts) → has_message i.action ≡ true → Sees es i e → (key : KeyParts) → is_of key e ≡ true
     → (s : Said) × Says i.text (gives s) × ((branch : List ℕ) × (s.via.branch ≡ Some branch))
 message_says es i e says seen key of =
@@ -298,11 +302,13 @@ touched_low (k ∷ ks) (n ∷ ns) t u (between, one, rest) = All-cons (λ i. 0 <
 pub led_spells : (text branch : List ℕ) → led_branch text ≡ Some branch → SpellsBranch text branch
 led_spells text branch led s says = subst (λ o. IfSome o (λ spelled. branch ≡ spelled)) (sym (led_found text branch s says led)) refl
 
+-- of a message that is read, the branch of its top Via is the one that it spells
 pub read_spells : (text : List ℕ) (r : Said) (branch : Option (List ℕ)) (spelled : List ℕ) → Says text (gives r) → r.via.branch ≡ branch → IfSome branch (λ b. spelled ≡ b) → SpellsBranch text spelled
 read_spells text r branch spelled says is told s other = by s.via.branch (ap (λ x. x.via.branch) (one_said text s r other says) ∙ is)
   where
     by : (o : Option (List ℕ)) → o ≡ branch → IfSome o (λ b. spelled ≡ b)
     by o same = subst (λ x. IfSome x (λ b. spelled ≡ b)) (sym same) told
 
+-- a message with a fault spells any branch: it says none
 pub fault_spells : (text : List ℕ) (fault : Fault) (spelled : List ℕ) → Says text (stops fault) → SpellsBranch text spelled
 fault_spells text fault spelled has s says = absurd (fault_says_none text fault s has says)

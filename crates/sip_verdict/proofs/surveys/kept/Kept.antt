@@ -42,6 +42,7 @@ surveyed_none p = record {
     none : {text : List ℕ} → IsStillNamed p [] text → ⊥
     none {text} h = no_events_silent p 0 (machine_of_key p.rules h.key) [] text refl (h.state, h.stands, h.names)
 
+-- an empty book and empty tables are a survey of no entries
 pub surveyed_begun : (p : Times) (texts : Texts) (t : Tabled) (deaf : List Bool) → texts ≡ [] → t ≡ record { times = p; keys = []; sets = []; records = [] } → deaf ≡ [] → AreSurveyed texts t deaf 0 []
 surveyed_begun p texts t deaf no_texts no_tables no_deaf =
     subst (λ x. AreSurveyed x t deaf 0 []) (sym no_texts) (subst (λ x. AreSurveyed [] x deaf 0 []) (sym no_tables) (subst (λ x. AreSurveyed [] (record { times = p; keys = []; sets = []; records = [] }) x 0 []) (sym no_deaf) (surveyed_none p)))

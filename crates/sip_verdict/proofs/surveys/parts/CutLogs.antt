@@ -25,6 +25,7 @@ observes_moment direction item e (has_fault fault says is) = ap (λ f. f.event.m
 observes_moment direction item e (has_no_cookie s says lacks is) = ap (λ f. f.event.moment) is
 observes_moment direction item e (is_heard s keys says has concerns is) = ap (λ f. f.event.moment) is
 
+-- an item is seen at its own moment
 pub seen_moment : (es : List (Observation KeyParts)) (item : Item) (e : Observation KeyParts) (a : Action) → SeenAs es item e a → e.event.moment ≡ item.moment
 seen_moment es item e Sent sees = observes_moment way.Sent item e sees
 seen_moment es item e Received sees = observes_moment way.Received item e sees
@@ -85,6 +86,7 @@ module _ (chosen : KeyParts → Bool) where
       let more = log_cut (done ++ e ∷ []) (back ++ one.0 ∷ []) (zip_push chosen done back e one.0 zip one.2) items es cuts seen cut in
       (one.0 ∷ more.0, (one.1, more.1), (one.2, more.2))
 
+  -- a log that is cut keeps each of the chosen transactions
   pub cut_keeps : (p : Times) (items : List Item) (es : List (Observation KeyParts)) (cuts : List Item) → AreSeen [] items es → IsCutLog chosen items es cuts → Keeps p chosen es cuts
   cut_keeps p items es cuts seen cut =
       let all = log_cut [] [] tt items es cuts seen cut in

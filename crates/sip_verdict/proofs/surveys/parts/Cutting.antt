@@ -107,6 +107,7 @@ module _ (chosen : KeyParts → Bool) where
     event_cut : (e c : Observation KeyParts) → IsCutOf chosen e c → concerns key c ≡ true → c.event ≡ e.event
     event_cut e c cut any = cut.2 (not_nil c.keys any)
 
+    -- the key has the same events in the cut log
     pub events_cut : (es cs : List (Observation KeyParts)) → AllZip (IsCutOf chosen) es cs → events_for key cs ≡ events_for key es
     events_cut [] [] zip = refl
     events_cut [] (c ∷ cs) zip = absurd zip

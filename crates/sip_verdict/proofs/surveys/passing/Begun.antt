@@ -35,6 +35,7 @@ pub record AreMore (old t : Tabled) : Type 0 where
   pub each : (n : ℕ) (key : KeyParts) (s : AnySet) → slice_get t.keys n ≡ Some key → slice_get t.sets n ≡ Some s
       → ((slice_get old.keys n ≡ Some key) × (slice_get old.sets n ≡ Some s)) ⊎ ((length old.keys ≤ n) × (s ≡ start_of old.times key) × ¬ Contains old.keys key)
 
+-- tables have no more keys than themselves
 pub none_more : (t : Tabled) → length t.sets ≡ length t.keys → AreMore t t
 none_more t long = record { times = refl; long = long; few = omega arith; among = λ key has. has; each = λ n key s at here. inl (at, here) }
 
@@ -64,6 +65,7 @@ module _ (old t : Tabled) (h : AreMore old t) (k : KeyParts) (n : ℕ) where
         λ has. absent t.keys new (subst (Contains t.keys) (sym a.1) (h.among key has)),
       )
 
+-- tables with more keys than old ones are so still after keys were looked up
 pub more_each : (old : Tabled) (ks : List KeyParts) (ns : List ℕ) (t u : Tabled) → AreMore old t → TouchesEach ks ns t u → AreMore old u
 more_each old [] [] t u h same = subst (AreMore old) (sym same) h
 more_each old [] (n ∷ ns) t u h touched = absurd touched
@@ -80,6 +82,7 @@ touched_key k n t u (inr (new, counts, is)) =
     ap (λ x. x.keys) is
     ∙ sym (cond_false (list_any (same_key k) t.keys) t.keys (t.keys ++ k ∷ []) (not_among k t.keys (λ (i, low, same). new i k low same)))
 
+-- after keys were looked up the keys are those that there were, and each new one once
 pub touched_keys : (ks : List KeyParts) (ns : List ℕ) (t u : Tabled) → TouchesEach ks ns t u → u.keys ≡ fold with_key t.keys ks
 touched_keys [] [] t u same = ap (λ x. x.keys) same
 touched_keys [] (n ∷ ns) t u h = absurd h
@@ -92,6 +95,7 @@ front_place [] ys n x low at = absurd (omega (arith, low))
 front_place (u ∷ xs) ys zero x low at = at
 front_place (u ∷ xs) ys (suc n) x low at = front_place xs ys n x (omega (arith, low)) at
 
+-- what holds of each element of the second list holds of one that stands past the first
 pub back_place : {A : Type 0} (P : A → Type 0) (xs ys : List A) (n : ℕ) (x : A) → length xs ≤ n → All P ys → slice_get (xs ++ ys) n ≡ Some x → P x
 back_place P [] ys n x low all at = All-place P ys n x at all
 back_place P (u ∷ xs) ys zero x low all at = absurd (omega (arith, low))

@@ -31,6 +31,7 @@ use Rattle.sip_verdict.proofs.surveys.passing.Passing.{among_cons, same_at, pass
 -- the sets of tables of which one key's starts anew
 module _ (texts : Texts) (p q : Times) (moment : ℕ) (t u : Tabled) (number : ℕ) (own : KeyParts) (at : slice_get t.keys (number - 1) ≡ Some own) (rules : q ≡ p)
     (sets : u.sets ≡ slice_set t.sets (number - 1) (start_of q own)) where
+  -- the set at a place is the one that starts anew, or the one that was there
   pub begins_anew : (n : ℕ) (s : AnySet) → slice_get u.sets n ≡ Some s → ((n ≡ number - 1) × ((key : KeyParts) → slice_get t.keys (number - 1) ≡ Some key → LeadsOf texts p (machine_of_key p.rules key) [] moment s))
       ⊎ ((n ≢ number - 1) × (slice_get t.sets n ≡ Some s))
   begins_anew n s here = by (set-place t.sets (number - 1) n (start_of q own) s (ap (λ xs. slice_get xs n) (sym sets) ∙ here))
@@ -83,17 +84,20 @@ module _ (texts : Texts) (p : Times) (es : List (Observation KeyParts)) (e : Obs
     apart : (n : ℕ) → n ≢ number - 1 → is_among (number ∷ waits) (n + 1) ≡ is_among waits (n + 1)
     apart n other = among_cons (n + 1) number waits (λ same. other (omega (arith, same)))
 
+    -- its runs go on: all pass the entry as before
     pub heard_on : fate ≡ Runs → (u : Tabled) → u.keys ≡ t.keys → u.sets ≡ slice_set t.sets (number - 1) after → ArePassing texts p es e (is_among waits) u b
     heard_on runs u keys sets =
         passed_on texts p es e t u b (is_among (number ∷ waits)) (is_among waits) number given keys apart h after sets hearing once
         (λ key at. let l = left key at in (l.0, subst (IsPassed p k es e (key, after)) runs l.1))
 
+    -- it has no run: it starts anew, and is among the broken
     pub heard_broken : fate ≡ NoRun → (u : Tabled) (c : Troubled) (q : Times) (own : KeyParts) → slice_get t.keys (number - 1) ≡ Some own → q ≡ p → u.keys ≡ t.keys → u.sets ≡ slice_set t.sets (number - 1) (start_of q own)
         → c.deaf.items ≡ slice_set b.deaf.items (number - 1) true → c.broken.items ≡ b.broken.items ++ number ∷ [] → c.wide.items ≡ b.wide.items → ArePassing texts p es e (is_among waits) u c
     heard_broken none u c q own at rules keys sets deaf added kept =
         released_broken texts p es e t u b (is_among (number ∷ waits)) (is_among waits) number given keys apart h c (begins_anew texts p q e.event.moment t u number own at rules sets) deaf added kept
         (λ key there. let l = left key there in (l.0, subst (IsPassed p k es e (key, after)) none l.1))
 
+    -- it is too wide: it starts anew, and is among the wide
     pub heard_wide : fate ≡ TooWide → (u : Tabled) (c : Troubled) (q : Times) (own : KeyParts) → slice_get t.keys (number - 1) ≡ Some own → q ≡ p → u.keys ≡ t.keys → u.sets ≡ slice_set t.sets (number - 1) (start_of q own)
         → c.deaf.items ≡ slice_set b.deaf.items (number - 1) true → c.wide.items ≡ b.wide.items ++ number ∷ [] → c.broken.items ≡ b.broken.items → ArePassing texts p es e (is_among waits) u c
     heard_wide many u c q own at rules keys sets deaf added kept =
@@ -131,6 +135,7 @@ module _ (texts : Texts) (p : Times) (es : List (Observation KeyParts)) (e : Obs
             overdue_breaks texts p es e key s ready (subst (λ n. newest_moment es ≤ n) (sym now) late) (subst (λ n. moment_of s ≤ n) (sym now) (All-place (λ x. moment_of x ≤ moment) t.sets (number - 1) s here may.order))
             limit (watched.recorded.each (number - 1) s (Some limit) here on) (subst (λ n. is_overdue n (Some limit) ≡ true) (sym now) is)
 
+    -- it waited too long: it starts anew, and is among the broken
     pub overdue_broken : (u : Tabled) (c : Troubled) (q : Times) (own : KeyParts) → slice_get t.keys (number - 1) ≡ Some own → q ≡ p → u.keys ≡ t.keys → u.sets ≡ slice_set t.sets (number - 1) (start_of q own)
         → c.deaf.items ≡ slice_set b.deaf.items (number - 1) true → c.broken.items ≡ b.broken.items ++ number ∷ [] → c.wide.items ≡ b.wide.items → ArePassing texts p es e any u c
     overdue_broken u c q own at rules keys sets deaf added kept =

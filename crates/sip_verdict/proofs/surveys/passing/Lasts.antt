@@ -7,6 +7,7 @@ one_last None = 0
 one_last (Some None) = 0
 one_last (Some (Some last)) = 1
 
+-- how many last moments are on record
 pub lasts : Records → ℕ
 lasts [] = 0
 lasts (r ∷ rs) = one_last r + lasts rs

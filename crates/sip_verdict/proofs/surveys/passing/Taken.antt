@@ -49,6 +49,7 @@ module _ (old new : Texts) (number : ℕ) (bytes : List ℕ) (p : Times) where
         record { machine_is = leads.machine_is; leads = Leads-grow m.names m.seen (seen_by_names_of machine) old number bytes (m.rules p) events from s.moment s.states leads.leads },
       )
 
+-- the tables follow the same entries beside a book with one message more
 pub grown_survey : (old new : Texts) (number : ℕ) (bytes : List ℕ) → IsGrown old number bytes new → (es : List (Observation KeyParts)) (t : Tabled) (deaf : List Bool) → TablesSurvey old es t deaf → TablesSurvey new es t deaf
 grown_survey old new number bytes grown es t deaf h = record { order = h.order; keys = h.keys; each = λ n key s d at here is. by key s d (h.each n key s d at here is) }
   where
@@ -73,7 +74,7 @@ module _ (old mid : Texts) (number : ℕ) (bytes : List ℕ) (grown : IsGrown ol
   Tells told = (es : List (Observation KeyParts)) → (e : Observation KeyParts) × Sees es i e × IsObserved mid es i told e
 
   module _ (t u : Tabled) (b c : Troubled) (long : length b.deaf.items ≡ length t.keys) (sets : length t.sets ≡ length t.keys) (fresh : IsFresh b) (keys : u.keys ≡ t.keys) where
-    -- an entry that concerns none
+    -- an entry that concerns no transaction is taken
     silent_taken : (es : List (Observation KeyParts)) (e : Observation KeyParts) (fault : Option Fault) → Sees es i e → e.fault ≡ fault → e.event.moment ≡ moment → e.keys ≡ [] → Passes mid moment None t b u c
         → TablesSurvey old es t b.deaf.items → newest_moment es ≤ moment → IsTaken mid t.times es i moment fault u c
     silent_taken es e fault seen fault_is now none passes tracks late = (
@@ -86,11 +87,13 @@ module _ (old mid : Texts) (number : ℕ) (bytes : List ℕ) (grown : IsGrown ol
           (begun_same mid es e t b (grown_survey old mid number bytes grown es t b.deaf.items tracks) long sets (subst (λ n. newest_moment es ≤ n) (sym now) late) fresh),
     )
 
+    -- an entry that no transaction hears is taken
     pub unheard_taken : Tells told.Unheard → Passes mid moment None t b u c → (es : List (Observation KeyParts)) → TablesSurvey old es t b.deaf.items → newest_moment es ≤ moment → IsTaken mid t.times es i moment None u c
     unheard_taken tells passes es tracks late =
         let (e, seen, (fine, e_at, none)) = tells es in
         silent_taken es e None seen fine (e_at ∙ at) none passes tracks late
 
+    -- an entry whose message has a fault is taken
     pub fault_taken : (fault : Fault) → Tells (told.Fault fault) → Passes mid moment None t b u c → (es : List (Observation KeyParts)) → TablesSurvey old es t b.deaf.items → newest_moment es ≤ moment
         → IsTaken mid t.times es i moment (Some fault) u c
     fault_taken fault tells passes es tracks late =

@@ -63,6 +63,7 @@ module _ (texts : Texts) (p : Times) (es : List (Observation KeyParts)) (e : Obs
         by (inr g) = g
         by (inl apart) = let r = at_place t.records n (let within = slice_get_within t.keys n key at in let long = watched.recorded.long in omega arith) in recorded r.0 r.1 apart
 
+    -- the transactions with these numbers alone are still to hear the event
     pub to_hear : ArePassing texts p es e (is_among waits) t b
     to_hear = record { broken = h.broken; wide = h.wide; each = λ n key s d at here is. one n key s d at here (h.each n key s d at here is) }
       where
@@ -99,6 +100,7 @@ module _ (texts : Texts) (p : Times) (es : List (Observation KeyParts)) (e : Obs
           hearing.event (told n key at).event (hear.restart all) (hearers.others all n s here other)
           ((told n key at).concerned ∙ ap (λ a. a || is_among (each hearing.concerned) (n + 1)) all))
 
+  -- all that are not to hear an event have waited until it
   pub event_waits : ArePassing texts p es e (is_among numbers) t b
   event_waits = to_hear texts p es e moment late now t b may none h numbers watched left
 

@@ -38,14 +38,14 @@ taken_push part (i ∷ items) [] item taken are one = absurd are
 taken_push part (i ∷ items) (x ∷ takens) item taken (first, are) one = (first, taken_push part items takens item taken are one)
 
 -- the whole log is taken as it is
-taken_whole : (items takens : List Item) → AreTaken None items takens → takens ≡ items
+pub taken_whole : (items takens : List Item) → AreTaken None items takens → takens ≡ items
 taken_whole [] [] are = refl
 taken_whole [] (x ∷ takens) are = absurd are
 taken_whole (i ∷ items) [] are = absurd are
 taken_whole (i ∷ items) (x ∷ takens) (same, are) = let rest = taken_whole items takens are in cc
 
 -- a log that is surveyed for a part is the log of the part
-taken_part : (part : PartOf) (items takens : List Item) → AreTaken (Some part) items takens → IsPartLog part items takens
+pub taken_part : (part : PartOf) (items takens : List Item) → AreTaken (Some part) items takens → IsPartLog part items takens
 taken_part part [] [] are = tt
 taken_part part [] (x ∷ takens) are = absurd are
 taken_part part (i ∷ items) [] are = absurd are

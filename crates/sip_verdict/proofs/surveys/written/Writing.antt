@@ -103,7 +103,7 @@ line_by s (Breach entry number) told line tells is p es e stands found = line_wi
 line_by s (Undecided entry number) told line tells is p es e stands found = line_with-told s (Undecided entry number) number told line tells is (es ++ e ∷ []) stands _ found.1
 
 -- they are the text of what is found at the newest entry
-found_text : (s : Surveying) (p : Times) (es : List (Observation KeyParts)) (e : Observation KeyParts) → SurveysFor s (es ++ e ∷ []) → (found : List Finding) (text : List ℕ)
+pub found_text : (s : Surveying) (p : Times) (es : List (Observation KeyParts)) (e : Observation KeyParts) → SurveysFor s (es ++ e ∷ []) → (found : List Finding) (text : List ℕ)
     → ((f : Finding) → Contains found f → IsFoundAt p es e f) → AreLinesBy s found text → IsTextOf (es ++ e ∷ []) found text
 found_text s p es e stands [] text at none = none
 found_text s p es e stands (f ∷ found) text at (line, more, is, are, whole) =

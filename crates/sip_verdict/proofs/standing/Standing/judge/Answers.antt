@@ -2,26 +2,26 @@ use Rattle.std.proofs.Common.{None, ◌+◌, All, Contains, sym, subst}
 use Rattle.sip_verdict.specs.inner.Tracking.{IsJudged}
 use Rattle.sip_verdict.specs.inner.TablesTracking.{key_keeping, transactions_of, MayTake}
 use Rattle.sip_verdict.proofs.sweeps.SweptBook.{same_within}
-use Rattle.sip_verdict.proofs.sweeps.NewestLemmas.{known_unnamed, forgotten_judged, forgotten_take, forgotten_within}
+use Rattle.sip_verdict.proofs.sweeps.NewestLemmas.{known_unnamed, dropped_judged, dropped_take, dropped_within}
 use Rattle.sip_verdict.proofs.standing.Standing.judge.Goals as goal
 
-pub forget-requires-clause-others : goal.forget-requires-clause-others
-forget-requires-clause-others g c some n set among at =
+pub drop_unnamed-requires-clause-others : goal.drop_unnamed-requires-clause-others
+drop_unnamed-requires-clause-others g c some n set among at =
     known_unnamed c.args.self.now.book c.args.entry.now.number c.requires.may.numbered set (c.in_ok-taken.ensures.others some n set among at)
 
 pub returns-clause-may : goal.returns-clause-may
 returns-clause-may g c =
     let e = c.args.entry.now in
     let mid = c.take.new.self in
-    let new = c.forget.new.self in
-    subst (λ t. MayTake new.book t (e.number + 1) e.moment) (sym c.forget.ensures.tables)
-    (forgotten_take e.number mid.book new.book mid.tables (e.number + 1) e.moment c.forget.ensures.book (rw c.in_default.is at c.in_ok-taken.ensures.may))
+    let new = c.drop_unnamed.new.self in
+    subst (λ t. MayTake new.book t (e.number + 1) e.moment) (sym c.drop_unnamed.ensures.tables)
+    (dropped_take e.number mid.book new.book mid.tables (e.number + 1) e.moment c.drop_unnamed.ensures.book (rw c.in_default.is at c.in_ok-taken.ensures.may))
 
 pub returns-clause-keyless : goal.returns-clause-keyless
 returns-clause-keyless g c none =
     let mid = c.take.new.self in
-    let new = c.forget.new.self in
-    subst (λ b. All (Contains b) new.book) (c.in_ok-taken.ensures.keyless none) (forgotten_within mid.tables.sets c.args.entry.now.number mid.book new.book c.forget.ensures.book)
+    let new = c.drop_unnamed.new.self in
+    subst (λ b. All (Contains b) new.book) (c.in_ok-taken.ensures.keyless none) (dropped_within mid.tables.sets c.args.entry.now.number mid.book new.book c.drop_unnamed.ensures.book)
 
 pub returns-in-Some-clause-keyless : goal.returns-in-Some-clause-keyless
 returns-in-Some-clause-keyless g c none = same_within c.args.self.now.book c.take.new.self.book (c.in_ok-taken.ensures.keyless none)
@@ -31,10 +31,10 @@ returns-clause-judged g c = λ es tracks counts newest.
     let number = c.args.entry.now.number in
     let p = c.args.self.now.tables.times in
     let mid = c.take.new.self in
-    let new = c.forget.new.self in
+    let new = c.drop_unnamed.new.self in
     let (e, seen, judged, have) = c.in_ok-taken.ensures.judged es tracks counts newest in (
       e,
       seen,
-      subst (λ t. IsJudged p (key_keeping new.book p) es e (transactions_of t) None) (sym c.forget.ensures.tables)
-          (forgotten_judged number mid.book new.book p es e mid.tables c.forget.ensures.book (rw c.in_default.is at judged)),
+      subst (λ t. IsJudged p (key_keeping new.book p) es e (transactions_of t) None) (sym c.drop_unnamed.ensures.tables)
+          (dropped_judged number mid.book new.book p es e mid.tables c.drop_unnamed.ensures.book (rw c.in_default.is at judged)),
     )

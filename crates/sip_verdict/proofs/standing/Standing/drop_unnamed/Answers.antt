@@ -1,6 +1,6 @@
 use Rattle.std.proofs.Common.{inl, inr}
 use Rattle.sip_verdict.proofs.sweeps.NewestLemmas.{all_unnamed}
-use Rattle.sip_verdict.proofs.standing.Standing.forget.Goals as goal
+use Rattle.sip_verdict.proofs.standing.Standing.drop_unnamed.Goals as goal
 
 pub returns-then-not-may_name-clause-book : goal.returns-then-not-may_name-clause-book
 returns-then-not-may_name-clause-book g c =

@@ -1,0 +1,17 @@
+use Rattle.std.proofs.Common.{inr, refl, rules}
+use Rattle.std.specs.Prelude.{IsTrue}
+use Rattle.sip_verdict.specs.Forgetting.{remembered}
+use Rattle.sip_verdict.proofs.surveys.written.Horizons.{came_long_ago, horizon_kept, horizon_left}
+use Rattle.sip_verdict.proofs.remembering.forget_due.Goals as goal
+
+pub returns-clause-left : goal.returns-clause-left
+returns-clause-left g c = λ es stands horizon_is.
+    let m = c.args.horizon.now in
+    let is : IsTrue c.are_due.result = search rules in
+    let due = c.are_due.ensures.0 is in
+    let (kept, forgets, left_stands, many) = c.in_ok-forget.ensures.forgets es stands in (
+      remembered kept es,
+      inr (m.until, kept, came_long_ago m es horizon_is due.0, forgets, refl),
+      left_stands,
+      horizon_left m (record { age = m.age; until = m.until; number = m.number; moment = m.moment; left = c.transactions-horizon.result }) (remembered kept es) (horizon_kept kept m es horizon_is) refl refl refl refl,
+    )

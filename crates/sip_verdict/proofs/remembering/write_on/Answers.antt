@@ -1,0 +1,106 @@
+use Rattle.std.proofs.Common.{◌≡◌, ◌+◌, ◌∙◌, List, [], ◌++◌, refl, sym, subst, rules, arith}
+use Rattle.std.specs.Io.KnownBytes.{Appends}
+use Rattle.std.specs.Option.{option_copied}
+use Rattle.sip_log.specs.Reading as log
+use Rattle.sip_log.specs.Reading.{beside_source}
+use Rattle.sip_verdict.specs.declared.finding.Finding.{Finding}
+use Rattle.sip_verdict.specs.declared.survey_end.SurveyEnd.TheVariants.{LogFault}
+use Rattle.sip_verdict.specs.SurveyText.{end_text}
+use Rattle.sip_verdict.specs.inner.SurveyingLogs.{AreLinesBy}
+use Rattle.sip_verdict.proofs.surveys.written.Remembering.{remembers_on, remembers_end, remembers_stop}
+use Rattle.sip_verdict.proofs.surveys.written.Writing.{told_none, told_more, summed}
+use Rattle.sip_verdict.proofs.judges.StandingLemmas.{same_some}
+use Rattle.sip_verdict.proofs.remembering.write_on.Goals as goal
+
+pub loop-found-init : goal.loop-found-init
+loop-found-init g c = record {
+  read = refl;
+  written = refl;
+  at = c.requires.at;
+  counts_are = sym c.requires.first;
+  aged = c.new-horizon.ensures.age;
+  told = (
+    [],
+    [],
+    told_none c.none-counts.result (g.W.Sink.written c.args.writer.now) c.none-counts.ensures.0 c.none-counts.ensures.1,
+    λ start reads. (reads, c.new-horizon.ensures.horizon reads.es),
+  );
+}
+
+pub loop-found-preserved : goal.loop-found-preserved
+loop-found-preserved g c =
+    let l = c.loop-found in
+    let part = option_copied c.args.part in
+    let p = c.args.survey.now.tables.times in
+    let old : log.ReaderState = beside_source l.progress (g.R.Source.left l.reader) (g.R.Source.has_failed l.reader) in
+    let new : log.ReaderState = beside_source c.read_next.new.progress (g.R.Source.left c.read_next.new.reader) (g.R.Source.has_failed c.read_next.new.reader) in
+    let moves = rw c.in-Entry.is at c.in_ok-entry.ensures.moves in
+    let forgot = c.in_ok-forget_due-in-Entry.ensures in
+    let taken = c.in_ok-entry-in-Entry.ensures in
+    let put = c.in_ok-counts-in-Entry.ensures in
+    let cut = c.in_ok-cut_to-in-Entry.ensures in
+    let items : List Finding = c.entry.new.found.items in
+    let lines : c.as_slice.result.now ≡ items = search rules in
+    let told = l.invariant.told in
+    let was = l.invariant.at.newest in
+    let order = moves.1.order in
+    let forgot_moment = forgot.newest.1 in
+    let taken_moment = taken.newest.1 in
+    let cut_moment = cut.moment in
+    record {
+      read = c.in_ok-entry.ensures.ok ∙ l.invariant.read;
+      written = put.fine ∙ l.invariant.written;
+      at = record {
+        on = moves.0;
+        goes_on = search rules;
+        counts = taken.newest.0 ∙ cut.number ∙ sym moves.2;
+        newest = taken.newest.1 ∙ cut.moment ∙ sym moves.3;
+        few = (let number = moves.1.number_is in let count = moves.2 in let low = moves.4 in omega arith);
+      };
+      counts_are = sym (taken.newest.0 ∙ cut.number);
+      aged = c.note.ensures.age ∙ forgot.age ∙ l.invariant.aged;
+      told = (
+        told.0 ++ items,
+        told.1 ++ put.text.0,
+        told_more told.0 items told.1 put.text.0 l.counts c.in_ok-counts-in-Entry.counts (g.W.Sink.written c.args.writer.now) (g.W.Sink.written l.writer) (g.W.Sink.written c.put_findings.new.writer) told.2
+            (search rules) put.text.1,
+        λ start reads.
+            let so = told.3 start reads in
+            let more = (rw c.in-Entry.is at c.in_ok-entry.ensures.gives) start p so.0.items so.0.read in
+            remembers_on c.args.age part p start old l.survey told.0 told.1 so.0 l.horizon so.1 l.invariant.aged c.in-Entry.entry c.cut_to.new.entry new more cut.cut
+            c.forget_due.new.survey c.entry.new.self c.forget_due.new.horizon c.note.new.self forgot.times taken.times (omega (arith, was, order, forgot_moment, taken_moment, cut_moment)) forgot.left items
+            (rw c.clear.ensures.items at taken.found) put.text.0 (subst (λ fs. AreLinesBy c.entry.new.self fs put.text.0) lines put.text.2)
+            (λ es horizon_is stands. c.note.ensures.horizon es horizon_is (sym taken.newest.0 ∙ stands.number) (sym taken.newest.1 ∙ stands.moment)),
+      );
+    }
+
+pub returns-in-End-clause-surveyed : goal.returns-in-End-clause-surveyed
+returns-in-End-clause-surveyed g c =
+    let l = c.loop-found in
+    let part = option_copied c.args.part in
+    let p = c.args.survey.now.tables.times in
+    let old : log.ReaderState = beside_source l.progress (g.R.Source.left l.reader) (g.R.Source.has_failed l.reader) in
+    let told = l.invariant.told in
+    let before = g.W.Sink.written c.args.writer.now in
+    let mid = g.W.Sink.written l.writer in
+    let after = g.W.Sink.written c.finish.new.writer in
+    summed c.finish.result l.counts c.unwrap.result c.finish.ensures.sums c.finish.ensures.text (λ summary end findings undecided last start reads.
+    let so = (told.3 start reads).0 in
+    let logs = (rw c.in-End.is at c.in_ok-entry.ensures.gives) start p so.items so.read in
+    let is = same_some _ _ (sym c.unwrap.ensures ∙ c.end.ensures.clean so.es so.follows) in
+    remembers_end c.args.age part p start old l.survey told.0 told.1 so l.counts summary before mid after told.2 findings undecided (end ∙ is) (subst (λ e. Appends mid after (end_text e l.counts.findings)) is last) logs)
+
+pub returns-in-Fault-clause-surveyed : goal.returns-in-Fault-clause-surveyed
+returns-in-Fault-clause-surveyed g c =
+    let l = c.loop-found in
+    let part = option_copied c.args.part in
+    let p = c.args.survey.now.tables.times in
+    let old : log.ReaderState = beside_source l.progress (g.R.Source.left l.reader) (g.R.Source.has_failed l.reader) in
+    let told = l.invariant.told in
+    let before = g.W.Sink.written c.args.writer.now in
+    let mid = g.W.Sink.written l.writer in
+    let after = g.W.Sink.written c.finish-in-Fault.new.writer in
+    summed c.finish-in-Fault.result l.counts (LogFault (l.count + 1) c.in-Fault.reason) c.finish-in-Fault.ensures.sums c.finish-in-Fault.ensures.text (λ summary end findings undecided last start reads.
+    let so = (told.3 start reads).0 in
+    remembers_stop c.args.age part p start old l.survey told.0 told.1 so l.counts summary before mid after told.2 findings undecided l.count c.in-Fault.reason l.invariant.counts_are end last
+    ((rw c.in-Fault.is at c.in_ok-entry.ensures.gives) start p so.items so.read))

@@ -1,0 +1,23 @@
+use Rattle.std.proofs.Common.{◌≡◌, ◌<◌, ◌≤◌, ◌+◌, ◌-◌, ℕ}
+use Rattle.sip_standard.specs.LogSays.{most_entries}
+use Rattle.sip_log.specs.Reading.{beside_source, entries}
+use Rattle.sip_verdict.specs.declared.walking.Aim.TheVariants as aim
+use Rattle.sip_verdict.specs.inner.TablesTracking.{MayTake}
+use Rattle.sip_verdict.specs.inner.Walking.{Walks}
+use Rattle.sip_verdict.proofs.walking.walk.Given as goal
+
+abbrev pub invariant-loop-standing : goal.invariant-loop-standing
+invariant-loop-standing g l =
+    record {
+      fine : g.R.Source.has_failed l.reader ≡ g.R.Source.has_failed l.fn.reader;
+      on : l.progress.stage ≡ entries;
+      counts : l.count ≡ l.progress.count;
+      few : l.count ≤ most_entries;
+      left : l.left ≤ most_entries + 1;
+      before : (n : ℕ) → l.fn.aim ≡ aim.Entry n → l.count < n;
+      may : MayTake l.standing.book l.standing.tables (l.count + 1) l.progress.last;
+      walks : Walks l.fn.aim (g.R.Source.left l.fn.reader) (beside_source l.progress (g.R.Source.left l.reader) (g.R.Source.has_failed l.reader)) l.count l.left l.standing.book l.standing.tables;
+    }
+
+abbrev pub decreases-loop-standing : goal.decreases-loop-standing
+decreases-loop-standing g l = most_entries - l.progress.count

@@ -1,0 +1,48 @@
+-- How a whole log is read and surveyed by a survey that forgets, entry by entry.
+use Rattle.std.specs.Prelude.{◌≡◌, ◌≤◌, ◌+◌, ◌⊎◌, ◌++◌, [], ℕ, Option, List, length, take}
+use Rattle.std.specs.Io.KnownBytes.{Appends}
+use Rattle.sip_standard.specs.Key.{KeyParts}
+use Rattle.sip_standard.specs.Times.{Times}
+use Rattle.sip_standard.specs.LogEntry.{Item}
+use Rattle.sip_standard.specs.LogSays.{LogEnd}
+use Rattle.sip_standard.specs.Observation.{Observation}
+use Rattle.sip_part.specs.Part.{PartOf}
+use Rattle.sip_log.specs.Reading as log
+use Rattle.sip_verdict.specs.declared.finding.Finding.{Finding}
+use Rattle.sip_verdict.specs.declared.horizon.Horizon.{Horizon}
+use Rattle.sip_verdict.specs.declared.summary.Summary.{Summary}
+use Rattle.sip_verdict.specs.declared.survey_end.SurveyEnd.{SurveyEnd}
+use Rattle.sip_verdict.specs.Entries.{newest_moment}
+use Rattle.sip_verdict.specs.ForgettingText.{IsLongAgo, IsToldAfter, IsToldForgetting}
+use Rattle.sip_verdict.specs.SurveyText.{SumsUp}
+use Rattle.sip_verdict.specs.Surveys.{Surveying, SurveysFor}
+use Rattle.sip_verdict.specs.inner.SurveyingLogs.{AreTaken}
+use Rattle.sip_verdict.specs.inner.Walking.{HasRead}
+
+-- the horizon is one of these entries: it has the moment of an entry, or 0 before the first; and those up to `until`, if there are any, came long ago
+pub record IsHorizonOf (m : Horizon) (es : List (Observation KeyParts)) : Type 0 where
+  pub inside : m.number ≤ length es
+  pub at : newest_moment (take m.number es) ≡ m.moment
+  pub until_inside : m.until ≤ length es
+  pub long_ago : (m.until ≡ 0) ⊎ IsLongAgo m.age m.until es
+
+-- the survey stands for what is left of the entries that were read of the input, as they are taken, and this was found and written: with what is told of
+-- those that come it is told of all
+pub record RemembersRead (age : ℕ) (part : Option PartOf) (p : Times) (s : Surveying) (found : List Finding) (lines : List ℕ) (start : Option (List ℕ)) (now : log.ReaderState) : Type 0 where
+  pub items : List Item
+  pub taken : List Item
+  pub es : List (Observation KeyParts)
+  pub are_taken : AreTaken part items taken
+  pub times : s.tables.times ≡ p
+  pub follows : SurveysFor s es
+  pub read : HasRead start p items now
+  pub front : (rest : List Item) (close : LogEnd) (later : List Finding) (end : SurveyEnd) (more : List ℕ) → IsToldAfter age p es rest close later end more
+      → IsToldAfter age p [] (taken ++ rest) close (found ++ later) end (lines ++ more)
+
+-- the survey of the input, or of a part, is written, and the summary sums it up
+pub record IsWrittenForgetting (age : ℕ) (part : Option PartOf) (input : List ℕ) (summary : Summary) (before after : Option (List ℕ)) : Type 0 where
+  pub found : List Finding
+  pub text : List ℕ
+  pub told : IsToldForgetting age part input found summary.end text
+  pub sums : SumsUp found summary
+  pub written : Appends before after text

@@ -77,7 +77,7 @@ module _ (age : ℕ) (part : Option PartOf) (p : Times) (start : Option (List �
           front = λ rest close later end further told.
               let whole : IsToldAfter age part p [] (so.items ++ item e ∷ rest) close (found ++ (items ++ later)) end (lines ++ (text ++ further)) =
               so.front (item e ∷ rest) close (items ++ later) end (text ++ further)
-              (left, is_left, inr (has_room, item cut, seen, items, later, text, further, is_taken, observed, found_here, text_is, refl, refl, told)) in
+              (left, is_left, inr (has_room, (item cut, seen, items, later, text, further, is_taken, observed, found_here, text_is, refl, refl, told))) in
               subst (λ xs. IsToldAfter age part p [] ((so.items ++ item e ∷ []) ++ rest) close ((found ++ items) ++ later) end xs) (sym (append_assoc lines text further))
               (subst (λ fs. IsToldAfter age part p [] ((so.items ++ item e ∷ []) ++ rest) close fs end (lines ++ (text ++ further))) (sym (append_assoc found items later))
               (subst (λ is. IsToldAfter age part p [] is close (found ++ (items ++ later)) end (lines ++ (text ++ further))) (sym (append_assoc so.items (item e ∷ []) rest)) whole));

@@ -489,3 +489,27 @@ fn tells_the_times_of_the_header(rt: HostRuntime) -> Result<(), Fail> {
     is(&rt, times_of(&progress), Some([500, 4_000, 5_000, 50, 50]));
     Ok(())
 }
+
+/// The number of the entry that comes next, if one does.
+fn next_number(progress: &mut Progress, bytes: &mut &[u8]) -> Result<Option<u32>, LogError> {
+    match progress.next(bytes)? {
+        Some(entry) => Ok(Some(entry.number)),
+        None => Ok(None),
+    }
+}
+
+/// Counted anew, the next entry has the number 1. Its moment is held against that of the entry before it, and the times of the header stay.
+#[test]
+fn counts_its_entries_anew(rt: HostRuntime) -> Result<(), Fail> {
+    let mut bytes: &[u8] =
+        b"sip-trace 1\nt1 500 t2 4000 t4 5000 tolerance 50\nM 5\nM 6\nM 6\nM 5\n";
+    let (_, mut progress) = Progress::open(rt.alloc(), &mut bytes)?;
+    is(&rt, next_number(&mut progress, &mut bytes)?, Some(1));
+    is(&rt, next_number(&mut progress, &mut bytes)?, Some(2));
+    progress.count_anew();
+    is(&rt, next_number(&mut progress, &mut bytes)?, Some(1));
+    progress.count_anew();
+    is(&rt, times_of(&progress), Some([500, 4_000, 5_000, 50, 50]));
+    assert!(rt; matches!(next_number(&mut progress, &mut bytes), Err(LogError::Order)));
+    Ok(())
+}

@@ -1,5 +1,5 @@
 //! Laws of the format. The functions do nothing: their contracts are the laws.
-ghost use Rattle.std.specs.Prelude.{◌≡◌, ◌≢◌, ◌⊎◌, ◌<◌, ◌≤◌, ◌++◌, ℕ, List, All, length, flat_map};
+ghost use Rattle.std.specs.Prelude.{◌≡◌, ◌≢◌, ◌⊎◌, ◌↔◌, ◌<◌, ◌≤◌, ◌++◌, ℕ, List, All, length, flat_map};
 ghost use Rattle.sip_standard.specs.Times.{Times, AreTimes};
 ghost use Rattle.sip_standard.specs.declared.action.Action.TheVariants.{Restart};
 ghost use Rattle.sip_standard.specs.declared.rules.Rules.TheVariants.{R6026};
@@ -10,6 +10,7 @@ ghost use Rattle.sip_standard.specs.LogEntry.{Item, entry_says, IsEntry, IsWithi
 ghost use Rattle.sip_standard.specs.LogHeader.{Header, lines_text};
 ghost use Rattle.sip_log.specs.Writing.{header_text};
 ghost use Rattle.sip_log.specs.Turn.{ComeInTurn};
+ghost use Rattle.sip_log.specs.Stream.{StreamSays};
 ghost use Rattle.sip_standard.specs.LogSays.{most_entries, LogEnd, Clean, LogSays, LacksHeader};
 
 /// Each input has a log, or lacks a header.
@@ -63,4 +64,22 @@ pub fn a_log_of_format_1_is_as_it_was()
 pub fn a_log_of_format_1_is_one_of_format_2()
     ensures { (input other : List ℕ) (p : Times) (behind : List ℕ) (items : List Item) → Header One p input behind → Header Two p other behind →
         LogSays input p items Clean → LogSays other p items Clean }
+{}
+
+/// A log of fewer than 1,000,000 entries is the same log where any number of entries may come, and so is one of 1,000,000 that ends there.
+pub fn a_log_is_a_stream()
+    ensures few { (input : List ℕ) (p : Times) (items : List Item) (end : LogEnd) → length items < most_entries → LogSays input p items end ↔ StreamSays input p items end }
+    ensures whole { (input : List ℕ) (p : Times) (items : List Item) → length items ≤ most_entries → LogSays input p items Clean ↔ StreamSays input p items Clean }
+{}
+
+/// Where any number of entries may come, each input has a log too, or lacks a header.
+pub fn each_input_has_a_stream()
+    ensures { (input : List ℕ) → LacksHeader input ⊎ ((p : Times) × (items : List Item) × (end : LogEnd) × StreamSays input p items end) }
+{}
+
+/// And only one of the two, and only one log.
+pub fn an_input_has_one_stream()
+    ensures either { (input : List ℕ) (p : Times) (items : List Item) (end : LogEnd) → LacksHeader input → StreamSays input p items end → ⊥ }
+    ensures one { (input : List ℕ) (p q : Times) (items others : List Item) (end close : LogEnd) → StreamSays input p items end → StreamSays input q others close →
+        (p ≡ q) × (items ≡ others) × (end ≡ close) }
 {}

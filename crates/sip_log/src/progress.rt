@@ -90,6 +90,14 @@ impl Progress {
         }
     }
 
+    /// Counts the entries anew: as many may come from here on as a log has, the next of them with the number 1. All else stays. So an
+    /// input is read on that has more entries than a log.
+    pub fn count_anew(&mut self)
+        ensures { self.new ≡ record { stage = self.old.stage; held = self.old.held; format = self.old.format; times = self.old.times; count = 0; last = self.old.last } }
+    {
+        self.count = 0;
+    }
+
     /// The times of the log's header, once it was read.
     pub fn params(&self) -> Option<Params>
         ensures { result ≡ self.now.times }

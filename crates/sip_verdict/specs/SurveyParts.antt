@@ -1,5 +1,5 @@
 -- The surveys of the parts of a log that is cut by branch.
-use Rattle.std.specs.Prelude.{◌≡◌, ◌⊎◌, ℕ, MatchOption, List, [], ◌∷◌, if◌then◌else◌, ⊤}
+use Rattle.std.specs.Prelude.{◌≡◌, ◌⊎◌, ℕ, MatchOption, Option, None, Some, List, [], ◌∷◌, if◌then◌else◌, ⊤}
 use Rattle.sip_standard.specs.declared.action.Action.TheVariants.{Mark}
 use Rattle.sip_standard.specs.Times.{Times}
 use Rattle.sip_standard.specs.LogEntry.{Item}
@@ -20,6 +20,11 @@ abbrev pub IsPartItem : PartOf → Item → Item → Type 0
 IsPartItem part item cut =
     MatchOption (direction_of item.action) (cut ≡ item)
     (λ direction. (branch : List ℕ) × TellsBranch item.text branch × (cut ≡ if falls_into part branch then item else record { action = Mark; moment = item.moment; text = [] }))
+
+-- an item as it is surveyed: itself, or as it is in the log of the part
+abbrev pub IsTaken : Option PartOf → Item → Item → Type 0
+IsTaken None item taken = taken ≡ item
+IsTaken (Some part) item taken = IsPartItem part item taken
 
 -- the log of the part
 abbrev pub IsPartLog : PartOf → List Item → List Item → Type 0

@@ -1,7 +1,7 @@
 -- What a survey that takes the entries of a log as they come stands for.
 use Rattle.std.specs.Prelude.{◌≡◌, ◌≢◌, ◌≤◌, ◌+◌, ℕ, Bool, true, false, List, ◌++◌, Option, Some, None, Result, Err, Contains, length, max, slice_get}
 use Rattle.sip_standard.specs.Key.{KeyParts}
-use Rattle.sip_standard.specs.Times.{Times}
+use Rattle.sip_standard.specs.Times.{Times, last_moment}
 use Rattle.sip_machine.specs.Texts.{Texts}
 use Rattle.sip_states.specs.Tables.{Tabled}
 use Rattle.sip_verdict.specs.declared.step_error.StepError.{StepError}
@@ -12,6 +12,7 @@ use Rattle.sip_standard.specs.Stands.{Stands}
 use Rattle.sip_standard.specs.KeyMachine.{machine_of_key, transaction_of}
 use Rattle.sip_states.specs.KeySets.{PhaseOf}
 use Rattle.sip_verdict.specs.Named.{AreMany, key_messages}
+use Rattle.sip_verdict.specs.Room.{HasRoom}
 use Rattle.sip_verdict.specs.SurveyOf.{IsSound}
 use Rattle.sip_verdict.specs.inner.Surveying.{TablesSurvey}
 use Rattle.sip_verdict.specs.declared.histories.Histories.{Histories}
@@ -76,6 +77,13 @@ pub record SurveysFor (s : Surveying) (es : List (Observation KeyParts)) : Type 
   pub moment : s.moment ≡ newest_moment es
   pub follows : AreSurveyed s.texts s.tables s.deaf s.left es
   pub histories : AreHistories es s.histories
+
+-- an entry of this number and moment may come after one of the number count and the moment last, to a survey of so many transactions
+pub record MayFollow (count last transactions number moment : ℕ) : Type 0 where
+  pub next : number ≡ count + 1
+  pub order : last ≤ moment
+  pub limit : moment ≤ last_moment
+  pub room : HasRoom count transactions
 
 -- what a survey can answer: after a failure that it failed
 abbrev pub MayAnswer : Bool → Result Unit StepError → Type 0

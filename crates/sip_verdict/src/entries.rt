@@ -2,12 +2,13 @@
 ghost use Rattle.std.specs.Prelude.{◌≡◌, ◌≤◌, ◌+◌, ◌++◌, ◌∷◌, [], List, All, Contains, IfOk, OnOk, length};
 ghost use Rattle.sip_standard.specs.Key.{KeyParts};
 ghost use Rattle.sip_standard.specs.Times.{last_moment};
-ghost use Rattle.sip_standard.specs.LogSays.{most_entries};
+ghost use Rattle.sip_states.specs.Tables.{most_keys};
 ghost use Rattle.sip_log.specs.Told.{item};
 ghost use Rattle.sip_verdict.specs.declared.finding.Finding.{Finding};
 ghost use Rattle.sip_standard.specs.Observation.{Observation};
 ghost use Rattle.sip_verdict.specs.Entries.{newest_moment, ConcernsNone};
 ghost use Rattle.sip_standard.specs.VerdictOf.{keys_in, Sees};
+ghost use Rattle.sip_verdict.specs.Room.{most_surveyed};
 ghost use Rattle.sip_verdict.specs.SurveyOf.{AreFoundAt};
 ghost use Rattle.sip_verdict.specs.Surveys.{AreHistories, AreSurveyed};
 ghost use Rattle.sip_verdict.specs.inner.TablesTracking.{is_among, MayTake};
@@ -38,10 +39,11 @@ fn take<H: BuildHasher>(
     entry: &Entry,
 ) -> Result<Option<Fault>, AllocError>
     requires limit { entry.now.moment ≤ last_moment }
-    requires count { entry.now.number ≤ most_entries }
+    requires room { length standing.old.tables.keys + 2 ≤ most_keys }
     requires may { MayTake standing.old.book standing.old.tables entry.now.number entry.now.moment }
     requires watched { AreWatched [] standing.old.tables troubled.old }
     ensures times { OnOk result (standing.new.tables.times ≡ standing.old.tables.times) }
+    ensures keys { OnOk result (length standing.new.tables.keys ≤ length standing.old.tables.keys + 2) }
     ensures may { OnOk result (MayTake standing.new.book standing.new.tables (entry.now.number + 1) entry.now.moment) }
     ensures watched { OnOk result (AreWatched [] standing.new.tables troubled.new) }
     ensures keyless { OnOk result (ConcernsNone (item entry.now) → standing.new.book ≡ standing.old.book) }
@@ -131,11 +133,12 @@ fn find<H: BuildHasher>(
     found: &mut Vec<Finding>,
 ) -> Result<(), AllocError>
     requires limit { entry.now.moment ≤ last_moment }
-    requires count { entry.now.number ≤ most_entries }
+    requires room { length standing.old.tables.keys + 2 ≤ most_keys }
     requires may { MayTake standing.old.book standing.old.tables entry.now.number entry.now.moment }
     requires watched { AreWatched [] standing.old.tables troubled.old }
     requires fresh { IsFresh troubled.old }
     ensures times { OnOk result (standing.new.tables.times ≡ standing.old.tables.times) }
+    ensures keys { OnOk result (length standing.new.tables.keys ≤ length standing.old.tables.keys + 2) }
     ensures may { OnOk result (MayTake standing.new.book standing.new.tables (entry.now.number + 1) entry.now.moment) }
     ensures watched { OnOk result (AreWatched [] standing.new.tables troubled.new) }
     ensures fresh { OnOk result (IsFresh troubled.new) }
@@ -166,16 +169,18 @@ pub(crate) fn find_next<H: BuildHasher>(
     found: &mut Vec<Finding>,
 ) -> Result<(), AllocError>
     requires limit { entry.now.moment ≤ last_moment }
-    requires count { entry.now.number ≤ most_entries }
+    requires count { entry.now.number ≤ most_surveyed }
+    requires room { length standing.old.tables.keys + 2 ≤ most_keys }
     requires may { MayTake standing.old.book standing.old.tables entry.now.number entry.now.moment }
     requires watched { AreWatched [] standing.old.tables troubled.old }
     requires fresh { IsFresh troubled.old }
-    requires left { left.old ≤ most_entries + 1 }
+    requires left { left.old ≤ most_surveyed + 1 }
     ensures times { OnOk result (standing.new.tables.times ≡ standing.old.tables.times) }
+    ensures keys { OnOk result (length standing.new.tables.keys ≤ length standing.old.tables.keys + 2) }
     ensures may { OnOk result (MayTake standing.new.book standing.new.tables (entry.now.number + 1) entry.now.moment) }
     ensures watched { OnOk result (AreWatched [] standing.new.tables troubled.new) }
     ensures fresh { OnOk result (IsFresh troubled.new) }
-    ensures left { left.new ≤ most_entries + 1 }
+    ensures left { left.new ≤ most_surveyed + 1 }
     ensures keyless { OnOk result (ConcernsNone (item entry.now) → All (Contains standing.old.book) standing.new.book) }
     ensures histories { OnOk result ((es : List (Observation KeyParts)) (e : Observation KeyParts) → AreHistories es histories.old → standing.old.tables.keys ≡ keys_in es
         → entry.now.number ≡ length es + 1 → Sees es (item entry.now) e → AreHistories (es ++ e ∷ []) histories.new) }

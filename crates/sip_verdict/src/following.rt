@@ -1,5 +1,5 @@
 //! A survey that takes the entries of a log as they come.
-ghost use Rattle.std.specs.Prelude.{◌≡◌, ◌<◌, ◌-◌, ◌↔◌, ◌++◌, ◌∷◌, [], Bool, false, List, Some, All, Contains, IfSome, IsSomeAnd, IsTrue, OnOk, OnErr, length, slice_get};
+ghost use Rattle.std.specs.Prelude.{◌≡◌, ◌<◌, ◌≤◌, ◌+◌, ◌-◌, ◌↔◌, ◌++◌, ◌∷◌, [], Bool, false, List, Some, All, Contains, IfSome, IsSomeAnd, IsTrue, OnOk, OnErr, length, slice_get};
 ghost use Rattle.std.specs.Result.{is_err};
 ghost use Rattle.sip_standard.specs.Key.{KeyParts};
 ghost use Rattle.sip_log.specs.Told.{item};
@@ -12,8 +12,8 @@ ghost use Rattle.sip_verdict.specs.SurveyOf.{AreFoundAt};
 ghost use Rattle.sip_verdict.specs.Forgetting.{ForgetsUpTo, remembered};
 ghost use Rattle.sip_verdict.specs.Named.{AreMany};
 ghost use Rattle.sip_verdict.specs.SurveyText.{IsFirstOf, IsLastOf};
-ghost use Rattle.sip_verdict.specs.Judging.{MayComeNext};
-ghost use Rattle.sip_verdict.specs.Surveys.{AreFewKept, IsStillNamed, MayAnswer, SurveysFor, end_after};
+ghost use Rattle.sip_verdict.specs.Room.{HasRoom};
+ghost use Rattle.sip_verdict.specs.Surveys.{AreFewKept, IsStillNamed, MayAnswer, MayFollow, SurveysFor, end_after};
 
 use crate::entries::find_next;
 use crate::finding::Finding;
@@ -21,7 +21,7 @@ use crate::forgetting::{Newest, forget};
 use crate::histories::Histories;
 use crate::standing::Standing;
 use crate::step_error::StepError;
-use crate::stream::may_come_next;
+use crate::stream::LAST_MOMENT;
 use crate::survey_end::SurveyEnd;
 use crate::transaction::Transaction;
 use crate::troubled::Troubled;
@@ -47,7 +47,7 @@ pub struct Survey<H: BuildHasher> {
 
 impl<H: BuildHasher> Model for Survey<H> {
     ghost use Rattle.std.specs.Prelude.{◌≡◌, ◌≤◌, ◌+◌, [], false};
-    ghost use Rattle.sip_standard.specs.LogSays.{most_entries};
+    ghost use Rattle.sip_verdict.specs.Room.{most_surveyed};
     ghost use Rattle.sip_verdict.specs.Surveys.{Surveying};
     ghost use Rattle.sip_verdict.specs.inner.TablesTracking.{MayTake};
     ghost use Rattle.sip_verdict.specs.inner.Surveying.{AreWatched, IsFresh};
@@ -57,7 +57,30 @@ impl<H: BuildHasher> Model for Survey<H> {
     ghost view = { λ s. record { number = s.number; moment = s.moment; texts = s.standing.book; tables = s.standing.tables; deaf = s.troubled.deaf.items; histories = s.histories; left = s.left; failed = s.failed } };
 
     ghost invariant = { λ s. s.failed ≡ false → MayTake s.standing.book s.standing.tables (s.number + 1) s.moment × AreWatched [] s.standing.tables s.troubled
-        × IsFresh s.troubled × (s.left ≤ most_entries + 1) × (s.number ≤ most_entries) };
+        × IsFresh s.troubled × (s.left ≤ most_surveyed + 1) × (s.number ≤ most_surveyed) };
+}
+
+/// The most entries of a survey.
+const MOST_ENTRIES: u32 = 4_000_000_000;
+
+/// The most transactions that a survey has at a time.
+const MOST_TRANSACTIONS: u32 = 2_000_000;
+
+/// Whether a survey of so many entries and transactions has room for one entry more, which may begin two transactions.
+fn is_room(entries: u32, transactions: u32) -> bool
+    ensures { IsTrue result ↔ HasRoom entries transactions }
+{
+    entries < MOST_ENTRIES && transactions <= MOST_TRANSACTIONS - 2
+}
+
+/// Whether the entry may come after one of this number and moment, where there are so many transactions.
+fn may_follow(number: u32, moment: u64, transactions: u32, entry: &Entry) -> bool
+    ensures { IsTrue result ↔ MayFollow number moment transactions entry.now.number entry.now.moment }
+{
+    if !is_room(number, transactions) || entry.number != number + 1 {
+        return false;
+    }
+    moment <= entry.moment && entry.moment <= LAST_MOMENT
 }
 
 impl<H: BuildHasher + Drop> Survey<H> {
@@ -65,6 +88,7 @@ impl<H: BuildHasher + Drop> Survey<H> {
     pub fn new(alloc: Global, params: Params, hasher: H) -> Survey<H>
         ensures stands { SurveysFor result [] }
         ensures times { result.tables.times ≡ params }
+        ensures none { result.tables.keys ≡ [] }
     {
         Survey {
             alloc,
@@ -78,19 +102,28 @@ impl<H: BuildHasher + Drop> Survey<H> {
         }
     }
 
-    /// Whether the entry may come next: its number is one above that of the entry before, counted from 1, its moment is not
-    /// below that one's, and both are within the limits of a log. After an error any entry may.
-    pub fn may_take(&self, entry: &Entry) -> bool
-        ensures { IsTrue result ↔ (self.now.failed ≡ false → MayComeNext self.now.number self.now.moment entry.now.number entry.now.moment) }
+    /// Whether there is room for one entry more: a survey takes at most 4,000,000,000 entries, and has at most 2,000,000 transactions at a
+    /// time that it did not forget. An entry begins at most two.
+    pub fn has_room(&self) -> bool
+        ensures { IsTrue result ↔ HasRoom self.now.number (length self.now.tables.keys) }
     {
-        self.failed || may_come_next(self.number, self.moment, entry)
+        is_room(self.number, self.standing.transactions())
+    }
+
+    /// Whether the entry may come next: its number is one above that of the entry before, counted from 1, its moment is not below that
+    /// one's and within the limits of a log, and there is room for it. After an error any entry may.
+    pub fn may_take(&self, entry: &Entry) -> bool
+        ensures { IsTrue result ↔ (self.now.failed ≡ false → MayFollow self.now.number self.now.moment (length self.now.tables.keys) entry.now.number entry.now.moment) }
+    {
+        let transactions = self.standing.transactions();
+        self.failed || may_follow(self.number, self.moment, transactions, entry)
     }
 
     /// Judges the next entry, and appends what is found at it: the fault of its message, then the transactions that break by number,
     /// then those that are followed no further by number. Each transaction is found once. After an error every call answers
     /// `StepError::Failed`, and appends nothing.
     pub fn entry(&mut self, entry: &Entry, found: &mut Vec<Finding>) -> Result<(), StepError>
-        requires { self.old.failed ≡ false → MayComeNext self.old.number self.old.moment entry.now.number entry.now.moment }
+        requires { self.old.failed ≡ false → MayFollow self.old.number self.old.moment (length self.old.tables.keys) entry.now.number entry.now.moment }
         ensures found { OnOk result ((es : List (Observation KeyParts)) → SurveysFor self.old es
             → (e : Observation KeyParts) × (here : List Finding) × Sees es (item entry.now) e
             × AreFoundAt self.old.tables.times es e here × (found.new.items ≡ found.old.items ++ here) × SurveysFor self.new (es ++ e ∷ [])) }
@@ -99,6 +132,7 @@ impl<H: BuildHasher + Drop> Survey<H> {
         ensures newest { OnOk result ((self.new.number ≡ entry.now.number) × (self.new.moment ≡ entry.now.moment)) }
         ensures front { OnErr result ((more : List Finding) × (found.new.items ≡ found.old.items ++ more)) }
         ensures keyless { OnOk result (ConcernsNone (item entry.now) → All (Contains self.old.texts) self.new.texts) }
+        ensures keys { OnOk result (length self.new.tables.keys ≤ length self.old.tables.keys + 2) }
         ensures times { OnOk result (self.new.tables.times ≡ self.old.tables.times) }
     {
         if self.failed {

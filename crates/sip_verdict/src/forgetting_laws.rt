@@ -1,15 +1,18 @@
 //! Laws of surveys that forget transactions. The functions do nothing: their contracts are the laws.
-ghost use Rattle.std.specs.Prelude.{◌≡◌, ◌↔◌, ◌≤◌, ◌++◌, ◌∷◌, [], ℕ, Bool, true, false, None, Some, List, AllPairs};
+ghost use Rattle.std.specs.Prelude.{◌≡◌, ◌≢◌, ◌↔◌, ◌≤◌, ◌+◌, ◌++◌, ◌∷◌, [], ℕ, Bool, true, false, None, Some, List, AllPairs};
 ghost use Rattle.sip_standard.specs.Key.{KeyParts};
 ghost use Rattle.sip_standard.specs.KeyMachine.{machine_of_key};
 ghost use Rattle.sip_standard.specs.LogEntry.{Item};
+ghost use Rattle.sip_standard.specs.LogSays.{most_entries};
 ghost use Rattle.sip_standard.specs.Observation.{Observation};
+ghost use Rattle.sip_standard.specs.declared.log_reason.LogReason.TheVariants.{Limit};
 ghost use Rattle.sip_standard.specs.Seen.{AreSeen};
 ghost use Rattle.sip_standard.specs.Times.{Times};
 ghost use Rattle.sip_standard.specs.VerdictOf.{events_for};
 ghost use Rattle.sip_part.specs.Part.{PartOf};
 ghost use Rattle.sip_verdict.specs.declared.finding.Finding.{Finding};
 ghost use Rattle.sip_verdict.specs.declared.survey_end.SurveyEnd.{SurveyEnd};
+ghost use Rattle.sip_verdict.specs.declared.survey_end.SurveyEnd.TheVariants.{LogFault};
 ghost use Rattle.sip_verdict.specs.Forgetting.{HasSameTroubleAfter, remembered};
 ghost use Rattle.sip_verdict.specs.ForgettingText.{IsToldForgetting};
 ghost use Rattle.sip_verdict.specs.Entries.{newest_moment};
@@ -56,8 +59,8 @@ pub fn what_is_idle_again_is_found_at_the_same_entries()
 {}
 
 /// A survey that forgets nothing is one of those that may forget: what is found and written of an input then can be what is found and written
-/// of it by a survey that forgets.
+/// of it by a survey that forgets. So it is unless more than 1,000,000 entries come, which only a survey that forgets reads on.
 pub fn a_survey_may_forget_nothing()
-    ensures whole { (age : ℕ) (input : List ℕ) (found : List Finding) (end : SurveyEnd) (text : List ℕ) → IsToldOf input found end text → IsToldForgetting age None input found end text }
-    ensures part { (age : ℕ) (part : PartOf) (input : List ℕ) (found : List Finding) (end : SurveyEnd) (text : List ℕ) → IsPartToldOf part input found end text → IsToldForgetting age (Some part) input found end text }
+    ensures whole { (age : ℕ) (input : List ℕ) (found : List Finding) (end : SurveyEnd) (text : List ℕ) → end ≢ LogFault (most_entries + 1) Limit → IsToldOf input found end text → IsToldForgetting age None input found end text }
+    ensures part { (age : ℕ) (part : PartOf) (input : List ℕ) (found : List Finding) (end : SurveyEnd) (text : List ℕ) → end ≢ LogFault (most_entries + 1) Limit → IsPartToldOf part input found end text → IsToldForgetting age (Some part) input found end text }
 {}

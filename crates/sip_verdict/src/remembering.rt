@@ -10,12 +10,11 @@ ghost use Rattle.sip_verdict.specs.declared.survey_error.SurveyError.TheVariants
 ghost use Rattle.sip_verdict.specs.ForgettingText.{IsLeftOf, IsToldForgetting};
 ghost use Rattle.sip_verdict.specs.SurveyText.{SumsUp};
 ghost use Rattle.sip_verdict.specs.Surveys.{SurveysFor};
-ghost use Rattle.sip_verdict.specs.inner.ForgettingLogs.{IsHorizonOf, IsWrittenForgetting, RemembersRead};
-ghost use Rattle.sip_verdict.specs.inner.SurveyingLogs.{IsSurveyAt};
+ghost use Rattle.sip_verdict.specs.inner.ForgettingLogs.{IsHorizonOf, IsStreamAt, IsWrittenForgetting, RemembersRead};
 
 use crate::following::Survey;
 use crate::horizon::Horizon;
-use crate::reading::{Next, read_header, read_next};
+use crate::reading::{Next, read_header, read_on};
 use crate::step_error::StepError;
 use crate::summary::Summary;
 use crate::survey_end::SurveyEnd;
@@ -70,7 +69,7 @@ fn write_on<R: Source, W: Sink, H: BuildHasher + Drop>(
     part: Option<&Part>,
     age: u64,
 ) -> Result<Summary, SurveyError>
-    requires at { IsSurveyAt survey.old progress.old }
+    requires at { IsStreamAt survey.old progress.old }
     requires first { survey.old.number ≡ 0 }
     ensures surveyed { IfOk result (λ summary. (start : Option (List ℕ))
         → RemembersRead age (option_copied part.entry) survey.old.tables.times survey.old [] [] start (beside_source progress.old (R.left reader.old) (R.has_failed reader.old))
@@ -85,12 +84,19 @@ fn write_on<R: Source, W: Sink, H: BuildHasher + Drop>(
     let mut horizon = Horizon::new(age);
     let mut count = 0;
     loop {
-        match read_next(progress, buffer, reader)? {
+        match read_on(progress, buffer, reader, count)? {
             Next::Entry(mut entry) => {
-                count = entry.number;
                 found.clear();
                 cut_to(alloc, part, &mut entry)?;
                 forget_due(survey, &mut horizon)?;
+                if !survey.has_room() {
+                    let end = SurveyEnd::LogFault {
+                        entry: entry.number,
+                        reason: LogReason::Limit,
+                    };
+                    return finish(alloc, writer, end, counts);
+                }
+                count = entry.number;
                 survey.entry(&entry, &mut found)?;
                 counts = put_findings(alloc, writer, survey, found.as_slice(), counts)?;
                 horizon.note(entry.number, entry.moment);

@@ -52,7 +52,7 @@ impl<H: BuildHasher> Model for Judge<H> {
 const MOST_ENTRIES: u32 = 1_000_000;
 
 /// The last moment of a log.
-const LAST_MOMENT: u64 = 9_999_999_999_999;
+pub(crate) const LAST_MOMENT: u64 = 9_999_999_999_999;
 
 /// Whether the entry may come after one of this number and moment.
 pub(crate) fn may_come_next(number: u32, moment: u64, entry: &Entry) -> bool

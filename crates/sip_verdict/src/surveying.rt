@@ -5,9 +5,9 @@ ghost use Rattle.sip_log.specs.Reading.{beside_source};
 ghost use Rattle.sip_verdict.specs.declared.finding.Finding.{Finding};
 ghost use Rattle.sip_verdict.specs.declared.survey_error.SurveyError.TheVariants.{Read, Write};
 ghost use Rattle.sip_log.specs.Told.{item};
-ghost use Rattle.sip_verdict.specs.SurveyParts.{IsPartToldOf};
+ghost use Rattle.sip_verdict.specs.SurveyParts.{IsPartToldOf, IsTaken};
 ghost use Rattle.sip_verdict.specs.SurveyText.{IsToldOf, SumsUp, end_text};
-ghost use Rattle.sip_verdict.specs.inner.SurveyingLogs.{AreCounted, AreLinesBy, IsLineBy, IsSurveyAt, IsTaken, IsToldIn, IsWritten, SurveysRead, TellsOf};
+ghost use Rattle.sip_verdict.specs.inner.SurveyingLogs.{AreCounted, AreLinesBy, IsLineBy, IsSurveyAt, IsToldIn, IsWritten, SurveysRead, TellsOf};
 
 use crate::finding::Finding;
 use crate::following::Survey;

@@ -40,15 +40,15 @@ StandsAt failed start items now = ⊤
 abbrev pub Stands : Option (List ℕ) → List Item → ReaderState → Type 0
 Stands start items now = StandsAt now.stage start items now
 
-InOrder-push : (format : Format) (last : ℕ) (items : List Item) (e : Item) → InOrder format last items → last_of last items ≤ e.moment → IsEntry format e → InOrder format last (items ++ e ∷ [])
+pub InOrder-push : (format : Format) (last : ℕ) (items : List Item) (e : Item) → InOrder format last items → last_of last items ≤ e.moment → IsEntry format e → InOrder format last (items ++ e ∷ [])
 InOrder-push format last [] e order late entry = (late, entry, tt)
 InOrder-push format last (x ∷ xs) e order late entry = (order.0, order.1, InOrder-push format x.moment xs e order.2 late entry)
 
-last_of-push : (last : ℕ) (items : List Item) (e : Item) → last_of last (items ++ e ∷ []) ≡ e.moment
+pub last_of-push : (last : ℕ) (items : List Item) (e : Item) → last_of last (items ++ e ∷ []) ≡ e.moment
 last_of-push last [] e = refl
 last_of-push last (x ∷ xs) e = last_of-push x.moment xs e
 
-texts-push : (items : List Item) (e : Item) (behind : List ℕ) → flat_map entry_says items ++ (entry_says e ++ behind) ≡ flat_map entry_says (items ++ e ∷ []) ++ behind
+pub texts-push : (items : List Item) (e : Item) (behind : List ℕ) → flat_map entry_says items ++ (entry_says e ++ behind) ≡ flat_map entry_says (items ++ e ∷ []) ++ behind
 texts-push [] e behind = ap (λ (t : List ℕ). t ++ behind) (sym (append-nil (entry_says e)))
 texts-push (x ∷ xs) e behind =
     append_assoc (entry_says x) (flat_map entry_says xs) (entry_says e ++ behind)
@@ -72,15 +72,15 @@ module _ (input : List ℕ) (format : Format) (p : Times) (items : List Item) (r
 pub Begins-header : (input : List ℕ) (format : Format) (p : Times) (behind : List ℕ) → Header format p input behind → Begins input format p [] behind
 Begins-header input format p behind is = record { header = is; few = omega arith; order = tt }
 
-flat_map-append : (xs ys : List Item) → flat_map entry_says (xs ++ ys) ≡ flat_map entry_says xs ++ flat_map entry_says ys
+pub flat_map-append : (xs ys : List Item) → flat_map entry_says (xs ++ ys) ≡ flat_map entry_says xs ++ flat_map entry_says ys
 flat_map-append [] ys = refl
 flat_map-append (x ∷ xs) ys = ap (λ (t : List ℕ). entry_says x ++ t) (flat_map-append xs ys) ∙ sym (append_assoc (entry_says x) (flat_map entry_says xs) (flat_map entry_says ys))
 
-InOrder-append : (format : Format) (last : ℕ) (xs ys : List Item) → InOrder format last xs → InOrder format (last_of last xs) ys → InOrder format last (xs ++ ys)
+pub InOrder-append : (format : Format) (last : ℕ) (xs ys : List Item) → InOrder format last xs → InOrder format (last_of last xs) ys → InOrder format last (xs ++ ys)
 InOrder-append format last [] ys order more = more
 InOrder-append format last (x ∷ xs) ys order more = (order.0, order.1, InOrder-append format x.moment xs ys order.2 more)
 
-last_of-append : (last : ℕ) (xs ys : List Item) → last_of last (xs ++ ys) ≡ last_of (last_of last xs) ys
+pub last_of-append : (last : ℕ) (xs ys : List Item) → last_of last (xs ++ ys) ≡ last_of (last_of last xs) ys
 last_of-append last [] ys = refl
 last_of-append last (x ∷ xs) ys = last_of-append x.moment xs ys
 

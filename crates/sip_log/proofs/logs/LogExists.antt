@@ -241,7 +241,7 @@ line-some format last rest = elim (front-or-not rest) [
   ]
 ]
 
-next-some : (format : Format) (count last : ℕ) (rest : List ℕ) → Comes (EntryComes format count last rest)
+pub next-some : (format : Format) (count last : ℕ) (rest : List ℕ) → Comes (EntryComes format count last rest)
 next-some format count last [] = (ends, inl (refl, refl))
 next-some format count last (x ∷ xs) =
     let next = Unless-some (count < most_entries) faults.Limit _ (at_most (suc count) most_entries) (λ few. line-some format last (x ∷ xs)) in
@@ -272,7 +272,7 @@ line-shorter format last rest e behind (inr (line, after, front, inr (head, is, 
     let body = Unless-gives _ _ e behind _ (Unless-gives _ _ e behind _ next) in
     omega (arith, body-shorter head after e behind body, ap length front.whole, length-append line (line_feed ∷ after))
 
-next-shorter : (format : Format) (count last : ℕ) (rest : List ℕ) (e : Item) (behind : List ℕ) → EntryComes format count last rest (gives e behind) → length behind < length rest
+pub next-shorter : (format : Format) (count last : ℕ) (rest : List ℕ) (e : Item) (behind : List ℕ) → EntryComes format count last rest (gives e behind) → length behind < length rest
 next-shorter format count last rest e behind (inl (none, same)) = cc
 next-shorter format count last rest e behind (inr (some, next)) = line-shorter format last rest e behind (Unless-gives _ _ e behind _ next)
 

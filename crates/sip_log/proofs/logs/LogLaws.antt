@@ -184,7 +184,7 @@ ComesNext-one format count last rest n n2 (inr a) (inr b) = Unless-one _ _ n n2 
 
 -- Logs.
 
-next_at-one : (end end2 : LogEnd) → next_at end ≡ next_at end2 → end ≡ end2
+pub next_at-one : (end end2 : LogEnd) → next_at end ≡ next_at end2 → end ≡ end2
 next_at-one Clean Clean same = refl
 next_at-one Clean (Stops reason) same = cc
 next_at-one (Stops reason) Clean same = cc

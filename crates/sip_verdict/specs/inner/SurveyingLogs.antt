@@ -15,7 +15,7 @@ use Rattle.sip_verdict.specs.declared.survey_error.SurveyError.TheVariants.{Read
 use Rattle.sip_verdict.specs.declared.surveying.Counts.{Counts}
 use Rattle.sip_standard.specs.Observation.{Observation}
 use Rattle.sip_verdict.specs.SurveyOf.{IsSurveyAfter, IsSurveyOf, IsFoundAt, verdict_of}
-use Rattle.sip_verdict.specs.SurveyParts.{IsPartItem, IsPartSurveyOf, IsPartToldOf}
+use Rattle.sip_verdict.specs.SurveyParts.{IsPartSurveyOf, IsPartToldOf, IsTaken}
 use Rattle.sip_verdict.specs.SurveyText.{SumsUp, is_undecided, IsFirstOf, IsLastOf, IsLineOf, IsToldOf, transaction_words}
 use Rattle.sip_verdict.specs.Surveys.{Surveying, SurveysFor}
 use Rattle.sip_verdict.specs.inner.Walking.{HasRead}
@@ -73,11 +73,6 @@ abbrev pub AreLinesBy : Surveying → List Finding → List ℕ → Type 0
 AreLinesBy s [] text = text ≡ []
 AreLinesBy s (f ∷ found) text = (line : List ℕ) × (more : List ℕ) × IsLineBy s f line × AreLinesBy s found more × (text ≡ line ++ more)
 
--- the item as it is surveyed: itself, or as it is in the log of the part
-abbrev pub IsTaken : Option PartOf → Item → Item → Type 0
-IsTaken None item taken = taken ≡ item
-IsTaken (Some part) item taken = IsPartItem part item taken
-
 -- the log as it is surveyed
 abbrev pub AreTaken : Option PartOf → List Item → List Item → Type 0
 AreTaken part [] [] = ⊤
@@ -102,13 +97,14 @@ pub record IsWritten (part : Option PartOf) (input : List ℕ) (summary : Summar
   pub sums : SumsUp found summary
   pub written : Appends before after text
 
--- the survey goes on, and took all entries that were read up to this place
+-- the survey goes on, and took all entries that were read up to this place, with each of which at most two transactions came
 pub record IsSurveyAt (s : Surveying) (place : ProgressState) : Type 0 where
   pub on : place.stage ≡ entries
   pub goes_on : s.failed ≡ false
   pub counts : s.number ≡ place.count
   pub newest : s.moment ≡ place.last
   pub few : place.count ≤ most_entries
+  pub room : length s.tables.keys ≤ place.count + place.count
 
 -- the survey stands for the entries that were read of the input, as they are taken, and this was found at them: with what is found at those that are left it is found at all
 pub record SurveysRead (part : Option PartOf) (s : Surveying) (found : List Finding) (start : Option (List ℕ)) (now : log.ReaderState) : Type 0 where

@@ -1,4 +1,4 @@
-use Rattle.std.proofs.Common.{None, ap, inl, refl, ◌∙◌, subst, arith}
+use Rattle.std.proofs.Common.{None, length, ap, inl, refl, ◌∙◌, subst, arith}
 use Rattle.std.proofs.lemmas.Option.{same_Some}
 use Rattle.sip_machine.specs.Texts.{Keeps}
 use Rattle.sip_log.specs.Told.{item}
@@ -132,3 +132,18 @@ returns-in_ok-pass_each-in-Heard-clause-taken g c = λ es fresh tracks late.
     s.tables c.touch_each.new.tables c.pass_each-in-Heard.new.tables c.args.troubled.now c.grow.new.self c.pass_each-in-Heard.new.troubled grown.deaf.0
     c.requires.watched.long c.requires.may.passes.long fresh grown.deaf.1 grown.deaf.2 grown.broken grown.wide c.in_ok-concerned-in-Heard.ensures.touched c.known-in-Heard.ensures.unique
     c.in_ok-pass_each-in-Heard.ensures.keys is_heard.1 (c.in_ok-concerned-in-Heard.ensures.same ∙ is_heard.3) (rw c.in-Heard.is at c.in_ok-told.ensures.observed) c.in_ok-pass_each-in-Heard.ensures.passed es tracks late
+
+pub returns-in_ok-pass_each-in-Unheard-clause-keys : goal.returns-in_ok-pass_each-in-Unheard-clause-keys
+returns-in_ok-pass_each-in-Unheard-clause-keys g c = let same = ap length c.in_ok-pass_each-in-Unheard.ensures.keys in omega arith
+
+pub returns-in_ok-pass_each-in-Fault-clause-keys : goal.returns-in_ok-pass_each-in-Fault-clause-keys
+returns-in_ok-pass_each-in-Fault-clause-keys g c = let same = ap length c.in_ok-pass_each-in-Fault.ensures.keys in omega arith
+
+pub returns-in_ok-pass_each-in-Restart-clause-keys : goal.returns-in_ok-pass_each-in-Restart-clause-keys
+returns-in_ok-pass_each-in-Restart-clause-keys g c = let same = ap length c.in_ok-pass_each-in-Restart.ensures.keys in omega arith
+
+pub returns-in_ok-pass_each-in-Heard-clause-keys : goal.returns-in_ok-pass_each-in-Heard-clause-keys
+returns-in_ok-pass_each-in-Heard-clause-keys g c =
+    let few = few_keys c.in-Heard.concerned (each c.in_ok-concerned-in-Heard.concerned) c.args.standing.now.tables c.touch_each.new.tables c.in_ok-concerned-in-Heard.ensures.touched in
+    let same = ap length c.in_ok-pass_each-in-Heard.ensures.keys in
+    omega arith

@@ -14,6 +14,18 @@ loop-found-init g c = record {
   told = λ start reads. subst (λ fs. SurveysRead None c.args.survey.now fs start (beside_source c.args.progress.now (g.R.Source.left c.args.reader.now) (g.R.Source.has_failed c.args.reader.now))) (sym c.new-found.ensures.items) reads;
 }
 
+pub entry-requires : goal.entry-requires
+entry-requires g c = λ goes_on.
+    let l = c.loop-found in
+    let moves = rw c.in-Entry.is at c.in_ok-entry.ensures.moves in
+    let number = moves.1.number_is in
+    let counts = l.invariant.at.counts in
+    let newest = l.invariant.at.newest in
+    let order = moves.1.order in
+    let room = l.invariant.at.room in
+    let low = moves.4 in
+    record { next = omega (arith, number, counts); order = omega (arith, newest, order); limit = moves.1.moment_high; room = (omega (arith, counts, low), omega (arith, room, low)) }
+
 pub loop-found-preserved : goal.loop-found-preserved
 loop-found-preserved g c =
     let l = c.loop-found in
@@ -29,6 +41,7 @@ loop-found-preserved g c =
         counts = taken.newest.0 ∙ sym moves.2;
         newest = taken.newest.1 ∙ sym moves.3;
         few = (let number = moves.1.number_is in let count = moves.2 in let low = moves.4 in omega arith);
+        room = (let number = moves.1.number_is in let count = moves.2 in let more = taken.keys in let room = l.invariant.at.room in omega arith);
       };
       counts_are = sym taken.newest.0;
       told = λ start reads.

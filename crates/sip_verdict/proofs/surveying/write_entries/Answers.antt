@@ -26,6 +26,21 @@ loop-found-init g c = record {
   );
 }
 
+pub entry-requires : goal.entry-requires
+entry-requires g c = λ goes_on.
+    let l = c.loop-found in
+    let moves = rw c.in-Entry.is at c.in_ok-entry.ensures.moves in
+    let number = moves.1.number_is in
+    let same = c.in_ok-cut_to-in-Entry.ensures.number in
+    let moment = c.in_ok-cut_to-in-Entry.ensures.moment in
+    let counts = l.invariant.at.counts in
+    let newest = l.invariant.at.newest in
+    let order = moves.1.order in
+    let high = moves.1.moment_high in
+    let room = l.invariant.at.room in
+    let low = moves.4 in
+    record { next = omega (arith, number, same, counts); order = omega (arith, newest, order, moment); limit = omega (arith, high, moment); room = (omega (arith, counts, low), omega (arith, room, low)) }
+
 pub loop-found-preserved : goal.loop-found-preserved
 loop-found-preserved g c =
     let l = c.loop-found in
@@ -47,6 +62,7 @@ loop-found-preserved g c =
         counts = taken.newest.0 ∙ c.in_ok-cut_to-in-Entry.ensures.number ∙ sym moves.2;
         newest = taken.newest.1 ∙ c.in_ok-cut_to-in-Entry.ensures.moment ∙ sym moves.3;
         few = (let number = moves.1.number_is in let count = moves.2 in let low = moves.4 in omega arith);
+        room = (let number = moves.1.number_is in let count = moves.2 in let more = taken.keys in let room = l.invariant.at.room in omega arith);
       };
       counts_are = sym (taken.newest.0 ∙ c.in_ok-cut_to-in-Entry.ensures.number);
       told = (

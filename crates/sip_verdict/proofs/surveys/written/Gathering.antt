@@ -22,8 +22,8 @@ use Rattle.sip_standard.specs.Seen.{AreSeen}
 use Rattle.sip_standard.specs.VerdictOf.{keys_in, HasTrouble, IsVerdictAfter, IsVerdictOf, Sees}
 use Rattle.sip_verdict.specs.SurveyOf.{AreFoundAt, IsSurveyAfter}
 use Rattle.sip_verdict.specs.Surveys.{Surveying, SurveysFor}
-use Rattle.sip_verdict.specs.SurveyParts.{IsPartLog}
-use Rattle.sip_verdict.specs.inner.SurveyingLogs.{AreTaken, IsSurveyIn, IsTaken, SurveysRead, IsToldIn}
+use Rattle.sip_verdict.specs.SurveyParts.{IsPartLog, IsTaken}
+use Rattle.sip_verdict.specs.inner.SurveyingLogs.{AreTaken, IsSurveyIn, SurveysRead, IsToldIn}
 use Rattle.sip_verdict.specs.inner.Walking.{HasRead}
 use Rattle.sip_verdict.proofs.judges.JudgingLemmas.{seen-push}
 use Rattle.sip_verdict.specs.SurveyText.{IsSurveyText, end_text}

@@ -24,7 +24,8 @@ use Rattle.sip_standard.specs.VerdictOf.{keys_in, IsVerdictOf, Sees}
 use Rattle.sip_verdict.specs.SurveyOf.{AreFoundAt, IsSurveyAfter, HoldsOf, IsFoundAt, verdict_of}
 use Rattle.sip_verdict.specs.SurveyText.{SumsUp, end_text, is_undecided, AreWordsOf, IsFirstOf, IsLastOf, IsTextOf, entry_of, transaction_words}
 use Rattle.sip_verdict.specs.Surveys.{Surveying, SurveysFor}
-use Rattle.sip_verdict.specs.inner.SurveyingLogs.{AreCounted, AreTold, IsSurveyIn, IsTaken, IsWritten, SurveysRead, AreLinesBy, IsLineBy, IsToldIn, Tells, TellsOf, line_with, words_of}
+use Rattle.sip_verdict.specs.SurveyParts.{IsTaken}
+use Rattle.sip_verdict.specs.inner.SurveyingLogs.{AreCounted, AreTold, IsSurveyIn, IsWritten, SurveysRead, AreLinesBy, IsLineBy, IsToldIn, Tells, TellsOf, line_with, words_of}
 use Rattle.sip_verdict.specs.inner.Walking.{HasRead}
 use Rattle.sip_verdict.proofs.surveys.written.Gathering.{found_on, entries_in, gathered_of, header_lacks, told_without}
 use Rattle.std.specs.Option.{ok_or}

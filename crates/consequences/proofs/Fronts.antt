@@ -1,4 +1,4 @@
--- What each verdict says by itself: the entries before the one that it names go well.
+-- What each verdict says by itself, since the entries before the one that it names go well.
 use Rattle.std.proofs.Common.{◌≡◌, ◌+◌, ◌⊎◌, inl, inr, refl, sym, subst, ◌∙◌, ap, ℕ, List, [], ◌∷◌, ◌++◌, length, append_assoc}
 use Rattle.std.proofs.lemmas.List.{append-nil}
 use Rattle.sip_standard.specs.Key.{KeyParts}
@@ -16,7 +16,7 @@ use Rattle.consequences.specs.Front.{GoWell, IsFirstInTrouble, IsFirstFault, IsF
 abbrev Entries : Type 0
 Entries = List (Observation KeyParts)
 
--- items before others go well after entries, and the verdict is that of the trouble of the next, or of how all ends
+-- the first items go well after the entries es, and the verdict is that of the end after them, or of trouble of the next item
 pub record Ends (p : Times) (es : Entries) (items : List Item) (end : LogEnd) (v : Verdict) : Type 0 where
   pub before : List Item
   pub front : Entries
@@ -26,7 +26,7 @@ pub record Ends (p : Times) (es : Entries) (items : List Item) (end : LogEnd) (v
   pub last : ((rest ≡ []) × IsVerdictAfter p (es ++ front) [] end v)
       ⊎ ((item : Item) × (after : List Item) × (e : Observation KeyParts) × (rest ≡ item ∷ after) × Sees (es ++ front) item e × HasTrouble p (es ++ front) e v)
 
--- a verdict after entries in no trouble is one of these
+-- a verdict after entries in no trouble has items that go well first, and then the end or an item in trouble
 ends : (p : Times) (es : Entries) (items : List Item) (end : LogEnd) (v : Verdict) → IsVerdictAfter p es items end v → Ends p es items end v
 ends p es [] end v is =
     record { before = []; front = []; rest = []; whole = refl; well = tt; last = inl (refl, subst (λ fs. IsVerdictAfter p fs [] end v) (sym (append-nil es)) is) }
@@ -53,7 +53,7 @@ ends p es (item ∷ items) end v (e, sees, inr (formed, runs, narrow, more)) =
     }
 
 module _ (input : List ℕ) where
-  -- a verdict that names trouble of an entry names that of the first one in trouble
+  -- the first entry that is in trouble has the number that follows those of the entries that go well
   first_in_trouble : (p : Times) (items : List Item) (end : LogEnd) (v : Verdict) (number : ℕ) → LogSays input p items end → (found : Ends p [] items end v)
       → (item : Item) (after : List Item) (e : Observation KeyParts) → found.rest ≡ item ∷ after → Sees found.front item e → number ≡ length found.front + 1
       → IsFirstInTrouble input p number found.front e
@@ -69,6 +69,7 @@ module _ (input : List ℕ) where
         numbered = numbered;
       }
 
+  -- the verdict of a malformed log names the first fault
   pub first_fault : (number : ℕ) (fault : Fault) → IsVerdictOf input (Malformed number fault) → IsFirstFault input number fault
   first_fault number fault (inl (lacks, is)) = absurd cc
   first_fault number fault (inr (p, items, end, says, is)) = by (ends p [] items end (Malformed number fault) is)

@@ -4,7 +4,7 @@ ghost use Rattle.std.specs.Prelude.{◌<◌, All, AllPairs, IfOk};
 use std::alloc::Global;
 use std::test::Fail;
 
-/// Numbers by chance.
+/// Random numbers.
 #[derive(Drop)]
 pub(crate) struct Chance(u64);
 
@@ -14,7 +14,7 @@ impl Chance {
         Chance(seed)
     }
 
-    /// A number below the limit, which is not 0.
+    /// A random number below the limit, which is not 0.
     pub(crate) fn below(&mut self, limit: u64) -> u64 {
         self.0 = self
             .0

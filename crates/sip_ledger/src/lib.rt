@@ -1,4 +1,4 @@
-//! What the states of one set owe: one list of debts for all, and for each state a row of bits over it.
+//! What the states of one set owe: one list of debts for all of them, and for each state a row of bits over it.
 #![tactic(auto)]
 
 mod accounts;

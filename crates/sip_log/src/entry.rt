@@ -30,7 +30,8 @@ pub struct Entry {
     pub bytes: Vec<u8>,
 }
 
-/// Reads the entry after `count` others, the last of which is at the moment `last`, into the buffer. None at the end of the log.
+/// Reads the entry after `count` others, the last of which is at the moment `last`, into the buffer. The answer is `None` at the end
+/// of the log.
 #[inline(always)]
 pub(crate) fn next_entry<R: Source>(
     buffer: Vec<u8>,
@@ -58,7 +59,7 @@ pub(crate) fn next_entry<R: Source>(
     }
 }
 
-/// Reads an entry by its line.
+/// Reads an entry that must come, since bytes are left: its line, and what stands after it.
 #[inline(always)]
 fn read_entry<R: Source>(
     buffer: Vec<u8>,
@@ -85,7 +86,7 @@ fn read_entry<R: Source>(
     after_line(buffer, window, source, number, last, head)
 }
 
-/// Reads what is after an entry's line, if the line keeps the limits and the order.
+/// Reads what stands after an entry's line, where the line keeps the limits and the order.
 #[inline(always)]
 fn after_line<R: Source>(
     buffer: Vec<u8>,
@@ -108,7 +109,7 @@ fn after_line<R: Source>(
     read_body(buffer, window, source, number, head)
 }
 
-/// Reads what an entry has after its line: a message, or nothing.
+/// Reads the message after an entry's line, or nothing where the entry has none.
 #[inline(always)]
 fn read_body<R: Source>(
     mut buffer: Vec<u8>,

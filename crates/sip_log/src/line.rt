@@ -17,7 +17,7 @@ const LAST_MOMENT: u64 = 9_999_999_999_999;
 /// The most bytes of a message.
 const LONGEST_MESSAGE: u64 = 65_535;
 
-/// What an entry's line tells: of a message its moment and its length; of an entry without one its moment.
+/// What an entry's line tells: the action and the moment, and for a message its length too.
 #[derive(Clone, Copy)]
 pub(crate) enum Head {
     Message(Action, u64, u64),
@@ -63,7 +63,7 @@ pub(crate) fn is_within_limits(action: Action, moment: u64, len: u64) -> bool
     moment <= LAST_MOMENT && (!has_message(action) || (1..=LONGEST_MESSAGE).contains(&len))
 }
 
-/// The letter of an entry.
+/// The letter with which the line of an entry with this action begins.
 pub(crate) fn letter_of(action: Action) -> u8
     ensures { result ≡ letter action }
 {
@@ -76,7 +76,7 @@ pub(crate) fn letter_of(action: Action) -> u8
     }
 }
 
-/// What was done, by the letter of its entry.
+/// The action of the format whose letter this byte is, if there is one.
 fn action_of(format: Format, byte: u8) -> Option<Action>
     ensures { MatchOption result ((a : Action) → IsOf format a → ¬ (byte ≡ letter a)) (λ a. IsOf format a × (byte ≡ letter a)) }
 {
@@ -100,7 +100,7 @@ fn past_blank(text: &[u8]) -> Option<&[u8]>
     Some(rest)
 }
 
-/// Reads a moment, a blank and a length.
+/// Reads a moment, a blank and the length of a message, which must be the whole text.
 fn read_numbers(text: &[u8]) -> Option<(u64, u64)>
     ensures { MatchOption result
         ((moment len : ℕ) → ¬ (Numbers text.now moment len))
@@ -115,7 +115,7 @@ fn read_numbers(text: &[u8]) -> Option<(u64, u64)>
     Some((moment, len))
 }
 
-/// Reads an entry's line, without its line feed. Its numbers are kept as `number` keeps them.
+/// Reads an entry's line without its line feed, with each number as `number` keeps it.
 pub(crate) fn read_head(format: Format, line: &[u8]) -> Option<Head>
     ensures { MatchOption result
         ((h : log.Head) → ¬ (HeadLine format line.now h))

@@ -221,21 +221,21 @@ impl<'a> Message<'a> {
         Routes::new(&self.fields)
     }
 
-    /// Whether the transport of the top Via delivers what it takes: every one but UDP (RFC 3261, section 17).
+    /// Whether the transport of the top Via is reliable: every transport but UDP (RFC 3261, section 17).
     pub fn is_reliable(&self) -> bool
         ensures { result ≡ is_reliable self.now.parts.via.1.transport }
     {
         !same_text(self.top_via().transport, b"UDP")
     }
 
-    // The fields.
+    // The fields, in order.
     pub(crate) fn fields(&self) -> &[Field<'a>]
         ensures { slice_fields result ≡ self.now.message.fields }
     {
         &self.fields
     }
 
-    /// Some bytes are read as the message.
+    /// Does nothing. Its contract tells that some bytes are read as this message.
     pub fn known(&self)
         ensures { (bytes : List ℕ) × Reads bytes self.now }
     {

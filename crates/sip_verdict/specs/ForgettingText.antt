@@ -1,4 +1,4 @@
--- What a survey of a log finds and writes that forgets transactions as it goes.
+-- What a survey of a log that forgets transactions as it goes finds and writes.
 use Rattle.std.specs.Prelude.{◌≡◌, ◌≤◌, ◌+◌, ◌⊎◌, ℕ, Bool, Option, List, [], ◌∷◌, ◌++◌, length, take}
 use Rattle.sip_standard.specs.Key.{KeyParts}
 use Rattle.sip_standard.specs.Times.{Times}
@@ -19,11 +19,11 @@ use Rattle.sip_verdict.specs.SurveyOf.{AreFoundAt, IsSurveyAfter}
 use Rattle.sip_verdict.specs.SurveyParts.{IsTaken}
 use Rattle.sip_verdict.specs.SurveyText.{IsTextOf, end_text}
 
--- each entry with a number up to this one came at least so many milliseconds before the newest
+-- each entry with a number up to `until` came at least `age` milliseconds before the newest
 abbrev pub IsLongAgo : (age until : ℕ) → List (Observation KeyParts) → Type 0
 IsLongAgo age until es = newest_moment (take until es) + age ≤ newest_moment es
 
--- what is left of the entries: they as they are, or without the transactions that are over and whose last entry came so long ago
+-- what is left of the entries: they as they are, or without transactions that are over and whose last entry came at least `age` milliseconds ago
 abbrev pub IsLeftOf : (age : ℕ) → Times → (es left : List (Observation KeyParts)) → Type 0
 IsLeftOf age p es left =
     (left ≡ es) ⊎ ((until : ℕ) × (kept : KeyParts → Bool) × IsLongAgo age until es × ForgetsUpTo until p es kept × (left ≡ remembered kept es))

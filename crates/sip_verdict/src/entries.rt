@@ -29,8 +29,8 @@ use sip_standard::Fault;
 use std::alloc::{AllocError, Global};
 use std::hash::BuildHasher;
 
-/// Takes the entry that comes next: the fault of its message, if it has one. Which transactions come into trouble is added to those
-/// that are, and the entry is noted of those that it concerns.
+/// Takes the entry that comes next, and answers the fault of its message, if it has one. Transactions that come into trouble are added to
+/// those in trouble, and the entry is written into the history of each transaction that it concerns.
 fn take<H: BuildHasher>(
     alloc: Global,
     standing: &mut Standing<H>,
@@ -111,7 +111,7 @@ fn take<H: BuildHasher>(
     }
 }
 
-/// Appends that the message of the entry has this fault, if it has one.
+/// Appends the fault of the entry's message to the findings, if there is one.
 fn push_fault(entry: u32, fault: Option<Fault>, found: &mut Vec<Finding>) -> Result<(), AllocError>
     ensures pushed { OnOk result (found.new.items ≡ found.old.items ++ fault_listing entry fault) }
     ensures front { (more : List Finding) × (found.new.items ≡ found.old.items ++ more) }
@@ -122,8 +122,8 @@ fn push_fault(entry: u32, fault: Option<Fault>, found: &mut Vec<Finding>) -> Res
     Ok(())
 }
 
-/// Appends what is found at the entry that comes next: the fault of its message, the breaches by number, and then what is followed no
-/// further by number.
+/// Appends what is found at the entry that comes next: the fault of its message, the transactions that break by number, and then those
+/// that are followed no further by number.
 fn find<H: BuildHasher>(
     alloc: Global,
     standing: &mut Standing<H>,
@@ -157,7 +157,7 @@ fn find<H: BuildHasher>(
     troubled.tell(entry.number, found)
 }
 
-/// Appends what is found at the entry that comes next. Where many more messages are kept than the last sweep left, those go that no
+/// Appends what is found at the entry that comes next. Where many more messages are kept than the last sweep left, it drops those that no
 /// transaction needs.
 pub(crate) fn find_next<H: BuildHasher>(
     alloc: Global,

@@ -31,8 +31,8 @@ use std::alloc::{AllocError, Global};
 use std::hash::BuildHasher;
 use std::marker::Model;
 
-/// Judges the entries of a log as they come, each transaction for itself, and goes on after those that are in trouble. It drops the
-/// messages that it does not need any more.
+/// Judges the entries of a log as they come, each transaction for itself, and goes on after one comes into trouble. It drops the messages
+/// that it needs no more.
 #[derive(Drop)]
 pub struct Survey<H: BuildHasher> {
     alloc: Global,
@@ -84,7 +84,7 @@ fn may_follow(number: u32, moment: u64, transactions: u32, entry: &Entry) -> boo
 }
 
 impl<H: BuildHasher + Drop> Survey<H> {
-    /// No entry was judged yet. It takes no memory.
+    /// A survey that has judged no entry yet. It takes no memory.
     pub fn new(alloc: Global, params: Params, hasher: H) -> Survey<H>
         ensures stands { SurveysFor result [] }
         ensures times { result.tables.times ≡ params }
@@ -160,13 +160,13 @@ impl<H: BuildHasher + Drop> Survey<H> {
         }
     }
 
-    /// Forgets the transactions that are over and that no entry concerns whose number is above `until`: those that are in trouble, are
-    /// idle again, or have ended. It goes on as after the same entries without them. The others are numbered anew, in their order. The
-    /// messages that are kept then are just those that the others name.
+    /// Forgets the transactions that are over and that no entry with a number above `until` concerns. A transaction is over that is in trouble,
+    /// is idle again, or has ended. The survey goes on as after the same entries without the forgotten ones. The transactions that are left
+    /// are numbered anew, in their order, and the messages that are kept then are just those that they name.
     ///
-    /// Of one that was idle again, as a server is that has ended, nothing is lost. A later message of another begins a new transaction:
-    /// that a client that ended sends its request again is no breach then. So `until` is best the number that the newest entry had so
-    /// long ago that no message of an ended transaction can be on its way. After an error every call answers `StepError::Failed`.
+    /// Of a transaction that was idle again, as a server is that has ended, nothing is lost. A later message of another forgotten transaction
+    /// begins a new one: that a client that ended sends its request again is no breach then. So `until` is best the number that the newest
+    /// entry had so long ago that no message of an ended transaction can be on its way. After an error every call answers `StepError::Failed`.
     pub fn forget(&mut self, until: u32) -> Result<(), StepError>
         ensures forgets { OnOk result ((es : List (Observation KeyParts)) → SurveysFor self.old es
             → (kept : KeyParts → Bool) × ForgetsUpTo until self.old.tables.times es kept × SurveysFor self.new (remembered kept es)
@@ -202,7 +202,7 @@ impl<H: BuildHasher + Drop> Survey<H> {
         }
     }
 
-    /// How many transactions there are that it did not forget.
+    /// How many transactions the survey has that it did not forget.
     pub fn transactions(&self) -> u32
         ensures transactions { result ≡ length self.now.tables.keys }
         ensures are { (es : List (Observation KeyParts)) → SurveysFor self.now es → result ≡ length (keys_in es) }
@@ -210,7 +210,7 @@ impl<H: BuildHasher + Drop> Survey<H> {
         self.standing.transactions()
     }
 
-    /// How a log ends that ends after these entries: with how many they are, and how many transactions. None after an error.
+    /// The end of a log that ends after these entries: how many entries and how many transactions it has. None after an error.
     pub fn end(&self) -> Option<SurveyEnd>
         ensures end { result ≡ end_after self.now.number (length self.now.tables.keys) self.now.failed }
         ensures clean { (es : List (Observation KeyParts)) → SurveysFor self.now es → result ≡ Some (Clean (length es) (length (keys_in es))) }
@@ -224,7 +224,7 @@ impl<H: BuildHasher + Drop> Survey<H> {
         })
     }
 
-    /// The transaction with this number, by which a finding names it; None where no transaction has it.
+    /// The transaction with this number, by which a finding names it, and None where no transaction has the number.
     pub fn transaction(&self, number: u32) -> Option<Transaction<'_>>
         ensures { (es : List (Observation KeyParts)) → SurveysFor self.now es → 0 < number
             → IfSome (slice_get (keys_in es) (number - 1)) (λ key. IsSomeAnd result (λ t. (t.key.now ≡ key) × IsFirstOf es key t.first t.branch.now × IsLastOf es key t.last)) }
@@ -239,7 +239,7 @@ impl<H: BuildHasher + Drop> Survey<H> {
         })
     }
 
-    /// How many messages it keeps.
+    /// How many messages the survey keeps.
     pub fn kept(&self) -> usize
         ensures kept { result ≡ length self.now.texts }
         ensures few { (es : List (Observation KeyParts)) → SurveysFor self.now es → AreFewKept self.now.tables.times es result }

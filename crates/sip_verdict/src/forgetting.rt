@@ -40,7 +40,7 @@ fn is_past<H: BuildHasher>(
     }
 }
 
-/// Whether each transaction is kept: all are but those that are quiet and that no entry concerns whose number is above `until`.
+/// A flag for each transaction: false where the transaction is quiet and no entry with a number above `until` concerns it, and else true.
 fn kept_flags<H: BuildHasher>(
     alloc: Global,
     tables: &Tables<H>,
@@ -64,8 +64,8 @@ pub(crate) struct Newest {
     pub(crate) moment: u64,
 }
 
-/// Forgets the transactions that are over and that no entry concerns whose number is above `until`. The others are numbered anew, in their
-/// order. Those messages go that none of them needs at the moment of the newest entry.
+/// Forgets the transactions that are over and that no entry with a number above `until` concerns. The others are numbered anew, in their
+/// order. Messages that none of the others needs at the moment of the newest entry are dropped.
 pub(crate) fn forget<H: BuildHasher>(
     alloc: Global,
     standing: &mut Standing<H>,

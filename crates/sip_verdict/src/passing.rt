@@ -1,4 +1,4 @@
-//! What one entry leaves of the runs of the transactions.
+//! Lets an entry pass, and says what it leaves of the runs of the transactions, up to the first trouble.
 ghost use Rattle.std.specs.Prelude.{◌≡◌, ◌≤◌, ℕ, List, All, IfOk, OnOk};
 ghost use Rattle.std.specs.Option.{ForSome, option_copied};
 ghost use Rattle.sip_standard.specs.Key.{KeyParts};
@@ -28,7 +28,7 @@ pub(crate) struct Hearing {
     pub(crate) concerned: Concerned<u32>,
 }
 
-/// What an entry leaves of the runs of one transaction: some, none, or more last states than are followed.
+/// What an entry leaves of the runs of one transaction: some runs, none, or runs with more last states than a judge follows.
 #[derive(Clone, Copy)]
 pub(crate) enum Fate {
     Runs,
@@ -36,7 +36,7 @@ pub(crate) enum Fate {
     TooWide,
 }
 
-/// What an entry leaves of the runs of several, with the number of the first transaction in trouble.
+/// What an entry leaves of the runs of several transactions: all go on, or the number of the first one in trouble.
 #[derive(Clone, Copy)]
 pub(crate) enum Outcome {
     Fine,
@@ -45,7 +45,7 @@ pub(crate) enum Outcome {
 }
 
 impl Outcome {
-    /// What is left of these and of others: the first without a run, else the first with too many last states.
+    /// The outcome of two groups of transactions: the first one without a run, and if there is none the first one with too many last states.
     fn first(self, other: Outcome) -> Outcome
         ensures { result ≡ first_of self other }
     {
@@ -58,7 +58,7 @@ impl Outcome {
     }
 }
 
-/// Lets the set take the event of its key.
+/// Lets the set take the event of its key, and answers what the event leaves of its runs.
 pub(crate) fn hear(set: &mut AnySet, book: &Book, event: &Event) -> Result<Fate, AllocError>
     requires order { moment_of set.old ≤ event.now.moment }
     requires fits { FitsBook book.now event.now }
@@ -77,7 +77,7 @@ pub(crate) fn hear(set: &mut AnySet, book: &Book, event: &Event) -> Result<Fate,
     }
 }
 
-/// Lets the transaction with this number hear the event, and puts on record until when it can wait then.
+/// Lets the transaction with this number hear the event, and puts on record until when it can wait after it.
 fn hear_one<H: BuildHasher>(
     tables: &mut Tables<H>,
     book: &Book,
@@ -102,7 +102,7 @@ fn hear_one<H: BuildHasher>(
     }
 }
 
-/// Lets the transactions with these numbers hear the event, and adds what is left of them to what is left of others.
+/// Lets the transactions with these numbers hear the event, and joins what is left of them with the outcome of others.
 fn hear_all<H: BuildHasher>(
     tables: &mut Tables<H>,
     book: &Book,
@@ -125,7 +125,7 @@ fn hear_all<H: BuildHasher>(
     Ok(outcome)
 }
 
-/// Lets every transaction pass a restart of the element. Those that are quiet do not change, and are not visited.
+/// Lets every transaction pass a restart of the element. Quiet transactions do not change, and are not visited.
 fn restart<H: BuildHasher>(
     tables: &mut Tables<H>,
     book: &Book,
@@ -145,7 +145,7 @@ fn restart<H: BuildHasher>(
     Ok(outcome)
 }
 
-/// Lets each transaction that the event concerns hear it, and adds what is left of them to what is left of others.
+/// Lets each transaction that the event concerns hear it, and joins what is left of them with the outcome of others.
 fn hear_each<H: BuildHasher>(
     tables: &mut Tables<H>,
     book: &Book,
@@ -171,7 +171,7 @@ fn hear_each<H: BuildHasher>(
     }
 }
 
-/// Whether a transaction has waited longer than it can.
+/// Finds a transaction that has waited longer than it can.
 fn overdue<H: BuildHasher>(tables: &Tables<H>, moment: u64) -> Outcome
     ensures { result ≡ overdue_outcome (due_of tables.now moment) }
 {
@@ -181,7 +181,7 @@ fn overdue<H: BuildHasher>(tables: &Tables<H>, moment: u64) -> Outcome
     }
 }
 
-/// Lets every transaction pass the entry: those that it concerns hear the event, and the others wait.
+/// Lets every transaction pass the entry: the transactions that it concerns hear the event, and the others wait.
 pub(crate) fn pass_all<H: BuildHasher>(
     tables: &mut Tables<H>,
     book: &Book,

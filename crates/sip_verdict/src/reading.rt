@@ -1,4 +1,4 @@
-//! Reads a log entry by entry, for those who answer the fault that ends it.
+//! Reads a log entry by entry, for a judge or a survey, each of which answers a fault of the log in its own words.
 ghost use Rattle.std.specs.Prelude.{◌≡◌, ◌≤◌, true, Some, [], Option, List, ℕ, IfOk, IfErr, IfSome, OnOk, IsErrOf};
 ghost use Rattle.sip_standard.specs.Times.{Times};
 ghost use Rattle.sip_log.specs.Reading.{entries, beside_source};
@@ -16,18 +16,18 @@ use sip_machine::Params;
 use sip_standard::{JudgeError, LogReason, Verdict};
 use std::alloc::Global;
 
-/// What a log has after the entries that were read.
+/// What a log has after the entries that were read so far.
 #[derive(Drop)]
 pub(crate) enum Next {
     /// One more entry.
     Entry(Entry),
-    /// Nothing: the log ends.
+    /// No more entries: the log ends.
     End,
-    /// Something that is no entry.
+    /// Bytes that are no entry, with the reason why not.
     Fault(LogReason),
 }
 
-/// Reads the header, and no entry yet. In its place the verdict if it has a fault.
+/// Reads the header, and no entry yet. Where the header has a fault it answers the verdict instead.
 pub(crate) fn read_header<R: Source>(
     alloc: Global,
     reader: &mut R,
@@ -76,7 +76,7 @@ pub(crate) fn read_on<R: Source>(
     }
 }
 
-/// Reads on after the header or an entry, into the buffer.
+/// Reads what comes next in the log, after its header or an entry, into the buffer.
 #[inline(always)]
 pub(crate) fn read_next<R: Source>(
     progress: &mut Progress,

@@ -26,10 +26,10 @@ use sip_standard::LogReason;
 use std::alloc::Global;
 use std::hash::BuildHasher;
 
-/// What is wrong in the log of the reader's bytes, or in a part, in the words of `survey` and of `survey_part`, by a survey that forgets,
-/// so that a long log takes little memory. From time to time it forgets the transactions that are over, or in trouble, and whose last
-/// entry came at least `age` milliseconds before the newest one. A message that comes later begins a new transaction: what is found then of
-/// a client that ended, or was in trouble, can be something else. A finding has the number of its transaction among those that are not
+/// Writes what is wrong in the log of the reader's bytes, or in a part of it, in the words of `survey` and `survey_part`, and forgets
+/// transactions as it goes, so that a long log takes little memory. From time to time it forgets those that are over, or in trouble, and
+/// whose last entry came at least `age` milliseconds before the newest one. A message that comes later begins a new transaction: for a client
+/// that ended, or was in trouble, the findings can be others then. A finding has the number of its transaction among those that are not
 /// forgotten, and the last line counts those that are left.
 pub fn survey_forgetting<R: Source, W: Sink, H: BuildHasher + Drop>(
     alloc: Global,
@@ -59,7 +59,7 @@ pub fn survey_forgetting<R: Source, W: Sink, H: BuildHasher + Drop>(
     }
 }
 
-/// Reads on after the header to the end of the log, writes what is found, and forgets.
+/// Reads on after the header to the end of the log, writes what is found, and forgets transactions that are over.
 fn write_on<R: Source, W: Sink, H: BuildHasher + Drop>(
     alloc: Global,
     survey: &mut Survey<H>,
@@ -112,7 +112,7 @@ fn write_on<R: Source, W: Sink, H: BuildHasher + Drop>(
     }
 }
 
-/// Forgets what came to its end long ago, where that is due.
+/// Forgets the transactions that came to their end long ago, where the horizon says that it is time to.
 fn forget_due<H: BuildHasher + Drop>(
     survey: &mut Survey<H>,
     horizon: &mut Horizon,

@@ -18,13 +18,13 @@ module _ {X M S T E : Type 0} (names : S → List ℕ) (InRange : S → Type 0) 
   known-after (Ok x) stands stays known = stands.known
   known-after (Err e) stands stays known = subst (λ (h : Held M S). All (Knows names texts) h.states) (sym stays) known
 
--- whatever `StateSet::take` answers, the set is then no later than the moment of what it was to take
+-- whatever `StateSet::take` answers, the moment of the set is then at most the moment of the event
 pub moment-after : {M S T E : Type 0} (moment : ℕ) (old new : Held M S) (r : Result T E) → OnOk r ((new.machine ≡ old.machine) × (new.moment ≡ moment)) → OnErr r (new ≡ old)
     → old.moment ≤ moment → new.moment ≤ moment
 moment-after moment old new (Ok x) at stays early = (let is = at.1 in omega arith)
 moment-after moment old new (Err e) at stays early = subst (λ h. h.moment ≤ moment) (sym stays) early
 
--- a set that has waited until the moment is there
+-- a set that has waited until a moment has that moment
 waits_moment : (moment : ℕ) (a b : AnySet) → SetWaits moment a b → moment_of b ≡ moment
 waits_moment moment a b waits =
     let (machine, s, is) = some_machine a in

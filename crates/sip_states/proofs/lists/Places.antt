@@ -1,7 +1,7 @@
 -- What stands at a place of a list, where an element was put at one or after all.
 use Rattle.std.proofs.Common.{◌≡◌, ◌≢◌, ◌<◌, ◌⊎◌, inl, inr, ℕ, zero, suc, Some, List, [], ◌∷◌, ◌++◌, length, slice_get, slice_set, refl, sym, ap, arith}
 
--- the element at a place, where another was put at one
+-- an element found after a write is the one that was written, at that place, or it stood at another place before
 pub set_place : {A : Type 0} (xs : List A) (i n : ℕ) (a x : A) → slice_get (slice_set xs i a) n ≡ Some x → ((n ≡ i) × (a ≡ x)) ⊎ ((n ≢ i) × (slice_get xs n ≡ Some x))
 set_place [] i n a x at = absurd cc
 set_place (u ∷ xs) zero zero a x at = inl (refl, cc)

@@ -14,18 +14,18 @@ use Rattle.sip_states.proofs.sets.Taking.{took_waits}
 
 module _ {M X S : Type 0} (names : S → List ℕ) (InRange : S → Type 0) (seen : Texts → S → X) (rules : M → MachineRules X) (lawful : (machine : M) → IsLawful (rules machine))
     (texts : Texts) (machine : M) (events : List MachineEvent) (from : ℕ) (set new : Held M S) (leads : LeadsTo names seen rules texts machine set events from) where
-  -- where one can stand at a moment after waiting from the set, by the rules of this machine
+  -- P holds of where a run can stand at a moment after it waited from the states of the set, by the rules of this machine
   abbrev WaitFrom : M → ℕ → X → Type 0
   WaitFrom own moment = Wait (rules own) (Contains (map (seen texts) set.states)) set.moment moment
 
-  -- a set of the same machine at the moment leads to the runs over its events
+  -- where the new set has the same machine and this moment, and its states lead to the runs over these events, the set leads to them
   led : (more : List MachineEvent) (moment : ℕ) → new.machine ≡ set.machine → new.moment ≡ moment → Leads names seen texts (rules machine) more moment moment new.states → LeadsTo names seen rules texts machine new more moment
   led more moment same at l = record {
     machine_is = same ∙ leads.machine_is;
     leads = subst (λ m. Leads names seen texts (rules machine) more moment m new.states) (sym at) l;
   }
 
-  -- the new set is just the last states of the runs that end with an event
+  -- the states of the new set are just the last states of the runs that end with the event e
   abbrev pub Stands : MachineEvent → Type 0
   Stands e = StandFor names InRange seen texts (AfterRun (rules machine) events e) new.states
 
@@ -36,11 +36,11 @@ module _ {M X S : Type 0} (names : S → List ℕ) (InRange : S → Type 0) (see
     taken : Leads names seen texts (rules machine) (events ++ e ∷ []) e.moment e.moment new.states
     taken = Leads-take names InRange seen texts (rules machine) events from set.moment set.states leads.leads e late low new.states given
 
-    -- no state is left: no run takes the event
+    -- where no state is left, no run takes the event
     pub heard_none : new.states ≡ [] → IsStepped (rules machine) events e (λ es. LeadsTo names seen rules texts machine new es e.moment) Stands NoRun
     heard_none none run = none_runs names seen texts (rules machine) (events ++ e ∷ []) e.moment e.moment new.states taken (omega arith) none run
 
-    -- some are left, and not too many: the runs go on
+    -- where states are left, and not too many, the runs go on
     pub heard_some : new.machine ≡ set.machine → new.moment ≡ e.moment → new.states ≢ [] → length new.states ≤ widest
         → IsStepped (rules machine) events e (λ es. LeadsTo names seen rules texts machine new es e.moment) Stands Runs
     heard_some same at some few = (
@@ -56,7 +56,7 @@ module _ {M X S : Type 0} (names : S → List ℕ) (InRange : S → Type 0) (see
       },
     )
 
-  -- too many come out: there is a run, and too many last states
+  -- where too many states come out, there is a run over the event, and the last states are too many
   pub heard_wide : (e : MachineEvent) → from ≤ e.moment → set.moment ≤ e.moment → IsWide (RunGives (rules set.machine) (WaitFrom set.machine e.moment) e)
       → IsStepped (rules machine) events e (λ es. LeadsTo names seen rules texts machine new es e.moment) Stands TooWide
   heard_wide e late low wide =

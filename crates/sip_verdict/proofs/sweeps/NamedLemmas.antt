@@ -1,4 +1,4 @@
--- What the states of the sets name are the messages that are named.
+-- The states of the sets name just the messages that the runs name.
 use Rattle.std.proofs.Common.{◌≡◌, ◌≤◌, ◌↔◌, ◌⊎◌, inl, inr, ℕ, List, [], ◌∷◌, ◌++◌, Contains, map, refl, sym, ap, ap₂, ◌∙◌, subst}
 use Rattle.std.specs.List.{flat_map}
 use Rattle.std.proofs.lemmas.List.{map-append}
@@ -19,11 +19,11 @@ use Rattle.sip_states.proofs.sets.Waiting.{StaysFrom, EndsFrom, Wait-cases}
 use Rattle.sip_verdict.specs.inner.Leads.{Leads}
 use Rattle.sip_verdict.specs.Named.{messages_of}
 
--- a number of the set stands for the text
+-- one of these numbers stands for the text in the book
 abbrev pub IsNumberOf : Texts → List ℕ → List ℕ → Type 0
 IsNumberOf texts numbers text = (n : ℕ) × Contains numbers n × (text_of texts n ≡ text)
 
--- a state of a run names the text
+-- a run over the events stands at the moment in a state that names the text
 abbrev pub RunNames : {X : Type 0} → MachineRules X → (X → List (List ℕ)) → List MachineEvent → ℕ → List ℕ → Type 0
 RunNames {X} r messages events moment text = (y : X) × RuledRun r events moment y × Contains (messages y) text
 
@@ -61,12 +61,12 @@ module _ {X S : Type 0} (names : S → List ℕ) (InRange : S → Type 0) (seen 
           Contains-none n (subst (λ ns. Contains ns n) silent (Contains-flat_map names old x n among in_names))
       go (inr ends) = Contains-none text (subst (λ ts. Contains ts text) (ap messages ends.hides.gives ∙ rests) has)
 
--- what is owed stands for the messages of its debts
+-- the messages of the debts that a state stands for are those that its debts name in the book
 owed_named : (texts : Texts) (owes : List Debt) → map (λ owed. owed.message) (owes_seen texts owes) ≡ map (text_of texts) (owes_names owes)
 owed_named texts [] = refl
 owed_named texts (debt ∷ owes) = ap (λ rest. text_of texts debt.message ∷ rest) (owed_named texts owes)
 
--- what a state names is what it stands for
+-- what a state of the code names in the book is what the state that it stands for names
 pub named_of : (machine : MachineKind) (texts : Texts) (x : StateOf machine) → messages_of machine ((meaning_of machine).seen texts x) ≡ map (text_of texts) ((meaning_of machine).names x)
 named_of machine texts x =
     ap₂ (λ of_phase owed. of_phase ++ owed) ((coded_holds machine).named texts x.phase) (owed_named texts x.owes)

@@ -41,25 +41,25 @@ All-place P xs n x at all = subst P (get_or_from_slice_get xs n x x at) (all n x
 pub All-places : {A : Type 0} (P : A → Type 0) (xs : List A) → ((n : ℕ) (x : A) → slice_get xs n ≡ Some x → P x) → All P xs
 All-places P xs each n d low = let x = at_place xs n low in subst P (sym (get_or_from_slice_get xs n x.0 d x.1)) (each n x.0 x.1)
 
--- lists side by side at a place
+-- where x and y stand at the same place of two lists, the pair of them stands there in both lists side by side
 pub zip-place : {A B : Type 0} (xs : List A) (ys : List B) (n : ℕ) (x : A) (y : B) → slice_get xs n ≡ Some x → slice_get ys n ≡ Some y → slice_get (zip xs ys) n ≡ Some (x, y)
 zip-place [] ys n x y a b = absurd cc
 zip-place (u ∷ xs) [] n x y a b = absurd cc
 zip-place (u ∷ xs) (v ∷ ys) zero x y a b = cc
 zip-place (u ∷ xs) (v ∷ ys) (suc n) x y a b = zip-place xs ys n x y a b
 
--- a pair at a place of two lists side by side is of what stands there in each
+-- a pair at a place of two lists side by side has the two elements that stand there
 pub place-zip : {A B : Type 0} (xs : List A) (ys : List B) (n : ℕ) (z : A × B) → slice_get (zip xs ys) n ≡ Some z → (slice_get xs n ≡ Some z.0) × (slice_get ys n ≡ Some z.1)
 place-zip [] ys n z at = absurd cc
 place-zip (u ∷ xs) [] n z at = absurd cc
 place-zip (u ∷ xs) (v ∷ ys) zero z at = let same : (u, v) ≡ z = cc in (ap (λ w. Some w.0) same, ap (λ w. Some w.1) same)
 place-zip (u ∷ xs) (v ∷ ys) (suc n) z at = place-zip xs ys n z at
 
--- each transaction's key
+-- the keys of the transactions are the keys of the tables
 pub keys_are : (t : Tabled) → length t.sets ≡ length t.keys → map (λ x. x.0) (transactions_of t) ≡ t.keys
 keys_are t long = firsts-zip t.keys t.sets long
 
--- a number that is this one or among these
+-- a number among these with one more before them, which is not the one, is among these
 pub among_one : (n number : ℕ) (ns : List ℕ) → is_among (number ∷ ns) n ≡ true → n ≢ number → is_among ns n ≡ true
 among_one n number ns h differ = go (nat_eq n number) refl
   where
@@ -67,7 +67,7 @@ among_one n number ns h differ = go (nat_eq n number) refl
     go true same = absurd (differ ((unsigned_Decides n number).0 same))
     go false same = sym (ap (λ b. b || is_among ns n) same) ∙ h
 
--- a number that is not among some is not among one more, or is that one
+-- a number that is not among these is not among them with one more before them, or it is the one
 pub among_not : (n number : ℕ) (ns : List ℕ) → is_among ns n ≡ false → (is_among (number ∷ ns) n ≡ false) ⊎ (n ≡ number)
 among_not n number ns h = go (nat_eq n number) refl
   where
@@ -75,11 +75,11 @@ among_not n number ns h = go (nat_eq n number) refl
     go true same = inr ((unsigned_Decides n number).0 same)
     go false same = inl (ap (λ b. b || is_among ns n) same ∙ h)
 
--- the first of these is among them, and so is each of the others
+-- a number is among numbers of which it is the first
 pub among_first : (n number : ℕ) (ns : List ℕ) → n ≡ number → is_among (number ∷ ns) n ≡ true
 among_first n number ns same = ap (λ b. b || is_among ns n) ((unsigned_Decides n number).1 same)
 
--- a number among some is among them and one more
+-- a number among these is among them with one more before them
 pub among_rest : (n number : ℕ) (ns : List ℕ) → is_among ns n ≡ true → is_among (number ∷ ns) n ≡ true
 among_rest n number ns h = go (nat_eq n number)
   where
@@ -87,7 +87,7 @@ among_rest n number ns h = go (nat_eq n number)
     go true = refl
     go false = h
 
--- where all differ, the first is not among the others
+-- where all numbers of a list differ, the first is not among the others
 pub first_apart : (number : ℕ) (ns : List ℕ) → AllPairs (λ a b. a ≢ b) (number ∷ ns) → is_among ns number ≡ false
 first_apart number ns apart = list_any_none (nat_eq number) ns (λ k d low. differ _ (apart 0 (suc k) d (omega arith) (omega arith)))
   where
@@ -110,19 +110,20 @@ leaves_sets number after Runs t u h = ap (λ x. x.sets) h.2
 leaves_sets number after NoRun t u h = ap (λ x. x.sets) h
 leaves_sets number after TooWide t u h = ap (λ x. x.sets) h
 
--- a set that was settled
+-- where the last moment of a set was put on record, the set has taken its place and goes on
 pub settles_leaves : (number : ℕ) (after : AnySet) (t u : Tabled) → Settles number (with_set t number after) u → Leaves number after Runs t u
 settles_leaves number after t u s = (s.limit, subst (IsAgendaOf s.limit) same s.agenda, s.recorded)
   where
     same : s.set ≡ after
     same = elim (set_place t.sets (number - 1) (number - 1) after s.set s.at) [ inl h ↦ sym h.1 | inr h ↦ absurd (h.0 refl) ]
 
--- a number that was given still is
+-- a number that was given is given still where the keys are the same
 pub given_still : (number : ℕ) (t u : Tabled) → u.keys ≡ t.keys → IsGiven t number → IsGiven u number
 given_still number t u keys g = record { low = g.low; high = (let same = ap length keys in let high = g.high in omega arith) }
 
--- once a set has heard its event and has a state, its last moment is on record
+-- What follows is of a set that has heard its event and has a state: its last moment is put on record.
 module _ (t : Tabled) (number : ℕ) (ns : List ℕ) (low : 0 < number) (after : AnySet) (limit : Option ℕ) (agenda : IsAgendaOf limit after) (old : AreOnRecord (number ∷ ns) t) where
+  -- where the set's last moment was written, each place is on record, or its set is still to hear the event
   recorded_at : (n : ℕ) (s : AnySet) (r : Option (Option ℕ)) → slice_get (set t.sets (number - 1) after) n ≡ Some s → slice_get (set t.records (number - 1) (Some limit)) n ≡ Some r → IsOnRecord ns (n + 1) s r
   recorded_at n s r at here = go (set_place t.sets (number - 1) n after s at) (set_place t.records (number - 1) n (Some limit) r here)
     where
@@ -137,13 +138,14 @@ module _ (t : Tabled) (number : ℕ) (ns : List ℕ) (low : 0 < number) (after :
           only None h = among_one (n + 1) number ns h (λ same. a.0 (omega (arith, same)))
           only (Some l) h = h
 
-  -- once the last moment of the set that heard is on record, those that are still to hear alone may lack one
+  -- once the last moment of the set is on record, those of the sets that are still to hear alone may be missing
   pub settled : (u : Tabled) → u.keys ≡ t.keys → u.sets ≡ set t.sets (number - 1) after → u.records ≡ set t.records (number - 1) (Some limit) → AreOnRecord ns u
   settled u keys sets records = record {
     long = ap length records ∙ length-set t.records (number - 1) (Some limit) ∙ old.long ∙ ap length (sym keys);
     each = λ n s r at here. recorded_at n s r (ap (λ xs. slice_get xs n) (sym sets) ∙ at) (ap (λ xs. slice_get xs n) (sym records) ∙ here);
   }
 
+-- where one set has heard the event and is in no trouble, the last moments of those that are still to hear alone may be missing
 heard_record : (texts : Texts) (event : NumberedEvent) (number : ℕ) (ns : List ℕ) (t u : Tabled) (outcome : Outcome) → IsGiven t number → AreOnRecord (number ∷ ns) t → HearsOne texts event number t u outcome → outcome ≡ all.Fine
     → AreOnRecord ns u
 heard_record texts event number ns t u outcome given old (fate, h, is) fine = go fate h (sym is ∙ fine)
@@ -161,7 +163,7 @@ heard_given texts event number t u outcome (fate, h, is) ns given =
     let keys = leaves_keys number h.after fate t u h.leaves in
     All-weaker (IsGiven t) (IsGiven u) (λ n g. given_still n t u keys g) ns given
 
--- those before were fine where those after are
+-- where the outcome after some sets have heard is no trouble, so was the outcome before them
 each_fine : (texts : Texts) (event : NumberedEvent) (ns : List ℕ) (t u : Tabled) (before after : Outcome) → HearsEach texts event ns t before u after → after ≡ all.Fine → before ≡ all.Fine
 each_fine texts event [] t u before after h fine = sym h.1 ∙ fine
 each_fine texts event (n ∷ ns) t u before after (between, one, first, rest) fine = (both_fine before one (each_fine texts event ns between u (first_of before one) after rest fine)).0
@@ -174,7 +176,7 @@ heard_records texts event (n ∷ ns) t u before after given old (between, one, f
     heard_records texts event ns between u (first_of before one) after (heard_given texts event n t between one first ns (All-tail (IsGiven t) n ns given))
     (heard_record texts event n ns t between one (All-head (IsGiven t) n ns given) old first one_fine) rest fine
 
--- all are on record after an entry in no trouble
+-- where the last moments are on record if the outcome is no trouble, they are so unless it is trouble
 pub on_record_if : (outcome : Outcome) (t : Tabled) → (outcome ≡ all.Fine → AllAreOnRecord t) → AreOnRecordIf outcome t
 on_record_if all.Fine t h = h refl
 on_record_if (all.NoRun number) t h = tt
@@ -184,9 +186,9 @@ on_record_if (all.TooWide number) t h = tt
 pub heard_recorded : (texts : Texts) (event : NumberedEvent) (ns : List ℕ) (t u : Tabled) (before after : Outcome) → All (IsGiven t) ns → AreOnRecord ns t → HearsEach texts event ns t before u after → AreOnRecordIf after u
 heard_recorded texts event ns t u before after given old h = on_record_if after u (heard_records texts event ns t u before after given old h)
 
--- Which sets hear an event.
+-- What follows is of which sets hear an event.
 
--- each last moment is on record, but those of sets that are still to hear it, also where more are to
+-- where the last moments of few sets may be missing, those of more sets may be
 pub recorded_more : (few more : List ℕ) (t : Tabled) → ((n : ℕ) → is_among few n ≡ true → is_among more n ≡ true) → AreOnRecord few t → AreOnRecord more t
 recorded_more few more t among recorded = record { long = recorded.long; each = λ n set r at here. one n set r (recorded.each n set r at here) }
   where
@@ -194,7 +196,7 @@ recorded_more few more t among recorded = record { long = recorded.long; each = 
     one n set None h = among (n + 1) h
     one n set (Some limit) h = h
 
--- those that an event names, where it names them one by one
+-- where an event names its transactions one by one, just these hear it
 pub named_hearers : (t : Tabled) (c : Concerned ℕ) → is_all c ≡ false → All (IsGiven t) (each c) → AllPairs (λ a b. a ≢ b) (each c) → AreHearers t c (each c)
 named_hearers t c some given apart = record {
   given = given;
@@ -204,12 +206,12 @@ named_hearers t c some given apart = record {
   others = λ all. absurd (false≢true (sym some ∙ all));
 }
 
--- a number that is one of some is among them
+-- a number that is an element of numbers is among them
 pub is_among-of : (ns : List ℕ) (n : ℕ) → Contains ns n → is_among ns n ≡ true
 is_among-of [] n has = absurd (Contains-none n has)
 is_among-of (m ∷ ns) n has = elim (Contains-cons m ns n has) [ inl same ↦ among_first n m ns (sym same) | inr rest ↦ among_rest n m ns (is_among-of ns n rest) ]
 
--- those that a restart may change
+-- the transactions that a restart may change are the ones that hear it
 pub all_hearers : (t : Tabled) (numbers : List ℕ) → AreToRestart t numbers → AreHearers t concerned.All numbers
 all_hearers t numbers are = record {
   given = are.given;
@@ -219,9 +221,9 @@ all_hearers t numbers are = record {
   others = λ all n set at none. are.others n set at (λ has. false≢true (sym none ∙ is_among-of numbers (n + 1) has));
 }
 
--- One after another.
+-- What follows is of sets that hear an event one after another.
 
--- one more has heard the event
+-- where some sets have heard the event, and then one more has, all of them have, and the outcomes are joined
 pub hears_more : (texts : Texts) (event : NumberedEvent) (ns : List ℕ) (n : ℕ) (t u v : Tabled) (before mid one : Outcome) → HearsEach texts event ns t before u mid → HearsOne texts event n u v one
     → HearsEach texts event (ns ++ n ∷ []) t before v (first_of mid one)
 hears_more texts event [] n t u v before mid one (same, fine) last =
@@ -229,9 +231,9 @@ hears_more texts event [] n t u v before mid one (same, fine) last =
 hears_more texts event (m ∷ ns) n t u v before mid one (between, first, hears, rest) last =
     (between, first, hears, hears_more texts event ns n between u v (first_of before first) mid one rest last)
 
--- Those that do not hear it.
+-- What follows is of sets that do not hear an event.
 
--- the element at a place stays where another one is set
+-- the element at a place stays where the element at another place is replaced
 set-other : {A : Type 0} (xs : List A) (i n : ℕ) (a : A) → n ≢ i → slice_get (set xs i a) n ≡ slice_get xs n
 set-other [] i n a other = refl
 set-other (x ∷ xs) zero zero a other = absurd (other refl)
@@ -239,7 +241,7 @@ set-other (x ∷ xs) zero (suc n) a other = refl
 set-other (x ∷ xs) (suc i) zero a other = refl
 set-other (x ∷ xs) (suc i) (suc n) a other = set-other xs i n a (λ same. other (ap suc same))
 
--- a number that is not among some is neither the first nor among the rest
+-- a number that is not among numbers is neither the first of them nor among the others
 among_none : (n number : ℕ) (ns : List ℕ) → is_among (number ∷ ns) n ≡ false → (n ≢ number) × (is_among ns n ≡ false)
 among_none n number ns h = (λ same. false≢true (sym h ∙ among_first n number ns same), go (is_among ns n) refl)
   where

@@ -24,7 +24,7 @@ use Rattle.sip_verdict.specs.declared.reading.Next.{Next}
 use Rattle.sip_verdict.specs.declared.reading.Next.TheVariants.{Entry, End, Fault}
 use Rattle.sip_log.specs.Reading as log
 
--- the horizon is one of these entries: it has the moment of an entry, or 0 before the first; and those up to `until`, if there are any, came long ago
+-- the horizon has the moment of one of these entries, or 0 before the first; and all entries with a number up to `until` came at least its age ago
 pub record IsHorizonOf (m : Horizon) (es : List (Observation KeyParts)) : Type 0 where
   pub inside : m.number ≤ length es
   pub at : newest_moment (take m.number es) ≡ m.moment
@@ -49,8 +49,8 @@ pub record IsStreamAt (s : Surveying) (place : ProgressState) : Type 0 where
   pub goes_on : s.failed ≡ false
   pub newest : s.moment ≡ place.last
 
--- the survey stands for what is left of the entries that were read of the input, as they are taken, and this was found and written: with what is told of
--- those that come it is told of all
+-- the survey has taken what is left of the entries that were read of the input, and these are its findings and lines so far: together with what is
+-- found and written of the items to come they are those of the whole log
 pub record RemembersRead (age : ℕ) (part : Option PartOf) (p : Times) (s : Surveying) (found : List Finding) (lines : List ℕ) (start : Option (List ℕ)) (now : log.ReaderState) : Type 0 where
   pub items : List Item
   pub es : List (Observation KeyParts)

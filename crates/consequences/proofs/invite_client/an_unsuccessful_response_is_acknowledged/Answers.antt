@@ -27,7 +27,7 @@ module _ (p : Times) (before between after : List MachineEvent) (invite response
   abbrev IsBroken : MachineEvent → Type 0
   IsBroken g = GetsResponse IsSuccess g ⊎ IsRefused g ⊎ IsRestart g
 
-  -- by either rules
+  -- by each of the rules, a response between which and the INVITE nothing broke the transaction is acknowledged
   by : (rules : Rules) (y : StateOf rules Client true) → All (λ g. ¬ (IsBroken g)) between
       → ¬ (Any (GetsResponse IsUnsuccessful) between × ((invite.reliable ≡ true) ⊎ (open_at p invite.moment 32000 ≤ response.moment)))
       → Stands (figure_of rules Client true) p (before ++ invite ∷ (between ++ response ∷ after)) m y → Any (Acknowledges p invite response) after ⊎ Any (λ f. IsRefused f ⊎ IsRestart f) after

@@ -35,7 +35,7 @@ module _ (p : Times) (before after : List MachineEvent) (final e : MachineEvent)
   only (inr (inl bad)) = inl bad.1
   only (inr (inr old)) = inr old
 
-  -- the row by RFC 3261 is that of RFC 6026
+  -- the row of RFC 3261 for this response is that of RFC 6026, over phases without a 2xx before them
   row-3261 : (x : InviteServerPhase) (y : InviteServer3261Phase × Change) → without.Sends p (first_in x) final.kind final y → (row : Row) × corrected.Sends p x final.kind final row × (y ≡ (first_in row.0, row.1))
   row-3261 x y h = by ((is-server-3261 p).sent x final.kind final y h)
     where

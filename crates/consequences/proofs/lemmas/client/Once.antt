@@ -1,4 +1,4 @@
--- A client sends its request once: after that it is never idle again, and a restart ends it.
+-- A client sends its request once: after it the client is never idle again, and a restart ends it.
 use Rattle.std.proofs.Common.{◌≡◌, ◌⊎◌, inl, inr, ℕ, Bool, true, false, Some, List, ◌∷◌, ◌++◌, refl, sym, subst, ◌∙◌}
 use Rattle.sip_standard.specs.declared.action.Action.{Action}
 use Rattle.sip_standard.specs.declared.action.Action.TheVariants.{Sent, Received, Failed, Mark, Restart}
@@ -30,6 +30,7 @@ pub record IsOnce {X : Type 0} (f : Figure X) (p : Times) (HasAsked : X → Type
   pub unmoved : (x : X) (k : Kind) → ¬ (f.Stays x k)
 
 module _ {X : Type 0} (f : Figure X) (p : Times) (HasAsked : X → Type 0) (IsRequest MaySend : Kind → Type 0) (once : IsOnce f p HasAsked IsRequest MaySend) where
+  -- a message that is sent leads from a phase after the request to a phase after the request
   emits : (e : MachineEvent) (x y : Owing X) → HasAsked x.phase → Emits f p e x y → HasAsked y.phase
   emits e x y asked (inl (row, is_row, to)) = rw to (once.sent x.phase e.kind e row asked is_row)
   emits e x y asked (inr (inl (left, pays, to))) = rw to asked
@@ -39,6 +40,7 @@ module _ {X : Type 0} (f : Figure X) (p : Times) (HasAsked : X → Type 0) (IsRe
   fails true e x y asked h = rw h.1 once.ended
   fails false e x y asked h = emits e x y asked h
 
+  -- a step leads from a phase after the request to a phase after the request
   steps : (a : Action) (e : MachineEvent) (x y : Owing X) → HasAsked x.phase → Steps f p a e x y → HasAsked y.phase
   steps Received e x y asked (inl (row, is_row, to)) = rw to (once.received x.phase e.kind e row asked is_row)
   steps Received e x y asked (inr (none, same)) = rw same asked
@@ -48,6 +50,7 @@ module _ {X : Type 0} (f : Figure X) (p : Times) (HasAsked : X → Type 0) (IsRe
   steps Restart e x y asked (inl (idle, to)) = absurd (once.idle (subst HasAsked idle asked))
   steps Restart e x y asked (inr (other, to)) = rw to once.ended
 
+  -- a run keeps that the phase is one after the request
   asked-kept : IsKept f p (λ es m y. HasAsked y.phase)
   asked-kept = record {
     as_it_waits = λ es h m x asked low lasts. asked;
@@ -75,6 +78,7 @@ module _ {X : Type 0} (f : Figure X) (p : Times) (HasAsked : X → Type 0) (IsRe
   over-steps Restart e y (inl (idle, to)) = absurd (once.idle (subst HasAsked idle once.ended))
   over-steps Restart e y (inr (other, to)) = to
 
+  -- a run keeps that the phase is the ended one, with no debts
   over-kept : IsKept f p (λ es m y. y ≡ quiet f.ended)
   over-kept = record {
     as_it_waits = λ es h m x over low lasts. over;
@@ -82,7 +86,7 @@ module _ {X : Type 0} (f : Figure X) (p : Times) (HasAsked : X → Type 0) (IsRe
     as_it_takes = λ es e x y over take. over-steps e.action e y (subst (λ z. Takes f p z e y) over take);
   }
 
-  -- what stands after the request and a restart is over
+  -- after the request and then a restart, a run stands in the ended phase
   pub restart-ends : (before between after : List MachineEvent) (request restart : MachineEvent) (m : ℕ) (y : Owing X) → request.action ≡ Sent → IsRequest request.kind → IsRestart restart →
       Stands f p (before ++ request ∷ (between ++ restart ∷ after)) m y → y ≡ quiet f.ended
   restart-ends before between after request restart m y sent asks restarts stands =
@@ -109,24 +113,28 @@ module _ {X : Type 0} (f : Figure X) (p : Times) (HasAsked : X → Type 0) (IsRe
       let over = restart-ends before between after request restart e.moment x sent asks restarts stands in
       (over-emits e y (step-of f p Sent e (quiet f.ended) y is_sent (subst (λ z. Takes f p z e y) over take))).0
 
--- The INVITE clients.
+-- What follows is of the INVITE clients.
 
 -- the INVITE was sent: the phase is not idle
 abbrev pub IsInvited : invite.InviteClientPhase → Type 0
 IsInvited invite.Idle = ⊥
 IsInvited x = Unit {0}
 
+-- What follows shows that both INVITE clients send their INVITE once.
 module _ (R : Receiving) (is : IsReceiving R) (p : Times) where
+  -- a phase that is done is one after the INVITE
   done-invited : (x : invite.InviteClientPhase) → IsDone x → IsInvited x
   done-invited invite.Ended done = tt
   done-invited (invite.Accepted set) done = tt
   done-invited x done = absurd done
 
+  -- the row of a response leads to a phase after the INVITE
   answers-invited : (reliable : Bool) (request : List ℕ) (k : Kind) (e : MachineEvent) (row : Row) → Answers reliable request k e row → IsInvited row.0
   answers-invited reliable request k e row (code, kind, inl h) = rw h.1 tt
   answers-invited reliable request k e row (code, kind, inr (inl h)) = done-invited row.0 h.1
   answers-invited reliable request k e row (code, kind, inr (inr h)) = rw h.1 tt
 
+  -- the row of a received message leads from a phase after the INVITE to a phase after the INVITE
   received : (x : invite.InviteClientPhase) (k : Kind) (e : MachineEvent) (row : Row) → IsInvited x → R p x k e row → IsInvited row.0
   received invite.Idle k e row asked h = absurd asked
   received invite.Ended k e row asked h = absurd (is.ended p k e row h)
@@ -135,6 +143,7 @@ module _ (R : Receiving) (is : IsReceiving R) (p : Times) where
   received (invite.Proceeding reliable request cancel) k e row asked h = answers-invited reliable request k e row (is.proceeding p reliable request cancel k e row h)
   received (invite.Completed reliable request set) k e row asked h = rw (is.completed p reliable request set k e row h).3 tt
 
+  -- the row of a sent message leads from a phase after the INVITE to a phase after the INVITE
   sent : (x : invite.InviteClientPhase) (k : Kind) (e : MachineEvent) (row : Row) → IsInvited x → invite.Sends p x k e row → IsInvited row.0
   sent invite.Idle k e row asked h = absurd asked
   sent (invite.Calling w) k e row asked h = rw (sends-calling p w k e row h).2 tt
@@ -147,6 +156,7 @@ module _ (R : Receiving) (is : IsReceiving R) (p : Times) where
   sent (invite.Completed reliable request set) k e row asked h = rw (sends-completed p reliable request set k e row h).1 tt
   sent invite.Ended k e row asked h = rw (sends-ended p k e row h).1 tt
 
+  -- the row of an INVITE that is sent leads to a phase after the INVITE
   sent-invite : (x : invite.InviteClientPhase) (k : Kind) (e : MachineEvent) (row : Row) → k ≡ Request Invite → invite.Sends p x k e row → IsInvited row.0
   sent-invite invite.Idle k e row asks h = by (sends-idle p k e row h)
     where
@@ -163,6 +173,7 @@ module _ (R : Receiving) (is : IsReceiving R) (p : Times) where
   no-ack : ¬ (Request Invite ≡ Request Ack)
   no-ack same = cc
 
+  -- an INVITE that is sent leads to a phase after the INVITE
   asks : (e : MachineEvent) (x y : Owing invite.InviteClientPhase) → e.kind ≡ Request Invite → Emits (client R) p e x y → IsInvited y.phase
   asks e x y invites (inl (row, is_row, to)) = rw to (sent-invite x.phase e.kind e row invites is_row)
   asks e x y invites (inr (inl (left, pays, to))) = absurd (no-ack (sym invites ∙ (pays-nothing x.phase e.kind e pays.first.message pays.holds.0).4))
@@ -172,7 +183,7 @@ module _ (R : Receiving) (is : IsReceiving R) (p : Times) where
   pub invites-once : IsOnce (client R) p IsInvited (λ k. k ≡ Request Invite) (λ k. k ≡ Request Cancel)
   invites-once = record { idle = λ h. h; ended = tt; received = received; sent = sent; asks = asks; none_received = is.ended p; over = sends-ended p; unmoved = λ x k h. h }
 
--- The client of any other method.
+-- What follows is of the client of any other method.
 
 -- the request was sent: the phase is not idle
 abbrev pub IsAsked : plain.PlainClientPhase → Type 0
@@ -183,18 +194,21 @@ IsAsked x = Unit {0}
 abbrev pub IsAnyRequest : Kind → Type 0
 IsAnyRequest k = (method : Method) × (k ≡ Request method)
 
+-- the row of a received message leads from a phase after the request to a phase after the request
 plain-received : (p : Times) (x : plain.PlainClientPhase) (k : Kind) (e : MachineEvent) (row : plain.PlainClientPhase × Change) → IsAsked x → plain.Receives p x k e row → IsAsked row.0
 plain-received p (plain.Trying w) (Response code) e row asked (inl h) = rw h.1 tt
 plain-received p (plain.Trying w) (Response code) e row asked (inr h) = rw h.1 tt
 plain-received p (plain.Proceeding w) (Response code) e row asked h = rw h.1 tt
 plain-received p x k e row asked h = absurd h
 
+-- the row of a sent message leads to a phase after the request
 plain-sent : (p : Times) (x : plain.PlainClientPhase) (k : Kind) (e : MachineEvent) (row : plain.PlainClientPhase × Change) → plain.Sends p x k e row → IsAsked row.0
 plain-sent p plain.Idle (Request method) e row h = rw h tt
 plain-sent p (plain.Trying w) (Request method) e row h = rw h.1 tt
 plain-sent p (plain.Proceeding w) (Request method) e row h = rw h.1 tt
 plain-sent p x k e row h = absurd h
 
+-- a message that is sent leads to a phase after the request
 plain-asks : (p : Times) (e : MachineEvent) (x y : Owing plain.PlainClientPhase) → Emits plain.plain_client p e x y → IsAsked y.phase
 plain-asks p e x y (inl (row, is_row, to)) = rw to (plain-sent p x.phase e.kind e row is_row)
 plain-asks p e x y (inr (inl (left, pays, to))) = absurd pays.holds.0

@@ -21,7 +21,7 @@ abbrev IsFrom : ℕ → MachineEvent → Type 0
 IsFrom m e = m ≤ e.moment
 
 module _ {X : Type 0} (f : Figure X) (p : Times) (lasts : (m : ℕ) → Lasts f p (quiet f.idle) m) (has_no_end : (m : ℕ) → ¬ (MayEnd f p (quiet f.idle) m)) where
-  -- no event of a run is after where it stands
+  -- no event of a run is after the moment at which the run stands
   events_to : (events : List MachineEvent) (m : ℕ) (y : Owing X) → Stands f p events m y → All (IsTo m) events
   events_to events m y begins = All-nil (IsTo 0)
   events_to events m y (waits evs h k x stands low lasting) = All-weaker (IsTo h) (IsTo k) (λ e to. omega (arith, to, low)) evs (events_to evs h x stands)
@@ -29,7 +29,7 @@ module _ {X : Type 0} (f : Figure X) (p : Times) (lasts : (m : ℕ) → Lasts f 
   events_to events m y (takes evs e x z stands does) = All-push (IsTo e.moment) evs e (events_to evs e.moment x stands) (omega arith)
 
   module _ (old : List MachineEvent) (m : ℕ) (idle : Stands f p old m (quiet f.idle)) where
-    -- a run over later events goes on after older ones, at whose end the transaction is idle; before their end it has not begun
+    -- where old events leave the transaction idle at m, a run over later events goes on after them; before m such a run has no event and stands in idle
     on : (more : List MachineEvent) (k : ℕ) (y : Owing X) → Stands f p more k y → All (IsFrom m) more → (m ≤ k → Stands f p (old ++ more) k y) × (k < m → (more ≡ []) × (y ≡ quiet f.idle))
     on more k y begins from = (λ high. subst (λ n. Stands f p (old ++ []) n (quiet f.idle)) (let same : m ≡ 0 = omega (arith, high) in same) (subst (λ es. Stands f p es m (quiet f.idle)) (sym (append-nil old)) idle), λ low. (refl, refl))
     on more k y (waits evs h n x stands low lasting) from = go (dec_le m h) (on evs h x stands from)
@@ -52,11 +52,11 @@ module _ {X : Type 0} (f : Figure X) (p : Times) (lasts : (m : ℕ) → Lasts f 
         (λ high. subst (λ es. Stands f p es e.moment z) (append_assoc old evs (e ∷ [])) (takes (old ++ evs) e x z before does), λ low. absurd (omega (arith, low, last)))
 
   module _ (old : List MachineEvent) (m : ℕ) (only : (x : Owing X) → Stands f p old m x → x ≡ quiet f.idle) (past : All (IsTo m) old) where
-    -- idle stands at each moment, after no event
+    -- the transaction stands in idle at each moment, where there is no event
     new : (k : ℕ) → Stands f p [] k (quiet f.idle)
     new k = waits [] 0 k (quiet f.idle) begins zero-le (lasts k)
 
-    -- a run over them and later events is one over the later ones alone
+    -- where old events leave the transaction in idle alone, a run over them and later events is a run over the later ones alone
     off : (all : List MachineEvent) (k : ℕ) (y : Owing X) → Stands f p all k y → m ≤ k → (more : List MachineEvent) → all ≡ old ++ more → All (IsFrom m) more → Stands f p more k y
     off all k y begins high more is from = subst (λ es. Stands f p es 0 (quiet f.idle)) (second old more is) begins
       where
@@ -97,7 +97,7 @@ module _ {X : Type 0} (f : Figure X) (p : Times) (lasts : (m : ℕ) → Lasts f 
             let later : All (IsFrom m) front = All-front (IsFrom m) front (d ∷ []) (subst (All (IsFrom m)) are from) in
             subst (λ es. Stands f p es e.moment z) (sym are) (subst (λ g. Stands f p (front ++ g ∷ []) e.moment z) both.1 (takes front e x z (before front both.0 later) does))
 
--- a transaction that is idle again is as new
+-- where a transaction is idle again after old events, it stands over old and later events just where it stands over the later ones
 pub idle_is_new : (kind : MachineKind) (p : Times) (old more : List MachineEvent) (m k : ℕ) (y : Owing (transaction_of kind).Phase) → IsIdleAgain kind p old m → All (λ e. e.moment ≤ m) old → All (λ e. m ≤ e.moment) more
     → m ≤ k → Stands (transaction_of kind).figure p (old ++ more) k y ↔ Stands (transaction_of kind).figure p more k y
 idle_is_new kind p old more m k y again past from high =

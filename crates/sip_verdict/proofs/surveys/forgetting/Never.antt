@@ -41,7 +41,7 @@ use Rattle.sip_verdict.proofs.surveys.parts.Taking.{mark_of}
 abbrev Entries : Type 0
 Entries = List (Observation KeyParts)
 
--- a text of two lists of findings is one of the first and one of the second
+-- the text of two lists of findings is a text of the first and then one of the second
 record IsSplit (es : Entries) (here later : List Finding) (lines : List ℕ) : Type 0 where
   pub text : List ℕ
   pub more : List ℕ
@@ -49,13 +49,14 @@ record IsSplit (es : Entries) (here later : List Finding) (lines : List ℕ) : T
   pub second : IsTextOf es later more
   pub whole : lines ≡ text ++ more
 
+-- the text of two lists of findings can be split into a text of the first and one of the second
 split_text : (es : Entries) (here later : List Finding) (lines : List ℕ) → IsTextOf es (here ++ later) lines → IsSplit es here later lines
 split_text es [] later lines is = record { text = []; more = lines; first = refl; second = is; whole = refl }
 split_text es (f ∷ here) later lines (front, rest, line, more, is, long, of, others, whole) =
     let s = split_text es here later more others in
     record { text = line ++ s.text; more = s.more; first = (front, rest, line, s.text, is, long, of, s.first, refl); second = s.second; whole = whole ∙ ap (λ t. line ++ t) s.whole ∙ sym (append_assoc line s.text s.more) }
 
--- a text of findings of one entry is that after the entries up to it
+-- the text of findings of the newest of the entries es, in a log that goes on, is their text in the log of es alone
 text_here : (es after : Entries) (found : List Finding) (text : List ℕ) → ((f : Finding) → Contains found f → entry_of f ≡ length es) → IsTextOf (es ++ after) found text → IsTextOf es found text
 text_here es after [] text at none = none
 text_here es after (f ∷ found) text at (front, rest, line, more, is, long, of, others, whole) =
@@ -205,6 +206,7 @@ part_taken part [] (x ∷ cuts) is = absurd is
 part_taken part (item ∷ items) [] is = absurd is
 part_taken part (item ∷ items) (x ∷ cuts) (one, is) = let more = part_taken part items cuts is in ((one, more.0), ap suc more.1)
 
+-- where nothing is forgotten, the survey of an input and its text are among those of a survey that may forget
 pub never_whole : (age : ℕ) (input : List ℕ) (found : List Finding) (end : SurveyEnd) (text : List ℕ) → end ≢ LogFault (most_entries + 1) Limit → IsToldOf input found end text → IsToldForgetting age None input found end text
 never_whole age input found end text other (inl (lacks, none, ended), (es, inl (also, empty), (lines, are, whole))) =
     inl (lacks, none, ended, whole ∙ ap (λ l. l ++ end_text end (length found)) (subst (λ fs. IsTextOf es fs lines) none are) ∙ ap (λ fs. end_text end (length fs)) none)
@@ -216,11 +218,11 @@ never_whole age input found end text other (inr (p, items, close, says, is), (es
     let few = says.few in
     inr (p, items, close, lines, stream, never_after age None p [] items items close found end es lines (whole_taken items) (omega arith) (omega arith) is saw are, whole)
 
--- what an item is in the log of a part, by the way of its message
+-- the item as the log of the part has it, by which way its message went
 abbrev IsPartAs : PartOf → Item → Item → Option Direction → Type 0
 IsPartAs part item cut direction = MatchOption direction (cut ≡ item) (λ d. (branch : List ℕ) × TellsBranch item.text branch × (cut ≡ if falls_into part branch then item else mark_of item))
 
--- it is so in one way
+-- the log of a part has an item in one way only
 item_one : (part : PartOf) (item a b : Item) → IsPartItem part item a → IsPartItem part item b → a ≡ b
 item_one part item a b one other = by (direction_of item.action) one other
   where
@@ -238,6 +240,7 @@ part_one part (item ∷ items) (x ∷ cuts) [] is are = absurd are
 part_one part (item ∷ items) (x ∷ cuts) (y ∷ others) (one, is) (other, are) =
     ap (λ z. z ∷ cuts) (item_one part item x y one other) ∙ ap (λ zs. y ∷ zs) (part_one part items cuts others is are)
 
+-- where nothing is forgotten, the survey of a part and its text are among those of a survey that may forget
 pub never_part : (age : ℕ) (part : PartOf) (input : List ℕ) (found : List Finding) (end : SurveyEnd) (text : List ℕ) → end ≢ LogFault (most_entries + 1) Limit → IsPartToldOf part input found end text → IsToldForgetting age (Some part) input found end text
 never_part age part input found end text other (inl (lacks, none, ended), (es, inl (also, empty), (lines, are, whole))) =
     inl (lacks, none, ended, whole ∙ ap (λ l. l ++ end_text end (length found)) (subst (λ fs. IsTextOf es fs lines) none are) ∙ ap (λ fs. end_text end (length fs)) none)

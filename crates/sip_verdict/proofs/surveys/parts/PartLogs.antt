@@ -1,4 +1,4 @@
--- The log of a part is that of the branches that fall into it.
+-- The log of a part is the log that is cut by the branches that fall into the part.
 use Rattle.std.proofs.Common.{◌≡◌, ◌∙◌, inl, inr, ℕ, Bool, true, false, Option, Some, None, MatchOption, List, [], ◌∷◌, ◌++◌, All, if◌then◌else◌, refl, sym, ap, subst}
 use Rattle.std.specs.Prelude.{codes, bytes_eq, take}
 use Rattle.std.proofs.lemmas.List.Elements.{All-nil, All-weaker}
@@ -20,7 +20,7 @@ use Rattle.sip_verdict.proofs.surveys.parts.ByBranch.{of_one_branch}
 use Rattle.sip_verdict.proofs.surveys.parts.CutLogs.{SeenAs}
 use Rattle.sip_verdict.proofs.surveys.parts.Taking.{mark_of}
 
--- a branch with the cookie is as it is compared
+-- a branch with the cookie is compared as it stands
 cookie_compared : (branch : Option (List ℕ)) (text : List ℕ) → cookie_branch branch ≡ Some text → compared branch ≡ text
 cookie_compared None text is = absurd (cc)
 cookie_compared (Some branch) text is = by (bytes_eq (take 7 (compared (Some branch))) (codes "z9hg4bk")) is
@@ -30,15 +30,16 @@ cookie_compared (Some branch) text is = by (bytes_eq (take 7 (compared (Some bra
     by false e = absurd (cc)
 
 module _ (part : PartOf) where
-  -- the keys whose branch falls into the part
+  -- whether the branch of a key falls into the part
   abbrev Chosen : KeyParts → Bool
   Chosen key = falls_into part key.branch
 
-  -- what was made of an item whose keys are all of the part, or none
+  -- an item whose keys are all of the part, or all not, stays or becomes a mark
   kept : (item cut : Item) (e : Observation KeyParts) (falls : Bool) → All (λ key. Chosen key ≡ falls) e.keys → cut ≡ (if falls then item else mark_of item) → StaysOrIsMark Chosen item e cut
   kept item cut e true all is = inl (is, inr all)
   kept item cut e false all is = inr (is, all)
 
+  -- an item with a message, as the log of the part has it, stays or becomes a mark as the branch of its message falls
   message_part : (direction : Direction) (item cut : Item) (e : Observation KeyParts) → ObservesMessage direction item e → (branch : List ℕ) → TellsBranch item.text branch
       → cut ≡ (if falls_into part branch then item else mark_of item) → StaysOrIsMark Chosen item e cut
   message_part direction item cut e (has_fault fault says is) branch tells same =
@@ -55,6 +56,7 @@ module _ (part : PartOf) where
   CutSo item cut a =
       MatchOption (direction_of a) (cut ≡ item) (λ direction. (branch : List ℕ) × TellsBranch item.text branch × (cut ≡ if falls_into part branch then item else mark_of item))
 
+  -- each item, as the log of the part has it, stays or becomes a mark by its keys
   item_part : (done : List (Observation KeyParts)) (item cut : Item) (e : Observation KeyParts) → Sees done item e → IsPartItem part item cut → StaysOrIsMark Chosen item e cut
   item_part done item cut e sees is_cut = by item.action refl sees is_cut
     where

@@ -12,7 +12,7 @@ use Rattle.sip_verdict.specs.inner.ForgettingLogs.{IsHorizonOf}
 use Rattle.sip_verdict.proofs.keys.Keys.{newest_moment-push}
 use Rattle.sip_verdict.proofs.surveys.forgetting.Forgotten.{newest_kept, long_kept}
 
--- one entry more comes
+-- a horizon of entries is one still when an entry more comes, which is not before the newest
 pub horizon_push : (m : Horizon) (es : List (Observation KeyParts)) (e : Observation KeyParts) → IsHorizonOf m es → newest_moment es ≤ e.event.moment → IsHorizonOf m (es ++ e ∷ [])
 horizon_push m es e are later =
     let long = length-append es (e ∷ []) in
@@ -32,7 +32,7 @@ horizon_push m es e are later =
         let now = newest_moment-push es e in
         inr (omega (arith, same, now, ago, later))
 
--- some transactions are forgotten
+-- a horizon of entries is one still when some transactions are forgotten
 pub horizon_kept : (kept : KeyParts → Bool) (m : Horizon) (es : List (Observation KeyParts)) → IsHorizonOf m es → IsHorizonOf m (remembered kept es)
 horizon_kept kept m es are =
     let long = long_kept kept es in
@@ -71,7 +71,7 @@ horizon_left m n es are age until number moment =
     by (inl none) = inl (until ∙ none)
     by (inr ago) = let before = ap (λ i. newest_moment (take i es)) until in inr (omega (arith, before, age, ago))
 
--- where some may be forgotten, what is up to there came long ago
+-- where some transactions may be forgotten, the entries up to `until` came at least `age` milliseconds before the newest
 pub came_long_ago : (m : Horizon) (es : List (Observation KeyParts)) → IsHorizonOf m es → m.until ≢ 0 → IsLongAgo m.age m.until es
 came_long_ago m es are some = by are.long_ago
   where

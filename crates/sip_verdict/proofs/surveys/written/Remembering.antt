@@ -1,4 +1,4 @@
--- What a survey that forgets writes of what it finds, line after line, and what it comes to at the end of the log.
+-- What a survey that forgets writes of its findings, line after line, is the survey's text at the end of the log.
 use Rattle.std.proofs.Common.{◌≡◌, ◌≤◌, ◌+◌, ◌∙◌, inl, inr, ℕ, Option, Some, None, IfSome, Result, Ok, Err, IfOk, List, [], ◌∷◌, ◌++◌, length, refl, sym, ap, subst, arith, append_assoc}
 use Rattle.std.proofs.lemmas.List.{append-nil}
 use Rattle.std.specs.Io.KnownBytes.{Appends}
@@ -39,14 +39,14 @@ use Rattle.sip_verdict.proofs.surveys.written.Gathering.{header_lacks}
 use Rattle.sip_verdict.proofs.surveys.written.Horizons.{horizon_push}
 use Rattle.sip_verdict.proofs.surveys.written.Writing.{found_text}
 
--- nothing was read yet
+-- a survey that has read the header has found and written nothing yet
 pub remembers_none : (age : ℕ) (part : Option PartOf) (p : Times) (s : Surveying) (start : Option (List ℕ)) (now : log.ReaderState) → s.tables.times ≡ p → SurveysFor s [] → HasStreamed start p [] now
     → RemembersRead age part p s [] [] start now
 remembers_none age part p s start now times stands read =
     record { items = []; es = []; times = times; follows = stands; read = read; front = λ rest close later end more told. told }
 
 module _ (age : ℕ) (part : Option PartOf) (p : Times) (start : Option (List ℕ)) (now : log.ReaderState) (s : Surveying) (found : List Finding) (lines : List ℕ) (so : RemembersRead age part p s found lines start now) where
-  -- one more entry was read and taken so, after some transactions were forgotten, and this was found at it, and these lines were written of it
+  -- where transactions may have been forgotten, one more item was read and surveyed, and its lines were written, the survey has read that item too
   pub remembers_on : (m : Horizon) → IsHorizonOf m so.es → m.age ≡ age
       → (e cut : Entry) (new : log.ReaderState) → HasStreamed start p (so.items ++ item e ∷ []) new → IsTaken part (item e) (item cut)
       → (f k : Surveying) (a b : Horizon) → f.tables.times ≡ s.tables.times → k.tables.times ≡ f.tables.times → f.moment ≤ k.moment
@@ -108,7 +108,7 @@ module _ (age : ℕ) (part : Option PartOf) (p : Times) (start : Option (List �
     at_end rest close end left =
         subst (IsToldAfter age part p [] (so.items ++ rest) close found end) (append-nil lines) (subst (λ fs. IsToldAfter age part p [] (so.items ++ rest) close fs end (lines ++ [])) (append-nil found) (so.front rest close [] end [] left))
 
-    -- the log ends so after them
+    -- where the log ends after the items that were read, and the last line is written, the survey is written and summed up
     ends : (close : LogEnd) (end : SurveyEnd) → summary.end ≡ end → Appends mid after (end_text end counts.findings) → IsSurveyAfter p so.es [] close [] end
         → IfSome start (λ input. StreamSays input p so.items close) → IfSome start (λ input. IsWrittenForgetting age part input summary before after)
     ends close end is last left logs =
@@ -136,17 +136,19 @@ module _ (age : ℕ) (part : Option PartOf) (p : Times) (start : Option (List �
           at_end (item e ∷ w.0) w.1 (ended.LogFault number Limit) (left, is_left, inl (full, refl, at, refl)),
         )) (streamed_log start p (so.items ++ item e ∷ []) new more))
 
+    -- where the log is read to its end, the survey is written and summed up
     pub remembers_end : summary.end ≡ ended.Clean (length so.es) (length (keys_in so.es)) → Appends mid after (end_text (ended.Clean (length so.es) (length (keys_in so.es))) counts.findings)
         → IfSome start (λ input. StreamSays input p so.items Clean) → IfSome start (λ input. IsWrittenForgetting age part input summary before after)
     remembers_end is last logs = ends Clean (ended.Clean (length so.es) (length (keys_in so.es))) is last (refl, refl) logs
 
+    -- where the log cannot be read on, the survey is written and summed up, and ends with the fault
     pub remembers_stop : (count : ℕ) (reason : LogReason) → count ≡ s.number → summary.end ≡ ended.LogFault (count + 1) reason → Appends mid after (end_text (ended.LogFault (count + 1) reason) counts.findings)
         → (fault : LogReason) × (reason ≡ fault) × IfSome start (λ input. StreamSays input p so.items (Stops fault)) → IfSome start (λ input. IsWrittenForgetting age part input summary before after)
     remembers_stop count reason counted is last (fault, same, logs) =
         ends (Stops fault) (ended.LogFault (count + 1) reason) is last
         (refl, ap (λ n. ended.LogFault (n + 1) reason) (counted ∙ so.follows.number) ∙ ap (ended.LogFault (length so.es + 1)) same) logs
 
--- the header cannot be read
+-- where the header cannot be read, the last line is the survey, which finds nothing and ends with the fault of the header
 pub remembers_header : (age : ℕ) (part : Option PartOf) (start : Option (List ℕ)) (v : Verdict) (counts : Counts) (summary : Summary) (before after : Option (List ℕ)) → IfSome start (λ input. IsVerdictOf input v) → trouble_of v ≡ Some 0
     → counts.findings ≡ 0 → counts.undecided ≡ 0 → summary.end ≡ ended.LogFault 0 Header → summary.findings ≡ counts.findings → summary.undecided ≡ counts.undecided
     → Appends before after (end_text (ended.LogFault 0 Header) counts.findings) → IfSome start (λ input. IsWrittenForgetting age part input summary before after)
@@ -160,7 +162,7 @@ remembers_header age part start v counts summary before after is none no_finding
       written = subst (λ e. Appends before after (end_text e 0)) (sym end) (subst (λ n. Appends before after (end_text (ended.LogFault 0 Header) n)) no_findings last);
     }) is
 
--- what is written of an input, as it is told of a whole log
+-- what is written of an input that is known in whole is the text of a survey that may forget
 pub told_forgetting : (age : ℕ) (part : Option PartOf) (start : Option (List ℕ)) (summary : Summary) (before after : Option (List ℕ)) → IfSome start (λ input. IsWrittenForgetting age part input summary before after)
     → IfSome start (λ input. (found : List Finding) × (text : List ℕ) × IsToldForgetting age part input found summary.end text × SumsUp found summary × Appends before after text)
 told_forgetting age part start summary before after written =
@@ -168,6 +170,7 @@ told_forgetting age part start summary before after written =
     (λ input. (found : List Finding) × (text : List ℕ) × IsToldForgetting age part input found summary.end text × SumsUp found summary × Appends before after text)
     (λ input w. (w.found, w.text, w.told, w.sums, w.written)) written
 
+-- what is written, where there is an answer, is the text of a survey that may forget
 pub all_told_forgetting : {E : Type 0} (age : ℕ) (part : Option PartOf) (S : Option (List ℕ) → Type 0) (r : Result Summary E) (start before after : Option (List ℕ))
     → IfOk r (λ summary. (given : Option (List ℕ)) → S given → IfSome given (λ input. IsWrittenForgetting age part input summary before after)) → S start
     → IfOk r (λ summary. IfSome start (λ input. (found : List Finding) × (text : List ℕ) × IsToldForgetting age part input found summary.end text × SumsUp found summary × Appends before after text))

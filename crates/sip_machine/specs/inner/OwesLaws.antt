@@ -73,7 +73,7 @@ is_some-deadlines texts [] = refl
 is_some-deadlines texts (d ∷ ds) =
     is_some-cond d.must (list_any (λ o. o.must) (owes_seen texts ds)) d (filter (λ d. d.must) ds) (is_some-deadlines texts ds)
 
--- what is still owed at t of what debts stand for is what the debts stand for that count at t
+-- the debts that still count at t are seen as what is still owed at t of all that the debts are seen as
 pub unexpired-seen : (t : ℕ) (texts : Texts) (ds : List Debt) → unexpired t (owes_seen texts ds) ≡ owes_seen texts (filter (counts_at t) ds)
 unexpired-seen t texts ds = filter-map (owed_seen texts) (λ owed. owed.must || nat_le t owed.deadline) ds
 

@@ -146,7 +146,14 @@ impl Accounts {
     {
         let account = self.rows[row];
         let mut seek = Seek::new(&self.gains, message, account.start);
-        if let Some(place) = find(&self.gains, &self.strikes, account, &mut seek, message, moment) {
+        if let Some(place) = find(
+            &self.gains,
+            &self.strikes,
+            account,
+            &mut seek,
+            message,
+            moment,
+        ) {
             self.rows[row] = without(&self.gains, &mut self.strikes, account, place)?;
             self.paid = Some(message);
         }
@@ -160,7 +167,15 @@ impl Accounts {
     {
         let account = self.rows[row];
         let mut seek = Seek::new(&self.gains, message, account.start);
-        find(&self.gains, &self.strikes, account, &mut seek, message, moment).is_some()
+        find(
+            &self.gains,
+            &self.strikes,
+            account,
+            &mut seek,
+            message,
+            moment,
+        )
+        .is_some()
     }
 
     /// Drops what the row may send and whose deadline is below the moment. On an error all is as before.

@@ -26,12 +26,12 @@ pub flags-same : (old new : Gains) → AreFlags old → new.entries.items ≡ ol
 flags-same old new are entries flags end same =
     let some = ap length entries in
     let kept : (k : ℕ) → IsKept new k → IsKept old k = λ k is.
-        let from = is.from in
-        let within = is.within in
-        record { from = omega (arith, from, some, end); within = omega (arith, within, end) } in
+    let from = is.from in
+    let within = is.within in
+    record { from = omega (arith, from, some, end); within = omega (arith, within, end) } in
     let at : (k : ℕ) → flags_at new k ≡ flags_at old k = λ k.
-        let index : k - (new.end - length new.entries.items) ≡ k - (old.end - length old.entries.items) = omega (arith, some, end) in
-        ap (λ l. get_or l (k - (new.end - length new.entries.items)) no_flags) flags ∙ ap (λ n. get_or old.flags.items n no_flags) index in
+    let index : k - (new.end - length new.entries.items) ≡ k - (old.end - length old.entries.items) = omega (arith, some, end) in
+    ap (λ l. get_or l (k - (new.end - length new.entries.items)) no_flags) flags ∙ ap (λ n. get_or old.flags.items n no_flags) index in
     record {
       many = ap length flags ∙ are.many ∙ sym some;
       left = λ k is. ap (λ (f : Flags). f.left) (at k) ∙ are.left k (kept k is) ∙ sym (left-as old new k (ap (λ l. entry_at l k) same.entries) (λ m. same.messages m k));
@@ -51,22 +51,22 @@ flags-more old new debt are long count entries flags end gain =
     let many = are.many in
     let index : (k : ℕ) → k - (new.end - length new.entries.items) ≡ k - (old.end - length old.entries.items) = λ k. omega (arith, some, end, long) in
     let at : (k : ℕ) → flags_at new k ≡ get_or (old.flags.items ++ f ∷ []) (k - (old.end - length old.entries.items)) no_flags = λ k.
-        ap (λ l. get_or l (k - (new.end - length new.entries.items)) no_flags) flags ∙ ap (λ i. get_or (old.flags.items ++ f ∷ []) i no_flags) (index k) in
+    ap (λ l. get_or l (k - (new.end - length new.entries.items)) no_flags) flags ∙ ap (λ i. get_or (old.flags.items ++ f ∷ []) i no_flags) (index k) in
     let here : (k : ℕ) → k ≡ n → flags_at new k ≡ f = λ k is.
-        at k ∙ get_or_push old.flags.items f no_flags (k - (old.end - length old.entries.items)) (omega (arith, is, count, many, long)) in
+    at k ∙ get_or_push old.flags.items f no_flags (k - (old.end - length old.entries.items)) (omega (arith, is, count, many, long)) in
     let message : (k : ℕ) → k ≡ n → (entry_at (entries_of new) k).message ≡ debt.message = λ k is.
-        ap (λ (l : List Entry). (entry_at l k).message) gain.entries ∙ ap (λ (x : Entry). x.message) (get_or_push (entries_of old) e blank k (sym is)) in
+    ap (λ (l : List Entry). (entry_at l k).message) gain.entries ∙ ap (λ (x : Entry). x.message) (get_or_push (entries_of old) e blank k (sym is)) in
     let before : (k : ℕ) → IsKept new k → k ≢ n → IsKept old k = λ k is other.
-        let from = is.from in
-        let within = is.within in
-        record { from = omega (arith, from, some, end, long); within = omega (arith, within, end, other, count) } in
+    let from = is.from in
+    let within = is.within in
+    record { from = omega (arith, from, some, end, long); within = omega (arith, within, end, other, count) } in
     let there : (k : ℕ) → IsKept old k → flags_at new k ≡ flags_at old k = λ k is.
-        let from = is.from in
-        let within = is.within in
-        at k ∙ get_or_append_left old.flags.items (f ∷ []) no_flags (k - (old.end - length old.entries.items)) (omega (arith, from, within, many, long)) in
+    let from = is.from in
+    let within = is.within in
+    at k ∙ get_or_append_left old.flags.items (f ∷ []) no_flags (k - (old.end - length old.entries.items)) (omega (arith, from, within, many, long)) in
     let entry : (k : ℕ) → IsKept old k → entry_at (entries_of new) k ≡ entry_at (entries_of old) k = λ k is.
-        let within = is.within in
-        ap (λ l. entry_at l k) gain.entries ∙ get_or_append_left (entries_of old) (e ∷ []) blank k (omega (arith, within, count)) in
+    let within = is.within in
+    ap (λ l. entry_at l k) gain.entries ∙ get_or_append_left (entries_of old) (e ∷ []) blank k (omega (arith, within, count)) in
     record {
       many = ap length flags ∙ length-append old.flags.items (f ∷ []) ∙ ap (λ i. i + 1) are.many ∙ sym some;
       left = λ k is. elim (cases_eq k n) [
@@ -96,19 +96,19 @@ flags-let_go old new place are long kept entries flags must gone =
     let low = kept.from in
     let high = kept.within in
     let was : (k : ℕ) → IsKept new k → IsKept old k = λ k is.
-        let from = is.from in
-        let within = is.within in
-        record { from = omega (arith, from, some, end); within = omega (arith, within, end) } in
+    let from = is.from in
+    let within = is.within in
+    record { from = omega (arith, from, some, end); within = omega (arith, within, end) } in
     let at : (k : ℕ) → flags_at new k ≡ get_or (set old.flags.items i no_flags) (k - (old.end - length old.entries.items)) no_flags = λ k.
-        let index : k - (new.end - length new.entries.items) ≡ k - (old.end - length old.entries.items) = omega (arith, some, end) in
-        ap (λ l. get_or l (k - (new.end - length new.entries.items)) no_flags) flags ∙ ap (λ n. get_or (set old.flags.items i no_flags) n no_flags) index in
+    let index : k - (new.end - length new.entries.items) ≡ k - (old.end - length old.entries.items) = omega (arith, some, end) in
+    ap (λ l. get_or l (k - (new.end - length new.entries.items)) no_flags) flags ∙ ap (λ n. get_or (set old.flags.items i no_flags) n no_flags) index in
     let here : (k : ℕ) → k ≡ place → flags_at new k ≡ no_flags = λ k is.
-        at k ∙ ap (λ n. get_or (set old.flags.items i no_flags) (n - (old.end - length old.entries.items)) no_flags) is
-        ∙ get_or-set_same old.flags.items i no_flags no_flags (omega (arith, low, high, many, long)) in
+    at k ∙ ap (λ n. get_or (set old.flags.items i no_flags) (n - (old.end - length old.entries.items)) no_flags) is
+    ∙ get_or-set_same old.flags.items i no_flags no_flags (omega (arith, low, high, many, long)) in
     let there : (k : ℕ) → IsKept old k → k ≢ place → flags_at new k ≡ flags_at old k = λ k is other.
-        let from = is.from in
-        at k ∙ get_or-set_other old.flags.items i (k - (old.end - length old.entries.items)) no_flags no_flags
-            (λ same. other (omega (arith, same, from, low, long))) in
+    let from = is.from in
+    at k ∙ get_or-set_other old.flags.items i (k - (old.end - length old.entries.items)) no_flags no_flags
+    (λ same. other (omega (arith, same, from, low, long))) in
     record {
       many = ap length flags ∙ length-set old.flags.items i no_flags ∙ are.many ∙ sym some;
       left = λ k is. elim (cases_eq k place) [
@@ -132,15 +132,15 @@ flags-dropped old new place count are long here within entries flags end dropped
     let many = are.many in
     let above : (k : ℕ) → IsKept new k → place ≤ k = λ k is. let from = is.from in omega (arith, from, here, some, end, long) in
     let was : (k : ℕ) → IsKept new k → IsKept old k = λ k is.
-        let from = is.from in
-        let inside = is.within in
-        record { from = omega (arith, from, some, end); within = omega (arith, inside, end) } in
+    let from = is.from in
+    let inside = is.within in
+    record { from = omega (arith, from, some, end); within = omega (arith, inside, end) } in
     let at : (k : ℕ) → IsKept new k → flags_at new k ≡ flags_at old k = λ k is.
-        let from = is.from in
-        let index : count + (k - (new.end - length new.entries.items)) ≡ k - (old.end - length old.entries.items) = omega (arith, from, here, some, end, long) in
-        ap (λ l. get_or l (k - (new.end - length new.entries.items)) no_flags) flags
-        ∙ get_or-drop count old.flags.items (k - (new.end - length new.entries.items)) no_flags
-        ∙ ap (λ n. get_or old.flags.items n no_flags) index in
+    let from = is.from in
+    let index : count + (k - (new.end - length new.entries.items)) ≡ k - (old.end - length old.entries.items) = omega (arith, from, here, some, end, long) in
+    ap (λ l. get_or l (k - (new.end - length new.entries.items)) no_flags) flags
+    ∙ get_or-drop count old.flags.items (k - (new.end - length new.entries.items)) no_flags
+    ∙ ap (λ n. get_or old.flags.items n no_flags) index in
     record {
       many = ap length flags ∙ length-drop count old.flags.items ∙ omega (arith, many, some);
       left = λ k is. ap (λ (f : Flags). f.left) (at k is) ∙ are.left k (was k is)

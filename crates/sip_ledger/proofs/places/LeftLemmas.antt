@@ -282,12 +282,12 @@ gains-let_go old new place are entries end rises messages musts flags =
       end = end;
       long = some;
       here = λ m. elim (cases_eq m m0) [
-      | inl is ↦ messages m place ∙ ap₂ (λ a b. cond (a && b) false (holds old.messages m place)) (eq-eqb m m0 is) (eq-eqb place place refl)
-      | inr other ↦ messages m place ∙ ap (λ a. cond (a && place == place) false (holds old.messages m place)) (ne_eqb m m0 other)
-          ∙ false_from_ne_true (holds old.messages m place) (λ is. other (sym (are.messages m place is).message))
+        | inl is ↦ messages m place ∙ ap₂ (λ a b. cond (a && b) false (holds old.messages m place)) (eq-eqb m m0 is) (eq-eqb place place refl)
+        | inr other ↦ messages m place ∙ ap (λ a. cond (a && place == place) false (holds old.messages m place)) (ne_eqb m m0 other)
+            ∙ false_from_ne_true (holds old.messages m place) (λ is. other (sym (are.messages m place is).message))
       ];
       others = λ m k other. messages m k ∙ ap (λ b. cond (m == m0 && b) false (holds old.messages m k)) (ne_eqb k place other)
-        ∙ ap (λ b. cond b false (holds old.messages m k)) (and-false (m == m0));
+          ∙ ap (λ b. cond b false (holds old.messages m k)) (and-false (m == m0));
       musts = λ k other. musts 0 k ∙ ap (λ b. cond (0 == 0 && b) false (holds old.musts 0 k)) (ne_eqb k place other);
     } in (
       record {

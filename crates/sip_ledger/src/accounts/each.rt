@@ -6,9 +6,7 @@ ghost use Rattle.sip_ledger.specs.Ledgers.{from_to};
 ghost use Rattle.sip_ledger.specs.inner.Accounts.{AreAccounts, AreGains, IsAccount, IsSeek, account_debts, accounts_debts};
 
 use crate::accounts::Accounts;
-use crate::accounts::account::{
-    Account, expired, find, gained, is_timely, place_near, without,
-};
+use crate::accounts::account::{Account, expired, find, gained, is_timely, place_near, without};
 use crate::accounts::gains::Gains;
 use crate::accounts::seek::Seek;
 use crate::accounts::strikes::Strike;
@@ -49,7 +47,15 @@ impl Accounts {
         ensures ok { OnOk result (self.new ≡ take from self.old ++ map (λ owes. owes ++ debt ∷ []) (drop from self.old)) }
         ensures err { OnErr result (self.new ≡ take from self.old) }
     {
-        if gain_some(&mut self.gains, &mut self.strikes, &mut self.rows, from, debt).is_err() {
+        if gain_some(
+            &mut self.gains,
+            &mut self.strikes,
+            &mut self.rows,
+            from,
+            debt,
+        )
+        .is_err()
+        {
             self.truncate(from);
             return Err(AllocError);
         }
@@ -101,7 +107,17 @@ impl Accounts {
     {
         let before = self.rows.len();
         self.paid = Some(message);
-        if push_some(&self.gains, &mut self.strikes, &mut self.rows, from, to, message, moment).is_err() {
+        if push_some(
+            &self.gains,
+            &mut self.strikes,
+            &mut self.rows,
+            from,
+            to,
+            message,
+            moment,
+        )
+        .is_err()
+        {
             self.rows.truncate(before);
             return Err(AllocError);
         }
@@ -121,7 +137,7 @@ fn gain_some(
     ensures accounts { AreAccounts gains.new strikes.new.items rows.new.items }
     ensures ok { OnOk result (accounts_debts gains.new strikes.new.items rows.new.items
         ≡ take from (accounts_debts gains.old strikes.old.items rows.old.items)
-            ++ map (λ owes. owes ++ debt ∷ []) (drop from (accounts_debts gains.old strikes.old.items rows.old.items))) }
+        ++ map (λ owes. owes ++ debt ∷ []) (drop from (accounts_debts gains.old strikes.old.items rows.old.items))) }
     ensures err { OnErr result (take from (accounts_debts gains.new strikes.new.items rows.new.items)
         ≡ take from (accounts_debts gains.old strikes.old.items rows.old.items)) }
 {

@@ -49,7 +49,7 @@ returns-in_err-place-clause-accounts c =
     let count : c.len.result ≡ length c.args.rows.now.items = c.len.ensures ∙ c.args.rows.now.ok.0 in
     let inside : k < length seen = omega (arith, long, count) in
     let over = gained-over c.args.debt c.args.from k seen c.loop-row.gains c.place_near.new.gains c.loop-row.strikes.items c.loop-row.rows.items c.place_near.ensures.kept
-        c.place_near.ensures.gained was.gained in
+    c.place_near.ensures.gained was.gained in
     over.accounts
 
 pub returns-in_err-place-clause-err : goal.returns-in_err-place-clause-err
@@ -62,7 +62,7 @@ returns-in_err-place-clause-err c =
     let count : c.len.result ≡ length c.args.rows.now.items = c.len.ensures ∙ c.args.rows.now.ok.0 in
     let inside : k < length seen = omega (arith, long, count) in
     let over = gained-over c.args.debt c.args.from k seen c.loop-row.gains c.place_near.new.gains c.loop-row.strikes.items c.loop-row.rows.items c.place_near.ensures.kept
-        c.place_near.ensures.gained was.gained in
+    c.place_near.ensures.gained was.gained in
     on-error c.from_residual.result c.from_residual.ensures.0
     (gained-front c.args.debt c.args.from k seen c.place_near.new.gains c.loop-row.strikes.items c.loop-row.rows.items over was.low)
 
@@ -76,7 +76,7 @@ gained-requires-clause-account c =
     let count : c.len.result ≡ length c.args.rows.now.items = c.len.ensures ∙ c.args.rows.now.ok.0 in
     let inside : k < length seen = omega (arith, long, count) in
     let over = gained-over c.args.debt c.args.from k seen c.loop-row.gains c.place_near.new.gains c.loop-row.strikes.items c.loop-row.rows.items c.place_near.ensures.kept
-        c.place_near.ensures.gained was.gained in
+    c.place_near.ensures.gained was.gained in
     gained-at c.args.debt c.args.from k k seen c.place_near.new.gains c.loop-row.strikes.items c.loop-row.rows.items c.index-account.result.now over was.low inside c.index-account.ensures
 
 pub gained-requires-clause-next : goal.gained-requires-clause-next
@@ -92,7 +92,7 @@ returns-in_err-grown-clause-accounts c =
     let count : c.len.result ≡ length c.args.rows.now.items = c.len.ensures ∙ c.args.rows.now.ok.0 in
     let inside : k < length seen = omega (arith, long, count) in
     let over = gained-over c.args.debt c.args.from k seen c.loop-row.gains c.place_near.new.gains c.loop-row.strikes.items c.loop-row.rows.items c.place_near.ensures.kept
-        c.place_near.ensures.gained was.gained in
+    c.place_near.ensures.gained was.gained in
     let grown = gained-grown c.args.debt c.args.from k seen c.place_near.new.gains c.loop-row.strikes.items c.gained.new.strikes.items c.loop-row.rows.items c.gained.ensures.kept over in
     grown.accounts
 
@@ -106,7 +106,7 @@ returns-in_err-grown-clause-err c =
     let count : c.len.result ≡ length c.args.rows.now.items = c.len.ensures ∙ c.args.rows.now.ok.0 in
     let inside : k < length seen = omega (arith, long, count) in
     let over = gained-over c.args.debt c.args.from k seen c.loop-row.gains c.place_near.new.gains c.loop-row.strikes.items c.loop-row.rows.items c.place_near.ensures.kept
-        c.place_near.ensures.gained was.gained in
+    c.place_near.ensures.gained was.gained in
     let grown = gained-grown c.args.debt c.args.from k seen c.place_near.new.gains c.loop-row.strikes.items c.gained.new.strikes.items c.loop-row.rows.items c.gained.ensures.kept over in
     on-error c.from_residual-in_err-grown.result c.from_residual-in_err-grown.ensures.0
     (gained-front c.args.debt c.args.from k seen c.place_near.new.gains c.gained.new.strikes.items c.loop-row.rows.items grown was.low)
@@ -132,7 +132,7 @@ loop-row-preserved c =
     let count : c.len.result ≡ length c.args.rows.now.items = c.len.ensures ∙ c.args.rows.now.ok.0 in
     let inside : k < length seen = omega (arith, long, count) in
     let over = gained-over c.args.debt c.args.from k seen c.loop-row.gains c.place_near.new.gains c.loop-row.strikes.items c.loop-row.rows.items c.place_near.ensures.kept
-        c.place_near.ensures.gained was.gained in
+    c.place_near.ensures.gained was.gained in
     let low = was.low in
     record {
       low = omega (arith, low);

@@ -17,7 +17,7 @@ entry-requires-clause-kept c =
 pub loop-at-preserved : goal.loop-at-preserved
 loop-at-preserved c =
     let other : (entry_at (entries_of c.args.gains.now) c.loop-at.at).message ≢ c.args.message =
-        λ is. c.if-entry-message.false (ap (λ (e : Entry). e.message) c.entry.ensures ∙ is) in
+    λ is. c.if-entry-message.false (ap (λ (e : Entry). e.message) c.entry.ensures ∙ is) in
     λ k low high. others-more c.args.gains.now c.args.message c.args.from c.loop-at.at k c.requires.gained c.loop-at.invariant other low high
 
 pub returns : goal.returns

@@ -23,7 +23,7 @@ digits-len text front back at whole digits within run other =
       | inr high ↦ elim (cases_lt (length front) at) as (λ _. at ≡ length front) [
         | inl more ↦
             let digit = digit_at (take at text) (length front) run (omega (arith, length-take-le at text within)) in
-            absurd (omega (arith, digit, get_or-take text at (length front) 0 more, blank))
+            absurd (omega (arith, digit, get_or-take at text (length front) 0 more, blank))
         | inr less ↦ omega arith
       ]
     ]

@@ -9,26 +9,26 @@ use Rattle.sip_log.proofs.line.read_numbers.Goals as goal
 
 pub returns-then-not-is_plain : goal.returns-then-not-is_plain
 returns-then-not-is_plain c = λ moment len is.
-    let read = c.digits.ensures in
-    let parts = digits-front c.args.text.now is.moment_text is.len_text c.digits.result.1 is.whole is.moment_is.digits.1 read.within read.run read.end in
+    let read = c.digits-moment.ensures in
+    let parts = digits-front c.args.text.now is.moment_text is.len_text c.digits-moment.result.1 is.whole is.moment_is.digits.1 read.within read.run read.end in
     true≢false (sym (c.if-not-is_plain.ensures.1 (subst IsPlain (sym parts.0) (is.moment_is.digits.0, is.moment_is.plain))))
 
 pub returns-in_err-rest : goal.returns-in_err-rest
 returns-in_err-rest c =
     rw c.from_residual.ensures
     (λ moment len is.
-    let read = c.digits.ensures in
-    let parts = digits-front c.args.text.now is.moment_text is.len_text c.digits.result.1 is.whole is.moment_is.digits.1 read.within read.run read.end in
-    (rw (take_rest c.args.text.now c.digits.result.1) at c.in_err-rest.ensures) is.len_text parts.1)
+    let read = c.digits-moment.ensures in
+    let parts = digits-front c.args.text.now is.moment_text is.len_text c.digits-moment.result.1 is.whole is.moment_is.digits.1 read.within read.run read.end in
+    (rw (take_rest c.args.text.now c.digits-moment.result.1) at c.in_err-rest.ensures) is.len_text parts.1)
 
 pub returns-in_err-len : goal.returns-in_err-len
 returns-in_err-len c =
     let text = c.args.text.now in
-    let at = c.digits.result.1 in
+    let at = c.digits-moment.result.1 in
     let rest : drop at text ≡ space ∷ c.in_ok-rest.rest.now = rw (take_rest text at) at c.in_ok-rest.ensures in
     rw c.from_residual-in_err-len.ensures
     (λ moment len is.
-    let read = c.digits.ensures in
+    let read = c.digits-moment.ensures in
     let parts = digits-front text is.moment_text is.len_text at is.whole is.moment_is.digits.1 read.within read.run read.end in
     let same : is.len_text ≡ c.in_ok-rest.rest.now = cc in
     c.in_err-len.ensures len (subst (λ t. IsNumber t len) same is.len_is))
@@ -36,11 +36,11 @@ returns-in_err-len c =
 pub returns : goal.returns
 returns c =
     let text = c.args.text.now in
-    let at = c.digits.result.1 in
+    let at = c.digits-moment.result.1 in
     let rest : drop at text ≡ space ∷ c.in_ok-rest.rest.now = rw (take_rest text at) at c.in_ok-rest.ensures in
     let plain = c.if-not-is_plain.ensures.0 refl in
     let len = c.in_ok-len.ensures in
-    let moment_is : IsNumber (take at text) (digits_value 10 (take at text)) = record { digits = (plain.0, c.digits.ensures.run); plain = plain.1; value = refl } in (
+    let moment_is : IsNumber (take at text) (digits_value 10 (take at text)) = record { digits = (plain.0, c.digits-moment.ensures.run); plain = plain.1; value = refl } in (
       digits_value 10 (take at text),
       len.0,
       record {
@@ -50,6 +50,6 @@ returns c =
         len_is = len.1;
         whole = sym (take-append-drop at text) ∙ ap (λ (t : List ℕ). take at text ++ t) rest;
       },
-      c.digits.ensures.value,
+      c.digits-moment.ensures.value,
       len.2,
     )

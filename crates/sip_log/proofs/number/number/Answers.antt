@@ -11,16 +11,16 @@ returns-then-not-is_plain c = λ n is. true≢false (sym (c.if-not-is_plain.ensu
 
 pub returns-then-len-text : goal.returns-then-len-text
 returns-then-len-text c = λ n is.
-    let digit = digit_at c.args.text.now c.digits.result.1 is.digits.1 (omega arith) in
-    omega (arith, digit, c.digits.ensures.end (omega arith))
+    let digit = digit_at c.args.text.now c.digits-value.result.1 is.digits.1 (omega arith) in
+    omega (arith, digit, c.digits-value.ensures.end (omega arith))
 
 pub returns : goal.returns
 returns c =
     let text = c.args.text.now in
     let plain = c.if-not-is_plain.ensures.0 refl in
-    let same : c.digits.result.1 ≡ length text = omega (arith, c.digits.ensures.within) in
-    let whole : take c.digits.result.1 text ≡ text = ap (λ n. take n text) same ∙ take-length text in (
+    let same : c.digits-value.result.1 ≡ length text = omega (arith, c.digits-value.ensures.within) in
+    let whole : take c.digits-value.result.1 text ≡ text = ap (λ n. take n text) same ∙ take-length text in (
       digits_value 10 text,
-      record { digits = (plain.0, subst (AllDigits 10) whole c.digits.ensures.run); plain = plain.1; value = refl },
-      c.digits.ensures.value ∙ ap (λ t. cut (digits_value 10 t)) whole,
+      record { digits = (plain.0, subst (AllDigits 10) whole c.digits-value.ensures.run); plain = plain.1; value = refl },
+      c.digits-value.ensures.value ∙ ap (λ t. cut (digits_value 10 t)) whole,
     )

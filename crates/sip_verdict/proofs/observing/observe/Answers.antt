@@ -1,4 +1,5 @@
-use Rattle.std.proofs.Common.{[], inl, inr, refl, sym, ap, ◌∙◌}
+use Rattle.std.proofs.Common.{[], Err, inl, inr, refl, sym, ap, subst, ◌∙◌}
+use Rattle.sip_message.specs.Reads.{ReadsTo}
 use Rattle.sip_message.specs.SaidOf.{said_of}
 use Rattle.sip_log.specs.Told.{item}
 use Rattle.sip_standard.specs.Observation.{silent_observation}
@@ -35,7 +36,7 @@ returns-in-Err-Fault-clause-observed c es =
     rw c.in-Err-Fault.fault-is (
       _,
       observes es i _ c.in-Some.direction (sym c.direction_of.ensures ∙ c.in-Some.is)
-          (observes_fault i c.in-Some.direction c.as_slice.result.now _ c.as_slice.ensures.value (rw (c.in-Err-Fault.is, c.in-Err-Fault.field-0-is) at c.read-read.ensures)),
+          (observes_fault i c.in-Some.direction c.as_slice.result.now _ c.as_slice.ensures.value (subst (λ e. ReadsTo c.as_slice.result.now (Err e)) c.in-Err-Fault.field-0-is (rw c.in-Err-Fault.is at c.read-read.ensures))),
       refl,
     )
 

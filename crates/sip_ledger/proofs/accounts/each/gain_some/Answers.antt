@@ -20,7 +20,7 @@ index-account-requires c =
     let was = c.loop-row.invariant in
     let k = c.loop-row.row in
     let long = debts-length g c.args.strikes.now.items c.args.rows.now.items in
-    let count : c.len.result ≡ length c.args.rows.now.items = c.len.ensures ∙ c.args.rows.now.ok.0 in
+    let count : c.len-row-end.result ≡ length c.args.rows.now.items = c.len-row-end.ensures ∙ c.args.rows.now.ok.0 in
     let inside : k < length seen = omega (arith, long, count) in
     omega (arith, gained-inside c.args.debt c.args.from k k seen c.loop-row.gains c.loop-row.strikes.items c.loop-row.rows.items was.gained was.low inside, c.loop-row.rows.ok.0)
 
@@ -34,7 +34,7 @@ place_near-requires-clause-account c =
     let was = c.loop-row.invariant in
     let k = c.loop-row.row in
     let long = debts-length g c.args.strikes.now.items c.args.rows.now.items in
-    let count : c.len.result ≡ length c.args.rows.now.items = c.len.ensures ∙ c.args.rows.now.ok.0 in
+    let count : c.len-row-end.result ≡ length c.args.rows.now.items = c.len-row-end.ensures ∙ c.args.rows.now.ok.0 in
     let inside : k < length seen = omega (arith, long, count) in
     rw c.deref.ensures.value
     (gained-at c.args.debt c.args.from k k seen c.loop-row.gains c.loop-row.strikes.items c.loop-row.rows.items c.index-account.result.now was.gained was.low inside c.index-account.ensures)
@@ -46,7 +46,7 @@ returns-in_err-place-clause-accounts c =
     let was = c.loop-row.invariant in
     let k = c.loop-row.row in
     let long = debts-length g c.args.strikes.now.items c.args.rows.now.items in
-    let count : c.len.result ≡ length c.args.rows.now.items = c.len.ensures ∙ c.args.rows.now.ok.0 in
+    let count : c.len-row-end.result ≡ length c.args.rows.now.items = c.len-row-end.ensures ∙ c.args.rows.now.ok.0 in
     let inside : k < length seen = omega (arith, long, count) in
     let over = gained-over c.args.debt c.args.from k seen c.loop-row.gains c.place_near.new.gains c.loop-row.strikes.items c.loop-row.rows.items c.place_near.ensures.kept
     c.place_near.ensures.gained was.gained in
@@ -59,7 +59,7 @@ returns-in_err-place-clause-err c =
     let was = c.loop-row.invariant in
     let k = c.loop-row.row in
     let long = debts-length g c.args.strikes.now.items c.args.rows.now.items in
-    let count : c.len.result ≡ length c.args.rows.now.items = c.len.ensures ∙ c.args.rows.now.ok.0 in
+    let count : c.len-row-end.result ≡ length c.args.rows.now.items = c.len-row-end.ensures ∙ c.args.rows.now.ok.0 in
     let inside : k < length seen = omega (arith, long, count) in
     let over = gained-over c.args.debt c.args.from k seen c.loop-row.gains c.place_near.new.gains c.loop-row.strikes.items c.loop-row.rows.items c.place_near.ensures.kept
     c.place_near.ensures.gained was.gained in
@@ -73,7 +73,7 @@ gained-requires-clause-account c =
     let was = c.loop-row.invariant in
     let k = c.loop-row.row in
     let long = debts-length g c.args.strikes.now.items c.args.rows.now.items in
-    let count : c.len.result ≡ length c.args.rows.now.items = c.len.ensures ∙ c.args.rows.now.ok.0 in
+    let count : c.len-row-end.result ≡ length c.args.rows.now.items = c.len-row-end.ensures ∙ c.args.rows.now.ok.0 in
     let inside : k < length seen = omega (arith, long, count) in
     let over = gained-over c.args.debt c.args.from k seen c.loop-row.gains c.place_near.new.gains c.loop-row.strikes.items c.loop-row.rows.items c.place_near.ensures.kept
     c.place_near.ensures.gained was.gained in
@@ -89,7 +89,7 @@ returns-in_err-grown-clause-accounts c =
     let was = c.loop-row.invariant in
     let k = c.loop-row.row in
     let long = debts-length g c.args.strikes.now.items c.args.rows.now.items in
-    let count : c.len.result ≡ length c.args.rows.now.items = c.len.ensures ∙ c.args.rows.now.ok.0 in
+    let count : c.len-row-end.result ≡ length c.args.rows.now.items = c.len-row-end.ensures ∙ c.args.rows.now.ok.0 in
     let inside : k < length seen = omega (arith, long, count) in
     let over = gained-over c.args.debt c.args.from k seen c.loop-row.gains c.place_near.new.gains c.loop-row.strikes.items c.loop-row.rows.items c.place_near.ensures.kept
     c.place_near.ensures.gained was.gained in
@@ -103,7 +103,7 @@ returns-in_err-grown-clause-err c =
     let was = c.loop-row.invariant in
     let k = c.loop-row.row in
     let long = debts-length g c.args.strikes.now.items c.args.rows.now.items in
-    let count : c.len.result ≡ length c.args.rows.now.items = c.len.ensures ∙ c.args.rows.now.ok.0 in
+    let count : c.len-row-end.result ≡ length c.args.rows.now.items = c.len-row-end.ensures ∙ c.args.rows.now.ok.0 in
     let inside : k < length seen = omega (arith, long, count) in
     let over = gained-over c.args.debt c.args.from k seen c.loop-row.gains c.place_near.new.gains c.loop-row.strikes.items c.loop-row.rows.items c.place_near.ensures.kept
     c.place_near.ensures.gained was.gained in
@@ -118,7 +118,7 @@ index_mut-requires c =
     let was = c.loop-row.invariant in
     let k = c.loop-row.row in
     let long = debts-length g c.args.strikes.now.items c.args.rows.now.items in
-    let count : c.len.result ≡ length c.args.rows.now.items = c.len.ensures ∙ c.args.rows.now.ok.0 in
+    let count : c.len-row-end.result ≡ length c.args.rows.now.items = c.len-row-end.ensures ∙ c.args.rows.now.ok.0 in
     let inside : k < length seen = omega (arith, long, count) in
     omega (arith, gained-inside c.args.debt c.args.from k k seen c.loop-row.gains c.loop-row.strikes.items c.loop-row.rows.items was.gained was.low inside, c.loop-row.rows.ok.0)
 
@@ -129,7 +129,7 @@ loop-row-preserved c =
     let was = c.loop-row.invariant in
     let k = c.loop-row.row in
     let long = debts-length g c.args.strikes.now.items c.args.rows.now.items in
-    let count : c.len.result ≡ length c.args.rows.now.items = c.len.ensures ∙ c.args.rows.now.ok.0 in
+    let count : c.len-row-end.result ≡ length c.args.rows.now.items = c.len-row-end.ensures ∙ c.args.rows.now.ok.0 in
     let inside : k < length seen = omega (arith, long, count) in
     let over = gained-over c.args.debt c.args.from k seen c.loop-row.gains c.place_near.new.gains c.loop-row.strikes.items c.loop-row.rows.items c.place_near.ensures.kept
     c.place_near.ensures.gained was.gained in
@@ -150,5 +150,5 @@ returns-clause-ok c =
     let seen = accounts_debts g c.args.strikes.now.items c.args.rows.now.items in
     let was = c.loop-row.invariant in
     let long = debts-length g c.args.strikes.now.items c.args.rows.now.items in
-    let count : c.len.result ≡ length c.args.rows.now.items = c.len.ensures ∙ c.args.rows.now.ok.0 in
+    let count : c.len-row-end.result ≡ length c.args.rows.now.items = c.len-row-end.ensures ∙ c.args.rows.now.ok.0 in
     was.gained.debts ∙ changing-all (with_debt c.args.debt) c.args.from c.loop-row.row seen (omega (arith, long, count))

@@ -25,23 +25,23 @@ returns-in-None-clause-debts c =
 pub without-requires-clause-owed : goal.without-requires-clause-owed
 without-requires-clause-owed c = let found = rw c.deref-2.ensures.value at c.in-Some.ensures.found in found.owed
 
-pub returns-in_err-left-clause-kept : goal.returns-in_err-left-clause-kept
-returns-in_err-left-clause-kept c =
+pub returns-in_err-left-in-Some-clause-kept : goal.returns-in_err-left-in-Some-clause-kept
+returns-in_err-left-in-Some-clause-kept c =
     kept-twice c.args.strikes.now.items c.without.new.strikes.items c.expired.new.strikes.items c.without.ensures.kept c.expired.ensures.kept
 
-pub returns-in_ok-left-clause-kept : goal.returns-in_ok-left-clause-kept
-returns-in_ok-left-clause-kept c =
+pub returns-in_ok-left-in-Some-clause-kept : goal.returns-in_ok-left-in-Some-clause-kept
+returns-in_ok-left-in-Some-clause-kept c =
     kept-twice c.args.strikes.now.items c.without.new.strikes.items c.expired.new.strikes.items c.without.ensures.kept c.expired.ensures.kept
 
-pub returns-in_ok-left-clause-debts : goal.returns-in_ok-left-clause-debts
-returns-in_ok-left-clause-debts c =
+pub returns-in_ok-left-in-Some-clause-debts : goal.returns-in_ok-left-in-Some-clause-debts
+returns-in_ok-left-in-Some-clause-debts c =
     let g = c.args.gains.now in
     let old = c.args.strikes.now.items in
     let one = c.without.new.strikes.items in
     let a = c.args.account in
     let found = rw c.deref-2.ensures.value at c.in-Some.ensures.found in
     let timely = rw c.deref.ensures.value at c.is_timely.ensures in
-    let rest = paid-account g old one a c.in_ok-rest.rest c.args.message c.args.moment c.in-Some.place c.requires.account found c.in_ok-rest.ensures.owed c.in_ok-rest.ensures.soft in
-    paid-row c.args.message c.args.moment (account_debts g old a) (account_debts g c.expired.new.strikes.items c.in_ok-left.left)
+    let rest = paid-account g old one a c.in_ok-rest-in-Some.rest c.args.message c.args.moment c.in-Some.place c.requires.account found c.in_ok-rest-in-Some.ensures.owed c.in_ok-rest-in-Some.ensures.soft in
+    paid-row c.args.message c.args.moment (account_debts g old a) (account_debts g c.expired.new.strikes.items c.in_ok-left-in-Some.left)
     (sym (can-pay g old a c.args.message c.args.moment (Some c.in-Some.place) c.requires.account found tt)) (sym timely ∙ c.if-not-is_timely.false)
-    (c.in_ok-left.ensures.debts ∙ ap (filter (counts_at c.args.moment)) rest)
+    (c.in_ok-left-in-Some.ensures.debts ∙ ap (filter (counts_at c.args.moment)) rest)

@@ -86,6 +86,7 @@ pub fn cancelled_key(
 }
 
 // The branch, if it has the cookie.
+#[inline(always)]
 fn cookie_branch(via: Via<'_>) -> Option<&[u8]>
     ensures { MatchOption result (cookie_branch (option_copied via.entry.branch) ≡ None) (λ branch. cookie_branch (option_copied via.entry.branch) ≡ Some (folded branch.now)) }
 {

@@ -74,6 +74,7 @@ fn role_byte(role: Role) -> u8
 }
 
 /// The beginning of a key's text, with so much room: what stands before its texts, and then two of them in lower case.
+#[inline(always)]
 fn begun(
     alloc: Global,
     room: usize,
@@ -96,6 +97,7 @@ fn begun(
 
 impl Key {
     /// The key of a client transaction with this branch and method.
+    #[inline(always)]
     pub(crate) fn client(alloc: Global, branch: &[u8], method: &[u8]) -> Result<Key, AllocError>
         ensures { IfOk result (λ key. key ≡ record { role = Client; branch = folded branch.now; sent_by = []; method = method.now }) }
     {

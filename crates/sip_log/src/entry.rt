@@ -31,6 +31,7 @@ pub struct Entry {
 }
 
 /// Reads the entry after `count` others, the last of which is at the moment `last`, into the buffer. None at the end of the log.
+#[inline(always)]
 pub(crate) fn next_entry<R: Source>(
     buffer: Vec<u8>,
     window: &mut Window,
@@ -58,6 +59,7 @@ pub(crate) fn next_entry<R: Source>(
 }
 
 /// Reads an entry by its line.
+#[inline(always)]
 fn read_entry<R: Source>(
     buffer: Vec<u8>,
     window: &mut Window,
@@ -84,6 +86,7 @@ fn read_entry<R: Source>(
 }
 
 /// Reads what is after an entry's line, if the line keeps the limits and the order.
+#[inline(always)]
 fn after_line<R: Source>(
     buffer: Vec<u8>,
     window: &mut Window,
@@ -106,6 +109,7 @@ fn after_line<R: Source>(
 }
 
 /// Reads what an entry has after its line: a message, or nothing.
+#[inline(always)]
 fn read_body<R: Source>(
     mut buffer: Vec<u8>,
     window: &mut Window,
@@ -133,6 +137,7 @@ fn read_body<R: Source>(
 }
 
 /// Reads a message of `len` bytes and the line feed after it. Its bytes are copied once, out of the window into the empty buffer.
+#[inline(always)]
 fn read_message<R: Source>(
     mut buffer: Vec<u8>,
     window: &mut Window,

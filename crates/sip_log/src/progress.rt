@@ -110,6 +110,7 @@ impl Progress {
 
     /// As `next`, with the entry's bytes in this buffer in place of a new one. What the buffer held is dropped, and
     /// also the buffer itself where the answer is no entry.
+    #[inline(always)]
     pub fn next_into<R: Source>(
         &mut self,
         buffer: Vec<u8>,
@@ -141,6 +142,7 @@ impl Progress {
     }
 
     /// Reads the next entry.
+    #[inline(always)]
     fn entry<R: Source>(
         &mut self,
         mut window: Window,

@@ -158,6 +158,7 @@ impl<H: BuildHasher> Standing<H> {
     }
 
     /// Lets every transaction pass the entry, with the verdict if one is in trouble.
+    #[inline(always)]
     fn pass(
         &mut self,
         number: u32,

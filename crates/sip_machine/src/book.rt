@@ -312,6 +312,7 @@ fn find(kept: &[KeptMessage], runs: &[PlaceRun], hash: u64, bytes: &[u8]) -> Res
 }
 
 /// Whether the first place of a run is none after this hash and these bytes.
+#[inline(always)]
 fn begins_by(kept: &[KeptMessage], run: &PlaceRun, hash: u64, bytes: &[u8]) -> bool
     ensures { result ≡ begins_by (texts_of kept.now) (hash, bytes.now) run.now }
 {
@@ -465,6 +466,7 @@ fn search(kept: &[KeptMessage], places: &[Place], hash: u64, bytes: &[u8]) -> Re
 }
 
 /// How the message at a place stands to one with this hash and these bytes: by the hash, then by the bytes.
+#[inline(always)]
 fn standing(kept: &[KeptMessage], place: Place, hash: u64, bytes: &[u8]) -> Ordering
     ensures { result ≡ compare (key_of (texts_of kept.now) place) (hash, bytes.now) }
 {

@@ -82,8 +82,8 @@ impl<'a> Message<'a> {
     pub fn read(alloc: Global, bytes: &'a [u8]) -> Result<Self, ReadError>
         ensures { ReadsTo bytes.entry.now result }
     {
-        let mut fields = Vec::with_capacity(alloc, ROOM)?;
         let mut asked = Asked::new();
+        let mut fields = Vec::with_capacity(alloc, ROOM)?;
         let Some((start, rest)) = read_ordinary(bytes, &mut fields, &mut asked)? else {
             return Message::whole(alloc, bytes);
         };

@@ -85,10 +85,10 @@ impl<'a> Message<'a> {
         let mut asked = Asked::new();
         let mut fields = Vec::with_capacity(alloc, ROOM)?;
         let Some((start, rest)) = read_ordinary(bytes, &mut fields, &mut asked)? else {
-            return Message::whole(alloc, bytes);
+            return Message::any(alloc, bytes);
         };
         if !asked.is_complete() {
-            return Message::whole(alloc, bytes);
+            return Message::any(alloc, bytes);
         }
         let via = asked.via.unwrap();
         let from = asked.from.unwrap();
@@ -96,12 +96,20 @@ impl<'a> Message<'a> {
         let call_id = asked.call_id.unwrap();
         let cseq = asked.cseq.unwrap();
         let Some(len) = body_len(&start, &via, &cseq, asked.content_length, rest) else {
-            return Message::whole(alloc, bytes);
+            return Message::any(alloc, bytes);
         };
         Ok(Message::new(start, fields, &rest[..len], via, from, to, call_id, cseq))
     }
 
-    // The same for any message.
+    // The same for any message. The answer comes into a place of its own, so that an ordinary message needs none.
+    #[inline(always)]
+    fn any(alloc: Global, bytes: &'a [u8]) -> Result<Self, ReadError>
+        ensures { ReadsTo bytes.entry.now result }
+    {
+        Message::whole(alloc, bytes)
+    }
+
+    // The same, read anew.
     #[inline(never)]
     fn whole(alloc: Global, bytes: &'a [u8]) -> Result<Self, ReadError>
         ensures { ReadsTo bytes.entry.now result }

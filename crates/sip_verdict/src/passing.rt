@@ -12,7 +12,7 @@ ghost use Rattle.sip_states.specs.Tables.{IsGiven, due_of};
 ghost use Rattle.sip_standard.specs.Observation.{Observation};
 ghost use Rattle.sip_verdict.specs.Entries.{newest_moment};
 ghost use Rattle.sip_verdict.specs.inner.Stepping.{IsStepped};
-ghost use Rattle.sip_verdict.specs.inner.Tracking.{IsReady, IsOutcome, overdue_outcome, first_of};
+ghost use Rattle.sip_verdict.specs.inner.Tracking.{IsReady, IsOutcome, fate_of, outcome_of, overdue_outcome, first_of};
 ghost use Rattle.sip_verdict.specs.inner.TablesTracking.{LeadsOf, StandsOf, key_keeping, transactions_of, hearers, AreTold, LeavesOthers, MayPass, MayHear, AreHearers, AreOnRecord, AreOnRecordIf, HearsOne, HearsEach};
 
 use crate::concerned::Concerned;
@@ -28,15 +28,8 @@ pub(crate) struct Hearing {
     pub(crate) concerned: Concerned<u32>,
 }
 
-/// What an entry leaves of the runs of one transaction: some, none, or more last states than are followed.
-#[derive(Clone, Copy)]
-pub(crate) enum Fate {
-    Runs,
-    NoRun,
-    TooWide,
-}
-
-/// What an entry leaves of the runs of several, with the number of the first transaction in trouble.
+/// What an entry leaves of the runs of transactions, with the number of the first in trouble: one without a run, else one with
+/// more last states than are followed.
 #[derive(Clone, Copy)]
 pub(crate) enum Outcome {
     Fine,
@@ -58,21 +51,27 @@ impl Outcome {
     }
 }
 
-/// Lets the set take the event of its key.
-pub(crate) fn hear(set: &mut AnySet, book: &Book, event: &Event) -> Result<Fate, AllocError>
+/// Lets the set of the transaction with this number take the event.
+pub(crate) fn hear(
+    set: &mut AnySet,
+    book: &Book,
+    number: u32,
+    event: &Event,
+) -> Result<Outcome, AllocError>
     requires order { moment_of set.old ≤ event.now.moment }
     requires fits { FitsBook book.now event.now }
     requires known { IsKnownSet book.now set.old }
     ensures order { OnOk result (moment_of set.new ≤ event.now.moment) }
     ensures known { OnOk result (IsKnownSet book.now set.new) }
-    ensures some { IfOk result (λ fate. fate ≡ Fate.Runs → ¬ IsEmpty set.new) }
-    ensures stepped { IfOk result (λ fate. (p : Times) (machine : MachineKind) (events : List MachineEvent) (from : ℕ) → from ≤ event.now.moment → LeadsOf book.now p machine events from set.old
-        → IsStepped (key_rules p machine) events (event_in book.now event.now) (λ es. LeadsOf book.now p machine es event.now.moment set.new) (λ e. StandsOf book.now p machine events e set.new) fate) }
+    ensures some { IfOk result (λ outcome. outcome ≡ Outcome.Fine → ¬ IsEmpty set.new) }
+    ensures own { IfOk result (λ outcome. outcome ≡ outcome_of number (fate_of outcome)) }
+    ensures stepped { IfOk result (λ outcome. (p : Times) (machine : MachineKind) (events : List MachineEvent) (from : ℕ) → from ≤ event.now.moment → LeadsOf book.now p machine events from set.old
+        → IsStepped (key_rules p machine) events (event_in book.now event.now) (λ es. LeadsOf book.now p machine es event.now.moment set.new) (λ e. StandsOf book.now p machine events e set.new) (fate_of outcome)) }
 {
     match set.take(book, event) {
-        Ok(()) if set.is_empty() => Ok(Fate::NoRun),
-        Ok(()) => Ok(Fate::Runs),
-        Err(TakeError::TooMany) => Ok(Fate::TooWide),
+        Ok(()) if set.is_empty() => Ok(Outcome::NoRun(number)),
+        Ok(()) => Ok(Outcome::Fine),
+        Err(TakeError::TooMany) => Ok(Outcome::TooWide(number)),
         Err(TakeError::Memory) => Err(AllocError),
     }
 }
@@ -92,13 +91,14 @@ fn hear_one<H: BuildHasher>(
     ensures may { OnOk result (MayPass book.now tables.new event.now.moment) }
     ensures heard { IfOk result (HearsOne book.now event.now number tables.old tables.new) }
 {
-    match hear(tables.set_mut(number), book, event)? {
-        Fate::Runs => {
+    let outcome = hear(tables.set_mut(number), book, number, event)?;
+    match outcome {
+        Outcome::Fine => {
             tables.settle(number)?;
-            Ok(Outcome::Fine)
+            Ok(outcome)
         }
-        Fate::NoRun => Ok(Outcome::NoRun(number)),
-        Fate::TooWide => Ok(Outcome::TooWide(number)),
+        Outcome::NoRun(_) => Ok(outcome),
+        Outcome::TooWide(_) => Ok(outcome),
     }
 }
 

@@ -11,8 +11,7 @@ use Rattle.sip_states.specs.KeySets.{key_rules, StateOf, set_of}
 use Rattle.sip_states.specs.Meaning.{IsKnown, Given, HasTaken}
 use Rattle.sip_states.specs.AnySet.{meaning_of, moment_of, IsEmpty, IsKnownSet, SetTakes, IsSetTooWide}
 use Rattle.sip_states.specs.declared.any_set.AnySet.{AnySet}
-use Rattle.sip_verdict.specs.declared.passing.Fate.TheVariants.{Runs, NoRun, TooWide}
-use Rattle.sip_verdict.specs.inner.Stepping.{IsStepped}
+use Rattle.sip_verdict.specs.inner.Stepping.{Runs, NoRun, TooWide, IsStepped}
 use Rattle.sip_verdict.specs.inner.TablesTracking.{LeadsOf, StandsOf}
 use Rattle.sip_verdict.proofs.keys.Hearing.{heard_none, heard_some, heard_wide}
 use Rattle.sip_states.proofs.keyed.ByMachine.{lawful_of, moment_is, some_machine, of_set, to_set, of_sets}

@@ -11,13 +11,11 @@ use Rattle.sip_states.specs.KeySets.{key_rules}
 use Rattle.sip_states.specs.Agenda.{is_overdue}
 use Rattle.sip_states.specs.AnySet.{moment_of, IsQuietSet, IsAgendaOf}
 use Rattle.sip_states.specs.declared.any_set.AnySet.{AnySet}
-use Rattle.sip_verdict.specs.declared.passing.Fate.{Fate}
-use Rattle.sip_verdict.specs.declared.passing.Fate.TheVariants.{Runs}
 use Rattle.sip_standard.specs.Observation.{Observation}
 use Rattle.sip_standard.specs.VerdictOf.{events_for, RunsOver}
 use Rattle.sip_verdict.specs.Entries.{newest_moment}
 use Rattle.sip_verdict.specs.inner.Keyed.{concerns}
-use Rattle.sip_verdict.specs.inner.Stepping.{IsStepped}
+use Rattle.sip_verdict.specs.inner.Stepping.{Fate, Runs, IsStepped}
 use Rattle.sip_verdict.specs.inner.Tracking.{Keeping, IsReady, GoesOn, IsPassed}
 use Rattle.sip_verdict.specs.inner.TablesTracking.{LeadsOf, StandsOf, key_keeping}
 use Rattle.sip_verdict.proofs.keys.Overdue.{overdue_none, in_time_some}

@@ -14,8 +14,7 @@ use Rattle.sip_states.specs.AnySet.{meaning_of, moment_of, IsQuietSet}
 use Rattle.sip_states.specs.declared.any_set.AnySet.{AnySet}
 use Rattle.sip_states.proofs.keyed.ByMachine.{lawful_of, moment_is, quiet_in}
 use Rattle.sip_states.proofs.keyed.QuietLemmas.{quiet_still, waits_still, restart_still}
-use Rattle.sip_verdict.specs.declared.passing.Fate.TheVariants.{Runs}
-use Rattle.sip_verdict.specs.inner.Stepping.{IsStepped}
+use Rattle.sip_verdict.specs.inner.Stepping.{Runs, IsStepped}
 use Rattle.sip_verdict.specs.inner.TablesTracking.{LeadsOf, StandsOf}
 use Rattle.sip_verdict.proofs.keys.Hearing.{heard_some}
 use Rattle.sip_verdict.proofs.keys.Leading.{iff_trans, iff_sym, Leads-later}

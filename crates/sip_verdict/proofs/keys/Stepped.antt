@@ -7,12 +7,10 @@ use Rattle.sip_standard.specs.MachineEvent.{MachineEvent}
 use Rattle.sip_standard.specs.KeyMachine.{MachineKind, machine_of_key}
 use Rattle.sip_states.specs.KeySets.{PhaseOf, key_rules}
 use Rattle.sip_machine.specs.Rules.{MachineRules}
-use Rattle.sip_verdict.specs.declared.passing.Fate.{Fate}
-use Rattle.sip_verdict.specs.declared.passing.Fate.TheVariants.{Runs, NoRun, TooWide}
 use Rattle.sip_standard.specs.Observation.{Observation}
 use Rattle.sip_standard.specs.VerdictOf.{events_for, RunsOver}
 use Rattle.sip_verdict.specs.inner.Keyed.{concerns}
-use Rattle.sip_verdict.specs.inner.Stepping.{RunsUntil, IsStepped}
+use Rattle.sip_verdict.specs.inner.Stepping.{Fate, Runs, NoRun, TooWide, RunsUntil, IsStepped}
 use Rattle.sip_verdict.specs.inner.Tracking.{Keeping, GoesOn, IsPassed}
 use Rattle.sip_verdict.proofs.keys.Keys.{events_for-concerned, events_for-other, newest_moment-push}
 use Rattle.sip_verdict.proofs.keys.Overdue.{run_before}

@@ -19,8 +19,6 @@ use Rattle.sip_states.specs.Agenda.{is_overdue}
 use Rattle.sip_states.specs.Tables.{Tabled, IsGiven, due_of}
 use Rattle.sip_states.specs.declared.any_set.AnySet.{AnySet}
 use Rattle.sip_states.proofs.lists.Places.{set_place}
-use Rattle.sip_verdict.specs.declared.passing.Fate.{Fate}
-use Rattle.sip_verdict.specs.declared.passing.Fate.TheVariants.{Runs, NoRun, TooWide}
 use Rattle.sip_verdict.specs.declared.passing.Hearing.{Hearing}
 use Rattle.sip_verdict.specs.declared.passing.Outcome.{Outcome}
 use Rattle.sip_verdict.specs.declared.passing.Outcome.TheVariants as all
@@ -28,7 +26,7 @@ use Rattle.sip_standard.specs.Observation.{Observation}
 use Rattle.sip_standard.specs.VerdictOf.{events_for, RunsOver, IsWideAt, IsFirstKey}
 use Rattle.sip_verdict.specs.Entries.{newest_moment}
 use Rattle.sip_verdict.specs.inner.Keyed.{concerns}
-use Rattle.sip_verdict.specs.inner.Stepping.{RunsUntil, IsStepped}
+use Rattle.sip_verdict.specs.inner.Stepping.{Fate, Runs, NoRun, TooWide, RunsUntil, IsStepped}
 use Rattle.sip_verdict.specs.inner.Tracking.{Keeping, IsReady, IsStanding, GoesOn, IsPassed, IsOutcome, outcome_of, overdue_outcome, first_of}
 use Rattle.sip_verdict.specs.inner.TablesTracking.{LeadsOf, StandsOf, key_keeping, transactions_of, is_among, concerns_number, AreTold, MayPass, MayHear, AreHearers, AreOnRecord, Hears, HearsEach}
 use Rattle.sip_verdict.specs.inner.Concerned.{each, is_all}

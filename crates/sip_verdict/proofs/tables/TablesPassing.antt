@@ -13,8 +13,6 @@ use Rattle.sip_machine.specs.NumberedEvent.{NumberedEvent}
 use Rattle.sip_states.specs.AnySet.{IsAgendaOf}
 use Rattle.sip_states.specs.Tables.{Tabled, IsGiven, Settles, with_set}
 use Rattle.sip_states.specs.declared.any_set.AnySet.{AnySet}
-use Rattle.sip_verdict.specs.declared.passing.Fate.{Fate}
-use Rattle.sip_verdict.specs.declared.passing.Fate.TheVariants.{Runs, NoRun, TooWide}
 use Rattle.sip_verdict.specs.declared.passing.Outcome.{Outcome}
 use Rattle.sip_verdict.specs.declared.passing.Outcome.TheVariants as all
 use Rattle.sip_verdict.specs.inner.Tracking.{outcome_of, first_of}
@@ -25,6 +23,7 @@ use Rattle.sip_states.proofs.lists.Places.{set_place}
 use Rattle.sip_verdict.specs.declared.concerned.Concerned.{Concerned}
 use Rattle.sip_verdict.specs.declared.concerned.Concerned.TheVariants as concerned
 use Rattle.sip_verdict.specs.inner.Concerned.{each, is_all}
+use Rattle.sip_verdict.specs.inner.Stepping.{Fate, Runs, NoRun, TooWide}
 use Rattle.sip_verdict.proofs.verdicts.Outcomes.{both_fine}
 
 -- a list has an element at each place

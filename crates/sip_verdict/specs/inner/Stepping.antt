@@ -2,8 +2,6 @@ use Rattle.std.specs.Prelude.{◌≡◌, ◌++◌, [], ◌∷◌, ℕ, List}
 use Rattle.sip_machine.specs.Texts.{Texts}
 use Rattle.sip_standard.specs.MachineEvent.{MachineEvent}
 use Rattle.sip_machine.specs.Rules.{MachineRules}
-use Rattle.sip_verdict.specs.declared.passing.Fate.{Fate}
-use Rattle.sip_verdict.specs.declared.passing.Fate.TheVariants.{Runs, NoRun, TooWide}
 use Rattle.sip_states.specs.Runs.{RuledRun, AfterRun, IsWide}
 use Rattle.sip_states.specs.Held.{Held}
 use Rattle.sip_verdict.specs.inner.Leads.{Leads}
@@ -18,6 +16,10 @@ pub record LeadsTo {M X S : Type 0} (names : S → List ℕ) (seen : Texts → S
 -- there is a run over the events that stands at the moment
 abbrev pub RunsUntil : {X : Type 0} → MachineRules X → List MachineEvent → ℕ → Type 0
 RunsUntil {X} r events moment = (y : X) × RuledRun r events moment y
+
+-- what an event leaves of the runs of one transaction: some, none, or more last states than are followed
+pub data Fate : Type 0 where
+  Runs NoRun TooWide : Fate
 
 -- what the events and one more leave of the runs at its moment, to which events the set leads then, and that it is just the last states of the runs
 -- that end with the one more

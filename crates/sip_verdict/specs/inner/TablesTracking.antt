@@ -18,13 +18,11 @@ use Rattle.sip_states.specs.declared.any_set.AnySet.{AnySet}
 use Rattle.sip_standard.specs.declared.action.Action.TheVariants.{Restart}
 use Rattle.sip_verdict.specs.declared.concerned.Concerned.{Concerned}
 use Rattle.sip_verdict.specs.declared.passing.Hearing.{Hearing}
-use Rattle.sip_verdict.specs.declared.passing.Fate.{Fate}
-use Rattle.sip_verdict.specs.declared.passing.Fate.TheVariants.{Runs, NoRun, TooWide}
 use Rattle.sip_verdict.specs.declared.passing.Outcome.{Outcome}
 use Rattle.sip_verdict.specs.declared.passing.Outcome.TheVariants as all
 use Rattle.sip_standard.specs.Observation.{Observation}
 use Rattle.sip_verdict.specs.inner.Keyed.{concerns}
-use Rattle.sip_verdict.specs.inner.Stepping.{LeadsTo, IsStepped}
+use Rattle.sip_verdict.specs.inner.Stepping.{Fate, Runs, NoRun, TooWide, LeadsTo, IsStepped}
 use Rattle.sip_verdict.specs.inner.Tracking.{Keeping, Tracks, TracksBefore, outcome_of, first_of}
 use Rattle.sip_verdict.specs.inner.Concerned.{each, is_all}
 

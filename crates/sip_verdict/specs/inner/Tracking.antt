@@ -1,8 +1,6 @@
 use Rattle.std.specs.Prelude.{◌≡◌, ◌⊎◌, ◌++◌, [], ◌∷◌, ℕ, true, Option, Some, None, List, All, Contains, map, min}
 use Rattle.sip_standard.specs.MachineEvent.{MachineEvent}
 use Rattle.sip_standard.specs.declared.verdict.Verdict.{Verdict}
-use Rattle.sip_verdict.specs.declared.passing.Fate.{Fate}
-use Rattle.sip_verdict.specs.declared.passing.Fate.TheVariants.{Runs, NoRun, TooWide}
 use Rattle.sip_verdict.specs.declared.passing.Outcome.{Outcome}
 use Rattle.sip_verdict.specs.declared.passing.Outcome.TheVariants as all
 use Rattle.sip_standard.specs.Observation.{Observation}
@@ -12,6 +10,7 @@ use Rattle.sip_verdict.specs.LegalLog.{IsGood}
 use Rattle.sip_verdict.specs.inner.Keyed.{concerns}
 use Rattle.sip_standard.specs.Key.{KeyParts}
 use Rattle.sip_standard.specs.Times.{Times}
+use Rattle.sip_verdict.specs.inner.Stepping.{Fate, Runs, NoRun, TooWide}
 
 -- How what is kept of transactions follows the entries of a log, whatever is kept of each.
 
@@ -65,6 +64,12 @@ IsOutcome p k es e ts all.Fine = All (GoesOn p k es e) ts
 IsOutcome p k es e ts (all.NoRun number) = IsFirstKey (λ key. ¬ RunsOver p (es ++ e ∷ []) key) (map k.key ts) number
 IsOutcome p k es e ts (all.TooWide number) =
     All (RunsOver p (es ++ e ∷ [])) (map k.key ts) × IsFirstKey (IsWideAt p es e) (map k.key ts) number
+
+-- what an outcome says of one transaction
+abbrev pub fate_of : Outcome → Fate
+fate_of all.Fine = Runs
+fate_of (all.NoRun number) = NoRun
+fate_of (all.TooWide number) = TooWide
 
 -- the outcome of one transaction
 abbrev pub outcome_of : ℕ → Fate → Outcome

@@ -2,6 +2,7 @@ use Rattle.std.proofs.Common.{◌≤◌, ◌-◌, inl, inr, Some, refl, ap, ◌�
 use Rattle.std.proofs.lemmas.Result.{on_ok_weaker}
 use Rattle.sip_states.specs.AnySet.{moment_of, start_of, IsKnownSet, IsEmpty}
 use Rattle.sip_states.proofs.lists.Places.{set_place}
+use Rattle.sip_verdict.specs.inner.Tracking.{fate_of}
 use Rattle.sip_verdict.proofs.tables.TablesPassing.{All-place, settles_leaves}
 use Rattle.sip_verdict.proofs.surveys.passing.Watching.{watched_on, watched_off, watched_deaf, passes_with, passes_anew, anew_sets}
 use Rattle.sip_verdict.proofs.surveys.passing.Hearing.{deaf_on, heard_on, heard_broken, heard_wide}
@@ -23,32 +24,32 @@ hear-requires-clause-known g c = All-place (IsKnownSet c.args.book.now) c.args.t
 pub settle-requires-clause-state : goal.settle-requires-clause-state
 settle-requires-clause-state g c = λ set at.
     elim (set_place c.args.tables.now.sets (c.args.number - 1) (c.args.number - 1) c.hear.new.set set at) [
-      | inl h ↦ subst (λ s. ¬ IsEmpty s) h.1 (c.in_ok-hear.ensures.some c.in-Runs.is)
+      | inl h ↦ subst (λ s. ¬ IsEmpty s) h.1 (c.in_ok-hear.ensures.some c.in-Fine.is)
       | inr h ↦ absurd (h.0 refl)
     ]
 
-pub returns-in-Runs-clause-may : goal.returns-in-Runs-clause-may
-returns-in-Runs-clause-may g c =
+pub returns-in-Fine-clause-may : goal.returns-in-Fine-clause-may
+returns-in-Fine-clause-may g c =
     let t = c.args.tables.now in
     on_ok_weaker c.settle.result (λ settles.
     let (limit, agenda, is) = settles_leaves c.args.number c.hear.new.set t c.settle.new.self settles in
     passes_with c.args.book.now t c.settle.new.self (c.args.number - 1) c.args.event.now.moment c.hear.new.set c.requires.may c.in_ok-hear.ensures.order c.in_ok-hear.ensures.known (ap (λ x. x.keys) is) (ap (λ x. x.sets) is)) c.settle.ensures.ok
 
-pub returns-in-Runs-clause-watched : goal.returns-in-Runs-clause-watched
-returns-in-Runs-clause-watched g c =
+pub returns-in-Fine-clause-watched : goal.returns-in-Fine-clause-watched
+returns-in-Fine-clause-watched g c =
     let t = c.args.tables.now in
     on_ok_weaker c.settle.result (λ settles waits h.
     let (limit, agenda, is) = settles_leaves c.args.number c.hear.new.set t c.settle.new.self settles in
     watched_on t c.args.troubled.now c.args.number waits c.requires.given h c.settle.new.self c.hear.new.set limit agenda (c.has.ensures ∙ ap Some c.if-has.false) (ap (λ x. x.keys) is) (ap (λ x. x.sets) is) (ap (λ x. x.records) is))
     c.settle.ensures.ok
 
-pub returns-in-Runs-clause-heard : goal.returns-in-Runs-clause-heard
-returns-in-Runs-clause-heard g c =
+pub returns-in-Fine-clause-heard : goal.returns-in-Fine-clause-heard
+returns-in-Fine-clause-heard g c =
     let t = c.args.tables.now in
     on_ok_weaker c.settle.result (λ settles p es e waits times late once concerned h.
     let (limit, agenda, is) = settles_leaves c.args.number c.hear.new.set t c.settle.new.self settles in
     heard_on c.args.book.now p es e t c.args.troubled.now c.args.number c.requires.given waits c.args.event.now late once concerned h (c.has.ensures ∙ ap Some c.if-has.false) c.set_mut.result.now c.hear.new.set c.set_mut.ensures.value
-    c.in_ok-hear.field-0 c.in_ok-hear.ensures.stepped c.in-Runs.is c.settle.new.self (ap (λ x. x.keys) is) (ap (λ x. x.sets) is)) c.settle.ensures.ok
+    (fate_of c.in_ok-hear.field-0) c.in_ok-hear.ensures.stepped (ap fate_of c.in-Fine.is) c.settle.new.self (ap (λ x. x.keys) is) (ap (λ x. x.sets) is)) c.settle.ensures.ok
 
 pub returns-in_ok-restart_key-in-NoRun-clause-may : goal.returns-in_ok-restart_key-in-NoRun-clause-may
 returns-in_ok-restart_key-in-NoRun-clause-may g c =
@@ -71,7 +72,7 @@ returns-in_ok-restart_key-in-NoRun-clause-heard g c =
     let anew = c.in_ok-restart_key-in-NoRun.ensures.ok in
     on_ok_weaker c.add_broken.result (λ added p es e waits times late once concerned h.
     heard_broken c.args.book.now p es e t b c.args.number c.requires.given waits c.args.event.now late once concerned h (c.has.ensures ∙ ap Some c.if-has.false) c.set_mut.result.now c.hear.new.set c.set_mut.ensures.value
-    c.in_ok-hear.field-0 c.in_ok-hear.ensures.stepped c.in-NoRun.is c.restart_key.new.self c.add_broken.new.self t.times anew.key anew.at times (ap (λ x. x.keys) anew.begun)
+    (fate_of c.in_ok-hear.field-0) c.in_ok-hear.ensures.stepped (ap fate_of c.in-NoRun.is) c.restart_key.new.self c.add_broken.new.self t.times anew.key anew.at times (ap (λ x. x.keys) anew.begun)
     (anew_sets t c.restart_key.new.self c.args.number c.hear.new.set anew.key (ap (λ x. x.sets) anew.begun)) added.deaf added.broken added.wide) c.add_broken.ensures
 
 pub returns-in_ok-restart_key-in-TooWide-clause-may : goal.returns-in_ok-restart_key-in-TooWide-clause-may
@@ -95,5 +96,5 @@ returns-in_ok-restart_key-in-TooWide-clause-heard g c =
     let anew = c.in_ok-restart_key-in-TooWide.ensures.ok in
     on_ok_weaker c.add_wide.result (λ added p es e waits times late once concerned h.
     heard_wide c.args.book.now p es e t b c.args.number c.requires.given waits c.args.event.now late once concerned h (c.has.ensures ∙ ap Some c.if-has.false) c.set_mut.result.now c.hear.new.set c.set_mut.ensures.value
-    c.in_ok-hear.field-0 c.in_ok-hear.ensures.stepped c.in-TooWide.is c.restart_key-in-TooWide.new.self c.add_wide.new.self t.times anew.key anew.at times (ap (λ x. x.keys) anew.begun)
+    (fate_of c.in_ok-hear.field-0) c.in_ok-hear.ensures.stepped (ap fate_of c.in-TooWide.is) c.restart_key-in-TooWide.new.self c.add_wide.new.self t.times anew.key anew.at times (ap (λ x. x.keys) anew.begun)
     (anew_sets t c.restart_key-in-TooWide.new.self c.args.number c.hear.new.set anew.key (ap (λ x. x.sets) anew.begun)) added.deaf added.wide added.broken) c.add_wide.ensures

@@ -13,14 +13,12 @@ use Rattle.sip_states.specs.AnySet.{moment_of, start_of}
 use Rattle.sip_states.specs.Tables.{Tabled, IsGiven}
 use Rattle.sip_states.specs.declared.any_set.AnySet.{AnySet}
 use Rattle.sip_states.proofs.lists.Places.{set_place}
-use Rattle.sip_verdict.specs.declared.passing.Fate.{Fate}
-use Rattle.sip_verdict.specs.declared.passing.Fate.TheVariants.{Runs, NoRun, TooWide}
 use Rattle.sip_verdict.specs.declared.troubled.Troubled.{Troubled}
 use Rattle.sip_standard.specs.Observation.{Observation}
 use Rattle.sip_standard.specs.VerdictOf.{RunsOver}
 use Rattle.sip_verdict.specs.Entries.{newest_moment}
 use Rattle.sip_verdict.specs.SurveyOf.{IsSound, Breaks}
-use Rattle.sip_verdict.specs.inner.Stepping.{IsStepped}
+use Rattle.sip_verdict.specs.inner.Stepping.{Fate, Runs, NoRun, TooWide, IsStepped}
 use Rattle.sip_verdict.specs.inner.Tracking.{Keeping, IsReady, GoesOn, IsPassed}
 use Rattle.sip_verdict.specs.inner.TablesTracking.{LeadsOf, StandsOf, key_keeping, is_among, MayPass}
 use Rattle.sip_verdict.specs.inner.Surveying.{AreWatched, IsPassing, ArePassing, AreConcerned, any}

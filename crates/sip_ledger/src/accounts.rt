@@ -15,7 +15,7 @@ mod seek;
 mod strikes;
 
 use crate::accounts::account::{
-    Account, EMPTY, debts, earliest_must, expired, find, gained, place_for, same, without,
+    Account, EMPTY, debts, expired, find, gained, least_with, least_without, place_for, same, without,
 };
 use crate::accounts::gains::Gains;
 use crate::accounts::left::{drop_front, let_go};
@@ -34,6 +34,8 @@ pub struct Accounts {
     gains: Gains,
     strikes: Vec<Strike>,
     rows: Vec<Account>,
+    /// The least deadline of what each row must send.
+    musts: Vec<Option<u64>>,
     /// The message that was paid last, while what was gained of it may stand before what is owed of it.
     paid: Option<u32>,
 }
@@ -41,13 +43,13 @@ pub struct Accounts {
 impl Model for Accounts {
     ghost use Rattle.std.specs.Prelude.{List};
     ghost use Rattle.sip_ledger.specs.declared.debt.Debt.{Debt};
-    ghost use Rattle.sip_ledger.specs.inner.Accounts.{AreAccounts, accounts_debts};
+    ghost use Rattle.sip_ledger.specs.inner.Accounts.{AreRows, accounts_debts};
 
     ghost Value = { List (List Debt) };
 
     ghost view = { λ a. accounts_debts a.gains a.strikes.items a.rows.items };
 
-    ghost invariant = { λ a. AreAccounts a.gains a.strikes.items a.rows.items };
+    ghost invariant = { λ a. AreRows a.gains a.strikes.items a.rows.items a.musts.items };
 }
 
 impl Accounts {
@@ -59,6 +61,7 @@ impl Accounts {
             gains: Gains::new(alloc),
             strikes: Vec::new(alloc),
             rows: Vec::new(alloc),
+            musts: Vec::new(alloc),
             paid: None,
         }
     }
@@ -75,7 +78,9 @@ impl Accounts {
         ensures ok { OnOk result (self.new ≡ self.old ++ [] ∷ []) }
         ensures err { OnErr result (self.new ≡ self.old) }
     {
+        self.musts.reserve(1)?;
         self.rows.push(EMPTY)?;
+        self.musts.push_reserved(None);
         Ok(())
     }
 
@@ -85,7 +90,9 @@ impl Accounts {
         ensures ok { OnOk result (self.new ≡ self.old ++ owed_in self.old row ∷ []) }
         ensures err { OnErr result (self.new ≡ self.old) }
     {
+        self.musts.reserve(1)?;
         self.rows.push(self.rows[row])?;
+        self.musts.push_reserved(self.musts[row]);
         Ok(())
     }
 
@@ -94,6 +101,7 @@ impl Accounts {
         ensures { self.new ≡ take rows self.old }
     {
         self.rows.truncate(rows);
+        self.musts.truncate(rows);
     }
 
     /// Drops the first rows.
@@ -123,6 +131,7 @@ impl Accounts {
         ensures { self.new ≡ set self.old to (owed_in self.old from) }
     {
         self.rows[to] = self.rows[from];
+        self.musts[to] = self.musts[from];
     }
 
     /// Lets the row owe one more debt, after its others. On an error all is as before.
@@ -134,6 +143,7 @@ impl Accounts {
         let account = self.rows[row];
         let place = place_for(&mut self.gains, &self.strikes, account, debt)?;
         self.rows[row] = gained(&self.gains, &mut self.strikes, account, debt, place)?;
+        self.musts[row] = least_with(self.musts[row], debt);
         Ok(())
     }
 
@@ -147,7 +157,9 @@ impl Accounts {
         let account = self.rows[row];
         let mut seek = Seek::new(&self.gains, message, account.start);
         if let Some(place) = find(&self.gains, &self.strikes, account, &mut seek, message, moment) {
-            self.rows[row] = without(&self.gains, &mut self.strikes, account, place)?;
+            let left = without(&self.gains, &mut self.strikes, account, place)?;
+            self.musts[row] = least_without(&self.gains, &self.strikes, left, place, self.musts[row]);
+            self.rows[row] = left;
             self.paid = Some(message);
         }
         Ok(())
@@ -183,6 +195,7 @@ impl Accounts {
             soft,
             ..self.rows[row]
         };
+        self.musts[row] = None;
     }
 
     /// The row owes nothing any more.
@@ -191,6 +204,7 @@ impl Accounts {
         ensures { self.new ≡ set self.old row [] }
     {
         self.rows[row] = EMPTY;
+        self.musts[row] = None;
     }
 
     /// The least deadline of what the row must send.
@@ -198,7 +212,7 @@ impl Accounts {
         requires { row < length self.now }
         ensures { result ≡ earliest (debt_deadlines (owed_in self.now row)) }
     {
-        earliest_must(&self.gains, &self.strikes, self.rows[row])
+        self.musts[row]
     }
 
     /// Whether the row owes nothing.

@@ -8,6 +8,7 @@ use Rattle.sip_ledger.specs.declared.accounts.gains.Gains.{Gains}
 use Rattle.sip_ledger.specs.declared.accounts.seek.Seek.{Seek}
 use Rattle.sip_ledger.specs.declared.accounts.strikes.Strike.{Strike}
 use Rattle.sip_ledger.specs.Accounts.{debts_print}
+use Rattle.sip_ledger.specs.Debts.{debt_deadlines, earliest}
 use Rattle.sip_ledger.specs.Ledgers.{from_to}
 use Rattle.sip_ledger.specs.Rows.{debts_from}
 use Rattle.sip_ledger.specs.inner.Indexes.{holds}
@@ -151,6 +152,24 @@ pub record AreAccounts (gains : Gains) (strikes : List Strike) (accounts : List 
 -- what each owes
 unfoldable pub accounts_debts : Gains → List Strike → List Account → List (List Debt)
 accounts_debts gains strikes accounts = map (account_debts gains strikes) accounts
+
+-- the least deadline of what each must send
+abbrev pub musts_of : List (List Debt) → List (Option ℕ)
+musts_of rows = map (λ owes. earliest (debt_deadlines owes)) rows
+
+-- all accounts, and the least deadline of what each must send
+pub record AreRows (gains : Gains) (strikes : List Strike) (accounts : List Account) (musts : List (Option ℕ)) : Type 0 where
+  pub accounts : AreAccounts gains strikes accounts
+  pub musts : musts ≡ musts_of (accounts_debts gains strikes accounts)
+
+-- an account that owed what was gained at the place too, and the least deadline of what it had to send
+pub record HadMust (gains : Gains) (strikes : List Strike) (place : ℕ) (left : Account) (least : Option ℕ) : Type 0 where
+  pub old : List Strike
+  pub account : Account
+  pub soft : left.soft ≡ account.soft
+  pub owed : owes_at gains old account place ≡ true
+  pub without : IsWithout place (owes_at gains old account) (owes_at gains strikes left)
+  pub least : least ≡ earliest (debt_deadlines (account_debts gains old account))
 
 -- nothing of the message is left from a place on up to another one
 pub record IsNoneBetween (gains : Gains) (message from to : ℕ) : Type 0 where

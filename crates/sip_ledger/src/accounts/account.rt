@@ -1,11 +1,12 @@
 //! What one row owes of what was gained.
-ghost use Rattle.std.specs.Prelude.{◌≡◌, ◌≢◌, ◌↔◌, ◌<◌, ◌≤◌, ◌*◌, ◌%◌, ◌^◌, ◌++◌, ◌∷◌, [], ℕ, ◌+◌, Bool, true, false, Some, IfOk, IfSome, IfNone, IsTrue, OnOk, OnErr, bit_xor, filter, length, option_to_list, take};
+ghost use Rattle.std.specs.Prelude.{◌≡◌, ◌≢◌, ◌↔◌, ◌<◌, ◌≤◌, ◌*◌, ◌%◌, ◌^◌, ◌++◌, ◌∷◌, [], ℕ, ◌+◌, Bool, List, true, false, Some, IfOk, IfSome, IfNone, IsTrue, OnOk, OnErr, bit_xor, filter, length, option_to_list, take};
 ghost use Rattle.std.specs.Bool.{OnTrue};
-ghost use Rattle.sip_ledger.specs.Debts.{counts_at, debt_deadlines, earliest, is_timely};
+ghost use Rattle.sip_ledger.specs.Debts.{counts_at, debt_deadlines, earliest};
 ghost use Rattle.sip_ledger.specs.Accounts.{worth_of};
 ghost use Rattle.sip_ledger.specs.Rows.{debt_of};
+ghost use Rattle.sip_ledger.specs.declared.debt.Debt.{Debt};
 ghost use Rattle.sip_ledger.specs.declared.accounts.account.Account.{Account};
-ghost use Rattle.sip_ledger.specs.inner.Accounts.{AreAlike, AreGains, IsAccount, IsExpiredTo, IsFirstPayable, IsGainAt, IsKept, IsNextGain, IsPlaceOf, IsSeek, IsStruck, IsWithout, KeepsAccounts, SharesRest, account_debts, entries_of, entry_at, is_gone, is_struck, must_at, owes_at, pays_at, strikes_of};
+ghost use Rattle.sip_ledger.specs.inner.Accounts.{AreAlike, AreGains, HadMust, IsAccount, IsExpiredTo, IsFirstPayable, IsGainAt, IsKept, IsNextGain, IsPlaceOf, IsSeek, IsStruck, IsWithout, KeepsAccounts, SharesRest, account_debts, entries_of, entry_at, is_gone, is_struck, must_at, owes_at, pays_at, strikes_of};
 ghost use Rattle.sip_ledger.specs.inner.Indexes.{holds};
 
 use crate::accounts::gains::Gains;
@@ -437,16 +438,39 @@ pub(crate) fn earliest_must(gains: &Gains, strikes: &[Strike], account: Account)
     least
 }
 
-/// Whether nothing that the account must send is past at the moment.
-pub(crate) fn is_timely(gains: &Gains, strikes: &[Strike], account: Account, moment: u64) -> bool
+/// The least deadline of what an account must send that owed what was gained at the place too.
+pub(crate) fn least_without(
+    gains: &Gains,
+    strikes: &[Strike],
+    account: Account,
+    place: usize,
+    least: Option<u64>,
+) -> Option<u64>
     requires gained { AreGains gains.now }
     requires account { IsAccount gains.now strikes.now account }
-    ensures { result ≡ is_timely moment (account_debts gains.now strikes.now account) }
+    requires kept { IsKept gains.now place }
+    requires least { HadMust gains.now strikes.now place account least }
+    ensures { result ≡ earliest (debt_deadlines (account_debts gains.now strikes.now account)) }
 {
-    match earliest_must(gains, strikes, account) {
-        Some(deadline) => moment <= deadline,
-        None => true,
+    if !must(gains, account, place) {
+        return least;
     }
+    if let Some(moment) = least {
+        if moment < gains.entry(place).deadline {
+            return least;
+        }
+    }
+    earliest_must(gains, strikes, account)
+}
+
+/// The least deadline of what a row must send that owes a debt more.
+pub(crate) fn least_with(least: Option<u64>, debt: Debt) -> Option<u64>
+    ensures { (owes : List Debt) → least ≡ earliest (debt_deadlines owes) → result ≡ earliest (debt_deadlines (owes ++ debt ∷ [])) }
+{
+    if !debt.must {
+        return least;
+    }
+    Some(earlier(debt.deadline, least))
 }
 
 /// The earlier of a moment and another one, if there is one.

@@ -27,7 +27,7 @@ MOST_ENTRIES = 1_000_000
 
 
 def write_capture(path, count):
-    """Writes a pcap of so many messages: Ethernet, IPv4, UDP, from port 5060 to 5060."""
+    """Writes a pcap of `count` messages: Ethernet, IPv4, UDP, from port 5060 to 5060."""
     with open(path, "wb", buffering=1 << 20) as out:
         out.write(struct.pack("<IHHiIII", 0xA1B2C3D4, 2, 4, 0, 0, 262144, 1))
         for number, (letter, moment, text) in enumerate(judge.calls(count)):
@@ -40,8 +40,8 @@ def write_capture(path, count):
 
 
 def piped(commands):
-    """Runs a pipeline. Answers what its last command said, and the processor time in seconds and the memory in MB of each; what a command's own
-    children take is in it."""
+    """Runs a pipeline. Answers what its last command said, and of each command the processor time in seconds and the memory in MB, with those of its own
+    children."""
     started, given = [], subprocess.DEVNULL
     for command in commands:
         one = subprocess.Popen(["/usr/bin/env", "python3", "-c", MEASURED, *map(str, command)], stdin=given, stdout=subprocess.PIPE, stderr=subprocess.PIPE)
@@ -55,7 +55,7 @@ def piped(commands):
     return said[0].decode().strip(), numbers
 
 
-# Runs a command, and writes at the end what it took.
+# A program that runs a command, and writes at the end what the command took.
 MEASURED = """
 import resource, subprocess, sys
 ran = subprocess.run(sys.argv[1:])

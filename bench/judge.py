@@ -11,7 +11,7 @@ import tempfile
 import time
 from pathlib import Path
 
-# What is simulated: first-level caches of 32 KB, a last one of 4 MB, lines of 64 bytes.
+# What callgrind simulates: first-level caches of 32 KB, a last-level cache of 4 MB, lines of 64 bytes.
 CALLGRIND = (
     "valgrind --tool=callgrind --dump-instr=yes --compress-pos=no --compress-strings=no --cache-sim=yes --branch-sim=yes "
     "--I1=32768,8,64 --D1=32768,8,64 --LL=4194304,16,64"
@@ -30,7 +30,7 @@ BOB = "Bob <sip:bob@biloxi.example.com>"
 
 
 def message(start, method, number, end="", tag="", body="", others=OTHERS):
-    """A message of call or registration `number`, whose branch has this end."""
+    """A message of the call or registration with this number, whose branch ends so."""
     return (
         f"{start}\r\nVia: SIP/2.0/UDP pc33.atlanta.example.com:5060;branch=z9hG4bK776as{number}{end};rport\r\n"
         f"From: {ALICE}\r\nTo: {BOB}{tag}\r\n"
@@ -55,7 +55,7 @@ def small(start, method, number):
 
 
 def merged(transactions, step):
-    """The entries of transactions, one of which begins each `step` milliseconds, in the order of their moments."""
+    """The entries of transactions in the order of their moments. A transaction begins each `step` milliseconds."""
     open_ones = []
     for number, entries in enumerate(transactions):
         start = step * number
@@ -67,11 +67,11 @@ def merged(transactions, step):
         yield heapq.heappop(open_ones)[2:]
 
 
-# What elements log. Each takes about so many entries.
+# What follows are the logs that elements write. Each function gives about so many entries.
 
 
 def calls(entries):
-    """Of a client over UDP, some 500 at once: INVITE, 100, 180, 200, and the ACK with its own branch."""
+    """The log of a client over UDP with some 500 calls at once: INVITE, 100, 180, 200, and the ACK with its own branch."""
 
     def call(number):
         sdp = SDP + "".join(f"a=rtpmap:{it} CODEC{it}/8000\r\n" for it in range(96, 97 + number % 16))
@@ -87,7 +87,7 @@ def calls(entries):
 
 
 def registers(entries):
-    """REGISTER, 401, REGISTER with another branch, 200."""
+    """The log of a client: REGISTER, 401, REGISTER with another branch, 200."""
     challenge = OTHERS + 'WWW-Authenticate: Digest realm="atlanta.example.com", nonce="84a4cc6f3082121f32b42a2187831a9e"\r\n'
 
     def registration(number):
@@ -102,7 +102,7 @@ def registers(entries):
 
 
 def options(entries):
-    """OPTIONS and 200, as short as they may be."""
+    """The log of a client: OPTIONS and 200, as short as they may be."""
 
     def ping(number):
         return [(0, "S", small("OPTIONS sip:b@example.com SIP/2.0", "OPTIONS", number)), (20, "R", small("SIP/2.0 200 OK", "OPTIONS", number))]
@@ -111,23 +111,23 @@ def options(entries):
 
 
 def turned(entries):
-    """The same messages at the other end: what one element sent the other received."""
+    """The same entries at the other end, where what one element sent was received."""
     for letter, moment, text in entries:
         yield {"S": "R", "R": "S"}[letter], moment, text
 
 
 def served_registers(entries):
-    """The same registrations, at the server."""
+    """The registrations of `registers`, at the server."""
     return turned(registers(entries))
 
 
 def served_options(entries):
-    """The same OPTIONS, at the server."""
+    """The OPTIONS of `options`, at the server."""
     return turned(options(entries))
 
 
 def proxy(entries):
-    """Both sides of an INVITE through a proxy; one of eight is refused with 486."""
+    """The log of a proxy with both sides of each INVITE; one INVITE of eight is refused with 486."""
 
     def call(number):
         own = f"\r\nVia: SIP/2.0/UDP proxy.example.com;branch=z9hG4bKp{number}"
@@ -153,7 +153,7 @@ def proxy(entries):
 
 
 def keys(entries):
-    """Requests to a server, all of which it answers after the last, in random order."""
+    """Requests to a server, which answers all of them after the last one came, in random order."""
     numbers = list(range(entries // 2))
     for number in numbers:
         yield "R", number, request("OPTIONS", number)
@@ -179,12 +179,12 @@ def mixed(entries):
         invite = form(request("INVITE", number, body=SDP))
         ack = form(request("ACK", number, tag=";tag=a6c85cf"))
         busy, ringing = form(response(486, "INVITE", number)), form(response(180, "INVITE", number))
-        if number % 5 == 0:  # repeats on both sides
+        if number % 5 == 0:  # a call that is repeated on both sides
             return [(0, "S", invite), (500, "S", invite), (1500, "S", invite), (1520, "R", ringing), (2000, "R", busy), (2010, "S", ack), (2500, "R", busy), (2510, "S", ack)]
         if number % 5 == 1:  # a call that is cancelled
             cancel, over = form(request("CANCEL", number)), form(response(487, "INVITE", number))
             return [(0, "S", invite), (20, "R", ringing), (900, "S", cancel), (920, "R", form(response(200, "CANCEL", number))), (930, "R", over), (940, "S", ack)]
-        if number % 5 == 2:  # a server that repeats what it sent
+        if number % 5 == 2:  # a server that repeats its response
             return [(0, "R", invite), (10, "S", ringing), (500, "R", invite), (510, "S", ringing), (900, "S", busy), (1400, "S", busy), (1420, "R", ack)]
         if number % 5 == 3:  # a request that is repeated, and its response
             bye = form(request("BYE", number, tag=";tag=a6c85cf"))
@@ -211,11 +211,11 @@ def wide(entries):
             yield letter, 200 * number + place, text
 
 
-# What takes the most time or memory.
+# What follows are the logs that take the most time or memory.
 
 
 def marks(entries):
-    """A call that rings, and a mark every millisecond."""
+    """A call that rings, with a mark every millisecond."""
     yield "R", 0, request("INVITE", 0, body=SDP)
     yield "S", 0, response(180, "INVITE", 0)
     for moment in range(entries - 2):
@@ -263,14 +263,14 @@ def at_one_moment(entries):
 
 
 def wide_and_over(entries):
-    """The servers of `wide`, each of which begins when the one before is over."""
+    """The servers of `wide`, each of which begins once the one before is over."""
     for number in range(max(1, entries // 128)):
         for place, (letter, text) in enumerate(widening(number) + [("S", response(200, "INVITE", number))]):
             yield letter, 60000 * number + place, text
 
 
 def many_due_keys(entries):
-    """Requests of a client that all come in the first 400 ms, and are all due at their first repeat."""
+    """Requests of a client that all go out in the first 400 ms, and are all due to be sent again."""
     for number in range(entries):
         yield "S", 400 * number // entries, request("OPTIONS", number)
 
@@ -293,7 +293,7 @@ def many_owed(entries):
 
 
 def acks_first_first(entries):
-    """An INVITE that many refuse, each with a tag of its own, and the ACKs, that of the first response first."""
+    """An INVITE that many refuse, each with a tag of its own, and the ACKs in the order of the responses."""
     yield "S", 0, request("INVITE", 0, body=SDP)
     for number in range(entries // 2):
         yield "R", 10, tagged(486, number)
@@ -302,7 +302,7 @@ def acks_first_first(entries):
 
 
 def acks_last_first(entries):
-    """The same, that of the last response first."""
+    """An INVITE that many refuse, each with a tag of its own, and the ACKs in the reverse order of the responses."""
     yield "S", 0, request("INVITE", 0, body=SDP)
     for number in range(entries // 2):
         yield "R", 10, tagged(486, number)
@@ -324,7 +324,7 @@ def restarts_after_many(entries):
 
 
 def restarts_after_a_million(entries):
-    """CANCELs that the transport refused, each of which leaves two transactions that are over, and then restarts: of 900,000 entries a million
+    """CANCELs that the transport refused, each of which leaves two transactions that are over, and then restarts: 900,000 entries have a million
     transactions and 400,000 restarts."""
     count = entries * 5 // 9
     for number in range(count):
@@ -347,23 +347,23 @@ def many_fields(entries):
         yield "S", number, request("OPTIONS", number, others=fields)
 
 
-# The kinds with their goals in instructions an entry, and whether each was met; and the two numbers of entries that are counted, whose difference is
-# told. A goal is what a hand-tuned checker in plain Rust takes with the same answers, with some room; a server's is a tenth above its client's.
+# The kinds with their goals in instructions for an entry, and whether each goal was met; and the two numbers of entries whose difference is counted. A goal
+# is what a hand-tuned checker in plain Rust takes for the same answers, with some room; that of a server is a tenth above that of its client.
 KINDS = {
     calls: (5500, False), registers: (5500, False), served_registers: (6050, False), options: (4000, False), served_options: (4400, False),
     proxy: (6000, False), keys: (5500, False), mixed: (8000, False), wide: (120000, True),
 }
-# A goal that was met is lost where an entry takes so many times as much.
+# A goal that was met is lost where an entry takes more instructions than the goal by this factor.
 LOST = 1.03
 COUNTED = (2000, 6000)
 COUNTED_WIDE = (128, 256)
-# The worst cases, with how many of the entries of the kinds they take.
+# The worst cases, each with the share of the entries of the kinds that it takes.
 WORST = {
     marks: 1, idle_keys: 1, one_long_key: 1, other_messages: 1, many_live_keys: 1, many_due_keys: 1, repeats_at_once: 1,
     many_owed: 1 / 10, acks_first_first: 1 / 50, acks_last_first: 1 / 50, repeats_when_wide: 1 / 200, many_fields: 1 / 500,
     at_one_moment: 1, wide_and_over: 1 / 10, restarts_after_many: 1, restarts_after_a_million: 1, restarts_between: 1,
 }
-# What time and memory are to grow with no faster than the entries, and the numbers of entries that are put side by side.
+# The logs for which time and memory may grow no faster than the entries, and the numbers of entries that are put side by side.
 GROWING = (
     calls, registers, options, at_one_moment, keys, many_live_keys, restarts_after_many, restarts_after_a_million, restarts_between,
 )
@@ -407,7 +407,7 @@ def counted(program, log, out):
     with out.open() as lines:
         for line in lines:
             if line.startswith("0x"):
-                # the line after a call has what the callee cost
+                # The line after a call has what the called function cost.
                 if not is_call:
                     address, _, instructions = line.split(maxsplit=3)[:3]
                     place = int(address, 16)
@@ -467,7 +467,7 @@ def measured(command):
         process = subprocess.Popen(command, stdout=out, stderr=subprocess.STDOUT)
         peak, ended = 0, 0
         while not ended:
-            # what it held a millisecond before its end counts as its most
+            # What the process held a millisecond before its end counts as its most.
             peak = max(peak, peak_of(process.pid))
             time.sleep(0.001)
             ended, status, usage = os.wait4(process.pid, os.WNOHANG)
@@ -493,7 +493,7 @@ def print_timed(program, folder, verb, kinds, size):
 
 
 def print_growth(program, folder):
-    """Logs of one kind in several lengths side by side: what an entry takes of time, and the most memory that is held."""
+    """Prints, for logs of one kind in several lengths side by side, the time that an entry takes, and the most memory that is held."""
     print(f"{'growth':<18}" + "".join(f" {f'{size:,} entries: us':>24} {'peak MB':>8}" for size in SIZES))
     log = folder / "log"
     for kind in GROWING:
@@ -507,7 +507,7 @@ def print_growth(program, folder):
 
 
 def print_beside(program, other, folder, size):
-    """Logs of the kinds, each judged by two programs in turn: the fewest processor seconds of five runs, and the most memory."""
+    """Prints, for logs of the kinds, each judged by two programs in turn, the fewest processor seconds of five runs, and the most memory."""
     print(f"{'beside':<18} {'entries':>8}   {'seconds':>8} {'peak MB':>8}   {'other':>8} {'peak MB':>8}   {'times':>6}")
     log = folder / "log"
     for kind in KINDS:

@@ -16,7 +16,7 @@ LEAST = 0.04
 IN_LINE = 2.3
 INVITE = "INVITE sip:b SIP/2.0"
 OTHER = "OPTIONS sip:b SIP/2.0"
-# In how many states a set stands, and how often each of two responses is owed that leads there.
+# In how many states a set stands, and how often each of two responses is owed that lead it there.
 SETS = {1: (0, 0), 2: (1, 0), 100: (99, 0), 1024: (31, 31)}
 
 
@@ -78,7 +78,7 @@ def repeats(count, states):
 
 
 def repeats_apart(count, states):
-    """The same, each a millisecond after the one before."""
+    """Repeats of the INVITE to so many states, each a millisecond after the one before."""
     yield from widened(states)
     for number in range(count):
         yield "R", number, ASK[2]
@@ -127,7 +127,7 @@ def acks_with_others_between(count, _):
 
 
 def acks_of_one_to(count, _):
-    """Refusals that differ and have one To; as many ACKs."""
+    """Refusals that differ and have one To, and as many ACKs."""
     yield "S", 0, text(INVITE)
     for number in range(count):
         yield "R", 0, reply(f"486 {number}", "t")
@@ -184,7 +184,7 @@ def two_that_meet(count, _):
         yield "S", 0, reply(180, "o0")
 
 
-# The logs: what makes them, the least count, and the sets over which they stand.
+# The logs: what makes each, the least count, and the sets for which it is made.
 LOGS = [
     (fresh_after_debts, 500, (2, 100, 1024)),
     (repeats_and_sends, 125, (1,)),

@@ -8,7 +8,7 @@ from pathlib import Path
 
 from judge import write_entries
 
-# The lengths of a message: what a byte takes is the difference to the first.
+# The lengths of a message. What a byte takes is told by the difference to the first length.
 SIZES = (1024, 4096, 65535)
 ENTRIES = (20, 60)
 FIELDS = {
@@ -19,7 +19,7 @@ STRING = 'Via: SIP/2.0/UDP a;x="'
 HOST = "Via: SIP/2.0/UDP "
 PARAM = "Via: SIP/2.0/UDP a"
 URI = "From: <"
-# The name; a line of a message, as what stands before the unit, the unit, and what stands after it; and what is wrong with it.
+# For each shape: its name; a line of a message, as the text before the unit, the unit, and the text after it; and what is wrong with the line.
 SHAPES = [
     ("token", PARAM + ";x=", "a-1.", "", None),
     ("blanks", PARAM, " \t", ";x", None),
@@ -80,7 +80,7 @@ SHAPES = [
     ("one name", "a", "a", ": a", None),
     ("line ends without LF", "s: a", "\r", "", "BareLineEnd"),
 ]
-# How many responses a server owes of each of three, of which it then sends the last two as often; and in how many states that leaves it.
+# How many of each of three responses a server owes, of which it then sends the last two as often; and in how many states it stands then.
 SERVERS = [
     (62, 0, 0, 1), (61, 0, 1, 2), (48, 7, 7, 64), (0, 31, 31, 1024), (1, 0, 0, 1), (100, 0, 0, 1), (10000, 0, 0, 1), (0, 0, 1, 2), (99, 0, 1, 2),
     (9999, 0, 1, 2),
@@ -108,7 +108,7 @@ def shaped(front, unit, end, size):
 
 
 def counted(program, log):
-    """The verdict on a log, and the instructions that it takes."""
+    """The verdict on a log, and how many instructions it takes."""
     run = subprocess.run(["valgrind", "--tool=callgrind", "--callgrind-out-file=/dev/null", program, "check", log], capture_output=True)
     return run.stdout.decode(), int(re.search(rb"Collected : (\d+)", run.stderr)[1])
 
@@ -134,7 +134,7 @@ def print_shapes(program, log):
 
 
 def print_repeated(program, log, name, begun, again, states):
-    """What each of the entries `again` takes, after those that lead to so many states."""
+    """Prints what each of the entries `again` takes, after the entries `begun` that lead to so many states."""
     costs = []
     for count in ENTRIES:
         write_entries(log, begun + count * again)

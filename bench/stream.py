@@ -2,7 +2,7 @@
 numbers of entries.
 
 Calls without an end are written into `sipsurvey --forget 60000`, at 1,000 entries a second by their moments, from a day of 2026 on. After so many
-entries, of which a log has at most 1,000,000, the most memory that it took until then is printed. A survey without --forget stands beside it."""
+entries the most memory that it took until then is printed. A survey without --forget, which reads 1,000,000 entries, stands beside it."""
 
 import itertools
 import subprocess
@@ -14,7 +14,8 @@ from judge import SDP, merged, request, response
 FIRST = 1_795_000_000_000
 STEP = 5
 AGE = "60000"
-MEASURED = [250_000, 500_000, 1_000_000]
+MEASURED = [250_000, 500_000, 1_000_000, 4_000_000]
+LOG_HOLDS = 1_000_000
 PLACE = "<number>"
 HEADER = "sip-trace 1\nt1 500 t2 4000 t4 5000 tolerance 50\n"
 CALL = [
@@ -64,7 +65,7 @@ def main():
     print(f"sipsurvey --forget {AGE}")
     print_memory([program, "--forget", AGE], measured)
     print("sipsurvey")
-    print_memory([program], measured)
+    print_memory([program], [it for it in measured if it <= LOG_HOLDS])
 
 
 main()

@@ -16,14 +16,14 @@ ROUNDS = 5
 
 
 def instructions(command):
-    """How many instructions a command takes, and what it writes."""
+    """How many instructions a command takes, and what the command writes."""
     run = subprocess.run([*VALGRIND, *command], capture_output=True, text=True)
     total = next(line.split()[-1] for line in run.stderr.splitlines() if "Collected" in line)
     return int(total), run.stdout.encode()
 
 
 def commands(programs, log):
-    """The command of the verdict and that of the survey."""
+    """The command that writes the verdict, and the command that writes the survey."""
     siptrace, sipsurvey = programs
     return [siptrace, "check", log], [sipsurvey, log]
 
@@ -49,7 +49,7 @@ def print_counted(programs, folder):
 
 
 def seconds_of(commands):
-    """The fewest processor seconds of each command, which are run in turn, and what each writes."""
+    """The fewest processor seconds of each command, and what each writes. The commands are run in turn."""
     least, texts = [float("inf")] * len(commands), [b""] * len(commands)
     for _ in range(ROUNDS):
         for at, command in enumerate(commands):
@@ -69,7 +69,7 @@ def print_timed(programs, folder):
 
 
 def print_silent(programs, folder):
-    """100,000 clients whose request has to be sent again by 550."""
+    """Prints what a survey takes of 100,000 clients whose request has to be sent again by 550."""
     logs = [folder / "in time", folder / "late"]
     for log, moment in zip(logs, (550, 551)):
         requests = (("S", 0, small("OPTIONS sip:b@example.com SIP/2.0", "OPTIONS", number)) for number in range(CLIENTS))

@@ -64,7 +64,7 @@ def status_of(number):
 
 
 def half_and_all(delays):
-    """Half of them are at most the first, all but one in a hundred the second, all the third: in milliseconds."""
+    """In milliseconds: the delay that half of them reach at most, the delay of all but one in a hundred, and the longest."""
     delays = sorted(delays) or [0]
     return "%.0f, %.0f, %.0f (%d over 100)" % (*(1000 * delays[min(len(delays) - 1, int(len(delays) * part))] for part in (0.5, 0.99, 1)), sum(one > 0.1 for one in delays))
 
@@ -80,7 +80,7 @@ print("%.0f %d" % (1000 * most, late))
 
 
 class Feeding:
-    """A watch that is fed, and what it says, with when it was heard."""
+    """A watch that is fed, and the lines that it says, with the moment at which each was heard."""
 
     def __init__(self, rate, counts):
         self.rate, self.said, self.written, self.sizes = rate, [], {}, []  # when the first line of each millisecond was written
@@ -121,7 +121,7 @@ class Feeding:
 
 
 def moment_of(one):
-    """Milliseconds."""
+    """The moment of a trouble, in milliseconds."""
     return round(float(one["at"]) * 1000)
 
 

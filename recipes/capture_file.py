@@ -13,17 +13,17 @@ import zlib
 from sip_lines import SECOND, die
 
 PIECE = 1 << 20
-MOST_FRAME = 1 << 18  # the longest that tcpdump and Wireshark write
+MOST_FRAME = 1 << 18  # the longest frame that tcpdump and Wireshark write
 MOST_BLOCK = 1 << 24
 MOST_INTERFACES = 1 << 16
-MICROSECONDS, NANOSECONDS = 10**6, 10**9  # in a second
+MICROSECONDS, NANOSECONDS = 10**6, 10**9  # how many there are in a second
 PCAP = {b"\xd4\xc3\xb2\xa1": ("<", MICROSECONDS), b"\xa1\xb2\xc3\xd4": (">", MICROSECONDS),
         b"\x4d\x3c\xb2\xa1": ("<", NANOSECONDS), b"\xa1\xb2\x3c\x4d": (">", NANOSECONDS)}
 PCAPNG = b"\x0a\x0d\x0d\x0a"
-LINK = 0x3FFFFFF  # the bits above it tell of frame check sequences
+LINK = 0x3FFFFFF  # the bits above these tell of frame check sequences
 SECTION, INTERFACE, OLD_PACKET, SIMPLE_PACKET, PACKET = 0x0A0D0D0A, 1, 2, 3, 6
 BYTE_ORDER = {b"\x4d\x3c\x2b\x1a": "<", b"\x1a\x2b\x3c\x4d": ">"}
-TIME_RESOLUTION, TIME_OFFSET = 9, 14  # options of an interface
+TIME_RESOLUTION, TIME_OFFSET = 9, 14  # the options of an interface that are read
 
 
 class Damaged(Exception):
@@ -31,7 +31,7 @@ class Damaged(Exception):
 
 
 class Unread(Exception):
-    """What comes after `read` frames is nothing that is read here. The text says what it is."""
+    """After `read` frames something comes that is not read here. The text says what it is."""
 
     def __init__(self, what, read=None):
         super().__init__(what)
@@ -39,7 +39,7 @@ class Unread(Exception):
 
 
 class Window:
-    """What was read of a capture and not yet taken: the bytes of `data` from `at` on. `idle` is called each time before more must be waited for."""
+    """The bytes that were read of a capture and not taken yet: those of `data` from `at` on. `idle` is called each time before more must be waited for."""
 
     def __init__(self, name, stdin, idle):
         self.data, self.at, self.name, self.idle = b"", 0, name, idle
@@ -52,7 +52,7 @@ class Window:
             die("cannot read %s: %s" % (name, error.strerror), 4)
 
     def piece(self):
-        """The next bytes of the file; none at its end."""
+        """Reads the next bytes of the file; there are none at its end."""
         if not select.select([self.number], [], [], 0)[0]:
             self.idle()
         try:
@@ -63,7 +63,7 @@ class Window:
             die("cannot read %s: %s" % (self.name, error.strerror), 4)
 
     def has(self, length):
-        """Whether so many bytes are there. Reads on where they are not yet."""
+        """Whether so many bytes are there. Reads on where they are not there yet."""
         while len(self.data) - self.at < length:
             piece = self.piece()
             if not piece:
@@ -72,7 +72,7 @@ class Window:
         return True
 
     def rest(self):
-        """All that was not taken, piece by piece."""
+        """All bytes that were not taken, piece by piece."""
         yield self.data[self.at:]
         self.data, self.at = b"", 0
         while piece := self.piece():
@@ -87,7 +87,7 @@ class Pcap:
         self.order, self.units = PCAP[window.data[:4]]
         if not window.has(24):
             raise Damaged("it ends within its header")
-        self.preamble = window.data[:24]  # what a copy of the rest needs before it
+        self.preamble = window.data[:24]  # what must stand before a copy of the rest
         self.link = struct.unpack(self.order + "I", window.data[20:24])[0] & LINK
         self.header = struct.Struct(self.order + "IIII")
         window.at = 24
@@ -110,7 +110,7 @@ class Pcap:
             raise Damaged("it ends within packet %d" % (number + 1))
 
     def length_of_next(self, number):
-        """How much of the next frame was captured; 0 where its header is not there."""
+        """How many bytes of the next frame were captured; 0 where its header is not there."""
         if not self.window.has(16):
             return 0
         kept = self.header.unpack_from(self.window.data, self.window.at)[2]
@@ -146,7 +146,7 @@ class Pcapng:
         self.preamble, self.interfaces = b"", []
 
     def block(self, number):
-        """The type and the length of the next block, all of which is there then. No type at the end."""
+        """The type and the length of the next block, all of which has been read then. At the end of the file there is no type."""
         window = self.window
         if not window.has(12):
             if window.has(1):
@@ -201,7 +201,7 @@ class Pcapng:
 
 
 def format_of(window):
-    """The capture that is read through this window, by its format."""
+    """The capture that is read through this window, as the class of its format."""
     if not window.has(4):
         raise Damaged("it ends within its header")
     begin = window.data[:4]

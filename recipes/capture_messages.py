@@ -14,15 +14,15 @@ FROM_TSHARK = os.path.join(os.path.dirname(os.path.realpath(__file__)), "from-ts
 
 
 class Reading:
-    """A capture that is read, and what is noticed on the way. `idle` is called each time before more must be waited for."""
+    """A capture that is read, and what is noticed while it is. `idle` is called each time before more must be waited for."""
 
     def __init__(self, name, idle=lambda: None):
         self.name, self.notes, self.damage, self.is_whole = name, Notes(), "", True
         self.window, self.format = Window(name, sys.stdin.buffer, idle), None
-        self.unread = None  # the number of packets after which tshark has to read
+        self.unread = None  # how many packets were read when tshark had to read on
 
     def datagrams(self):
-        """Packet, moment in nanoseconds, ends and payload of the UDP datagrams that are read here. `unread` is known after them."""
+        """The UDP datagrams that are read here: packet, moment in nanoseconds, ends and payload. After them `unread` is known."""
         try:
             self.format = format_of(self.window)
             yield from Datagrams(self.notes, bool(shutil.which("tshark"))).among(self.format.frames())
@@ -32,7 +32,7 @@ class Reading:
             self.unread = unread.read
 
     def messages(self, by_tshark=True):
-        """What was seen (element_log.py), also by tshark where that is asked for. The capture is a file then."""
+        """The messages that were seen (element_log.py), also those that tshark reads where it is asked for. The capture is a file then."""
         for number, moment, ends, payload in self.datagrams():
             yield number, moment, ends.source, ends.target, payload, number, None
         if self.unread is not None and by_tshark:
@@ -40,10 +40,10 @@ class Reading:
             for number, moment, source, target, data, place in read_lines(tshark.stdout):
                 yield number, nanoseconds(moment), source, target, data, place, moment
             self.is_whole &= not tshark.wait()
-            self.notes = Notes()  # it told those of the whole capture
+            self.notes = Notes()  # from-tshark told the notes of the whole capture
 
     def tshark(self, *words, **streams):
-        """from-tshark, which prints the lines that come after those that were read here. It reads the file from its beginning."""
+        """Runs from-tshark, which prints the lines after those that were read here. It reads the file from its beginning."""
         if not os.path.isfile(self.name):
             die("%s is no file, and tshark has to read it from its beginning: give it to from-capture, and its lines to to-log" % self.name)
         return subprocess.Popen([sys.executable, FROM_TSHARK, self.name, "--skip", str(self.unread), *words], **streams)
@@ -58,7 +58,7 @@ class Reading:
         return reader.wait()
 
     def tell(self):
-        """Says what was noticed of what was read here. Answers whether nothing is missing."""
+        """Says what was noticed of the part that was read here. Answers whether nothing is missing."""
         if self.damage:
             say(self.damage)
         return self.notes.tell() and self.is_whole

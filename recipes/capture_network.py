@@ -13,11 +13,11 @@ from sip_lines import looks_like_sip
 
 IPV4, IPV6 = 0x0800, 0x86DD
 VLANS = (0x8100, 0x88A8, 0x9100)
-CARRIERS = {0x8864: "PPPoE", 0x8847: "MPLS", 0x8848: "MPLS"}  # kinds of Ethernet that have IP inside
-FAMILIES = {2: IPV4, 10: IPV6, 24: IPV6, 28: IPV6, 30: IPV6}  # of a loopback device, by system
+CARRIERS = {0x8864: "PPPoE", 0x8847: "MPLS", 0x8848: "MPLS"}  # kinds of Ethernet frames that have IP inside
+FAMILIES = {2: IPV4, 10: IPV6, 24: IPV6, 28: IPV6, 30: IPV6}  # kinds of a loopback device, by system
 ICMP, TCP, UDP, ICMPV6 = 1, 6, 17, 58
-TUNNELS = {4: "tunnels", 41: "tunnels", 47: "tunnels"}  # IPv4 and IPv6 in IP, GRE
-TUNNEL_PORTS = (1701, 2152, 3544, 4789, 6081, 8472, 37008)  # L2TP, GTP, Teredo, VXLAN, Geneve, VXLAN, TZSP
+TUNNELS = {4: "tunnels", 41: "tunnels", 47: "tunnels"}  # protocols inside IP: IPv4 and IPv6, and GRE
+TUNNEL_PORTS = (1701, 2152, 3544, 4789, 6081, 8472, 37008)  # ports of L2TP, GTP, Teredo, VXLAN, Geneve, VXLAN and TZSP
 HOP_BY_HOP, ROUTING, FRAGMENT, AUTHENTICATION, DESTINATION = 0, 43, 44, 51, 60
 EXTENSIONS = (HOP_BY_HOP, ROUTING, FRAGMENT, AUTHENTICATION, DESTINATION)
 UNREACHABLE = {ICMP: 3, ICMPV6: 1}
@@ -28,13 +28,13 @@ MOST_FLOWS, MOST_WAITING, MOST_DATAGRAM = 1 << 16, 1 << 10, 65_535
 
 
 class Ends:
-    """Where datagrams came from and went to."""
+    """The ends of datagrams: where they came from, and where they went to."""
     __slots__ = "address", "source", "target", "words", "is_tunnel", "ttl"
 
     def __init__(self, address, source, target, is_tunnel):
         self.address, self.source, self.target, self.is_tunnel = address, source, target, is_tunnel
-        self.words = ("%s %s" % (source, target)).encode()  # as in a line
-        self.ttl = None  # with which a SIP message came between them last
+        self.words = ("%s %s" % (source, target)).encode()  # the ends as they stand in a line
+        self.ttl = None  # the TTL with which the last SIP message came between these ends
 
 
 def ends_of(source, target, ports):
@@ -52,10 +52,10 @@ class Packet(NamedTuple):
     ttl: int
     protocol: int
     data: bytes
-    fragment: Optional[tuple] = None  # identification, offset, and whether more follow
+    fragment: Optional[tuple] = None  # identification, offset, and whether more follow; None for a whole packet
 
 
-# What a frame carries, by the type of its link: the kind, as Ethernet counts, and where it begins.
+# What a frame carries, by the type of its link: the kind, as Ethernet numbers it, and the place where it begins.
 
 def carried(frame, kind_at, at):
     kind = int.from_bytes(frame[kind_at:kind_at + 2], "big")
@@ -77,7 +77,7 @@ def on_cooked_2(frame):
 
 
 def on_loopback(frame):
-    """The family stands in the order of the machine that captured, or in the network's."""
+    """The kind of what a loopback frame carries. Its family stands in the byte order of the machine that captured, or in that of the network."""
     return FAMILIES.get(min(int.from_bytes(frame[:4], order) for order in ("little", "big")), 0), 4
 
 
@@ -88,8 +88,8 @@ def on_raw(frame):
 LINKS = {0: on_loopback, 1: on_ethernet, 12: on_raw, 14: on_raw, 101: on_raw, 108: on_loopback, 113: on_cooked, 228: on_raw, 229: on_raw, 276: on_cooked_2}
 
 
-# How an ordinary frame begins, by the type of its link: the kind; of IPv4 without options its first byte, length, flags and offset, TTL and protocol, and
-# the addresses, with which stand the ports; and the length of UDP. Beside it the kind, and how far IPv4 begins within the frame.
+# How an ordinary frame begins, by the type of its link: the kind; of IPv4 without options the first byte, length, flags and offset, TTL and protocol, and
+# the addresses with the ports; and the length of UDP. Beside it the kind of IPv4, and how far IPv4 begins within the frame.
 
 def ordinary(before, kind):
     beginning = struct.Struct(">" + before + "BxHxxHBBxx12sH")
@@ -98,38 +98,38 @@ def ordinary(before, kind):
 
 ORDINARY = {1: ordinary("12x2s", b"\x08\0"), 113: ordinary("14x2s", b"\x08\0"), 276: ordinary("2s18x", b"\x08\0"), 0: ordinary("4s", b"\2\0\0\0"),
             12: ordinary("0s", b""), 101: ordinary("0s", b""), 228: ordinary("0s", b"")}
-NONE = ordinary("0s", None)  # of other links
+NONE = ordinary("0s", None)  # links of any other type have no ordinary frame
 
 
-# Packets of IP.
+# What follows is of packets of IP.
 
 def ipv4(data, at):
-    """The packet that begins there. None where it is none."""
+    """The packet of IPv4 that begins at this place, or None where there is none."""
     if len(data) < at + IPV4_HEADER.size:
         return None
     first, total, identification, flags, ttl, protocol, source, target = IPV4_HEADER.unpack_from(data, at)
     length = 4 * (first & 15)
     if first >> 4 != 4 or length < IPV4_HEADER.size:
         return None
-    end = at + total if total else len(data)  # 0 where the network card is to cut it
+    end = at + total if total else len(data)  # the total is 0 where the network card is to cut the packet
     offset, more = 8 * (flags & 0x1FFF), bool(flags & 0x2000)
     return Packet(source, target, ttl, protocol, data[at + length:end], (identification, offset, more) if offset or more else None)
 
 
 def ipv6(data, at):
-    """The packet that begins there. None where it is none."""
+    """The packet of IPv6 that begins at this place, or None where there is none."""
     if len(data) < at + IPV6_HEADER.size:
         return None
     first, length, protocol, ttl, source, target = IPV6_HEADER.unpack_from(data, at)
     if first >> 28 != 6:
         return None
     begin = at + IPV6_HEADER.size
-    end = begin + length if length else len(data)  # 0 where the network card is to cut it
+    end = begin + length if length else len(data)  # the length is 0 where the network card is to cut the packet
     return behind_extensions(Packet(source, target, ttl, protocol, data[begin:end]))
 
 
 def behind_extensions(packet):
-    """The packet of IPv6 without its extension headers, up to one that tells of a fragment."""
+    """The packet of IPv6 after its extension headers, up to a header that tells of a fragment."""
     protocol, data, at, fragment = packet.protocol, packet.data, 0, None
     while protocol in EXTENSIONS and not fragment:
         if len(data) < at + 8:
@@ -153,7 +153,7 @@ class Pieces:
         self.at, self.length, self.total, self.is_begun = {}, 0, None, False
 
     def add(self, offset, more, data):
-        """Takes a fragment. Answers the datagram where it is whole now."""
+        """Takes a fragment. Answers the datagram where it is whole then, and else None."""
         self.is_begun |= not offset
         if offset not in self.at:
             self.at[offset] = data
@@ -166,7 +166,7 @@ class Pieces:
         whole = b"".join(data for _, data in pieces)
         if all(whole.startswith(data, offset) for offset, data in pieces) and len(whole) == self.total:
             return whole
-        self.at, self.length, self.total = {}, 0, None  # they overlap: no piece is joined twice
+        self.at, self.length, self.total = {}, 0, None  # fragments overlap: no piece is joined twice
         return None
 
 
@@ -200,14 +200,14 @@ class Fragments:
 
 
 class Datagrams:
-    """The UDP datagrams of frames. Where `has_tshark`, what tshark has to read ends them."""
+    """The UDP datagrams of frames. With `has_tshark`, the first packet that tshark has to read ends them."""
 
     def __init__(self, notes, has_tshark):
         self.notes, self.has_tshark = notes, has_tshark
         self.fragments, self.flows, self.secret = Fragments(notes), {}, set()
 
     def among(self, frames):
-        """The datagrams of these frames. The ordinary one is read at once, and all others step by step."""
+        """The datagrams of these frames. An ordinary frame is read at once, and any other one step by step."""
         flows, number, moment, last_link, beginning, ordinary_kind, offset = self.flows, 0, None, None, None, b"", 0
         try:
             for number, moment, link, data, begin, end, is_cut in frames:
@@ -235,7 +235,7 @@ class Datagrams:
         self.fragments.end()
 
     def hear_ttl(self, ends, ttl, payload):
-        """Hears of another TTL between these ends than that of the message before."""
+        """Hears that a message between these ends came with another TTL than the message before."""
         if self.notes.sender(ends.address, ttl, payload):
             ends.ttl = ttl
 
@@ -244,7 +244,7 @@ class Datagrams:
         return 0, 0
 
     def flow(self, key, source, target, ports):
-        """The ends of a flow, kept for the next datagram."""
+        """The ends of a flow, which are kept for its next datagram."""
         if len(self.flows) >= MOST_FLOWS:
             self.flows.clear()
         ends = self.flows[key] = ends_of(source, target, ports)
@@ -257,14 +257,14 @@ class Datagrams:
         self.notes.missing["packets of %s are left out: they are read by tshark (Debian's package of that name), which is not there" % what] += 1
 
     def is_no_tunnel(self, payload):
-        """Whether a payload on a port of tunnels is SIP all the same."""
+        """Whether a payload on a port of tunnels is SIP, and no tunnel."""
         is_sip = looks_like_sip(payload)
         if not is_sip:
             self.needs_tshark("tunnels")
         return is_sip
 
     def datagram(self, number, link, frame, is_cut):
-        """The ends and the payload of a frame of any kind. None where it is no datagram, or not yet a whole one."""
+        """The ends and the payload of a frame of any kind; None where it is no datagram, or one that is not whole yet."""
         kind, at = LINKS[link](frame) if link in LINKS else self.other_link(link)
         packet = packet_in(kind, frame, at)
         if packet and packet.fragment:
@@ -295,7 +295,7 @@ class Datagrams:
         return ends, payload
 
     def tcp(self, packet):
-        """Looks at a segment of TCP. What has data is tshark's, unless it is of TLS, whose messages nobody can read without the keys."""
+        """Looks at a segment of TCP. Where it has data tshark has to read it, unless it is of TLS, whose messages nobody can read without the keys."""
         header = packet.data[:20]
         data = packet.data[4 * (header[12] >> 4):] if len(header) == 20 else b""
         if not data:

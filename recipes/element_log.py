@@ -13,11 +13,11 @@ from sip_lines import (MILLISECOND, MOST_BYTES, MOST_ENTRIES, RESTART, SECOND, T
                        method_of, nanoseconds, part_of, read_lines, say, seconds_of)
 
 MOVED = "received messages moved after a send that they crossed"
-PATIENCE = SECOND  # by which a message may stand after a later one
+PATIENCE = SECOND  # how far a message may stand after a later one
 
 
 class Making(NamedTuple):
-    """How a log is made. Moments and spans are in nanoseconds, but for `tail`, in milliseconds of the log; `to-log --help` tells what they are for."""
+    """How a log is made. Moments and spans are in nanoseconds, but for `tail`, in milliseconds of the log. `to-log --help` tells what each is for."""
     times: Times
     has_restarts: bool = False
     restarts: tuple = ()
@@ -28,7 +28,7 @@ class Making(NamedTuple):
     once: Optional[int] = None
     skew: Optional[int] = None
     side: str = ""
-    part: Optional[tuple] = None  # K of N: the messages of the branches of part K alone, of N
+    part: Optional[tuple] = None  # K of N: only the messages of the branches of part K, of N parts
     out_of_order: str = ""  # what is said where a message stands after a later one by more than PATIENCE
 
 
@@ -48,7 +48,7 @@ def restart(moment):
 
 
 def seen_in_lines(file, idle=lambda: None):
-    """The messages of lines. `idle` is called each time before more has to be waited for."""
+    """The messages that lines tell. `idle` is called each time before more has to be waited for."""
     for number, moment, source, target, data, place in read_lines(file, idle):
         yield number, nanoseconds(moment), source, target, data, place, moment
 
@@ -73,8 +73,8 @@ def messages_of(element, seen, has_restarts, told):
 
 
 def in_order(messages, out_of_order):
-    """The messages by their moments; those with one moment stay as they came. Most stand in order and wait in a queue, and only the late ones
-    in a heap. Where one stands after a later one by more than PATIENCE it ends with these words."""
+    """The messages by their moments. Those with one moment stay as they came. Most stand in order and wait in a queue, and only the late ones
+    in a heap. Where one stands after a later one by more than PATIENCE, the script ends with the words of `out_of_order`."""
     queue, heap, late = deque(), [], 0
     newest = given = patient = float("-inf")
     for message in messages:
@@ -97,12 +97,12 @@ def in_order(messages, out_of_order):
 
 
 def of_part(messages, part, count):
-    """The messages of the branches of one part, of so many."""
+    """The messages of the branches of one part, of `count` parts."""
     return (message for message in messages if message.letter == "Z" or part_of(branch_of(message.data), count) == part)
 
 
 def once_each(messages, span, told):
-    """Without copies: a message with the bytes and the ends of one that came at most `span` before."""
+    """The messages without copies: a copy has the bytes and the ends of a message that came at most `span` before."""
     seen, recent = {}, deque()
     for message in messages:
         while recent and message.moment - recent[0][0] > span:
@@ -119,12 +119,12 @@ def once_each(messages, span, told):
 
 
 def with_restarts(messages, moments):
-    """The messages with restarts at these moments; one at a message's moment comes before it."""
+    """The messages with restarts at these moments. A restart at the moment of a message comes before it."""
     return heapq.merge(map(restart, sorted(moments)), messages, key=lambda message: message.moment)
 
 
 def transaction_of(message):
-    """Role, branch and method: enough to leave out or to move messages of one transaction together."""
+    """Role, branch and method of a message: enough to leave out, or to move, the messages of one transaction together."""
     responding = is_response(message.data)
     method = cseq(message.data)[1] if responding else method_of(message.data)
     role = "client" if (message.letter == "S") != responding else "server"
@@ -132,18 +132,18 @@ def transaction_of(message):
 
 
 def crossed(received, sent):
-    """Whether the element may have sent `sent` before it read `received`, and not because of it."""
+    """Whether the element may have sent `sent` before it read `received`, and so not because of it."""
     if sent.letter != "S" or transaction_of(received) != transaction_of(sent):
         return False
-    if is_response(received.data):  # and the request that it answers, or its repeat
+    if is_response(received.data):  # and `sent` is the request that it answers, or a repeat of that
         return not is_response(sent.data) and method_of(sent.data) == cseq(received.data)[1]
     # an ACK, and a repeat of the response that it acknowledges
     return method_of(received.data) == b"ACK" and is_response(sent.data) and code_of(sent.data) >= "300"
 
 
 def placed(number, message, later, skew):
-    """Where a message belongs: after the last of those within `skew` and before a restart that it crossed, with that one's moment, or
-    where it stands."""
+    """Where a message belongs, and its moment there: a received one after the last send within `skew` and up to a restart that it crossed, with the moment
+    of that send; any other one where it stands."""
     place, moment, seconds = number, message.moment, message.seconds
     if message.letter == "R":
         for other_number, other in later:
@@ -155,7 +155,7 @@ def placed(number, message, later, skew):
 
 
 def behind_what_crossed(messages, skew, told):
-    """Each received message after the last send within `skew` that it crossed."""
+    """The messages, in which each received one stands after the last send within `skew` that it crossed."""
     waiting, ready = deque(), []
 
     def settle():
@@ -177,12 +177,12 @@ def behind_what_crossed(messages, skew, told):
 
 
 def begun_before(message, start, cold):
-    """Whether the transaction whose first message this is may be older than the capture."""
+    """Whether the transaction that has this first message may be older than the capture."""
     return message.moment - start < cold or is_response(message.data) or method_of(message.data) == b"ACK"
 
 
 def young(messages, start, cold, told):
-    """Without the transactions that may be older than the capture."""
+    """The messages without the transactions that may be older than the capture."""
     is_old = {}
     for message in messages:
         if message.letter != "Z" and is_old.setdefault(transaction_of(message), begun_before(message, start, cold)):
@@ -194,7 +194,7 @@ def young(messages, start, cold, told):
 
 
 def side_file(name):
-    """The file beside the log that tells of each entry what the log does not keep."""
+    """The file beside the log that has, for each entry, what the log does not keep."""
     try:
         return open(name, "w", encoding="ascii", errors="backslashreplace")
     except OSError as error:
@@ -227,8 +227,8 @@ def write(out, messages, start, making):
 
 
 def make(seen, element, out, making, told):
-    """Makes the log of an element of what was seen. Answers the number of its entries, and None where nothing was seen of it, unless that is a part; `told`
-    counts what is left out or moved."""
+    """Makes the log of an element from what was seen. Answers the number of its entries, or None where nothing was seen of the element and the log is no part.
+    `told` counts what is left out or moved."""
     messages = messages_of(element, seen, making.has_restarts, told)
     messages = in_order(of_part(messages, *making.part) if making.part else messages, making.out_of_order)
     messages = with_restarts(messages, making.restarts) if making.restarts else messages

@@ -24,7 +24,7 @@ def names():
 
 
 def as_called(text):
-    """The text with the names that its commands and files have where the recipe was called. A name of one word, as `report`, is one only where a command begins."""
+    """The text with the names of commands and files as they are called here. A name of one word, as `report` is, is replaced only where a command begins."""
     if not os.path.basename(sys.argv[0]).startswith(PREFIX):
         return text
     of_one_word = [name for name in names() if "-" not in name]
@@ -50,12 +50,12 @@ def kind_of(line):
 
 
 class Formatter(argparse.RawDescriptionHelpFormatter):
-    """Leaves a page as it is, and calls recipes in the texts of options as they are called here."""
+    """Leaves the lines of a page as they are, and calls recipes in the texts of options as they are called here."""
 
     def _get_help_string(self, action):
         return as_called(action.help) if action.help else action.help
 
 
 def parser_of(page):
-    """The parser of a recipe's words, with its page."""
+    """The parser of a recipe's words, which shows its page."""
     return argparse.ArgumentParser(description=shown(page), formatter_class=Formatter)

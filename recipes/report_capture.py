@@ -18,10 +18,10 @@ from element_log import make, seen_in_lines
 from sip_lines import MILLISECOND, Element, Log, die, entry, keys_of, looks_like_sip, nanoseconds
 
 HERE = os.path.dirname(os.path.realpath(__file__))
-TWICE = MILLISECOND  # within which a message with the same bytes and ends is a packet seen twice
-MOST_TWICE = 0.05  # of all messages, from where on packets are taken to have been seen twice
-MOST_CALLS = 400  # messages of a call that are shown
-MOST_PARTS = 64  # into which the log of an element is cut
+TWICE = MILLISECOND  # within this time a message with the same bytes and ends is a packet that was seen twice
+MOST_TWICE = 0.05  # the share of all messages from which on packets are taken to have been seen twice
+MOST_CALLS = 400  # how many messages of a call are shown
+MOST_PARTS = 64  # into how many parts the log of an element is cut
 
 
 class Seen(NamedTuple):
@@ -34,7 +34,7 @@ class Seen(NamedTuple):
 
 
 class Flow:
-    """The messages from one end to another: how many there are, and the least of their moments."""
+    """The messages from one end to another: how many there are, and the earliest of their moments."""
     __slots__ = "count", "first"
 
     def __init__(self, moment):
@@ -46,7 +46,7 @@ def address_of(end):
 
 
 class Capture:
-    """A capture whose messages are counted."""
+    """A capture and the counts of its messages."""
 
     def __init__(self, name, folder, progress):
         self.name, self.lines, self.notes_file = name, "", os.path.join(folder, "notes")
@@ -64,7 +64,7 @@ class Capture:
             self.ends[target] += flow.count
 
     def count_messages(self, reading, progress):
-        """Counts the messages of each flow, and those that were seen twice. Where a reading is given, only what it has before tshark."""
+        """Counts the messages of each flow, and those that were seen twice. Where a reading is given, only the messages before tshark's are counted."""
         self.flows, self.count, self.twice = {}, 0, 0
         flows, recent, moments = self.flows, set(), deque()
         for _, moment, source, target, data, *_ in reading.messages(False) if reading else self.messages():
@@ -95,7 +95,7 @@ class Capture:
             return json.load(file)
 
     def messages(self):
-        """What was seen (element_log.py)."""
+        """The messages that were seen (element_log.py)."""
         if not self.lines:
             yield from Reading(self.name).messages()
             return
@@ -106,8 +106,8 @@ class Capture:
         return self.twice > MOST_TWICE * self.count
 
     def elements(self):
-        """The elements by how many messages they sent and received: an address, or each port of an address that speaks to itself. Then those
-        that sent nothing."""
+        """The elements, those first that sent and received most messages. An element is an address, or each port of an address that speaks to itself. Last come
+        the elements that sent nothing."""
         to_itself = {address_of(source) for source, target in self.flows if address_of(source) == address_of(target)}
         found, silent = Counter(), Counter()
         speaking = {address_of(end) for end in self.sent} | set(self.sent)
@@ -117,7 +117,7 @@ class Capture:
         return found, silent
 
     def flows_of(self, element):
-        """How many entries each flow gives in the log of an element, and its first moment."""
+        """How many entries each flow gives in the log of an element, and the flow's first moment."""
         return [(flow.count * len(element.letters(*ends)), flow.first) for ends, flow in self.flows.items() if element.letters(*ends)]
 
     def calls(self, names):
@@ -134,7 +134,7 @@ class Capture:
 
 
 def write_log(capture, name, path, making, told):
-    """Writes the log of an element, and its side file. Where the element took refusals by ICMP for errors, `told` hears of it. Answers the number of entries."""
+    """Writes the log of an element, and its side file. `told` hears where the element took refusals by ICMP for errors. Answers the count of entries."""
     making = making._replace(side=path + ".side", end=capture.last, once=MILLISECOND if capture.is_seen_twice() else None,
                              out_of_order="a packet stands more than a second after a later one: put the capture in order first, as Wireshark's reordercap does")
     with open(path, "wb", buffering=1 << 16) as log:
@@ -148,8 +148,8 @@ def write_log(capture, name, path, making, told):
 
 
 def refused_sends(refusals, path, element):
-    """The entries that ICMP says were refused, and after which their transaction sent nothing more: the element took them for errors of its transport.
-    One that went on took no notice."""
+    """The entries that ICMP says were refused, and after which their transaction sent nothing more: the element took the refusals for errors of its transport.
+    An element that went on took no notice."""
     ends = {(source, target, length) for _, source, target, length in refusals if element.has(source)}
     if not ends:
         return set()
@@ -167,7 +167,7 @@ def refused_sends(refusals, path, element):
     found = set()
     for packet, *of in refusals:
         alike = sends.get(tuple(of), [])
-        at = bisect_left(alike, (packet,)) - 1  # the last one before the refusal
+        at = bisect_left(alike, (packet,)) - 1  # the last such message before the refusal
         if at >= 0 and last[alike[at][2]] == alike[at][1]:
             found.add(alike[at][1])
     return found

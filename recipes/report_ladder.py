@@ -7,7 +7,7 @@ from report_page import shown, tag
 LEFT, WINDOW, TOP, LANE, ROW = 84, 17, 46, 250, 34
 MOST_WINDOWS, MOST_LANES = 6, 5
 LETTERS = "abcdef"
-CHARACTER = 6.6  # the width of one, about
+CHARACTER = 6.6  # about how wide a character is
 
 
 class Arrow(NamedTuple):
@@ -16,13 +16,13 @@ class Arrow(NamedTuple):
     source: str
     target: str
     text: str
-    link: str  # where its text stands on the page
-    kind: str  # own, other or bad
+    link: str  # where the text of the message stands on the page
+    kind: str  # how the arrow is drawn: own, other or bad
     is_refused: bool = False
 
 
 class Window(NamedTuple):
-    """When something was allowed or due."""
+    """A time in which something was allowed or due."""
     text: str
     first: int
     last: Optional[int]
@@ -30,7 +30,7 @@ class Window(NamedTuple):
 
 
 class Axis:
-    """Heights: each arrow has a row of its own, gaps are drawn by their logarithm, and edges of windows stand between."""
+    """Heights of moments: each arrow has a row of its own, a gap is drawn by its logarithm, and the edges of windows stand between the rows."""
 
     def __init__(self, arrows, edges):
         self.at, self.rows, y, before = {}, [0.0] * len(arrows), float(TOP), None
@@ -50,7 +50,7 @@ class Axis:
 
 
 class Ladder:
-    """The picture of one trouble. `missed` is a moment by which something was missing, and what; `name` begins the ids on the page."""
+    """The picture of one trouble. `missed` tells a moment by which something was missing, and what; the ids on the page begin with `name`."""
 
     def __init__(self, name, lanes, element, arrows, windows, missed, about):
         self.name, self.lanes, self.element, self.arrows = name, lanes[:MOST_LANES], element, sorted(arrows, key=lambda one: one.moment)
@@ -98,7 +98,7 @@ class Ladder:
                 self.draw("line", x1=44, x2=x, y1=self.axis.at[moment], y2=self.axis.at[moment], class_="dots")
 
     def cross(self):
-        """Where something that was due is missing."""
+        """The cross where something is missing that was due."""
         moment, text = self.missed
         x, y = self.x[self.element], self.axis.at[moment]
         for one, other in ((-6, 6), (6, -6)):

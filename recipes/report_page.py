@@ -30,25 +30,25 @@ POLICY = "default-src 'none'; style-src 'unsafe-inline'; base-uri 'none'; form-a
 
 
 def shown(text, most=0):
-    """A text as HTML: what cannot be printed is spelled, and nothing in it is markup. Where `most` is given, at most so many characters of it."""
+    """A text as HTML: what cannot be printed is spelled, and nothing in it is markup. Where `most` is given, it has at most so many characters of the text."""
     text = text if isinstance(text, str) else text.decode("latin-1")
     text = "".join(sign if sign in "\n\t" or sign.isprintable() and ord(sign) < 0x250 else "\\x%02x" % ord(sign) for sign in text)
     return html.escape(text[:most - 2] + ".." if most and len(text) > most else text)
 
 
 def tag(name, content="", **attributes):
-    """An element with this content, which is HTML already, and these attributes, which are texts."""
+    """An element of HTML with this content, which is HTML already, and these attributes, which are texts."""
     words = "".join(' %s="%s"' % (key.rstrip("_").replace("_", "-"), html.escape(str(value))) for key, value in attributes.items())
     return "<%s%s>%s</%s>" % (name, words, content, name)
 
 
 def listed(texts, name="ul"):
-    """A list of texts that are HTML already."""
+    """A list of HTML with these items, which are HTML already."""
     return tag(name, "".join(tag("li", text) for text in texts)) if texts else ""
 
 
 def table(heads, rows):
-    """A table of cells that are HTML already; a number stands at the right."""
+    """A table of HTML with these cells, which are HTML already. A number stands at the right of its cell."""
     head = tag("tr", "".join(tag("th", shown(text), scope="col") for text in heads))
     body = "".join(tag("tr", "".join(tag("td", str(cell), class_="n") if isinstance(cell, int) else tag("td", cell) for cell in row)) for row in rows)
     return tag("div", tag("table", tag("thead", head) + tag("tbody", body)), class_="scroll", tabindex="0", role="group", aria_label="table")

@@ -23,13 +23,13 @@ MOST_BYTES = 65_535
 MOST_TOLERANCE = 10_000
 COOKIE = b"z9hg4bk"
 LETTERS = ("S", "R", "F", "M", "Z")
-SILENT = ("M", "Z")  # entries without a message
+SILENT = ("M", "Z")  # the letters of entries without a message
 RESTART = "restart"
-MOST_KNOWN = 1 << 16  # pairs of ends that are kept
-PIECE = 1 << 16  # bytes that are read or written at once
-SECOND, MILLISECOND = 10**9, 10**6  # in nanoseconds
+MOST_KNOWN = 1 << 16  # how many pairs of ends are kept
+PIECE = 1 << 16  # how many bytes are read or written at once
+SECOND, MILLISECOND = 10**9, 10**6  # how many nanoseconds they have
 
-ORDINARY_START = re.compile(rb"(?:SIP/2\.0 [1-6]|[A-Z]+ [^\s]+ SIP/2\.0\r)[^\n]*\n")  # of most messages, which START_LINE takes too
+ORDINARY_START = re.compile(rb"(?:SIP/2\.0 [1-6]|[A-Z]+ [^\s]+ SIP/2\.0\r)[^\n]*\n")  # the first line of most messages; START_LINE takes all
 START_LINE = re.compile(rb"\A(?:SIP/\d[^\r\n]*|[^\s]+ [^\r\n]*SIP/\d+\.\d+[ \t]*)[\r\n]", re.I)
 LATER_START = re.compile(rb"\r\n(?=SIP/2\.0 \d{3} |[^\s]+ [^\s]+ SIP/2\.0\r\n)", re.I)
 LENGTH = re.compile(rb"\r\n(?:content-length|l)[ \t]*:[ \t]*(\d+)", re.I)
@@ -41,7 +41,7 @@ PLAIN_BRANCH = re.compile(rb'[^\n]*\n(?:(?!v(?:ia)?[ \t]*[:\r]|[ \t\r])[^\r\n]*\
 
 
 def die(text, status=1):
-    """Ends the script with what is wrong, after its name."""
+    """Ends the script, and tells what is wrong after the script's name."""
     print("%s: %s" % (os.path.basename(sys.argv[0]), text), file=sys.stderr)
     sys.exit(status)
 
@@ -52,8 +52,8 @@ def say(text):
 
 
 def words_of(usage, page, are_right):
-    """The words after the script's name, where they are right. Else it ends with its usage and its page: as its answer where they
-    ask for help, and as an error where they are wrong."""
+    """The words after the script's name, where they are right. Else the script ends with its usage and its page: these are its answer where the words ask for
+    help, and an error where they are wrong."""
     words = sys.argv[1:]
     text = "usage: %s %s\n\n%s" % (os.path.basename(sys.argv[0]), usage, shown(page))
     if words[:1] in (["-h"], ["--help"]):
@@ -65,7 +65,7 @@ def words_of(usage, page, are_right):
 
 
 def opened(name):
-    """The file of that name to be read as bytes: `-` is the standard input, and one that is gzipped is unpacked."""
+    """The file of this name, to be read as bytes: `-` is the standard input, and a file that is gzipped is unpacked."""
     try:
         if name == "-":
             return sys.stdin.buffer
@@ -87,7 +87,7 @@ def waits(number):
 
 
 def lines_as_they_come(file, idle):
-    """The lines of a file as bytes. Calls `idle` each time before more has to be waited for."""
+    """The lines of a file as bytes. `idle` is called each time before more has to be waited for."""
     number, begun = file.fileno(), []
     while True:
         if waits(number):
@@ -128,8 +128,8 @@ def print_line(moment, source, target, data, *place):
 
 
 def read_lines(file, idle=lambda: None):
-    """The number, moment, ends, bytes and place of each line. One that tells a restart has the element and RESTART as its ends, and no bytes.
-    A line without a place has an empty one. Calls `idle` each time before more has to be waited for."""
+    """The number, moment, ends, bytes and place of each line. A line that tells a restart has the element and RESTART as its ends, and no bytes. A line without
+    a place has an empty one. `idle` is called each time before more has to be waited for."""
     for number, line in enumerate(lines_as_they_come(file, idle), 1):
         try:
             moment, source, target, *rest = line.split(None, 3)
@@ -152,7 +152,7 @@ def message_and_place(words):
 
 
 class Element:
-    """One element by its addresses: ADDRESS:PORT, or ADDRESS alone for all its ports."""
+    """One element by its addresses: ADDRESS:PORT, or an ADDRESS for all its ports."""
 
     def __init__(self, names):
         self.names = {name.replace("[", "").replace("]", "") for name in names}
@@ -162,7 +162,7 @@ class Element:
         return end in self.names or end.rpartition(":")[0] in self.names
 
     def letters(self, source, target):
-        """S for a message that it sent, R for one that it received, both for one to itself."""
+        """S for a message that the element sent, R for one that it received, and both for one that it sent to itself."""
         letters = self.known.get((source, target))
         if letters is None:
             if len(self.known) == MOST_KNOWN:
@@ -189,12 +189,12 @@ def method_of(request):
 
 
 def code_of(response):
-    """The code as a text, empty where the first line has none."""
+    """The code of a response as a text, empty where its first line has none."""
     return "".join(first_line(response).split()[1:2])
 
 
 def fields(data, *names):
-    """The values of the fields with one of these names in lower case, without their folds."""
+    """The values of the fields with one of these names, which are in lower case, without the values' folds."""
     head = FOLD.sub(b" ", re.split(rb"\r?\n\r?\n", data, maxsplit=1)[0])
     parted = (line.partition(b":") for line in head.split(b"\n")[1:])
     return [value.strip() for name, _, value in parted if name.strip().lower() in names]
@@ -209,7 +209,7 @@ def call_id(data):
 
 
 def cseq(data):
-    """The number and the method, as texts."""
+    """The number and the method of the CSeq, as texts."""
     words = field(data, b"cseq").split()
     return (words[0], words[1]) if len(words) == 2 else (b"", b"")
 
@@ -232,12 +232,12 @@ def spelled_branch(data):
 
 
 def branch_of(data):
-    """The branch in lower case, in which branches are compared."""
+    """The branch of the top Via in lower case, the form in which branches are compared."""
     return spelled_branch(data).lower()
 
 
 def part_of(branch, count):
-    """The part, of so many, to which the messages with a branch go; the same on each machine."""
+    """The part to which the messages with a branch go, of `count` parts. It is the same on each machine."""
     return int.from_bytes(hashlib.blake2b(branch, digest_size=8).digest(), "big") % count
 
 
@@ -245,7 +245,7 @@ def sent_by_of(data):
     """Host and port of the top Via, by which a server tells its clients apart."""
     words = top_via(data).split(b";")[0].split(b"/", 2)[-1].split(None, 1)
     found = re.fullmatch(rb"(\[[^]]*\]|[^:]*?)\s*(?::\s*(\d{1,5}))?\s*", words[1] if len(words) == 2 else b"")
-    host, port = found.groups() if found else (words[-1] if words else b"", None)  # of a Via that is malformed all that stands there
+    host, port = found.groups() if found else (words[-1] if words else b"", None)  # of a malformed Via all that stands in its place
     return host.lower() + b":%d" % int(port or 5060)
 
 
@@ -265,14 +265,14 @@ def keys_of(letter, data):
 
 
 class Cutter:
-    """The bytes of a stream in their order, which are cut into messages at Content-Length."""
+    """The bytes of a stream in their order, and the messages into which they are cut at Content-Length."""
 
     def __init__(self):
         self.bytes = b""
         self.skipped = 0
 
     def messages(self):
-        """The messages that are whole now. Skips what stands between them: keep-alives, and the rest of a message that began before."""
+        """The messages that are whole now. What stands between them is skipped: keep-alives, and the rest of a message that began before."""
         while True:
             self.bytes = self.bytes.lstrip(b"\r\n\0")
             if b"\r\n" in self.bytes and not looks_like_sip(self.bytes):
@@ -289,7 +289,7 @@ class Cutter:
             self.bytes = self.bytes[total:]
 
     def find_later_start(self):
-        """Drops the bytes before the next line that can begin a message; where there is none yet, all but the last that may become one."""
+        """Drops the bytes before the next line that can begin a message; where there is no such line yet, all bytes but the last ones that may become one."""
         start = LATER_START.search(self.bytes)
         kept = self.bytes[start.end():] if start else self.bytes[-MOST_BYTES:]
         self.skipped += len(self.bytes) - len(kept)
@@ -304,11 +304,11 @@ class Times(NamedTuple):
     t4: int
     early: int
     late: int
-    rules: int = 0  # 3261 or 6026, or 0 where there is no line of rules
+    rules: int = 0  # 3261 or 6026; 0 where there is no line of rules
     format: int = 1
 
     def header(self):
-        """As bytes. A log with two tolerances is of format 2, and one of format 1 has the same verdict there."""
+        """The header as bytes. With two tolerances it is of format 2; a log of format 1 has the same verdict with it."""
         if self.format == 2 or self.early != self.late:
             lines = "sip-trace 2\nt1 %d t2 %d t4 %d early %d late %d\n" % self[:5]
         else:
@@ -316,7 +316,7 @@ class Times(NamedTuple):
         return (lines + ("rules %d\n" % self.rules if self.rules else "")).encode()
 
     def tolerance(self):
-        """In words."""
+        """The tolerance in words."""
         return "tolerance %d" % self.late if self.early == self.late else "early %d, late %d" % (self.early, self.late)
 
 
@@ -325,7 +325,7 @@ RULES = re.compile(rb"rules (3261|6026)\n")
 
 
 class Log:
-    """A log that is read entry by entry, from a name as `opened` takes it."""
+    """A log that is read entry by entry. Its name is one that `opened` takes."""
 
     def __init__(self, name):
         self.file = opened(name)
@@ -333,17 +333,17 @@ class Log:
         if not found:
             die("this is no log: see recipes/why-no-log", 2)
         numbers = [int(number) for number in found.groups() if number]
-        self.line = self.file.readline()  # the next one
+        self.line = self.file.readline()  # the line that is read next
         rules = RULES.fullmatch(self.line)
         if rules:
             self.line = self.file.readline()
-        # format 1 has one tolerance, for early and for late
+        # a log of format 1 has one tolerance, for early and for late
         self.times = Times(*numbers[:4], numbers[-1], int(rules[1]) if rules else 0, len(numbers) - 3)
         self.header = self.times.header()
         self.last = 0
 
     def __iter__(self):
-        """Number, letter, moment and bytes of each entry; a mark and a restart have none. Sets `last` to the last moment."""
+        """Number, letter, moment and bytes of each entry; a mark and a restart have no bytes. At the end `last` is the last moment."""
         number = 0
         while self.line:
             number, words = number + 1, self.line.split()
@@ -372,7 +372,7 @@ def mark(moment):
 
 
 def program(name="siptrace"):
-    """A program: the one that SIPTRACE names (or SIPSURVEY), else the one on the path, else that of the checkout around the recipes."""
+    """The path of a program: the one that SIPTRACE names (or SIPSURVEY), else the one on the path, else that of the checkout around the recipes."""
     beside = os.path.join(os.path.dirname(os.path.realpath(__file__)), os.pardir, name)
     found = os.environ.get(name.upper()) or shutil.which(name) or (os.path.isfile(beside) and os.access(beside, os.X_OK) and os.path.abspath(beside))
     if not found:
@@ -386,7 +386,7 @@ def surveyor():
 
 
 def ask(*words, log=b""):
-    """What the program says to these words and this standard input, and its status."""
+    """What the program says, with these words and this standard input, and its status."""
     try:
         ran = subprocess.run([program(), *words], input=log, capture_output=True)
     except OSError as error:
@@ -397,7 +397,7 @@ def ask(*words, log=b""):
 
 
 def add_times(parser):
-    """The options for the header of a log."""
+    """Adds the options that tell the header of a log."""
     for name, value, what in (("t1", 500, "T1"), ("t2", 4000, "T2"), ("t4", 5000, "T4"), ("tolerance", 50, "how much sooner or later timers may fire")):
         parser.add_argument("--" + name, type=int, default=value, metavar="MS", help="%s in milliseconds (%d)" % (what, value))
     parser.add_argument("--early", type=int, metavar="MS", help="how much sooner alone, in place of the tolerance: 0 for a clock that is late and never early")
@@ -408,7 +408,7 @@ def add_times(parser):
 
 
 def times_of(words):
-    """What these options say."""
+    """The times that the options for the header tell."""
     early = words.tolerance if words.early is None else words.early
     late = words.tolerance if words.late is None else words.late
     is_2 = words.restarts or words.early is not None or words.late is not None
@@ -416,7 +416,7 @@ def times_of(words):
 
 
 def ends_quietly_without_reader(run):
-    """Runs `run`, and ends in silence where the program that reads our output went away, as siptrace does once it has its verdict."""
+    """Runs `run`, and ends in silence where the program that reads the output went away, as siptrace does once it has its verdict."""
     try:
         run()
         sys.stdout.flush()

@@ -1,10 +1,10 @@
-"""The survey of a log that is put together from those of its parts, which `sipsurvey --part K/N` wrote."""
+"""The survey of a log, put together from those of its parts, which `sipsurvey --part K/N` wrote."""
 import subprocess
 
 from sip_lines import die, surveyor
 
-RANKS = {"malformed": 0, "breach": 1, "undecided": 2}  # what is found at one entry stands in this order
-FOUND, UNDECIDED, STOPPED, NO_ANSWER = 1, 3, 2, 4  # statuses
+RANKS = {"malformed": 0, "breach": 1, "undecided": 2}  # findings of one entry stand in this order
+FOUND, UNDECIDED, STOPPED, NO_ANSWER = 1, 3, 2, 4  # statuses of a survey
 MOST_PARTS = 100_000
 
 
@@ -18,20 +18,20 @@ def survey_of_part(name, part):
 
 
 def place(words, number):
-    """Where a finding of a part stands among those of the whole: by its entry, by what it is, and by the first entry of its transaction. The words after its number tell that: role, method, branch,
-    its first entry and its last one."""
+    """Where a finding of a part stands among those of the whole: by its entry, by its word, and by the first entry of its transaction. The words after the
+    finding's number tell the transaction: role, method, branch, its first entry and its last one."""
     method, first = (words[5], int(words[7])) if words[0] != "malformed" else ("", 0)
     return int(words[1]), RANKS[words[0]], first, method != "CANCEL", number  # the CANCEL that an element sends comes before its INVITE, where both begin
 
 
 class Parts:
-    """The parts of one log, of which each line is added as it comes."""
+    """The parts of one log. Each line of a part is added as it comes."""
 
     def __init__(self):
         self.count, self.findings, self.ends, self.wrong = None, [], {}, None
 
     def add(self, part, line):
-        """A line of part K/N."""
+        """Adds a line of part K/N."""
         number, _, count = part.partition("/")
         words = line.split()
         self.count = self.count or count
@@ -47,7 +47,7 @@ class Parts:
             self.wrong = self.wrong or "part %s: %s" % (part, line)
 
     def fault(self):
-        """Why there is no survey of the whole, if so: a part is wrong, lacks, or did not come to its end."""
+        """Why there is no survey of the whole, or None: a part is wrong, is missing, or did not come to its end."""
         if self.count is None:
             return "there is no line"
         missing = [] if self.wrong else [number for number in range(1, int(self.count) + 1) if number not in self.ends]
@@ -81,6 +81,6 @@ def tell(parts, prefix=""):
 
 
 def worst(statuses):
-    """Of several statuses the one to end with: no answer before a log that stops, before what was found."""
+    """The status to end with, of several: no answer comes before a log that stops, and that before what was found."""
     order = [0, UNDECIDED, FOUND, STOPPED, NO_ANSWER]
     return max(statuses, key=order.index, default=0)

@@ -1,13 +1,13 @@
-"""The evidence for what a watch tells, looked for in processes of their own, so that no finding waits for it. Run as a program it is such a process: it reads
-a line of JSON for each trouble, and writes one."""
+"""Looks for the evidence of what a watch tells, in processes of their own, so that no finding waits for it. Run as a program, this file is such a process: it
+reads a line of JSON for each trouble, and writes one."""
 import json
 import os
 import subprocess
 import sys
 from collections import deque
 
-AT_ONCE = 2  # processes
-MOST_WAITING = 1_000  # troubles that wait for theirs
+AT_ONCE = 2  # how many processes there are
+MOST_WAITING = 1_000  # how many troubles may wait for their evidence
 NOT_LOOKED_FOR = "Not looked for: too many troubles came at once."
 NICE = 10
 
@@ -16,7 +16,7 @@ class Looking:
     """The processes that look for the evidence of troubles, and the troubles that wait for one."""
 
     def __init__(self):
-        self.waiting, self.workers, self.count = deque(), {}, 0  # by the descriptors of their outputs
+        self.waiting, self.workers, self.count = deque(), {}, 0  # troubles that wait; processes, by the descriptors of their outputs; how many began
 
     def ask(self, question):
         """Asks for the evidence of a log, {"trouble", "log", "word", "role", "method"}. Answers whether it will be looked for."""
@@ -27,7 +27,7 @@ class Looking:
         return True
 
     def hand_out(self):
-        """Gives what waits to those that are idle, and begins another one where all are busy."""
+        """Gives the waiting troubles to idle processes, and begins another process where all are busy."""
         idle = [worker for worker in self.workers.values() if worker.question is None]
         if self.waiting and not idle and len(self.workers) < AT_ONCE:
             idle = [Worker()]
@@ -36,7 +36,7 @@ class Looking:
             worker.ask(self.waiting.popleft())
 
     def answer(self, number):
-        """The answer of the process with this output, with its question; the answer of one that has ended is empty. None where it has not answered."""
+        """The answer of the process with this output, with its question. It is empty where the process has ended, and None where it has not answered yet."""
         worker = self.workers[number]
         line, is_over = worker.read()
         if line is None and not is_over:
@@ -58,7 +58,7 @@ class Looking:
 
 
 class Worker:
-    """One of them."""
+    """One of the processes that look for evidence."""
 
     def __init__(self):
         self.process = subprocess.Popen([sys.executable, os.path.realpath(__file__)], stdin=subprocess.PIPE, stdout=subprocess.PIPE, start_new_session=True)
@@ -69,11 +69,11 @@ class Worker:
         try:
             self.process.stdin.write(json.dumps(question).encode() + b"\n")
             self.process.stdin.flush()
-        except BrokenPipeError:  # it has ended, which its output tells
+        except BrokenPipeError:  # the process has ended, which its output tells
             pass
 
     def read(self):
-        """Its answer where it is whole, and whether it has ended."""
+        """The answer of the process, where it is whole, and whether the process has ended."""
         piece = os.read(self.exit, 1 << 16)
         self.text += piece
         if not self.text.endswith(b"\n"):
@@ -83,7 +83,7 @@ class Worker:
 
 
 def evidence(question):
-    """Kind, size, sentence and text of the verdict on a log, where that is the one in question."""
+    """Kind, size, sentence and text of the verdict on a log, where this is the verdict in question."""
     from evidence.data import evidence_of
     from evidence.side import Side
     from evidence.text import text_of
@@ -97,11 +97,11 @@ def evidence(question):
 def main():
     from evidence.asking import real_program
     os.nice(NICE)
-    os.environ["SIPTRACE"] = real_program()  # so that it is looked for once
+    os.environ["SIPTRACE"] = real_program()  # so that the program is looked for once
     for line in sys.stdin.buffer:
         try:
             answer = evidence(json.loads(line))
-        except SystemExit:  # it has said why
+        except SystemExit:  # the script has said why
             answer = {}
         print(json.dumps(answer), flush=True)
 

@@ -6,23 +6,23 @@ from collections import deque
 
 from sip_lines import SECOND
 
-PIECE, PIPE = 1 << 18, 1 << 20  # bytes that are read at once, and that may wait to be read
-PASS = SECOND // 2  # a pass that takes longer cannot know that nothing came
+PIECE, PIPE = 1 << 18, 1 << 20  # how many bytes are read at once, and how many may wait to be read
+PASS = SECOND // 2  # after a pass that took longer, nobody knows that nothing came
 REMEMBERED = 30 * SECOND
 MOST_LAG = 10 * SECOND
-STEP = SECOND // 100  # by which the clock differs after it was set, and not before
-GONE_BACK = 10  # lines in a row whose moments lie further back than the most lag: the clock that gives them was set
+STEP = SECOND // 100  # the clock differs by so much where it was set, and not where it was not
+GONE_BACK = 10  # after so many lines in a row that lie further back than the most lag, their clock was set
 
 
 class Clock:
-    """The clock of this machine, and whether it was set."""
+    """The clock of this machine, which tells whether it was set."""
 
     def __init__(self):
         self.ahead = self.ahead_of_steady()
 
     @staticmethod
     def ahead_of_steady():
-        """By how much it is ahead of a clock that nobody sets; None where this process was held up while it asked."""
+        """By how much the clock is ahead of a clock that nobody sets; None where this process was held up while it asked."""
         before, now, after = time.monotonic_ns(), time.time_ns(), time.monotonic_ns()
         return now - before if after - before < STEP // 10 else None
 
@@ -45,21 +45,21 @@ class Input:
         if not is_stored:
             try:
                 fcntl.fcntl(number, fcntl.F_SETPIPE_SZ, PIPE)
-            except OSError:  # it is no pipe
+            except OSError:  # the input is no pipe
                 pass
         self.begin()
 
     def begin(self):
-        """Knows nothing of the time yet."""
+        """Begins with no knowledge of the time."""
         now = time.time_ns()
-        self.heard = self.settled = 0  # the newest moment of a line; that of the lines which came a lag ago
-        self.came = deque()  # when lines came, and the newest moment that was heard then
+        self.heard = self.settled = 0  # the newest moment of a line; the newest moment of the lines that came a lag ago
+        self.came = deque()  # when lines came, and the newest moment that was heard by then
         self.begun = self.still_since = self.last_pass = self.delays_since = now
-        self.delay = self.delay_before = 0  # after their moments that lines came, at most, lately and before that
-        self.back = 0  # lines in a row that lie far back
+        self.delay = self.delay_before = 0  # the most by which lines came after their moments, lately and before that
+        self.back = 0  # how many lines in a row lie far back
 
     def read(self):
-        """The lines that have come, each with its number. A last one that is cut is none."""
+        """The lines that have come, each with its number. A last line that is cut off is left out."""
         piece = os.read(self.number, PIECE)
         self.is_ended = not piece
         *lines, self.rest = (self.rest + piece).split(b"\n")
@@ -68,7 +68,7 @@ class Input:
             yield self.lines, line
 
     def hear(self, moment, now):
-        """Hears of the moment of a line. Answers whether the clock that gives the moments was set back."""
+        """Hears the moment of a line. Answers whether the clock that gives the moments was set back."""
         if not self.is_stored:
             moment = min(moment, now)
             if moment > self.begun:
@@ -78,12 +78,12 @@ class Input:
         return self.back == GONE_BACK
 
     def has_come(self, now):
-        """After the lines of a pass."""
+        """Notes, after the lines of a pass, when they came."""
         self.still_since = now
         self.came.append((now, self.heard))
 
     def passed(self, now):
-        """Looks at the clock at each pass."""
+        """Looks at the clock at each pass of the loop."""
         if now - self.last_pass > PASS:
             self.still_since = now
         self.last_pass = now
@@ -91,12 +91,12 @@ class Input:
             self.delay_before, self.delay, self.delays_since = self.delay, 0, now
 
     def late(self):
-        """How long after their moments lines come, at most."""
+        """The most by which lines come after their moments."""
         return max(self.delay, self.delay_before)
 
     def known(self, now):
-        """The moment up to which all lines have come, as far as can be known. A line waits for older ones until a newer one by the lag has come, or until
-        the lag is over; where nothing comes the clock tells the time, less as much as a line may be late."""
+        """The moment up to which all lines have come, as far as can be known. A line waits for older ones until a line has come that is newer by the lag, or
+        until the lag is over. Where nothing comes the clock tells the time, less as much as a line may be late."""
         if self.is_stored:
             return self.heard - self.lag
         while self.came and self.came[0][0] <= now - self.lag:
@@ -105,5 +105,5 @@ class Input:
         return max(self.heard - self.lag, self.settled, by_clock)
 
     def next_known(self, now):
-        """In how many nanoseconds a line that has come is known to be the next."""
+        """In how many nanoseconds it is known of a line that has come that it is the next."""
         return max(0, self.came[0][0] + self.lag - now) if self.came else None

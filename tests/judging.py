@@ -1,4 +1,4 @@
-"""What tests/pairs, tests/rows and tests/surveys share: the programs, what is said of a log, the headings of docs/standard, and the count."""
+"""What tests/pairs, tests/rows and tests/surveys share: the programs, the reading of their answers, the headings of docs/standard, and the count of checks."""
 import importlib.machinery
 import importlib.util
 import os
@@ -14,7 +14,7 @@ STATUSES = {"legal": 0, "end": 0, "transaction": 0, "no transaction": 0, "malfor
 
 
 class Count:
-    """How many checks hold, with a text for each that does not."""
+    """The count of checks that hold, and a text for each check that does not."""
 
     def __init__(self):
         self.passed = self.failed = 0
@@ -32,7 +32,7 @@ class Count:
 
 
 def find_program(name="siptrace"):
-    """The program that SIPTRACE, or SIPSURVEY, names, or the one that ./siptrace, or ./sipsurvey, runs, which its first use builds."""
+    """The program that the variable SIPTRACE, or SIPSURVEY, names; without it the one that ./siptrace, or ./sipsurvey, runs, and builds at its first use."""
     if name.upper() in os.environ:
         return os.environ[name.upper()]
     return TOP / "built" / subprocess.run([TOP / "build", name], stdout=subprocess.PIPE, text=True, check=True).stdout.strip()
@@ -47,7 +47,7 @@ def script(name):
 
 
 def status_of(said):
-    """The status that belongs to this line of the program."""
+    """The status with which the program ends after this line."""
     words = said.split(" ")
     return STATUSES.get(words[0], STATUSES.get(" ".join(words[:2])))
 

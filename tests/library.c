@@ -20,7 +20,7 @@ extern void *__libc_malloc(size_t size);
 extern void *__libc_realloc(void *old, size_t size);
 extern void __libc_free(void *old);
 
-/* How many growths of a call are let through before one is refused, how many it has asked for, and how many blocks it holds. */
+/* How many growths of a call are let through before one is refused, how many the call has asked for, and how many blocks it holds. */
 static long before_refusal, growths, held;
 static int is_counting;
 
@@ -45,7 +45,7 @@ void free(void *old) {
   __libc_free(old);
 }
 
-/* No call tells such numbers. */
+/* Numbers that no call tells, which stand where a call has written nothing. */
 static const struct siptrace_verdict untold = {77, 77, 77, 77, 77, 77, 77, 77};
 
 static int is_as_it_was(const struct siptrace_verdict *it) {
@@ -71,7 +71,7 @@ static int judge_with_refusals(const char *path, const uint8_t *log, size_t leng
     if (status == SIPTRACE_NO_MEMORY && was_refused && is_as_it_was(&verdict)) {
       refused++;
     } else if (status == SIPTRACE_ANSWERED && verdict.kind != untold.kind) {
-      /* std does without some growths. */
+      /* std does without some growths that are refused. */
       if (was_refused) continue;
       printf("%ld %u %u %u %u %u %u %u %zu\n", refused, verdict.kind, verdict.entries, verdict.transactions, verdict.entry, verdict.transaction,
              verdict.reason, verdict.unit, verdict.line);
@@ -83,7 +83,7 @@ static int judge_with_refusals(const char *path, const uint8_t *log, size_t leng
   }
 }
 
-/* Findings that are told here are at most so many. */
+/* A call tells at most so many findings here, and has room for two more. */
 enum { MOST_FINDINGS = 4096, MORE_ROOM = 2 };
 
 static const struct siptrace_summary unsaid = {77, 77, 77, 77, 77, 77};
@@ -103,13 +103,13 @@ static void clear(struct siptrace_verdict *findings) {
   for (size_t at = 0; at < MOST_FINDINGS + MORE_ROOM; at++) findings[at] = untold;
 }
 
-/* Whether all places from this one on are as they were. */
+/* Whether no call has written to the places from this one on. */
 static int are_untold(const struct siptrace_verdict *findings, size_t at) {
   while (at < MOST_FINDINGS + MORE_ROOM && is_as_it_was(&findings[at])) at++;
   return at == MOST_FINDINGS + MORE_ROOM;
 }
 
-/* Whether the call does with this room what it does with all room, but for the findings that have none. */
+/* Whether a call with this room tells what a call with all room tells, but for the findings that have no place. */
 static int is_part(const uint8_t *log, size_t length, size_t room, const struct siptrace_summary *summary) {
   struct siptrace_summary said = unsaid;
   clear(part);
@@ -155,7 +155,7 @@ static int survey_with_refusals(const char *path, const uint8_t *log, size_t len
     if (status == SIPTRACE_NO_MEMORY && was_refused && is_unsaid(&summary) && are_untold(part, 0)) {
       refused++;
     } else if (status == SIPTRACE_ANSWERED && !is_unsaid(&summary)) {
-      /* std does without some growths. */
+      /* std does without some growths that are refused. */
       if (was_refused) continue;
       printf("%ld %zu %u %u %u %u %u\n", refused, summary.findings, summary.end, summary.entries, summary.transactions, summary.entry, summary.reason);
       return 0;
@@ -174,7 +174,7 @@ int main(int count, char **words) {
     struct stat is;
     if (file < 0 || fstat(file, &is) != 0) return 2;
     const size_t length = (size_t)is.st_size;
-    /* One byte more, since no file of no bytes can be mapped. */
+    /* One byte more than the file has, since a file of no bytes cannot be mapped. */
     uint8_t *log = mmap(NULL, length + 1, PROT_READ, MAP_PRIVATE, file, 0);
     if (log == MAP_FAILED) return 2;
     const int failed = (is_survey ? survey_with_refusals : judge_with_refusals)(words[at], log, length);

@@ -94,7 +94,7 @@ def moments_of(word):
 
 
 def header_of(first):
-    """The header that a first word says, or none where it says something else."""
+    """The header that the first word says, or None where the word says something else."""
     if first.startswith("sip-trace"):
         return unescaped(first)
     if not first.startswith(("t1 ", "tolerance ", "early ")):
@@ -104,7 +104,7 @@ def header_of(first):
 
 
 class Log:
-    """A header, and the entries after it as pairs of a moment and bytes."""
+    """A log that grows: its header, and the entries after it as pairs of a moment and bytes."""
 
     def __init__(self, words):
         header = header_of(words[0]) if words else None
@@ -140,7 +140,7 @@ class Log:
         self.entries.sort(key=lambda entry: entry[0])
 
     def add_rules(self, line):
-        """Adds the line to the header. After an entry it is one more text."""
+        """Adds the line of rules to the header. After an entry the line is one more text of the log."""
         if self.entries:
             self.entries.append((None, line))
         else:
@@ -151,7 +151,7 @@ class Log:
             self.entries.append((moment, b"%s %d %d\n%s\n" % (letter.encode(), moment, len(text), text)))
 
     def texts(self, rest, count):
-        """The messages of so many entries that these words tell."""
+        """The messages that these words tell, for so many entries."""
         first, _, rest = rest.partition(" ")
         if first.startswith("="):
             return [changed(self.named(first[1:]), rest)] * count

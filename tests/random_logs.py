@@ -13,7 +13,7 @@ class Entry(NamedTuple):
     letter: str
     moment: int
     data: bytes = b""
-    keys: tuple = ()  # the transactions that it concerns, its own one first
+    keys: tuple = ()  # the transactions that the entry concerns, its own one first
     branch: str = ""
     is_malformed: bool = False
 
@@ -28,13 +28,13 @@ class Entry(NamedTuple):
 class Log(NamedTuple):
     header: bytes
     entries: list
-    tail: bytes = b""  # what stands after the entries and is none
+    tail: bytes = b""  # bytes that stand after the entries and are no entry
 
     def bytes(self):
         return self.header + b"".join(entry.bytes() for entry in self.entries) + self.tail
 
     def part(self, stays):
-        """The log in which a mark stands for each entry that does not stay. A restart stays."""
+        """The log in which a mark stands for each entry that does not stay, as `stays` says. A restart stays."""
         return self._replace(entries=[one if one.letter == "Z" or stays(one) else one.mark() for one in self.entries], tail=b"")
 
 
@@ -47,7 +47,7 @@ class Story:
         self.transport = chance.choice(["UDP", "UDP", "UDP", "TCP"])
         self.host = chance.choice(["a", "a", "b"])
         self.entries = []
-        self.stays = False  # whether nothing of it is left out or moved
+        self.stays = False  # whether no entry of the transaction is left out or moved
 
     def wait(self, length):
         """A length of a timer, mostly as the tolerance has it, and at its edges."""
@@ -68,7 +68,7 @@ class Story:
         self.entries.append(Entry(letter, moment, data, keys, self.branch))
 
     def repeated(self, method, start, end, most):
-        """A request with its repeats until a moment. The last interval is `most` at most."""
+        """Adds a request with its repeats until a moment. Two of them are at most `most` apart."""
         moment, interval = start, 500
         while moment < end:
             self.add("S", moment, method)
@@ -130,7 +130,7 @@ class Story:
         self.add("R", acked, "ACK")
 
     def wide_server(self):
-        """A server in more states than are followed, where the tolerance is 10 seconds."""
+        """Adds a server in more states than are followed, where the tolerance is 10 seconds."""
         self.transport, self.stays = "UDP", self.chance.random() < 0.7
         request, ringing, progress = (("R", "OPTIONS"), ("S", "OPTIONS", 180), ("S", "OPTIONS", 181))
         count = self.chance.choice([20, 33, 40])
@@ -138,7 +138,7 @@ class Story:
             self.add(letter, self.start, *rest)
 
     def spoil(self):
-        """The entries with some of them left out, moved, said twice, refused or damaged."""
+        """The entries of the story, with some of them left out, moved, said twice, refused or damaged."""
         chance, done = self.chance, []
         for one in self.entries if not self.stays else ():
             way = chance.random()
@@ -157,7 +157,7 @@ class Story:
 
 
 def damaged(chance, one):
-    """The entry with a message that is malformed, which concerns no transaction."""
+    """The entry with a message that is malformed, so that it concerns no transaction."""
     data = chance.choice([b"x", one.data.replace(b"Call-ID: c1@a\r\n", b""), one.data.replace(b"\r\nFrom", b"\nFrom"), one.data.replace(b"CSeq: 1 ", b"CSeq: x ")])
     if one.letter == "S" and not data.startswith(b"SIP") and chance.random() < 0.3:
         data = one.data.replace(b"z9hG4bK", b"z9hG4bJ") if not one.data.startswith(b"SIP") else data
@@ -165,7 +165,7 @@ def damaged(chance, one):
 
 
 def random_log(seed, number):
-    """The log with this number."""
+    """The random log with this number, by the seed."""
     chance = random.Random(f"{seed} {number}")
     is_wide = number % 50 == 0
     early, late = (10_000, 10_000) if is_wide else chance.choice([(50, 50)] * 4 + [(0, 0), (0, 100), (100, 0), (10, 10)])

@@ -1,5 +1,5 @@
-"""What the survey of a random log must be, put together from verdicts alone: of each transaction siptrace judges its own log, in which a mark stands for each
-entry of another one, and of each message that is malformed the log in which it is the only message."""
+"""What the survey of a random log must be, by verdicts alone: siptrace judges for each transaction a log in which a mark stands for each entry of another
+transaction, and for each malformed message a log in which it is the only message."""
 import os
 import re
 import select
@@ -28,7 +28,7 @@ class Program:
         pid = os.posix_spawn(self.path, [self.path, *words], os.environ, file_actions=actions)
         os.close(theirs)
         if not select.select([ours], [], [], PATIENCE)[0]:
-            os.kill(pid, signal.SIGKILL)  # it says nothing
+            os.kill(pid, signal.SIGKILL)  # the program is silent
         with open(ours, "rb") as reader:
             text = reader.read().decode("latin-1")
         return text.splitlines(), os.waitstatus_to_exitcode(os.waitpid(pid, 0)[1])
@@ -47,14 +47,14 @@ def verdict_in(line):
 
 
 def words_of(log, key, at):
-    """What a line says of a transaction that is found at an entry: role, method, branch, first and last entry."""
+    """What a line says of a transaction that is in trouble at this entry: role, method, branch, first and last entry."""
     own = [number for number, one in enumerate(log.entries[:at], 1) if key in one.keys]
     restarts = [number for number, one in enumerate(log.entries[:at], 1) if one.letter == "Z"]
     return f"{key[0]} {key[3]} z9hG4bK{key[1]} {own[0]} {max(own + restarts)}"
 
 
 def numbers_of(log):
-    """The number of each transaction, by its first entry."""
+    """The number of each transaction, in the order of their first entries."""
     numbers = {}
     for one in log.entries:
         for key in one.keys:
@@ -63,7 +63,7 @@ def numbers_of(log):
 
 
 def groups_of(log):
-    """The transactions that can be cut apart: each by itself, but two that one entry concerns."""
+    """The groups of transactions that can be cut apart: each transaction by itself, but two together that one entry concerns."""
     groups = {}
     for one in log.entries:
         joined = frozenset().union(one.keys, *(groups.get(key, ()) for key in one.keys))
@@ -72,7 +72,7 @@ def groups_of(log):
 
 
 class Expected:
-    """What is known of a random log by verdicts: the entry at which each transaction is in trouble, and the word for it."""
+    """What verdicts tell of a random log: the entry at which each transaction is in trouble, and the word for its trouble."""
 
     def __init__(self, judge, log):
         self.judge, self.log, self.numbers = judge, log, numbers_of(log)
@@ -96,7 +96,8 @@ class Expected:
             self.look_behind(group, found, int(words[1]))
 
     def look_behind(self, group, found, at):
-        """Of a CANCEL and its INVITE the verdict tells the first alone. The CANCEL's own transaction is that of any other method."""
+        """Looks for the second trouble of a group: of a CANCEL and its INVITE the verdict tells only the first. The CANCEL's own transaction is
+        that of a method other than INVITE."""
         for key in group - {found}:
             if key[3] == "CANCEL":
                 own = [one._replace(data=CANCEL.sub(b"CANCEX", one.data), keys=one.keys[:1]) if one.keys[:1] == (key,) else one.mark() if one.letter != "Z" else one
@@ -119,7 +120,7 @@ class Expected:
         return f"end entries {len(self.log.entries)} transactions {len(self.numbers)} findings {findings}"
 
     def lines(self, said):
-        """The lines of the survey. Of a transaction that no verdict tells of it takes what is said, where that can be."""
+        """The lines of the survey. Where no verdict tells of a transaction, the line that the survey says is taken, if it can be right."""
         found = [((number, 0, 0), line) for number, line in self.faults()]
         for key, at in self.unknown.items():
             told = [line.split() for line in said if line.split()[2:4] == ["transaction", str(self.numbers[key])]]
@@ -132,14 +133,14 @@ class Expected:
 
 
 def by_branch(log, lines):
-    """The lines of a survey by the branch of what they name, each with its key in place of its number."""
+    """The lines of a survey by the branch that they name, with the key of a transaction in place of its number."""
     keys = {number: key for key, number in numbers_of(log).items()}
     found = defaultdict(list)
     for line in lines[:-1]:
         word, entry, rest = line.split(" ", 2)
         key = None if word == "malformed" else keys[int(rest.split()[1])]
         branch = log.entries[int(entry) - 1].branch if key is None else key[1]
-        # in a part the numbers are others: those of one entry may stand in another order
+        # In a part the numbers are others, so that the lines of one entry may stand in another order.
         found[branch].append((int(entry), word, rest if key is None else (key, rest.split(" ", 2)[2])))
     return {branch: sorted(it, key=str) for branch, it in found.items()}
 
@@ -158,8 +159,8 @@ def share_of(key, count):
 
 
 def shares_faults(surveyor, told, log, lines, count):
-    """What does not hold of the surveys of the parts of a log, beside that of the whole: each finding of a transaction is told by its part, under
-    the number that it has among those of the part, and each malformed message by one part."""
+    """The faults of the surveys of the parts of a log, beside that of the whole: each finding of a transaction has to be told by its part, under its number
+    among the transactions of the part, and each malformed message by one part."""
     keys, wanted, malformed = sorted(numbers_of(log), key=numbers_of(log).get), defaultdict(list), []
     ranks = {key: [share_of(it, count) for it in keys[:at + 1]].count(share_of(key, count)) for at, key in enumerate(keys)}
     for line in lines[:-1]:
@@ -178,7 +179,7 @@ def shares_faults(surveyor, told, log, lines, count):
 
 
 def faults_of(judge, surveyor, number, log):
-    """What does not hold of a log's survey, and how many findings it has."""
+    """The faults of a log's survey, and how many findings it has."""
     lines, status = surveyor.says(log.bytes())
     told = f"random log {number}"
     if not lines:
@@ -202,7 +203,7 @@ def faults_of(judge, surveyor, number, log):
 
 
 def check_random(job):
-    """Checks the random logs with these numbers: what does not hold, and what was found by word."""
+    """Checks the random logs with these numbers: what does not hold, and how often each word was found."""
     siptrace, sipsurvey, seed, numbers = job
     judge, surveyor = Program(siptrace), Program(sipsurvey)
     told, faults = defaultdict(int), []

@@ -38,17 +38,17 @@ def run(words, folder):
     return subprocess.run(words, cwd=folder, **how)
 
 
-# The functions of a crate.
+# What follows finds the functions of a crate.
 
 
 def blank(text):
-    """Returns the text with spaces for what stands in comments, strings and characters, so that its braces can be counted."""
+    """Returns the text with blanks in place of what stands in comments, strings and characters, so that its braces can be counted."""
     skipped = r'//[^\n]*|/\*.*?\*/|b?"(?:\\.|[^"\\])*"|b?\'(?:\\[^\']+|[^\\\'\n])\''
     return re.sub(skipped, lambda it: re.sub(r"[^\n]", " ", it[0]), text, flags=re.S)
 
 
 def close_of(plain, at):
-    """Returns the place behind the brace that closes the one at this place."""
+    """Returns the place after the brace that closes the one at this place."""
     depth = 0
     for it in re.finditer(r"[{}]", plain[at:]):
         depth += 1 if it[0] == "{" else -1
@@ -58,8 +58,8 @@ def close_of(plain, at):
 
 
 def impl_of(head):
-    """Returns how a check writes an impl: its type, its trait, and what the trait is given, as in FailureFromBroken. Of an impl for every type that
-    keeps some bounds the type is Any, as in AnyMachine."""
+    """Returns how a check writes an impl: its type, its trait, and what the trait is given, as in FailureFromBroken. The type is Any where the impl is for
+    every type that keeps some bounds, as in AnyMachine."""
     given = re.match(r"\s*<([^{]*?)>\s+(?=\w)", head)
     head = head[given.end() :] if given else head
     head = re.split(r"\bwhere\b", head)[0]
@@ -100,7 +100,7 @@ def functions(path, text, types):
     found = []
     for it in re.finditer(r"\bfn\s+(\w+)", plain):
         brace, at = None, it.end()
-        # the semicolon of an array's type ends nothing
+        # The semicolon in the type of an array ends nothing.
         while brace := re.compile(r"\{|;(?! *\w+ *\])").search(plain, at):
             # the braces of a clause stand behind its word, and perhaps its name
             if brace[0] == ";" or not re.search(r"\b(requires|ensures|decreases|ghost)\b\*?[ \w]*$", plain[at : brace.start()]):
@@ -164,19 +164,19 @@ class Edit:
 
     def holder(self, crate, found, path, old, new):
         text = read(f"{crate.folder}/{path}")
-        # a pair may change what the pair before it put there
+        # A pair may change what the pair before it put there.
         if text.count(old) != 1:
             return None
-        # what both texts begin and end with stays as it is: an old text may name the function whose body it changes
+        # What both texts begin and end with stays as it is: an old text may name the function whose body it changes.
         start = text.find(old) + len(os.path.commonprefix([old, new]))
         end = max(start, text.find(old) + len(old) - len(os.path.commonprefix([old[::-1], new[::-1]])))
         holds = [it for it in found if it.path == path and it.body < start and end < it.end]
         holds = min(holds, key=lambda it: it.end - it.body, default=None)
-        # what a const fn gives may stand in a type or in a constant of others
+        # The value of a const fn may stand in a type or in a constant, so that its edit changes more than a body.
         return None if not holds or holds.is_const else holds
 
     def bodies(self, crate):
-        """Returns the body that each function gets, with its braces, or none where it changes something else too."""
+        """Returns the body that each function gets, with its braces, or None where the edit changes something else too."""
         bodies = {}
         for function in set(self.holders) if None not in self.holders else ():
             text, longer = read(f"{crate.folder}/{function.path}"), 0
@@ -187,7 +187,7 @@ class Edit:
         return bodies
 
 
-# The crates.
+# What follows is of the crates.
 
 
 class Kit:
@@ -228,7 +228,7 @@ class Crate:
         return [Edit(self, f"{at}/{name}", found) for at in folders for name in sorted(os.listdir(at)) if name.endswith(".edit")]
 
     def build(self):
-        """Proves and builds what has changed in this crate and below it, and returns the first crate that is not proved as it stands."""
+        """Proves and builds what has changed in this crate and below it. Returns the first crate that is not proved as it stands, or None."""
         proves = lambda it: not run(["rt", "check" if it == self.name else "lib"], f"{TOP}/crates/{it}").returncode
         return next((it for it in [*self.below, self.name] if not proves(it)), None)
 

@@ -35,11 +35,11 @@ class Judge:
         return self.ask(b"%s %d %d\n%s\n" % (letter.encode(), moment, len(text), text))
 
     def mark(self, moment):
-        """The answer to a mark, by which all was done that was due before the moment."""
+        """The answer to a mark: the log has reached the moment, so that all that was due before it has been done or is missing."""
         return self.ask(b"M %d\n" % moment)
 
     def end(self):
-        """The verdict on the entries, or none where it was told before."""
+        """The verdict on the entries, or None where it was told before."""
         self.process.stdin.close()
         said = self.process.stdout.read().decode().rstrip("\n")
         self.process.stdout.close()

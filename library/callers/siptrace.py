@@ -65,15 +65,15 @@ class Siptrace:
         self.seed = Seed.from_buffer_copy(os.urandom(ctypes.sizeof(Seed)))
 
     def judge(self, log):
-        """The verdict on the log of these bytes. Raises MemoryError where memory was refused."""
+        """The verdict on the log of these bytes. Raises MemoryError where memory is wanting."""
         verdict = Verdict()
-        # A c_char_p of bytes is not null, and has their length.
+        # A c_char_p made of bytes is not null, and points to as many bytes as the log has.
         if self.library.siptrace_judge(log, len(log), self.seed, verdict) != ANSWERED:
             raise MemoryError
         return verdict
 
     def survey(self, log):
-        """The findings of the log of these bytes, and what the survey came to. Raises MemoryError where memory was refused."""
+        """The findings of the log of these bytes, and the summary of the survey. Raises MemoryError where memory is wanting."""
         summary = Summary()
         # Few logs have many findings: where this room is too small, the call says how much is wanted.
         room, status = 4, NO_ROOM

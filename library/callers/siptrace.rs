@@ -1,5 +1,5 @@
 //! The calls of libsiptrace, and what they answer in the words of the programs.
-// Each program calls one of them.
+// Each program that includes this file calls one of its functions.
 #![allow(dead_code)]
 
 use std::{fs, io, io::Read};
@@ -46,7 +46,7 @@ unsafe extern "C" {
     fn siptrace_survey(log: *const u8, length: usize, seed: &Seed, findings: *mut Verdict, room: usize, summary: &mut Summary) -> u32;
 }
 
-/// The verdict on a log, or none where memory was refused.
+/// The verdict on a log, or None where memory is wanting.
 pub fn judge(log: &[u8], seed: &Seed) -> Option<Verdict> {
     let mut verdict = Verdict::default();
     // The pointer of a slice is not null and has its length, and the verdict is borrowed by nobody else.
@@ -54,7 +54,7 @@ pub fn judge(log: &[u8], seed: &Seed) -> Option<Verdict> {
     (status == ANSWERED).then_some(verdict)
 }
 
-/// The findings of a log and what they came to, or none where memory was refused.
+/// The findings of a log and their summary, or None where memory is wanting.
 pub fn survey(log: &[u8], seed: &Seed) -> Option<(Vec<Verdict>, Summary)> {
     let mut summary = Summary::default();
     // Few logs have many findings: where this room is too small, the call says how much is wanted.
@@ -111,7 +111,7 @@ pub fn text(verdict: &Verdict) -> String {
     }
 }
 
-/// The last line of a survey.
+/// The last line of a survey, as the program sipsurvey writes it.
 pub fn last_line(summary: &Summary) -> String {
     if summary.end == END_OF_LOG {
         return format!("end entries {} transactions {} findings {}", summary.entries, summary.transactions, summary.findings);

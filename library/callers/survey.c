@@ -1,13 +1,13 @@
 /* Surveys the log in each file that it is given, by libsiptrace, and writes the lines that the program sipsurvey writes, without the words for a transaction after its number. */
 #include "telling.h"
 
-/* A survey that a call has made: its findings, which are taken from malloc, and what it came to. */
+/* A survey that a call has made: its findings, whose memory comes from malloc, and its summary. */
 struct survey {
   struct siptrace_verdict *findings;
   struct siptrace_summary summary;
 };
 
-/* Whether there was memory for all. Few logs have many findings: where the first room is too small, the call says how much is wanted. */
+/* Makes a survey, and answers whether there was memory. Few logs have many findings: where the first room is too small, the call says how much is wanted. */
 static int make_survey(const uint8_t *log, size_t length, const struct siptrace_seed *seed, struct survey *survey) {
   uint32_t status = SIPTRACE_NO_ROOM;
   for (size_t room = 4; status == SIPTRACE_NO_ROOM; room = survey->summary.findings) {

@@ -1,4 +1,4 @@
-/* What the callers in C have alike: the bytes of a file, a seed, and a verdict or a finding in the words of the programs. */
+/* What the callers in C share: the bytes of a file, a seed, and a verdict or a finding in the words of the programs. */
 #ifndef TELLING_H
 #define TELLING_H
 
@@ -41,7 +41,7 @@ static void print_verdict(const struct siptrace_verdict *verdict) {
   }
 }
 
-/* The bytes of a file, or NULL. */
+/* Reads the bytes of a file; NULL where it cannot. */
 static uint8_t *read_all(const char *path, size_t *length) {
   FILE *file = fopen(path, "rb");
   if (!file) return NULL;
@@ -69,7 +69,7 @@ static uint8_t *read_all(const char *path, size_t *length) {
   return bytes;
 }
 
-/* Whether the seed is filled with random bytes of the system. */
+/* Fills the seed with random bytes of the system, and answers whether it could. */
 static int fill_seed(struct siptrace_seed *seed) { return getrandom(seed->bytes, sizeof seed->bytes, 0) == sizeof seed->bytes; }
 
 #endif

@@ -1,7 +1,8 @@
 """The program as one asks it: short logs in, verdicts out.
 
-A question is a log of one transaction: its history, which is what it did up to some moment, and entries after it. The log is possible where the
-program finds no breach in it.
+A question is a log of one transaction: its history, which is what it did up to some moment, and entries after the history. The log is possible where
+the program finds no breach in it.
+
 """
 import hashlib
 import os
@@ -14,8 +15,8 @@ import time
 from sip_lines import die, entry, program
 
 LAST = 9_999_999_999_999  # the last moment that a log can tell
-MOST_WRITTEN = 1 << 30  # bytes in one call
-LENGTHS = (200, 32_000)  # milliseconds of RFC 3261 by which moments may lie apart, beside those of the header
+MOST_WRITTEN = 1 << 30  # how many bytes of input are written in one call
+LENGTHS = (200, 32_000)  # in milliseconds: times of RFC 3261 by which moments may lie apart, beside those of the header
 NUMBERS_OF_ENTRIES = ("request", "last", "final")  # what the listing of states names by the number of an entry
 
 
@@ -25,18 +26,18 @@ def is_script(name):
 
 
 def program_of(script):
-    """The program that a script becomes. It is seen while it waits for its input."""
+    """The program that a script becomes. It is looked up while it waits for its input."""
     waiting = subprocess.Popen([script], stdin=subprocess.PIPE, stdout=subprocess.DEVNULL)
     found = script
     while waiting.poll() is None and not os.path.basename(found).startswith("siptrace-"):
         time.sleep(0.005)
         try:
             found = os.readlink("/proc/%d/exe" % waiting.pid)
-        except OSError:  # it has ended
+        except OSError:  # the process has ended
             break
     waiting.stdin.close()
     if waiting.wait() == 70:
-        sys.exit(70)  # it has said why
+        sys.exit(70)  # the script has said why it found no program
     return found
 
 
@@ -54,12 +55,12 @@ def sum_of(name):
 
 
 def is_possible(words):
-    """Whether these are the words of a verdict that finds no breach. Where the program is undecided it has found none."""
+    """Whether these words of a verdict find no breach. Where the program is undecided it has found none."""
     return words[0] in ("legal", "undecided")
 
 
 class Judge:
-    """The program, asked about logs that are held in memory. Each log is asked once."""
+    """The program, which is asked about logs that are held in memory. Each log is asked about once."""
 
     def __init__(self, name=None):
         self.name = name or real_program()
@@ -67,7 +68,7 @@ class Judge:
         self.answers, self.asked, self.undecided = {}, 0, 0
 
     def put(self, log):
-        """Makes these bytes the standard input of what is run next."""
+        """Makes these bytes the standard input of the program that is run next."""
         self.file.seek(0)
         self.file.truncate()
         for begin in range(0, len(log), MOST_WRITTEN):
@@ -75,7 +76,7 @@ class Judge:
         self.file.seek(0)
 
     def run(self, log, *words):
-        """What the program says to this standard input and these words, and its status."""
+        """What the program says, with this standard input and these words, and its status."""
         self.asked += 1
         self.put(log)
         ours, theirs = os.pipe()
@@ -89,7 +90,7 @@ class Judge:
             text = reader.read().decode("latin-1")
         status = os.waitstatus_to_exitcode(os.waitpid(pid, 0)[1])
         if status not in (0, 1, 2, 3):
-            sys.exit(status if status > 0 else 70)  # it has said why on standard error
+            sys.exit(status if status > 0 else 70)  # the program has said why on standard error
         return text.rstrip("\n"), status
 
     def verdict(self, log):
@@ -109,20 +110,20 @@ class Judge:
 
 
 def log_of(times, entries):
-    """A log of these entries (letter, moment, bytes). One with restarts is of format 2."""
+    """A log of these entries, each (letter, moment, bytes). A log with restarts is of format 2."""
     if any(one[0] == "Z" for one in entries):
         times = times._replace(format=2)
     return times.header() + b"".join(entry(*one) for one in entries)
 
 
 class History:
-    """What one transaction did up to some moment: entries (letter, moment, bytes), each of that transaction or a restart."""
+    """What one transaction did up to some moment. Each entry (letter, moment, bytes) is of that transaction, or a restart."""
 
     def __init__(self, judge, times, role, method, entries):
         self.judge, self.times, self.role, self.method, self.entries = judge, times, role, method, entries
         self.prefix = log_of(times, entries)
         self.last = entries[-1][1] if entries else 0
-        self.kept = {}  # what was found once
+        self.kept = {}  # answers that were found, each of them once
 
     def allows(self, *more):
         """Whether the history with these entries after it is possible."""
@@ -134,7 +135,7 @@ class History:
         return self.allows(("M", moment, b""))
 
     def states(self):
-        """The states after its last entry, as the program lists them."""
+        """The states after the last entry of the history, as the program lists them."""
         if "states" not in self.kept:
             found, is_mine = [], False
             for line in self.judge.listing(self.prefix, len(self.entries)) if self.entries else []:
@@ -156,7 +157,7 @@ class History:
         return moments, intervals, deadlines
 
     def points(self):
-        """The moments from the last entry on at which an answer may change, ascending. They are guesses, each of which is asked."""
+        """The moments from the last entry on at which an answer may change, ascending. They are guesses, and the program is asked about each."""
         if "points" not in self.kept:
             moments, intervals, deadlines = self.numbers_of_states()
             lengths = {0, *LENGTHS, 64 * self.times.t1, self.times.t4} | intervals
@@ -166,21 +167,21 @@ class History:
         return self.kept["points"]
 
     def last_wait(self):
-        """The last moment up to which it can be silent, or None where it can be so for ever."""
+        """The last moment up to which the transaction can be silent, or None where it can be silent for ever."""
         if "last_wait" not in self.kept:
             self.kept["last_wait"] = None if self.can_wait(LAST) else last_true(self.can_wait, self.points(), LAST)
         return self.kept["last_wait"]
 
     def is_over_by(self, moment):
-        """Whether it cannot have been silent up to this moment."""
+        """Whether the transaction cannot have been silent up to this moment."""
         return self.last_wait() is not None and self.last_wait() < moment
 
     def end(self):
-        """The last moment that is asked about: after the last moment of silence there is nothing to ask."""
+        """The last moment that is asked about. After the last moment of silence there is nothing to ask."""
         return LAST if self.last_wait() is None else self.last_wait()
 
     def windows(self, is_right, last=None, samples=0):
-        """The windows [a, b] of moments from the last entry to `last` at which a question is answered yes."""
+        """The windows [a, b] of moments, from the last entry to `last`, at which `is_right` answers yes."""
         last = self.end() if last is None else last
         points = [moment for moment in self.points() if moment <= last] or ([self.last] if self.last <= last else [])
         return windows_of(is_right, points, last, samples)
@@ -191,16 +192,16 @@ class History:
 
 
 def last_true(is_right, points, beyond):
-    """The last moment of a yes that turns to no for good: yes at points[0], no at `beyond`."""
+    """The last moment of a yes that turns to a no for good: it is yes at points[0], and no at `beyond`."""
     low, high = 0, len(points)
-    while high - low > 1:  # yes at points[low]; no at points[high], or it is beyond
+    while high - low > 1:  # yes at points[low]; no at points[high], unless that lies beyond
         middle = (low + high) // 2
         low, high = (middle, high) if is_right(points[middle]) else (low, middle)
     return edge(is_right, points[low], points[high] if high < len(points) else beyond)
 
 
 def edge(is_right, one, other):
-    """The last moment with the answer of `one`, where that at `other` differs. It is asked first where it is likely: just before `other`."""
+    """The last moment with the answer of `one`, where `other` has another answer. The moment just before `other` is asked first, since it is likely."""
     answer = is_right(one)
     if is_right(other - 1) == answer:
         return other - 1
@@ -211,7 +212,7 @@ def edge(is_right, one, other):
 
 
 def windows_of(is_right, points, last, samples=0):
-    """The windows of yes from points[0] to `last`: asked at each point, at both sides of each edge, and between some of the points."""
+    """The windows of yes from points[0] to `last`. Each point is asked, both sides of each edge, and moments between some of the points."""
     between = [one + (other - one) // 2 for one, other in list(zip(points, points[1:] + [last]))[:samples] if other - one > 2]
     points = sorted({*points, *between, last}) if points else []
     windows, start = [], None

@@ -1,4 +1,4 @@
-"""A breach as it is asked about: the history of its transaction, the entry after which no run is left, and the messages that may matter."""
+"""A breach as the program is asked about it: the history of its transaction, the entry after which no run is left, and the messages that may matter."""
 from sip_lines import cseq, is_response, method_of
 
 from .asking import LAST, History
@@ -17,12 +17,12 @@ def restart(moment):
 
 
 def told(windows):
-    """Windows as they are written: the last moment of a log is no end."""
+    """Windows as they are written: a window up to the last moment of a log is one without an end."""
     return [[first, None if last == LAST else last] for first, last in windows]
 
 
 class Candidate:
-    """A message about which it is asked: what it is in words, its bytes, its letter, and the entry whose bytes it has or which it answers."""
+    """A message about which the program is asked: what it is in words, its bytes, its letter, and the entry whose bytes it has or which it answers."""
 
     def __init__(self, what, data, letter="S", of=None):
         self.what, self.data, self.letter, self.of = what, data, letter, of
@@ -35,12 +35,12 @@ class Candidate:
 
 
 def sent_as(one):
-    """The message of an entry, as one that is asked about."""
+    """The message of an entry, as one about which the program is asked."""
     return Candidate("entry %d's %s" % (one.number, short(one.data)), one.data, one.letter, one.number)
 
 
 def each_once(entries):
-    """The entries with a message that none before them has, the newest first."""
+    """The entries whose message no entry before them has, the newest first."""
     first = {}
     for one in entries:
         first.setdefault(one.data, one)
@@ -57,7 +57,7 @@ class Case:
         self.is_invite = self.method == b"INVITE"
         own = [one for one in found.entries if one.letter == "Z" or found.key in keys_or_none(one.letter, one.data)]
         begin = next((place for place, one in enumerate(own) if one.data), len(own))
-        own = own[begin:]  # a restart before its first message changes nothing
+        own = own[begin:]  # a restart before the first message of the transaction changes nothing
         self.before = [one for one in own if one.number < at]
         self.after = [one for one in own if one.number > at]
         self.breach = next((one for one in own if one.number == at), None)
@@ -69,8 +69,8 @@ class Case:
         self.kept = {}
 
     def asked_about(self):
-        """The history before the breach. A CANCEL is a step of two transactions. So in a history of its INVITE's the first one stands as a send that was
-        refused: that ends its own transaction, and is the same to the INVITE's. Later ones are left out, and all where the breach is a CANCEL."""
+        """The history before the breach. A CANCEL is a step of two transactions: in a history of its INVITE's the first CANCEL stands as a send that was
+        refused, which ends the CANCEL's own transaction and changes nothing for the INVITE's. Later CANCELs are left out, and all where the breach is one."""
         if self.role == "client" and self.is_invite:
             cancels = [one for one in self.before if one.letter in ("S", "F") and is_request(one.data, b"CANCEL")]
             for one in cancels:
@@ -87,12 +87,12 @@ class Case:
         return self.letters.get(one.number, one.letter), one.moment, one.data
 
     def is_shown(self):
-        """Whether the program says of the history that it is possible, and that it is a breach with the stop after it."""
+        """Whether the program says that the history is possible, and that it is a breach with `stop` after it, which shows the breach."""
         history = self.history
         return (not history.entries or history.can_wait(history.last)) and not history.allows(self.stop)
 
     def own_from_breach(self):
-        """Its entries from that of the breach on."""
+        """The transaction's entries, from that of the breach on."""
         return ([self.breach] if self.breach is not None else []) + self.after
 
     def sends_from_breach(self):
@@ -102,15 +102,15 @@ class Case:
         return next((one for one in self.before if one.data and is_request(one.data, self.method)), None)
 
     def sent(self):
-        """Each message that it sent, by the first entry that has it, the newest first."""
+        """Each message that the transaction sent, by the first entry that has it, the newest first."""
         return each_once([one for one in self.before if one.letter in ("S", "F")])
 
     def refusals(self):
-        """Each 3xx to 6xx that a client received, the newest first."""
+        """Each response from 300 to 699 that a client received, the newest first."""
         return each_once([one for one in self.before if one.letter == "R" and is_response(one.data) and code(one.data) >= 300])
 
     def candidates(self):
-        """The messages that it may have to send: what it sent before, the ACKs of what it received, a new response."""
+        """The messages that the transaction may have to send: what it sent before, the ACKs of what it received, a new response."""
         if "candidates" not in self.kept:
             self.kept["candidates"] = list(self.of_client() if self.role == "client" else self.of_server())
         return self.kept["candidates"]
@@ -135,7 +135,7 @@ class Case:
                 yield Candidate("%s %s" % ("another" if responses else "a first", kind), response_to(asked.data, made))
 
     def could_come(self):
-        """The messages that it may have received, of which a trace may lack one."""
+        """The messages that the transaction may have received, of which a trace may lack one."""
         asked = self.first_request()
         if asked is None:
             return
@@ -152,7 +152,7 @@ class Case:
             yield Candidate(kind, response_to(asked.data, made), "R")
 
     def act_of(self, data):
-        """What a send is, in the words of the table of rules."""
+        """The name of a send in the table of rules."""
         if self.role == "client":
             method = method_of(data)
             return "ack" if method == b"ACK" else "cancel" if method == b"CANCEL" else "request again"
@@ -163,5 +163,5 @@ class Case:
         return "response again" if data in responses or alike else "another response" if responses else "first response"
 
     def was_asked(self):
-        """Whether a request came in before, other than an ACK."""
+        """Whether a request other than ACK came in before the breach."""
         return any(one.letter == "R" and not is_response(one.data) and not is_request(one.data, b"ACK") for one in self.before)

@@ -16,22 +16,22 @@ from .rules import rule_for
 from .sentences import of_breach, of_log_fault, of_malformed, of_undecided
 
 FORMAT = 1
-MOST_HEADER = 200  # bytes
+MOST_HEADER = 200  # the longest header, in bytes
 
 
 def checked(judge, name):
-    """The program's answer to the log in a file, its status, and the index of the log, which is made meanwhile. A file without a header has none."""
+    """The program's answer to the log in a file, its status, and the index of the log, which is made meanwhile. A file without a header has no index."""
     asked = subprocess.Popen([judge.name, "check", name], stdout=subprocess.PIPE)
     judge.asked += 1
     index = index_beside(name, lambda: asked.poll() is not None) if has_header(name) else None
     verdict = asked.communicate()[0].decode("latin-1").strip()
     if asked.returncode not in (0, 1, 2, 3):
-        raise SystemExit(asked.returncode if asked.returncode > 0 else 70)  # it has said why on standard error
+        raise SystemExit(asked.returncode if asked.returncode > 0 else 70)  # the program has said why on standard error
     return verdict, asked.returncode, index
 
 
 def has_header(name):
-    """Whether it is a file, which can be read twice, and begins as a log."""
+    """Whether this is a file, which can be read twice, and begins as a log does."""
     if not os.path.isfile(name):
         return False
     try:
@@ -42,7 +42,7 @@ def has_header(name):
 
 
 def evidence_of(name, side):
-    """All that is told of the log with this name."""
+    """All evidence for the verdict on the log with this name."""
     judge = Judge()
     verdict, status, index = checked(judge, name)
     told = {"format": FORMAT, "word": verdict.split(" ")[0], "verdict": verdict, "status": status, "log": name,
@@ -99,7 +99,7 @@ def found_in(index, at, number):
 
 
 def breach(judge, index, at, number, side):
-    """What is told of a breach."""
+    """The evidence of a breach."""
     found = found_in(index, at, number)
     case = Case(judge, found, at, number)
     if not case.is_shown():
@@ -126,7 +126,7 @@ def row_of(one, before, again, side, line):
 
 
 def rows_of(case, facts, side):
-    """The entries of the transaction up to that of the breach, or up to the one that came too late."""
+    """The rows of the transaction's entries, up to that of the breach, or up to the one that came too late."""
     entries = list(case.before) + [case.breach or case.found.entry(case.at)]
     late = facts["sent"]["entry"] if facts["kind"] == "too late" else case.at
     entries += [one for one in case.after if case.at < one.number <= late]
@@ -149,6 +149,6 @@ def branch_up_to_breach(case):
 
 
 def repeat_of(judge, times, entries):
-    """A log of these entries, and the program's answer to it."""
+    """A log of these entries, and the program's answer to it: with them the verdict can be shown again."""
     log = log_of(times, [one[1:] for one in entries])
     return {"log": latin(log), "verdict": " ".join(judge.verdict(log)), "numbers": [one.number for one in entries]}

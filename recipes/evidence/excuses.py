@@ -1,19 +1,19 @@
-"""What would excuse a breach: each question changes the log or its header, and asks again. A yes is to be settled before the evidence is sent."""
+"""What would excuse a breach: each question changes the log or its header and asks the program again. A yes has to be settled before the evidence is sent."""
 from sip_lines import MOST_TOLERANCE, is_response
 
 from .asking import is_possible, log_of
 from .case import mark, restart
 from .messages import latin, request_for
 
-SKEW = 3  # milliseconds within which a trace may have two entries the wrong way round
+SKEW = 3  # in milliseconds: so close to each other two entries may stand the wrong way round
 COPY = 50  # milliseconds within which a copy of a message may be the trace's
 LATER_T1 = (1000, 2000)
 EARLIER_SENDS = range(1, 6)
-GAPS = 6  # of the history, in which a message may be missing
+GAPS = 6  # in how many places of the history a message may be missing
 
 
 class Excuses:
-    """The questions of one breach, and their answers."""
+    """The questions of one breach, with their answers."""
 
     def __init__(self, case, facts):
         self.case, self.facts, self.kind = case, facts, facts["kind"]
@@ -32,7 +32,7 @@ class Excuses:
         return is_possible(self.case.judge.verdict(log_of(times or self.case.times, [*entries, closing])))
 
     def add(self, question, short_form, words, change, end=None):
-        """Notes an answer; `end` asks whether it holds to the end too."""
+        """Notes the answer to a question. `end` asks whether the answer holds up to the last moment that was read."""
         helps = is_possible(words)
         self.rows.append({"question": question, "short": short_form, "helps": helps, "to_the_end": end() if end and helps else None,
                           "is_undecided": words[0] == "undecided", "change": change})
@@ -52,12 +52,12 @@ class Excuses:
             self.header("Was it built before RFC 6026, by RFC 3261 alone (rules 3261)?", "rules 3261", rules=3261)
 
     def tolerance(self):
-        """The least tolerance on the side of the breach. What never came has none: only a longer log could tell when it came."""
+        """Asks for the least tolerance on the side of the breach. What never came has none: only a longer log could tell when it came."""
         case = self.case
         if self.kind in ("never came", "not begun"):
             return None
         sides = {"too early": ["early"], "too late": ["late"]}.get(self.kind, ["early", "late"])
-        last = self.facts["sent"]["entry"] if self.kind == "too late" else 0  # where it came after the entry of the breach, it is asked up to there
+        last = self.facts["sent"]["entry"] if self.kind == "too late" else 0  # where it came after the entry of the breach, it is asked about up to there
         rest = [one for one in case.own_from_breach() if case.at < one.number <= last]
         entries = [*self.history, case.stop, *[one[1:] for one in rest]]
 
@@ -81,7 +81,7 @@ class Excuses:
         return self.case.history.is_over_by(self.case.moment)
 
     def lacking(self):
-        """Whether a message that came in would excuse it. A trace may lack one."""
+        """Asks whether a message that came in, and that the trace lacks, would excuse the breach."""
         case = self.case
         if self.kind == "not begun":
             made = request_for(case.breach.data)
@@ -91,11 +91,11 @@ class Excuses:
         gaps = list(self.gaps())
         for one in case.could_come():
             if one.what == "a 2xx" and self.rows[-1]["helps"] and "a provisional" in self.rows[-1]["question"]:
-                continue  # what a provisional response excuses, a 2xx does too
+                continue  # a 2xx excuses what a provisional response does
             self.lacks(one, gaps)
 
     def gaps(self):
-        """Where a message that came in may be missing: places in the history and moments, the last ones first."""
+        """The places of the history, with moments, at which a message that came in may be missing. The last places come first."""
         moments = [moment for _, moment, _ in self.history]
         last = self.case.history.last_wait() if self.is_silent() else self.case.moment
         for place in range(len(moments), max(0, len(moments) - GAPS), -1):
@@ -105,7 +105,7 @@ class Excuses:
                 yield place, moments[place - 1]
 
     def lacks(self, one, gaps):
-        """Whether this message, had it come in one of the gaps, would excuse it."""
+        """Whether this message would excuse the breach, had it come in at one of these places."""
         for place, moment in gaps:
             words = self.words([*self.history[:place], one.at(moment), *self.history[place:], self.case.stop])
             if is_possible(words):
@@ -118,10 +118,10 @@ class Excuses:
                  {"insert": [["R", last, latin(one.data)]]})
 
     def refused(self):
-        """Whether the transport refused the last request: an F in place of the S."""
+        """Asks whether the transport refused the last request: it is an F then, and no S."""
         case = self.case
         if case.role != "client" or any(one.letter == "R" for one in case.before):
-            return  # what was answered was not refused
+            return  # a request that was answered was not refused
         asked = case.asked()
         place = max((n for n, one in enumerate(asked) if case.letters[one.number] == "S" and not is_response(one.data)), default=None)
         if place is not None:
@@ -131,14 +131,14 @@ class Excuses:
                      self.words([*changed, case.stop]), {"letter": {str(number): "F"}})
 
     def swapped(self):
-        """Whether neighbours within SKEW ms were noted the wrong way round: one that was sent and one that came in."""
+        """Asks whether neighbours within SKEW ms were noted the wrong way round, one of them being sent and the other received."""
         case = self.case
         own = [one for one in case.before + case.own_from_breach()[:3] if case.letters.get(one.number, one.letter)]
         for one, other in list(zip(own, own[1:]))[-5:]:
             if "Z" in (one.letter, other.letter) or (one.letter == "R") == (other.letter == "R") or other.moment - one.moment > SKEW:
                 continue
             order = [entry for entry in own if entry.number <= max(case.at, other.number)]
-            # What was received first waited to be read until the other was sent; what was sent first was noted late.
+            # The received one, where it stands first, waited to be read until the other was sent. The sent one, where it stands first, was noted late.
             moment = other.moment if one.letter == "R" else one.moment
             place = order.index(one)
             order[place:place + 2] = [other._replace(moment=moment), one._replace(moment=moment)]
@@ -147,7 +147,7 @@ class Excuses:
                      {"order": [[entry.number, entry.moment] for entry in order]})
 
     def copied(self):
-        """Whether the trace saw a packet twice."""
+        """Asks whether the trace saw a packet twice."""
         case = self.case
         if not case.is_send:
             return
@@ -157,7 +157,7 @@ class Excuses:
                      "entry %d seen twice" % case.at, self.words([*self.history, mark(case.moment)]), {"drop": case.at}, lambda: self.to_the_end(without=case.at))
 
     def late_start(self):
-        """Whether sends of the same request from before the log excuse a client: its first entry was a repeat then."""
+        """Asks whether sends of the same request from before the log excuse a client: the first entry of the log was a repeat then."""
         case = self.case
         first = case.before[0] if case.before else None
         if first is None or case.role != "client" or first.letter != "S" or first.moment > 64 * case.times.t1:
@@ -175,7 +175,7 @@ class Excuses:
         self.add("Did the log begin late?", "a late start of the log", ["breach"], {"earlier": []})
 
     def restarted(self):
-        """Whether the element was started anew before the breach."""
+        """Asks whether the element was started anew before the breach."""
         case = self.case
         if case.before:
             moment = case.history.last_wait() if self.is_silent() else case.moment
@@ -184,7 +184,7 @@ class Excuses:
 
 
 def least_with(helps, low, by):
-    """The least tolerance above `low` that helps, None where none does. That by which it was off is asked first."""
+    """The least tolerance above `low` that helps, and None where none does. The program is first asked about the one by which the breach was off."""
     high = MOST_TOLERANCE
     if by is not None and low + by <= high and helps(low + by):
         high = low + by
@@ -200,7 +200,7 @@ def least_with(helps, low, by):
 
 
 def excuses_of(case, facts):
-    """The answers, and the least tolerance with which it is no breach."""
+    """The answers to all questions, and the least tolerance with which there is no breach."""
     asked = Excuses(case, facts)
     asked.times()
     least = asked.tolerance()

@@ -1,4 +1,4 @@
-"""What is told of a log that is malformed, undecided or unreadable: whose the message is, where in the line the fault is, and what takes it away, each asked."""
+"""The evidence of a log that is malformed, undecided or unreadable: whose the message is, where in the line the fault is, what takes it away; all is asked."""
 import re
 
 from sip_lines import cseq, is_response, keys_of, method_of
@@ -7,19 +7,19 @@ from .asking import log_of
 from .messages import HEAD_END, latin, lines_and_rest, name_of, with_lines, with_top_via
 from .rules import fault_told
 
-MOST_ASKED = 300  # bytes of a line whose places are asked about
-MOST_LINES = 12  # lines of a head that are shown
-MOST_THERE = 100  # bytes of a log that cannot be read
-STAGES = {1: 1, 2: 2, 3: 3, 4: 4, 5: 4, 6: 5, 7: 5, 8: 6, 9: 7, 10: 7, 11: 7, 12: 8}  # of the faults, in the order in which they are looked for
+MOST_ASKED = 300  # the longest line, in bytes, whose places are asked about
+MOST_LINES = 12  # the most lines of a head that are shown
+MOST_THERE = 100  # the most bytes that are shown of a log that cannot be read
+STAGES = {1: 1, 2: 2, 3: 3, 4: 4, 5: 4, 6: 5, 7: 5, 8: 6, 9: 7, 10: 7, 11: 7, 12: 8}  # by the number of a reason, when its fault is looked for
 NEEDED = {b"via": b"Via: SIP/2.0/UDP made.invalid;branch=z9hG4bKmade", b"from": b"From: <sip:made@example.invalid>;tag=made",
           b"to": b"To: <sip:made@example.invalid>", b"call-id": b"Call-ID: made", b"cseq": b"CSeq: 1 %s"}
 TOLERANCES = (5000, 2000, 1000, 500, 200, 100, 50, 20, 10, 5, 2, 1, 0)
-MOST_STATES = 1024  # that the program follows
-GROWTH = 6  # entries whose numbers of states are told
+MOST_STATES = 1024  # how many states the program follows
+GROWTH = 6  # of how many entries the numbers of states are told
 
 
 class Faulty:
-    """A message with a fault, as it is asked about: alone in a log, with changes."""
+    """A message with a fault, about which the program is asked alone in a log, and with changes."""
 
     def __init__(self, judge, times, one, unit, number):
         self.judge, self.times, self.one, self.number = judge, times, one, number
@@ -28,7 +28,7 @@ class Faulty:
         self.stage = STAGES[number], self.line or 0
 
     def stage_of(self, data):
-        """How far the program gets with these bytes in the message's place: the stage of the first fault and its line; None where there is no fault."""
+        """How far the program gets with these bytes in place of the message: the stage of the first fault, and its line. None where there is no fault."""
         words = self.judge.verdict(log_of(self.times, [(self.one.letter, self.one.moment, data)]))
         if words[0] != "malformed":
             return None
@@ -36,24 +36,24 @@ class Faulty:
         return STAGES[int(number)], int(words[3]) if unit == "line" else 0
 
     def is_mended(self, data, is_all):
-        """Whether these bytes lack the fault and any before it; with `is_all` any fault."""
+        """Whether these bytes have neither the fault nor one before it; with `is_all` no fault at all."""
         stage = self.stage_of(data) if data else self.stage
         return stage is None or not is_all and stage > self.stage
 
     def with_line(self, text):
-        """The message with another text, or none, in place of the line."""
+        """The message with this text in place of the line of the fault, or without the line."""
         lines = self.lines[:self.line] + ([] if text is None else [text]) + self.lines[self.line + 1:]
         return b"\r\n".join(lines) + self.rest
 
     def front(self):
-        """The length of the longest front of the line that in its place lacks the fault; None where none does."""
+        """The length of the longest front of the line that takes the fault away in place of the line, or None where none does."""
         if self.line is None or self.number == 6:
             return None
         text = self.lines[self.line]
         return next((end for end in range(min(len(text), MOST_ASKED) - 1, 0, -1) if self.is_mended(self.with_line(text[:end]), False)), None)
 
     def mended(self):
-        """A small change that takes the fault away: one after which no fault is left, or else one that leaves a later one alone."""
+        """A small change that takes the fault away: one after which no fault is left, or else one that leaves only a later fault."""
         for is_all in (True, False):
             for what, data, *at in CHANGES[self.number](self):
                 if self.is_mended(data, is_all):
@@ -108,7 +108,7 @@ def byte_told(byte):
 
 
 def malformed(judge, index, at, unit, number):
-    """What is told of a malformed message, but for its row."""
+    """The evidence of a malformed message, but for the row of its entry."""
     one = index.entry(at)
     faulty = Faulty(judge, index.times, one, unit, number)
     lines = list(enumerate(map(latin, faulty.lines)))
@@ -122,13 +122,13 @@ def malformed(judge, index, at, unit, number):
 
 
 def first_of_name(faulty):
-    """The first line with the name of the line of the fault."""
+    """The first line that has the name of the line of the fault."""
     name = name_of(faulty.lines[faulty.line])
     return next(n for n, line in enumerate(faulty.lines) if n and name_of(line) == name)
 
 
 def log_fault(index, name, at, number):
-    """What is told of an entry that cannot be read."""
+    """The evidence of an entry that cannot be read."""
     place = 0
     if at:
         place = index.places[at - 1] if at <= len(index.places) else index.place
@@ -139,7 +139,7 @@ def log_fault(index, name, at, number):
 
 
 def undecided(judge, found, at, transaction):
-    """What is told of a transaction with more states than the program follows: how their number grew, and where it would be decided."""
+    """The evidence of a transaction with more states than the program follows: how their number grew, and with which tolerance the branch is decided."""
     own = [one for one in found.entries if one.number <= at and (one.letter == "Z" or found.key in keys_of(one.letter, one.data))]
     before = own[:-1]
     growth, debts = [], 0
@@ -163,7 +163,7 @@ def states_of(listing, key):
 
 
 def decided(judge, found):
-    """The greatest smaller tolerance, of those that are asked, at which the branch is decided."""
+    """The greatest of the asked tolerances at which the branch is decided. They are smaller than that of the log."""
     for tolerance in TOLERANCES:
         if tolerance < max(found.times.early, found.times.late):
             times = found.times._replace(early=min(tolerance, found.times.early), late=min(tolerance, found.times.late), format=2)

@@ -12,16 +12,16 @@ from typing import NamedTuple
 
 from sip_lines import COOKIE, HEADER, MOST_ENTRIES, RULES, Log, branch_of, die, keys_of
 
-# An entry as nearly all are: its line, a start line, and as the first field a Via that is plain up to its branch. Then one whose Via stands after
-# other lines, none of them folded. What is of neither form is read by `keys_of`.
+# The first form is that of nearly all entries: the line of the entry, a start line, and as the first field a Via that is plain up to its branch. The second has
+# such a Via after other lines, none of which is folded. An entry of neither form is read by `keys_of`.
 LINE = rb"([SRF]) (\d+) (\d+)\n(?:SIP/2\.0 |([^ /\r\n]+) )[^\n]*\n"
 PLAIN = (rb'SIP/2\.0/[A-Za-z]+ ([^\s;:,"\[\]]+)(?::(\d{1,5}))?(?:;(?![Bb][Rr])[^\s;,"]*)*;branch=([^\s;,"]+)(?=[;\r])')
 VIA_FIRST = re.compile(LINE + rb"(?:Via|v): " + PLAIN)
 VIA_LATER = re.compile(LINE + rb"(?:(?![Vv][Ii][Aa][ \t]*:|[Vv][ \t]*:|[ \t\r])[^\r\n]*\r\n)*(?:Via|v): " + PLAIN)
 CSEQ = re.compile(rb"\nCSeq: \d+ ([!-~]+)\r\n(?![ \t])")
 ENTRY_LINE = re.compile(rb"([SRFMZ]) (\d{1,13})(?: (\d{1,5}))?\n")
-BATCH = 50_000  # entries between two looks at the program
-AHEAD = 128  # how many T1 after the breach are read
+BATCH = 50_000  # how many entries are read between two looks at the program
+AHEAD = 128  # how many T1 after the breach entries are read
 NO_BRANCH, OF_ALL = 0, 1  # the sums of a mark, and of a restart, which is every branch's
 
 
@@ -33,7 +33,7 @@ class Entry(NamedTuple):
 
 
 def keys_or_none(letter, data):
-    """What `keys_of` tells. A message that is malformed, as one after the breach may be, has no keys."""
+    """The keys that `keys_of` tells. A malformed message has none, as one after the breach may be."""
     try:
         return keys_of(letter, data)
     except (AttributeError, IndexError, ValueError):
@@ -41,13 +41,13 @@ def keys_or_none(letter, data):
 
 
 def text_of_key(key):
-    """A key as one text: role, branch, method, and of a server its sent-by."""
+    """A key as one text: role, branch, method, and for a server its sent-by."""
     role, branch, sent_by, method = key
     return b" ".join([role.encode(), branch, method, *([sent_by] if role == "server" else [])])
 
 
 def key_in(text):
-    """The key of such a text: role, branch, sent-by and method."""
+    """The key that such a text spells: role, branch, sent-by and method."""
     role, branch, method, *sent_by = text.split(b" ")
     return role.decode(), branch, b"".join(sent_by), method
 
@@ -68,7 +68,7 @@ class Index:
     """Where each entry of a log begins, of which branch it is, and the keys in the order in which they first appear."""
 
     def __init__(self, name, malformed=frozenset()):
-        """`malformed` are the numbers of entries whose messages are: they concern no transaction."""
+        """`malformed` has the numbers of the entries with malformed messages, which concern no transaction."""
         self.times, self.malformed = Log(name).times, malformed
         self.text = mapped(name)
         self.places, self.moments, self.branches, self.keys = array("Q"), array("Q"), array("q"), {}
@@ -80,7 +80,7 @@ class Index:
         return rules.end() if rules else end
 
     def read(self, most=BATCH):
-        """Reads up to so many entries more. Answers whether there may be others. All that a large log costs is this loop, so it is flat."""
+        """Reads up to `most` entries more. Answers whether there may be others. All that a large log costs is this loop, so that it calls little."""
         text, size, place, keys = self.text, len(self.text), self.place, self.keys
         first, later, cseq_in = VIA_FIRST.match, VIA_LATER.match, CSEQ.search
         add_place, add_moment, add_branch = self.places.append, self.moments.append, self.branches.append
@@ -103,14 +103,14 @@ class Index:
                     key = b"client " + branch + b" " + method
                 else:
                     key = b"server %b %b %b:%d" % (branch, method, host.lower(), int(port or 5060))
-                if method == b"CANCEL" or not method:  # a CANCEL that was sent is of two keys
+                if method == b"CANCEL" or not method:  # a CANCEL that was sent has two keys
                     found = None
                 elif key not in keys:
                     if stop < size and branch.startswith(COOKIE):
                         keys[key] = len(keys) + 1
                     else:
                         found = None
-                of_branch = hash(branch) | 2  # as sum_of_branch, without a call
+                of_branch = hash(branch) | 2  # what sum_of_branch answers, without a call
             if not found:
                 of_branch, moment, stop = self.odd_entry(place)
             if stop >= size:
@@ -122,7 +122,7 @@ class Index:
         return place < size and len(self.places) < MOST_ENTRIES
 
     def odd_entry(self, place):
-        """The branch, the moment and the end of an entry that is not plain. One that cannot be read has no end before that of the log."""
+        """The branch, the moment and the end of an entry that is not plain. An entry that cannot be read ends where the log does."""
         found = ENTRY_LINE.match(self.text, place)
         letter, moment, length = found.groups() if found else (b"", 0, None)
         if not found or (letter in b"MZ") is (length is not None):
@@ -132,12 +132,12 @@ class Index:
         stop = found.end() + int(length)
         data = self.text[found.end():stop]
         keys = [] if len(self.places) + 1 in self.malformed else keys_or_none(letter.decode(), data)
-        for key in keys:  # counted as the program does
+        for key in keys:  # keys are numbered as the program numbers them
             self.keys.setdefault(text_of_key(key), len(self.keys) + 1)
         return sum_of_branch(branch_of(data) or b"\n%d" % place), moment, stop
 
     def key_of(self, number):
-        """Role, branch, sent-by and method of the transaction with this number; None where there is none."""
+        """Role, branch, sent-by and method of the transaction with this number, or None where there is none."""
         text = next(islice(self.keys, number - 1, None), None)
         return None if text is None else key_in(text)
 
@@ -158,7 +158,7 @@ class Index:
         return [one for one in mine if one.letter == "Z" or branch_of(one.data) == branch]
 
     def mentions(self, text, after, most, reach):
-        """The numbers of up to `most` entries in which a text stands, of the `reach` ones after entry `after`."""
+        """The numbers of up to `most` entries in which a text stands, among the `reach` entries after entry `after`."""
         number, found = after, []
         last = min(after + reach, len(self.places))
         limit = self.places[last] if last < len(self.places) else self.place
@@ -172,7 +172,7 @@ class Index:
 
 
 class Found:
-    """A transaction that is in breach at entry `at` of a log: its key, and the entries of its branch up to AHEAD*T1 after that."""
+    """A transaction that is in breach at entry `at` of a log: its key, and the entries of its branch up to AHEAD times T1 after that."""
 
     def __init__(self, index, at, key, entries=None):
         self.index, self.times, self.at, self.key = index, index.times, at, key
@@ -187,7 +187,7 @@ class Found:
 
 
 def index_beside(name, is_done):
-    """The index of a log as far as it was read while the program judged the log, and a batch at least."""
+    """The index of a log, as far as it was read while the program judged the log, and a batch of entries at least."""
     index = Index(name)
     while index.read() and not is_done():
         pass
@@ -195,7 +195,7 @@ def index_beside(name, is_done):
 
 
 def index_up_to(index, at):
-    """Goes on to entry `at`. Answers whether the log has it."""
+    """Reads the index on to entry `at`. Answers whether the log has that entry."""
     while len(index.places) < at and index.read():
         pass
     return len(index.places) >= at

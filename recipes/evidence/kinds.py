@@ -1,4 +1,4 @@
-"""The kind of a breach, its size, what was due, and what would put it right: each is asked."""
+"""The kind of a breach, its size, what was due, and what would put it right. All of it is asked of the program."""
 import re
 from itertools import groupby
 
@@ -10,13 +10,13 @@ from .finding import keys_or_none
 from .messages import (ACK_PARTS, ack_for, compared_part, first_difference, is_request, is_same_kind, latin, lines_of, over_udp, part_of_ack, response_to, short,
                        transport_of, values_of, with_branch, with_lines, with_parts)
 
-SAMPLES = 12  # moments between the guessed ones at which a send is asked about
-REACH = 50_000  # entries among which others of the same call are looked for
+SAMPLES = 12  # at how many moments between the guessed ones a send is asked about
+REACH = 50_000  # among how many entries others of the same call are looked for
 MOST_NEAR = 4
 
 
 def kind_of(case):
-    """What is told of a breach, but for what would excuse it."""
+    """The kind of a breach and all that belongs to it, but for what would excuse it."""
     states = case.history.states()
     facts = {"history": [[one.number, case.letters[one.number]] for one in case.before], "moment": case.moment, "states": states,
              "phases": list(dict.fromkeys(state.split()[0] for state in states))}
@@ -32,7 +32,7 @@ def disagree():
     die("the answers of siptrace to several short logs do not agree with each other")
 
 
-# A response without a request.
+# What follows is of a response without a request.
 
 def not_begun(case):
     facts = {"kind": "not begun", "sent": sent_as(case.breach).told(entry=case.at, moment=case.moment), "act": "no request"}
@@ -45,7 +45,7 @@ def not_begun(case):
 
 
 def requests_of_call(case):
-    """The last requests before the breach with the Call-ID and the CSeq number of its response."""
+    """The last requests before the breach that have the Call-ID and the CSeq number of its response."""
     data, find = case.breach.data, case.found
     call = call_id(data)
     numbers = find.mentions(call, max(0, case.at - REACH), REACH, REACH) if call else []
@@ -56,7 +56,7 @@ def requests_of_call(case):
 
 
 def righted_for(case, one, names):
-    """The response with these fields of a request, where it is right for that request then."""
+    """The response with these fields of a request, where the program takes it as the right answer to that request at its moment; else None."""
     righted = case.breach.data
     for name in names:
         righted = with_lines(righted, name, lines_of(one.data, name))
@@ -67,10 +67,10 @@ def righted_for(case, one, names):
     return {"request": one.number, "bytes": latin(righted), "parts": parts}
 
 
-# A silence.
+# What follows is of a silence.
 
 def silence(case):
-    """What had to be sent did not come, or came too late."""
+    """The kind of a silence: what had to be sent did not come, or came too late."""
     due = due_alone(case)
     together = [] if due else due_together(case)
     facts = {"deadline": case.history.last_wait(), "due": due, "together": together}
@@ -84,7 +84,7 @@ def silence(case):
 
 
 def settles(case, candidate, moment):
-    """Whether that send at that moment takes the history past its last moment of silence."""
+    """Whether this send at this moment takes the history past its last moment of silence."""
     return case.history.allows(candidate.at(moment), mark(case.history.last_wait() + 1))
 
 
@@ -100,7 +100,7 @@ def due_alone(case):
 
 
 def owed_messages(case, until=LAST):
-    """What the states must send by a moment: the place of the state, and the entry whose bytes it sends again or acknowledges."""
+    """The messages that the states must send by a moment: for each the place of its state, and the entry whose bytes it repeats or which it acknowledges."""
     asked = case.asked()
     for place, state in enumerate(case.history.states()):
         for number, deadline in re.findall(r"owes=(\d+)/(\d+)/must", state):
@@ -114,7 +114,7 @@ def settle_together(case, candidates):
 
 
 def due_together(case):
-    """The fewest of the messages that a state owes which settle what was due where none does alone: all of them, and then one after another left out."""
+    """The fewest owed messages of a state that together settle what was due, where none does alone: all are tried, and then one after another is left out."""
     for pool in owed_by_states(case):
         if settle_together(case, pool):
             for one in list(pool):
@@ -126,7 +126,7 @@ def due_together(case):
 
 
 def owed_by_states(case):
-    """For each state, in the order of the listing: the messages that it must send by then, where these are several; then all that it must send."""
+    """The messages that each state must send by then, in the order of the listing, where they are several; then all of them together."""
     for until in (case.history.last_wait(), LAST):
         for _, owed in groupby(owed_messages(case, until), key=lambda one: one[0]):
             pool = [made for made in (candidate_for(case, one) for _, one in owed) if made]
@@ -135,7 +135,7 @@ def owed_by_states(case):
 
 
 def candidate_for(case, owed):
-    """The message that is owed for an entry: of a client the ACK of its response, of a server its bytes again."""
+    """The message that is owed for an entry: for a client the ACK of its response, for a server its bytes again."""
     for one in case.candidates():
         of = next((other for other in case.before if other.number == one.of), None)
         if of is not None and of.data == owed.data and is_request(one.data, b"ACK") is (case.role == "client"):
@@ -156,7 +156,7 @@ def came_late(case):
 
 
 def group_came_late(case, count):
-    """The next sends which, had they all come in time, would have settled what was due together."""
+    """The next sends that together would have settled what was due, had all of them come in time."""
     group = []
     for one in case.sends_from_breach() if count else []:
         if case.history.windows_of_send(one.letter, one.data):
@@ -173,7 +173,7 @@ def group_came_late(case, count):
 
 
 def compared(one, wanted):
-    """In what an entry differs from the message of its kind that was wanted."""
+    """In what an entry differs from the wanted message of its kind."""
     for message in wanted:
         if is_same_kind(one.data, message.data):
             if is_request(message.data, b"ACK"):
@@ -184,7 +184,7 @@ def compared(one, wanted):
 
 
 def near(case):
-    """The next entries of the same call in other transactions of the same role, and what they lack to be what was due."""
+    """The next entries of the same call in other transactions of the same role, and what each lacks to be what was due."""
     first, last = case.before[0], case.before[-1]
     call, found = call_id(first.data), []
     for number in case.found.mentions(call, last.number, 3 * MOST_NEAR, REACH) if call else []:
@@ -199,7 +199,7 @@ def near(case):
 
 
 def would_be_ack(case, one):
-    """Of an ACK with another branch: what must change for it to be one that was due."""
+    """What must change in an ACK with another branch for it to be an ACK that was due."""
     invite = case.first_request()
     if one.letter == "S" and is_request(one.data, b"ACK") and case.role == "client" and invite is not None:
         moment = min(one.moment, case.history.last_wait())
@@ -210,7 +210,7 @@ def would_be_ack(case, one):
     return {}
 
 
-# An ACK that is none.
+# What follows is of an ACK of no response that was received.
 
 def differing_parts(ack, right):
     return [part_told(ack, right, part) for part in ACK_PARTS if compared_part(ack, part) != compared_part(right, part)]
@@ -221,7 +221,7 @@ def part_told(ack, right, part):
 
 
 def parts_to_right(case, ack, invite, response, moment, *after):
-    """The fewest parts of section 17.1.1.3 that must change so that the program takes a message for the ACK of that response; None where that does not help."""
+    """The fewest parts of section 17.1.1.3 that must change so that the program takes a message for the ACK of this response, or None where no change helps."""
     right = ack_for(invite, response)
 
     def is_right(parts):
@@ -237,7 +237,7 @@ def parts_to_right(case, ack, invite, response, moment, *after):
 
 
 def ack_put_right(case):
-    """Of an ACK that is allowed at no moment: the response whose ACK it should be, and what must change."""
+    """What must change in an ACK that is allowed at no moment, and the response whose ACK it should be."""
     invite, ack = case.first_request(), case.breach.data
     if not (case.role == "client" and case.is_invite and is_request(ack, b"ACK") and invite is not None):
         return None
@@ -254,10 +254,10 @@ def ack_put_right(case):
     return None
 
 
-# A send that is allowed at another moment, with other bytes, or at none.
+# What follows is of a send that is allowed at another moment, with other bytes, or at no moment.
 
 def wrong_send(case):
-    """A send that is not allowed at its moment, where silence would have been."""
+    """The kind of a send that is not allowed at its moment, where silence would have been."""
     one, message = case.breach, sent_as(case.breach)
     windows = case.history.windows_of_send(one.letter, one.data, SAMPLES)
     facts = {"sent": message.told(entry=one.number, moment=one.moment, windows=told(windows)), "act": case.act_of(one.data)}
@@ -267,7 +267,7 @@ def wrong_send(case):
 
 
 def nearest(windows, moment):
-    """By how much a moment is after the last window before it, or before the next one, whichever is less."""
+    """By how much a moment lies after the window before it, or before the next one, whichever is less."""
     late = min((moment - last for _, last in windows if last < moment), default=None)
     early = min((first - moment for first, _ in windows if first > moment), default=None)
     if any(first <= moment <= last for first, last in windows):
@@ -278,7 +278,7 @@ def nearest(windows, moment):
 
 
 def bytes_put_right(case):
-    """The message of its kind that it sent before and that was allowed then, or else at another moment."""
+    """The message of the same kind that the transaction sent before, and that was allowed at the moment of the breach, or else at another moment."""
     one, later = case.breach, None
     for other in case.sent():
         if is_same_kind(other.data, one.data) and other.data != one.data:
@@ -292,7 +292,7 @@ def bytes_put_right(case):
 
 
 def allowed_at_no_moment(case):
-    """What was allowed instead, and what took the send away."""
+    """The kind of a send that is allowed at no moment: what was allowed in its place, and what took the send away."""
     letter, moment, data = case.breach[1:]
     history = case.history
     then = [one for one in case.candidates() if one.data != data and history.allows(one.at(moment))]
@@ -303,7 +303,7 @@ def allowed_at_no_moment(case):
 
 
 def taken_away_by(case):
-    """The newest entry, of the last ones, without which the send would have been allowed at its moment."""
+    """The newest of the last entries without which the send would have been allowed at its moment."""
     asked = case.asked()
     for place in range(len(asked) - 1, max(0, len(asked) - 1 - MOST_CANDIDATES), -1):
         rest = [case.as_asked(one) for one in asked[:place] + asked[place + 1:]]
@@ -313,7 +313,7 @@ def taken_away_by(case):
 
 
 def is_allowed_over_udp(case):
-    """Whether the send would be allowed if all were over UDP: over a reliable transport no timer sends anything again."""
+    """Whether the send would be allowed if all messages were over UDP: over a reliable transport no timer sends anything again."""
     entries = [*case.history.entries, case.stop]
     if all(transport_of(data).upper() == "UDP" for _, _, data in entries if data):
         return False
@@ -339,5 +339,5 @@ def over_from(case):
 
 
 def was_restarted(case, facts):
-    """Whether it was a restart that took the send away."""
+    """Whether a restart took the send away."""
     return any(one.number == facts.get("without") and one.letter == "Z" for one in case.before)

@@ -1,5 +1,5 @@
-"""Messages that are put right or made from others, for the program to be asked about. Nothing is decided here: of a message that is made wrong the
-answer is no, and no claim comes of it."""
+"""Messages that are put right or made from others, for the program to be asked about. Nothing is decided here: where a message is made wrongly the program
+answers no, and no claim comes of it."""
 import re
 
 from sip_lines import code_of, cseq, field, first_line, is_response, method_of
@@ -30,12 +30,12 @@ def lines_of(data, name):
 
 
 def values_of(data, name):
-    """The values of the fields with this name in one line, for a reader."""
+    """The values of the fields with this name in one line, as a reader wants them."""
     return latin(re.sub(rb"\s+", b" ", b", ".join(line.partition(b":")[2].strip() for line in lines_of(data, name))))
 
 
 def with_lines(data, name, lines):
-    """A message whose fields of a name are these lines, where its own stood, or after its start line."""
+    """A message in which these lines are the fields of a name, where the message's own stood, or after its start line."""
     old, rest = lines_and_rest(data)
     places = [n for n, line in enumerate(old) if n and name_of(line) == name]
     kept = [line for n, line in enumerate(old) if n not in places]
@@ -44,7 +44,7 @@ def with_lines(data, name, lines):
 
 
 def with_top_via(data, pattern, text):
-    """A message in whose top Via the first text of a pattern is another one."""
+    """A message in whose top Via the first text that fits a pattern is replaced."""
     lines = lines_of(data, b"via")
     return with_lines(data, b"via", [re.sub(pattern, text, lines[0], count=1, flags=re.I), *lines[1:]]) if lines else data
 
@@ -63,7 +63,7 @@ def transport_of(data):
 
 
 def first_element(line):
-    """The line of a field with its first element alone: up to the first comma outside of quotes."""
+    """The line of a field with its first element alone, up to the first comma outside of quotes."""
     return re.match(rb'(?:[^",]|"(?:[^"\\]|\\.)*")*', line, re.S)[0].rstrip()
 
 
@@ -80,7 +80,7 @@ def uri_of(data):
 
 
 def request_with(invite, method, to_lines):
-    """A request that goes with an INVITE over its branch: the ACK of a refusal, or a CANCEL."""
+    """A request that goes over the branch of an INVITE: the ACK of a refusal, or a CANCEL."""
     return request(method, uri_of(invite), *top_via_line(invite), *lines_of(invite, b"route"), *lines_of(invite, b"from"), *to_lines,
                    *lines_of(invite, b"call-id"), b"CSeq: " + cseq(invite)[0] + b" " + method)
 
@@ -101,14 +101,14 @@ def response_to(asked, code):
 
 
 def request_for(response):
-    """A request to which this may be the response."""
+    """A request to which this response may be the answer."""
     to_lines = [line.partition(b";tag=")[0] for line in lines_of(response, b"to")]
     return request(cseq(response)[1], b"sip:made@example.invalid", *lines_of(response, b"via"), *lines_of(response, b"from"), *to_lines,
                    *lines_of(response, b"call-id"), *lines_of(response, b"cseq"))
 
 
 def part_of_ack(message, part):
-    """What a request has in a part of section 17.1.1.3, as a text."""
+    """The text that a request has in a part of section 17.1.1.3."""
     if part == "Request-URI":
         return latin(uri_of(message))
     if part == "CSeq number":
@@ -117,7 +117,7 @@ def part_of_ack(message, part):
 
 
 def compared_part(message, part):
-    """A part of section 17.1.1.3 as it is compared: numbers as numbers, and From, To, Via and Route without their blanks."""
+    """A part of section 17.1.1.3 in the form in which it is compared: numbers as numbers, and From, To, Via and Route without their blanks."""
     text = part_of_ack(message, part)
     if part == "CSeq number":
         return text.lstrip("0")
@@ -125,7 +125,7 @@ def compared_part(message, part):
 
 
 def with_part(ack, part, right):
-    """An ACK in which one part is that of another one."""
+    """An ACK in which one part is that of another message."""
     if part == "Request-URI":
         method, _, rest = ack.split(b" ", 2)
         return b" ".join([method, uri_of(right), rest])
@@ -169,6 +169,6 @@ def is_same_kind(one, other):
 
 
 def short(data):
-    """A message in a few words."""
+    """A message in a few words: code and phrase of a response, method and URI of a request."""
     words = first_line(data).split()
     return " ".join(words[1:]) if is_response(data) else " ".join(words[:2])

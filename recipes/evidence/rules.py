@@ -9,7 +9,7 @@ NO_ACK_YET = "An ACK answers a final response, and none had come."
 TWO_HUNDRED = "Under RFC 3261 alone a 2xx ends the transaction: after it only the user sends, and only a 2xx."
 RESPONSE_BELONGS = "A response belongs to a request that was received: it has that request's top Via, and its method in the CSeq."
 
-# By role, whether it is of an INVITE, what was done or due, and the phase where the words differ by it: timer, section, meaning.
+# By role, whether the method is INVITE, what was done or due, and the phase where the words differ by it: the timer, the section, and the meaning.
 RULES = {
     ("client", True, "request again"): ("A", RFC_3261 + "17.1.1.2", "Over UDP an INVITE without a response is sent again, byte for byte, after T1, and then each "
                                         "time after twice as long, until 64*T1 have passed (timer B). Any response ends this."),
@@ -46,7 +46,7 @@ NOT_NAMED = ("", RFC_3261 + "17", "What a transaction does not name is not sent.
 RELIABLE = ("", RFC_3261 + "17", "Over TCP, TLS and any other reliable transport no timer sends a message again.")
 RESTARTED = ("", "no RFC, but the Z of the log", "What an element had begun is forgotten when it is started anew: nothing more is sent in that transaction.")
 
-# The phases of the listing in words, by role where they differ.
+# The phases of the listing in words, by role where the words differ by it.
 PHASES = {
     "idle": "it has not begun, or is over and forgotten",
     "calling": "it waits for a first response",
@@ -61,7 +61,7 @@ PHASES = {
     ("server", "proceeding"): "the final response has not been sent yet",
 }
 
-# The faults of a message and of a log, by number: what is wrong, in words.
+# The faults of a message and of a log in words, by the number of the reason.
 FAULTS = {
     1: ("NoHeadEnd", "it has no empty line after its head: the message was cut, or its lines end in LF alone and not in CRLF"),
     2: ("BareLineEnd", "its head has a CR without LF, or an LF without CR"),

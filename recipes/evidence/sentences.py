@@ -1,4 +1,4 @@
-"""The verdict in a sentence: of a breach its kind and size. Made of the data alone."""
+"""The verdict in a sentence, with the kind and the size of a breach. It is made of the data alone."""
 from collections import Counter
 
 TITLES = {"too early": "TOO EARLY", "too late": "TOO LATE", "never came": "NEVER CAME", "not the same bytes": "NOT THE SAME BYTES",
@@ -12,7 +12,7 @@ def span(window):
 
 
 def spans(windows):
-    """Windows in words: the first ones, and the last where there are many."""
+    """Windows in words: the first ones, and the last one where there are many."""
     shown = windows if len(windows) <= MOST_WINDOWS else windows[:MOST_WINDOWS - 1]
     rest = [] if len(shown) == len(windows) else ["at more moments, the last of them %s" % span(windows[-1])]
     return ", and ".join([span(window) for window in shown] + rest)
@@ -24,7 +24,7 @@ def listed(texts, word="or"):
 
 
 def counted(texts):
-    """Texts of which one that stands there twice is said to."""
+    """The texts, each once. A text that stands there twice or more says so."""
     return [text if count == 1 else text + (", twice" if count == 2 else ", more than twice") for text, count in Counter(texts).items()]
 
 

@@ -33,7 +33,7 @@ class Side:
         return self.line_after(low)
 
     def of(self, number, moment):
-        """What is known of an entry. A file that tells it another moment is that of another log."""
+        """What is known of an entry from the side file. A file with another moment for the entry is that of another log."""
         if self.file is None:
             return {}
         try:

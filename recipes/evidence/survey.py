@@ -1,4 +1,4 @@
-"""Each transaction of a log that is in trouble, and not the first alone: what `sipsurvey` says of the log, with the entries of each transaction."""
+"""Each transaction of a log that is in trouble, and not only the first: what `sipsurvey` says of the log, with the entries of each transaction."""
 import subprocess
 import tempfile
 from collections import defaultdict
@@ -23,7 +23,7 @@ FORMAT = 1
 class Trouble(NamedTuple):
     """A transaction in trouble; or a message that is malformed, which has no key."""
     word: str
-    at: int  # the entry of the whole log at which it shows
+    at: int  # the entry of the whole log at which the trouble shows
     key: tuple
     first: Entry
     fault: int = 0
@@ -54,14 +54,14 @@ def read_whole(index):
 
 
 class Surveying:
-    """`sipsurvey` on a log, beside whatever else is done with it."""
+    """`sipsurvey` on a log, which runs beside whatever else is done with the log."""
 
     def __init__(self, name):
         self.text = tempfile.TemporaryFile()
         self.process = subprocess.Popen([surveyor(), name], stdout=self.text, stderr=subprocess.PIPE)
 
     def findings(self):
-        """The words of each finding."""
+        """The words of each finding, as sipsurvey writes them."""
         said = self.process.communicate()[1].decode("latin-1").strip()
         if said:
             die(said, 4)
@@ -71,7 +71,7 @@ class Surveying:
 
 
 class Survey:
-    """A log that is looked through for all that is in trouble."""
+    """A log in which all that is in trouble is looked for."""
 
     def __init__(self, name):
         survey = Surveying(name)
@@ -85,12 +85,12 @@ class Survey:
         self.last = self.index.moments[-1] if self.count else 0
         self.restarts = [number for number, one in enumerate(self.index.branches, 1) if one == OF_ALL]
         self.branches = len(set(self.index.branches) - {0, OF_ALL})
-        self.found = defaultdict(list)  # by the sum of the branch
+        self.found = defaultdict(list)  # the findings, by the sum of their branch
         for words in found:
             self.add(words, int(words[1]))
 
     def check_order(self):
-        """Ends where the log cannot be read to its end."""
+        """Ends the script where the log cannot be read to its end."""
         index = self.index
         fault = next((n + 2 for n, is_right in enumerate(map(le, index.moments, islice(index.moments, 1, None))) if not is_right), None)
         if fault is None and index.place < len(index.text):
@@ -99,7 +99,7 @@ class Survey:
             die("entry %d cannot be read: see `siptrace check`" % fault, 2)
 
     def add(self, words, at):
-        """Notes what was found at an entry, by its branch."""
+        """Notes the words of a finding at an entry, by the branch."""
         if words[0] == "malformed":
             first = self.index.entry(at)
             branch = self.index.branches[at - 1]
@@ -111,7 +111,7 @@ class Survey:
             self.found[sum_of_branch(key[1])].append(Trouble(words[0], at, key, first))
 
     def troubled(self):
-        """The entries of each branch in which something was found, in the order of their first ones."""
+        """The entries of each branch in which something was found, in the order of the branches' first entries."""
         numbers = {branch: [] for branch in self.found}
         for number, branch in enumerate(self.index.branches, 1):
             if branch in numbers:
@@ -119,11 +119,11 @@ class Survey:
         return [self.entries_of(own) for own in sorted(numbers.values())]
 
     def entries_of(self, numbers):
-        """The entries of a branch, with the restarts after its first one."""
+        """The entries of a branch with these numbers, with the restarts after the first of them."""
         return [self.index.entry(number) for number in sorted([*numbers, *(number for number in self.restarts if number > numbers[0])])]
 
     def log_of(self, entries, moment=None):
-        """The log of these entries of a branch, closed by a mark at a moment, or at the last one of all."""
+        """The log of these entries of a branch. A mark closes it, at this moment or at the last one of the whole log."""
         return log_of(self.times, [*(one[1:] for one in entries), mark(max(self.last if moment is None else moment, entries[-1].moment))])
 
     def troubles(self, entries):
@@ -131,11 +131,11 @@ class Survey:
         return self.found[self.index.branches[entries[0].number - 1]]
 
     def heard(self, entries):
-        """These without the messages that are malformed, which concern no transaction."""
+        """These entries without those that are malformed, which concern no transaction."""
         return [one for one in entries if one.number not in self.malformed]
 
     def evidence(self, trouble, entries):
-        """Kind, size and sentence of a trouble."""
+        """The kind, the size and the sentence of a trouble."""
         if trouble.word == "malformed":
             one = trouble.first
             return None, None, of_malformed({"entry": one._asdict(), "whose": "received" if one.letter == "R" else "sent", "fault": fault_told(trouble.fault)})
@@ -150,7 +150,7 @@ class Survey:
 
 
 def key_of_number(entries, number):
-    """The key of a transaction in the log of these entries, counted as the program does."""
+    """The key of the transaction with this number in the log of these entries. Keys are numbered as the program numbers them."""
     numbers = {}
     for one in entries:
         for key in keys_or_none(one.letter, one.data) if one.data else []:
@@ -160,8 +160,8 @@ def key_of_number(entries, number):
 
 
 def without(entries, key):
-    """The entries of a branch without one of its transactions. A CANCEL is a step of the INVITE's too: its first one stays there as a send that the
-    transport refused, which ends its own transaction."""
+    """The entries of a branch without one of its transactions. A CANCEL is a step of the INVITE's transaction too: the first CANCEL stays there as a send
+    that the transport refused, which ends the CANCEL's own transaction."""
     kept, has_cancelled = [], False
     for one in entries:
         is_of = bool(one.data) and keys_or_none(one.letter, one.data)[:1] == [key]
@@ -174,7 +174,7 @@ def without(entries, key):
 
 
 def line_of(trouble, evidence, index):
-    """A trouble as data, as recipes/schema/trouble.json has it."""
+    """A trouble as data, in the form of recipes/schema/trouble.json."""
     kind, by, sentence = evidence
     return {"format": FORMAT, "word": trouble.word, "entry": trouble.at, "moment": index.moments[trouble.at - 1], "role": trouble.role, "method": trouble.method,
             "branch": trouble.branch, "call_id": trouble.call, "first_entry": trouble.first.number, "first_moment": trouble.first.moment,

@@ -9,7 +9,7 @@ from .sentences import listed, spans
 
 WIDTH = 118
 MOST_LINES = 40
-MOST_ROWS = 9  # entries that are shown: the first ones and the last ones
+MOST_ROWS = 9  # how many entries are shown: the first ones and the last ones
 FIRST_ROWS = 3
 MOST_STATES = 3
 MOST_NEAR = 3
@@ -18,7 +18,7 @@ ARROWS = {"S": "--->", "F": "--x ", "R": "<---", "M": "    ", "Z": "    "}
 
 
 def printable(text):
-    """A text with which no message can steer a terminal: of what is not plain ASCII the number is shown."""
+    """A text with which no message can steer a terminal: what is not plain ASCII is shown by its number."""
     return "".join(sign if " " <= sign <= "~" else "\\x%02x" % ord(sign) if ord(sign) < 256 else "\\u%04x" % ord(sign) for sign in text)
 
 
@@ -35,7 +35,7 @@ def runs(numbers):
 
 
 def text_of(told):
-    """The lines of the text."""
+    """The lines of the text that tells the evidence."""
     writer = {"breach": breach, "malformed": malformed, "undecided": undecided, "log fault": log_fault}.get(told["word"])
     if writer is None:
         return [printable(told["verdict"])]
@@ -44,7 +44,7 @@ def text_of(told):
     return shown + repeated(told, MOST_LINES - len(shown))
 
 
-# A breach.
+# What follows tells a breach.
 
 def breach(told):
     yield from ("  " + line for line in details(told))
@@ -58,11 +58,11 @@ def breach(told):
 
 
 def details(told):
-    """What is wrong in the message that was sent, and when what was allowed."""
+    """The lines on what is wrong in the message that was sent, and on when it was allowed or what was allowed in its place."""
     sent, seen = told.get("sent", {}), []
     for one in told.get("due", []) + told.get("together", []):
         if one["bytes"] == sent.get("bytes") and one["windows"] == sent.get("windows") or one in seen:
-            continue  # the sentence has it, or the line above
+            continue  # the sentence tells this, or the line above
         seen.append(one)
         yield "%s was allowed %s." % (one["what"][0].upper() + one["what"][1:], spans(one["windows"]))
     if told.get("instead"):
@@ -80,7 +80,7 @@ def details(told):
 
 
 def difference(found, subject):
-    """What a message has, and what it should have."""
+    """The lines on what a message has and what it should have."""
     if "line" in found:
         yield "%s first in line %d. It has" % (subject, found["line"])
         yield "    " + found["has"]
@@ -124,7 +124,7 @@ class Row(str):
 
 
 def ladder(told):
-    """The entries as one reads a call."""
+    """The lines of the entries, in the form in which one reads a call."""
     rows, late = told["rows"], told["sent"]["entry"] if told.get("kind") == "too late" else None
     dates = {one["time"].split()[0] for one in rows if "time" in one}
     has_date = len(dates) == 1
@@ -139,7 +139,7 @@ def ladder(told):
 
 
 def row(one, is_breach, has_date):
-    """An entry: where the heading has the date, with the time alone."""
+    """The line of an entry. It has the time alone where the heading has the date."""
     if one["line"]:
         what = one["line"].removesuffix(" SIP/2.0") if one["again"] is None else "entry %d again" % one["again"]
     else:
@@ -189,7 +189,7 @@ def settled(told):
         yield "Of the answers %d were `undecided`, and count as allowed." % told["undecided"]
 
 
-# The other verdicts.
+# What follows tells the other verdicts.
 
 def malformed(told):
     if told["whose"] == "received":
@@ -225,10 +225,10 @@ def log_fault(told):
     yield "    " + repr(told["there"])
 
 
-# How the verdict is repeated.
+# What follows tells how the verdict is shown again.
 
 def repeated(told, room):
-    """How the verdict is repeated: by lines that have the log of the branch, where the text has room for it."""
+    """The lines on how the verdict is shown again: by lines that have the log of the branch, where the text has room for it."""
     program = "The program that judged, siptrace, has the SHA-256 %s." % told["program"]["sha256"]
     again = told.get("repeat")
     if again is None:

@@ -8,8 +8,8 @@ HEADER = b"sip-trace 1\nt1 500 t2 4000 t4 5000 tolerance 50\n"
 
 
 class Survey:
-    """A survey that goes on. `tell` gets the words of each line, in a thread of its own: ["breach", "5", "transaction", "1", "client",
-    "INVITE", "z9hG4bKa", "2", "4"]: role, method, branch, first and last entry stand after the number."""
+    """A survey that goes on while entries come. `tell` gets the words of each line, in a thread of its own: ["breach", "5", "transaction", "1", "client",
+    "INVITE", "z9hG4bKa", "2", "4"]. Role, method, branch, first and last entry stand after the number."""
 
     def __init__(self, tell, header=HEADER, program="sipsurvey"):
         self.process = subprocess.Popen([program], stdin=subprocess.PIPE, stdout=subprocess.PIPE)
@@ -18,13 +18,13 @@ class Survey:
         self.process.stdin.write(header)
 
     def entry(self, letter, moment, message=None):
-        """S, R or F with a message; Z; or M, a mark that says that no message has come up to the moment. Moments are milliseconds and never fall."""
+        """Writes an entry: S, R or F with a message; Z; or M, a mark, by which no message came up to the moment. Moments are milliseconds and never fall."""
         line = b"%s %d" % (letter.encode(), moment)
         self.process.stdin.write(line + b"\n" if message is None else b"%s %d\n%s\n" % (line, len(message), message))
         self.process.stdin.flush()
 
     def end(self):
-        """Ends the log. The last line is told before this answers the status: 0 where nothing was found."""
+        """Ends the log. The last line is told before the status is answered, which is 0 where nothing was found."""
         self.process.stdin.close()
         self.thread.join()
         return self.process.wait()

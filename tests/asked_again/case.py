@@ -1,8 +1,8 @@
-"""A breach as the checker reads it by itself: the transaction that the verdict names, its history, and the questions that are asked of the judge about it."""
+"""A breach as the checker reads it by itself: the transaction that the verdict names, its history, and the questions that the checker asks the judge of it."""
 from judge import LAST, Entry, mark, read_log
 from messages import is_response, keys_of, method_of, code_of
 
-LENGTHS = (0, 200, 32_000)  # milliseconds of RFC 3261 section 17, beside those of the header
+LENGTHS = (0, 200, 32_000)  # in milliseconds: timers of RFC 3261 section 17, beside those that the header tells
 
 
 class Case:
@@ -26,7 +26,7 @@ class Case:
         return self.entries[number - 1]
 
     def key_of(self, number):
-        """The transaction with a number: they are counted as the log first names them."""
+        """The transaction with this number: transactions are counted as the log first names them."""
         keys = {}
         for letter, _, data in self.entries[:self.at]:
             for key in keys_of(letter, data):
@@ -39,7 +39,7 @@ class Case:
         for number, (letter, _, data) in enumerate(self.entries, 1):
             try:
                 concerns = letter == "Z" and own or self.key in keys_of(letter, data)
-            except (IndexError, TypeError, ValueError, AttributeError):  # a malformed message after the breach concerns none
+            except (IndexError, TypeError, ValueError, AttributeError):  # a malformed message after the breach concerns no transaction
                 concerns = False
             if concerns:
                 own.append(number)
@@ -50,9 +50,10 @@ class Case:
         return letter in "SF" and method_of(data) == b"CANCEL"
 
     def letters_of_history(self):
-        """The letter with which each entry before the breach stands in a history. A CANCEL that an INVITE's client sends is a step of two transactions: in
-        the INVITE's history the first one is refused by the transport, which ends the CANCEL's own and is the same to the INVITE's, and later ones are left
-        out. Where a CANCEL is the breach of its INVITE all are, since none before it can have been a step: it is right from the first response on."""
+        """The letter with which each entry before the breach stands in a history. A CANCEL that an INVITE's client sends is a step of two transactions. In
+        the INVITE's history the first CANCEL stands as one that the transport refused: this ends the CANCEL's own transaction and changes nothing for the
+        INVITE's. Later CANCELs are left out. Where a CANCEL is the breach of its INVITE all CANCELs are left out, since none before it can have been a
+        step: it is right from the first response on."""
         letters, has_cancel = {}, self.at in self.own and self.is_cancel(self.at)
         for number in self.before:
             letters[number] = self.entry(number).letter
@@ -61,7 +62,7 @@ class Case:
                 has_cancel = True
         return letters
 
-    # Questions.
+    # What follows are questions that are asked of the judge.
 
     def is_possible(self, entries, times=None):
         return self.judge.is_possible(times or self.times, entries)
@@ -74,8 +75,8 @@ class Case:
         return self.allows(mark(moment))
 
     def last_silence(self):
-        """The last moment up to which the transaction can be silent after its history, or None where it can be for ever. Silence is a yes that turns to no
-        once, so halves find it."""
+        """The last moment up to which the transaction can be silent after its history, or None where it can be silent for ever. Whether it can is a yes that
+        turns to a no only once, so that the moment is found by halves."""
         if not hasattr(self, "found_silence"):
             low, high = self.start, LAST
             if self.can_be_silent_to(high):
@@ -95,17 +96,17 @@ class Case:
         """Whether a message at a moment takes the history past its last moment of silence."""
         return self.allows(Entry(letter, moment, data), mark(self.end() + 1))
 
-    # Moments.
+    # What follows finds moments at which to ask.
 
     def edges(self):
-        """Moments at which something may change, as the timers and the entries have it: guesses, which are only asked about."""
+        """Moments at which the answer may change, by the timers and the entries. They are guesses, and the judge is only asked about them."""
         times = self.times
         lengths = {*LENGTHS, times.t4, times.t2, 64 * times.t1, *(times.t1 * 2 ** n for n in range(8))}
         bases = {entry.moment for entry in self.history[-12:]} | {0}
         return sorted({base + length + side for base in bases for length in lengths for side in (0, -times.early, times.late, times.late + 1, -times.early - 1)})
 
     def net(self, windows, count):
-        """Moments from the last entry of the history to the last one of silence: about so many, beside the edges of these windows and what is next to them."""
+        """About `count` moments from the last entry of the history to the last moment of silence, and the edges of these windows and the moments beside."""
         start, end, chance = self.start, self.end(), self.chance
         near = [moment + side for window in windows for moment in window if moment is not None for side in (-1, 0, 1)]
         edges = self.edges()
@@ -114,29 +115,29 @@ class Case:
                 *(start + chance.randint(0, 2000) for _ in range(count // 4 + 1)), start, far]
         return sorted({moment for moment in near + some if start <= moment <= end})
 
-    # Entries of the transaction.
+    # What follows finds entries of the transaction.
 
     def breach_entry(self):
-        """The entry of the breach where it is one of the transaction's own messages."""
+        """The entry of the breach, where it is one of the transaction's own messages, and else None."""
         return self.entry(self.at) if self.at in self.own and self.entry(self.at).letter in "SRF" else None
 
     def is_own_send(self):
         return self.breach_entry() is not None and self.breach_entry().letter in "SF"
 
     def last_entry(self):
-        """What shows the breach after the history."""
+        """The number of the entry that shows the breach after the history."""
         return self.entry(self.at) if self.at in self.own else mark(self.moment)
 
     def later_sends(self, last):
-        """The numbers of its own sends from the breach on, up to a moment, and to a restart of the element, after which nothing can be that which was due."""
+        """The numbers of the transaction's own sends from the breach to a moment. A restart of the element ends them: no send after it can be what was due."""
         later = [number for number in self.own if number >= self.at and self.entry(number).moment <= last]
         end = next((place for place, number in enumerate(later) if self.entry(number).letter == "Z"), len(later))
         return [number for number in later[:end] if self.entry(number).letter in "SF"]
 
     def requests(self):
-        """Its requests other than ACK and CANCEL, in order."""
+        """The requests of the transaction other than ACK and CANCEL, in order."""
         return [entry.data for entry in self.history if entry.data and not is_response(entry.data) and method_of(entry.data) == self.method]
 
     def refusals(self):
-        """Each 3xx to 6xx that a client received."""
+        """Each response from 300 to 699 that a client received."""
         return list(dict.fromkeys(entry.data for entry in self.history if entry.letter == "R" and is_response(entry.data) and code_of(entry.data) >= 300))

@@ -1,7 +1,8 @@
-"""Every claim of the evidence of one breach, asked of the judge again: the verdict and whose it is, how long the transaction could be silent, what was due and
-when, the kind and its size, and what would put it right. recipes/schema/evidence.json has the form of the evidence and what each claim means.
+"""Every claim of the evidence of one breach is asked of the judge again: the verdict and whose it is, how long the transaction could be silent, what was due
+and when, the kind of the breach and its size, and what would put it right. recipes/schema/evidence.json says what form the evidence has and what each
+claim means.
 
-What contradicts the judge is told in a sentence. Each kind has a meaning of its own here, which is held against the one that was told."""
+A sentence tells each claim that contradicts the judge. Each kind has a meaning of its own here, which is held against the kind that was told."""
 import re
 from collections import Counter
 
@@ -13,9 +14,9 @@ from messages import (PARTS_OF_ACK, ack_of, cancel_of, code_of, is_response, is_
 
 NEVER, EARLY, LATE, BYTES, ACK, STRAY, NONE = "never came", "too early", "too late", "not the same bytes", "not the ACK", "not begun", "not allowed"
 KINDS = (NEVER, EARLY, LATE, BYTES, ACK, STRAY, NONE)
-MOST_LATER = 3  # sends after the breach among which one that was due is looked for
+MOST_LATER = 3  # how many sends after the breach may be the one that was due
 
-# The timers and sections that may be named for each transaction.
+# The timers and sections that may be named of each transaction, by its role and whether its method is INVITE.
 TIMERS = {("client", True): "ABDM", ("client", False): "EFK", ("server", True): "GHIL", ("server", False): "J"}
 SECTIONS = {("client", True): ("3261 section 17.1.1", "3261 section 9.1", "3261 section 13.2.2.4", "6026 section 7.2"), ("client", False): ("3261 section 17.1.2",),
             ("server", True): ("3261 section 17.2", "6026 section 7.1", "3261 section 13.3.1.4"), ("server", False): ("3261 section 17.2",)}
@@ -26,7 +27,7 @@ def latin(text):
 
 
 class Claims:
-    """The evidence of a breach, held against the judge. `wrong` has what it contradicts, `asked` how many claims of each sort there were."""
+    """The evidence of a breach, held against the judge. `wrong` has the sentences that contradict it, `asked` how many claims of each sort were asked."""
 
     def __init__(self, judge, log, told, chance, density):
         self.judge, self.case = judge, Case(judge, log, chance)
@@ -55,7 +56,7 @@ class Claims:
          NONE: self.not_allowed}[self.kind]()
         Excuses(self).all()
 
-    # Whose breach it is.
+    # What follows asks whose breach it is.
 
     def of_verdict(self):
         case, told = self.case, self.told
@@ -105,10 +106,10 @@ class Claims:
             self.holds("silence up to its last moment", case.can_be_silent_to(last), last)
             self.holds("no silence after its last moment", not case.can_be_silent_to(last + 1), last)
 
-    # Windows.
+    # What follows asks about windows.
 
     def windows(self, what, windows, is_right, count=None):
-        """Each window at both ends and outside of both, and a net of moments between and beside them."""
+        """Asks about each window at both of its ends and just outside, and about a net of moments between the windows and beside them."""
         case = self.case
         end, start = case.end(), case.start
         spans = [(first, end if last is None else last) for first, last in windows]
@@ -128,10 +129,10 @@ class Claims:
     def settling(self, letter, data):
         return lambda moment: self.case.settles(letter, moment, data)
 
-    # The kinds by their meaning.
+    # What follows asks of which kind the breach is, by the meaning of each kind.
 
     def of_kind(self):
-        """Whether the kind is the one of the rule: what did not begin first, then a silence that was too long, then what was sent."""
+        """Checks that the kind is the right one: a stray response comes first, then a silence that was too long, and last what was sent."""
         case = self.case
         if self.is_stray():
             wanted = (STRAY,)
@@ -142,7 +143,7 @@ class Claims:
         self.holds("kind by its meaning", self.kind in wanted, f"and not {' or '.join(wanted)}")
 
     def is_stray(self):
-        """Whether it is a response, and no request that it could answer came before it."""
+        """Whether the breach is a response before which no request came that it could answer."""
         case = self.case
         entry = case.breach_entry()
         return case.is_own_send() and is_response(entry.data) and not any(one.letter == "R" and not is_response(one.data) for one in case.history)
@@ -157,7 +158,7 @@ class Claims:
         return False
 
     def kinds_of_a_send(self):
-        """The kinds that a wrong send may be of, by what the judge allows instead."""
+        """The kinds that a wrong send may be of, by what the judge allows in its place."""
         case = self.case
         if not case.is_own_send():
             return ("the breach of a message that the element did not send",)
@@ -174,7 +175,7 @@ class Claims:
         return (NONE, *([BYTES] if others else []), *([ACK] if is_ack else []))
 
     def acks_of(self, data, moment):
-        """The refusals of which this ACK, put right, would be allowed at a moment."""
+        """The refusals of which this ACK, once its wrong parts are put right, would be allowed at this moment."""
         case, found = self.case, []
         for response in case.refusals() if case.requests() else []:
             right = right_ack(data, case.requests()[0], response)
@@ -183,7 +184,7 @@ class Claims:
         return found
 
     def of_rule(self):
-        """The words of the rule are of this transaction's timers and sections."""
+        """Checks that the words of the rule name timers and sections of this transaction."""
         case, rule = self.case, self.told["rule"]
         figure = case.role, case.method == b"INVITE"
         is_restart = any(one.letter == "Z" for one in case.history)
@@ -191,7 +192,7 @@ class Claims:
         self.holds("section of the rule", any(section in rule["section"] for section in SECTIONS[figure]) or is_restart or rule["section"].endswith("section 17"), rule["section"])
         self.holds("meaning of the rule", len(rule["meaning"]) > 20 and rule["meaning"].endswith("."), rule["meaning"])
 
-    # What is shown of the log.
+    # What follows asks about the pieces of the log that the evidence shows.
 
     def of_rows(self):
         case, before = self.case, None
@@ -210,7 +211,7 @@ class Claims:
             before = entry.moment
 
     def of_repeat(self):
-        """The small log that shows the breach again."""
+        """Checks the small log that shows the breach again."""
         case, repeat = self.case, self.told["repeat"]
         log = latin(repeat["log"])
         verdict = self.judge.verdict(log)
@@ -225,7 +226,7 @@ class Claims:
         self.holds("the small log's transaction", keys[int(verdict[3]) - 1] == case.key)
 
     def of_message(self, one):
-        """Whether a message that was asked about is what the words say of it."""
+        """Whether a message of the evidence is what its words say of it."""
         case, what, data = self.case, one["what"], latin(one["bytes"])
         named = re.match(r"the ACK of entry (\d+)'s|entry (\d+)'s|(?:a first|another|a new) ([123])xx|a (CANCEL)", what)
         if not self.holds("words that name a message", bool(named), what):
@@ -239,7 +240,7 @@ class Claims:
         else:
             self.holds("a message of that kind", str(code_of(data))[0] in ("3456" if code == "3" else code) if code else method_of(data) == cancel.encode(), what)
 
-    # A silence that was too long.
+    # What follows asks about a silence that was too long.
 
     def deadline(self):
         case, told = self.case, self.told
@@ -258,7 +259,7 @@ class Claims:
         self.holds("something was due", bool(told["due"] or told["together"]))
 
     def all_due(self):
-        """Whether each message is told that alone would have settled what was due: of those that it sent, and of the ACKs."""
+        """Checks that the evidence tells each message that alone would have settled what was due, of those that the transaction sent and of the ACKs."""
         case, told = self.case, self.told
         named = [latin(one["bytes"]) for one in told["due"]]
         moments = [case.start, case.end()] + [moment for moment in case.net([], 4)]
@@ -270,8 +271,8 @@ class Claims:
             self.holds("an ACK that was due is told", is_told or not any(case.settles("S", moment, ack) for moment in moments))
 
     def owed_by(self, deadline):
-        """The messages for which a state of the listing owes something that must be sent by a moment: over a reliable transport timer D ends at once, and all that is
-        owed must be sent before."""
+        """The messages for which a state of the listing owes something that must be sent by this moment. Over a reliable transport timer D ends at once,
+        and all that is owed must be sent before."""
         found = [(number, until, "reliable=yes" in state) for state in self.told["states"] for number, until in re.findall(r"owes=(\d+)/(\d+)/must", state)]
         return {self.case.history[int(number) - 1].data for number, until, is_reliable in found if is_reliable or int(until) <= deadline}
 
@@ -301,7 +302,7 @@ class Claims:
             self.instead(told["instead"])
 
     def instead(self, told):
-        """What was sent in place of what was due, and in what it differs."""
+        """Checks what was sent in place of what was due, and in what it differs from it."""
         case = self.case
         self.holds("what came instead is the entry of the breach", told.get("entry", case.at) == case.at and case.is_own_send())
         if "line" in told and "bytes" in told:
@@ -312,7 +313,7 @@ class Claims:
                 self.holds("the part as it is", self.stands_in(part["has"], case.entry(case.at).data), part["has"])
 
     def near(self, row):
-        """A later message of the same call, and what it lacks to be what was due."""
+        """Checks a later message of the same call, and what it lacks to be what was due."""
         case = self.case
         letter, moment, data = case.entry(row["entry"])
         self.holds("near entry", (row["letter"], row["moment"]) == (letter, moment) and row["branch"] == top_via(data)[3].decode("latin-1"))
@@ -348,7 +349,7 @@ class Claims:
         self.holds("size", told["by"] == moment - last and told["by"] > 0, told["by"])
 
     def group(self, numbers, sent):
-        """Several late sends which together would have settled it in time."""
+        """Checks several late sends that together would have settled what was due in time."""
         case = self.case
         until = case.end()
         entries = [case.entry(number) for number in numbers]
@@ -356,10 +357,10 @@ class Claims:
                    and case.allows(*[Entry(one.letter, until, one.data) for one in entries], mark(until + 1)))
         self.windows("last of the late ones", sent["windows"], self.sends(sent["letter"], latin(sent["bytes"])))
 
-    # A send that was wrong.
+    # What follows asks about a send that was wrong.
 
     def sent(self):
-        """The entry of the breach as it was told, with its windows."""
+        """Checks the entry of the breach as the evidence tells it, with its windows."""
         case, sent = self.case, self.told["sent"]
         letter, moment, data = case.breach_entry()
         self.holds("sent entry", (sent["entry"], sent["letter"], sent["moment"], latin(sent["bytes"])) == (case.at, letter, moment, data))
@@ -417,7 +418,7 @@ class Claims:
         return self.case.entry(number).data.split(b"\r\n")[0].decode("latin-1")
 
     def nearly_the_ack(self, moment, data):
-        """No ACK was allowed at that moment, and a right one at others."""
+        """Checks that no ACK was allowed at this moment, and that a right one was allowed at others."""
         told = self.told
         self.holds("no ACK is right then", not self.acks_of(data, moment))
         right = latin(told["right"]["bytes"])
@@ -426,7 +427,7 @@ class Claims:
         self.holds("parts of the right ACK", bool(told["right"]["parts"]))
 
     def parts(self, parts, data, right, is_right):
-        """The parts of an ACK that must change: each is needed, both values stand in the messages, and nothing else was changed."""
+        """Checks the parts of an ACK that have to change: each change is needed, both values stand in the messages, and nothing else was changed."""
         self.holds("parts are named", bool(parts) and all(part["part"] in PARTS_OF_ACK for part in parts))
         for part in parts:
             name = part["part"]
@@ -470,7 +471,7 @@ class Claims:
         self.over_from(told["may_be_over_from"])
 
     def all_allowed_then(self, moment, data):
-        """Whether each message is told that it was allowed to send then: of those that it sent, new responses, ACKs, and a CANCEL."""
+        """Checks that the evidence tells each message that could be sent then: of those that the transaction sent, new responses, ACKs, and a CANCEL."""
         case = self.case
         named = [latin(one["bytes"]) for one in self.told["allowed_then"]]
         if not case.requests():
@@ -493,7 +494,7 @@ class Claims:
                 self.holds("an ACK that may be sent is told", is_told or not may_send(ack_of(request, response)))
 
     def without(self, number):
-        """The entry without which the send would have been allowed."""
+        """Checks the entry without which the send would have been allowed."""
         case = self.case
         kept = [one for one in case.before if case.letters[one]]
 
@@ -507,7 +508,7 @@ class Claims:
             self.holds("no newer entry took it away", not any(is_right(one) for one in kept if one > number), number)
 
     def over_from(self, first):
-        """From when on the transaction may be over: a message that comes then calls for nothing, or begins it anew."""
+        """The moment from which the transaction may be over: a message that comes after it calls for nothing, or begins the transaction anew."""
         case = self.case
         if not case.requests() or case.role == "client" and case.method != b"INVITE":
             self.holds("no end that can be asked about", first is None)
@@ -527,7 +528,7 @@ class Claims:
                 self.holds("it may be over later", is_over(moment), moment)
 
     def probe_of_end(self, request):
-        """Messages that are possible where a transaction is over and nowhere else, and how long after them a mark stands."""
+        """Messages that are possible only where a transaction is over, and how long after them a mark stands."""
         if self.case.role == "client":
             return [("R", response_to(request, 698))], self.case.times.late + 1
         return [("R", request), ("S", response_to(request, 184))], 0

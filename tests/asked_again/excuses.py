@@ -1,12 +1,12 @@
-"""What would excuse a breach, asked again: each question of the evidence changes the log or its header, and the judge says whether that takes the breach away."""
+"""What would excuse a breach is asked again: each question of the evidence changes the log or its header, and the judge says whether the breach is gone."""
 import re
 
 from judge import Entry, mark, write_log
 from messages import is_response, method_of, top_via
 from texts import numbers_in
 
-MOST_PLACES = 4  # in a history at which a message that may have come sooner is put
-SKEW, COPY = 3, 50  # milliseconds within which neighbours may have changed places, and within which a copy of a packet comes
+MOST_PLACES = 4  # how many places of a history are tried for a message that may have come sooner
+SKEW, COPY = 3, 50  # in milliseconds: neighbours this close may have changed places, and a copy of a packet comes within the other
 
 
 class Excuses:
@@ -25,7 +25,7 @@ class Excuses:
         self.all_are_asked()
 
     def question_names(self, row, change):
-        """Whether the question names the numbers of its change, and no others than those of the log and of the evidence."""
+        """Checks that the question names the numbers of its change, and no numbers that are neither of the log nor of the evidence."""
         wanted = [change[name] for name in ("t1", "rules", "tolerance", "drop") if name in change]
         wanted += [int(number) for number in change.get("letter", {})] + [moment for letter, moment, _ in change.get("insert", []) if self.told["kind"] != "not begun"]
         said = set(re.findall(r"\d+", re.sub(r"RFC \d+|\b\dxx\b", "", row["question"])))
@@ -34,7 +34,7 @@ class Excuses:
         holds("no question names other numbers", said <= self.numbers_known() | {str(len(change.get("earlier", [])) + 1)} | numbers_in(change), row["question"])
 
     def numbers_known(self):
-        """The numbers of the evidence beside those of its questions, and by how much the moments of the transaction's entries differ."""
+        """The numbers of the evidence beside those of its questions, and the differences of the moments of the transaction's entries."""
         if not hasattr(self, "known"):
             moments = [self.case.entry(number).moment for number in self.case.own]
             differences = {str(abs(one - other)) for one in moments for other in moments if abs(one - other) <= COPY}
@@ -46,25 +46,25 @@ class Excuses:
         self.claims.holds("excuse that is undecided", not row["is_undecided"] or row["helps"], row["question"])
 
     def is_gone(self, entries, times=None):
-        """Whether these entries and a mark, with which the log reaches the breach, are no breach."""
+        """Whether there is no breach in these entries and a mark with which the log reaches the moment of the breach."""
         return self.case.is_possible([*entries, mark(max(self.case.moment, entries[-1].moment))], times)
 
     def times_with(self, change):
-        """The times of the header with a change."""
+        """The times of the header, with this change."""
         times = self.case.times
         if "tolerance" in change:
             return times._replace(**{side: max(change["tolerance"], getattr(times, side)) for side in change["sides"]})
         return times._replace(**{name: change[name] for name in ("t1", "rules") if name in change})
 
     def of_branch(self):
-        """The numbers of all entries of the branch, with the restarts among them, up to the moment that the evidence was read to."""
+        """The numbers of all entries of the branch, with the restarts among them, up to the moment to which the evidence was read."""
         case, branch = self.case, self.case.branch
         for number, (letter, moment, data) in enumerate(case.entries, 1):
             if moment <= self.told["last_moment"] and (letter == "Z" or data and top_via(data)[3].lower() == branch):
                 yield number
 
     def to_the_end(self, row, change):
-        """Whether the whole branch is possible with the change, where that was told."""
+        """Checks that the whole branch is possible with the change, where the evidence says so."""
         if row["to_the_end"] is None:
             return
         case = self.case
@@ -82,7 +82,7 @@ class Excuses:
         self.says("rules", row, self.is_gone(self.with_breach(), self.times_with(change)))
 
     def ask_tolerance(self, row, change):
-        """The tolerance, and that one less is no excuse."""
+        """Asks about the tolerance, and whether one less is no excuse."""
         case = self.case
         entries = self.with_breach() + [case.entry(number) for number in change.get("entries", [])]
 
@@ -110,20 +110,20 @@ class Excuses:
             self.not_sooner_either(row, more[0])
 
     def place_after(self, number):
-        """How many entries of the history stand up to an entry; all where none is named."""
+        """How many entries of the history come up to this entry; all of them where no entry is named."""
         if number is None:
             return len(self.case.history)
         return len([one for one in self.case.before if self.case.letters[one] and one <= number])
 
     def restarts_between(self, row, last):
-        """A restart may come at any moment between those that the question names."""
+        """Checks that a restart may come at any moment between those that the question names."""
         start = self.case.start
         for moment in {start, self.case.chance.randint(start, max(start, last))}:
             gone = self.is_gone([*self.case.history, Entry("Z", moment, b""), self.case.last_entry()])
             self.claims.holds("a restart at each moment between", gone == row["helps"], f"{row['question']} {moment}")
 
     def not_sooner_either(self, row, message):
-        """A message that came by a moment may have come sooner: after each entry of the history, with it or just before the next one."""
+        """Checks a message that came by a moment and may have come sooner: after each entry of the history, at its moment or just before the next one."""
         history = self.case.history
         for place in self.case.chance.sample(range(1, len(history) + 1), min(MOST_PLACES, len(history))):
             following = history[place].moment if place < len(history) else message.moment
@@ -132,13 +132,13 @@ class Excuses:
                 self.claims.holds("a message that came sooner excuses it no more", not self.is_gone(sooner), f"{row['question']} {moment}")
 
     def ask_letter(self, row, change):
-        """A send that the transport refused."""
+        """Asks about a send that the transport refused."""
         case = self.case
         entries = [Entry(change["letter"].get(str(number), case.letters[number]), *case.entry(number)[1:]) for number in case.before if case.letters[number]]
         self.says("a refusal of the transport", row, self.is_gone([*entries, case.last_entry()]))
 
     def ask_order(self, row, change):
-        """Neighbours that were noted the wrong way round."""
+        """Asks about neighbours that were noted the wrong way round."""
         case = self.case
         entries = [Entry(case.letters.get(number) or case.entry(number).letter, moment, case.entry(number).data) for number, moment in change["order"]]
         self.says("another order", row, self.is_gone(entries))
@@ -155,7 +155,7 @@ class Excuses:
         self.claims.holds("a copy is of the same bytes and near", change["drop"] == case.at and bool(twins))
 
     def ask_earlier(self, row, change):
-        """Sends of the first request before the log began."""
+        """Asks about sends of the first request before the log began."""
         case = self.case
         if not change["earlier"]:
             self.claims.holds("a late start with no send before", not row["helps"])
@@ -168,7 +168,7 @@ class Excuses:
         self.says("a late start", row, earlier[-1].moment <= rest[0].moment and case.is_possible(earlier + rest))
 
     def no_start_is_late(self):
-        """None of one to five sends of the first request before the log excuses the breach, each repeated as timer A or E has it."""
+        """Checks that none of one to five sends of the first request before the log excuses the breach, each repeated as timer A or E says."""
         case = self.case
         first = next((one for one in case.history if one.data), None)
         if first is None or self.told["kind"] == "not begun":
@@ -181,7 +181,7 @@ class Excuses:
             self.claims.holds("no start is late", not case.is_possible(earlier + rest), count)
 
     def all_are_asked(self):
-        """Whether no question was left out that the breach asks for."""
+        """Checks that the evidence asks every question that the breach calls for."""
         case, told, holds = self.case, self.told, self.claims.holds
         changes = [row["change"] for row in told["excuses"]]
         for t1 in (1000, 2000):

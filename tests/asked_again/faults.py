@@ -1,5 +1,5 @@
-"""The claims of the evidence of a log that is malformed, undecided or unreadable, asked again: whose the message is, which fault it has and where, what takes it
-away; how the states grew, and with which tolerance the branch is decided; where a log cannot be read."""
+"""The claims of the evidence of a log that is malformed, undecided or unreadable are asked again: whose the message is, which fault it has and where, and
+what takes the fault away; how the states grew, and with which tolerance the branch is decided; where a log cannot be read."""
 import re
 from collections import Counter
 
@@ -7,7 +7,7 @@ from judge import Entry, read_log, write_log
 from messages import head_lines, keys_of, top_via
 
 KINDS = {"malformed": "malformed", "undecided": "undecided", "log": "log fault"}
-MOST_ASKED = 300  # bytes of a line up to which its fronts are asked about
+MOST_ASKED = 300  # the longest line, in bytes, of which each front is asked about
 
 
 class FaultClaims:
@@ -31,12 +31,12 @@ class FaultClaims:
             self.repeat()
 
     def repeat(self):
-        """The small log that shows the verdict again."""
+        """Checks the small log that shows the verdict again."""
         if self.told.get("repeat"):
             verdict = self.judge.verdict(self.told["repeat"]["log"].encode("latin-1"))
             self.holds("the small log's verdict", verdict == self.told["repeat"]["verdict"].split() and verdict[0] == self.words[0], " ".join(verdict))
 
-    # A message that is malformed.
+    # What follows asks about a message that is malformed.
 
     def malformed(self):
         told = self.told
@@ -60,12 +60,12 @@ class FaultClaims:
             self.holds("the change takes the fault away", self.fault_of(mended) != self.fault and mended != one.data, told["mended"]["what"])
 
     def fault_of(self, data):
-        """What is wrong in a message that stands alone in a log; nothing where it is legal or a breach."""
+        """The fault of a message that stands alone in a log, and None where its log is legal or a breach."""
         words = self.judge.verdict(write_log(self.times, [Entry(self.entry.letter, self.entry.moment, data)]))
         return words[2:] if words[0] == "malformed" else []
 
     def front(self, line, length):
-        """The longest front of the line with which no fault is found in this line: with it none is, and with longer ones one is."""
+        """Checks that this is the longest front of the line with which no fault is found in the line: longer ones have one."""
         if line is None:
             self.holds("no line has no front", length is None)
             return
@@ -81,7 +81,7 @@ class FaultClaims:
             for size in {*longer[:1], *self.chance.sample(longer, min(8, len(longer)))}:
                 self.holds("a longer front has the fault", not lacks(size), size)
 
-    # A log that is undecided.
+    # What follows asks about a log that is undecided.
 
     def undecided(self):
         told = self.told
@@ -102,7 +102,7 @@ class FaultClaims:
             self.decided(times, [(place, one) for place, one in enumerate(entries, 1) if one.letter == "Z" or one.data and top_via(one.data)[3].lower() == key[1]])
 
     def decided(self, times, branch):
-        """The tolerance with which the branch is decided, and what is said of it then."""
+        """Checks the tolerance with which the branch is decided, and what is said of the branch then."""
         told = self.told["decided"]
         most = {side: min(told["tolerance"], getattr(times, side)) for side in ("early", "late")}
         words = self.judge.verdict(write_log(times._replace(**most), [one for _, one in branch]))
@@ -110,7 +110,7 @@ class FaultClaims:
         if told.get("entry"):
             self.holds("entry with that tolerance", branch[int(words[1]) - 1][0] == told["entry"], " ".join(words))
 
-    # A log that cannot be read.
+    # What follows asks about a log that cannot be read.
 
     def unreadable(self):
         told = self.told

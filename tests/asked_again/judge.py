@@ -1,10 +1,10 @@
-"""The judge, asked about small logs, and such logs read and written. This is the checker's own: it has nothing of recipes/."""
+"""The judge, which is asked about small logs; and such logs, which are read and written. All of this is the checker's own and has nothing of recipes/."""
 import os
 import re
 from typing import NamedTuple
 
 LAST = 9_999_999_999_999  # the last moment that a log can tell
-MOST_KEPT = 20_000  # answers that are kept, so that no log is asked twice
+MOST_KEPT = 20_000  # how many answers are kept, so that no log is asked about twice
 SILENT = ("M", "Z")
 
 HEADER = re.compile(rb"sip-trace (?:1\nt1 (\d+) t2 (\d+) t4 (\d+) tolerance (\d+)|2\nt1 (\d+) t2 (\d+) t4 (\d+) early (\d+) late (\d+))\n")
@@ -12,7 +12,7 @@ RULES = re.compile(rb"rules (3261|6026)\n")
 
 
 class Times(NamedTuple):
-    """What the header of a log says; rules are 0 where it has no line of them."""
+    """What the header of a log says. Its rules are 0 where it has no line of rules."""
     t1: int
     t2: int
     t4: int
@@ -47,7 +47,7 @@ def read_log(text):
 
 
 def write_log(times, entries, format_number=2):
-    """A log of these entries. One of format 1 has the same verdict in format 2."""
+    """A log of these entries. A log of format 1 has the same verdict in format 2, so that format 2 is written."""
     if format_number == 1:
         lines = [b"sip-trace 1\nt1 %d t2 %d t4 %d tolerance %d\n" % times[:4]]
     else:
@@ -60,7 +60,7 @@ def write_log(times, entries, format_number=2):
 
 
 class Judge:
-    """The program, asked over its standard input. Each log is asked once."""
+    """The program, which is asked over its standard input. It is asked about each log once."""
 
     def __init__(self, program):
         self.program, self.file, self.owner = str(program), -1, 0
@@ -68,7 +68,7 @@ class Judge:
 
     def say(self, log, *words):
         """What the program writes about a log on its standard input."""
-        if self.owner != os.getpid():  # a process of its own has an input of its own
+        if self.owner != os.getpid():  # another process has an input of its own
             self.file, self.owner = os.memfd_create("log"), os.getpid()
         self.asked += 1
         os.lseek(self.file, 0, os.SEEK_SET)
@@ -95,14 +95,14 @@ class Judge:
         return self.answers[log]
 
     def is_possible(self, times, entries):
-        """Whether the program finds no breach in these entries. Where it is undecided it has found none."""
+        """Whether the program finds no breach in these entries: where it is undecided it has found none."""
         words = self.verdict(write_log(times, entries))
         if words[0] not in ("legal", "undecided", "breach"):
             raise ValueError(f"a question that is no log of messages: {' '.join(words)}")
         return words[0] != "breach"
 
     def listing(self, times, entries):
-        """For each transaction that the last entry concerns: number, role, method, and the lines of its states."""
+        """Each transaction that the last entry concerns: its number, role and method, and the lines of its states."""
         found = []
         for line in self.say(write_log(times, entries), "states", "/dev/stdin", str(len(entries))).splitlines():
             words = line.split()

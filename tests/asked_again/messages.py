@@ -1,5 +1,5 @@
-"""What the checker reads in a SIP message: its kind, its transaction, and the parts of an ACK (RFC 3261 sections 17.1.1.3, 17.1.3 and 17.2.3). This is the
-checker's own: it has nothing of recipes/."""
+"""What the checker reads in a SIP message: its kind, its transaction, and the parts of an ACK (RFC 3261 sections 17.1.1.3, 17.1.3 and 17.2.3). All of
+this is the checker's own and has nothing of recipes/."""
 import re
 
 COOKIE = b"z9hg4bk"
@@ -64,7 +64,7 @@ def sent_by(text):
 
 
 def keys_of(letter, data):
-    """The transactions that an entry concerns: role, branch, sent-by and method, its own first. A CANCEL that is sent concerns its INVITE's too."""
+    """The transactions that an entry concerns, its own first: role, branch, sent-by and method. A CANCEL that is sent concerns that of its INVITE too."""
     if not data:
         return []
     _, _, host, branch = top_via(data)
@@ -81,12 +81,12 @@ def keys_of(letter, data):
 
 
 def solid(text):
-    """A text without its blanks, in which an ACK is compared with its INVITE."""
+    """A text without its blanks. An ACK is compared with its INVITE in this form."""
     return re.sub(rb"[ \t\r\n]", b"", text)
 
 
 def part_of_ack(data, part):
-    """What a request has in a part of 17.1.1.3, as it is compared."""
+    """What a request has in a part of section 17.1.1.3, in the form in which it is compared."""
     if part == "Request-URI":
         return data.split(b" ", 2)[1]
     if part == "CSeq number":
@@ -95,7 +95,7 @@ def part_of_ack(data, part):
 
 
 def wanted_of_ack(invite, response, part):
-    """What the ACK of this response to this INVITE has in a part."""
+    """What the ACK of this response to this INVITE has to have in a part."""
     if part == "To":
         return part_of_ack(response, part)
     if part == "Via":
@@ -109,7 +109,7 @@ def wrong_parts(ack, invite, response):
 
 
 def with_lines(data, name, lines):
-    """A message whose fields of one name are these lines, after its start line."""
+    """A message in which these lines stand in place of the fields of one name, after its start line."""
     first, *others = head_lines(data)
     return b"\r\n".join([first, *lines, *(line for line in others if name_of(line) != name)]) + data[data.index(b"\r\n\r\n"):]
 
@@ -124,7 +124,7 @@ def with_part_of(data, other, part):
 
 
 def right_ack(ack, invite, response):
-    """That request with each wrong part put right, for this response to this INVITE."""
+    """The ACK with each wrong part put right, for this response to this INVITE."""
     right = ack
     for part in wrong_parts(ack, invite, response):
         if part == "Via":

@@ -1,5 +1,6 @@
-"""Planted faults, each of which must be told: wrong answers of the program, given by a stub that stands between, and faults of the module itself, whose source is
-copied and one text of it replaced. A fault is told where the checker contradicts what is said, or where `explain` itself says that the answers do not agree."""
+"""Planted faults, each of which the checker must tell: wrong answers of the program, given by a stub that stands between, and faults of the module itself,
+whose source is copied with one text replaced. A fault is told where the checker contradicts the evidence, or where `explain` itself says that
+the answers do not agree."""
 import json
 import shutil
 import subprocess
@@ -32,7 +33,8 @@ LOGS = {
 
 
 class Answer(NamedTuple):
-    """A way of the stub, the log with which it is tried, and which number of that log's evidence, and how much more, it is given."""
+    """A way in which the stub answers falsely, the log with which it is tried, and the number that the stub is given: one at this place of the log's
+    evidence, with so much added to it."""
     what: str
     way: str
     log: str
@@ -60,7 +62,7 @@ ANSWERS = [
     Answer("a verdict on the log that names another transaction", "key", "none"),
 ]
 KTH = [("legal", "none"), ("breach", "early"), ("legal", "never"), ("breach", "ack"), ("legal", "late"), ("breach", "two late")]
-QUESTIONS = (3, 8, 14)  # of each of these logs, answered falsely one at a time
+QUESTIONS = (3, 8, 14)  # these questions of each of these logs are answered falsely, one at a time
 DENSITY = 12
 
 
@@ -99,7 +101,7 @@ FAULTS = [
 
 
 class Plants:
-    """What all plants share: the genuine program and explanation, the stub, and the logs."""
+    """What all plants share: the genuine program and its explanations, the stub, and the logs."""
 
     def __init__(self, program, explain, check, work):
         self.program, self.explain, self.check, self.work = program, explain, check, Path(work)
@@ -135,12 +137,12 @@ class Plants:
         return {"SIPTRACE": str(self.stub), "STUB_PROGRAM": self.program, "STUB_WAY": way, "STUB_NUMBER": str(number)}
 
     def answer(self, answer):
-        """Whether a wrong answer is told, and by what."""
+        """Whether a wrong answer is told, and by what sentence."""
         number = answer.number(self.evidence(answer.log))
         return answer.what, self.faults_told(answer.what, answer.log, **self.stub_variables(answer.way, number))
 
     def question(self, way, log, number):
-        """Whether a question that is answered falsely is told, where it changes what is said: else None."""
+        """Whether a question that is answered falsely is told, where the false answer changes what is said; None where it changes nothing."""
         what = f"question {number} of the log '{log}' answered by {way}"
         with tempfile.TemporaryDirectory() as folder:
             variables = self.stub_variables(way, number)
@@ -150,7 +152,7 @@ class Plants:
             return what, self.faults_told(what, log, STUB_COUNT=f"{folder}/second", **variables)
 
     def genuine(self, log):
-        """What the checker tells of a log with no fault, which has to be nothing."""
+        """What the checker tells of a log without a fault, which has to be nothing."""
         wrong = self.faults_told(log, log)
         if wrong:
             print(f"A FAULT IS TOLD where there is none, in the log '{log}': {wrong[0]}")
@@ -178,12 +180,12 @@ def log_of(words):
 
 
 def is_told(wrong):
-    """Whether a fault was told in so many words, and not by a script that fell over."""
+    """Whether the checker told a fault in words, and did not end with a traceback."""
     return bool(wrong) and not any("Traceback" in text or "the checker stopped" in text or text.startswith("BAD PLANT") for text in wrong)
 
 
 def are_told(program, explain, check, chance=None, most=None):
-    """Tries the plants, or so many of them by chance; tells of each how it was told, and answers whether all were."""
+    """Tries the plants, or `most` of them by chance; tells of each how the checker told it, and answers whether it told all."""
     with tempfile.TemporaryDirectory() as work, ProcessPoolExecutor() as pool:
         plants = Plants(program, explain, check, work)
         todo = [(fault.logs, plants.fault, fault) for fault in FAULTS]
@@ -202,7 +204,7 @@ def are_told(program, explain, check, chance=None, most=None):
 
 
 def tell(what, wrong):
-    """Tells how a plant was told, or that it was not."""
+    """Prints how a plant was told, or that it was not."""
     if wrong is None:
         return "idle"
     if is_told(wrong):

@@ -10,12 +10,12 @@ from judge import Entry, Times, mark, write_log
 
 TRANSACTIONS = [(role, method, rules) for rules in (0, 3261) for role in ("client", "server") for method in ("INVITE", "OPTIONS")]
 MOST_TRIES = 12
-WAYS = ("silence", "repeat", "repeat", "bytes", "ACK", "any")  # in which a transaction is led to its breach
+WAYS = ("silence", "repeat", "repeat", "bytes", "ACK", "any")  # the ways in which a transaction is led to its breach
 PHRASES = {100: "Trying", 180: "Ringing", 183: "Progress", 200: "OK", 299: "Well", 302: "Moved", 486: "Busy Here", 487: "Terminated", 603: "Decline"}
 
 
 class Spelling:
-    """How the messages of a transaction are spelled: one of many ways that the grammar allows, the same for all of them."""
+    """How the messages of a transaction are spelled: one of the many ways that the grammar allows, and the same for all messages of the transaction."""
 
     def __init__(self, chance, number):
         self.transport = chance.choice(["UDP"] * 5 + ["TCP", "TLS", "SCTP"])
@@ -60,7 +60,7 @@ def spoiled_ack(chance, spelling, tag):
 
 
 class Walk:
-    """A transaction that is led on, and what it may do next."""
+    """A transaction that is led on entry by entry, and what it may do next."""
 
     def __init__(self, judge, chance, number):
         self.judge, self.chance = judge, chance
@@ -113,7 +113,7 @@ class Walk:
         return (chance.choice("SSSSSSF"), chance.choice(sends)) if chance.random() < 0.6 else ("R", chance.choice(comes))
 
     def entry(self):
-        """A random entry from now on."""
+        """A random entry from now on, of the client or of the server."""
         moment, chance = self.moment(), self.chance
         if self.entries and chance.random() < 0.15:
             return mark(moment)
@@ -123,11 +123,11 @@ class Walk:
         return Entry(letter, moment, data)
 
     def said(self):
-        """What it sent before."""
+        """The messages that the transaction sent before."""
         return [entry.data for entry in self.entries if entry.letter in "SF"]
 
     def legal_repeat(self):
-        """What it sent last, at a moment at which it may be sent again; None where none was found."""
+        """The message that the transaction sent last, at a moment at which it may be sent again; None where no such moment was found."""
         for _ in range(MOST_TRIES if self.said() else 0):
             one = Entry("S", self.moment(), self.said()[-1])
             if self.verdict([*self.entries, one]) == "legal":
@@ -135,7 +135,7 @@ class Walk:
         return None
 
     def wrong_entry(self, way):
-        """An entry that may be the breach: of one of the ways of WAYS."""
+        """An entry that may be the breach, of one of the ways in WAYS."""
         chance, now = self.chance, self.entries[-1].moment if self.entries else 0
         if way == "silence":
             return mark(self.moment() + chance.choice([0, 0, 60, 700, 40_000]))
@@ -153,7 +153,7 @@ class Walk:
         return self.judge.verdict(write_log(self.times, entries, self.format))[0]
 
     def lead(self, steps):
-        """Leads the transaction on by entries that are legal."""
+        """Leads the transaction on by so many legal entries."""
         for _ in range(MOST_TRIES * steps):
             one = self.entry()
             if self.verdict([*self.entries, one]) == "legal":
@@ -177,7 +177,7 @@ class Walk:
         return False
 
     def after(self):
-        """What follows the breach: what was tried, too late, and a mark."""
+        """The entries after the breach: the repeat or ACK that was tried, too late, and a mark."""
         last = self.entries[-1]
         for _ in range(self.chance.choice([0, 0, 1, 2, 3])):
             one = self.entry()
@@ -190,7 +190,7 @@ class Walk:
             self.entries.append(mark(self.entries[-1].moment + self.chance.choice([0, 1000, 40_000])))
 
     def among_others(self):
-        """Puts entries of other transactions between: of the same call with an ACK of its own branch, and of others."""
+        """Puts entries of other transactions between its own: of the same call, with an ACK of another branch, and of other calls."""
         chance, spelling = self.chance, self.spelling
         for number in range(chance.choice([0, 0, 0, 1, 2, 3])):
             moment = chance.choice(self.entries).moment + chance.choice([0, 1, 30])
@@ -201,7 +201,7 @@ class Walk:
 
 
 def random_breach(judge, seed, number):
-    """The log of one random breach, and its verdict's words."""
+    """The log of one random breach, and the words of its verdict."""
     chance = random.Random(f"{seed} {number}")
     while True:
         walk = Walk(judge, chance, number)

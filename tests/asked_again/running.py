@@ -24,11 +24,11 @@ import typing
 
 LIBRARY = (argparse, array, bisect, collections, datetime, decimal, gc, gzip, hashlib, json, mmap, shutil, subprocess, textwrap, typing)
 OWN = os.path.dirname(os.path.realpath(__file__))
-SECONDS = 120  # after which a script is ended
+SECONDS = 120  # how long a script may take before it is ended
 
 
 def become(script, words, variables, outputs):
-    """Runs the script in this process, which ends with it."""
+    """Runs the script in this process, which ends with the script."""
     for number, output in enumerate(outputs, 1):
         os.dup2(output, number)
     os.dup2(os.open(os.devnull, os.O_RDONLY), 0)

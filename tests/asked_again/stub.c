@@ -38,7 +38,7 @@ static size_t read_all(int from, char *to) {
   return size;
 }
 
-/* Where the last entry of the log begins: entries are read from the first one on. The header ends at the line that begins with t1, or rules. */
+/* Finds where the last entry of the log begins: entries are read from the first one on. The header ends at the line that begins with t1, or with rules. */
 static char *last_entry(void) {
   char *at = log_bytes, *last = log_bytes, *end = log_bytes + log_size;
   for (int lines = 0; lines < 2 && at; lines++) at = strchr(at, '\n') ? strchr(at, '\n') + 1 : NULL;

@@ -1,4 +1,4 @@
-"""What the text of an explanation may say: what its evidence says. Each number of it stands there, each window is one of its windows, and the size is its size."""
+"""What the text of an explanation may say is what its evidence says: each number and window of the text stands in the evidence, and the size is its size."""
 import base64
 import gzip
 import json
@@ -13,7 +13,7 @@ PACKED = re.compile(r"^base64 -d <<\. \| gunzip \| siptrace\n((?:[A-Za-z0-9+/=]+
 UNSAFE = re.compile(r"[^\n\x20-\x7e\xa0-\U0010ffff]")
 MOST_LINES = 40
 
-# Phrases of the text whose number is that of a name of the evidence.
+# Phrases of the text with a number, each with the names of the evidence under which this number stands.
 PHRASES = [(re.compile(pattern), names) for pattern, names in [
     (r"[Bb]y (\d+) the element had to send", ("deadline",)), (r"send nothing up to (\d+)", ("last_wait",)), (r"may be over from (\d+) on", ("may_be_over_from",)),
     (r"Without entry (\d+) it would", ("without",)), (r"At (\d+) it (?:was allowed to|could) send", ("sent", "moment")), (r"was (?:sent|refused by the transport) at (\d+)[;,]", ("sent", "moment")),
@@ -22,7 +22,7 @@ PHRASES = [(re.compile(pattern), names) for pattern, names in [
 
 
 def numbers_in(told):
-    """All numbers of the evidence, those that stand in its names and messages too."""
+    """All numbers of the evidence, with those that stand in its names and messages."""
     return set(NUMBER.findall(json.dumps(told, ensure_ascii=False)))
 
 
@@ -54,7 +54,7 @@ def faults_of_text(text, told, is_short):
     if packed:
         text = text.replace(packed[0], "")
     known = numbers_in(told)
-    if told["word"] == "malformed":  # of a malformed line a piece is shown, which may begin within a number
+    if told["word"] == "malformed":  # only a piece of a malformed line is shown, which may begin within a number
         known |= {number[place:] for number in known for place in range(len(number))}
     faults = [f"a number that its JSON has not: {number}" for number in sorted(set(NUMBER.findall(NAME.sub("", text))) - known)]
     faults += faults_of_packed(packed, told)
@@ -80,7 +80,7 @@ def faults_of_text(text, told, is_short):
 
 
 def faults_of_packed(packed, told):
-    """Whether the lines that repeat the breach are the small log of the evidence."""
+    """Checks that the lines that repeat the breach are the small log of the evidence."""
     if packed is None:
         return []
     unpacked = gzip.decompress(base64.b64decode(packed[1]))

@@ -1,11 +1,11 @@
-"""The contracts of the traits `Judges` and `Program` of sip_standard against those of the functions, word for word."""
+"""Holds the contracts of the traits `Judges` and `Program` of sip_standard against those of the functions of their crates, word for word."""
 
 import re
 
 from statement.files import TOP, code_of, text_of
 
 SOURCES = TOP / "crates/sip_standard/src"
-# Each trait with its file, and the crate whose functions these are.
+# Each trait with its file, and the crate whose functions have its contracts.
 TRAITS = [("Judges", SOURCES / "judges.rt", "sip_verdict"), ("Program", SOURCES / "program.rt", "sip_program")]
 
 
@@ -19,7 +19,7 @@ def contracts_asked(path):
 
 
 def contract_of(files, name):
-    """The signature and clauses of a public function, of which there is one, and which its crate hands on; or what is wrong with it."""
+    """The signature and clauses of the one public function of this name that the crate hands on, or what is wrong where there is no such one."""
     own = [(file, it) for file in files for it in re.finditer(rf"^(?:pub(?:\([\w ]+\))? )?(?:const )?(?:unsafe )?fn {name}\b.*?^\{{$", file.text, re.M | re.S)]
     lib = "\n".join(next(file.bare for file in files if file.path.name == "lib.rt"))
     if len(own) != 1 or not re.search(rf"pub use {own[0][0].path.stem}::(\{{[^}}]*\b{name}\b[^}}]*\}}|{name});", lib):
@@ -28,7 +28,7 @@ def contract_of(files, name):
 
 
 def differing():
-    """Where a function has other words than the trait asks, and where there is not one."""
+    """The functions that have other words than the trait asks, or of which there is not exactly one."""
     for trait, path, crate in TRAITS:
         files = code_of(crate)
         asked = contracts_asked(path)

@@ -1,10 +1,10 @@
-"""The files of the crates, as they stand or as they are tried."""
+"""The files of the crates: as they stand, or with the texts that are tried in their place."""
 
 import re
 from pathlib import Path
 
 TOP = Path(__file__).resolve().parent.parent.parent
-# Texts in place of those of the checkout, by their paths: so it is tried what is said of others.
+# Texts that stand for those of the checkout, by their paths, so that tests/trusted-sabotage tries what is said of them.
 INSTEAD = {}
 
 
@@ -13,7 +13,7 @@ def text_of(path):
 
 
 def without_comments(text):
-    """A text of code without its comments and what stands in its strings."""
+    """A text of code without its comments and without what stands in its strings."""
     return re.sub(r'"(?:[^"\\]|\\.)*"|//.*', lambda found: '""' if found[0].startswith('"') else "", text)
 
 

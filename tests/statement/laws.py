@@ -8,7 +8,7 @@ FUNCTION = re.compile(r"(pub(?:\([\w ]+\))? )?(?:const )?(?:unsafe )?fn (\w+)")
 
 
 def laws_of(file):
-    """The laws of a file: the line, the name, whether it is written `pub`, and how many clauses it ensures."""
+    """The laws of a file, each by its line, its name, whether it is `pub`, and how many clauses it ensures."""
     functions = [(at, FUNCTION.match(line)) for at, line in enumerate(file.bare)]
     for at, name, mark in [(at, it[2], it[1]) for at, it in functions if it]:
         ends = (n for n in range(at, len(file.bare)) if re.match(r"[{}]|\S.*\{", file.bare[n]))
@@ -21,7 +21,7 @@ def laws_of(file):
 
 
 def path_of(files, file, name):
-    """The path under which a crate hands a function on, if it does."""
+    """The path under which a crate hands this function on, or None where it does not."""
     lib = "\n".join(next(it.bare for it in files if str(it.path) == f"{file.crate}/src/lib.rt"))
     module = "::".join(file.path.with_suffix("").parts[2:])
     if re.search(rf"^pub mod {module};$", lib, re.M):
@@ -32,7 +32,7 @@ def path_of(files, file, name):
 
 
 def public_laws():
-    """Each public law with its path and the number of its clauses, and what hides a law or stands among them and is none."""
+    """Each public law with its path and the number of its clauses; and what hides a law, or stands among the laws and is none."""
     laws, faults = [], []
     files = code_of()
     for file in files:

@@ -1,11 +1,12 @@
-"""The tables of docs/standard/MACHINES.md against the six machines, in both directions: the rows with what becomes of the debts, refused sends,
+"""Holds the tables of docs/standard/MACHINES.md against the six machines, in both directions: the rows with what becomes of the debts, refused sends,
 the windows of the ends, and the moments by which a phase has to send.
 
-A clause of a definition is told in the words below. One that they do not have, and a row of a table that no clause gives, is a difference."""
+Each clause of a definition is put into the words below. A clause for which they have no words, and a row of a table that no clause gives, is a
+difference."""
 
 import re
 
-# The words for what a message is, by its kind or its condition, as it is received and as it is sent.
+# The words of the page for a message, by its kind or its condition: as it is received, and as it is sent.
 RECEIVED = {"(Request method)": "a request", "(Request Invite)": "an INVITE", "(Request Ack)": "an ACK", "(Request Cancel)": "a CANCEL"}
 SENT = {**RECEIVED, "(Request method)": "the request"}
 CLASSES = {"IsProvisional code": "a 1xx", "IsSuccess code": "a 2xx", "IsUnsuccessful code": "a 3xx to 6xx", "IsFinal code": "a 2xx to 6xx"}
@@ -109,7 +110,7 @@ MACHINES = [
     ),
 ]
 
-# The two machines without RFC 6026 are told by where they differ from those with it: each definition as it stands, beside the sentence that tells it.
+# The two machines without RFC 6026 are told by what differs from those with it: each differing definition stands here beside the sentence that tells it.
 CLIENT_3261 = "The INVITE client transaction without RFC 6026"
 SERVER_3261 = "The INVITE server transaction without RFC 6026"
 TOLD_3261 = [
@@ -126,14 +127,14 @@ TOLD_3261 = [
 ]
 
 
-# A line of a table is one of these: a numbered row, a row of timers, or the head of either.
+# A line of a table is one of these four: a numbered row, a row of timers, or the head of either kind.
 NUMBERED = re.compile(r"\| (\d+) \| (.*?) \| (.*?) \| (.*?) \|")
 TIMED = re.compile(r"\| ([a-z][^|]*?) \| ([^|]*?) ?\| ([^|]*?) ?\|")
 HEAD = re.compile(r"\| No\. \| In \| What happens \| Leads to \||\| In \| The end may come \(`timer_window`\) \| Has to send by(?: \(`sends_by`\))? \||\|(?:---\|)+")
 
 
 def unread_lines(section):
-    """The lines of a section that can be taken for a table's and are not read as such."""
+    """The lines of the section that look like lines of a table and are not read as such."""
     return [line for line in section.split("\n") if "|" in line and not any(it.fullmatch(line) for it in (NUMBERED, TIMED, HEAD))]
 
 
@@ -142,7 +143,7 @@ def flat(text):
 
 
 def split_outside(text, mark):
-    """The pieces of a text between the marks that stand in no brackets."""
+    """The pieces of a text between these marks. A mark that stands in brackets counts for nothing."""
     deep, pieces, at = 0, [""], 0
     while at < len(text):
         if deep == 0 and text.startswith(mark, at):
@@ -156,7 +157,7 @@ def split_outside(text, mark):
 
 
 def clauses_of(file, name):
-    """The clauses of a definition: what it is applied to, and what it is then."""
+    """The clauses of a definition, each as what it is applied to and what it is then."""
     lines = file.items[name].text().split("\n") if name in file.items else []
     whole = flat(" ".join(f"\0{line}" if line.startswith(name + " ") else line for line in lines if line.strip()))
     for clause in whole.split("\0")[1:]:
@@ -166,7 +167,7 @@ def clauses_of(file, name):
 
 
 def without_outer(text):
-    """A text without the brackets that stand round all of it."""
+    """A text without the brackets that stand round the whole of it."""
     while text.startswith("(") and closes_at(text) == len(text) - 1:
         text = text[1:-1].strip()
     return text
@@ -182,7 +183,7 @@ def closes_at(text):
 
 
 class Rows:
-    """The rows that a machine's definitions give, in the words of the page."""
+    """The rows that the definitions of a machine give, in the words of the page."""
 
     def __init__(self, machine, file):
         self.machine, self.file, self.faults = machine, file, []
@@ -228,7 +229,7 @@ class Rows:
         return [phase for it in self.constructors for phase in self.words_for(it)]
 
     def phases(self, pattern):
-        """The phases that a pattern stands for."""
+        """The phases of the page that a pattern of a definition stands for."""
         parts = split_outside(without_outer(pattern), " ")
         if parts == ["x"]:
             return self.all_phases()
@@ -251,7 +252,7 @@ class Rows:
         return fields
 
     def turns(self, name):
-        """Each way in which a row leads on: phase, kind, condition, target and change."""
+        """Each way in which a row leads on: phase, kind of message, condition, target and change of the debts."""
         for place, body in clauses_of(self.file, name):
             if len(place) != 5 or [place[0], *place[3:]] != ["p", "e", "y"]:
                 self.fault(f"a clause of {name} for {place}")
@@ -277,7 +278,7 @@ class Rows:
         return without_outer(conditions[0]) if conditions else "", *pieces
 
     def phases_that_owe(self, turns):
-        """The phases in which something can be owed: where a row gains a debt, and where a row leads from there that does not drop them."""
+        """The phases in which something can be owed: where a row gains a debt, and where a row leads from such a phase without dropping the debts."""
         owing = set()
         while True:
             more = set(owing)
@@ -299,8 +300,8 @@ class Rows:
         return f"{self.told(RECEIVED if done == 'received' else SENT, kind, 'a kind')} is {done}"
 
     def idle_change(self, phase, done, condition, target, change):
-        """Where nothing is owed the page tells no change of debts, and only one stands there: a final response that is sent softens them, the end of a
-        client drops them, and else they are kept."""
+        """The change of debts that the definitions have where nothing is owed, and of which the page tells nothing: a final response that is sent softens the
+        debts, the end of a client drops them, and else they are kept."""
         is_final = done == "sent" and condition in ("IsFinal code", "IsSuccess code", "IsUnsuccessful code")
         wanted = "drops" if target == "Ended" and phase != "ended" else "softens" if is_final else "keeps"
         if phase not in self.owing and not change.startswith("gains") and change != wanted:
@@ -340,7 +341,7 @@ class Rows:
                 yield phase, kind
 
     def refusals(self, sendable):
-        """What a refused message does that could be sent: it ends the transaction, or counts as sent."""
+        """What a refused message does that could be sent in a phase: it ends the transaction, or counts as sent."""
         value = self.figure.get("ends_refused")
         if value == "λ x k. false":
             return
@@ -457,13 +458,13 @@ class Section:
         for subject in re.split(r",? or ", found[1]):
             subject, _, but = subject.partition(" but in ")
             some = [f"{subject} is {verb}" for verb in (found[2].split(" or ") if "where" not in found[2] else [found[2]])]
-            # where it could be sent: of the phases that are named, those in which it has a row
+            # `where it could be sent` narrows the row to those of the named phases in which the message has a row.
             events += [it for it in some if but != phase and ("where" not in found[2] or it in given)]
         return events
 
 
 def differing(page, files):
-    """Where the sections of the page and the definitions of the machines are not the same."""
+    """The places where the sections of the page and the definitions of the machines differ."""
     sections = re.split(r"^#+ ", page, flags=re.M)
     bases = {}
     for machine in MACHINES:
@@ -501,7 +502,7 @@ def differences(machine, rows, section):
 
 
 def as_told(file, section, of):
-    """Each definition that has to stand as it is, beside the sentence that tells it."""
+    """Checks that each of these definitions stands as it is written here, beside the sentence of the page that tells it."""
     prose = flat(section)
     for heading, name, text, sentence in TOLD_3261:
         if heading != of:
@@ -514,7 +515,7 @@ def as_told(file, section, of):
 
 
 def differing_3261_client(file, base, told_base, sections):
-    """The rows that the client by RFC 3261 has in place of those of the other."""
+    """The differences of the rows that the client by RFC 3261 has in place of those of the client by RFC 6026."""
     section = next((it for it in sections if it.startswith(CLIENT_3261)), "")
     yield from as_told(file, section, CLIENT_3261)
     if file.modules.get("corrected") != base.file.module:
@@ -541,7 +542,7 @@ def differing_3261_client(file, base, told_base, sections):
 
 
 class Other(Rows):
-    """The rows of a machine in place of those of another, whose phases and words it has."""
+    """The rows of a machine that stand in place of those of another machine, whose phases and words it shares."""
 
     def __init__(self, base, file):
         self.machine, self.file, self.faults = base.machine, file, []
@@ -565,7 +566,7 @@ SERVER_ROWS = {
     ("4", "proceeding, completed, confirmed (`remembers`), where the INVITE came again", "a 2xx is sent", "the same state (own, lenient: the user sends its 2xx again)"): (
         "Stays", "(In x again) (Response code)", "(again ≡ true) × (remembers x ≡ true) × IsSuccess code"),
 }
-# What the server by RFC 3261 has of the other, or has not at all.
+# What the server by RFC 3261 shares with the server by RFC 6026, or lacks.
 SERVER_REST = {
     ("Receives", "Passed k", "⊥"),
     ("Receives", "(In x again) k", "Within (corrected.Receives p x k e) again y"),
@@ -577,7 +578,7 @@ SERVER_REST = {
 
 
 def differing_3261_server(file, base, sections):
-    """The rows of the server by RFC 3261, which has those of the other but for a 2xx."""
+    """The differences of the rows of the server by RFC 3261, which has those of the server by RFC 6026 but for a 2xx."""
     section = next((it for it in sections if it.startswith(SERVER_3261)), "")
     yield from as_told(file, section, SERVER_3261)
     if file.modules.get("corrected") != base.file.module:

@@ -1,11 +1,11 @@
-"""The lines of the programs that are trusted, which docs/THEOREM.md lists: of the platform that std gives, and of each `main`."""
+"""The trusted lines of the programs, which docs/THEOREM.md lists: those of the platform that std gives, and those of each `main`."""
 
 import re
 
 from statement.files import code_of
 
 HEADING = "## What is left trusted of the programs themselves\n"
-# The files that have them, each with how its first such line begins. Their crates have no other file.
+# The files with trusted lines, each with how its first such line begins. Their crates have no other file.
 FILES = {
     "sip_platform/src/lib.rt": "pub use",
     "sip_platform/src/platform.rt": "impl ",
@@ -15,7 +15,7 @@ FILES = {
 
 
 def lines_of(file, first):
-    """The lines of a file from the first that begins so on: of a function its name, and of anything else all but brackets."""
+    """The trusted lines of a file, from the first that begins so: of a function its name, and of anything else all lines but brackets."""
     begin = next((at for at, line in enumerate(file.bare) if line.startswith(first)), 0)
     for line in [it.strip() for it in file.bare[begin:]]:
         function = re.match(r"(?:pub )?(fn \w+)", line)
@@ -26,7 +26,7 @@ def lines_of(file, first):
 
 
 def listed_lines(theorem):
-    """The lines that the table lists, by file: those of a file stand after its name."""
+    """The lines that the table lists, by file. The lines of a file stand after its name."""
     section = theorem.partition(HEADING)[2].partition("\n## ")[0]
     listed, file = {}, ""
     for text in re.findall(r"`([^`]+)`", " ".join(re.findall(r"^\| (.*?) \|", section, re.M))):
@@ -38,7 +38,7 @@ def listed_lines(theorem):
 
 
 def unlisted(theorem):
-    """The lines of the platform and of each `main` that the table does not list, and what it lists that is not there."""
+    """The trusted lines that the table does not list, and the lines of the table that are in no file."""
     crates = {name.partition("/")[0] for name in FILES}
     files = {str(file.path): file for file in code_of(*crates)}
     for name in sorted({*files} ^ {*FILES}):

@@ -13,7 +13,8 @@ from statement.platform import unlisted
 
 PAGE = TOP / "docs/THEOREM.md"
 STANDARD = TOP / "docs/standard"
-# The pages that tell the definitions, each with the files of sip_standard up to which it does, in the order of the crate's list.
+# The pages that tell the definitions. Each row tells the files of sip_standard after those of the row before, in the order of the crate's list, up to the
+# file that is named here.
 PAGES = {
     "Profile": ["TEXT.md"],
     "Reason": ["MESSAGE.md", "VERDICT.md"],
@@ -29,7 +30,7 @@ END = "<!-- to here -->\n"
 
 
 def untold(files):
-    """The definitions that no page names: as often as files define one of a name, so many sections name it."""
+    """The definitions that no page names. A name that several files define has to be named by as many sections."""
     some, order = [], iter(files)
     for last, pages in PAGES.items():
         own = []
@@ -54,7 +55,7 @@ def untold(files):
 
 
 def unknown_files():
-    """The files that the headings of the pages name and no crate of theirs has."""
+    """The files that the headings of the pages name and that no crate has."""
     for page in sorted({page for pages in PAGES.values() for page in pages}):
         headings = re.findall(r"^#+ .*", text_of(STANDARD / page), re.M)
         for name in sorted({name for it in headings for name in re.findall(r"`(\w+)`", it) if not name.startswith("sip_")}):
@@ -63,7 +64,7 @@ def unknown_files():
 
 
 def carried(page, text, begin):
-    """The page with a text between two of its lines, and how that differs from what stood there."""
+    """The page with this text between two of its lines, and how that differs from what stood there."""
     before, found, rest = page.partition(begin)
     kept, end, behind = rest.partition(END)
     if not found or not end:

@@ -14,17 +14,17 @@ IN_VERDICT, IN_FORMAT = "`sip_standard/src/verdict.rt`", "`sip_standard/src/form
 
 
 def at(file, *changes):
-    """Changes of one file, each a text that stands there once and what replaces it."""
+    """Changes of one file, each as a text that stands there once and the text that replaces it."""
     return [(file, old, new) for old, new in changes]
 
 
 def plant(above, mention="planted code", wanted="`planted`"):
-    """A definition in some form above IsFinal, which mentions it: the table has it by name, or the form is told."""
+    """Plants a definition in some form above IsFinal, which mentions it: tests/trusted has to list it by name, or to tell its form."""
     return at(KIND, (ABOVE_FINAL, above + ABOVE_FINAL), (FINAL + END_OF_FINAL, FINAL + END_OF_FINAL.replace("(code ≤ 699)", mention))), wanted
 
 
 def planted_elsewhere(mention, uses, wanted, definition=PLANTED):
-    """A definition of Naming.antt, which IsFinal mentions by some path."""
+    """Plants a definition into Naming.antt, which IsFinal mentions by some path."""
     edits, _ = plant("", mention)
     return [*edits[1:], *at(KIND, (HEAD, uses + HEAD)), *at(NAMING, ("\n-- ", f"\n{definition}-- "))], wanted
 

@@ -1,5 +1,5 @@
-"""The crate sip_standard, which is what one must believe: its files in the order of its lists, what each defines, and what in it is not read for
-sure. It is proved alone, so what does not stand in it is not needed."""
+"""The crate sip_standard, which is what one must believe: its files in the order of its lists, what each of them defines, and what in it cannot be read for
+sure. The crate is proved alone, so that what does not stand in it is not needed."""
 
 import re
 from collections import Counter
@@ -24,7 +24,7 @@ class Item:
 
 
 class File:
-    """A file of specs/: what it defines, under which name it has other modules, and its lines that are not read for sure. Definitions stand between
+    """A file of specs/: what it defines, the names that it has from other modules, and its lines that are not read for sure. Definitions stand between
     empty lines, each with its comment, its fixity and its clauses."""
 
     def __init__(self, path):
@@ -43,7 +43,7 @@ class File:
         self.faults.append(f"crates/{self.path}:{at}: {what}")
 
     def read(self, at, lines):
-        """What stands between two empty lines, from this line on: imports, or one definition."""
+        """Reads what stands between two empty lines, from this line on: imports, or one definition."""
         name = None
         for at, line in enumerate(lines, at):
             bare = COMMENT.sub(lambda found: '""' if found[0].startswith('"') else "", line).rstrip()
@@ -85,7 +85,7 @@ class File:
             self.aliases += [(at, name, local)] if renamed else []
 
     def names(self):
-        """The names of its definitions, in order."""
+        """The names of the file's definitions, in order."""
         return list(dict.fromkeys(it.name for it in self.items.values()))
 
 
@@ -110,7 +110,7 @@ def mentioned(text):
 
 
 def faults(files):
-    """What is not read for sure, leads out of the crate, stands in no list, or is not needed: each definition is needed by another or by the code."""
+    """What is not read for sure, leads out of the crate, stands in no list, or is not needed: each definition has to be used by another or by the code."""
     for file in files:
         yield from file.faults
         for at, name, local in file.aliases:
@@ -135,7 +135,7 @@ def faults(files):
 
 
 def page(files):
-    """The whole crate, its contracts last: each file without its imports, but with what has another name in it, or one that several files define."""
+    """The text of the whole crate, its contracts last. Of the imports of a file only those stand that give a name, or tell files of one name apart."""
     doubles = [name for file in files for name in file.names()]
     doubles = {name for name in doubles if doubles.count(name) > 1}
     types = {path.stem: f"[crates/{path}]\n\n" + re.sub(r"\n{3,}", "\n\n", re.sub(r"(?m)^(ghost )?use .*;\n", "", text)).strip() for path, text, _ in code()}
@@ -151,7 +151,7 @@ def page(files):
 
 
 def table(files):
-    """A row for each file: what it defines, and its lines without imports and empty ones; and what these are together."""
+    """A row of the table for each file: what it defines, and how many lines it has without imports and empty lines; and a row of the sums."""
     rows = [(file.path, file.names(), file.text) for file in files] + [(path, types, text) for path, text, types in code() if types]
     yield from ["| File of `crates/` | What it defines | Lines |", "|---|---|---|"]
     lines = {path: sum(bool(line.strip()) and not re.match(r"(ghost |pub )?use ", line) for line in text.split("\n")) for path, _, text in rows}

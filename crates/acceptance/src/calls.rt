@@ -12,6 +12,6 @@ fn lists_no_entry_past_a_log(rt: HostRuntime) -> Result<(), Fail> {
 fn lists_no_entry_0(rt: HostRuntime) -> Result<(), Fail> {
     lists(&rt, (STORED, 0, "no entry"))?;
     lists(&rt, ("S 0,449 INVITE 1", 0, "no entry"))?;
-    // A header that cannot be read is before any entry.
+    // A fault of the header comes before any entry, so that it is what is listed of entry 0 too.
     lists(&rt, ("tolerance 10001", 0, "stopped log fault 0 20 Header"))
 }

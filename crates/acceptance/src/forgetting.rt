@@ -7,11 +7,11 @@ use std::alloc::{AllocError, Global};
 use std::process::Abort;
 use std::test::Fail;
 
-/// The words of a log; how many entries there are after the one up to which is forgotten; how many transactions are left after each entry;
-/// and the entry and the transaction of each breach that is found.
+/// The words of a log; by how many entries the newest one comes after that up to which a survey forgets; how many transactions are left after
+/// each entry; and the entry and the transaction of each breach that is found.
 type Row = (&'static str, u32, &'static [u32], &'static [(u32, u32)]);
 
-/// Each worked by hand, with T1 500, T4 5000 and a tolerance of 50 milliseconds.
+/// Each row is worked by hand, with T1 500, T4 5000 and a tolerance of 50 milliseconds.
 const ROWS: [Row; 9] = [
     // The client of a ends by 5060 (timer K, 17.1.2.2), and the server of b is idle again by 32160 (timer J, 17.2.2). The client of c is silent
     // and breaks.
@@ -21,7 +21,7 @@ const ROWS: [Row; 9] = [
         &[1, 1, 2, 2, 3, 1, 0, 1, 2],
         &[(6, 3)],
     ),
-    // The last entry of a is the second: it is kept as long as the second is one of the newest two.
+    // The last entry of a is the second one: the client of a is left while that entry is one of the newest two.
     (
         "S 0 OPTIONS a; R 10 OPTIONS a 200; M 20000; M 20000; M 20000",
         2,
@@ -35,23 +35,23 @@ const ROWS: [Row; 9] = [
         &[1, 1, 0],
         &[(3, 1)],
     ),
-    // One that has to send again is not over before it is too late.
+    // A client that has to send its request again is not over before it is too late to.
     ("S 0 OPTIONS a; M 400; M 600", 0, &[1, 1, 0], &[(3, 1)]),
-    // A restart ends the client of a, and the server of b is idle again. What b sends then nobody has asked.
+    // A restart ends the client of a, and the server of b is idle again. Nobody has asked for what b sends after it.
     (
         "early 50 late 50; S 0 OPTIONS a; R 0 OPTIONS b; Z 100; M 200; S 300 OPTIONS a; S 310 OPTIONS b 200",
         0,
         &[1, 2, 0, 0, 1, 1],
         &[(6, 2)],
     ),
-    // It is the last entry of both.
+    // The restart is the last entry of a and of b: they are left as long as it is the newest entry.
     (
         "early 50 late 50; S 0 OPTIONS a; R 0 OPTIONS b; Z 100; M 200; S 300 OPTIONS a; S 310 OPTIONS b 200",
         1,
         &[1, 2, 2, 0, 1, 2],
         &[(6, 2)],
     ),
-    // The others are numbered anew.
+    // When a transaction is forgotten the others are numbered anew.
     (
         "S 0 OPTIONS a; R 10 OPTIONS a 200; S 20 OPTIONS b; M 20000; S 20010 OPTIONS c; M 30000",
         0,
@@ -69,7 +69,7 @@ const ROWS: [Row; 9] = [
     ),
 ];
 
-/// How many transactions the survey has.
+/// Appends how many transactions the survey has.
 fn push_count(survey: &Survey<Hasher>, left: &mut Vec<u32>) -> Result<(), AllocError> {
     if let Some(SurveyEnd::Clean { transactions, .. }) = survey.end() {
         left.push(transactions)?;
@@ -77,8 +77,8 @@ fn push_count(survey: &Survey<Hasher>, left: &mut Vec<u32>) -> Result<(), AllocE
     Ok(())
 }
 
-/// Takes the entries of a log, and forgets after each what is over and concerned none of so many newest entries. After each it notes how many
-/// transactions are left.
+/// Takes the entries of a log, and after each one forgets the transactions that are over and that none of so many newest entries concerns. After
+/// each it notes how many transactions are left.
 fn takes_and_forgets(
     rt: &impl Abort,
     surveyed: &mut Surveyed<'_>,
@@ -97,7 +97,7 @@ fn takes_and_forgets(
     Ok(())
 }
 
-/// The entries and the transactions of these breaches.
+/// The entry and the transaction of each breach among the findings.
 fn breaches(alloc: Global, found: &[Finding]) -> Result<Vec<(u32, u32)>, AllocError> {
     let mut numbers = Vec::new(alloc);
     for finding in found {
@@ -108,7 +108,7 @@ fn breaches(alloc: Global, found: &[Finding]) -> Result<Vec<(u32, u32)>, AllocEr
     Ok(numbers)
 }
 
-/// A survey of the log of these words forgets so, and finds this.
+/// Checks the transactions that are left, and the findings, of a survey that takes the log of these words and forgets.
 fn forgets(rt: &(impl Abort + AllocGlobal), (words, behind, left, found): Row) -> Result<(), Fail> {
     let log = log_of(rt.alloc(), words)?;
     let mut are_left = Vec::new(rt.alloc());
@@ -132,7 +132,7 @@ fn a_survey_forgets_what_is_over(rt: HostRuntime) -> Result<(), Fail> {
     Ok(())
 }
 
-/// The first transaction of the survey began at this entry, and has this branch.
+/// Checks that the first transaction of the survey began at this entry, and has this branch.
 fn first_is(
     rt: &impl Abort,
     survey: &Survey<Hasher>,
@@ -145,7 +145,7 @@ fn first_is(
     Ok(())
 }
 
-/// Takes the entries of a log, forgets after each all that is over, and tells the first transaction that is left.
+/// Takes the entries of a log, forgets after each one the transactions that are over, and checks the first transaction that is left.
 fn takes_and_tells(
     rt: &impl Abort,
     surveyed: &mut Surveyed<'_>,
@@ -156,7 +156,7 @@ fn takes_and_tells(
     first_is(rt, &surveyed.survey, (3, "z9hG4bKb"))
 }
 
-/// The server of b has the first number once the client of a is forgotten, and its history is its own. The next entry has the next number.
+/// The server of b has the first number once the client of a is forgotten, and keeps its own history. The next entry has the next number.
 #[test]
 fn what_is_left_is_told_by_its_new_number(rt: HostRuntime) -> Result<(), Fail> {
     let log = log_of(
@@ -177,7 +177,7 @@ fn what_is_left_is_told_by_its_new_number(rt: HostRuntime) -> Result<(), Fail> {
     Ok(())
 }
 
-/// A survey that fails where it forgets wants memory, and says that it failed from then on.
+/// Forgets, and checks that a survey that fails at it wants memory, and says from then on that it failed.
 fn forgets_or_fails(
     rt: &impl Abort,
     survey: &mut Survey<Hasher>,
@@ -196,7 +196,7 @@ fn forgets_or_fails(
     Err(error)
 }
 
-/// Takes the entries of a log, and forgets after each all that is over, until the survey fails there.
+/// Takes the entries of a log, and forgets after each one the transactions that are over, until the survey fails at it.
 fn takes_and_fails(
     rt: &impl Abort,
     surveyed: &mut Surveyed<'_>,
@@ -214,7 +214,7 @@ fn takes_and_fails(
     Ok(None)
 }
 
-/// `tests/growths` refuses each growth in turn. A survey that failed has no end, and one that did not has the server of b alone.
+/// `tests/growths` refuses each growth in turn. A survey that failed has no end, and one that did not fail has the server of b alone.
 #[test]
 fn refused_while_a_survey_forgets(rt: HostRuntime) -> Result<(), Fail> {
     let words = "S 0 OPTIONS a; R 10 OPTIONS a 200; R 15000 OPTIONS b";

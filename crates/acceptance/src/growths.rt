@@ -1,5 +1,5 @@
-//! Logs that are judged and listed while memory is refused: `tests/growths` refuses each growth in turn, and the test then fails with want
-//! of memory or passes with the answer of ample memory.
+//! Logs that are judged and listed while memory is refused: `tests/growths` refuses each growth in turn. Each test then fails for want of
+//! memory, or passes with the answer that it has with ample memory.
 use crate::listed::lists;
 use crate::verdicts::judges;
 use std::test::Fail;

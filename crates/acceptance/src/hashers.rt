@@ -1,4 +1,4 @@
-//! Hashers of keys: of a given seed, and one that finds all keys alike.
+//! Hashers of keys: one of a given seed, and one that gives all keys the same hash.
 use std::hash::{BuildHasher, Hasher};
 use std::io;
 use std::random::RandomSource;

@@ -26,7 +26,7 @@ fn text_of(alloc: Global, listing: Listing) -> Result<String, JudgeError> {
     }
 }
 
-/// What is listed of an entry of the log that a source hands out.
+/// The text of what is listed of an entry of the log that a source hands out.
 fn listing_of<S: Source>(alloc: Global, source: &mut S, entry: u32) -> Result<String, JudgeError>
     requires { S.has_failed source.old ≡ false }
 {
@@ -35,12 +35,12 @@ fn listing_of<S: Source>(alloc: Global, source: &mut S, entry: u32) -> Result<St
     text_of(alloc, listing)
 }
 
-/// What is listed of an entry of the log of these bytes.
+/// The text of what is listed of an entry of the log of these bytes.
 fn listing_on(alloc: Global, bytes: &[u8], entry: u32) -> Result<String, JudgeError> {
     listing_of(alloc, &mut Pieces::cut_at(bytes, bytes.len()), entry)
 }
 
-/// What is listed where the bytes come in pieces of a size, and the call after so many fails.
+/// The text of what is listed where the bytes come in pieces of this size, and the source fails after so many calls.
 pub(crate) fn listing_failing(
     alloc: Global,
     bytes: &[u8],
@@ -50,7 +50,7 @@ pub(crate) fn listing_failing(
     listing_of(alloc, &mut Pieces::failing_in(bytes, size, calls), entry)
 }
 
-/// Lists an entry of the log of these words.
+/// Checks what is listed of an entry of the log of these words.
 pub(crate) fn lists(
     rt: &(impl Abort + AllocGlobal),
     (words, entry, want): (&str, u32, &str),

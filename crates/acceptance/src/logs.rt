@@ -27,7 +27,7 @@ pub(crate) fn folded_log(alloc: Global) -> Result<String, Fail> {
     Ok(log)
 }
 
-/// Appends the entry of a request, or of the response to it with this code, with a branch of its own.
+/// Appends the entry of a request with a branch of its own, or of the response to it with this code.
 pub(crate) fn push_own(
     alloc: Global,
     log: &mut String,
@@ -40,7 +40,7 @@ pub(crate) fn push_own(
     Ok(push_message(log, letter, moment, message.as_str())?)
 }
 
-/// An OPTIONS of 60,000 bytes, and four more.
+/// An OPTIONS of 60,004 bytes, most of which are in its Subject.
 pub(crate) fn long_message(alloc: Global) -> Result<String, AllocError> {
     let subject = "x".repeat(alloc, 59_797)?;
     let message = message_of(alloc, "OPTIONS", "1", None)?;

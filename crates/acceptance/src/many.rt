@@ -39,7 +39,7 @@ fn requests(alloc: Global, count: u64) -> Result<String, Fail> {
     Ok(log)
 }
 
-/// Judges the log of so many OPTIONS with a hasher of keys.
+/// Checks the verdict on the log of so many OPTIONS, judged with this hasher of keys.
 fn judges_by<H: BuildHasher + Drop>(
     rt: &(impl Abort + AllocGlobal),
     count: u64,
@@ -52,7 +52,7 @@ fn judges_by<H: BuildHasher + Drop>(
     Ok(())
 }
 
-/// Judges the log of 10,000 OPTIONS with the hasher of a seed.
+/// Checks the verdict on the log of 10,000 OPTIONS, judged with the hasher of this seed.
 fn judges_by_seed(rt: &(impl Abort + AllocGlobal), seed: u8) -> Result<(), Fail> {
     let hasher = RandomState::new(&Same(seed))?;
     judges_by(rt, 10_000, hasher, "legal entries 10000 transactions 10000")

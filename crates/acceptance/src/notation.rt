@@ -9,7 +9,7 @@ use std::test::Fail;
 /// The change that takes the cookie out of the branch, so that a message has no key.
 const WITHOUT_COOKIE: &str = "s/z9hG4bK//";
 
-/// Appends the first two lines of a log with the times of RFC 3261 table 4. With two tolerances it is one of format 2.
+/// Appends the first two lines of a log with the times of RFC 3261 table 4. The log is of format 2 where the tolerances are two numbers.
 fn push_header(log: &mut String, tolerances: &str) -> Result<(), AllocError> {
     let format = if tolerances.starts_with("early ") {
         "2"
@@ -22,7 +22,7 @@ fn push_header(log: &mut String, tolerances: &str) -> Result<(), AllocError> {
     )
 }
 
-/// A log of these tolerances without an entry.
+/// A log with these tolerances and without an entry.
 pub(crate) fn header(alloc: Global, tolerances: &str) -> Result<String, AllocError> {
     let mut log = String::with_capacity(alloc, 16_384)?;
     push_header(&mut log, tolerances)?;
@@ -54,7 +54,7 @@ pub(crate) fn message_of(
     Ok(text)
 }
 
-/// Appends the entry of a message.
+/// Appends the entry of this message.
 pub(crate) fn push_message(
     log: &mut String,
     letter: &str,
@@ -78,7 +78,7 @@ fn push_entry(
     }
 }
 
-/// Appends an entry at each of the moments.
+/// Appends an entry at each of these moments.
 fn push_entries(
     log: &mut String,
     letter: &str,
@@ -97,7 +97,7 @@ fn push_entries(
     Ok(())
 }
 
-/// The message of an entry's further words: method, branch, and then a code or a change; or `junk`, which is no message.
+/// The message of an entry's further words, which are its method, its branch, and then a code or a change; or `junk`, which is no message.
 fn message_in(alloc: Global, words: &str) -> Result<String, Fail> {
     if words == "junk" {
         return Ok(String::from_str(alloc, "x")?);

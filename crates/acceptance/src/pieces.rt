@@ -3,19 +3,19 @@ ghost use Rattle.std.specs.Prelude.{◌≡◌, false, Some};
 
 use sip_log::{Broken, Source};
 
-/// Hands out the bytes in pieces: the first of one size, and each other of a second one.
+/// A source that hands out its bytes in pieces: the first piece has one size, and all others have a second one.
 #[derive(Drop)]
 pub(crate) struct Pieces<'a> {
     bytes: &'a [u8],
     first: usize,
     others: usize,
-    /// The calls that are answered before one fails; none fails where there is no number.
+    /// How many calls are answered before one fails; None where no call fails.
     calls: Option<usize>,
     failed: bool,
 }
 
 impl<'a> Pieces<'a> {
-    /// The bytes before a place in one piece, and those from there on in another.
+    /// A source that hands out the bytes before a place in one piece, and those after it in another.
     pub(crate) fn cut_at(bytes: &'a [u8], place: usize) -> Pieces<'a>
         ensures { ⟦<Pieces<'a> as Source>⟧.has_failed result ≡ false }
     {
@@ -28,7 +28,7 @@ impl<'a> Pieces<'a> {
         }
     }
 
-    /// Single bytes.
+    /// A source that hands out its bytes one by one.
     pub(crate) fn single(bytes: &'a [u8]) -> Pieces<'a>
         ensures { ⟦<Pieces<'a> as Source>⟧.has_failed result ≡ false }
     {
@@ -41,7 +41,7 @@ impl<'a> Pieces<'a> {
         }
     }
 
-    /// Pieces of one size, and the call after so many fails.
+    /// A source that hands out pieces of one size, and fails after so many calls.
     pub(crate) fn failing_in(bytes: &'a [u8], size: usize, calls: usize) -> Pieces<'a>
         ensures { ⟦<Pieces<'a> as Source>⟧.has_failed result ≡ false }
     {
@@ -69,7 +69,7 @@ impl<'a> Source for Pieces<'a> {
             Some(calls) => self.calls = Some(calls - 1),
             None => {}
         }
-        // A piece of no bytes would be the end.
+        // A piece of no bytes would mean the end, so that each has at least one.
         let size = self.first.max(1);
         let count = size.min(self.bytes.len()).min(buf.len());
         self.first = self.others;

@@ -1,9 +1,9 @@
-//! A sink that has room for some pieces.
+//! A sink that takes some pieces and then fails.
 ghost use Rattle.std.specs.Prelude.{None};
 
 use sip_log::{Broken, Sink};
 
-/// Takes so many pieces, keeps none of them, and then fails.
+/// A sink that takes so many pieces, keeps none of them, and then fails.
 #[derive(Drop)]
 pub(crate) struct Room {
     calls: usize,
@@ -20,7 +20,7 @@ impl Room {
         }
     }
 
-    /// How many pieces were taken.
+    /// How many pieces the sink has taken.
     pub(crate) fn taken(&self) -> usize {
         self.taken
     }

@@ -9,7 +9,7 @@ use std::alloc::Global;
 use std::process::Abort;
 use std::test::Fail;
 
-/// What is shown of a log is this, with the answer.
+/// Checks what `show` writes of a log, and its answer.
 fn shows(
     rt: &(impl Abort + AllocGlobal),
     log: &[u8],
@@ -31,7 +31,7 @@ fn bare_log(alloc: Global) -> Result<String, Fail> {
     Ok(log)
 }
 
-/// A message with a fault stops what is shown.
+/// `show` stops at a message with a fault, and answers it.
 #[test]
 fn tells_the_message_that_stopped_it(rt: HostRuntime) -> Result<(), Fail> {
     let log = bare_log(rt.alloc())?;
@@ -43,7 +43,7 @@ fn tells_the_message_that_stopped_it(rt: HostRuntime) -> Result<(), Fail> {
     Ok(())
 }
 
-/// The moments of two entries are in no order.
+/// `show` stops at an entry whose moment is before that of the entry before it, and answers it.
 #[test]
 fn tells_the_entry_that_stopped_it(rt: HostRuntime) -> Result<(), Fail> {
     let log = log_of(rt.alloc(), "M 5,4")?;
@@ -53,7 +53,7 @@ fn tells_the_entry_that_stopped_it(rt: HostRuntime) -> Result<(), Fail> {
     shows(&rt, log.as_str().as_bytes(), want, told)
 }
 
-/// The bytes come one by one, and the call after so many fails, wherever that is.
+/// Checks that `show` answers a failed read, wherever the source fails as it hands out single bytes.
 fn fails_to_read(rt: &(impl Abort + AllocGlobal), bytes: &[u8]) {
     for calls in 0..=bytes.len() {
         let answer = shown_failing(rt.alloc(), bytes, calls);
@@ -61,7 +61,7 @@ fn fails_to_read(rt: &(impl Abort + AllocGlobal), bytes: &[u8]) {
     }
 }
 
-/// The sink fails after so many calls, wherever that is.
+/// Checks that `show` answers a failed write, wherever the sink fails among so many calls.
 fn fails_to_write(rt: &(impl Abort + AllocGlobal), bytes: &[u8], calls: usize) {
     for calls in 0..calls {
         let answer = shown_in(rt.alloc(), bytes, &mut Room::of(calls));
@@ -69,7 +69,7 @@ fn fails_to_write(rt: &(impl Abort + AllocGlobal), bytes: &[u8], calls: usize) {
     }
 }
 
-/// A source that fails at its nth call, and a sink that does.
+/// `show` tells whether the source or the sink failed, whichever call fails.
 #[test]
 fn tells_the_side_that_failed(rt: HostRuntime) -> Result<(), Fail> {
     let log = log_of(rt.alloc(), STORED)?;
@@ -82,7 +82,7 @@ fn tells_the_side_that_failed(rt: HostRuntime) -> Result<(), Fail> {
     Ok(())
 }
 
-/// Shows a log of so many entries, and shows it again where memory was refused.
+/// Checks that `show` writes the whole text of a log with so many entries; or wants memory after a front of it, and writes the whole text when asked again.
 fn shows_or_wants_memory(
     rt: &(impl Abort + AllocGlobal),
     bytes: &[u8],
@@ -90,7 +90,7 @@ fn shows_or_wants_memory(
     entries: u32,
 ) -> Result<(), Fail> {
     let whole = Shown::End { entries };
-    // With room for the whole text, so that writing takes no memory.
+    // The text has room for all that is written, so that writing takes no memory.
     let mut text = Vec::with_capacity(rt.alloc(), 2_000)?;
     let answer = written(rt.alloc(), bytes, &mut text);
     holds(rt, want.starts_with(&text), "a front");
@@ -107,8 +107,8 @@ fn shows_or_wants_memory(
     }
 }
 
-/// Appends an entry after its number: the bytes of a log from one place to another. Where the message of the entry is of the
-/// canonical form, it is shown so.
+/// Appends the bytes of a log from one place to another, which are an entry, after the entry's number. Where the message of the entry has the
+/// canonical form already, this is how the entry is shown.
 fn push_numbered(
     text: &mut Vec<u8>,
     log: &[u8],
@@ -123,8 +123,8 @@ fn push_numbered(
     Ok(())
 }
 
-/// A refused growth within `show`. `tests/growths` refuses each in turn: the answer is want of memory, and what was
-/// written until then is a front of what is written with memory.
+/// `tests/growths` refuses each growth within `show` in turn: the answer is then want of memory, and what was written until then
+/// is a front of what is written with memory.
 #[test]
 fn shows_again_after_a_refused_growth(rt: HostRuntime) -> Result<(), Fail> {
     let log = folded_log(rt.alloc())?;
@@ -132,7 +132,7 @@ fn shows_again_after_a_refused_growth(rt: HostRuntime) -> Result<(), Fail> {
     shows_or_wants_memory(&rt, log.as_str().as_bytes(), want.as_str().as_bytes(), 2)
 }
 
-/// The same for a REGISTER that is sent again and answered.
+/// `tests/growths` refuses each growth while the log of a REGISTER that is sent again and answered is shown.
 #[test]
 fn shows_the_stored_run_after_a_refused_growth(rt: HostRuntime) -> Result<(), Fail> {
     let log = log_of(rt.alloc(), STORED)?;
@@ -146,7 +146,7 @@ fn shows_the_stored_run_after_a_refused_growth(rt: HostRuntime) -> Result<(), Fa
     shows_or_wants_memory(&rt, bytes, want.as_slice(), 4)
 }
 
-/// The same for a server that repeats its 486.
+/// `tests/growths` refuses each growth while the log of a server that repeats its 486 is shown.
 #[test]
 fn shows_a_repeat_after_a_refused_growth(rt: HostRuntime) -> Result<(), Fail> {
     let log = log_of(
@@ -164,7 +164,7 @@ fn shows_a_repeat_after_a_refused_growth(rt: HostRuntime) -> Result<(), Fail> {
     shows_or_wants_memory(&rt, bytes, want.as_slice(), 5)
 }
 
-/// The same for a call that is cancelled.
+/// `tests/growths` refuses each growth while the log of a call that is cancelled is shown.
 #[test]
 fn shows_a_cancel_after_a_refused_growth(rt: HostRuntime) -> Result<(), Fail> {
     let log = log_of(

@@ -9,7 +9,7 @@ use sip_verdict::{JudgeError, ShowError};
 use std::process::Abort;
 use std::test::Fail;
 
-/// Judges the bytes one by one.
+/// Checks the verdict where the bytes come one by one.
 fn judges_single_bytes(
     rt: &(impl Abort + AllocGlobal),
     bytes: &[u8],
@@ -20,7 +20,7 @@ fn judges_single_bytes(
     Ok(())
 }
 
-/// Judges the bytes in two pieces.
+/// Checks the verdict where the bytes come in two pieces.
 fn judges_cut_at(
     rt: &(impl Abort + AllocGlobal),
     bytes: &[u8],
@@ -32,7 +32,7 @@ fn judges_cut_at(
     Ok(())
 }
 
-/// Judges the bytes one by one, and in two pieces, wherever they are cut.
+/// Checks the verdict where the bytes come one by one, and in two pieces, wherever they are cut.
 fn judges_pieces(rt: &(impl Abort + AllocGlobal), words: &str, want: &str) -> Result<(), Fail> {
     let log = log_of(rt.alloc(), words)?;
     let bytes = log.as_str().as_bytes();
@@ -63,7 +63,7 @@ const READ: &[Row] = &[
     (RESTARTED, "legal entries 2 transactions 1"),
 ];
 
-/// The bytes come one by one, and the call after so many fails, but it does not come.
+/// Checks the verdict where the bytes come one by one, and the source would fail at a call after the last one that the judge makes.
 fn judges_before_a_read_fails(
     rt: &(impl Abort + AllocGlobal),
     bytes: &[u8],
@@ -75,19 +75,19 @@ fn judges_before_a_read_fails(
     Ok(())
 }
 
-/// The answer is that a read failed, after so many calls.
+/// Checks that the answer says that a read failed, where the source fails after so many calls.
 fn fails_to_read(rt: &impl Abort, answer: &Result<String, JudgeError>, calls: usize) {
     let has_failed = matches!(answer, Err(JudgeError::Io));
     holds_at(rt, has_failed, ("calls:", calls));
 }
 
-/// The bytes come one by one, and the call after so many fails, wherever that is.
+/// Checks that the answer says that a read failed wherever the source fails, and is the verdict where no call fails.
 fn judges_until_a_read_fails(
     rt: &(impl Abort + AllocGlobal),
     bytes: &[u8],
     want: &str,
 ) -> Result<(), Fail> {
-    // The call after those for the single bytes finds the end.
+    // The call after those for the single bytes finds the end of the log.
     for calls in 0..=bytes.len() {
         let answer = verdict_failing(rt.alloc(), bytes, 1, calls);
         fails_to_read(rt, &answer, calls);
@@ -115,13 +115,13 @@ fn reads_nothing_after_a_breach(rt: HostRuntime) -> Result<(), Fail> {
     judges_single_bytes(&rt, faulty.as_str().as_bytes(), "log fault 0 20 Header")
 }
 
-/// The bytes come one by one, and the call after so many fails.
+/// Checks that a listing answers a failed read, where the bytes come one by one and the source fails after so many calls.
 fn answers_io(rt: &(impl Abort + AllocGlobal), bytes: &[u8], calls: usize, entry: u32) {
     let answer = listing_failing(rt.alloc(), bytes, (1, calls), entry);
     fails_to_read(rt, &answer, calls);
 }
 
-/// The bytes come one by one, and the call after so many fails, but it does not come.
+/// Checks a listing where the bytes come one by one, and the source would fail at a call after the last one that the listing makes.
 fn lists_before_a_read_fails(
     rt: &(impl Abort + AllocGlobal),
     bytes: &[u8],
@@ -134,7 +134,7 @@ fn lists_before_a_read_fails(
     Ok(())
 }
 
-/// Lists the last entry and the one after it where a read fails, wherever that is.
+/// Checks what is listed of the last entry and of the one after it, wherever the source fails.
 fn lists_until_a_read_fails(
     rt: &(impl Abort + AllocGlobal),
     bytes: &[u8],
@@ -144,16 +144,16 @@ fn lists_until_a_read_fails(
     for calls in 0..bytes.len() {
         answers_io(rt, bytes, calls, entry);
     }
-    // Nothing after the entry is read: not even the end.
+    // Nothing after the listed entry is read, not even the end of the log.
     lists_before_a_read_fails(rt, bytes, bytes.len(), entry, want)?;
     let next = entry.saturating_add(1);
-    // That there is no further entry is told at the end alone.
+    // Only the end of the log tells that there is no further entry.
     answers_io(rt, bytes, bytes.len(), next);
     let calls = bytes.len().saturating_add(1);
     lists_before_a_read_fails(rt, bytes, calls, next, "no entry")
 }
 
-/// The last entries of logs.
+/// Logs, the number of the last entry of each, and what is listed of it.
 const LISTED: &[Listed] = &[
     (STORED, 4, "no transaction\n"),
     (
@@ -178,7 +178,7 @@ fn lists_until_any_read_fails(rt: HostRuntime) -> Result<(), Fail> {
     Ok(())
 }
 
-/// The call after those for the single bytes finds the end.
+/// A listing of an entry after the last one reads the end of the log, and answers a failed read where that call fails.
 #[test]
 fn answers_io_after_the_last_entry(rt: HostRuntime) -> Result<(), Fail> {
     let log = log_of(rt.alloc(), STORED)?;
@@ -189,7 +189,7 @@ fn answers_io_after_the_last_entry(rt: HostRuntime) -> Result<(), Fail> {
     Ok(())
 }
 
-/// The source of a long log fails after each number of calls, until its end is found before: no answer changes in the place of the error.
+/// The source of a long log fails after each number of calls, up to the last call that the judge makes: each time the answer is that it failed.
 #[test]
 fn answers_io_in_a_long_log(rt: HostRuntime) -> Result<(), Fail> {
     let log = long_log(rt.alloc())?;
@@ -206,7 +206,7 @@ fn answers_io_in_a_long_log(rt: HostRuntime) -> Result<(), Fail> {
     Err("never read".into())
 }
 
-/// The same where a long log is listed, and shown.
+/// The source fails after each number of calls, up to the last one, while a long log is listed and while it is shown.
 #[test]
 fn lists_and_shows_until_a_read_fails(rt: HostRuntime) -> Result<(), Fail> {
     let log = long_log(rt.alloc())?;

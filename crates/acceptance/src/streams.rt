@@ -16,7 +16,7 @@ use std::test::Fail;
 
 type Hasher = BuildHasherDefault<FoldHasher>;
 
-/// The entries of a log as they come, and the judge that takes them.
+/// The reader of a log's entries, and the judge that takes them.
 struct Stream<'a> {
     bytes: &'a [u8],
     progress: Progress,
@@ -24,7 +24,7 @@ struct Stream<'a> {
 }
 
 impl<'a> Stream<'a> {
-    /// Reads the header.
+    /// Reads the header of the log.
     fn open(alloc: Global, mut bytes: &'a [u8]) -> Result<Stream<'a>, LogError> {
         let (params, progress) = Progress::open(alloc, &mut bytes)?;
         Ok(Stream {
@@ -34,8 +34,8 @@ impl<'a> Stream<'a> {
         })
     }
 
-    /// The verdict after the entries that were taken. A stream is ended and not dropped, so that no proof goes into all that a judge
-    /// keeps.
+    /// The verdict after the entries that were taken. The function ends a stream where others would drop it, so that no proof is needed of all that a
+    /// judge keeps.
     fn end(self) -> Option<Verdict> {
         let Stream {
             bytes: _bytes,
@@ -45,13 +45,13 @@ impl<'a> Stream<'a> {
         judge.end()
     }
 
-    /// The next entry.
+    /// Reads the next entry.
     fn next(&mut self) -> Result<Option<Entry>, LogError> {
         self.progress.next(&mut self.bytes)
     }
 }
 
-/// Takes the entry where it may come next.
+/// Gives the entry to the judge, and checks that it may come next.
 fn take(
     rt: &impl Abort,
     judge: &mut Judge<Hasher>,
@@ -61,7 +61,7 @@ fn take(
     judge.entry(entry)
 }
 
-/// Takes the next entry. The answer is whether there was one, and no verdict yet.
+/// Takes the next entry. It answers whether there was one, and no verdict yet.
 fn goes_on(rt: &impl Abort, stream: &mut Stream<'_>) -> Result<bool, Fail> {
     let Some(entry) = stream.next()? else {
         return Ok(false);
@@ -80,7 +80,7 @@ fn count_kept(rt: &impl Abort, stream: &mut Stream<'_>, kept: &mut Vec<usize>) -
     Ok(())
 }
 
-/// How many messages are kept after each entry, and the last verdict.
+/// How many messages the judge keeps after each entry, and its last verdict.
 fn kept_after_each(
     rt: &(impl Abort + AllocGlobal),
     log: &str,
@@ -123,7 +123,7 @@ pub(crate) fn answered(alloc: Global, count: u64) -> Result<String, Fail>
     Ok(log)
 }
 
-/// What a judge says is this. A row tells when.
+/// Checks what a judge says, for this row.
 fn says(rt: &impl Abort, verdict: Option<Verdict>, want: Option<Verdict>, row: &str) {
     holds(rt, verdict == want, row);
 }
@@ -136,8 +136,8 @@ fn legal(entries: u32, transactions: u32) -> Option<Verdict> {
     })
 }
 
-/// Takes the entries of a log with 1,000 transactions of two each. At these places are entries after which so many messages are kept,
-/// and no more than 66 are kept after any.
+/// Takes the entries of a log with 1,000 transactions of two entries each, and checks how many messages are kept after the entries at these places,
+/// and that no more than 66 are kept after any.
 fn keeps_few(
     rt: &(impl Abort + AllocGlobal),
     log: &str,
@@ -155,8 +155,8 @@ fn keeps_few(
     Ok(())
 }
 
-/// A request is needed until its response has come, and no response is: it is not kept. The first sweep comes after the 65th request, which
-/// is entry 129, and each leaves that request alone.
+/// A judge needs a request until its response has come, and keeps no response. The first sweep comes after the 65th request, which is entry
+/// 129. Each sweep leaves the newest request alone.
 #[test]
 fn keeps_few_messages_of_many(rt: HostRuntime) -> Result<(), Fail> {
     let log = answered(rt.alloc(), 1_000)?;
@@ -178,8 +178,8 @@ fn restarted(alloc: Global, count: u64) -> Result<String, Fail>
     Ok(log)
 }
 
-/// No request is needed after a restart. The first sweep comes after the 65th request, which is entry 129, and each leaves that request
-/// alone.
+/// A judge needs no request after a restart. The first sweep comes after the 65th request, which is entry 129. Each sweep leaves the newest
+/// request alone.
 #[test]
 fn forgets_after_restarts(rt: HostRuntime) -> Result<(), Fail> {
     let log = restarted(rt.alloc(), 1_000)?;
@@ -198,8 +198,8 @@ fn ended(alloc: Global) -> Result<String, Fail> {
     Ok(log)
 }
 
-/// A server needs its response, and not the request; it has ended 32 seconds after the response. The last request is the 65th message that is
-/// kept, so that a sweep comes after it, and leaves that request alone.
+/// A server needs its response, and not the request, until it ends 32 seconds after the response. The last request is the 65th message that
+/// is kept, so that a sweep comes after it, and leaves that request alone.
 #[test]
 fn forgets_what_ended_servers_sent(rt: HostRuntime) -> Result<(), Fail> {
     let log = ended(rt.alloc())?;
@@ -218,7 +218,7 @@ fn waiting(alloc: Global) -> Result<String, Fail> {
     Ok(log)
 }
 
-/// After each entry its message is kept, and all that came before.
+/// Checks that after each entry its message is kept, and all messages before it.
 fn keeps_all(rt: &impl Abort, kept: &[usize]) {
     for (before, count) in kept.iter().enumerate() {
         let is_one_more = before < *count && *count - before == 1;
@@ -236,8 +236,8 @@ fn keeps_what_is_needed(rt: HostRuntime) -> Result<(), Fail> {
     Ok(())
 }
 
-/// A message without the cookie concerns no transaction and is not kept: not as the first entry, and not after one that is. Nor is the last
-/// response, which no state names.
+/// A message without the cookie concerns no transaction and is not kept, neither as the first entry nor after an entry that is kept. Nor is the
+/// last response kept, which no state names.
 #[test]
 fn keeps_no_message_without_a_key(rt: HostRuntime) -> Result<(), Fail> {
     let log = log_of(
@@ -255,7 +255,7 @@ fn keeps_no_message_without_a_key(rt: HostRuntime) -> Result<(), Fail> {
     Ok(())
 }
 
-/// Takes entries, and of each the judge says this.
+/// Takes the entries, and checks what the judge says of each.
 fn says_of_each(
     rt: &impl Abort,
     stream: &mut Stream<'_>,
@@ -289,7 +289,7 @@ fn tells_a_verdict_again(rt: HostRuntime) -> Result<(), Fail> {
     Ok(())
 }
 
-/// Takes entries until there is a verdict, and appends what is due after each.
+/// Takes the entries until there is a verdict, and appends what is due after each.
 fn note_due(
     rt: &impl Abort,
     stream: &mut Stream<'_>,
@@ -329,7 +329,7 @@ fn tells_what_is_due(rt: HostRuntime) -> Result<(), Fail> {
     Ok(())
 }
 
-/// The key of a transaction has this branch, or there is no such transaction.
+/// Whether the key of the transaction has this branch, or there is no such transaction.
 fn has_branch(judge: &Judge<Hasher>, transaction: u32, want: Option<&[u8]>) -> bool {
     match judge.key(transaction) {
         Some(key) => Some(key.branch()) == want,
@@ -337,7 +337,7 @@ fn has_branch(judge: &Judge<Hasher>, transaction: u32, want: Option<&[u8]>) -> b
     }
 }
 
-/// A judge names each transaction by its key, and no other one.
+/// Checks that the judge names each transaction by its key, and no other one.
 fn names(rt: &impl Abort, judge: &Judge<Hasher>) {
     holds(rt, has_branch(judge, 0, None), "no transaction");
     holds(rt, has_branch(judge, 1, Some(b"z9hg4bka")), "the first");
@@ -360,7 +360,7 @@ fn names_transactions_by_their_keys(rt: HostRuntime) -> Result<(), Fail> {
     said
 }
 
-/// After an entry at 5, the second entry of another log is not the next one, since it is at 4; and that of its own log is.
+/// Checks that the second entry of another log, at moment 4, may not come after an entry at 5, and that the second entry of the same log may.
 fn takes_none_from_before(
     rt: &impl Abort,
     stream: &mut Stream<'_>,
@@ -376,7 +376,7 @@ fn takes_none_from_before(
     Ok(())
 }
 
-/// So it is of an entry of the log of these words.
+/// Checks that the second entry of the log of these words may not come next in the stream.
 fn takes_none_of(
     rt: &(impl Abort + AllocGlobal),
     stream: &mut Stream<'_>,
@@ -398,7 +398,7 @@ fn takes_no_entry_from_before(rt: HostRuntime) -> Result<(), Fail> {
     taken
 }
 
-/// A judge that fails at an entry wants memory, and says that it failed from then on.
+/// Takes an entry, and checks that a judge that fails at it wants memory, and says from then on that it failed.
 fn takes_or_fails(
     rt: &impl Abort,
     judge: &mut Judge<Hasher>,
@@ -420,8 +420,8 @@ fn takes_or_fails(
     Err(error)
 }
 
-/// Takes so many entries, or as many as there are, until the judge fails. The answer is its error. Any entry may be given to it then, also
-/// one that it took before.
+/// Takes so many entries, or as many as there are, until the judge fails, and answers its error. A judge that has failed may be given any entry,
+/// also one that it took before.
 fn takes_until_it_fails(
     rt: &impl Abort,
     stream: &mut Stream<'_>,
@@ -442,7 +442,7 @@ fn takes_until_it_fails(
     Ok(None)
 }
 
-/// `tests/growths` refuses each growth in turn, those of a sweep too. A judge that failed has no verdict, and one that did not keeps two
+/// `tests/growths` refuses each growth in turn, those of a sweep too. A judge that failed has no verdict, and one that did not fail keeps two
 /// messages.
 #[test]
 fn refused_while_a_judge_sweeps(rt: HostRuntime) -> Result<(), Fail> {

@@ -26,7 +26,7 @@ fn written(alloc: Global, log: &[u8], text: &mut Vec<u8>) -> Result<(), SurveyEr
     Ok(())
 }
 
-/// Tells what is found in the log of these bytes in memory by the lines of a survey, without the words of their transactions.
+/// Writes what is found in the log of these bytes as the lines of a survey, without the words of their transactions.
 fn told(alloc: Global, log: &[u8], text: &mut Vec<u8>) -> Result<(), SurveyError> {
     let (found, end) = survey_bytes(alloc, log, Hasher::new())?;
     for finding in &found {
@@ -37,7 +37,7 @@ fn told(alloc: Global, log: &[u8], text: &mut Vec<u8>) -> Result<(), SurveyError
     Ok(())
 }
 
-/// The lines of a survey without the words of their transactions.
+/// The lines of a survey, without the words of their transactions.
 fn bare(alloc: Global, lines: &str) -> Result<String, AllocError> {
     let mut text = String::new(alloc);
     for line in lines.lines() {
@@ -51,7 +51,7 @@ fn bare(alloc: Global, lines: &str) -> Result<String, AllocError> {
     Ok(text)
 }
 
-/// The survey of a log has these lines, whether its bytes come from a reader or lie in memory.
+/// Checks the lines of the survey of a log, whose bytes come from a reader or lie in memory.
 fn surveys_log(
     rt: &(impl Abort + AllocGlobal),
     log: &str,
@@ -68,13 +68,13 @@ fn surveys_log(
     Ok(())
 }
 
-/// The survey of the log of these words has these lines.
+/// Checks the lines of the survey of the log of these words.
 fn surveys(rt: &(impl Abort + AllocGlobal), (words, want): Row) -> Result<(), Fail> {
     let log = log_of(rt.alloc(), words)?;
     surveys_log(rt, log.as_str(), (words, want))
 }
 
-/// So it is of each row.
+/// Checks the lines of the survey of each row.
 fn surveys_each(rt: &(impl Abort + AllocGlobal), rows: &[Row]) -> Result<(), Fail> {
     for row in rows {
         surveys(rt, *row)?;
@@ -87,8 +87,8 @@ fn finds_what_is_wrong_at_each_entry(rt: HostRuntime) -> Result<(), Fail> {
     surveys_each(&rt, &rows::FOUND)
 }
 
-/// A server answers in one of two ways, and each request again may be answered or not: after 44 answers more states are possible than are
-/// followed. What comes for it later says nothing, and another transaction that falls silent is found.
+/// A server answers in one of two ways, and each repeated request may be answered or not: after 44 answers more states are possible than a
+/// survey follows. It finds nothing in what comes for this server later, and finds another transaction that falls silent.
 #[test]
 fn gives_one_up_and_finds_another(rt: HostRuntime) -> Result<(), Fail> {
     let alloc = rt.alloc();
@@ -106,7 +106,7 @@ fn gives_one_up_and_finds_another(rt: HostRuntime) -> Result<(), Fail> {
     surveys_log(&rt, log.as_str(), ("a server with two answers", want))
 }
 
-/// The survey of part `number` of two has these lines.
+/// Checks the lines of the survey of part `number` of two.
 fn surveys_part(
     rt: &(impl Abort + AllocGlobal),
     log: &str,
@@ -124,8 +124,8 @@ fn surveys_part(
     Ok(())
 }
 
-/// A restart ends the client of one branch and the server of the other, in each part: FNV-1a of z9hg4bka is 431978031, and of z9hg4bkb 448755650. The
-/// client is silent after it, and the server answers what nobody has asked any more.
+/// A restart ends the client of one branch and the server of the other, each in its own part: FNV-1a of z9hg4bka is 431978031, and that of z9hg4bkb is
+/// 448755650. The client is silent after the restart, and the server answers what nobody has asked for any more.
 #[test]
 fn a_restart_stands_in_each_part(rt: HostRuntime) -> Result<(), Fail> {
     let words = "early 50 late 50; S 0 OPTIONS a; R 0 OPTIONS b; Z 100; M 600; S 700 OPTIONS b 200";
@@ -137,7 +137,7 @@ fn a_restart_stands_in_each_part(rt: HostRuntime) -> Result<(), Fail> {
     surveys_part(&rt, log.as_str(), 2, none)
 }
 
-/// The entries of a log as they come, and the survey that takes them.
+/// The reader of a log's entries, and the survey that takes them.
 pub(crate) struct Surveyed<'a> {
     bytes: &'a [u8],
     progress: Progress,
@@ -145,7 +145,7 @@ pub(crate) struct Surveyed<'a> {
 }
 
 impl<'a> Surveyed<'a> {
-    /// Reads the header.
+    /// Reads the header of the log.
     pub(crate) fn open(alloc: Global, mut bytes: &'a [u8]) -> Result<Surveyed<'a>, LogError> {
         let (params, progress) = Progress::open(alloc, &mut bytes)?;
         Ok(Surveyed {
@@ -155,7 +155,7 @@ impl<'a> Surveyed<'a> {
         })
     }
 
-    /// The next entry.
+    /// Reads the next entry.
     pub(crate) fn next(&mut self) -> Result<Option<Entry>, LogError> {
         self.progress.next(&mut self.bytes)
     }
@@ -171,7 +171,7 @@ impl<'a> Surveyed<'a> {
     }
 }
 
-/// Takes the entry where it may come next.
+/// Gives the entry to the survey, and checks that it may come next.
 pub(crate) fn take(
     rt: &impl Abort,
     survey: &mut Survey<Hasher>,
@@ -182,7 +182,7 @@ pub(crate) fn take(
     survey.entry(entry, found)
 }
 
-/// A survey that fails at an entry wants memory, and says that it failed from then on.
+/// Takes an entry, and checks that a survey that fails at it wants memory, and says from then on that it failed.
 fn takes_or_fails(
     rt: &impl Abort,
     survey: &mut Survey<Hasher>,
@@ -204,7 +204,7 @@ fn takes_or_fails(
     Err(error)
 }
 
-/// Takes all entries of a log, or as many as there are until the survey fails. The answer is its error.
+/// Takes all entries of a log, or as many as there are until the survey fails, and answers its error.
 fn takes_all(
     rt: &impl Abort,
     surveyed: &mut Surveyed<'_>,
@@ -221,8 +221,8 @@ fn takes_all(
     Ok(None)
 }
 
-/// A request is needed until its response has come. The first sweep comes after entry 65 and leaves one request, and five messages come
-/// after it.
+/// A survey needs a request until its response has come. The first sweep comes after entry 65 and leaves one request, and five messages come after
+/// it.
 #[test]
 fn a_survey_keeps_few_messages_of_many(rt: HostRuntime) -> Result<(), Fail> {
     let log = answered(rt.alloc(), 35)?;
@@ -240,7 +240,7 @@ fn a_survey_keeps_few_messages_of_many(rt: HostRuntime) -> Result<(), Fail> {
     Ok(())
 }
 
-/// `tests/growths` refuses each growth in turn. A survey that failed has no end, and one that did not has found three things.
+/// `tests/growths` refuses each growth in turn. A survey that failed has no end, and one that did not fail has found three things.
 #[test]
 fn refused_while_a_survey_goes_on(rt: HostRuntime) -> Result<(), Fail> {
     let words = "S 0 OPTIONS a; S 0 OPTIONS b; R 600 junk; M 700; S 800 OPTIONS c";

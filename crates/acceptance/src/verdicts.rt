@@ -38,7 +38,7 @@ fn verdict_on(alloc: Global, bytes: &[u8]) -> Result<String, JudgeError> {
     verdict_by(alloc, bytes, BuildHasherDefault::<FoldHasher>::new())
 }
 
-/// The verdict where the bytes before a place come in one piece, and those from there on in another.
+/// The verdict where the bytes before a place come in one piece, and those after it in another.
 pub(crate) fn verdict_cut_at(
     alloc: Global,
     bytes: &[u8],
@@ -52,7 +52,7 @@ pub(crate) fn verdict_of_single_bytes(alloc: Global, bytes: &[u8]) -> Result<Str
     verdict_of(alloc, &mut Pieces::single(bytes))
 }
 
-/// The verdict where the bytes come in pieces of a size, and the call after so many fails.
+/// The verdict where the bytes come in pieces of this size, and the source fails after so many calls.
 pub(crate) fn verdict_failing(
     alloc: Global,
     bytes: &[u8],
@@ -62,7 +62,7 @@ pub(crate) fn verdict_failing(
     verdict_of(alloc, &mut Pieces::failing_in(bytes, size, calls))
 }
 
-/// The text of the verdict on the log of these words is this one.
+/// Checks the verdict on the log of these words.
 pub(crate) fn judges(
     rt: &(impl Abort + AllocGlobal),
     (words, want): (&str, &str),

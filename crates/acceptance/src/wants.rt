@@ -1,22 +1,22 @@
-//! What is wanted of a text, and of what holds: asked by a call, since an assertion is proved anew wherever it is written out.
+//! Checks a text, or that something holds, by a call: an assertion is proved anew wherever it is written out.
 use std::process::Abort;
 
-/// A text is this one. A row tells of what.
+/// Checks that a text is the wanted one. The row says which test asks.
 pub(crate) fn reads(rt: &impl Abort, text: &str, want: &str, row: &str) {
     assert_eq!(rt; text, want, "{row}");
 }
 
-/// A text is this one. A row tells of what, by a number.
+/// Checks that a text is the wanted one. The row and its number say which test asks.
 pub(crate) fn reads_at(rt: &impl Abort, text: &str, want: &str, (row, number): (&str, usize)) {
     assert_eq!(rt; text, want, "{row} {number}");
 }
 
-/// So it is, as the row tells.
+/// Checks that something holds. The row says which test asks.
 pub(crate) fn holds(rt: &impl Abort, is_so: bool, row: &str) {
     assert!(rt; is_so, "{row}");
 }
 
-/// So it is, as the row tells by a number.
+/// Checks that something holds. The row and its number say which test asks.
 pub(crate) fn holds_at(rt: &impl Abort, is_so: bool, (row, number): (&str, usize)) {
     assert!(rt; is_so, "{row} {number}");
 }

@@ -1,4 +1,4 @@
-//! The words of each verdict, and of each error.
+//! The text of each verdict, and of each error.
 use crate::wants::reads;
 use sip_verdict::{Fault, JudgeError, LogReason, Reason, ShowError, Unit, Verdict, render};
 use std::alloc::AllocError;
@@ -13,19 +13,19 @@ fn malformed(unit: Unit, reason: Reason) -> Verdict {
     }
 }
 
-/// The verdict on a log of which an entry cannot be read.
+/// The verdict on a log of which this entry cannot be read.
 fn log_fault(entry: u32, reason: LogReason) -> Verdict {
     Verdict::LogFault { entry, reason }
 }
 
-/// Writes a verdict.
+/// Checks the text of a verdict.
 fn writes(rt: &(impl Abort + AllocGlobal), verdict: Verdict, want: &str) -> Result<(), Fail> {
     let text = render(rt.alloc(), &verdict)?;
     reads(rt, text.as_str(), want, want);
     Ok(())
 }
 
-/// Writes verdicts, row by row.
+/// Checks the text of each verdict, row by row.
 fn write_rows(rt: &(impl Abort + AllocGlobal), rows: &[(Verdict, &str)]) -> Result<(), Fail> {
     for &(verdict, want) in rows {
         writes(rt, verdict, want)?;
@@ -93,14 +93,14 @@ fn writes_each_verdict(rt: HostRuntime) -> Result<(), Fail> {
     )
 }
 
-/// An error that a judge answers says this.
+/// Checks the text of an error that a judge answers.
 fn judge_says(rt: &(impl Abort + AllocGlobal), error: JudgeError, want: &str) -> Result<(), Fail> {
     let text = error.to_string(rt.alloc())?;
     reads(rt, text.as_str(), want, want);
     Ok(())
 }
 
-/// An error of what is shown says this.
+/// Checks the text of an error that `show` answers.
 fn show_says(rt: &(impl Abort + AllocGlobal), error: ShowError, want: &str) -> Result<(), Fail> {
     let text = error.to_string(rt.alloc())?;
     reads(rt, text.as_str(), want, want);

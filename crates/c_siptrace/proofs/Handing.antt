@@ -1,11 +1,11 @@
--- Things that are put one after another into the room that there is for them.
+-- Findings are handed out one after another into the room that there is for them.
 use Rattle.std.proofs.Common.{◌≡◌, ◌∙◌, ◌<◌, ◌≤◌, ◌+◌, ℕ, List, [], ◌∷◌, ◌++◌, length, map, min, take, drop, get_or, slice_set, sym, ap, subst, append_assoc, drop-cons, add-one, arith}
 use Rattle.std.proofs.lemmas.List.{take_more, map-append, length-map, length-take, length-take-le, get_or-take, take_min, drop_min}
 use Rattle.std.proofs.Math.ListN.{set}
 use Rattle.std.proofs.Math.Seq.{set-append_seam}
 
 module _ {A B : Type 0} (f : A → B) (xs : List A) (room : List B) where
-  -- the first is put in the place after those that were put there
+  -- the element at i is put in the place i of the room, after the elements before it
   put_next : (i : ℕ) (d : A) → i < length xs → i < length room → slice_set (map f (take i xs) ++ drop i room) i (f (get_or xs i d)) ≡ map f (take (i + 1) xs) ++ drop (i + 1) room
   put_next i d low fits =
       let x = get_or xs i d in
@@ -20,7 +20,7 @@ module _ {A B : Type 0} (f : A → B) (xs : List A) (room : List B) where
       ap (λ r. set (front ++ r) i (f x)) place ∙ put ∙ sym both
 
   module _ (n : ℕ) (fits : n ≡ min (length xs) (length room)) where
-    -- one more is handed out
+    -- where the elements before i are handed out, and the one at i is put in its place, the elements up to i are handed out
     pub handed_next : (i : ℕ) (d : A) (y : B) (now : List B) → i < length (take n xs) → y ≡ f (get_or (take n xs) i d) → now ≡ map f (take i xs) ++ drop i room
         → slice_set now i y ≡ map f (take (i + 1) xs) ++ drop (i + 1) room
     handed_next i d y now low is so_far =
@@ -28,7 +28,7 @@ module _ {A B : Type 0} (f : A → B) (xs : List A) (room : List B) where
         let same : y ≡ f (get_or xs i d) = is ∙ ap f (get_or-take n xs i d (omega arith)) in
         ap (λ r. slice_set r i y) so_far ∙ ap (slice_set (map f (take i xs) ++ drop i room) i) same ∙ put_next i d (omega arith) (omega arith)
 
-    -- all are handed out that there is room for
+    -- where all n elements are handed out, as many of all elements are handed out as there is room for
     pub handed_all : (i : ℕ) (now : List B) → i ≤ length (take n xs) → length (take n xs) ≤ i → now ≡ map f (take i xs) ++ drop i room → now ≡ map f (take (length room) xs) ++ drop (length xs) room
     handed_all i now few all so_far =
         let some = length-take n xs in

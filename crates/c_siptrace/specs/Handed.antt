@@ -5,10 +5,10 @@ use Rattle.c_siptrace.specs.declared.plain_verdict.PlainVerdict.{PlainVerdict}
 use Rattle.c_siptrace.specs.Plain.{plain_finding}
 use Rattle.c_siptrace.specs.Status.{answered, no_room}
 
--- the room after it: as many of the findings as it holds, from the first on, and then what stood in the places that no finding needs
+-- the room after the call: as many of the findings as it holds, from the first on, and after them what stood there before
 abbrev pub handed : List Finding → List PlainVerdict → List PlainVerdict
 handed found room = map plain_finding (take (length room) found) ++ drop (length found) room
 
--- what is answered of so many findings and so many places
+-- what is answered for this many findings and this many places: that they have room, or that not all have
 abbrev pub room_status : ℕ → ℕ → ℕ
 room_status findings places = if nat_le findings places then answered else no_room

@@ -1,4 +1,4 @@
--- A verdict, a finding and what a survey came to, in plain numbers.
+-- A verdict, a finding and the sums of a survey, in plain numbers.
 use Rattle.std.specs.Prelude.{ℕ}
 use Rattle.sip_standard.specs.declared.fault.Unit.{Unit}
 use Rattle.sip_standard.specs.declared.fault.Unit.TheVariants.{Head, Line, Body}
@@ -18,14 +18,14 @@ unit_number Head = 1
 unit_number (Line line) = 2
 unit_number Body = 3
 
--- the logical line of a fault, from 0 on, the start line; 0 where it is in none
+-- the logical line of a fault, from 0 for the start line; 0 where the fault is in no line
 abbrev pub line_of : Unit → ℕ
 line_of Head = 0
 line_of (Line line) = line
 line_of Body = 0
 
--- the numbers of a verdict: its kind, how many entries and transactions a legal log has, the entry and the transaction of any other, the reason of
--- a fault, its unit and its line; a number that a kind does not have is 0
+-- the numbers of a verdict: its kind, how many entries and transactions a legal log has, the entry and the transaction of any other verdict, the
+-- reason of a fault, its unit and its line; a number that a kind does not have is 0
 abbrev pub numbers : ℕ → ℕ → ℕ → ℕ → ℕ → ℕ → ℕ → ℕ → PlainVerdict
 numbers kind entries transactions entry transaction reason unit line =
     record { kind = kind; entries = entries; transactions = transactions; entry = entry; transaction = transaction; reason = reason; unit = unit; line = line }
@@ -42,8 +42,8 @@ plain (LogFault entry reason) = numbers 5 0 0 entry 0 (log_reason_number reason)
 abbrev pub plain_finding : Finding → PlainVerdict
 plain_finding finding = plain (verdict_of finding)
 
--- what a survey came to in plain numbers: how much was found, and how many entries and transactions the log has, or at which entry and for what
--- reason it cannot be read on; a number that its end does not have is 0
+-- the sums of a survey in plain numbers: how many findings there are, and how many entries and transactions the log has, or at which entry and for
+-- what reason it cannot be read on; a number that its end does not have is 0
 abbrev pub plain_summary : ℕ → SurveyEnd → PlainSummary
 plain_summary findings (ended.Clean entries transactions) =
     record { findings = findings; end = 1; entries = entries; transactions = transactions; entry = 0; reason = 0 }

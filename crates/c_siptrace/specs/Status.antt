@@ -1,14 +1,14 @@
--- What a call answers: whether it did what it is for.
+-- What a call answers: whether it gave what it is for.
 use Rattle.std.specs.Prelude.{ℕ}
 
--- it did
+-- the call gave its answer
 abbrev pub answered : ℕ
 answered = 0
 
--- a growth was refused
+-- the call wants memory
 abbrev pub no_memory : ℕ
 no_memory = 1
 
--- it did, but that not all of what was found has room
+-- the call gave its answer, but not all findings have room
 abbrev pub no_room : ℕ
 no_room = 2

@@ -11,9 +11,9 @@ use crate::status::{ANSWERED, NO_MEMORY};
 use sip_verdict::{JudgeError, Verdict, judge_bytes};
 use std::alloc::Global;
 
-/// The verdict on the log of these bytes, in plain numbers. Where a growth was refused it answers so, and leaves the verdict as it was.
+/// Gives the verdict on the log of these bytes, in plain numbers. Where memory is wanting it answers so, and leaves the verdict as it was.
 ///
-/// In C the parameter `alloc` is none: it takes no bytes.
+/// The parameter `alloc` takes no bytes, so that C does not have it.
 #[unsafe(no_mangle)]
 pub extern "C" fn siptrace_judge(
     alloc: Global,

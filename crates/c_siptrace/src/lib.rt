@@ -1,6 +1,6 @@
 //! siptrace for other languages: a static library whose calls C can make, as `library/siptrace.h` declares them.
 //!
-//! No contract holds the caller: it keeps what that header asks of it, a valid pointer and a right length above all.
+//! No contract holds a caller of another language: it keeps what that header asks of it, above all a valid pointer and a right length.
 #![tactic(auto)]
 
 mod judging;

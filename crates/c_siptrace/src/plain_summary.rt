@@ -1,29 +1,29 @@
-//! What a survey came to, in plain numbers.
+//! The sums of a survey, in plain numbers.
 ghost use Rattle.std.specs.Prelude.{◌≡◌};
 ghost use Rattle.c_siptrace.specs.Plain.{plain_summary};
 
 use sip_verdict::SurveyEnd;
 
-/// What a survey came to, in plain numbers. A number that the end of the log does not have is 0.
+/// The sums of a survey, in plain numbers. A number that the end of the log does not have is 0.
 #[repr(C)]
 #[derive(Clone, Copy, Debug, PartialEq, Eq)]
 pub struct PlainSummary {
-    /// How much was found in the log.
+    /// How many findings there are.
     pub findings: usize,
-    /// 1 where the log was read to its end, 2 where it was read up to a fault of it.
+    /// 1 where the log was read to its end, 2 where it was read up to a fault.
     pub end: u32,
-    /// Of a log that was read to its end: how many entries it has.
+    /// For a log that was read to its end: how many entries it has.
     pub entries: u32,
-    /// Of a log that was read to its end: how many transactions its entries concern.
+    /// For a log that was read to its end: how many transactions its entries concern.
     pub transactions: u32,
-    /// Of a fault of the log: the number of its entry, from 1 on; of a fault of the header 0.
+    /// For a fault of the log: the number of its entry, from 1 on, and 0 for a fault of the header.
     pub entry: u32,
-    /// Of a fault of the log: the number of the reason, 20 to 24.
+    /// For a fault of the log: the number of the reason, 20 to 24.
     pub reason: u32,
 }
 
 impl PlainSummary {
-    /// The plain numbers of this many findings and of how the log ends.
+    /// The sums of this many findings and of how the log ends, in plain numbers.
     pub(crate) fn of(findings: usize, end: &SurveyEnd) -> PlainSummary
         ensures { result ≡ plain_summary findings end.now }
     {

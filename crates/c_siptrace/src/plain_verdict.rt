@@ -9,25 +9,25 @@ use sip_verdict::{Fault, LogReason, Unit, Verdict};
 #[repr(C)]
 #[derive(Clone, Copy, Debug, PartialEq, Eq)]
 pub struct PlainVerdict {
-    /// Legal 1, malformed 2, a breach 3, undecided 4, a fault of the log 5.
+    /// 1 for a legal log, 2 for a malformed message, 3 for a breach, 4 for an undecided log, 5 for a fault of the log.
     pub kind: u32,
-    /// Of a legal log: how many entries it has.
+    /// For a legal log: how many entries it has.
     pub entries: u32,
-    /// Of a legal log: how many transactions its entries concern.
+    /// For a legal log: how many transactions its entries concern.
     pub transactions: u32,
-    /// Of any other: the number of its entry, from 1 on; of a fault of the header 0.
+    /// For any verdict but legal: the number of its entry, from 1 on, and 0 for a fault of the header.
     pub entry: u32,
-    /// Of a breach and where it is undecided: the number of the transaction, from 1 on.
+    /// For a breach and an undecided log: the number of the transaction, from 1 on.
     pub transaction: u32,
-    /// Of a malformed message 1 to 12, of a fault of the log 20 to 24: the number of the reason.
+    /// The number of the reason: 1 to 12 for a malformed message, 20 to 24 for a fault of the log.
     pub reason: u32,
-    /// Of a malformed message: where the fault is: in the head 1, in a line 2, in the body 3.
+    /// For a malformed message: where its fault is, which is 1 for the head, 2 for a line and 3 for the body.
     pub unit: u32,
-    /// Of a fault in a line: the logical line, from 0 on, which is the start line.
+    /// For a fault in a line: the number of the logical line, from 0 for the start line.
     pub line: usize,
 }
 
-/// What no kind has.
+/// A verdict all of whose numbers are 0. Each kind sets those that it has.
 const NOTHING: PlainVerdict = PlainVerdict {
     kind: 0,
     entries: 0,
@@ -50,7 +50,7 @@ fn unit_number(unit: Unit) -> u32
     }
 }
 
-/// The logical line of a fault, or 0.
+/// The logical line of a fault, and 0 where the fault is in no line.
 fn line_of(unit: Unit) -> usize
     ensures { result ≡ line_of unit }
 {

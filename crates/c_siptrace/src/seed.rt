@@ -5,8 +5,8 @@ use std::hash::RandomState;
 use std::io;
 use std::random::RandomSource;
 
-/// Bytes that nobody who sends messages can guess, such as random ones of the system. No verdict depends on them: they are for the hasher of
-/// the keys of transactions, so that no log can be made that takes long to judge.
+/// Bytes that nobody who sends messages can guess, such as random bytes of the system. No verdict depends on them: they seed the hasher of the
+/// keys of transactions, so that nobody can make a log that takes long to judge.
 #[repr(C)]
 #[derive(Clone, Copy, Debug)]
 pub struct Seed {
@@ -22,7 +22,7 @@ impl RandomSource for Seed {
 }
 
 impl Seed {
-    /// The hasher of this seed. A seed always gives its bytes, so that there is one.
+    /// The hasher of this seed. The seed always gives its bytes, so that there is always a hasher.
     pub(crate) fn hasher(&self) -> Result<RandomState, JudgeError> {
         match RandomState::new(self) {
             Ok(hasher) => Ok(hasher),

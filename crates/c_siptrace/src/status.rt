@@ -1,9 +1,9 @@
-//! What a call answers: whether it did what it is for.
-/// It did.
+//! What a call answers: whether it gave what it is for.
+/// The call gave its answer.
 pub(crate) const ANSWERED: u32 = 0;
 
-/// A growth was refused.
+/// The call wants memory.
 pub(crate) const NO_MEMORY: u32 = 1;
 
-/// It did, but that not all of what was found has room.
+/// The call gave its answer, but not all findings have room.
 pub(crate) const NO_ROOM: u32 = 2;

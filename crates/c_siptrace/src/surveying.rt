@@ -14,12 +14,12 @@ use crate::status::{ANSWERED, NO_MEMORY, NO_ROOM};
 use sip_verdict::{Finding, JudgeError, SurveyEnd, Verdict, survey_bytes};
 use std::alloc::Global;
 
-/// All that is wrong in the log of these bytes, in plain numbers: its findings from the first on, as many as there is room for, each as
-/// the verdict in the same words; and how many they are, and how the log ends. Where not all of them have room it answers so, and leaves
-/// no other trace of the rest than how many they are. Room that no finding needs stays as it was. Where a growth was refused it answers
-/// so, and leaves all as it was.
+/// Gives all that is wrong in the log of these bytes, in plain numbers: its findings from the first on, as many as there is room for, each as
+/// the verdict in the same words; and how many findings there are, and how the log ends. Where not all findings have room it answers so, and
+/// tells of the others no more than how many all are. Room that no finding needs stays as it was. Where memory is wanting it answers so, and
+/// leaves all as it was.
 ///
-/// In C the parameter `alloc` is none: it takes no bytes.
+/// The parameter `alloc` takes no bytes, so that C does not have it.
 #[unsafe(no_mangle)]
 pub extern "C" fn siptrace_survey(
     alloc: Global,

@@ -1,5 +1,6 @@
--- What each verdict says by itself: the entries before the one that it names go well.
+-- What each verdict says by itself, since the entries before the one that it names go well.
 use Rattle.std.proofs.Common.{◌≡◌, ◌+◌, ◌⊎◌, inl, inr, refl, sym, subst, ◌∙◌, ap, ℕ, List, [], ◌∷◌, ◌++◌, length, append_assoc}
+use Rattle.std.proofs.lemmas.List.{append-nil}
 use Rattle.sip_standard.specs.Key.{KeyParts}
 use Rattle.sip_standard.specs.Times.{Times}
 use Rattle.sip_standard.specs.LogEntry.{Item}
@@ -15,7 +16,7 @@ use Rattle.consequences.specs.Front.{GoWell, IsFirstInTrouble, IsFirstFault, IsF
 abbrev Entries : Type 0
 Entries = List (Observation KeyParts)
 
--- items before others go well after entries, and the verdict is that of the trouble of the next, or of how all ends
+-- the first items go well after the entries es, and the verdict is that of the end after them, or of trouble of the next item
 pub record Ends (p : Times) (es : Entries) (items : List Item) (end : LogEnd) (v : Verdict) : Type 0 where
   pub before : List Item
   pub front : Entries
@@ -25,18 +26,10 @@ pub record Ends (p : Times) (es : Entries) (items : List Item) (end : LogEnd) (v
   pub last : ((rest ≡ []) × IsVerdictAfter p (es ++ front) [] end v)
       ⊎ ((item : Item) × (after : List Item) × (e : Observation KeyParts) × (rest ≡ item ∷ after) × Sees (es ++ front) item e × HasTrouble p (es ++ front) e v)
 
-append-none : (es : Entries) → es ++ [] ≡ es
-append-none [] = refl
-append-none (e ∷ es) = ap (λ fs. e ∷ fs) (append-none es)
-
-append-nothing : (items : List Item) → items ++ [] ≡ items
-append-nothing [] = refl
-append-nothing (item ∷ items) = ap (λ xs. item ∷ xs) (append-nothing items)
-
--- a verdict after entries in no trouble is one of these
+-- a verdict after entries in no trouble has items that go well first, and then the end or an item in trouble
 ends : (p : Times) (es : Entries) (items : List Item) (end : LogEnd) (v : Verdict) → IsVerdictAfter p es items end v → Ends p es items end v
 ends p es [] end v is =
-    record { before = []; front = []; rest = []; whole = refl; well = tt; last = inl (refl, subst (λ fs. IsVerdictAfter p fs [] end v) (sym (append-none es)) is) }
+    record { before = []; front = []; rest = []; whole = refl; well = tt; last = inl (refl, subst (λ fs. IsVerdictAfter p fs [] end v) (sym (append-nil es)) is) }
 ends p es (item ∷ items) end v (e, sees, inl trouble) =
     record {
       before = [];
@@ -44,7 +37,7 @@ ends p es (item ∷ items) end v (e, sees, inl trouble) =
       rest = item ∷ items;
       whole = refl;
       well = tt;
-      last = inr (item, items, e, refl, subst (λ fs. Sees fs item e) (sym (append-none es)) sees, subst (λ fs. HasTrouble p fs e v) (sym (append-none es)) trouble);
+      last = inr (item, items, e, refl, subst (λ fs. Sees fs item e) (sym (append-nil es)) sees, subst (λ fs. HasTrouble p fs e v) (sym (append-nil es)) trouble);
     }
 ends p es (item ∷ items) end v (e, sees, inr (formed, runs, narrow, more)) =
     let later = ends p (es ++ e ∷ []) items end v more in
@@ -60,7 +53,7 @@ ends p es (item ∷ items) end v (e, sees, inr (formed, runs, narrow, more)) =
     }
 
 module _ (input : List ℕ) where
-  -- a verdict that names trouble of an entry names that of the first one in trouble
+  -- the first entry that is in trouble has the number that follows those of the entries that go well
   first_in_trouble : (p : Times) (items : List Item) (end : LogEnd) (v : Verdict) (number : ℕ) → LogSays input p items end → (found : Ends p [] items end v)
       → (item : Item) (after : List Item) (e : Observation KeyParts) → found.rest ≡ item ∷ after → Sees found.front item e → number ≡ length found.front + 1
       → IsFirstInTrouble input p number found.front e
@@ -76,6 +69,7 @@ module _ (input : List ℕ) where
         numbered = numbered;
       }
 
+  -- the verdict of a malformed log names the first fault
   pub first_fault : (number : ℕ) (fault : Fault) → IsVerdictOf input (Malformed number fault) → IsFirstFault input number fault
   first_fault number fault (inl (lacks, is)) = absurd cc
   first_fault number fault (inr (p, items, end, says, is)) = by (ends p [] items end (Malformed number fault) is)
@@ -94,6 +88,7 @@ module _ (input : List ℕ) where
       by : Ends p [] items end (Malformed number fault) → IsFirstFault input number fault
       by found = with_last found found.last
 
+  -- a breach is at the first entry in trouble
   pub first_breach : (number transaction : ℕ) → IsVerdictOf input (Breach number transaction) → IsFirstBreach input number transaction
   first_breach number transaction (inl (lacks, is)) = absurd cc
   first_breach number transaction (inr (p, items, end, says, is)) = by (ends p [] items end (Breach number transaction) is)
@@ -112,6 +107,7 @@ module _ (input : List ℕ) where
       by : Ends p [] items end (Breach number transaction) → IsFirstBreach input number transaction
       by found = with_last found found.last
 
+  -- an undecided verdict is at the first entry in trouble
   pub first_wide : (number transaction : ℕ) → IsVerdictOf input (Undecided number transaction) → IsFirstWide input number transaction
   first_wide number transaction (inl (lacks, is)) = absurd cc
   first_wide number transaction (inr (p, items, end, says, is)) = by (ends p [] items end (Undecided number transaction) is)
@@ -130,6 +126,7 @@ module _ (input : List ℕ) where
       by : Ends p [] items end (Undecided number transaction) → IsFirstWide input number transaction
       by found = with_last found found.last
 
+  -- a fault of the log is at the first entry that cannot be read
   pub cannot_be_read : (number : ℕ) (reason : LogReason) → IsVerdictOf input (LogFault number reason) → CannotBeRead input number reason
   cannot_be_read number reason (inl (lacks, is)) = inl (cc, cc, lacks)
   cannot_be_read number reason (inr (p, items, end, says, is)) = by (ends p [] items end (LogFault number reason) is)
@@ -138,7 +135,7 @@ module _ (input : List ℕ) where
           → IsVerdictAfter p found.front [] end (LogFault number reason) → CannotBeRead input number reason
       at_end Clean says found none is = absurd cc
       at_end (Stops fault) says found none is =
-          let same : items ≡ found.before = found.whole ∙ ap (λ xs. found.before ++ xs) none ∙ append-nothing found.before in
+          let same : items ≡ found.before = found.whole ∙ ap (λ xs. found.before ++ xs) none ∙ append-nil found.before in
           inr (p, found.before, found.front, fault, subst (λ xs. LogSays input p xs (Stops fault)) same says, found.well, cc, cc)
 
       with_last : (found : Ends p [] items end (LogFault number reason)) → ((found.rest ≡ []) × IsVerdictAfter p found.front [] end (LogFault number reason))

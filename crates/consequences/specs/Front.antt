@@ -19,19 +19,19 @@ abbrev pub IsUntroubled : Times → List (Observation KeyParts) → Observation 
 IsUntroubled p front e =
     (e.fault ≡ None) × AllRun p (front ++ e ∷ []) × All (λ key. ¬ (IsWideAt p front e key)) (keys_in (front ++ e ∷ []))
 
--- this is observed of the items that come after these entries, one after another
+-- `es` is what is observed of the items that come after the entries `front`, one after another
 abbrev pub AreSeen : List (Observation KeyParts) → List Item → List (Observation KeyParts) → Type 0
 AreSeen front [] [] = ⊤
 AreSeen front (item ∷ items) (e ∷ es) = Sees front item e × AreSeen (front ++ e ∷ []) items es
 AreSeen front items es = ⊥
 
--- this is observed of the items that come after these entries, one after another, and none of them is in trouble
+-- `es` is what is observed of the items that come after the entries `front`, one after another, and none of them is in trouble
 abbrev pub GoWell : Times → List (Observation KeyParts) → List Item → List (Observation KeyParts) → Type 0
 GoWell p front [] [] = ⊤
 GoWell p front (item ∷ items) (e ∷ es) = Sees front item e × IsUntroubled p front e × GoWell p (front ++ e ∷ []) items es
 GoWell p front items es = ⊥
 
--- the log of the input has these times, and its entry of this number is the first in trouble: of the entries before it, this is observed, and of it, that
+-- the log of the input has these times, its entry of this number is the first in trouble and is observed as e, and those before it are observed as `front`
 pub record IsFirstInTrouble (input : List ℕ) (p : Times) (number : ℕ) (front : List (Observation KeyParts)) (e : Observation KeyParts) : Type 0 where
   pub before : List Item
   pub item : Item
@@ -42,24 +42,24 @@ pub record IsFirstInTrouble (input : List ℕ) (p : Times) (number : ℕ) (front
   pub sees : Sees front item e
   pub numbered : number ≡ length front + 1
 
--- the message of the entry of this number has this fault, and no entry before it is in trouble
+-- the message of the entry with this number has this fault, and no entry before it is in trouble
 abbrev pub IsFirstFault : List ℕ → ℕ → Fault → Type 0
 IsFirstFault input number fault =
     (p : Times) × (front : List (Observation KeyParts)) × (e : Observation KeyParts) × IsFirstInTrouble input p number front e × (e.fault ≡ Some fault)
 
--- after the entry of this number some transaction has no run, the first of them is this one, and no entry before it is in trouble
+-- after the entry with this number some transaction has no run, this is the first of them, and no entry before it is in trouble
 abbrev pub IsFirstBreach : List ℕ → ℕ → ℕ → Type 0
 IsFirstBreach input number transaction =
     (p : Times) × (front : List (Observation KeyParts)) × (e : Observation KeyParts) × IsFirstInTrouble input p number front e × (e.fault ≡ None)
     × IsFirstKey (λ key. ¬ (RunsOver p (front ++ e ∷ []) key)) (keys_in (front ++ e ∷ [])) transaction
 
--- after the entry of this number each transaction has a run, but some is too wide there, the first of them is this one, and no entry before it is in trouble
+-- after the entry with this number each transaction has a run, but some is too wide there, this is the first of them, and no entry before is in trouble
 abbrev pub IsFirstWide : List ℕ → ℕ → ℕ → Type 0
 IsFirstWide input number transaction =
     (p : Times) × (front : List (Observation KeyParts)) × (e : Observation KeyParts) × IsFirstInTrouble input p number front e × (e.fault ≡ None)
     × AllRun p (front ++ e ∷ []) × IsFirstKey (IsWideAt p front e) (keys_in (front ++ e ∷ [])) transaction
 
--- the input has no header, told as entry 0; or its entries go well up to the one of this number, which cannot be read for this reason
+-- the input has no header, told as entry 0; or its entries go well up to the one with this number, which cannot be read for this reason
 abbrev pub CannotBeRead : List ℕ → ℕ → LogReason → Type 0
 CannotBeRead input number reason =
     ((number ≡ 0) × (reason ≡ Header) × LacksHeader input)

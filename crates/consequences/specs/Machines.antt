@@ -9,6 +9,6 @@ use Rattle.sip_standard.specs.KeyMachine.{machine_of, transaction_of}
 abbrev pub figure_of : (rules : Rules) (role : Role) (invite : Bool) → Figure (transaction_of (machine_of rules role invite)).Phase
 figure_of rules role invite = (transaction_of (machine_of rules role invite)).figure
 
--- its states: a phase with what is owed
+-- a state of a role by these rules, for INVITE or for any other method: a phase, and what is owed
 abbrev pub StateOf : Rules → Role → Bool → Type 0
 StateOf rules role invite = Owing (transaction_of (machine_of rules role invite)).Phase

@@ -9,30 +9,30 @@ use Rattle.sip_standard.specs.Window.{open_at}
 use Rattle.sip_standard.specs.MachineEvent.{MachineEvent}
 use Rattle.sip_standard.specs.Times.{Times}
 
--- whether an INVITE is sent
+-- whether this is an INVITE that is sent
 abbrev pub sends_invite : Action → Kind → Bool
 sends_invite Sent (Request Invite) = true
 sends_invite action kind = false
 
--- whether a request is sent
+-- whether this is a request that is sent
 abbrev pub sends_request : Action → Kind → Bool
 sends_request Sent (Request method) = true
 sends_request action kind = false
 
--- the moments at which INVITEs are sent
+-- the moments of the INVITEs that the events send
 abbrev pub invites_of : List MachineEvent → List ℕ
 invites_of events = map (λ e. e.moment) (filter (λ e. sends_invite e.action e.kind) events)
 
--- the moments at which requests are sent
+-- the moments of the requests that the events send
 abbrev pub requests_of : List MachineEvent → List ℕ
 requests_of events = map (λ e. e.moment) (filter (λ e. sends_request e.action e.kind) events)
 
--- after this moment the moments lie no closer, one to the next, than this interval and those that follow from it, less as early as an element may be
+-- the moments after `last` lie no closer, one to the next, than this interval and those that follow from it, less as early as an element may be
 abbrev pub AreSpaced : Times → (ℕ → ℕ) → ℕ → ℕ → List ℕ → Type 0
 AreSpaced p next last interval [] = ⊤
 AreSpaced p next last interval (m ∷ ms) = (open_at p last interval ≤ m) × AreSpaced p next m (next interval) ms
 
--- the moments after the first are so
+-- the moments after the first lie no closer than T1 and the intervals that follow from it, less as early as an element may be
 abbrev pub IsSpaced : Times → (ℕ → ℕ) → List ℕ → Type 0
 IsSpaced p next [] = ⊤
 IsSpaced p next (m ∷ ms) = AreSpaced p next m p.t1 ms

@@ -17,9 +17,9 @@ ghost use Rattle.consequences.specs.Events.{SendsRequest, GetsResponse, IsAnyCod
 ghost use Rattle.consequences.specs.Machines.{figure_of, StateOf};
 ghost use Rattle.consequences.specs.Repeats.{IsSpaced, invites_of};
 
-/// No CANCEL is sent before a response to the INVITE has come, unless the transaction may be over: its transport refused a message, the element started
-/// again, or timer B may have fired, 64*T1 after the INVITE, the tolerance aside. Section 9.1 wants a provisional response; after a final one it says
-/// that a CANCEL should not be sent, and this law leaves open which of both has come.
+/// No CANCEL is sent before a response to the INVITE has come, unless the transaction may be over: its transport refused a message, the
+/// element started again, or timer B may have fired, 64*T1 after the INVITE, the tolerance aside. Section 9.1 wants a provisional
+/// response, and says that a CANCEL should not be sent after a final one. This law leaves open which of the two has come.
 pub fn a_cancel_waits_for_a_response()
     ensures { (p : Times) (rules : Rules) (before after : List MachineEvent) (invite e : MachineEvent) (y : StateOf rules Client true) →
         All (λ f. ¬ (SendsRequest Invite f)) before → SendsRequest Invite invite → SendsRequest Cancel e →
@@ -27,7 +27,8 @@ pub fn a_cancel_waits_for_a_response()
         Any (GetsResponse IsAnyCode) after ⊎ Any (λ f. IsRefused f ⊎ IsRestart f) after ⊎ (open_at p invite.moment (64 * p.t1) ≤ e.moment) }
 {}
 
-/// An INVITE that gets no response is over by 64*T1 and as much as an element may be late, timer B of section 17.1.1.2, and nothing but a CANCEL is sent after.
+/// An INVITE that gets no response is over by 64*T1 and as much as an element may be late (timer B of section 17.1.1.2), and only a CANCEL
+/// is sent after that.
 pub fn an_unanswered_invite_ends_by_timer_b()
     ensures over { (p : Times) (rules : Rules) (before after : List MachineEvent) (invite : MachineEvent) (m : ℕ) (y : StateOf rules Client true) →
         SendsRequest Invite invite → All (λ f. ¬ (GetsResponse IsAnyCode f)) after →
@@ -37,9 +38,9 @@ pub fn an_unanswered_invite_ends_by_timer_b()
         StandsAfter (figure_of rules Client true) p (before ++ invite ∷ after) e y → close_at p invite.moment (64 * p.t1) < e.moment → e.kind ≡ Request Cancel }
 {}
 
-/// The first final response to an INVITE, if it is a 300 to 699 and comes before timer B may fire, is acknowledged as late as an element may be, by an ACK
-/// that is its (sections 17.1.1.2 and 17.1.1.3). So is each 300 to 699 that comes over an unreliable transport within 64*T1 and within 32 s of the INVITE,
-/// before timer D may fire; unless a 2xx came, the transport refuses a message or the element starts again.
+/// The first final response to an INVITE, if it is a 300 to 699 and comes before timer B may fire, is acknowledged by its ACK as late as an
+/// element may be (sections 17.1.1.2 and 17.1.1.3). So is each 300 to 699 that comes over an unreliable transport within 64*T1 and
+/// within 32 s of the INVITE, before timer D may fire, unless a 2xx came, the transport refuses a message or the element starts again.
 pub fn an_unsuccessful_response_is_acknowledged()
     ensures first { (p : Times) (rules : Rules) (before between after : List MachineEvent) (invite response : MachineEvent) (m : ℕ) (y : StateOf rules Client true) →
         All (λ f. ¬ (SendsRequest Invite f)) before → SendsRequest Invite invite →

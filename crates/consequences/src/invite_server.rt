@@ -15,7 +15,8 @@ ghost use Rattle.consequences.specs.Events.{IsOfOneKind, GetsRequest, IsResponse
 ghost use Rattle.consequences.specs.Machines.{figure_of, StateOf};
 ghost use Rattle.consequences.specs.Servers.{BeginNoneAnew};
 
-/// The first INVITE is answered within 200 ms and as much as an element may be late, be it with a 100, unless the element starts again within this time.
+/// The first INVITE is answered, be it with a 100, within 200 ms and as much as an element may be late, unless the element starts again
+/// within this time.
 pub fn an_invite_is_answered_within_200_ms()
     ensures { (p : Times) (rules : Rules) (before after : List MachineEvent) (invite : MachineEvent) (m : ℕ) (y : StateOf rules Server true) →
         All (λ f. ¬ (GetsRequest Invite f)) before → GetsRequest Invite invite →
@@ -24,9 +25,9 @@ pub fn an_invite_is_answered_within_200_ms()
         ⊎ Any (λ f. IsRestart f × (f.moment ≤ close_at p invite.moment 200)) after }
 {}
 
-/// After its first final response, if that is a 300 to 699, a server sends that response alone, byte for byte, as long as no INVITE begins the transaction
-/// anew; but a provisional response that it owed to an INVITE that had come again may still come, as late as an element may be. Events before the
-/// response that have its bytes are of its kind, as those of one log are.
+/// After its first final response, if that is a 300 to 699, a server sends only that response, byte for byte, as long as no INVITE begins
+/// the transaction anew. But a provisional response that it owed to an INVITE that had come again may still come, as late as an
+/// element may be. Events before the response that have its bytes are of its kind, as those of one log are.
 pub fn after_an_unsuccessful_response_that_one_alone_is_sent()
     ensures { (p : Times) (rules : Rules) (before after : List MachineEvent) (final e : MachineEvent) (y : StateOf rules Server true) →
         All (λ f. ¬ (SendsResponse IsFinal f)) before → IsOfOneKind before final → SendsResponse IsUnsuccessful final →
@@ -34,9 +35,10 @@ pub fn after_an_unsuccessful_response_that_one_alone_is_sent()
         (e.text ≡ final.text) ⊎ ((e.moment ≤ close_at p final.moment 0) × Any (λ f. SendsResponse IsProvisional f × (f.text ≡ e.text)) before) }
 {}
 
-/// After a 2xx, if that is its first final response, a server sends 2xx alone, as long as no INVITE begins the transaction anew. By the rules of RFC 6026,
-/// section 7.1, a provisional response that it owed may still come, as late as an element may be; by those of RFC 3261 none may, and each INVITE that
-/// comes begins anew. Events before the response that have its bytes are of its kind, as those of one log are.
+/// After its first final response, if that is a 2xx, a server sends only 2xx, as long as no INVITE begins the transaction anew. By the
+/// rules of RFC 6026, section 7.1, a provisional response that it owed may still come, as late as an element may be. By those of RFC
+/// 3261 none may, and each INVITE that comes begins anew. Events before the response that have its bytes are of its kind, as those
+/// of one log are.
 pub fn after_a_success_successes_alone_are_sent()
     ensures corrected { (p : Times) (before after : List MachineEvent) (final e : MachineEvent) (y : StateOf R6026 Server true) →
         All (λ f. ¬ (SendsResponse IsFinal f)) before → IsOfOneKind before final → SendsResponse IsSuccess final →

@@ -19,7 +19,7 @@ pub fn after_a_restart_nothing_is_owed()
         StandsAfter (transaction_of machine).figure p events restart y → (y ≡ quiet (transaction_of machine).figure.idle) ⊎ (y ≡ quiet (transaction_of machine).figure.ended) }
 {}
 
-/// A client that sent its request before a restart sends nothing more, but a CANCEL of an INVITE, which changes nothing.
+/// A client that sent its request before a restart sends nothing more after it, except a CANCEL of an INVITE, which changes nothing.
 pub fn after_a_restart_a_client_sends_no_more()
     ensures invite { (p : Times) (rules : Rules) (before between after : List MachineEvent) (invite restart e : MachineEvent) (y : StateOf rules Client true) →
         SendsRequest Invite invite → IsRestart restart → e.action ≡ Sent →

@@ -1,4 +1,4 @@
-//! A wider tolerance.
+//! What a wider tolerance keeps.
 ghost use Rattle.std.specs.Prelude.{◌≡◌, ◌≤◌, ℕ, List, []};
 ghost use Rattle.sip_standard.specs.Key.{KeyParts};
 ghost use Rattle.sip_standard.specs.LogSays.{LogEnd, LogSays};
@@ -20,7 +20,7 @@ pub fn a_wider_tolerance_keeps_a_run()
         (y : Owing (transaction_of machine).Phase) × Stands (transaction_of machine).figure (tolerant early late p) events m y × (y.phase ≡ x.phase) }
 {}
 
-/// And so it keeps a run of each transaction over the entries of a log.
+/// A wider tolerance keeps a run of each transaction over the entries of a log.
 pub fn a_wider_tolerance_keeps_a_transaction()
     ensures { (p : Times) (early late : ℕ) (input : List ℕ) (items : List Item) (end : LogEnd) (es : List (Observation KeyParts)) (key : KeyParts) →
         p.early ≤ early → p.late ≤ late → LogSays input p items end → AreSeen [] items es → RunsOver p es key → RunsOver (tolerant early late p) es key }

@@ -1,5 +1,5 @@
-//! An example of a caller: feeds a judge the entries of the log on its standard input, each as soon as it is there, and answers each with a line,
-//! so that a process of another language can ask it over a pipe. The last line is the verdict.
+//! An example of a caller: it feeds a judge the entries of the log on its standard input, each as soon as it is there, and answers each with a
+//! line, so that a process of another language can ask it over a pipe. The last line is the verdict.
 #![tactic(auto)]
 
 use anyhow::Result;
@@ -7,7 +7,7 @@ use sip_log::{FromRead, Progress};
 use sip_verdict::{Judge, render};
 use std::hash::RandomState;
 
-/// One more than a log has entries, so that its end is seen.
+/// The most entries of a log, and one more, so that the loop reaches the end of the log.
 const MOST: u32 = 1_000_001;
 
 fn main(rt: HostRuntime) -> Result<()> {

@@ -7,7 +7,7 @@ use std::alloc::{AllocError, Global};
 use std::process::Abort;
 use std::test::Fail;
 
-/// What differs among the messages: a line, and its fields.
+/// The parts in which the messages of the tests differ: a start line, and some fields.
 #[derive(Clone, Copy)]
 struct Text {
     start: &'static str,
@@ -20,6 +20,7 @@ struct Text {
 }
 
 impl Text {
+    /// The bytes of the message.
     fn bytes(&self, alloc: Global) -> Result<String, AllocError> {
         let Text {
             start,
@@ -73,7 +74,7 @@ const ACK: Text = Text {
     ..INVITE
 };
 
-/// The parts of a key.
+/// The parts of a key: its role, branch, sent-by and method.
 type Parts = (Role, &'static str, &'static str, &'static str);
 
 /// A message by its start line, Via and CSeq, which way it goes, and its key.
@@ -86,7 +87,7 @@ type KeyRow = (
 );
 
 static KEYS: &[KeyRow] = &[
-    // The role, sent-by and method by direction and kind.
+    // These rows show how the role, the sent-by and the method follow from the direction and the kind of a message.
     (
         Direction::Sent,
         "OPTIONS sip:b SIP/2.0",
@@ -115,7 +116,7 @@ static KEYS: &[KeyRow] = &[
         "1 OPTIONS",
         Ok(Some((Role::Server, "z9hg4bk1", "a:5060", "OPTIONS"))),
     ),
-    // An ACK counts as an INVITE where it is a request.
+    // An ACK has the key of an INVITE where it is a request.
     (
         Direction::Sent,
         "ACK sip:b SIP/2.0",
@@ -144,7 +145,7 @@ static KEYS: &[KeyRow] = &[
         "1 invite",
         Ok(Some((Role::Server, "z9hg4bk1", "a:5060", "invite"))),
     ),
-    // sent-by
+    // These rows show how a sent-by is spelled in a key.
     (
         Direction::Received,
         "OPTIONS sip:b SIP/2.0",
@@ -180,7 +181,7 @@ static KEYS: &[KeyRow] = &[
         "1 OPTIONS",
         Ok(Some((Role::Server, "z9hg4bk1", "a.b.:0", "OPTIONS"))),
     ),
-    // Branches and the cookie: the first parameter of the top Via, without case.
+    // These rows show branches and the cookie: the first branch parameter of the top Via counts, without case.
     (
         Direction::Sent,
         "OPTIONS sip:b SIP/2.0",
@@ -232,7 +233,7 @@ static KEYS: &[KeyRow] = &[
     ),
 ];
 
-/// The message of this text.
+/// Reads the message of this text.
 fn read(alloc: Global, text: &str) -> Result<Message<'_>, Fail> {
     match Message::read(alloc, text.as_bytes()) {
         Ok(message) => Ok(message),
@@ -241,6 +242,7 @@ fn read(alloc: Global, text: &str) -> Result<Message<'_>, Fail> {
     }
 }
 
+/// Whether the key has these parts, or there is neither a key nor parts.
 fn has_parts(key: &Option<Key>, parts: Option<Parts>) -> bool {
     match (key, parts) {
         (Some(key), Some((role, branch, sent_by, method))) => {
@@ -254,7 +256,7 @@ fn has_parts(key: &Option<Key>, parts: Option<Parts>) -> bool {
     }
 }
 
-/// Whether the message of the row has its key, or the error in its place.
+/// Whether the message of the row has the key that the row tells, or none where it tells none.
 fn has_its_key(alloc: Global, row: &KeyRow) -> Result<bool, Fail> {
     let text = Text {
         start: row.1,
@@ -279,7 +281,7 @@ fn a_message_has_its_key(rt: HostRuntime) -> Result<(), Fail> {
     Ok(())
 }
 
-/// Two that sent a message, and whether they have one key.
+/// Two sent-by, and whether requests that are received with them have the same key.
 static SENDERS: &[(&str, &str, bool)] = &[
     ("A.Example.com", "a.example.com:05060", true),
     ("[::1]", "[0:0::1]", false),
@@ -316,7 +318,7 @@ fn server_key(alloc: Global, sent_by: &str) -> Result<Option<Key>, Fail> {
 
 const CANCELLED: Option<Parts> = Some((Role::Client, "z9hg4bk1", "", "INVITE"));
 
-/// A message by its method and branch, which way it goes, and its second key.
+/// A message by its method and branch, which way it goes, and the key of the transaction that it cancels, if it cancels one.
 type Second = (Direction, &'static str, &'static str, Option<Parts>);
 
 static SECOND_KEYS: &[Second] = &[
@@ -327,7 +329,7 @@ static SECOND_KEYS: &[Second] = &[
     (Direction::Sent, "cancel", "z9hG4bK1", None),
 ];
 
-/// Whether the message of the row has its second key.
+/// Whether the message of the row cancels the transaction whose key the row tells.
 fn has_its_second_key(
     alloc: Global,
     (direction, method, branch, parts): Second,
@@ -390,7 +392,7 @@ fn asks_again_for_its_key(
     lacked
 }
 
-/// And this second key.
+/// Asserts that the message cancels the transaction of this key; where memory is refused, that a second call tells it.
 fn asks_again_for_the_second(
     rt: &(impl Abort + AllocGlobal),
     message: &Message<'_>,
@@ -407,7 +409,7 @@ fn asks_again_for_the_second(
     lacked
 }
 
-/// Where a growth is refused in a call, it answers want of memory and nothing else, and the same call with
+/// Where a growth is refused in a call, the call answers want of memory and nothing else, and the same call with
 /// memory is then right; the test ends with `Memory` (`tests/growths key_tests asks_again_for_memory`).
 #[test]
 fn asks_again_for_memory(rt: HostRuntime) -> Result<(), Fail> {
@@ -573,7 +575,7 @@ fn is_ack(alloc: Global, ack: &str, invite: &str, response: &str) -> Result<bool
     Ok(is_ack_of(&ack, &invite, &response))
 }
 
-/// Whether the ACK is that of the INVITE for the 486.
+/// Whether the ACK is that of the INVITE for the response 486.
 fn belongs(alloc: Global, ack: &Text, invite: &Text) -> Result<bool, Fail> {
     let ack = ack.bytes(alloc)?;
     let invite = invite.bytes(alloc)?;

@@ -1,4 +1,4 @@
-//! What the errors of `sip_key` say.
+//! Tests of what the errors of `sip_key` say.
 
 use crate::wants::is;
 use sip_key::KeyError;

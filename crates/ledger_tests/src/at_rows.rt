@@ -1,9 +1,9 @@
-//! The calls at a row of a ledger. Each stops the test where the row is not there, so that a test need not ask before each call.
+//! The calls at a row of a ledger. Each stops the test where the ledger has no such row, so that a test need not ask before each call.
 use sip_ledger::{Debt, Ledger};
 use std::alloc::AllocError;
 use std::process::Abort;
 
-/// The row gains the debt.
+/// Lets the row gain the debt.
 pub(crate) fn gain(
     rt: &impl Abort,
     ledger: &mut Ledger,
@@ -14,7 +14,7 @@ pub(crate) fn gain(
     ledger.gain(row, debt)
 }
 
-/// Whether the row pays the message, which it then does.
+/// Lets the row pay the message, and answers whether it could.
 pub(crate) fn pay(
     rt: &impl Abort,
     ledger: &mut Ledger,
@@ -26,7 +26,7 @@ pub(crate) fn pay(
     ledger.pay(row, message, moment)
 }
 
-/// Whether the row pays one of the messages, which it then does.
+/// Lets the row pay one of the messages, and answers whether it could.
 pub(crate) fn pay_any(
     rt: &impl Abort,
     ledger: &mut Ledger,
@@ -38,6 +38,7 @@ pub(crate) fn pay_any(
     ledger.pay_any(row, numbers, moment)
 }
 
+/// Whether the row has a debt that a send of the message at this moment pays.
 pub(crate) fn can_pay(
     rt: &impl Abort,
     ledger: &mut Ledger,
@@ -49,6 +50,7 @@ pub(crate) fn can_pay(
     ledger.can_pay(row, message, moment)
 }
 
+/// Whether the row has a debt that a send of one of the messages at this moment pays.
 pub(crate) fn can_pay_any(
     rt: &impl Abort,
     ledger: &Ledger,
@@ -75,14 +77,14 @@ pub(crate) fn clear(rt: &impl Abort, ledger: &mut Ledger, row: usize) {
     ledger.clear(row);
 }
 
-/// A row becomes a copy of another.
+/// Makes the row `to` a copy of the row `from`.
 pub(crate) fn copy(rt: &impl Abort, ledger: &mut Ledger, from: usize, to: usize) {
     assert!(rt; from < ledger.len());
     assert!(rt; to < ledger.len());
     ledger.copy(from, to);
 }
 
-/// A copy of the row comes after the others.
+/// Puts a copy of the row after the others.
 pub(crate) fn push_copy(
     rt: &impl Abort,
     ledger: &mut Ledger,

@@ -1,5 +1,5 @@
-//! A refused growth. `tests/growths` refuses each in turn: the test then fails with want of memory, once it has seen that the call left
-//! all as it was, and that the same call succeeds with memory.
+//! Calls in which a growth is refused. `tests/growths` refuses each growth in turn: the test then fails with want of memory, once it has seen that
+//! the call left all as it was, and that the same call succeeds with memory.
 use crate::at_rows;
 use crate::lists::{debts, may, must, of_one};
 use crate::wants::is;
@@ -8,7 +8,7 @@ use std::alloc::AllocError;
 use std::process::Abort;
 use std::test::Fail;
 
-/// Two ledgers have the same rows.
+/// Asserts that two ledgers have the same rows.
 fn alike(rt: &(impl Abort + AllocGlobal), ledger: &Ledger, twin: &Ledger) -> Result<(), Fail> {
     is(rt, ledger.len(), twin.len());
     for row in 0..ledger.len() {
@@ -19,7 +19,7 @@ fn alike(rt: &(impl Abort + AllocGlobal), ledger: &Ledger, twin: &Ledger) -> Res
     Ok(())
 }
 
-/// The row gains the debt, at a second call where memory was refused. The twin has the same rows.
+/// Lets the row gain the debt, by a second call where memory was refused, and its twin as well. Asserts that both have the same rows then.
 fn gain_again(
     rt: &(impl Abort + AllocGlobal),
     ledger: &mut Ledger,
@@ -37,7 +37,7 @@ fn gain_again(
     Ok(gained?)
 }
 
-/// A row is pushed so.
+/// Pushes a row, by a second call where memory was refused, and one to the twin. Asserts that both have the same rows then.
 fn push_again(
     rt: &(impl Abort + AllocGlobal),
     ledger: &mut Ledger,
@@ -53,7 +53,7 @@ fn push_again(
     Ok(pushed?)
 }
 
-/// A copy of the row is pushed so.
+/// Pushes a copy of the row, by a second call where memory was refused, and one to the twin. Asserts that both have the same rows then.
 fn copy_again(
     rt: &(impl Abort + AllocGlobal),
     ledger: &mut Ledger,
@@ -70,7 +70,7 @@ fn copy_again(
     Ok(pushed?)
 }
 
-/// The first row gains so many debts so, each of a message of its own.
+/// Lets the first row gain this many debts, each of a message of its own and by a second call where memory was refused.
 fn gain_different(
     rt: &(impl Abort + AllocGlobal),
     ledger: &mut Ledger,
@@ -83,7 +83,7 @@ fn gain_different(
     Ok(())
 }
 
-/// Or of five messages by turns.
+/// Lets the first row gain this many debts of five messages by turns, each by a second call where memory was refused.
 fn gain_by_turns(
     rt: &(impl Abort + AllocGlobal),
     ledger: &mut Ledger,
@@ -96,7 +96,7 @@ fn gain_by_turns(
     Ok(())
 }
 
-/// Two rows come, of which the first gains more debts than one word has bits for, and copies of it.
+/// Pushes two rows, lets the first gain more debts than one word has bits for, and pushes copies of it.
 fn two_rows_come(
     rt: &(impl Abort + AllocGlobal),
     ledger: &mut Ledger,
@@ -119,7 +119,7 @@ fn a_ledger_goes_on_after_a_refused_growth(rt: HostRuntime) -> Result<(), Fail> 
     two_rows_come(&rt, &mut ledger, &mut twin)
 }
 
-/// Copies of both rows are pushed so, and each of them gains the debt. Where that is refused, the copies are gone.
+/// Pushes copies of both rows, by a second call where memory was refused, and lets each gain the debt. Where that is refused, the copies are gone.
 fn copies_gain_again(
     rt: &(impl Abort + AllocGlobal),
     ledger: &mut Ledger,
@@ -140,7 +140,7 @@ fn copies_gain_again(
     Ok(gained?)
 }
 
-/// Two rows come, and copies of them at each debt that the first gains.
+/// Pushes two rows, lets the first gain debts, and pushes copies of both at each debt.
 fn many_rows_come(
     rt: &(impl Abort + AllocGlobal),
     ledger: &mut Ledger,
@@ -162,7 +162,7 @@ fn many_rows_go_on_after_a_refused_growth(rt: HostRuntime) -> Result<(), Fail> {
     many_rows_come(&rt, &mut ledger, &mut twin)
 }
 
-/// A ledger of one row, which owes so many messages.
+/// A ledger of one row that owes this many messages.
 fn of_many(rt: &(impl Abort + AllocGlobal), count: u32) -> Result<Ledger, Fail> {
     let mut list = Vec::new(rt.alloc());
     for number in 0..count {
@@ -171,7 +171,7 @@ fn of_many(rt: &(impl Abort + AllocGlobal), count: u32) -> Result<Ledger, Fail> 
     of_one(rt, &list)
 }
 
-/// The messages that the row owes are told at a second call where memory was refused, and the first answer is given.
+/// Tells the messages that the row owes, by a second call where memory was refused, and gives what the first call answered.
 fn name_again(
     rt: &impl Abort,
     ledger: &Ledger,
@@ -186,7 +186,7 @@ fn name_again(
     Ok(told)
 }
 
-/// So many messages are told so.
+/// Tells the messages of a row that owes this many, by a second call where memory was refused.
 fn names_again(rt: &(impl Abort + AllocGlobal), count: u32) -> Result<(), Fail> {
     let ledger = of_many(rt, count)?;
     let mut numbers = Vec::new(rt.alloc());
@@ -201,7 +201,7 @@ fn count_runs(rt: &(impl Abort + AllocGlobal), ledger: &Ledger) -> Result<usize,
     Ok(ledger.runs(rt.alloc(), 0)?.len())
 }
 
-/// And the debts.
+/// Tells the debts of a row that owes this many, in runs, by a second call where memory was refused.
 fn runs_again(rt: &(impl Abort + AllocGlobal), count: u32) -> Result<(), Fail> {
     let ledger = of_many(rt, count)?;
     let told = count_runs(rt, &ledger);
@@ -234,7 +234,7 @@ fn runs_of_a_long_row_are_told_after_a_refused_growth(rt: HostRuntime) -> Result
     runs_again(&rt, 70)
 }
 
-/// One row comes, which gains more debts than one word has bits for, and a copy of it.
+/// Pushes one row, lets it gain more debts than one word has bits for, and pushes a copy of it.
 fn a_long_row_comes(
     rt: &(impl Abort + AllocGlobal),
     ledger: &mut Ledger,
@@ -252,7 +252,7 @@ fn a_long_row_goes_on_after_a_refused_growth(rt: HostRuntime) -> Result<(), Fail
     a_long_row_comes(&rt, &mut ledger, &mut twin)
 }
 
-/// A row comes after a long one.
+/// Pushes a row after a long one.
 fn another_row_comes(
     rt: &(impl Abort + AllocGlobal),
     ledger: &mut Ledger,
@@ -270,7 +270,7 @@ fn a_row_comes_after_a_long_one_after_a_refused_growth(rt: HostRuntime) -> Resul
     another_row_comes(&rt, &mut ledger, &mut twin)
 }
 
-/// Both pay sixty debts of five messages by turns.
+/// Lets both ledgers pay sixty debts of five messages by turns.
 fn pay_by_turns(rt: &impl Abort, ledger: &mut Ledger, twin: &mut Ledger) {
     for number in 0..60 {
         assert!(rt; at_rows::pay(rt, ledger, 0, number % 5, 10));
@@ -278,7 +278,7 @@ fn pay_by_turns(rt: &impl Abort, ledger: &mut Ledger, twin: &mut Ledger) {
     }
 }
 
-/// Little is left of a long row, which stands over a list of entries again where there is memory.
+/// Leaves little of a long row, which stands over a list of entries again where there is memory.
 fn a_long_row_is_paid(
     rt: &(impl Abort + AllocGlobal),
     ledger: &mut Ledger,

@@ -2,7 +2,11 @@
 #![tactic(auto)]
 
 #[cfg(test)]
+mod accounts;
+#[cfg(test)]
 mod at_rows;
+#[cfg(test)]
+mod chance;
 #[cfg(test)]
 mod growths;
 #[cfg(test)]

@@ -1,10 +1,11 @@
-//! What rows owe, as plain lists.
+//! What rows owe, as plain lists of debts.
 use crate::at_rows;
 use sip_ledger::{Debt, Ledger, Run};
 use std::alloc::AllocError;
 use std::process::Abort;
 use std::test::Fail;
 
+/// A debt of the message that must be sent by the deadline.
 pub(crate) fn must(message: u32, deadline: u64) -> Debt {
     Debt {
         message,
@@ -13,6 +14,7 @@ pub(crate) fn must(message: u32, deadline: u64) -> Debt {
     }
 }
 
+/// A debt of the message that may be sent until the deadline.
 pub(crate) fn may(message: u32, deadline: u64) -> Debt {
     Debt {
         message,
@@ -21,7 +23,7 @@ pub(crate) fn may(message: u32, deadline: u64) -> Debt {
     }
 }
 
-/// A ledger of one row, which owes this.
+/// A ledger of one row that owes this list.
 pub(crate) fn of_one(rt: &(impl Abort + AllocGlobal), list: &[Debt]) -> Result<Ledger, Fail> {
     let mut ledger = Ledger::new(rt.alloc());
     ledger.push()?;
@@ -31,7 +33,7 @@ pub(crate) fn of_one(rt: &(impl Abort + AllocGlobal), list: &[Debt]) -> Result<L
     Ok(ledger)
 }
 
-/// Puts a run's debts after the others, one by one.
+/// Puts the debts of a run after the others, one by one.
 fn push_run(debts: &mut Vec<Debt>, run: &Run) -> Result<(), AllocError> {
     for _ in 0..run.count {
         debts.push(run.debt)?;
@@ -39,7 +41,7 @@ fn push_run(debts: &mut Vec<Debt>, run: &Run) -> Result<(), AllocError> {
     Ok(())
 }
 
-/// What the row owes.
+/// The debts that the row owes, in their order.
 pub(crate) fn debts(
     rt: &(impl Abort + AllocGlobal),
     ledger: &Ledger,
@@ -54,7 +56,7 @@ pub(crate) fn debts(
     Ok(debts)
 }
 
-/// The least deadline of what must be sent.
+/// The least deadline of what the list must send.
 fn earliest_must(list: &[Debt]) -> Option<u64> {
     let mut least = None;
     for debt in list {
@@ -65,7 +67,7 @@ fn earliest_must(list: &[Debt]) -> Option<u64> {
     least
 }
 
-/// The least and the greatest message.
+/// The least and the greatest message of the list.
 fn span(list: &[Debt]) -> Option<(u32, u32)> {
     let mut ends = None;
     for debt in list {
@@ -82,7 +84,7 @@ fn can_pay(list: &[Debt], message: u32, moment: u64) -> bool {
         .any(|debt| debt.message == message && moment <= debt.deadline)
 }
 
-/// The row pays the messages that the list can, and no others.
+/// Asserts that the row can pay the messages that the list can, and no others.
 fn pays_as(rt: &impl Abort, ledger: &mut Ledger, row: usize, list: &[Debt]) {
     for message in 0..4 {
         let can = at_rows::can_pay(rt, ledger, row, message, 20);
@@ -90,7 +92,7 @@ fn pays_as(rt: &impl Abort, ledger: &mut Ledger, row: usize, list: &[Debt]) {
     }
 }
 
-/// The row owes this list, whatever it is asked.
+/// Asserts that the row owes this list, by each question that a ledger answers.
 pub(crate) fn owes(
     rt: &(impl Abort + AllocGlobal),
     ledger: &mut Ledger,
@@ -107,7 +109,7 @@ pub(crate) fn owes(
     Ok(())
 }
 
-/// The row owes this list, and is told to owe the same as those with an equal one.
+/// Asserts that the row owes this list, and is the same as exactly those rows that owe an equal list.
 fn row_agrees(
     rt: &(impl Abort + AllocGlobal),
     ledger: &mut Ledger,
@@ -124,7 +126,7 @@ fn row_agrees(
     Ok(())
 }
 
-/// The rows owe these lists, and those that owe the same are told to.
+/// Asserts that the rows owe these lists, and that two rows are the same exactly if their lists are equal.
 pub(crate) fn agree(
     rt: &(impl Abort + AllocGlobal),
     ledger: &mut Ledger,

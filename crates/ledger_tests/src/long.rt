@@ -1,4 +1,4 @@
-//! One row that owes more than a word has bits for.
+//! Tests of a row that owes more than a word has bits for: a long row.
 use crate::at_rows;
 use crate::lists::{agree, may, must, of_one, owes};
 use sip_ledger::{Debt, Ledger};
@@ -6,7 +6,7 @@ use std::alloc::AllocError;
 use std::process::Abort;
 use std::test::Fail;
 
-/// Debts of so many messages, each with a deadline of its own.
+/// Debts of this many messages, each with a deadline of its own.
 fn different(rt: &(impl Abort + AllocGlobal), count: u32) -> Result<Vec<Debt>, Fail> {
     let mut list = Vec::new(rt.alloc());
     for message in 0..count {
@@ -15,7 +15,7 @@ fn different(rt: &(impl Abort + AllocGlobal), count: u32) -> Result<Vec<Debt>, F
     Ok(list)
 }
 
-/// The row pays the message, and owes the others.
+/// Asserts that the row pays the message, and owes the others then.
 fn pays_one(
     rt: &(impl Abort + AllocGlobal),
     ledger: &mut Ledger,
@@ -30,7 +30,7 @@ fn pays_one(
     Ok(())
 }
 
-/// The row pays the messages of the list in this order, and owes the others after each.
+/// Asserts that a row pays the messages of the list in this order, and owes the others after each.
 fn pays(rt: &(impl Abort + AllocGlobal), count: u32, order: &[u32]) -> Result<(), Fail> {
     let mut list = different(rt, count)?;
     let mut ledger = of_one(rt, &list)?;
@@ -68,7 +68,7 @@ fn debts_are_paid_by_turns(rt: HostRuntime) -> Result<(), Fail> {
     pays(&rt, 100, &order)
 }
 
-/// Seventy debts of one message with three deadlines, of which those of the first may be sent alone.
+/// Seventy debts of one message with three deadlines. Those of the second must be sent, and the others may be.
 fn of_three_deadlines(rt: &(impl Abort + AllocGlobal)) -> Result<Vec<Debt>, Fail> {
     let mut list = Vec::new(rt.alloc());
     for _ in 0..20 {
@@ -83,7 +83,7 @@ fn of_three_deadlines(rt: &(impl Abort + AllocGlobal)) -> Result<Vec<Debt>, Fail
     Ok(list)
 }
 
-/// What may be sent until 10 expires, and what must be sent until 20 does not.
+/// Asserts that what may be sent until 10 expires, and that what must be sent until 20 does not.
 fn expires(
     rt: &(impl Abort + AllocGlobal),
     ledger: &mut Ledger,
@@ -104,7 +104,7 @@ fn a_long_row_expires(rt: HostRuntime) -> Result<(), Fail> {
     expires(&rt, &mut ledger, &mut list)
 }
 
-/// The row pays the first debt of the last deadline, and then the next.
+/// Asserts that the row pays the first debt of the last deadline, and then the next one.
 fn pays_two(
     rt: &(impl Abort + AllocGlobal),
     ledger: &mut Ledger,
@@ -136,7 +136,7 @@ fn a_long_row_pays_nothing_that_is_past(rt: HostRuntime) -> Result<(), Fail> {
     owes(&rt, &mut ledger, 0, &list)
 }
 
-/// The row is softened, then what is past expires, and then it is cleared.
+/// Softens the row, lets what is past expire, and clears the row.
 fn softens(
     rt: &(impl Abort + AllocGlobal),
     ledger: &mut Ledger,
@@ -162,7 +162,7 @@ fn a_long_row_softens(rt: HostRuntime) -> Result<(), Fail> {
     softens(&rt, &mut ledger, &mut list)
 }
 
-/// A long row that was copied to itself, and its copy after it, which pays the message 3.
+/// A ledger of a long row that was copied to itself, and of its copy, which has paid the message 3.
 fn with_copy(rt: &(impl Abort + AllocGlobal), list: &[Debt]) -> Result<Ledger, Fail> {
     let mut ledger = of_one(rt, list)?;
     at_rows::copy(rt, &mut ledger, 0, 0);
@@ -172,7 +172,7 @@ fn with_copy(rt: &(impl Abort + AllocGlobal), list: &[Debt]) -> Result<Ledger, F
     Ok(ledger)
 }
 
-/// A list and what is left of it without the message 3.
+/// The list, and what is left of it without the message 3.
 fn with_rest(rt: &(impl Abort + AllocGlobal), list: &[Debt]) -> Result<Vec<Vec<Debt>>, Fail> {
     let mut whole = Vec::new(rt.alloc());
     whole.extend_from_slice(list)?;
@@ -217,7 +217,7 @@ fn a_row_comes_beside_a_long_one(rt: HostRuntime) -> Result<(), Fail> {
     agree(&rt, &mut ledger, &lists)
 }
 
-/// The row stays where none goes after it or before it, and goes at last.
+/// Asserts that the row stays where no row is cut off after it or dropped before it, and that it is cut off at last.
 fn goes_behind(
     rt: &(impl Abort + AllocGlobal),
     ledger: &mut Ledger,
@@ -232,7 +232,7 @@ fn goes_behind(
     Ok(())
 }
 
-/// The row goes as the first one, and another comes.
+/// Asserts that the row is dropped as the first one, and that another one can come.
 fn goes_first(rt: &(impl Abort + AllocGlobal), ledger: &mut Ledger) -> Result<(), Fail> {
     ledger.drop_first(1);
     assert!(rt; ledger.is_empty());
@@ -240,7 +240,7 @@ fn goes_first(rt: &(impl Abort + AllocGlobal), ledger: &mut Ledger) -> Result<()
     owes(rt, ledger, 0, &[])
 }
 
-/// A long row goes with the others.
+/// A long row is cut off at the end, or dropped at the front, as other rows are.
 #[test]
 fn a_long_row_goes(rt: HostRuntime) -> Result<(), Fail> {
     let list = different(&rt, 70)?;
@@ -248,7 +248,7 @@ fn a_long_row_goes(rt: HostRuntime) -> Result<(), Fail> {
     goes_first(&rt, &mut of_one(&rt, &list)?)
 }
 
-/// The row comes to owe a hundred messages more.
+/// Lets the row gain debts of a hundred messages more.
 fn gain_a_hundred(rt: &impl Abort, ledger: &mut Ledger) -> Result<(), AllocError> {
     for message in 100..200 {
         at_rows::gain(rt, ledger, 0, may(message, 10))?;
@@ -256,19 +256,19 @@ fn gain_a_hundred(rt: &impl Abort, ledger: &mut Ledger) -> Result<(), AllocError
     Ok(())
 }
 
-/// The row pays each of the messages.
+/// Lets the row pay each of the messages.
 fn pays_each(rt: &impl Abort, ledger: &mut Ledger, messages: &[u32]) {
     for message in messages {
         assert!(rt; at_rows::pay(rt, ledger, 0, *message, 0));
     }
 }
 
-/// What the row owes has this span.
+/// Asserts that what the row owes has this span.
 fn spans(rt: &impl Abort, ledger: &Ledger, want: Option<(u32, u32)>) {
     assert!(rt; at_rows::span(rt, ledger, 0) == want);
 }
 
-/// The span of what a row owes, whatever it owes.
+/// Asserts the span of what a row owes, as it comes to owe more and less.
 fn spans_what_is_owed(rt: &impl Abort, ledger: &mut Ledger) -> Result<(), AllocError> {
     spans(rt, ledger, Some((3, 9)));
     pays_each(rt, ledger, &[9]);

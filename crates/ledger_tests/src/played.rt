@@ -1,30 +1,13 @@
-//! Steps by chance, on rows and on plain lists of debts beside them.
-ghost use Rattle.std.specs.Prelude.{◌<◌, All, AllPairs, IfOk};
-
+//! Random steps on rows, and on plain lists of debts beside them.
 use crate::at_rows;
+use crate::chance::{Chance, evens};
 use crate::lists::{agree, owes};
 use crate::wants::is;
 use sip_ledger::{Debt, Ledger};
-use std::alloc::Global;
 use std::process::Abort;
 use std::test::Fail;
 
-/// Numbers by chance.
-#[derive(Drop)]
-struct Chance(u64);
-
-impl Chance {
-    /// A number below the limit, which is not 0.
-    fn below(&mut self, limit: u64) -> u64 {
-        self.0 = self
-            .0
-            .wrapping_mul(6_364_136_223_846_793_005)
-            .wrapping_add(1_442_695_040_888_963_407);
-        (self.0 >> 33) % limit.max(1)
-    }
-}
-
-/// The row pays a message, as its list does.
+/// Lets the row pay a random message, and its list as well.
 fn pay(
     rt: &impl Abort,
     ledger: &mut Ledger,
@@ -43,7 +26,7 @@ fn pay(
     }
 }
 
-/// The row pays one of two messages, as its list does.
+/// Lets the row pay one of two random messages, and its list as well.
 fn pay_any(rt: &impl Abort, ledger: &mut Ledger, list: &mut Vec<Debt>, row: usize, moment: u64) {
     let paid = at_rows::pay_any(rt, ledger, row, &[1, 2], moment);
     let first = list.iter().position(|debt| (debt.message == 1 || debt.message == 2)
@@ -54,7 +37,7 @@ fn pay_any(rt: &impl Abort, ledger: &mut Ledger, list: &mut Vec<Debt>, row: usiz
     }
 }
 
-/// A step on a row and its list.
+/// A random step on a row and its list.
 fn step(
     rt: &(impl Abort + AllocGlobal),
     chance: &mut Chance,
@@ -97,7 +80,7 @@ fn step(
     owes(rt, ledger, row, list)
 }
 
-/// Rows come and go.
+/// Lets random rows come or go, and their lists as well.
 fn change_rows(
     rt: &(impl Abort + AllocGlobal),
     chance: &mut Chance,
@@ -150,7 +133,7 @@ fn can_pay(list: &[Debt], message: u32, moment: u64) -> bool {
         .any(|debt| debt.message == message && moment <= debt.deadline)
 }
 
-/// Copies of some rows come after the others: of those that are timely, or of those of them that can pay.
+/// Puts copies of some rows after the others, and of their lists: of those that are timely, or of those of them that can pay.
 fn push_some(
     rt: &(impl Abort + AllocGlobal),
     chance: &mut Chance,
@@ -178,7 +161,7 @@ fn push_some(
     Ok(())
 }
 
-/// Each row from one on does the same.
+/// Changes each row from one on alike, and their lists as well.
 fn change_each(
     rt: &(impl Abort + AllocGlobal),
     chance: &mut Chance,
@@ -216,7 +199,7 @@ fn change_each(
     agree(rt, ledger, lists)
 }
 
-/// Every second row is kept.
+/// Keeps every second row, and every second list.
 fn keep_some(
     rt: &(impl Abort + AllocGlobal),
     ledger: &mut Ledger,
@@ -234,21 +217,7 @@ fn keep_some(
     Ok(())
 }
 
-/// The even numbers below the limit.
-fn evens(alloc: Global, limit: usize) -> Result<Vec<usize>, Fail>
-    ensures within { IfOk result (λ rows. All (λ row. row < limit) rows.items) }
-    ensures rising { IfOk result (λ rows. AllPairs (λ a b. a < b) rows.items) }
-{
-    let mut rows = Vec::new(alloc);
-    for row in 0..limit {
-        if row % 2 == 0 {
-            rows.push(row)?;
-        }
-    }
-    Ok(rows)
-}
-
-/// The prints of all rows are those of each.
+/// Asserts that the numbers of all rows, asked for at once, are those of each row.
 fn prints_agree(rt: &(impl Abort + AllocGlobal), ledger: &Ledger) -> Result<(), Fail> {
     let prints = ledger.prints(rt.alloc(), 0)?;
     is(rt, prints.len(), ledger.len());
@@ -258,9 +227,9 @@ fn prints_agree(rt: &(impl Abort + AllocGlobal), ledger: &Ledger) -> Result<(), 
     Ok(())
 }
 
-/// So many steps of many rows at once from this number on.
+/// Plays this many random steps on many rows at once, from this seed on.
 fn play_many(rt: &(impl Abort + AllocGlobal), seed: u64, steps: u64) -> Result<(), Fail> {
-    let mut chance = Chance(seed);
+    let mut chance = Chance::new(seed);
     let mut ledger = Ledger::new(rt.alloc());
     let mut lists: Vec<Vec<Debt>> = Vec::new(rt.alloc());
     ledger.push()?;
@@ -287,9 +256,9 @@ fn many_rows_owe_what_plain_lists_have(rt: HostRuntime) -> Result<(), Fail> {
     Ok(())
 }
 
-/// So many steps from this number on.
+/// Plays this many random steps from this seed on.
 fn play(rt: &(impl Abort + AllocGlobal), seed: u64, steps: u64) -> Result<(), Fail> {
-    let mut chance = Chance(seed);
+    let mut chance = Chance::new(seed);
     let mut ledger = Ledger::new(rt.alloc());
     let mut lists: Vec<Vec<Debt>> = Vec::new(rt.alloc());
     ledger.push()?;
@@ -314,9 +283,9 @@ fn rows_owe_what_plain_lists_have(rt: HostRuntime) -> Result<(), Fail> {
     Ok(())
 }
 
-/// So many steps of one row from this number on, which comes to owe much, and is copied now and then.
+/// Plays this many random steps on one row, from this seed on. The row comes to owe much, and is copied now and then.
 fn play_alone(rt: &(impl Abort + AllocGlobal), seed: u64, steps: u64) -> Result<(), Fail> {
-    let mut chance = Chance(seed);
+    let mut chance = Chance::new(seed);
     let mut ledger = Ledger::new(rt.alloc());
     let mut list: Vec<Debt> = Vec::new(rt.alloc());
     ledger.push()?;

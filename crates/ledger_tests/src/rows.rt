@@ -1,4 +1,4 @@
-//! Each operation once, by hand.
+//! Tests of each operation of a ledger, once and by hand.
 use crate::at_rows;
 use crate::lists::{debts, may, must, of_one, owes};
 use crate::wants::{is, is_in};
@@ -17,7 +17,7 @@ fn nothing_is_owed_at_first(rt: HostRuntime) -> Result<(), Fail> {
     owes(&rt, &mut ledger, 0, &[])
 }
 
-/// The row pays the first of two debts of a message, and the first whose deadline is not past.
+/// Asserts that the row pays the first of two debts of a message, and then the first whose deadline is not past.
 fn pays_the_first(rt: &(impl Abort + AllocGlobal), ledger: &mut Ledger) -> Result<(), Fail> {
     assert!(rt; at_rows::pay(rt, ledger, 0, 1, 10));
     owes(rt, ledger, 0, &[may(2, 10), must(1, 10), must(1, 20)])?;
@@ -25,7 +25,7 @@ fn pays_the_first(rt: &(impl Abort + AllocGlobal), ledger: &mut Ledger) -> Resul
     owes(rt, ledger, 0, &[may(2, 10), must(1, 10)])
 }
 
-/// And nothing that is past or not owed, but the first of some messages.
+/// Asserts that the row pays nothing that is past or not owed, and that it pays the first debt of some messages.
 fn pays_no_other(rt: &(impl Abort + AllocGlobal), ledger: &mut Ledger) -> Result<(), Fail> {
     assert!(rt; !at_rows::pay(rt, ledger, 0, 1, 11));
     assert!(rt; !at_rows::pay(rt, ledger, 0, 3, 0));
@@ -42,7 +42,7 @@ fn the_first_debt_of_a_message_is_paid(rt: HostRuntime) -> Result<(), Fail> {
     pays_no_other(&rt, &mut ledger)
 }
 
-/// What may be sent expires at its deadline, what is softened may be sent, and what is cleared is owed no longer.
+/// Asserts that what may be sent expires at its deadline, what is softened may be sent, and what is cleared is owed no longer.
 fn expires(rt: &(impl Abort + AllocGlobal), ledger: &mut Ledger) -> Result<(), Fail> {
     at_rows::expire(rt, ledger, 0, 11);
     owes(rt, ledger, 0, &[must(2, 10), may(1, 11)])?;
@@ -58,7 +58,7 @@ fn what_may_be_sent_expires(rt: HostRuntime) -> Result<(), Fail> {
     expires(&rt, &mut ledger)
 }
 
-/// A row, its copy that owes one more, and a row that owes nothing.
+/// A ledger of a row, of its copy that owes one debt more, and of a row that owes nothing.
 fn of_three(rt: &(impl Abort + AllocGlobal)) -> Result<Ledger, Fail> {
     let mut ledger = of_one(rt, &[must(1, 10)])?;
     at_rows::push_copy(rt, &mut ledger, 0)?;
@@ -67,7 +67,7 @@ fn of_three(rt: &(impl Abort + AllocGlobal)) -> Result<Ledger, Fail> {
     Ok(ledger)
 }
 
-/// The three rows owe this, and the last one what is copied there.
+/// Asserts what the three rows owe, and that the last one owes what is copied to it.
 fn owe_in_turn(rt: &(impl Abort + AllocGlobal), ledger: &mut Ledger) -> Result<(), Fail> {
     is(rt, ledger.len(), 3);
     owes(rt, ledger, 0, &[must(1, 10)])?;
@@ -77,13 +77,13 @@ fn owe_in_turn(rt: &(impl Abort + AllocGlobal), ledger: &mut Ledger) -> Result<(
     owes(rt, ledger, 2, &[must(1, 10), may(2, 20)])
 }
 
-/// Rows come after the others.
+/// Rows are put after the others, copies among them.
 #[test]
 fn rows_are_copied(rt: HostRuntime) -> Result<(), Fail> {
     owe_in_turn(&rt, &mut of_three(&rt)?)
 }
 
-/// Rows go first, then last, and no more than there are.
+/// Asserts that rows go first, then last, and no more than there are.
 fn go_in_turn(rt: &(impl Abort + AllocGlobal), ledger: &mut Ledger) -> Result<(), Fail> {
     ledger.drop_first(1);
     is(rt, ledger.len(), 2);
@@ -97,13 +97,13 @@ fn go_in_turn(rt: &(impl Abort + AllocGlobal), ledger: &mut Ledger) -> Result<()
     Ok(())
 }
 
-/// And go, from either end.
+/// Rows go from either end.
 #[test]
 fn rows_are_dropped(rt: HostRuntime) -> Result<(), Fail> {
     go_in_turn(&rt, &mut of_three(&rt)?)
 }
 
-/// The only row has these runs.
+/// Asserts that the only row has these runs.
 fn has_runs(rt: &(impl Abort + AllocGlobal), ledger: &Ledger, wants: &[Run]) -> Result<(), Fail> {
     assert!(rt; 0 < ledger.len());
     let runs = ledger.runs(rt.alloc(), 0)?;
@@ -111,7 +111,7 @@ fn has_runs(rt: &(impl Abort + AllocGlobal), ledger: &Ledger, wants: &[Run]) -> 
     Ok(())
 }
 
-/// And names these messages.
+/// Asserts that the only row names these messages.
 fn has_names(rt: &(impl Abort + AllocGlobal), ledger: &Ledger, wants: &[u32]) -> Result<(), Fail> {
     let mut numbers = Vec::new(rt.alloc());
     assert!(rt; 0 < ledger.len());
@@ -158,7 +158,7 @@ fn a_row_is_timely_until_its_deadline(rt: HostRuntime) -> Result<(), Fail> {
     Ok(())
 }
 
-/// A second row comes to owe what the first one does once it has paid.
+/// Lets a second row come to owe what the first one does once it has paid.
 fn come_to_be_the_same(rt: &impl Abort, ledger: &mut Ledger) -> Result<(), AllocError> {
     ledger.push()?;
     at_rows::gain(rt, ledger, 1, must(2, 10))?;
@@ -170,14 +170,14 @@ fn come_to_be_the_same(rt: &impl Abort, ledger: &mut Ledger) -> Result<(), Alloc
     Ok(())
 }
 
-/// The same debts in one order have one spelling, whichever entries they came by.
+/// Two rows that owe the same debts in one order are the same, whichever entries they came by.
 #[test]
 fn equal_rows_are_the_same(rt: HostRuntime) -> Result<(), Fail> {
     let mut ledger = of_one(&rt, &[must(1, 10), must(2, 10), must(1, 10)])?;
     Ok(come_to_be_the_same(&rt, &mut ledger)?)
 }
 
-/// The row gains a hundred debts, and pays the first seventy.
+/// Lets the row gain a hundred debts, and pay the first seventy.
 fn pays_seventy(rt: &impl Abort, ledger: &mut Ledger) -> Result<(), AllocError> {
     for number in 0..100 {
         at_rows::gain(rt, ledger, 0, must(number, 10))?;
@@ -189,7 +189,7 @@ fn pays_seventy(rt: &impl Abort, ledger: &mut Ledger) -> Result<(), AllocError> 
     Ok(())
 }
 
-/// Thirty are left, which the row pays too.
+/// Lets the row pay the thirty debts that are left.
 fn pays_the_rest(rt: &(impl Abort + AllocGlobal), ledger: &mut Ledger) -> Result<(), Fail> {
     let left = debts(rt, ledger, 0)?;
     is(rt, left.len(), 30);
@@ -202,7 +202,7 @@ fn pays_the_rest(rt: &(impl Abort + AllocGlobal), ledger: &mut Ledger) -> Result
     owes(rt, ledger, 0, &[])
 }
 
-/// A hundred debts, of which the first ones are paid and go.
+/// Of a hundred debts the first ones are paid, and their entries go.
 #[test]
 fn entries_that_no_row_owes_go(rt: HostRuntime) -> Result<(), Fail> {
     let mut ledger = of_one(&rt, &[])?;
@@ -210,7 +210,7 @@ fn entries_that_no_row_owes_go(rt: HostRuntime) -> Result<(), Fail> {
     pays_the_rest(&rt, &mut ledger)
 }
 
-/// Two rows, of which the first owes seventy messages and the second nothing.
+/// A ledger of two rows, of which the first owes seventy messages and the second nothing.
 fn of_seventy(rt: &(impl Abort + AllocGlobal)) -> Result<Ledger, Fail> {
     let mut ledger = of_one(rt, &[])?;
     ledger.push()?;
@@ -220,7 +220,7 @@ fn of_seventy(rt: &(impl Abort + AllocGlobal)) -> Result<Ledger, Fail> {
     Ok(ledger)
 }
 
-/// The first row pays the first 64 of its seventy messages, and owes the others.
+/// Lets the first row pay the first 64 of its seventy messages, and asserts that it owes the others.
 fn pays_a_word(rt: &(impl Abort + AllocGlobal), ledger: &mut Ledger) -> Result<(), Fail> {
     for number in 0..64 {
         is_in(rt, at_rows::pay(rt, ledger, 0, number, 0), true, &number);
@@ -247,7 +247,7 @@ fn rows_of_two_words_expire(rt: HostRuntime) -> Result<(), Fail> {
     owes(&rt, &mut ledger, 0, &[])
 }
 
-/// Three rows over a list of entries of which the last is equal to the first: one row owes it once, one after others, and one twice.
+/// A ledger of three rows over entries of which the last is equal to the first: one row owes it once, one after others, and one twice.
 fn of_equal_entries(rt: &(impl Abort + AllocGlobal)) -> Result<Ledger, Fail> {
     let mut ledger = of_one(rt, &[must(1, 10)])?;
     ledger.push()?;
@@ -260,7 +260,7 @@ fn of_equal_entries(rt: &(impl Abort + AllocGlobal)) -> Result<Ledger, Fail> {
     Ok(ledger)
 }
 
-/// Rows that pay at once come to owe the same as one that owed no more.
+/// Asserts that rows which pay at once come to owe the same as one that owed no more.
 fn pay_at_once(rt: &(impl Abort + AllocGlobal), ledger: &mut Ledger) -> Result<(), Fail> {
     ledger.pay_each(1, 1, 0);
     owes(rt, ledger, 1, &[must(2, 10), must(3, 10), must(1, 10)])?;

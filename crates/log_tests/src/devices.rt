@@ -3,19 +3,19 @@ ghost use Rattle.std.specs.Prelude.{None, Some};
 
 use sip_log::{Broken, Sink, Source};
 
-/// Hands out bytes in pieces: the first of one size, and each other of a second one.
+/// Hands out bytes in pieces: the first piece of one size, and each later one of another size.
 #[derive(Drop)]
 pub(crate) struct Pieces<'a> {
     bytes: &'a [u8],
     first: usize,
     others: usize,
-    /// The calls that are answered before one fails; none fails where there is no number.
+    /// How many calls are answered before one fails. Without a number none fails.
     calls: Option<usize>,
     failed: bool,
 }
 
 impl<'a> Pieces<'a> {
-    /// The bytes before a place in one piece, and those after it in another.
+    /// Hands out the bytes before a place in one piece, and those after it in another.
     pub(crate) fn cut_at(bytes: &'a [u8], place: usize) -> Pieces<'a> {
         Pieces {
             bytes,
@@ -26,7 +26,7 @@ impl<'a> Pieces<'a> {
         }
     }
 
-    /// Single bytes.
+    /// Hands out the bytes one by one.
     pub(crate) fn single(bytes: &'a [u8]) -> Pieces<'a> {
         Pieces {
             bytes,
@@ -37,7 +37,7 @@ impl<'a> Pieces<'a> {
         }
     }
 
-    /// Single bytes, and the call after so many fails.
+    /// Hands out the bytes one by one, and fails at the call after this many.
     pub(crate) fn failing(bytes: &'a [u8], calls: usize) -> Pieces<'a> {
         Pieces {
             bytes,
@@ -63,7 +63,7 @@ impl<'a> Source for Pieces<'a> {
             Some(calls) => self.calls = Some(calls - 1),
             None => {}
         }
-        // A piece of no bytes would be the end.
+        // A piece of no bytes would mean the end.
         let size = self.first.max(1);
         let count = size.min(self.bytes.len()).min(buf.len());
         self.first = self.others;
@@ -78,7 +78,7 @@ impl<'a> Source for Pieces<'a> {
     }
 }
 
-/// Takes so many pieces, keeps none of them, and then fails.
+/// Takes this many pieces, keeps none of them, and then fails.
 #[derive(Drop)]
 pub(crate) struct Room {
     calls: usize,

@@ -1,4 +1,4 @@
-//! Rows of format 2, of its restarts and two tolerances, and of the rules in both formats.
+//! Rows of format 2: its restarts and its two tolerances, and the rules in both formats.
 use crate::devices::{Pieces, Room};
 use crate::tests::{HEADER, Row, first_other, read, read_cut};
 use crate::wants::{is, is_in};
@@ -13,10 +13,10 @@ use std::test::Fail;
 
 const HEADER_2: &[u8] = b"sip-trace 2\nt1 500 t2 4000 t4 5000 early 50 late 60\n";
 
-/// What a header tells: T1, T2, T4, early, late and the rules.
+/// The times and the rules that a header tells: T1, T2, T4, early, late and the rules.
 type Told = (u64, u64, u64, u64, u64, Rules);
 
-/// What the header of a log tells, where it has a header and no fault after it.
+/// What the header of the log tells, or `None` where the log has no header or a fault after it.
 fn told(alloc: Global, bytes: &[u8]) -> Option<Told> {
     let mut reader = LogReader::new(alloc, Pieces::single(bytes));
     let _entry = reader.next().ok()?;
@@ -67,7 +67,7 @@ static RESTARTS_IN_FORMAT_1: &[Row] = &[
     (b"rules 3261\nZ 100\n", 0, Some(LogError::EntryLine)),
 ];
 
-/// Format 1 has no restarts.
+/// In format 1 the line of a restart is no line of an entry.
 #[test]
 fn format_1_has_no_restarts(rt: HostRuntime) -> Result<(), Fail> {
     is(
@@ -78,7 +78,7 @@ fn format_1_has_no_restarts(rt: HostRuntime) -> Result<(), Fail> {
     Ok(())
 }
 
-/// Rows of the line of rules, which are the same after both headers.
+/// Rows of the line of rules, which say the same after a header of either format.
 static RULES: &[Row] = &[
     (b"rules 3261\n", 0, None),
     (b"rules 6026\n", 0, None),
@@ -187,7 +187,7 @@ fn what_a_header_tells(rt: HostRuntime) -> Result<(), Fail> {
     Ok(())
 }
 
-/// A restart has its moment, and no message.
+/// A restart that is read has its moment, and no message.
 #[test]
 fn what_a_restart_tells(rt: HostRuntime) -> Result<(), Fail> {
     let mut bytes = Vec::from_slice(rt.alloc(), HEADER_2)?;
@@ -201,7 +201,7 @@ fn what_a_restart_tells(rt: HostRuntime) -> Result<(), Fail> {
     Ok(())
 }
 
-/// Writes a header of format 2 and three entries.
+/// Writes a header of format 2 and three entries after it.
 fn write<W: Sink>(writer: &mut W, params: &Params) -> Result<(), WriteError> {
     write_header_2(writer, params)?;
     write_entry(writer, Action::Sent, 0, b"hello")?;
@@ -216,7 +216,7 @@ fn times(early: u64, late: u64, rules: Rules) -> Option<Params> {
     Some(Params::with_tolerances(500, 4_000, 5_000, early, late)?.with_rules(rules))
 }
 
-/// What is written in format 2.
+/// The bytes that `write` writes in format 2.
 fn written(rt: &(impl Abort + AllocGlobal), params: &Params) -> Vec<u8> {
     let mut text = Vec::new(rt.alloc());
     let mut sink = ToWrite::new(&mut text);
@@ -233,7 +233,7 @@ fn what_is_written_in_format_2(rt: HostRuntime) -> Result<(), Fail> {
     Ok(())
 }
 
-/// Writes a header alone, by format 1 or 2.
+/// The bytes of a header alone, in format 1 or 2, or `None` where it is not written.
 fn header_of(alloc: Global, format: u8, params: &Params) -> Result<Option<Vec<u8>>, AllocError> {
     let mut text = Vec::new(alloc);
     let mut sink = ToWrite::new(&mut text);
@@ -249,7 +249,7 @@ fn header_of(alloc: Global, format: u8, params: &Params) -> Result<Option<Vec<u8
     }
 }
 
-/// The line of rules is written for RFC 3261 alone; format 1 has no two tolerances.
+/// The line of rules is written for RFC 3261 alone. In format 1 a header with two tolerances is not written.
 #[test]
 fn headers_that_are_written(rt: HostRuntime) -> Result<(), Fail> {
     let rows: [(u8, u64, u64, Rules, Option<&[u8]>); 6] = [
@@ -281,7 +281,7 @@ fn headers_that_are_written(rt: HostRuntime) -> Result<(), Fail> {
     Ok(())
 }
 
-/// Nothing is written of a header that has two tolerances in format 1, nor of a restart after the last moment.
+/// Nothing is written of a header of format 1 with two tolerances, nor of a restart with a moment above the last one.
 #[test]
 fn what_is_not_written(rt: HostRuntime) -> Result<(), Fail> {
     let params = times(50, 51, Rules::R6026).ok_or("refused")?;
@@ -305,7 +305,7 @@ fn what_is_not_written(rt: HostRuntime) -> Result<(), Fail> {
     Ok(())
 }
 
-/// A source that fails at its nth call: what came before is told, then `Io`, and then `Failed`.
+/// A source fails at each of its calls in turn. The entries before are told, then `Io`, and then `Failed`.
 #[test]
 fn a_source_that_fails(rt: HostRuntime) -> Result<(), Fail> {
     // The last call finds the end.
@@ -331,7 +331,7 @@ fn a_source_that_fails(rt: HostRuntime) -> Result<(), Fail> {
     Ok(())
 }
 
-/// A sink that fails at its nth call.
+/// A sink fails at each of its calls in turn, which a write tells.
 #[test]
 fn a_sink_that_fails(rt: HostRuntime) -> Result<(), Fail> {
     let params = times(0, 100, Rules::R3261).ok_or("refused")?;
@@ -345,7 +345,7 @@ fn a_sink_that_fails(rt: HostRuntime) -> Result<(), Fail> {
     Ok(())
 }
 
-/// With any growth refused, the log is read whole, or want of memory is told.
+/// Whichever growth is refused, the log is read to its end, or want of memory is told.
 #[test]
 fn reads_or_tells_want_of_memory(rt: HostRuntime) {
     let answer = read(rt.alloc(), FromRead::new(WRITTEN));

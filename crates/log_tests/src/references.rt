@@ -1,4 +1,4 @@
-//! A sink and a source through references to them, as those that write and read a log take theirs.
+//! Sinks and sources that are used through references, as readers and writers of logs use theirs.
 
 use crate::devices::{Pieces, Room};
 use crate::wants::is;

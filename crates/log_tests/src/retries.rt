@@ -1,11 +1,11 @@
-//! Reads of std that fail, and what is tried again.
+//! Reads of std that fail: which of them are tried again.
 
 use crate::wants::is;
 use sip_log::{FromRead, Source, read_entries};
 use std::io;
 use std::io::Read;
 
-/// Gives one byte at each call, after its first calls have failed.
+/// Gives one byte at each call, once the first calls have failed.
 #[derive(Drop)]
 struct OneByOne {
     failures: u8,
@@ -48,7 +48,7 @@ fn tells_any_other_error(rt: HostRuntime) {
     assert!(rt; source.has_failed());
 }
 
-/// How many bytes come through the bound.
+/// How many bytes the source gives when it is filled from through a bound on its type.
 fn fill_through<S: Source + Drop>(mut source: S, buf: &mut [u8]) -> Option<usize> {
     source.fill(buf).ok()
 }
@@ -79,7 +79,7 @@ fn fills_buffers_of_every_length(rt: HostRuntime) {
     }
 }
 
-/// Tells its end once, and fails after it.
+/// Tells its end once, and fails at every later call.
 #[derive(Drop)]
 struct OnceEnded<'a> {
     bytes: &'a [u8],
@@ -100,7 +100,7 @@ impl<'a> Read for OnceEnded<'a> {
     }
 }
 
-/// A header alone is looked at twice for its end, once for a line of rules and once for an entry; its reader is asked once.
+/// A reader is asked once for its end, even though the end is looked for twice after a header: for a line of rules and for an entry.
 #[test]
 fn a_reader_that_told_its_end_is_not_asked_again(rt: HostRuntime) {
     for bytes in [

@@ -12,10 +12,10 @@ use std::test::Fail;
 
 pub(crate) const HEADER: &[u8] = b"sip-trace 1\nt1 500 t2 4000 t4 5000 tolerance 50\n";
 
-/// Calls enough to read any log of these tests to its end.
+/// More calls than any log of these tests needs to be read to its end.
 const CALLS: usize = 64;
 
-/// Reads to the end: how many entries, and why no more. A further call tells it again.
+/// Reads the log to its end. The answer is how many entries it has and why there are no more, or `None` where a further call differs.
 pub(crate) fn read<R: Source + Drop>(alloc: Global, source: R) -> Option<(u32, Option<LogError>)> {
     let mut reader = LogReader::new(alloc, source);
     let mut count = 0;
@@ -39,7 +39,7 @@ pub(crate) fn read<R: Source + Drop>(alloc: Global, source: R) -> Option<(u32, O
     None
 }
 
-/// Reads bytes whole, in single bytes, and in two pieces cut at each place; None where the answers differ.
+/// Reads the bytes whole, one by one, and in two pieces cut at each place. The answer is `None` where the readings differ.
 pub(crate) fn read_cut(alloc: Global, bytes: &[u8]) -> Option<(u32, Option<LogError>)> {
     let whole = read(alloc, FromRead::new(bytes))?;
     if read(alloc, Pieces::single(bytes)) != Some(whole) {
@@ -53,10 +53,10 @@ pub(crate) fn read_cut(alloc: Global, bytes: &[u8]) -> Option<(u32, Option<LogEr
     Some(whole)
 }
 
-/// A row: bytes, how many entries they have, and why no more.
+/// A row: the bytes of a log, how many entries they have, and why there are no more.
 pub(crate) type Row = (&'static [u8], u32, Option<LogError>);
 
-/// The first of the rows, each after these bytes, that is read otherwise.
+/// The index of the first row that, after these bytes, is read otherwise than it says.
 pub(crate) fn first_other(
     alloc: Global,
     front: &[u8],
@@ -212,7 +212,7 @@ fn headers_in_any_pieces(rt: HostRuntime) -> Result<(), Fail> {
     Ok(())
 }
 
-/// A source that fails at its nth call: `Io` and then `Failed`, and no fault of the log, whatever was read before.
+/// A source fails at each of its calls in turn. `Io` is told and then `Failed`, and no fault of the log, whatever was read before.
 #[test]
 fn a_source_that_fails(rt: HostRuntime) -> Result<(), Fail> {
     let mut bytes = Vec::from_slice(rt.alloc(), HEADER)?;
@@ -230,7 +230,7 @@ fn a_source_that_fails(rt: HostRuntime) -> Result<(), Fail> {
     Ok(())
 }
 
-/// A REGISTER, and the response to it.
+/// A REGISTER request. The response to it follows.
 const REGISTER: &[u8] =
     b"REGISTER sip:example.com SIP/2.0\r\nVia: SIP/2.0/UDP a.example.com;branch=z9hG4bKr1\r\n\
     From: <sip:bob@example.com>;tag=1\r\nTo: <sip:bob@example.com>\r\nCall-ID: c1@a\r\nCSeq: 1 REGISTER\r\n\
@@ -257,7 +257,7 @@ fn registration(alloc: Global) -> Result<Vec<u8>, AllocError> {
     Ok(log)
 }
 
-/// How many entries are whole in so many bytes of the log of a registration.
+/// The number of entries that are whole in the first `len` bytes of the log of a registration.
 fn whole_entries(len: usize) -> u32 {
     match len {
         0..=255 => 0,
@@ -268,7 +268,7 @@ fn whole_entries(len: usize) -> u32 {
     }
 }
 
-/// The entries before the call that fails are told, then `Io`, and then `Failed`.
+/// A source fails at each of its calls in turn. The entries before are told, then `Io`, and then `Failed`.
 #[test]
 fn a_registration_whose_source_fails(rt: HostRuntime) -> Result<(), Fail> {
     let bytes = registration(rt.alloc())?;
@@ -290,14 +290,14 @@ fn a_registration_whose_source_fails(rt: HostRuntime) -> Result<(), Fail> {
     Ok(())
 }
 
-/// So many bytes that are all the same.
+/// This many bytes, which are all the same.
 fn all_of(alloc: Global, byte: u8, count: usize) -> Result<Vec<u8>, AllocError> {
     let mut bytes = Vec::new(alloc);
     bytes.resize(count, byte)?;
     Ok(bytes)
 }
 
-/// The log of the largest message, of the last moment, and the front of an entry after it.
+/// The log of the largest message at the last moment, and the first bytes of an entry after it.
 fn largest(alloc: Global, message: &[u8]) -> Result<Vec<u8>, AllocError> {
     let mut bytes = Vec::from_slice(alloc, HEADER)?;
     bytes.extend_from_slice(b"R 9999999999999 65535\n")?;
@@ -306,7 +306,7 @@ fn largest(alloc: Global, message: &[u8]) -> Result<Vec<u8>, AllocError> {
     Ok(bytes)
 }
 
-/// Asserts that the entry is the largest one.
+/// Asserts that the entry has the last moment and the largest message.
 fn is_largest(rt: &impl Abort, entry: &Entry, message: &[u8]) {
     is(
         rt,
@@ -316,7 +316,7 @@ fn is_largest(rt: &impl Abort, entry: &Entry, message: &[u8]) {
     assert!(rt; entry.bytes.as_slice() == message);
 }
 
-/// Asserts that the reader tells the largest entry first.
+/// Asserts that the first entry that the reader tells is the largest one.
 fn tells_the_largest<R: Source>(
     rt: &impl Abort,
     reader: &mut LogReader<R>,
@@ -327,7 +327,7 @@ fn tells_the_largest<R: Source>(
     Ok(())
 }
 
-/// Asserts that the reader knows the times of the header.
+/// Asserts that the reader tells the times of the header.
 fn knows_the_times<R: Source>(rt: &impl Abort, reader: &LogReader<R>) -> Result<(), Fail> {
     let params = reader.params().ok_or("no times")?;
     is(rt, (params.early(), params.late()), (50, 50));
@@ -335,7 +335,7 @@ fn knows_the_times<R: Source>(rt: &impl Abort, reader: &LogReader<R>) -> Result<
     Ok(())
 }
 
-/// What a reader tells of the log of the largest entry, in turn.
+/// Asserts what a reader tells of the log of the largest entry, call after call.
 fn reads_the_largest(
     rt: &(impl Abort + AllocGlobal),
     bytes: &[u8],
@@ -348,7 +348,7 @@ fn reads_the_largest(
     knows_the_times(rt, &reader)
 }
 
-/// The largest message, the last moment, and what stays known after an error.
+/// The largest message and the last moment can be read, and the times stay known after an error.
 #[test]
 fn what_an_entry_tells(rt: HostRuntime) -> Result<(), Fail> {
     let message = all_of(rt.alloc(), b'\n', 65_535)?;
@@ -356,7 +356,7 @@ fn what_an_entry_tells(rt: HostRuntime) -> Result<(), Fail> {
     reads_the_largest(&rt, &bytes, &message)
 }
 
-/// A buffer that is handed back takes the next entry: what stood in it is gone, and its room stays.
+/// A buffer that is handed back takes the next entry: what stood in it is gone, and its room is kept.
 #[test]
 fn a_buffer_is_used_again(rt: HostRuntime) -> Result<(), Fail> {
     let mut left: &[u8] = WRITTEN;
@@ -377,7 +377,7 @@ fn a_buffer_is_used_again(rt: HostRuntime) -> Result<(), Fail> {
     Ok(())
 }
 
-/// Writes a header and three entries.
+/// Writes a header and three entries after it.
 fn write<W: Sink>(writer: &mut W, params: &Params) -> Result<(), WriteError> {
     write_header(writer, params)?;
     write_entry(writer, Action::Sent, 0, b"hello")?;
@@ -386,7 +386,7 @@ fn write<W: Sink>(writer: &mut W, params: &Params) -> Result<(), WriteError> {
     write_entry(writer, Action::Mark, 9_999_999_999_999, b"plays no part")
 }
 
-/// What is written.
+/// The bytes that `write` writes.
 fn written(rt: &(impl Abort + AllocGlobal), params: &Params) -> Vec<u8> {
     let mut text = Vec::new(rt.alloc());
     let mut sink = ToWrite::new(&mut text);
@@ -410,14 +410,14 @@ fn what_is_written(rt: HostRuntime) -> Result<(), Fail> {
     Ok(())
 }
 
-/// With any growth refused, the log is read whole, or want of memory is told.
+/// Whichever growth is refused, the log is read to its end, or want of memory is told.
 #[test]
 fn reads_or_tells_want_of_memory(rt: HostRuntime) {
     let answer = read(rt.alloc(), FromRead::new(WRITTEN));
     assert!(rt; matches!(answer, Some((4, None)) | Some((_, Some(LogError::Memory)))));
 }
 
-/// An entry: what was done, its moment, and how many bytes its message has, each an x; and the answer where it is written.
+/// A row: the action of an entry, its moment, how many bytes its message has, each an x, and what writing it answers.
 type Written = (Action, u64, usize, Result<(), WriteError>);
 
 static NOT_WRITTEN: &[Written] = &[
@@ -434,7 +434,7 @@ static NOT_WRITTEN: &[Written] = &[
     (Action::Sent, 0, 65_535, Ok(())),
 ];
 
-/// What a sink answers to the entry of the row, and whether it took nothing of it.
+/// What writing the entry of the row answers, and whether the sink took nothing of it.
 fn answered(alloc: Global, row: &Written) -> Result<(Result<(), WriteError>, bool), AllocError> {
     let bytes = all_of(alloc, b'x', row.2)?;
     let mut room = Room::of(1_000);
@@ -452,7 +452,7 @@ fn what_is_not_written(rt: HostRuntime) -> Result<(), Fail> {
     Ok(())
 }
 
-/// A sink that fails at its nth call.
+/// A sink fails at each of its calls in turn, which a write tells.
 #[test]
 fn a_sink_that_fails(rt: HostRuntime) -> Result<(), Fail> {
     let params = Params::new(500, 4_000, 5_000, 50).ok_or("refused")?;
@@ -466,7 +466,7 @@ fn a_sink_that_fails(rt: HostRuntime) -> Result<(), Fail> {
     Ok(())
 }
 
-/// The times that a progress tells, if it does.
+/// The times that a progress tells, if it tells any.
 fn times_of(progress: &Progress) -> Option<[u64; 5]> {
     let params = progress.params()?;
     Some([
@@ -478,7 +478,7 @@ fn times_of(progress: &Progress) -> Option<[u64; 5]> {
     ])
 }
 
-/// What a progress tells of the times before a header was read, after it, and at the end of the log.
+/// A progress tells no times before a header was read, and its times after it and at the end of the log.
 #[test]
 fn tells_the_times_of_the_header(rt: HostRuntime) -> Result<(), Fail> {
     is(&rt, times_of(&Progress::new(rt.alloc())), None);
@@ -487,5 +487,29 @@ fn tells_the_times_of_the_header(rt: HostRuntime) -> Result<(), Fail> {
     is(&rt, times_of(&progress), Some([500, 4_000, 5_000, 50, 50]));
     assert!(rt; progress.next(&mut bytes)?.is_none());
     is(&rt, times_of(&progress), Some([500, 4_000, 5_000, 50, 50]));
+    Ok(())
+}
+
+/// The number of the entry that comes next, if one does.
+fn next_number(progress: &mut Progress, bytes: &mut &[u8]) -> Result<Option<u32>, LogError> {
+    match progress.next(bytes)? {
+        Some(entry) => Ok(Some(entry.number)),
+        None => Ok(None),
+    }
+}
+
+/// Counted anew, the next entry has the number 1. Its moment is held against that of the entry before it, and the times of the header stay.
+#[test]
+fn counts_its_entries_anew(rt: HostRuntime) -> Result<(), Fail> {
+    let mut bytes: &[u8] =
+        b"sip-trace 1\nt1 500 t2 4000 t4 5000 tolerance 50\nM 5\nM 6\nM 6\nM 5\n";
+    let (_, mut progress) = Progress::open(rt.alloc(), &mut bytes)?;
+    is(&rt, next_number(&mut progress, &mut bytes)?, Some(1));
+    is(&rt, next_number(&mut progress, &mut bytes)?, Some(2));
+    progress.count_anew();
+    is(&rt, next_number(&mut progress, &mut bytes)?, Some(1));
+    progress.count_anew();
+    is(&rt, times_of(&progress), Some([500, 4_000, 5_000, 50, 50]));
+    assert!(rt; matches!(next_number(&mut progress, &mut bytes), Err(LogError::Order)));
     Ok(())
 }

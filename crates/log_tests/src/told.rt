@@ -1,4 +1,4 @@
-//! What the errors of `sip_log` say, and how its readers and writers look to who debugs them.
+//! What the errors of `sip_log` say, and what `Debug` shows of its readers and writers.
 
 use crate::wants::is;
 use sip_log::{Broken, FromRead, LogError, LogReader, Source, ToWrite, WriteError};
@@ -32,14 +32,14 @@ fn errors_say_what_is_wrong(rt: HostRuntime) -> Result<(), Fail> {
     Ok(())
 }
 
-/// Asserts that `{:?}` writes the value so.
+/// Asserts that `{:?}` writes the value in this way.
 fn looks<T: Debug>(rt: &(impl Abort + AllocGlobal), value: &T, look: &str) -> Result<(), Fail> {
     let told = format!(in rt.alloc(); "{value:?}")?;
     is(rt, told.as_str(), look);
     Ok(())
 }
 
-/// A reader that has read nothing, and a writer.
+/// Asserts what a reader that has read nothing, and a writer, look like.
 fn new_ones_look(rt: &(impl Abort + AllocGlobal), bytes: &[u8]) -> Result<(), Fail> {
     let reader = LogReader::new(rt.alloc(), FromRead::new(bytes));
     looks(
@@ -52,7 +52,7 @@ fn new_ones_look(rt: &(impl Abort + AllocGlobal), bytes: &[u8]) -> Result<(), Fa
     looks(rt, &writer, "ToWrite { writer: [], failed: false }")
 }
 
-/// An entry.
+/// Asserts what an entry looks like.
 fn an_entry_looks<R: Source>(
     rt: &(impl Abort + AllocGlobal),
     reader: &mut LogReader<R>,
@@ -65,7 +65,7 @@ fn an_entry_looks<R: Source>(
     )
 }
 
-/// A reader tells where it stands in its buffer, and not the 128 KiB that the buffer has.
+/// What a reader looks like tells where it stands in its buffer, and leaves out the 128 KiB of the buffer.
 #[test]
 fn readers_and_writers_look(rt: HostRuntime) -> Result<(), Fail> {
     let bytes: &[u8] = b"sip-trace 1\nt1 1 t2 2 t4 3 tolerance 4\nM 5\nS";

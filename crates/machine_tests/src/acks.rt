@@ -8,7 +8,7 @@ use sip_message::{Message, ReadError};
 use std::alloc::{AllocError, Global};
 use std::test::Fail;
 
-/// The INVITE, two 486s with a To each, as far apart as it takes not to look at each number between them, and the ACK for the second one.
+/// The INVITE, two 486s with a To each, with numbers so far apart that a search does not look at each of them, and the ACK for the second.
 const MESSAGES: [Numbered; 4] = [
     (1, Start::Request("INVITE"), None),
     (2, Start::Response(486), Some(2)),
@@ -16,7 +16,7 @@ const MESSAGES: [Numbered; 4] = [
     (21, Start::Request("ACK"), Some(3)),
 ];
 
-/// Puts the To of the message with this number beside it.
+/// Keeps the To of the message with this number beside it.
 fn keep_to(alloc: Global, book: &mut Book, number: u32) -> Result<(), Fail> {
     let Some(bytes) = book.bytes(number) else {
         return Err("not kept".into());
@@ -30,7 +30,7 @@ fn keep_to(alloc: Global, book: &mut Book, number: u32) -> Result<(), Fail> {
     Ok(())
 }
 
-/// Both are owed an ACK, and the second one gets it.
+/// Each of the two 486s is owed an ACK, and the ACK that is sent pays the second one, so that the first is still owed.
 static ROWS: [Row<InviteClientPhase>; 1] = [(
     &[
         (0, Action::Sent, 1),
@@ -48,7 +48,7 @@ static ROWS: [Row<InviteClientPhase>; 1] = [(
     )],
 )];
 
-/// The To of the first stands beside it, as where there was no memory for the second.
+/// The book keeps the To of the first 486 alone, as it does where memory for the second was refused.
 #[test]
 fn an_ack_finds_a_response_without_its_to(rt: HostRuntime) -> Result<(), Fail> {
     let mut book = book_of(rt.alloc(), &MESSAGES, "INVITE", "UDP")?;

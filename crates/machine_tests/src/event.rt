@@ -1,4 +1,4 @@
-//! Events of whole messages.
+//! What events of whole messages tell of them.
 
 use crate::wants::holds;
 use sip_machine::{Action, Event, Kind, Method};
@@ -6,7 +6,7 @@ use sip_message::Message;
 use std::alloc::Global;
 use std::test::Fail;
 
-/// The kind of a message that begins so and comes over a transport, and whether that is reliable.
+/// The kind of a message with this start line, method and transport, and whether its transport is reliable.
 fn kind_of(
     alloc: Global,
     start: &str,
@@ -37,7 +37,7 @@ fn told_kind(alloc: Global, text: &[u8]) -> Result<(Kind, bool), Fail> {
     Ok((event.kind(), event.reliable()))
 }
 
-/// How a message begins, its transport and method, and what it is told to be.
+/// A start line, a transport and a method, and the kind and the reliability that are wanted of the message.
 type Told = (&'static str, &'static str, &'static str, Kind, bool);
 
 static MESSAGES: [Told; 6] = [
@@ -94,7 +94,7 @@ fn tells_messages(rt: HostRuntime) -> Result<(), Fail> {
     Ok(())
 }
 
-/// A restart has no message: its number is 0, and it is a request of no method that machines tell apart.
+/// A restart has no message: its number is 0, and its kind is a request of no method that the machines know.
 #[test]
 fn tells_a_restart(rt: HostRuntime) -> Result<(), Fail> {
     let restart = Event::restart(700);

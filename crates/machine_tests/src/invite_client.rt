@@ -22,10 +22,10 @@ const BUSY: u32 = 6;
 
 const GONE: u32 = 7;
 
-/// The ACK for BUSY.
+/// The ACK for `BUSY`.
 const ACK: u32 = 8;
 
-/// The ACK for GONE.
+/// The ACK for `GONE`.
 const OTHER_ACK: u32 = 9;
 
 const CANCEL: u32 = 10;
@@ -36,7 +36,7 @@ fn client(t1: u64) -> Result<InviteClient, Fail> {
     Ok(InviteClient::new(params(t1)?))
 }
 
-/// Each message by its number: how it begins, and its tag of To.
+/// The messages by number: the start line of each, and its tag in To.
 const MESSAGES: [Numbered; 11] = [
     (INVITE, Start::Request("INVITE"), None),
     (OTHER_INVITE, Start::Request("INVITE"), Some(9)),
@@ -57,7 +57,7 @@ fn book(alloc: Global, transport: &str) -> Result<Book, Fail> {
 
 type Row = rows::Row<InviteClientPhase>;
 
-/// Asserts that the entries of each row lead to its states.
+/// Asserts that the entries of each row lead to the states of the row.
 fn all_lead(rt: &(impl Abort + AllocGlobal), transport: &str, rows: &[Row]) -> Result<(), Fail> {
     rows::all_lead(rt, &client(500)?, &book(rt.alloc(), transport)?, rows)
 }
@@ -134,7 +134,7 @@ const ENDED: InviteClientPhase = InviteClientPhase::Ended;
 
 const FIRST: Entry = (0, Action::Sent, INVITE);
 
-/// Timer A up to the last repeat before timer B fires.
+/// The INVITE with each repeat that timer A causes before timer B fires.
 const REPEATS: [Entry; 7] = [
     FIRST,
     (500, Action::Sent, INVITE),
@@ -174,7 +174,7 @@ fn calling(rt: HostRuntime) -> Result<(), Fail> {
 
 const WAITS: Entry = (100, Action::Received, TRYING);
 
-/// A CANCEL after WAITS.
+/// A CANCEL that is sent after `WAITS`.
 const CANCELLED: Entry = (150, Action::Sent, CANCEL);
 
 static PROCEEDING: &[Row] = &[
@@ -222,7 +222,7 @@ fn proceeding(rt: HostRuntime) -> Result<(), Fail> {
 
 const BUSY_NOW: Entry = (1_000, Action::Received, BUSY);
 
-/// What BUSY_NOW makes it owe.
+/// The states after `BUSY_NOW`: its response must be acknowledged by 1,050.
 const OWED: &[rows::Want<InviteClientPhase>] = &[(COMPLETED_AT_1_000, &[(BUSY, 1_050, MUST)])];
 
 const PAID: &[rows::Want<InviteClientPhase>] = &[(COMPLETED_AT_1_000, &[])];
@@ -302,7 +302,7 @@ fn owes_each_response(rt: HostRuntime) -> Result<(), Fail> {
     all_lead(&rt, "UDP", OWES_EACH_RESPONSE)
 }
 
-/// An INVITE that could not be sent.
+/// An INVITE whose send failed.
 const NOT_SENT: Entry = (0, Action::Failed, INVITE);
 
 static IDLE_AND_ENDED: &[Row] = &[
@@ -323,7 +323,7 @@ fn idle_and_ended(rt: HostRuntime) -> Result<(), Fail> {
     all_lead(&rt, "UDP", IDLE_AND_ENDED)
 }
 
-/// Two equal responses at once over a reliable transport, and the ACK for one of them.
+/// Two equal responses that are received over a reliable transport, and the ACK for one of them.
 const OWING: [Entry; 4] = [FIRST, BUSY_AT_ONCE, BUSY_AGAIN, ACK_OF_ONE];
 
 const BUSY_AT_ONCE: Entry = (0, Action::Received, BUSY);

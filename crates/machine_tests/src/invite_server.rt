@@ -25,7 +25,7 @@ const CANCEL: u32 = 8;
 
 const OTHER: u32 = 9;
 
-/// Each message by its number.
+/// The messages by number: the start line of each, and its tag in To.
 const MESSAGES: [Numbered; 9] = [
     (INVITE, Start::Request("INVITE"), None),
     (RINGING, Start::Response(180), Some(2)),
@@ -44,7 +44,7 @@ fn server() -> Result<InviteServer, Fail> {
 
 type Row = rows::Row<InviteServerPhase>;
 
-/// Asserts that the entries of each row lead to its states.
+/// Asserts that the entries of each row lead to the states of the row.
 fn all_lead(rt: &(impl Abort + AllocGlobal), rows: &[Row]) -> Result<(), Fail> {
     let book = book_of(rt.alloc(), &MESSAGES, "INVITE", "UDP")?;
     rows::all_lead(rt, &server()?, &book, rows)
@@ -80,7 +80,7 @@ const ACCEPTED_AT_10: InviteServerPhase = InviteServerPhase::Accepted { set: 10 
 
 const ACCEPTED_AT_20: InviteServerPhase = InviteServerPhase::Accepted { set: 20 };
 
-// When the final response was sent, when timer G was set last, and for how long.
+// The phases after a 486: `set` is when it was first sent, `repeat` when timer G was last set, and `interval` for how long.
 const BUSY_AT_0: InviteServerPhase = InviteServerPhase::Completed {
     reliable: false,
     final_message: BUSY,

@@ -1,4 +1,4 @@
-//! Messages of one transaction, kept in a book, and their events.
+//! Messages of one transaction, which a book keeps, and their events.
 ghost use Rattle.std.specs.Prelude.{ℕ, IfOk, OnErr, OnOk, ◌≤◌, ◌<◌};
 ghost use Rattle.sip_machine.specs.NumberedEvent.{FitsBook};
 ghost use Rattle.sip_machine.specs.Texts.{Keeps};
@@ -8,17 +8,17 @@ use sip_message::{Message, ReadError};
 use std::alloc::{AllocError, Global};
 use std::test::Fail;
 
-/// A request by its method, or a response by its code.
+/// How a message begins: a request with its method, or a response with its code.
 #[derive(Clone, Copy)]
 pub(crate) enum Start {
     Request(&'static str),
     Response(u16),
 }
 
-/// A message by its number: how it begins, and its tag of To.
+/// A message: its number, how it begins, and its tag in To.
 pub(crate) type Numbered = (u32, Start, Option<u8>);
 
-/// The first line of a message that begins so.
+/// The first line of a message that begins in this way.
 fn line_of(alloc: Global, start: Start) -> Result<String, AllocError> {
     match start {
         Start::Request(method) => [method, " sip:example.com SIP/2.0"].concat(alloc),
@@ -26,7 +26,7 @@ fn line_of(alloc: Global, start: Start) -> Result<String, AllocError> {
     }
 }
 
-/// The parameter of To with this tag.
+/// The tag parameter of To, which is empty where there is no tag.
 fn tag_of(alloc: Global, tag: Option<u8>) -> Result<String, AllocError> {
     match tag {
         Some(tag) => format!(in alloc; ";tag={tag}"),
@@ -34,7 +34,7 @@ fn tag_of(alloc: Global, tag: Option<u8>) -> Result<String, AllocError> {
     }
 }
 
-/// The bytes of a message that begins so, with this tag of To. A response is one to this method.
+/// The bytes of a message that begins in this way, with this tag in To. A response answers the method `answered`.
 fn text_of(
     alloc: Global,
     start: Start,
@@ -61,7 +61,7 @@ fn text_of(
     .concat(alloc)
 }
 
-/// Keeps a message under the next number. Where memory is refused, the number is still the next.
+/// Keeps a message under this number, which is above all others. Where memory is refused, the book is as before.
 pub(crate) fn keep(book: &mut Book, number: u32, bytes: &[u8]) -> Result<(), AllocError>
     requires { (n : ℕ) → Keeps book.old n → n < number }
     ensures ok { OnOk result ((n : ℕ) → Keeps book.new n → n ≤ number) }
@@ -71,7 +71,7 @@ pub(crate) fn keep(book: &mut Book, number: u32, bytes: &[u8]) -> Result<(), All
     Ok(())
 }
 
-/// Forgets the newest message, if it has this number. No number is above the highest so far.
+/// Forgets the newest message where it has this number. No number of the book is above `highest`, before and after.
 pub(crate) fn forget(book: &mut Book, number: u32, highest: u32)
     requires { (n : ℕ) → Keeps book.old n → n ≤ highest }
     ensures { (n : ℕ) → Keeps book.new n → n ≤ highest }
@@ -80,7 +80,7 @@ pub(crate) fn forget(book: &mut Book, number: u32, highest: u32)
     let _ = highest;
 }
 
-/// A book that keeps the messages over a transport. Its responses are to this method.
+/// A book that keeps the messages, sent over this transport. Its responses answer the method `answered`.
 pub(crate) fn book_of(
     alloc: Global,
     messages: &[Numbered],
@@ -100,7 +100,7 @@ pub(crate) fn book_of(
     Ok(book)
 }
 
-/// The event of a kept message, or a restart, which has none.
+/// The event of the kept message with this number, or of a restart, which has no message.
 pub(crate) fn event_of(
     alloc: Global,
     book: &Book,

@@ -11,7 +11,7 @@ const REQUEST: u32 = 1;
 
 const OTHER: u32 = 2;
 
-/// Each message by its number, which is the code of a response.
+/// The messages by number, which is the code where it is a response.
 const MESSAGES: [Numbered; 6] = [
     (REQUEST, Start::Request("OPTIONS"), None),
     (OTHER, Start::Request("INFO"), None),
@@ -27,13 +27,13 @@ fn client() -> Result<PlainClient, Fail> {
 
 type Row = rows::Row<PlainClientPhase>;
 
-/// Asserts that the entries of each row lead to its states.
+/// Asserts that the entries of each row lead to the states of the row.
 fn all_lead(rt: &(impl Abort + AllocGlobal), rows: &[Row]) -> Result<(), Fail> {
     let book = book_of(rt.alloc(), &MESSAGES, "OPTIONS", "UDP")?;
     rows::all_lead(rt, &client()?, &book, rows)
 }
 
-/// The request of moment 0 that waits, with timer E set then.
+/// The request was sent at moment 0, over an unreliable transport, and timer E was set then.
 const WAITING: Waiting = Waiting {
     reliable: false,
     request: REQUEST,
@@ -209,7 +209,7 @@ fn final_responses_and_failures(rt: HostRuntime) -> Result<(), Fail> {
     all_lead(&rt, FINAL_RESPONSES_AND_FAILURES)
 }
 
-/// Timer F, that fires from 31950 to 32050.
+/// Timer F fires between 31,950 and 32,050.
 const TIMER_F: Option<(u64, Option<u64>)> = Some((31_950, Some(32_050)));
 
 const PROCEEDING_FROM_31_500: PlainClientPhase = PlainClientPhase::Proceeding(Waiting {
@@ -232,7 +232,7 @@ const COMPLETED_OVER_TCP: PlainClientPhase = PlainClientPhase::Completed {
 fn ends(rt: HostRuntime) -> Result<(), Fail> {
     let client = client()?;
     phase_ends(&rt, &client, IDLE, (None, None), "idle")?;
-    // Timer E fires by 550.
+    // Timer E fires by 550, and timer F later.
     phase_ends(&rt, &client, TRYING, (TIMER_F, Some(550)), "trying")?;
     phase_ends(
         &rt,

@@ -20,7 +20,7 @@ const PROGRESS: u32 = 5;
 
 const LAST: u32 = 6;
 
-/// Each message by its number.
+/// The messages by number: the start line of each, and its tag in To.
 const MESSAGES: [Numbered; 6] = [
     (REQUEST, Start::Request("OPTIONS"), None),
     (RINGING, Start::Response(180), None),
@@ -40,7 +40,7 @@ fn book(alloc: Global) -> Result<Book, Fail> {
 
 type Row = rows::Row<PlainServerPhase>;
 
-/// Asserts that the entries of each row lead to its states.
+/// Asserts that the entries of each row lead to the states of the row.
 fn all_lead(rt: &(impl Abort + AllocGlobal), rows: &[Row]) -> Result<(), Fail> {
     rows::all_lead(rt, &server()?, &book(rt.alloc())?, rows)
 }
@@ -286,7 +286,7 @@ fn after_the_final_response(rt: HostRuntime) -> Result<(), Fail> {
     all_lead(&rt, AFTER_THE_FINAL_RESPONSE)
 }
 
-/// How often the 180, the 101, the 180 again and the 101 again are owed, each until 60.
+/// How often the 180 is owed, then the 101, then the 180 again and then the 101 again, each until 60.
 type Turns = [usize; 4];
 
 const RINGING_BY_60: Debt = Debt {
@@ -301,6 +301,7 @@ const PROGRESS_BY_60: Debt = Debt {
     must: true,
 };
 
+/// Whether the runs of debts are the 180 and the 101 in turn, this often each.
 fn are_turns(runs: &[Run], want: Turns) -> bool {
     let debts = [RINGING_BY_60, PROGRESS_BY_60];
     let mut turns = [0; 4];
@@ -313,7 +314,7 @@ fn are_turns(runs: &[Run], want: Turns) -> bool {
     turns == want
 }
 
-/// Whether the state is proceeding with this last response, and owes these.
+/// Whether the state is proceeding with this last response, and owes the responses in these turns.
 fn proceeds(state: &State<PlainServerPhase>, (number, turns): (u32, Turns)) -> bool {
     match &state.phase {
         PlainServerPhase::Proceeding { last, .. } => {
@@ -343,7 +344,7 @@ static REPEATS: [Entry; 11] = [
     AGAIN,
 ];
 
-/// Whether the entries lead to states that proceed so.
+/// Whether the entries lead to as many states as are wanted, each with its last response and its debts.
 fn all_proceed(alloc: Global, entries: &[Entry], wants: &[(u32, Turns)]) -> Result<bool, Fail> {
     let pool = run(alloc, &server()?, &book(alloc)?, entries)?;
     let states = states_of(alloc, &pool)?;
@@ -356,7 +357,7 @@ fn all_proceed(alloc: Global, entries: &[Entry], wants: &[(u32, Turns)]) -> Resu
     )
 }
 
-/// How many of the repeats come, and what is owed then.
+/// How many of the entries of `REPEATS` are taken, and the last response and the debts of each state then.
 static RUNS: &[(usize, &[(u32, Turns)])] = &[
     (5, &[(RINGING, [3, 0, 0, 0])]),
     (7, &[(PROGRESS, [3, 1, 0, 0])]),
@@ -382,8 +383,8 @@ static RUNS: &[(usize, &[(u32, Turns)])] = &[
     ),
 ];
 
-/// A request that comes again and again at one moment: each time the last response is owed once more. A send of what is owed
-/// is one in its turn, or pays: both rows stand.
+/// A request comes again and again at one moment, and each time the last response is owed once more. Where a response is sent that is
+/// owed, it may be a new one or pay for a debt, so that there is a state for each.
 #[test]
 fn equal_debts_stand_in_runs(rt: HostRuntime) -> Result<(), Fail> {
     for &(len, wants) in RUNS {

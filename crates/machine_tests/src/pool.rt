@@ -1,4 +1,4 @@
-//! Pools: runs of debts, and which states are the same, by hand.
+//! Pools of states: the runs of their debts, and which states are the same, worked out by hand.
 ghost use Rattle.std.specs.Prelude.{◌<◌, All, OnErr, OnOk, length};
 ghost use Rattle.sip_machine.specs.NumberedEvent.{FitsBook};
 ghost use Rattle.sip_machine.specs.Rules.{Knows};
@@ -14,7 +14,7 @@ use std::alloc::{AllocError, Global};
 use std::process::Abort;
 use std::test::Fail;
 
-/// A message that must be sent until 60.
+/// A debt of this message, which must be sent until 60.
 fn debt(message: u32) -> Debt {
     Debt {
         message,
@@ -27,7 +27,7 @@ const REQUEST: u32 = 4;
 
 const LAST: u32 = 5;
 
-/// Each message by its number: three that are owed, their request, and one that is sent after them.
+/// The messages by number: three that are owed, their request, and one that is sent after them.
 const MESSAGES: [Numbered; 5] = [
     (1, Start::Response(181), None),
     (2, Start::Response(182), None),
@@ -40,7 +40,7 @@ fn server() -> Result<PlainServer, Fail> {
     Ok(PlainServer::new(params(500)?))
 }
 
-/// Lets the last state take the event, in its turn.
+/// Lets the last state take the event, and puts the first state to which that leads in its place.
 fn take<M: Machine>(
     machine: &M,
     book: &Book,
@@ -65,7 +65,7 @@ fn take<M: Machine>(
     Ok(())
 }
 
-/// Puts a state after the others that owes these messages: each was sent, and then its request came again.
+/// Puts a state that owes these messages after the others: it has sent each of them, and then its request came again.
 fn push_owing<M: Machine>(
     alloc: Global,
     machine: &M,
@@ -91,7 +91,7 @@ fn push_owing<M: Machine>(
     take(machine, book, pool, &last)
 }
 
-/// Puts a state after the others for each of these lists of messages.
+/// Puts a state after the others for each of the lists, which owes the messages of the list.
 fn push_each<M: Machine>(
     alloc: Global,
     machine: &M,
@@ -110,7 +110,7 @@ fn push_each<M: Machine>(
     Ok(())
 }
 
-/// The states that owe these lists of messages.
+/// A pool with a state for each of the lists, which owes the messages of the list.
 fn pool_of(alloc: Global, lists: &[&[u32]]) -> Result<Pool<PlainServerPhase>, Fail> {
     let server = server()?;
     let book = book_of(alloc, &MESSAGES, "OPTIONS", "UDP")?;
@@ -119,6 +119,7 @@ fn pool_of(alloc: Global, lists: &[&[u32]]) -> Result<Pool<PlainServerPhase>, Fa
     Ok(pool)
 }
 
+/// A run of `count` debts of the message.
 fn run(message: u32, count: usize) -> Run {
     Run {
         debt: debt(message),
@@ -126,7 +127,7 @@ fn run(message: u32, count: usize) -> Run {
     }
 }
 
-/// Whether the state owes these runs.
+/// Whether the state owes exactly these runs of debts.
 fn owes(state: &State<PlainServerPhase>, runs: &[Run]) -> bool {
     state.owes.as_slice() == runs
 }
@@ -154,7 +155,7 @@ fn equal_neighbours_are_one_run(rt: HostRuntime) -> Result<(), Fail> {
     first_owes(&rt, &states, &wants)
 }
 
-/// Whether the indices are those from one on and before another.
+/// Whether the rows are the numbers from `from` up to, but without, `to`.
 fn are_from(rows: &[usize], from: usize, to: usize) -> bool {
     to >= from
         && rows.len() == to - from
@@ -164,13 +165,13 @@ fn are_from(rows: &[usize], from: usize, to: usize) -> bool {
             .all(|(place, row)| *row >= from && *row - from == place)
 }
 
-/// Whether both lists make the same state.
+/// Whether states that owe these messages and those others are the same state.
 fn make_one(alloc: Global, these: &[u32], others: &[u32]) -> Result<bool, Fail> {
     let pool = pool_of(alloc, &[these, others])?;
     Ok(pool.first_ones(0)?.len() == 1)
 }
 
-/// Two of these lists make one state just where they are the same one.
+/// Asserts that states with two of the lists are the same state exactly where the two are one list.
 fn pairs_are_told_apart(rt: &(impl Abort + AllocGlobal), lists: &[&[u32]]) -> Result<(), Fail> {
     for (place, these) in lists.iter().enumerate() {
         for (other, others) in lists.iter().enumerate() {
@@ -181,7 +182,7 @@ fn pairs_are_told_apart(rt: &(impl Abort + AllocGlobal), lists: &[&[u32]]) -> Re
     Ok(())
 }
 
-/// The states that owe what these lists say, each of them twice.
+/// A pool with two states for each of the lists.
 fn twice(alloc: Global, lists: &[&[u32]]) -> Result<Pool<PlainServerPhase>, Fail> {
     let mut all = Vec::new(alloc);
     all.extend_from_slice(lists)?;
@@ -189,7 +190,7 @@ fn twice(alloc: Global, lists: &[&[u32]]) -> Result<Pool<PlainServerPhase>, Fail
     pool_of(alloc, &all)
 }
 
-/// Asserts that `first_ones` from this state on gives this many states, one after another.
+/// Asserts that `first_ones` finds exactly the `count` rows that start at `from`.
 fn first_ones_follow(
     rt: &(impl Abort + AllocGlobal),
     pool: &Pool<PlainServerPhase>,
@@ -202,7 +203,7 @@ fn first_ones_follow(
     Ok(())
 }
 
-/// Asserts that equal lists make one state and different ones two.
+/// Asserts that equal lists make one state, and different lists two.
 fn are_told_apart(rt: &(impl Abort + AllocGlobal), lists: &[&[u32]]) -> Result<(), Fail> {
     pairs_are_told_apart(rt, lists)?;
     let count = lists.len();
@@ -233,7 +234,7 @@ fn what_is_owed_tells_states_apart(rt: HostRuntime) -> Result<(), Fail> {
     are_told_apart(&rt, &lists)
 }
 
-/// The same debts in another order are not told apart by a sum over them, and compare as lists.
+/// Lists with the same debts in another order have the same sum, so that only a comparison of the lists tells their states apart.
 #[test]
 fn the_same_debts_compare_as_lists(rt: HostRuntime) -> Result<(), Fail> {
     let lists: [&[u32]; 6] = [
@@ -247,7 +248,7 @@ fn the_same_debts_compare_as_lists(rt: HostRuntime) -> Result<(), Fail> {
     are_told_apart(&rt, &lists)
 }
 
-/// What the states owe in all, one after another.
+/// The messages that the states owe, one state after another.
 fn owed_in_turn<P: Phase>(alloc: Global, pool: &Pool<P>) -> Result<Vec<u32>, Fail> {
     let mut messages = Vec::new(alloc);
     for state in &states_of(alloc, pool)? {
@@ -258,7 +259,7 @@ fn owed_in_turn<P: Phase>(alloc: Global, pool: &Pool<P>) -> Result<Vec<u32>, Fai
     Ok(messages)
 }
 
-/// Asserts that what the states owe, one after another, are these messages.
+/// Asserts that the states, one after another, owe these messages.
 fn owe<P: Phase>(
     rt: &(impl Abort + AllocGlobal),
     pool: &Pool<P>,
@@ -281,7 +282,7 @@ fn a_state_is_at_rest_in_its_phase_where_it_owes_nothing(rt: HostRuntime) -> Res
     Ok(())
 }
 
-/// Of four states, of which the last is a copy of the first, the last two.
+/// The last two of four states, of which the fourth was made a copy of the first.
 fn kept_pool(rt: &(impl Abort + AllocGlobal)) -> Result<Pool<PlainServerPhase>, Fail> {
     let mut pool = pool_of(rt.alloc(), &[&[1], &[2], &[3], &[]])?;
     assert!(rt; pool.len() == 4);
@@ -309,7 +310,7 @@ fn states_come_and_go(rt: HostRuntime) -> Result<(), Fail> {
     Ok(())
 }
 
-/// Lets the first state take the event. Where memory is refused, the states may take it again.
+/// Lets the first state take the event. Where memory is refused, the states may take the event again.
 fn first_takes<M: Machine>(
     machine: &M,
     book: &Book,
@@ -327,16 +328,16 @@ fn first_takes<M: Machine>(
     Ok(())
 }
 
-/// What is owed once the first of three states took its event.
+/// What the five states owe after the first of three states took its event.
 static OWED_THEN: [u32; 9] = [1, 2, 1, 3, 1, 2, 1, 2, 1];
 
-/// Asserts that the states are five, and owe what is owed then.
+/// Asserts that there are five states, which owe `OWED_THEN`.
 fn are_five<P: Phase>(rt: &(impl Abort + AllocGlobal), pool: &Pool<P>) -> Result<(), Fail> {
     assert!(rt; pool.len() == 5);
     owe(rt, pool, &OWED_THEN)
 }
 
-/// Asserts that the states are these.
+/// Asserts that the states of the pool are those that were there before.
 fn are_as_before<P: Phase>(
     rt: &(impl Abort + AllocGlobal),
     pool: &Pool<P>,
@@ -347,8 +348,8 @@ fn are_as_before<P: Phase>(
     Ok(())
 }
 
-/// Asserts that the first of three states takes an event that leads to two more, or, where memory is refused, that all is as before and that it
-/// takes it then.
+/// Asserts that the first of three states takes an event that leads to two more. Where memory is refused, it asserts that the states
+/// are as before, and that the event is taken with memory.
 fn goes_on<M: Machine>(
     rt: &(impl Abort + AllocGlobal),
     machine: &M,
@@ -372,8 +373,8 @@ fn goes_on<M: Machine>(
     Err(error.into())
 }
 
-/// Three states, of which one takes an event that leads to two more. `tests/growths` refuses each growth in turn: the test then fails
-/// with want of memory, once it has seen that the states are as before, and that the same call gives both with memory.
+/// The first of three states takes an event that leads to two more. `tests/growths` refuses each growth in turn. The test then fails
+/// for want of memory, once it has seen that the states are as before, and that the same call succeeds with memory.
 #[test]
 fn a_pool_goes_on_after_a_refused_growth(rt: HostRuntime) -> Result<(), Fail> {
     let server = server()?;
@@ -390,8 +391,8 @@ fn a_pool_goes_on_after_a_refused_growth(rt: HostRuntime) -> Result<(), Fail> {
     goes_on(&rt, &server, &book, &mut pool, &event)
 }
 
-/// Asserts that the first of two states is asked again and owes one debt more in a third, or, where memory is refused, that all is as before and
-/// that it is asked then.
+/// Asserts that the request of the first of two states comes again, which leads to a third state with one debt more. Where memory is
+/// refused, it asserts that the states are as before, and that the request is taken with memory.
 fn gains_again<M: Machine>(
     rt: &(impl Abort + AllocGlobal),
     machine: &M,
@@ -415,7 +416,7 @@ fn gains_again<M: Machine>(
     Err(error.into())
 }
 
-/// Two states, of which one owes four messages and comes to owe another one, which has no room yet.
+/// The first of two states owes four messages, and comes to owe a fifth, for which there is no room yet.
 #[test]
 fn a_debt_comes_after_a_refused_growth(rt: HostRuntime) -> Result<(), Fail> {
     let server = server()?;

@@ -1,4 +1,4 @@
-//! Rows: entries, and the states to which they lead or the ends of the only one.
+//! Rows of tests: entries with the states to which they lead, or with the ends of their only state.
 ghost use Rattle.std.specs.Prelude.{All};
 ghost use Rattle.sip_machine.specs.Owing.{at_rest};
 
@@ -9,19 +9,20 @@ use std::alloc::Global;
 use std::process::Abort;
 use std::test::Fail;
 
-/// A debt that is wanted: its message, its deadline, and whether it must be sent.
+/// A debt that a row wants: its message, its deadline, and whether it must be sent.
 pub(crate) type Owed = (u32, u64, bool);
 
 pub(crate) const MUST: bool = true;
 
 pub(crate) const MAY: bool = false;
 
-/// A state that is wanted: its phase, and what it owes.
+/// A state that a row wants: its phase, and what it owes.
 pub(crate) type Want<P> = (P, &'static [Owed]);
 
-/// Entries, and the states to which they lead.
+/// A row: its entries, and the states to which they lead.
 pub(crate) type Row<P> = (&'static [Entry], &'static [Want<P>]);
 
+/// Whether the runs are exactly the debts that are wanted, each once.
 fn are_owed(runs: &[Run], wants: &[Owed]) -> bool {
     runs.len() == wants.len()
         && runs.iter().zip(wants).all(|(run, want)| {
@@ -38,12 +39,12 @@ fn are_wanted<P: Phase>(states: &[State<P>], wants: &[Want<P>]) -> bool {
             && are_owed(&state.owes, want.1))
 }
 
-/// Asserts that it is so after these entries.
+/// Asserts that something is so after these entries, which the message of a failure tells.
 fn holds_after(rt: &impl Abort, is_so: bool, entries: &[Entry]) {
     assert!(rt; is_so, "{entries:?}");
 }
 
-/// Whether the entries lead to these states, of all steps.
+/// Whether the entries lead to exactly the states that are wanted, in this order.
 fn lead<M: Machine>(
     alloc: Global,
     machine: &M,
@@ -56,7 +57,7 @@ fn lead<M: Machine>(
     Ok(are_wanted(&states, wants))
 }
 
-/// Asserts that the entries of each row lead to its states, of all steps.
+/// Asserts that the entries of each row lead to the states of the row.
 pub(crate) fn all_lead<M: Machine>(
     rt: &(impl Abort + AllocGlobal),
     machine: &M,
@@ -70,17 +71,17 @@ pub(crate) fn all_lead<M: Machine>(
     Ok(())
 }
 
-/// When a state may end, and its last moment.
+/// The window in which a state may end, and its last moment.
 pub(crate) type Ends = (Option<(u64, Option<u64>)>, Option<u64>);
 
-/// Entries, and the ends of the only state after them.
+/// A row: its entries, and the window and the last moment of the only state after them.
 pub(crate) type EndsRow = (&'static [Entry], Option<(u64, Option<u64>)>, Option<u64>);
 
 fn are_ends(ends: Ends, want: Ends) -> bool {
     ends == want
 }
 
-/// The ends of the only state.
+/// The window and the last moment of the only state of the pool.
 fn ends_of<M: Machine>(machine: &M, pool: &Pool<M::Phase>) -> Result<Ends, Fail>
     requires { All M.in_range pool.now }
 {
@@ -90,7 +91,7 @@ fn ends_of<M: Machine>(machine: &M, pool: &Pool<M::Phase>) -> Result<Ends, Fail>
     Ok((machine.end_window(pool, 0), machine.until(pool, 0)))
 }
 
-/// Asserts that the only state after the entries of each row has its ends.
+/// Asserts that the only state after the entries of each row has the ends of the row.
 pub(crate) fn all_end<M: Machine>(
     rt: &(impl Abort + AllocGlobal),
     machine: &M,
@@ -105,7 +106,7 @@ pub(crate) fn all_end<M: Machine>(
     Ok(())
 }
 
-/// Asserts that a state of the phase that owes nothing has these ends.
+/// Asserts that a state of this phase that owes nothing has the ends that are wanted.
 pub(crate) fn phase_ends<M: Machine>(
     rt: &(impl Abort + AllocGlobal),
     machine: &M,

@@ -1,4 +1,5 @@
-//! The INVITE machines of RFC 3261 without its correction, and restarts, with moments worked out by hand for T1 500, T2 4000, T4 5000 and 50 either way.
+//! The INVITE machines of RFC 3261 without its correction, and restarts. Moments are worked out by hand for T1 500, T2 4000, T4 5000 and
+//! a tolerance of 50.
 
 use crate::messages::{Numbered, Start, book_of};
 use crate::rows::{MAY, MUST, Row, all_lead};
@@ -22,10 +23,10 @@ const OK: u32 = 4;
 
 const ACK: u32 = 5;
 
-/// A restart has no message.
+/// The number that stands for no message, as a restart has none.
 const NONE: u32 = 0;
 
-/// Each message by its number.
+/// The messages by number: the start line of each, and its tag in To.
 const MESSAGES: [Numbered; 5] = [
     (INVITE, Start::Request("INVITE"), None),
     (RINGING, Start::Response(180), Some(2)),
@@ -123,7 +124,7 @@ static A_2XX_IS_THE_LAST_OF_A_SERVER: &[Server] = &[
         &[INVITE_CAME, OK_WENT, (600, Action::Received, ACK)],
         &[(PASSED, &[])],
     ),
-    // what is owed is gone with the 2xx
+    // After the 2xx nothing is owed any more.
     (
         &[
             INVITE_CAME,
@@ -177,7 +178,7 @@ static AN_INVITE_COMES_AGAIN_AFTER_A_2XX: &[Server] = &[
         ],
         &[],
     ),
-    // the 2xx of the transaction, or the user's again
+    // The 2xx is the one of the new transaction, or the one of the old transaction, which the user sends again.
     (
         &[
             INVITE_CAME,
@@ -227,7 +228,7 @@ static AN_INVITE_COMES_AGAIN_AFTER_A_2XX: &[Server] = &[
         ],
         &[(CONFIRMED_AGAIN, &[])],
     ),
-    // where it did not, a 2xx after another final response is none of its rows
+    // Where no 2xx was sent before, the machine has no row for a 2xx after another final response.
     (
         &[INVITE_CAME, (10, Action::Sent, BUSY)],
         &[(BUSY_ONCE, &[])],
@@ -345,7 +346,7 @@ static A_CLIENT_STARTS_ANEW: &[Client] = &[
         &[(ENDED, &[])],
     ),
     (&[INVITE_WENT, (551, Action::Restart, NONE)], &[]),
-    // the ACK that is owed is gone
+    // After the restart the ACK is not owed any more.
     (
         &[
             INVITE_WENT,
@@ -411,7 +412,7 @@ fn a_client_starts_anew(rt: HostRuntime) -> Result<(), Fail> {
     all_call(&rt, A_CLIENT_STARTS_ANEW)
 }
 
-/// Where the rules of RFC 6026 lead after the same entries.
+/// The states to which the rules of RFC 6026 lead after the same entries.
 static BY_RFC_6026: (&[Row<InviteServerPhase>], &[Client]) = (
     &[(
         &[INVITE_CAME, OK_WENT, INVITE_CAME_AGAIN],

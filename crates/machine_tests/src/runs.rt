@@ -1,4 +1,4 @@
-//! Runs of a machine over entries: of all steps, and of one state that steps in its own place.
+//! Runs of a machine over entries: with all states, and with one state that steps where it stands.
 ghost use Rattle.std.specs.Prelude.{◌≡◌, ◌<◌, All, AllPairs, IfOk, OnOk, length};
 ghost use Rattle.sip_machine.specs.NumberedEvent.{FitsBook};
 ghost use Rattle.sip_machine.specs.Rules.{Knows};
@@ -19,7 +19,7 @@ pub(crate) struct State<P> {
     pub owes: Vec<Run>,
 }
 
-/// The states of a pool.
+/// The states of a pool, with what each owes.
 pub(crate) fn states_of<P: Phase>(alloc: Global, pool: &Pool<P>) -> Result<Vec<State<P>>, Fail> {
     let mut states = Vec::new(alloc);
     for at in 0..pool.len() {
@@ -32,7 +32,7 @@ pub(crate) fn states_of<P: Phase>(alloc: Global, pool: &Pool<P>) -> Result<Vec<S
     Ok(states)
 }
 
-/// The first state of the machine alone.
+/// A pool with the first state of the machine alone.
 fn first_pool<M: Machine>(alloc: Global, machine: &M) -> Result<Pool<M::Phase>, Fail>
     ensures alone { IfOk result (λ pool. length pool ≡ 1) }
     ensures known { (texts : Texts) → IfOk result (All (Knows M.names texts)) }
@@ -43,7 +43,8 @@ fn first_pool<M: Machine>(alloc: Global, machine: &M) -> Result<Pool<M::Phase>, 
     Ok(pool)
 }
 
-/// The states of the machine after the entries, of all steps. Where each entry gives just one, it is the one that steps in its own place.
+/// The states of the machine after the entries. It fails where they differ from those that all states at once, or one state that steps
+/// where it stands, lead to.
 pub(crate) fn run<M: Machine>(
     alloc: Global,
     machine: &M,
@@ -61,7 +62,7 @@ pub(crate) fn run<M: Machine>(
     Ok(pool)
 }
 
-/// Lets the states take each entry, in all steps. Whether there was just one after each.
+/// Lets the states take each entry, one state after another. Returns whether there was exactly one state after each entry.
 fn step_each<M: Machine>(
     alloc: Global,
     machine: &M,
@@ -82,7 +83,7 @@ fn step_each<M: Machine>(
     Ok(is_alone)
 }
 
-/// Asserts that the state that stepped in its own place is the only one, where there was just one after each entry.
+/// Asserts that the state that stepped where it stands is the only one, and that there was one exactly where each entry led to one state.
 fn agree<P: Phase>(
     alloc: Global,
     pool: &Pool<P>,
@@ -103,14 +104,14 @@ fn agree<P: Phase>(
     }
 }
 
-/// Whether the states are the same, one by one.
+/// Whether both lists have the same states, one by one.
 pub(crate) fn are_same<P: Phase>(states: &[State<P>], others: &[State<P>]) -> bool {
     states.len() == others.len()
         && states.iter().zip(others).all(|(state, other)| state.phase == other.phase
             && state.owes.as_slice() == other.owes.as_slice())
 }
 
-/// Asserts that each state of either is one of the other.
+/// Asserts that each state of either pool is in the other one.
 fn are_alike<P: Phase>(alloc: Global, pool: &Pool<P>, together: &Pool<P>) -> Result<(), Fail> {
     let states = states_of(alloc, pool)?;
     let others = states_of(alloc, together)?;
@@ -121,7 +122,7 @@ fn are_alike<P: Phase>(alloc: Global, pool: &Pool<P>, together: &Pool<P>) -> Res
     }
 }
 
-/// Whether each state is one of the others.
+/// Whether each of the states is one of the others.
 fn are_among<P: Phase>(states: &[State<P>], others: &[State<P>]) -> bool {
     states.iter().all(|state| {
         others.iter().any(|other| state.phase == other.phase
@@ -129,7 +130,7 @@ fn are_among<P: Phase>(states: &[State<P>], others: &[State<P>]) -> bool {
     })
 }
 
-/// The states of the machine after the entries, where all states step at once.
+/// The states of the machine after the entries, when all states take each entry at once.
 fn run_together<M: Machine>(
     alloc: Global,
     machine: &M,
@@ -144,7 +145,7 @@ fn run_together<M: Machine>(
     Ok(pool)
 }
 
-/// Puts the states that the event gives in the place of those that take it, each once. Until then these stay as they are.
+/// Puts the states that the event gives in the place of those that take it, each once. It asserts that the latter are not changed.
 fn step_together<M: Machine>(
     alloc: Global,
     machine: &M,
@@ -167,7 +168,7 @@ fn step_together<M: Machine>(
     Ok(())
 }
 
-/// Asserts that the first states of the pool are these.
+/// Asserts that the first states of the pool are those that were there before.
 fn stay<P: Phase>(alloc: Global, pool: &Pool<P>, before: &[State<P>]) -> Result<(), Fail> {
     let states = states_of(alloc, pool)?;
     if states.len() >= before.len() && are_same(&states[..before.len()], before) {
@@ -200,7 +201,7 @@ pub(crate) fn step<M: Machine>(
     Ok(())
 }
 
-/// The numbers from one on and before another.
+/// The numbers from `from` up to, but without, `to`.
 pub(crate) fn indices(alloc: Global, from: usize, to: usize) -> Result<Vec<usize>, Fail>
     ensures within { IfOk result (λ rows. All (λ row. row < to) rows.items) }
     ensures rising { IfOk result (λ rows. AllPairs (λ a b. a < b) rows.items) }
@@ -212,7 +213,7 @@ pub(crate) fn indices(alloc: Global, from: usize, to: usize) -> Result<Vec<usize
     Ok(rows)
 }
 
-/// The state that steps in its own place, None where an entry gives none or two.
+/// The state that takes each entry where it stands, or `None` where an entry leads to none or to several states.
 fn run_alone<M: Machine>(
     alloc: Global,
     machine: &M,

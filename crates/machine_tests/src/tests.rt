@@ -1,4 +1,4 @@
-//! The limits of the times, and the list of messages.
+//! The limits of the times, and the book of messages.
 ghost use Rattle.std.specs.Prelude.{◌+◌, ◌<◌, ◌≤◌, ℕ, OnOk};
 ghost use Rattle.sip_machine.specs.Texts.{Keeps};
 
@@ -9,7 +9,7 @@ use std::alloc::{AllocError, Global};
 use std::process::Abort;
 use std::test::Fail;
 
-/// Times that are refused: T1, T2, T4 and the tolerance.
+/// T1, T2, T4 and the tolerance that are refused, since one of them is out of its limits.
 static REFUSED: [(u64, u64, u64, u64); 7] = [
     (0, 4_000, 5_000, 50),
     (10_001, 4_000, 5_000, 50),
@@ -20,7 +20,7 @@ static REFUSED: [(u64, u64, u64, u64); 7] = [
     (500, 4_000, 5_000, 10_001),
 ];
 
-/// The place of the first times that are taken.
+/// The index of the first row of times that is taken, if any.
 fn first_taken(times: &[(u64, u64, u64, u64)]) -> Option<usize> {
     times.iter().position(|&(t1, t2, t4, tolerance)| Params::new(t1, t2, t4, tolerance).is_some())
 }
@@ -74,7 +74,7 @@ fn keeps_many_messages(rt: HostRuntime) -> Result<(), Fail> {
     Ok(())
 }
 
-/// The second word of these messages is the factor of `FoldHasher`, so that each hash is 0.
+/// The second word of each message is the factor of `FoldHasher`, so that all messages have the hash 0.
 #[test]
 fn keeps_messages_of_one_hash(rt: HostRuntime) -> Result<(), Fail> {
     let end = b"    \x15\x7c\x4a\x7f\xb9\x79\x37\x9e".as_slice();
@@ -84,8 +84,8 @@ fn keeps_messages_of_one_hash(rt: HostRuntime) -> Result<(), Fail> {
     Ok(())
 }
 
-/// `tests/growths` refuses each growth in turn: the test then fails with want of memory, once it has seen that a refused add leaves the
-/// messages as they were, and that the same call is right with memory.
+/// A new book is refused memory. `tests/growths` refuses each growth in turn. The test then fails for want of memory, once it has seen
+/// that a refused add leaves the messages as they were, and that the same call succeeds with memory.
 #[test]
 fn a_new_book_goes_on_after_a_refused_growth(rt: HostRuntime) -> Result<(), Fail> {
     let mut book = Book::new(rt.alloc());
@@ -96,7 +96,7 @@ fn a_new_book_goes_on_after_a_refused_growth(rt: HostRuntime) -> Result<(), Fail
     Err(error.into())
 }
 
-/// With 64 messages, so that its lists are full.
+/// A book with 64 messages, whose lists are full, is refused memory for one more.
 #[test]
 fn a_book_goes_on_after_a_refused_growth(rt: HostRuntime) -> Result<(), Fail> {
     let mut book = Book::new(rt.alloc());
@@ -110,7 +110,7 @@ fn a_book_goes_on_after_a_refused_growth(rt: HostRuntime) -> Result<(), Fail> {
     Err(error.into())
 }
 
-/// Asserts that a book that keeps the ACK as its only message takes another one.
+/// Asserts that a book that keeps the ACK alone, under 1, takes another message.
 fn takes_the_next(rt: &impl Abort, book: &mut Book) -> Result<(), Fail>
     requires { (n : ℕ) → Keeps book.old n → n ≤ 1 }
 {
@@ -120,7 +120,7 @@ fn takes_the_next(rt: &impl Abort, book: &mut Book) -> Result<(), Fail>
     Ok(())
 }
 
-/// Asserts that a book that was refused memory for the ACK of this number does not keep it, and takes it now.
+/// Asserts that a book that was refused memory for the ACK under this number does not keep it, and keeps it once it is added again.
 fn goes_on(rt: &impl Abort, book: &mut Book, number: u32) -> Result<(), AllocError>
     requires { (n : ℕ) → Keeps book.old n → n < number }
 {
@@ -130,13 +130,13 @@ fn goes_on(rt: &impl Abort, book: &mut Book, number: u32) -> Result<(), AllocErr
     Ok(())
 }
 
-/// Asserts that the book keeps these bytes under the number, or none.
+/// Asserts that the book keeps these bytes under the number, or that it keeps none there.
 fn keeps(rt: &impl Abort, book: &Book, number: u32, bytes: Option<&[u8]>) {
     assert_eq!(rt; book.bytes(number), bytes, "{number}");
 }
 
-/// Adds messages that differ in their first four bytes alone, under the numbers from `first` on. Whether each is
-/// numbered by its place, and found by it.
+/// Adds messages that differ in their first four bytes alone, under the numbers from `first` on. Returns whether each has the number
+/// of its place, and is found by it.
 fn are_numbered(
     alloc: Global,
     book: &mut Book,

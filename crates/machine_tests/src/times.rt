@@ -1,4 +1,4 @@
-//! The times of the machines: T1 as a test takes it, T2 4000, T4 5000 and a tolerance of 50.
+//! The times of the machines: T1 is what a test asks for, T2 is 4000, T4 is 5000, and the tolerance is 50.
 
 use sip_machine::Params;
 use std::test::Fail;

@@ -1,5 +1,5 @@
-//! Messages with bytes changed, and the same with a folded line of an unknown name after their fields: an ordinary head is read by its
-//! masks and a folded one is not, and both come to the same.
+//! Messages with bytes changed, read twice: as they are, and with a folded line of an unknown name after their fields. An ordinary head is
+//! read by its masks and a folded one is not, and both readings must come to the same.
 
 use crate::answer::answer_to;
 use crate::changed::{NO_LINE, OVER_TCP, changed};
@@ -9,13 +9,13 @@ use std::alloc::{AllocError, Global};
 use std::process::Abort;
 use std::test::Fail;
 
-/// Bytes that mean something to the reader.
+/// The bytes that mean something to the reader, which are put in.
 const MARKS: [u8; 16] = *b"\r\n\t :;,<>\"@=/a0\x7f";
 
-/// How many messages each test makes.
+/// How many messages each test makes of its text.
 const COUNT: usize = 25_000;
 
-/// The text with a folded line before its first empty line.
+/// The text with a folded line put before its first empty line.
 fn with_fold(alloc: Global, text: &[u8]) -> Result<Vec<u8>, AllocError> {
     let mut out = Vec::new(alloc);
     let mut is_head = true;
@@ -29,7 +29,7 @@ fn with_fold(alloc: Global, text: &[u8]) -> Result<Vec<u8>, AllocError> {
     Ok(out)
 }
 
-/// The text with a byte left out, put in or replaced, as the seed says.
+/// The text with one byte left out, put in or replaced, as the seed says.
 fn mutated(alloc: Global, text: &[u8], seed: u64) -> Result<Vec<u8>, AllocError> {
     let place = (seed >> 16).checked_rem(text.len() as u64).unwrap_or(0);
     let mark = MARKS[(seed >> 8) as usize % 16];
@@ -48,14 +48,14 @@ fn mutated(alloc: Global, text: &[u8], seed: u64) -> Result<Vec<u8>, AllocError>
     Ok(out)
 }
 
-/// The next number of a row that has all numbers but 0.
+/// The next number of a sequence that comes to every number but 0.
 fn next(seed: u64) -> u64 {
     let seed = seed ^ (seed << 13);
     let seed = seed ^ (seed >> 7);
     seed ^ (seed << 17)
 }
 
-/// Asserts that the text is answered as it is with one of its lines folded.
+/// Asserts that the text is answered as it is with a folded line.
 fn agrees(rt: &(impl Abort + AllocGlobal), text: &[u8]) -> Result<(), Fail> {
     let folded = with_fold(rt.alloc(), text)?;
     let answer = answer_to(rt.alloc(), text)?;
@@ -63,7 +63,7 @@ fn agrees(rt: &(impl Abort + AllocGlobal), text: &[u8]) -> Result<(), Fail> {
     Ok(())
 }
 
-/// Asserts that messages made of the text are answered as with a folded line.
+/// Asserts that each of the messages made of the text is answered as it is with a folded line.
 fn mutated_agree(rt: &(impl Abort + AllocGlobal), text: &[u8], start: u64) -> Result<(), Fail> {
     let mut seed = start;
     for _ in 0..COUNT {
@@ -97,7 +97,7 @@ fn mutated_folded_requests_agree_with_folded_ones(rt: HostRuntime) -> Result<(),
     mutated_agree(&rt, FOLDED, 362_436_069_521_288_629)
 }
 
-/// Asserts that the text with any byte in place of the one at the place is answered as with a folded line.
+/// Asserts that the text, with each byte in place of the one at this place, is answered as it is with a folded line.
 fn replaced_agree(rt: &(impl Abort + AllocGlobal), text: &[u8], place: usize) -> Result<(), Fail> {
     for byte in u8::MIN..=u8::MAX {
         let mut one = Vec::from_slice(rt.alloc(), text)?;

@@ -1,9 +1,9 @@
-//! What reading a message comes to.
+//! What reading bytes as a message comes to.
 
 use sip_message::{Fault, Message, ReadError, Reason, Unit};
 use std::alloc::{AllocError, Global};
 
-/// A message, with the bytes of its body, or the first fault.
+/// What bytes come to: a message, with how many bytes its body has, or the first fault.
 #[derive(Clone, Copy, Debug, PartialEq, Eq)]
 pub(crate) enum Answer {
     Read { body: usize },
@@ -12,7 +12,7 @@ pub(crate) enum Answer {
     Body(Reason),
 }
 
-/// A message and what it comes to.
+/// The bytes of a message, and what they come to.
 #[derive(Clone, Copy)]
 pub(crate) struct Row {
     pub(crate) name: &'static str,

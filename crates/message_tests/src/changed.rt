@@ -2,7 +2,7 @@
 
 use std::alloc::{AllocError, Global};
 
-/// Its lines: the start line, Via, From, To, Call-ID, CSeq and Content-Length.
+/// The lines of the request: the start line, Via, From, To, Call-ID, CSeq and Content-Length.
 const LINES: [&[u8]; 7] = [
     b"OPTIONS sip:example.com SIP/2.0",
     b"Via: SIP/2.0/UDP a.example.com;branch=z9hG4bK1",
@@ -13,13 +13,13 @@ const LINES: [&[u8]; 7] = [
     b"Content-Length: 0",
 ];
 
-/// The same over TCP.
+/// The change that makes the request one over TCP: another Via line.
 pub(crate) const OVER_TCP: (usize, &[u8]) = (1, b"Via: SIP/2.0/TCP a.example.com;branch=z9hG4bK1");
 
-/// No line stands there.
+/// The change of a line to this leaves it out.
 pub(crate) const NO_LINE: &[u8] = b"";
 
-/// The request with other lines in place of those with these numbers, and the body.
+/// The request with other lines in place of those with these numbers, and with this body.
 pub(crate) fn changed(
     alloc: Global,
     changes: &[(usize, &[u8])],

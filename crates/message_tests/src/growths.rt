@@ -1,4 +1,4 @@
-//! A refused growth. `tests/growths` refuses each in turn: the test then fails with want of memory, once it
+//! Calls in which a growth is refused. `tests/growths` refuses each growth in turn: the test then fails with want of memory, once it
 //! has seen that the call left all as it was, and that the same call succeeds with memory.
 
 use crate::folded::{FOLDED, UNFOLDED};
@@ -19,7 +19,7 @@ const SEVENTEEN: &[u8] = b"OPTIONS sip:example.com SIP/2.0\r\n\
     a:\r\na:\r\na:\r\na:\r\na:\r\na:\r\na:\r\na:\r\na:\r\na:\r\na:\r\n\
     \r\n";
 
-/// Reads the message, and a second time where memory was refused.
+/// Reads the message of seventeen fields, and a second time where memory was refused.
 fn read_again(rt: &(impl Abort + AllocGlobal)) -> Result<(), Fail> {
     let Err(error) = Message::read(rt.alloc(), SEVENTEEN) else {
         return Ok(());
@@ -29,10 +29,10 @@ fn read_again(rt: &(impl Abort + AllocGlobal)) -> Result<(), Fail> {
     Err(error.into())
 }
 
-/// Bytes that stand before a message.
+/// The bytes that stand in the vector, after which the message is written.
 const FRONT: &[u8] = b"front";
 
-/// Writes the message after other bytes, at a second call where memory was refused, and gives the first answer.
+/// Writes the message after `FRONT`, by a second call where memory was refused, and gives what the first call answered.
 fn write_behind(
     rt: &impl Abort,
     message: &Message<'_>,
@@ -47,7 +47,7 @@ fn write_behind(
     Ok(written)
 }
 
-/// Writes the message after other bytes, and a second time where memory was refused.
+/// Writes the message after `FRONT`, and a second time where memory was refused.
 fn write_again(rt: &(impl Abort + AllocGlobal)) -> Result<(), Fail> {
     let message = Message::read(rt.alloc(), FOLDED)?;
     let mut out = FRONT.to_vec(rt.alloc())?;

@@ -14,7 +14,7 @@ pub(crate) type Change = (&'static [(usize, &'static [u8])], &'static [u8], Answ
 
 const READ: Answer = Read { body: 0 };
 
-/// The start line, and the head as a whole, which comes first.
+/// Changes of the start line, and of the head as a whole, which is read first.
 pub(crate) static STARTS: &[Change] = &[
     (&[], b"", READ),
     (
@@ -42,7 +42,7 @@ pub(crate) static STARTS: &[Change] = &[
     (&[(1, b"Via SIP"), (3, b"To: a\nb")], b"", Head(BareLineEnd)),
 ];
 
-/// Lines, one after another: a name and a colon, and then a value.
+/// Changes of field lines: a line is a name and a colon, and then a value.
 pub(crate) static LINES: &[Change] = &[
     (&[(1, b"Via SIP")], b"", Line(1, FieldLine)),
     (&[(1, b": SIP")], b"", Line(1, FieldLine)),
@@ -66,7 +66,7 @@ pub(crate) static LINES: &[Change] = &[
     ),
 ];
 
-/// Via.
+/// Changes of Via.
 pub(crate) static VIAS: &[Change] = &[
     (
         &[(
@@ -126,7 +126,7 @@ pub(crate) static VIAS: &[Change] = &[
     (&[(1, NO_LINE)], b"", Head(Missing)),
 ];
 
-/// From and To.
+/// Changes of From and To.
 pub(crate) static ADDRESSES: &[Change] = &[
     (&[(2, b"From: \"A, B\" <sip:a@b>;tag=1")], b"", READ),
     (&[(2, b"From: \"A\\\\\\\"\" <sip:a@b>")], b"", READ),
@@ -139,7 +139,7 @@ pub(crate) static ADDRESSES: &[Change] = &[
     (&[(2, b"From:")], b"", Line(2, Value)),
 ];
 
-/// Call-ID and CSeq.
+/// Changes of Call-ID and CSeq.
 pub(crate) static NUMBERS: &[Change] = &[
     (&[(4, b"Call-ID: a@b@c")], b"", Line(4, Value)),
     (&[(4, b"i: (a)<b>@c")], b"", READ),
@@ -166,7 +166,7 @@ pub(crate) static NUMBERS: &[Change] = &[
     ),
 ];
 
-/// What stands once, and what must stand; a bad value of a later line comes before a field that is missing.
+/// Changes of which fields stand, and how often. A bad value of a later line is a fault before a field that is missing.
 pub(crate) static NAMES: &[Change] = &[
     (
         &[(5, b"CSeq: 1 OPTIONS\r\nCSeq: 1 OPTIONS")],
@@ -198,7 +198,7 @@ pub(crate) static NAMES: &[Change] = &[
     ),
 ];
 
-/// The body, and that a later Via element has no part in it.
+/// Changes of the body. A later element of Via has no part in it.
 pub(crate) static BODIES: &[Change] = &[
     (
         &[(6, b"Content-Length: 99999999999999999999")],

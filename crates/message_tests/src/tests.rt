@@ -18,7 +18,7 @@ fn canonical(alloc: Global, bytes: &[u8]) -> Result<Vec<u8>, ReadError> {
     Ok(out)
 }
 
-/// Reads each message.
+/// Asserts that each message comes to what its row says.
 fn read_rows(rt: &(impl Abort + AllocGlobal), rows: &[Row]) -> Result<(), Fail> {
     for row in rows {
         is(rt, answer_to(rt.alloc(), row.text)?, row.answer, &row.name);
@@ -32,7 +32,7 @@ fn reads_torture_messages(rt: HostRuntime) -> Result<(), Fail> {
     read_rows(&rt, IPV6)
 }
 
-/// Reads each changed request.
+/// Asserts that each changed request comes to what its row says.
 fn read_changes(rt: &(impl Abort + AllocGlobal), rows: &[Change]) -> Result<(), Fail> {
     for (n, row) in rows.iter().enumerate() {
         let text = changed(rt.alloc(), row.0, row.1)?;
@@ -149,10 +149,10 @@ fn reads_back_what_it_writes(rt: HostRuntime) -> Result<(), Fail> {
     Ok(())
 }
 
-/// The branches of its Vias, from the top one on.
+/// The branches of the Vias of the first torture message, from the top one on.
 static BRANCHES: [&[u8]; 3] = [b"390skdjuw", b"z9hG4bK9ikj8", b"z9hG4bK30239"];
 
-/// Asserts that the first torture message shows its Vias.
+/// Asserts that the first torture message has its Vias.
 fn shows_vias(rt: &impl Abort, message: &Message<'_>) {
     let top = message.top_via();
     assert!(rt; top.transport == b"UDP".as_slice() && top.branch == Some(b"390skdjuw".as_slice()));
@@ -165,7 +165,7 @@ fn shows_vias(rt: &impl Abort, message: &Message<'_>) {
     assert!(rt; branches.next().is_none());
 }
 
-/// And who it is from and to.
+/// Asserts that the first torture message has its From and its To.
 fn shows_addresses(rt: &impl Abort, message: &Message<'_>) {
     assert!(rt; message.from().display == Some(b"\"J Rosenberg \\\\\\\"\"".as_slice()));
     assert!(rt; message.from().params == b";\r\n  tag = 98asjd8".as_slice());
@@ -176,7 +176,7 @@ fn shows_addresses(rt: &impl Abort, message: &Message<'_>) {
     assert!(rt; message.to().display == None);
 }
 
-/// And what follows them.
+/// Asserts that the first torture message has its other parts: Call-ID, CSeq, Route and body.
 fn shows_the_rest(rt: &impl Abort, message: &Message<'_>) {
     assert!(rt; message.call_id() == b"wsinv.ndaksdj@192.0.2.1".as_slice());
     let cseq = message.cseq();
@@ -219,7 +219,7 @@ const LINE_READ: Answer = Answer::Read { body: 0 };
 
 const LINE_FAULTY: Answer = Answer::Line(7, Reason::Value);
 
-/// A line: its front, a part, how often that comes, and its end. And whether the line is one.
+/// A line, by its front, a part that is repeated, how often it is, and the end of the line; and what the line comes to.
 type LongLine = (&'static [u8], &'static [u8], usize, &'static [u8], Answer);
 
 static LONG_LINES: &[LongLine] = &[
@@ -251,14 +251,14 @@ static LONG_LINES: &[LongLine] = &[
     (b"x: ", b"\xff", 60_000, b"", LINE_READ),
 ];
 
-/// A long line that is read has the canonical form of a short one.
+/// Asserts that a long line that is read has the canonical form of a short one.
 fn reads_a_long_fold(rt: &(impl Abort + AllocGlobal)) -> Result<(), Fail> {
     let text = long_line(rt.alloc(), b"s: a", b"\r\n ", 20_000, b"b")?;
     is(rt, canonical(rt.alloc(), &text)?.len(), 210, &"its length");
     Ok(())
 }
 
-/// What the line comes to.
+/// What the request with this line comes to.
 fn answer_to_line(alloc: Global, line: &LongLine) -> Result<Answer, AllocError> {
     let text = long_line(alloc, line.0, line.1, line.2, line.3)?;
     answer_to(alloc, &text)

@@ -4,7 +4,7 @@ use crate::wants::is;
 use sip_message::{Fault, ReadError, Reason, Unit};
 use std::test::Fail;
 
-/// Each reason, with a place where it can stand.
+/// A unit and a reason that can stand for it, for each reason, and what the fault says.
 static FAULTS: &[(Unit, Reason, &str)] = &[
     (
         Unit::Head,

@@ -1,8 +1,8 @@
--- Words that are copied.
+-- What is told of words that are copied.
 use Rattle.std.proofs.Common.{◌≡◌, List, [], ◌∷◌, map, refl}
 use Rattle.std.specs.List.{AllZip}
 
--- where f tells the same of two items in each place, it tells the same of two lists
+-- where f tells the same of the two items at each place, it tells the same of the two lists
 pub told_alike : {X Y : Type 0} (f : X → Y) (xs ys : List X) → AllZip (λ x y. f y ≡ f x) xs ys → map f ys ≡ map f xs
 told_alike f [] [] alike = refl
 told_alike f [] (y ∷ ys) alike = absurd alike

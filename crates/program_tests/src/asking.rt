@@ -5,7 +5,7 @@ use std::alloc::{AllocError, Global};
 use std::process::Abort;
 use std::test::Fail;
 
-/// These words as texts of their own.
+/// These words as texts that the test owns.
 fn texts(alloc: Global, words: &[&str]) -> Result<Vec<String>, AllocError> {
     let mut texts = Vec::new(alloc);
     for word in words {
@@ -14,7 +14,7 @@ fn texts(alloc: Global, words: &[&str]) -> Result<Vec<String>, AllocError> {
     Ok(texts)
 }
 
-/// Words that ask for nothing.
+/// Checks that these words ask for nothing.
 fn asks_for_nothing(rt: &(impl Abort + AllocGlobal), words: &[&str]) -> Result<(), Fail> {
     let words = texts(rt.alloc(), words)?;
     assert!(rt; asked(words.as_slice()).is_none());

@@ -61,7 +61,7 @@ pub(crate) fn desk<'a>(
     })
 }
 
-/// Runs with these words, this on the standard input and this in the file: what is written, and the status.
+/// Runs the program with these words, this standard input and this file. It answers what is written, and the status.
 fn answers(
     rt: &(impl Abort + AllocGlobal),
     words: &[&str],
@@ -79,7 +79,7 @@ fn answers(
     Ok(())
 }
 
-/// Runs the whole program with these words, nothing on the standard input and this in the file: what it writes and tells, and the
+/// Runs the whole program with these words, an empty standard input and this file. It answers what the program writes and tells, and the
 /// status.
 fn ends(
     rt: &(impl Abort + AllocGlobal),

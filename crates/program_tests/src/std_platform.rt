@@ -1,4 +1,4 @@
-//! What std gives: the words of this process, seeds, and files.
+//! What std gives: the words of the process, seeds, and files.
 use sip_platform::StdPlatform;
 use sip_program::Platform;
 use std::test::Fail;

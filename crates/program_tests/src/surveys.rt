@@ -10,7 +10,7 @@ use std::test::Fail;
 
 const USAGE: &str = "sipsurvey: usage: sipsurvey [--forget MILLISECONDS] [--part K/N] [FILE]\n";
 
-/// Runs the whole program with these words, this on the standard input and this in the file: what it writes and tells, and the status.
+/// Runs the whole program with these words, this standard input and this file. It answers what the program writes and tells, and the status.
 fn ends(
     rt: &(impl Abort + AllocGlobal),
     words: &[&str],
@@ -47,7 +47,7 @@ fn surveys_the_standard_input_or_the_file(rt: HostRuntime) -> Result<(), Fail> {
     ends(&rt, &[PATH], right, wrong, found)
 }
 
-// FNV-1a of z9hg4bkr1 is 2386688665: its messages fall into part 2 of 2.
+// FNV-1a of z9hg4bkr1 is 2386688665: the messages with this branch fall into part 2 of 2.
 #[test]
 fn surveys_a_part_alone(rt: HostRuntime) -> Result<(), Fail> {
     let log = hasty(rt.alloc())?;
@@ -94,7 +94,7 @@ fn tells_of_each_failure_of_a_survey(rt: HostRuntime) -> Result<(), Fail> {
     ends(&rt, &[PATH, PATH], file, file, ("", USAGE, 5))
 }
 
-/// What was written, where the writer takes no more than so many bytes.
+/// The writer takes 30 bytes, which are fewer than the survey has: the run fails to write.
 #[test]
 fn fails_where_a_line_cannot_be_written(rt: HostRuntime) -> Result<(), Fail> {
     let file = hasty(rt.alloc())?;
@@ -117,7 +117,7 @@ fn asks_by_at_most_one_word(rt: HostRuntime) -> Result<(), Fail> {
     Ok(())
 }
 
-// FNV-1a of z9hg4bka is 431978031, and of z9hg4bkb 448755650.
+// FNV-1a of z9hg4bka is 431978031, and FNV-1a of z9hg4bkb is 448755650.
 #[test]
 fn asks_for_a_part_by_two_words(rt: HostRuntime) -> Result<(), Fail> {
     let first = String::from_str(rt.alloc(), "--part")?;

@@ -11,11 +11,10 @@ use Rattle.sip_standard.specs.StartLine.{StartLine, request}
 use Rattle.sip_standard.specs.Solid.{solid}
 use Rattle.sip_standard.specs.Outcome.{gives}
 use Rattle.sip_standard.specs.Says.{Said, Says}
-use Rattle.sip_message.proofs.lemmas.message.Outcome.{given}
-use Rattle.sip_message.proofs.lemmas.says.Reading.{says-one}
+use Rattle.sip_message.proofs.lemmas.says.Reading.{said-one}
 use Rattle.sip_standard.specs.AckOf.{IsAckLine, IsAckOf, AckOf}
 
--- a request whose method is ACK, and another with the same URI
+-- where a is a request with the method ACK, and i is a request, the test of equal URIs tells whether a is an ACK line of i
 pub ack-line : (method uri other target : List ℕ) (a i : StartLine) (r : Bool) → a ≡ request method uri → i ≡ request other target → method ≡ codes "ACK"
     → r ≡ bytes_eq uri target → IsTrue r ↔ IsAckLine a i
 ack-line method uri other target a i r a_is i_is ack r_is = (
@@ -26,21 +25,21 @@ ack-line method uri other target a i r a_is i_is ack r_is = (
     same-uri : (u m : List ℕ) → request method uri ≡ request (codes "ACK") u → request other target ≡ request m u → uri ≡ target
     same-uri u m e f = cc
 
--- a comma and the value, for each value
+-- for each value a comma and the value without its blanks
 abbrev each : List (List ℕ) → List ℕ
 each values = flat_map (λ value. comma ∷ solid value) values
 
 solid-append : (a b : List ℕ) → solid (a ++ b) ≡ solid a ++ solid b
 solid-append a b = filter-append _ a b
 
--- the values joined by commas: the first, and each further one after a comma
+-- values joined by commas, without their blanks, are the first value and each further one after a comma
 pub solid-joined : (value : List ℕ) (values : List (List ℕ)) → solid (join_with_byte comma (value ∷ values)) ≡ solid value ++ each values
 solid-joined value [] = sym (append-nil (solid value))
 solid-joined value (next ∷ values) =
     solid-append value (comma ∷ join_with_byte comma (next ∷ values))
     ∙ ap (λ t. solid value ++ comma ∷ t) (solid-joined next values)
 
--- the first of the values, and the others
+-- the first of some values, or no bytes where there is none, and each other one after a comma are the values joined by commas, without their blanks
 pub solid-begins : (values more : List (List ℕ)) (first : Option (Bor (List ℕ))) (none : Bor (List ℕ)) → YieldsFirstRef (λ it. it) values first more → none.now ≡ []
     → solid (unwrap_or first none).now ++ each more ≡ solid (join_with_byte comma values)
 solid-begins values more None none steps empty =
@@ -48,6 +47,7 @@ solid-begins values more None none steps empty =
 solid-begins values more (Some x) none steps empty =
     sym (solid-joined x.now more) ∙ ap (λ vs. solid (join_with_byte comma vs)) (sym steps)
 
+-- what is said of three messages as an ACK, an INVITE and a response is said of three that are the same
 along : (a a' i i' r r' : Said) → a' ≡ a → i' ≡ i → r' ≡ r → IsAckOf a' i' r' → IsAckOf a i r
 along a a' i i' r r' p q s is =
     let P : Said → Type 0 = λ x. IsAckOf x i' r' in
@@ -55,13 +55,9 @@ along a a' i i' r r' p q s is =
     let R : Said → Type 0 = λ z. IsAckOf a i z in
     subst R s (subst Q q (subst P p is))
 
--- bytes say one message
-said-same : (bytes : List ℕ) (s t : Said) → Says bytes (gives s) → Says bytes (gives t) → s ≡ t
-said-same bytes s t one other = given (says-one bytes (gives s) (gives t) one other)
-
--- texts are so related exactly if what they say is
+-- three texts are an ACK, an INVITE and its response exactly if what they say is
 pub ack-of_says : (ack invite response : List ℕ) (a i r : Said) → Says ack (gives a) → Says invite (gives i) → Says response (gives r) → AckOf ack invite response ↔ IsAckOf a i r
 ack-of_says ack invite response a i r says_a says_i says_r = (
-  λ of. along a of.0 i of.1 r of.2 (said-same ack of.0 a of.3 says_a) (said-same invite of.1 i of.4 says_i) (said-same response of.2 r of.5 says_r) of.6,
+  λ of. along a of.0 i of.1 r of.2 (said-one ack of.0 a of.3 says_a) (said-one invite of.1 i of.4 says_i) (said-one response of.2 r of.5 says_r) of.6,
   λ is. (a, i, r, says_a, says_i, says_r, is),
 )

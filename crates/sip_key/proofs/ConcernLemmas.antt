@@ -13,7 +13,7 @@ use Rattle.sip_standard.specs.Key.{KeyParts}
 use Rattle.sip_standard.specs.Branch.{cookie_branch}
 use Rattle.sip_standard.specs.Concerns.{role_of, sent_by_of, method_of, own_key, is_sent, lacks_cookie}
 
--- the port of the first element is one
+-- the port of the first Via element, where it has one, is a port
 first-port : (vals : List (List ℕ)) (e : Element) (es : List Element) → AreElements vals (e ∷ es) → IfSome e.1.port Port
 first-port [] e es are = let never : e ∷ es ≡ [] = are in cc
 first-port (value ∷ vals) e es ([], more, now_is, more_are, whole) = absurd now_is
@@ -29,7 +29,7 @@ and-false : (a : Bool) → (a && false) ≡ false
 and-false true = refl
 and-false false = refl
 
--- a key of these parts is the message's own
+-- a key of the role, the branch, the sent-by and the method that a message gives is the message's own key, and the message does not lack the cookie
 pub own-is : (r : Said) (d : Direction) (role : Role) (branch sent_by method : List ℕ) {k : KeyParts}
     → k ≡ record { role = role; branch = branch; sent_by = sent_by; method = method }
     → role ≡ role_of r.start d

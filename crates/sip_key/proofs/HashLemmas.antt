@@ -7,14 +7,14 @@ use Rattle.sip_key.specs.contracts.key.KeyHash.TheImpl as key_hash
 use Rattle.sip_standard.specs.Key.{KeyParts}
 use Rattle.sip_key.specs.inner.KeyText.{role_byte, length_bytes, key_text}
 
--- sides with the same byte are the same
+-- roles with the same byte are the same
 role-by_its_byte : (r s : Role) → role_byte r ≡ role_byte s → r ≡ s
 role-by_its_byte Client Client same = refl
 role-by_its_byte Server Server same = refl
 role-by_its_byte Client Server same = absurd (omega (arith, same))
 role-by_its_byte Server Client same = absurd (omega (arith, same))
 
--- the first byte below 64 ends a length, whatever comes after it
+-- the first byte below 64 ends a length: two texts that begin with a length each have the same length and the same rest where they are the same
 length-ends : (q p r s : ℕ) (t u : List ℕ) → r < 64 → s < 64 → (replicate q 64 ++ r ∷ []) ++ t ≡ (replicate p 64 ++ s ∷ []) ++ u → (q ≡ p) × (r ≡ s) × (t ≡ u)
 length-ends zero zero r s t u r_small s_small same = (refl, ap (λ bytes. get_or bytes 0 0) same, ap (drop 1) same)
 length-ends zero (suc p) r s t u r_small s_small same = let goes_on : r ≡ 64 = ap (λ bytes. get_or bytes 0 0) same in absurd (omega arith)
@@ -23,14 +23,14 @@ length-ends (suc q) (suc p) r s t u r_small s_small same =
     let more = length-ends q p r s t u r_small s_small (ap (drop 1) same) in
     (ap suc more.0, more.1, more.2)
 
--- the bytes of a length tell the length, and where they end
+-- two equal texts that begin with the bytes of a length each have the same length there, and the same rest
 length-by_its_bytes : (a b : ℕ) (t u : List ℕ) → length_bytes a ++ t ≡ length_bytes b ++ u → (a ≡ b) × (t ≡ u)
 unfolding length_bytes
 length-by_its_bytes a b t u same =
     let told = length-ends (a / 64) (b / 64) (a % 64) (b % 64) t u (omega arith) (omega arith) same in
     (omega (arith, told.0, told.1), told.2)
 
--- texts of the same length that begin the same text are the same, and so is what comes after them
+-- two equal texts have the same front where the fronts are equally long, and the same rest
 alike : (a b t u : List ℕ) → length a ≡ length b → a ++ t ≡ b ++ u → (a ≡ b) × (t ≡ u)
 alike a b t u long same = (
   sym (take_at a t _ refl) ∙ ap₂ take long same ∙ take_at b u _ refl,
@@ -52,6 +52,6 @@ key-by_its_text a b same =
     let parts = alike a.branch b.branch a.sent_by b.sent_by lengths.0 fronts.0 in
     λ i. record { role = role i; branch = parts.0 i; sent_by = parts.1 i; method = fronts.1 i }
 
--- keys that feed a hasher alike are the same
+-- keys that feed a hasher the same bytes are the same
 pub key_by_its_feed : (a b : KeyParts) → key_hash.ghosts.hash_input a ≡ key_hash.ghosts.hash_input b → a ≡ b
 key_by_its_feed a b fed = key-by_its_text a b (ap (λ writes. get_or writes 0 []) fed)

@@ -9,12 +9,12 @@ use Rattle.sip_standard.specs.declared.role.Role.{Role}
 use Rattle.sip_standard.specs.declared.role.Role.TheVariants.{Client, Server}
 use Rattle.sip_key.specs.inner.KeyText.{parts_at, length_bytes, role_byte, key_head, key_text}
 
--- a text between its front and what comes after it
+-- the bytes from the end of a front, as many as a text has that stands there, are that text
 between : (front text rest : List ℕ) (from to : ℕ) → from ≡ length front → to ≡ from + length text → slice_range (front ++ (text ++ rest)) from to ≡ text
 between front text rest from to begins ends =
     ap (take (to - from)) (drop_at front (text ++ rest) from (sym begins)) ∙ take_at text rest (to - from) (omega arith)
 
--- the parts of a key stand where its text has them
+-- where a text is a head, a branch, a sent-by and a method, the places where these end give the parts of a key
 parts-are : (role : Role) (head branch sent_by method text : List ℕ) (branch_start branch_end sent_by_end : ℕ) → text ≡ head ++ ((branch ++ sent_by) ++ method)
     → branch_start ≡ length head → branch_end ≡ branch_start + length branch → sent_by_end ≡ branch_end + length sent_by
     → parts_at role text branch_start branch_end sent_by_end ≡ record { role = role; branch = branch; sent_by = sent_by; method = method }
@@ -32,12 +32,12 @@ parts-are role head branch sent_by method text branch_start branch_end sent_by_e
     ap (drop sent_by_end) from_method ∙ drop_at ((head ++ branch) ++ sent_by) method _ (omega (arith, two, three)) in
     λ i. record { role = role; branch = branch_is i; sent_by = sent_by_is i; method = method_is i }
 
--- a key has these parts, and what it keeps agrees
+-- the places in the text give a key of these parts, they are in order, and the text is that of the key
 pub record LaidOut (role : Role) (branch sent_by method text : List ℕ) (branch_start branch_end sent_by_end : ℕ) : Type 0 where
   pub parts : parts_at role text branch_start branch_end sent_by_end ≡ record { role = role; branch = branch; sent_by = sent_by; method = method }
   pub sound : (branch_start ≤ branch_end) × (branch_end ≤ sent_by_end) × (sent_by_end ≤ length text) × (text ≡ key_text (parts_at role text branch_start branch_end sent_by_end))
 
--- the parts lie in the text as a key wants them, where the text is theirs in a row and each place is where its part ends
+-- where the text is that of a key, and each place is where a part of it ends, the key is laid out in it
 laid-out : (role : Role) (branch sent_by method text : List ℕ) (branch_start branch_end sent_by_end : ℕ)
     → text ≡ key_text (record { role = role; branch = branch; sent_by = sent_by; method = method })
     → branch_start ≡ length (key_head role (length branch) (length method)) → branch_end ≡ branch_start + length branch → sent_by_end ≡ branch_end + length sent_by
@@ -50,21 +50,22 @@ laid-out role branch sent_by method text branch_start branch_end sent_by_end who
     let both = length-append branch sent_by in
     record { parts = parts; sound = (omega arith, omega arith, omega (arith, ap length whole, all, texts, both), whole ∙ ap key_text (sym parts)) }
 
--- how many bytes a length takes
+-- the bytes of a length are one for each 64 in it, and one more
 length-bytes_of : (count : ℕ) → length (length_bytes count) ≡ count / 64 + 1
 unfolding length_bytes
 length-bytes_of count = omega (arith, length-append (replicate (count / 64) 64) (count % 64 ∷ []), length-replicate {A = ℕ} (count / 64) 64)
 
--- how long the head of a key is
+-- the head of a key has three bytes, and one more for each 64 in the lengths of its branch and its method
 pub head_length : (role : Role) (branch method : ℕ) → length (key_head role branch method) ≡ 3 + branch / 64 + method / 64
 head_length role branch method =
     omega (arith, length-append (length_bytes branch) (length_bytes method), length-bytes_of branch, length-bytes_of method)
 
--- no byte of a key's head is a letter, so that lower case leaves it
+-- 64 is no letter, so that lower case leaves a byte 64 as it is, however often it stands
 repeated-folded : (n : ℕ) → folded (replicate n 64) ≡ replicate n 64
 repeated-folded zero = refl
 repeated-folded (suc n) = ap (λ bytes. 64 ∷ bytes) (repeated-folded n)
 
+-- no byte of a length is a letter, so that lower case leaves them as they are
 length-folded : (count : ℕ) → folded (length_bytes count) ≡ length_bytes count
 unfolding length_bytes
 length-folded count =
@@ -79,18 +80,19 @@ head-folded : (role : Role) (branch method : ℕ) → folded (key_head role bran
 head-folded role branch method =
     ap₂ ◌∷◌ (role-folded role) (map-append to_ascii_lowercase (length_bytes branch) (length_bytes method) ∙ ap₂ ◌++◌ (length-folded branch) (length-folded method))
 
--- the beginning of a key, first put together and then in lower case
+-- the head, the branch and the host of a key, folded together, are the head as it is, and then the branch and the host folded
 pub begun_folded : (role : Role) (b m : ℕ) (branch host : List ℕ) → folded ((key_head role b m ++ branch) ++ host) ≡ key_head role b m ++ folded (branch ++ host)
 begun_folded role b m branch host =
     ap folded (append_assoc (key_head role b m) branch host)
     ∙ map-append to_ascii_lowercase (key_head role b m) (branch ++ host)
     ∙ ap (λ head. head ++ folded (branch ++ host)) (head-folded role b m)
 
--- a branch and a host that are folded as one are the same as each folded alone
+-- a branch and a host that are folded together, and a port after them, are the folded branch, the folded host and the port
 folded-apart : (branch host port : List ℕ) → map to_ascii_lowercase (branch ++ host) ++ port ≡ folded branch ++ (folded host ++ port)
 folded-apart branch host port = ap (λ text. text ++ port) (map-append to_ascii_lowercase branch host) ∙ append_assoc (folded branch) (folded host) port
 
--- a key whose text is the beginning, then the bytes of a port and then the method
+-- where a text is the beginning of a key, the bytes of a port and a method, the key of the folded branch, the folded host with the port, and the
+-- method is laid out in it
 pub built : (role : Role) (branch host port method begun text : List ℕ) (branch_start branch_end sent_by_end : ℕ)
     → begun ≡ key_head role (length branch) (length method) ++ folded (branch ++ host)
     → text ≡ (begun ++ port) ++ method

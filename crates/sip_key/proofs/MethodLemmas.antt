@@ -26,11 +26,11 @@ use Rattle.sip_standard.specs.Key.{KeyParts}
 use Rattle.sip_standard.specs.Branch.{cookie_branch}
 use Rattle.sip_standard.specs.Concerns.{role_of, sent_by_of, method_of, is_sent, own_key, cancelled_key, Concerns}
 
--- a byte in a range is not above it
+-- a byte in a range is at most the upper end of the range
 range_low : (low high b : ℕ) → is_in_range low high b ≡ true → b ≤ high
 range_low low high b is = leb-true b high (and_parts (nat_le low b) (nat_le b high) is).1
 
--- a byte of a token is ASCII
+-- a letter or digit is ASCII
 alphanumeric_low : (b : ℕ) → is_ascii_alphanumeric b ≡ true → b < 128
 alphanumeric_low b is =
     elim (or_cases (is_in_range 48 57 b || is_in_range 65 90 b) (is_in_range 97 122 b) is) [
@@ -41,6 +41,7 @@ alphanumeric_low b is =
       | inr one ↦ (let low = range_low 97 122 b one in omega (arith, low))
     ]
 
+-- a byte that is one of some ASCII bytes is ASCII
 one_of_low : (bytes : List ℕ) → list_all (λ c. nat_lt c 128) bytes ≡ true → (b : ℕ) → list_any (λ c. c == b) bytes ≡ true → b < 128
 one_of_low [] all b is = cc
 one_of_low (c ∷ cs) all b is =
@@ -50,6 +51,7 @@ one_of_low (c ∷ cs) all b is =
       | inr more ↦ one_of_low cs parts.1 b more
     ]
 
+-- a byte of a token is ASCII
 token_low : (b : ℕ) → is_token_byte b ≡ true → b < 128
 token_low b is =
     elim (or_cases (is_ascii_alphanumeric b) (is_among "-.!%*_+`'~" b) is) [
@@ -63,12 +65,12 @@ bytes_ascii u all = IsAscii-from_all u (All-weaker (λ b. is_token_byte b ≡ tr
 pub token_ascii : (u : List ℕ) → Token u → IsAscii u
 token_ascii u token = bytes_ascii u (each-token u token)
 
--- what holds of both values holds of the chosen one
+-- what holds of both values of a condition holds of the value that it gives
 either : {A : Type 0} (P : A → Type 0) (b : Bool) (x y : A) → P x → P y → P (cond b x y)
 either P true x y p q = p
 either P false x y p q = q
 
--- the method of a key is a token
+-- INVITE, which is the method of a key where an ACK is sent or received, is ASCII
 invite_ascii : IsAscii (codes "INVITE")
 invite_ascii = bytes_ascii (codes "INVITE") (refl, (refl, (refl, (refl, (refl, (refl, tt))))))
 
@@ -76,7 +78,7 @@ method_ascii : (line cseq : List ℕ) (start : StartLine) → StartText line sta
 method_ascii line cseq (request method uri) is token = either IsAscii (bytes_eq method (codes "ACK")) (codes "INVITE") method invite_ascii (token_ascii method is.0)
 method_ascii line cseq (status code reason) is token = token_ascii cseq token
 
--- what holds of each key that may be made holds of the one that is
+-- what holds of the key with each branch holds of the key with the branch that there may be
 made_key : (P : KeyParts → Type 0) (f : List ℕ → KeyParts) → ((branch : List ℕ) → P (f branch)) → (o : Option (List ℕ)) → All P (option_to_list (option_map f o))
 made_key P f h None = All-nil P
 made_key P f h (Some branch) = All-cons P (f branch) [] (h branch) (All-nil P)

@@ -5,16 +5,16 @@ use Rattle.std.specs.Iterator.{YieldsFirst, Yields, ComparesItemsByEq}
 use Rattle.std.proofs.Common.{sym, ◌∙◌, ap, ap₂}
 use Rattle.std.proofs.lemmas.Bool.{eqb-true, eqb-false}
 
--- an iterator that is seen as the list of its items
+-- what a step of an iterator yields, the iterator being seen as the list of its items
 abbrev Steps : List ℕ → Option ℕ → List ℕ → Type 0
 Steps = YieldsFirst (λ it. it)
 
--- what was given stood before what is left
+-- what an iterator yielded stood before what it has left
 yielded : (s t xs : List ℕ) → Yields Steps s xs t → s ≡ xs ++ t
 yielded s t [] e = e
 yielded s t (x ∷ xs) e = e.1 ∙ ap (λ r. x ∷ r) (yielded e.0 t xs e.2)
 
--- texts with the same front are the same if their rests are
+-- lists that begin with equal items are the same exactly if their rests are
 same-behind : (P : Type 0) (xs ys t w : List ℕ) → AllZip (λ x y. (x == y) ≡ true) xs ys → (P ↔ (t ≡ w)) → P ↔ (xs ++ t ≡ ys ++ w)
 same-behind P [] [] t w z h = h
 same-behind P [] (y ∷ ys) t w z h = absurd z
@@ -29,7 +29,7 @@ not-cons x xs t e f = let both : [] ≡ x ∷ xs = sym e ∙ f in cc
 no : false ≡ true → ⊥
 no e = cc
 
--- the last two answers
+-- where two iterators stopped at their first difference or at their ends, the answer tells whether what they had left was the same
 last-same : (r : Bool) (o p : Option ℕ) (t u w v : List ℕ) → Steps t o u → Steps w p v
     → MatchOption o (MatchOption p (r ≡ true) (λ _. r ≡ false)) (λ x. (r ≡ false) × IfSome p (λ y. (x == y) ≡ false)) → IsTrue r ↔ (t ≡ w)
 last-same true None None t u w v a b h = (λ _. a.0 ∙ sym b.0, λ _. refl)
@@ -42,7 +42,7 @@ last-same true (Some x) (Some y) t u w v a b h = let none : true ≡ false = h.0
 last-same false (Some x) (Some y) t u w v a b h =
     (λ never. absurd (no never), λ e. let both : x ∷ u ≡ y ∷ v = sym a ∙ e ∙ b in let same : x ≡ y = cc in absurd (eqb-false x y h.1 same))
 
--- iterators are compared by their items
+-- the comparison of two iterators by their items answers whether the lists of their items are the same
 pub same-items : (r : Bool) (xs ys : List ℕ) → ComparesItemsByEq Steps (λ (other it : List ℕ). it ≡ other) Steps xs ys (λ x y. x == y) r → IsTrue r ↔ (xs ≡ ys)
 same-items r xs ys (it, cs, bs, o, p, u, v, is, (t, a, end), (w, b, last), zip, h) =
     let same = same-behind (IsTrue r) cs bs t w zip (last-same r o p t u w v end last h) in

@@ -7,7 +7,7 @@ use Rattle.sip_key.specs.declared.concern.KeyError.{KeyError}
 use Rattle.sip_key.specs.declared.concern.KeyError.TheVariants as error
 use Rattle.sip_standard.specs.Concerns.{own_key, lacks_cookie}
 
--- the message's own key, or that it lacks the cookie; of memory nothing is said
+-- the answer is the message's own key, or that a sent request lacks the cookie; of an answer that memory is missing nothing is said
 abbrev pub IsOwnKey : Said → Direction → Result (Option KeyParts) KeyError → Type 0
 IsOwnKey s direction (Ok key) = (key ≡ own_key s direction) × (lacks_cookie s direction ≡ false)
 IsOwnKey s direction (Err error.NoCookie) = lacks_cookie s direction ≡ true

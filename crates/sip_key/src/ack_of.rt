@@ -19,7 +19,7 @@ pub fn is_ack_of(ack: &Message<'_>, invite: &Message<'_>, response: &Message<'_>
     same_solid(ack.to().whole, response.to().whole) && is_ack_for(ack, invite)
 }
 
-/// The same for every response whose To is that of the first message but for blanks.
+/// Whether the ACK is the one for each response to the INVITE whose To is the ACK's own but for blanks. It takes no memory.
 pub fn is_ack_for(ack: &Message<'_>, invite: &Message<'_>) -> bool
     ensures { (response : Said) → SameSolid (said_of ack.now).to response.to → IsTrue result ↔ IsAckOf (said_of ack.now) (said_of invite.now) response }
 {
@@ -32,7 +32,7 @@ pub fn is_ack_for(ack: &Message<'_>, invite: &Message<'_>) -> bool
         && same_route(ack, invite)
 }
 
-// An ACK, with the Request-URI of the request.
+// Whether the first start line is of an ACK and has the Request-URI of the second, which is a request's.
 fn is_ack_line(ack: StartLine<'_>, invite: StartLine<'_>) -> bool
     ensures { IsTrue result ↔ IsAckLine (start_parts ack.entry) (start_parts invite.entry) }
 {
@@ -44,7 +44,7 @@ fn is_ack_line(ack: StartLine<'_>, invite: StartLine<'_>) -> bool
     }
 }
 
-// One Via element in all.
+// Whether the message has one Via element in all.
 fn has_one_via(message: &Message<'_>) -> bool
     ensures { IsTrue result ↔ ((said_of message.now).others ≡ []) }
 {
@@ -53,14 +53,14 @@ fn has_one_via(message: &Message<'_>) -> bool
     vias.next().is_none()
 }
 
-// The same Route values, joined by commas.
+// Whether two messages have the same Route values, joined by commas and compared but for blanks.
 fn same_route(a: &Message<'_>, b: &Message<'_>) -> bool
     ensures { IsTrue result ↔ SameSolid (said_of a.now).route (said_of b.now).route }
 {
     SolidRoute::new(a.routes()).eq(SolidRoute::new(b.routes()))
 }
 
-// The bytes of values joined by commas that are no blanks, in order.
+// The bytes of values joined by commas, in order and without their blanks.
 #[derive(Drop)]
 struct SolidRoute<'s, 'a> {
     rest: &'a [u8],
@@ -82,7 +82,7 @@ impl<'s, 'a> SolidRoute<'s, 'a> {
     ghost use Rattle.std.specs.List.{join_with_byte};
     ghost use Rattle.sip_message.specs.inner.Marks.{comma};
 
-    // The bytes of these values.
+    // The bytes of these values joined by commas, without their blanks.
     fn new(mut values: Routes<'s, 'a>) -> Self
         ensures { result ≡ solid (join_with_byte comma values.entry) }
     {

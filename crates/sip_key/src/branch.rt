@@ -7,6 +7,7 @@ use sip_text::same_text;
 const COOKIE: &[u8] = b"z9hG4bK";
 
 /// Whether the branch begins with the cookie, without case.
+#[inline(always)]
 pub(crate) fn has_cookie(branch: &[u8]) -> bool
     ensures { result ≡ bytes_eq (take 7 (folded branch.now)) (codes "z9hg4bk") }
 {

@@ -18,13 +18,13 @@ use sip_text::Host;
 use std::alloc::{AllocError, Global};
 use thiserror::Error;
 
-/// Why no key is answered.
+/// Why the key of a message is not answered.
 #[derive(Clone, Copy, Debug, PartialEq, Eq, Error)]
 pub enum KeyError {
     /// A growth was refused.
     #[error("out of memory")]
     Memory,
-    /// A request is sent whose top branch lacks the cookie.
+    /// A request is sent, and its top branch lacks the cookie.
     #[error("the top branch of a sent request lacks the cookie")]
     NoCookie,
 }
@@ -85,14 +85,15 @@ pub fn cancelled_key(
     Ok(Some(key))
 }
 
-// The branch, if it has the cookie.
+// The branch of the top Via, if it has the cookie.
+#[inline(always)]
 fn cookie_branch(via: Via<'_>) -> Option<&[u8]>
     ensures { MatchOption result (cookie_branch (option_copied via.entry.branch) ≡ None) (λ branch. cookie_branch (option_copied via.entry.branch) ≡ Some (folded branch.now)) }
 {
     via.branch.filter(|branch| has_cookie(branch))
 }
 
-// The side of the transaction.
+// The role that an element has in the transaction of a message that it sends or receives.
 fn role_of(start: StartLine<'_>, direction: Direction) -> Role
     ensures { result ≡ role_of (start_parts start.entry) direction }
 {
@@ -103,7 +104,7 @@ fn role_of(start: StartLine<'_>, direction: Direction) -> Role
     }
 }
 
-// The key with this branch, and the sent-by where it is a server's.
+// The key with this role, branch and method, and with the sent-by of the Via where the role is that of a server.
 fn key_with(
     alloc: Global,
     role: Role,
@@ -120,7 +121,7 @@ fn key_with(
     }
 }
 
-// The text of the host.
+// The text of the host, an IPv6 address with its brackets.
 fn host_text(host: Host<'_>) -> &[u8]
     ensures { result.now ≡ host_text (host_parts host.entry) }
 {
@@ -129,7 +130,7 @@ fn host_text(host: Host<'_>) -> &[u8]
     }
 }
 
-// The method of the request that made the transaction.
+// The method of the request that made the transaction: INVITE for an ACK, and for a response the method of its CSeq.
 fn method_of<'a>(message: &Message<'a>) -> &'a [u8]
     ensures { result.now ≡ method_of message.now.message.start message.now.parts.cseq.1 }
 {

@@ -22,7 +22,7 @@ use std::marker::Model;
 #[derive(Debug, Drop)]
 pub struct Key {
     role: Role,
-    /// What a hasher is fed: the side, how long the branch and the method are, and then the branch, the sent-by and the method.
+    /// What a hasher is fed: the role, how long the branch and the method are, and then the branch, the sent-by and the method.
     text: Vec<u8>,
     branch_start: usize,
     branch_end: usize,
@@ -42,7 +42,7 @@ impl Model for Key {
         × (k.text.items ≡ key_text (parts_at k.role k.text.items k.branch_start k.branch_end k.sent_by_end)) };
 }
 
-/// A byte of a length that goes on, and how much of the length it stands for. It is no letter, so that lower case leaves it.
+/// The byte of a length that says that the length goes on, and how much of the length it stands for. It is no letter, so that lower case leaves it.
 const GOES_ON: usize = 64;
 
 /// How many bytes stand before the texts of a key with a branch and a method of these lengths.
@@ -63,7 +63,7 @@ fn push_length(text: &mut Vec<u8>, count: usize) -> Result<(), AllocError>
     Ok(())
 }
 
-/// The side as a byte.
+/// The role as a byte.
 fn role_byte(role: Role) -> u8
     ensures { result ≡ role_byte role }
 {
@@ -73,7 +73,8 @@ fn role_byte(role: Role) -> u8
     }
 }
 
-/// The beginning of a key's text, with so much room: what stands before its texts, and then two of them in lower case.
+/// The beginning of a key's text, with this much room: the head, and then the branch and the host in lower case.
+#[inline(always)]
 fn begun(
     alloc: Global,
     room: usize,
@@ -96,6 +97,7 @@ fn begun(
 
 impl Key {
     /// The key of a client transaction with this branch and method.
+    #[inline(always)]
     pub(crate) fn client(alloc: Global, branch: &[u8], method: &[u8]) -> Result<Key, AllocError>
         ensures { IfOk result (λ key. key ≡ record { role = Client; branch = folded branch.now; sent_by = []; method = method.now }) }
     {
@@ -144,7 +146,7 @@ impl Key {
         })
     }
 
-    /// The side of the transaction.
+    /// The role in the transaction: client or server.
     pub fn role(&self) -> Role
         ensures { result ≡ self.now.role }
     {
@@ -158,8 +160,7 @@ impl Key {
         &self.text[self.branch_start..self.branch_end]
     }
 
-    /// The top Via's sent-by, empty on the client's side: the host in lower case, `:` and the number
-    /// of the port.
+    /// The top Via's sent-by in the key of a server: the host in lower case, `:` and the number of the port. It is empty in a client's key.
     pub fn sent_by(&self) -> &[u8]
         ensures { result.now ≡ self.now.sent_by }
     {

@@ -13,12 +13,12 @@ pub fn keys_are_equal_by_their_parts()
     ensures { (a b : KeyParts) → (same_key a b ≡ true) ↔ (a ≡ b) }
 {}
 
-/// Three texts are an ACK, an INVITE and a response to it exactly if what they say is.
+/// Three texts are an ACK, an INVITE and a response to it, to which the ACK belongs, exactly if what they say is.
 pub fn an_ack_is_told_by_its_bytes()
     ensures { (ack invite response : List ℕ) (a i r : Said) → Says ack (gives a) → Says invite (gives i) → Says response (gives r) → AckOf ack invite response ↔ IsAckOf a i r }
 {}
 
-/// Keys that feed a hasher alike are the same key: each part of a key is fed.
+/// Keys that feed a hasher the same bytes are the same key: each part of a key is fed.
 pub fn keys_are_told_by_what_they_feed_a_hasher()
     ensures { (a b : KeyParts) → ⟦<Key as Hash>⟧.hash_input a ≡ ⟦<Key as Hash>⟧.hash_input b → a ≡ b }
 {}

@@ -8,7 +8,7 @@ ghost use Rattle.sip_standard.specs.SentBy.{port_number};
 use itoa::Buffer;
 use std::alloc::AllocError;
 
-// The port where none is given, whatever the transport.
+// The port of a sent-by that gives none, whatever the transport is.
 const DEFAULT_PORT: u16 = 5060;
 
 /// The most bytes of `:` and a port.
@@ -23,7 +23,7 @@ pub(crate) fn push_port(text: &mut Vec<u8>, port: Option<&[u8]>) -> Result<(), A
     text.extend_from_slice(Buffer::new().format(port_number(port)).as_bytes())
 }
 
-// The number of the port.
+// The number of the port, and that of the default port where none is given.
 fn port_number(port: Option<&[u8]>) -> u16
     requires { IfSome (option_copied port) Port }
     ensures { result ≡ port_number (option_copied port.entry) }

@@ -6,7 +6,7 @@ ghost use Rattle.sip_standard.specs.Field.{is_lws_byte};
 use std::alloc::{AllocError, Global};
 use std::marker::Model;
 
-/// Whether the texts are equal without their blanks. Where they are not equal as they stand it walks both; it takes no memory.
+/// Whether the texts are equal without their blanks. Where they differ as they stand, it walks both byte by byte. It takes no memory.
 pub(crate) fn same_solid(a: &[u8], b: &[u8]) -> bool
     ensures { IsTrue result ↔ (solid a.now ≡ solid b.now) }
 {
@@ -57,7 +57,7 @@ impl<'a> Iterator for Solid<'a> {
     }
 }
 
-/// The first byte that is no blank, and what is after it.
+/// The first byte of the text that is no blank, and what follows it; None where there is no such byte.
 pub(crate) fn next_solid(text: &[u8]) -> Option<(u8, &[u8])>
     ensures { MatchOption result (solid text.now ≡ []) (λ r. solid text.now ≡ r.0 ∷ solid r.1.now) }
 {
@@ -71,7 +71,7 @@ pub(crate) fn next_solid(text: &[u8]) -> Option<(u8, &[u8])>
     None
 }
 
-// SP, HTAB, CR or LF.
+// Whether the byte is a blank: SP, HTAB, CR or LF.
 fn is_blank(byte: u8) -> bool
     ensures { result ≡ is_lws_byte byte }
 {

@@ -2,9 +2,9 @@ use Rattle.std.specs.Prelude.{◌≡◌, ◌≤◌, ◌==◌, ◌&&◌, ◌||◌
 use Rattle.std.specs.List.{list_any, reduce}
 use Rattle.sip_ledger.specs.declared.debt.Debt.{Debt}
 
--- What is owed, oldest first.
+-- What is owed: debts, of which the oldest is first.
 
--- ys are xs without the first one of which P holds
+-- ys are the elements of xs without the first of which P holds
 pub record IsWithoutFirst {X : Type 0} (P : X → Type 0) (xs ys : List X) : Type 0 where
   pub before : List X
   pub first : X
@@ -14,15 +14,15 @@ pub record IsWithoutFirst {X : Type 0} (P : X → Type 0) (xs ys : List X) : Typ
   pub none_before : All (λ x. ¬ (P x)) before
   pub rest : ys ≡ before ++ after
 
--- the debt counts still at t
+-- the debt counts still at t: it must be sent, or may be sent until t or later
 abbrev pub counts_at : ℕ → Debt → Bool
 counts_at t debt = debt.must || nat_le t debt.deadline
 
--- the debt, which has not to be paid any more
+-- the debt that may be sent until its deadline, and need not be any more
 abbrev pub softened_debt : Debt → Debt
 softened_debt debt = record { message = debt.message; deadline = debt.deadline; must = false }
 
--- a send of this message at t can pay the debt
+-- a send of this message at t can pay the debt: the debt is of the message, and its deadline is not before t
 abbrev pub is_payable : ℕ → ℕ → Debt → Bool
 is_payable message t debt = debt.message == message && nat_le t debt.deadline
 
@@ -30,29 +30,29 @@ is_payable message t debt = debt.message == message && nat_le t debt.deadline
 abbrev pub is_any_payable : List ℕ → ℕ → Debt → Bool
 is_any_payable messages t debt = list_any (λ message. is_payable message t debt) messages
 
--- what is owed after a send of this message at t, which pays the first debt that it can
+-- what is owed after a send of this message at t, which pays the first debt that it can pay
 abbrev pub paid_by : ℕ → ℕ → List Debt → List Debt
 paid_by message t [] = []
 paid_by message t (debt ∷ debts) = if is_payable message t debt then debts else debt ∷ paid_by message t debts
 
--- the deadlines of debts that have to be paid
+-- the deadlines of those debts that must be sent
 abbrev pub debt_deadlines : List Debt → List ℕ
 debt_deadlines debts = map (λ debt. debt.deadline) (filter (λ debt. debt.must) debts)
 
--- the least of these moments, none if there is none
+-- the least of these moments, and None if there is none
 abbrev pub earliest : List ℕ → Option ℕ
 earliest moments = reduce min moments
 
--- t is not past this moment, if there is one
+-- t is not past this moment; it is past no moment where there is none
 abbrev pub is_within : ℕ → Option ℕ → Bool
 is_within t None = true
 is_within t (Some last) = nat_le t last
 
--- nothing that has to be paid is past at t
+-- no deadline of what must be sent is before t
 abbrev pub is_timely : ℕ → List Debt → Bool
 is_timely t debts = is_within t (earliest (debt_deadlines debts))
 
--- the least and the greatest number of a message that is owed
+-- low and high are the least and the greatest number of a message that is owed
 pub record IsSpan (debts : List Debt) (low high : ℕ) : Type 0 where
   pub least : IsTrue (list_any (λ debt. debt.message == low) debts)
   pub greatest : IsTrue (list_any (λ debt. debt.message == high) debts)

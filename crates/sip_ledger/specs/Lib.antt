@@ -1,3 +1,4 @@
+pub mod Accounts
 pub mod Bits
 pub mod Debts
 pub mod Rows

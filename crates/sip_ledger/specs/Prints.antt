@@ -5,7 +5,7 @@ use Rattle.sip_ledger.specs.Ledgers.{GridOrLong}
 
 -- A number for what a row owes, which tells most rows apart at once.
 
--- with a word more
+-- a number that is made of another one and a word
 abbrev pub mixed : ℕ → ℕ → ℕ
 mixed print word = bit_xor print word * 11400714819323198485 % 2 ^ 64
 

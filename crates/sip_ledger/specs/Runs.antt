@@ -4,11 +4,11 @@ use Rattle.sip_ledger.specs.declared.run.Run.{Run}
 
 -- Debts in runs of equal ones.
 
--- the debts of runs, one after another
+-- the debts of some runs, one after another
 abbrev pub debts_in : List Run → List Debt
 debts_in runs = flat_map (λ run. replicate run.count run.debt) runs
 
--- equal neighbours among the debts stand in one run
+-- these debts stand in these runs: each run has at least one, and no two runs side by side are of the same debt
 pub record AreRuns (debts : List Debt) (runs : List Run) : Type 0 where
   pub whole : debts_in runs ≡ debts
   pub filled : All (λ run. 0 < run.count) runs

@@ -1,3 +1,4 @@
+pub mod Accounts
 pub mod Ends
 pub mod Indexes
 pub mod Longs

@@ -1,8 +1,8 @@
-//! Sets of numbers: bits in words, one word after another.
+//! Sets of numbers: bits in words of 64, one word after another.
 ghost use Rattle.std.specs.Prelude.{◌≡◌, ◌≢◌, ℕ, ◌+◌, ◌-◌, ◌*◌, ◌/◌, ◌^◌, ◌<◌, ◌≤◌, true, false, length, get_or, IfSome, IfNone};
 ghost use Rattle.sip_ledger.specs.Bits.{has, IsNext, NoneFrom};
 
-/// Whether the bit is set, which none is after the words.
+/// Whether the bit is set. Past the last word none is.
 pub(crate) fn has(words: &[u64], bit: usize) -> bool
     ensures { result ≡ has words.now bit }
 {
@@ -10,7 +10,7 @@ pub(crate) fn has(words: &[u64], bit: usize) -> bool
     word < words.len() && words[word] >> (bit % 64) & 1 == 1
 }
 
-/// Sets the bit.
+/// Sets the bit in its word.
 pub(crate) fn set(words: &mut [u64], bit: usize)
     requires { bit / 64 < length words.old }
     ensures same { has words.new bit ≡ true }
@@ -19,7 +19,7 @@ pub(crate) fn set(words: &mut [u64], bit: usize)
     words[bit / 64] |= 1 << (bit % 64);
 }
 
-/// Clears the bit.
+/// Clears the bit in its word.
 pub(crate) fn clear(words: &mut [u64], bit: usize)
     requires { bit / 64 < length words.old }
     ensures same { has words.new bit ≡ false }
@@ -28,7 +28,7 @@ pub(crate) fn clear(words: &mut [u64], bit: usize)
     words[bit / 64] &= !(1 << (bit % 64));
 }
 
-/// Clears every bit.
+/// Clears every bit of the words.
 pub(crate) fn clear_all(words: &mut [u64])
     ensures { (k : ℕ) → has words.new k ≡ false }
 {
@@ -37,7 +37,7 @@ pub(crate) fn clear_all(words: &mut [u64])
     }
 }
 
-/// The first bit that is set, from here on.
+/// The first bit that is set, from bit `from` on.
 pub(crate) fn next(words: &[u64], from: usize) -> Option<usize>
     requires { 64 * length words.now < 2 ^ 64 }
     ensures found { IfSome result (IsNext words.now from) }
@@ -54,7 +54,7 @@ pub(crate) fn next(words: &[u64], from: usize) -> Option<usize>
     None
 }
 
-/// One past the last bit that is set, 0 if none is.
+/// One past the last bit that is set, and 0 if none is.
 pub(crate) fn end(words: &[u64]) -> usize
     requires { 64 * length words.now < 2 ^ 64 }
     ensures none { NoneFrom words.now result }

@@ -1,4 +1,4 @@
-//! Numbers under keys.
+//! Indexes: numbers that stand under keys.
 ghost use Rattle.std.specs.Prelude.{◌≡◌, ◌≤◌, ◌==◌, ◌&&◌, ℕ, cond, true, false, [], IfSome, IfNone, OnOk, OnErr};
 ghost use Rattle.sip_ledger.specs.inner.Indexes.{holds, IsFirstFrom, IsLastPair, IsNextUnder, IsWithoutPair, NoneFrom};
 
@@ -21,7 +21,7 @@ impl Model for Index {
 }
 
 impl Index {
-    /// There are no numbers.
+    /// An index without numbers.
     pub(crate) fn new(alloc: Global) -> Self
         ensures { result ≡ [] }
     {
@@ -53,7 +53,7 @@ impl Index {
         let _held = self.pairs.remove(&(key, number));
     }
 
-    /// The first pair from this one on.
+    /// The first pair from (key, number) on, in the order of keys and then of numbers.
     pub(crate) fn first_from(&self, key: u64, number: u64) -> Option<(u64, u64)>
         ensures found { IfSome result (IsFirstFrom self.now key number) }
         ensures none { IfNone result (NoneFrom self.now key number) }
@@ -64,7 +64,7 @@ impl Index {
         }
     }
 
-    /// The first number under the key from this one on.
+    /// The first number under the key, from `from` on.
     pub(crate) fn next(&self, key: u64, from: u64) -> Option<u64>
         ensures found { IfSome result (IsNextUnder self.now key from) }
         ensures none { IfNone result ((n : ℕ) → from ≤ n → holds self.now key n ≡ false) }
@@ -75,7 +75,7 @@ impl Index {
         }
     }
 
-    /// The first pair.
+    /// The first pair: the least key, and the least number under it.
     pub(crate) fn first(&self) -> Option<(u64, u64)>
         ensures found { IfSome result (IsFirstFrom self.now 0 0) }
         ensures none { IfNone result (NoneFrom self.now 0 0) }
@@ -83,7 +83,7 @@ impl Index {
         self.pairs.first().copied()
     }
 
-    /// The last pair.
+    /// The last pair: the greatest key, and the greatest number under it.
     pub(crate) fn last(&self) -> Option<(u64, u64)>
         ensures found { IfSome result (IsLastPair self.now) }
         ensures none { IfNone result ((k n : ℕ) → holds self.now k n ≡ false) }

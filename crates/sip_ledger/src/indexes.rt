@@ -1,4 +1,4 @@
-//! Where the numbers of debts stand: under their messages, and under their deadlines.
+//! The indexes of a long row: the numbers of its debts under their messages and under their deadlines.
 ghost use Rattle.std.specs.Prelude.{None, Some, [], OnOk, OnErr};
 ghost use Rattle.sip_ledger.specs.inner.Longs.{AreIndexed, AllShow, AllTurn};
 
@@ -6,19 +6,19 @@ use crate::debt::Debt;
 use crate::index::Index;
 use std::alloc::{AllocError, Global};
 
-/// The numbers of debts, by what is asked for.
+/// The numbers of debts, by what is asked of the debts.
 #[derive(Debug, Drop)]
 pub(crate) struct Indexes {
-    /// All of them, by their messages.
+    /// The numbers of all debts, under their messages.
     pub messages: Index,
-    /// All of them, by their deadlines.
+    /// The numbers of all debts, under their deadlines.
     pub moments: Index,
-    /// Those that must be sent, by their deadlines.
+    /// The numbers of the debts that must be sent, under their deadlines.
     pub due: Index,
 }
 
 impl Indexes {
-    /// There are no debts.
+    /// The indexes of no debts.
     pub(crate) fn new(alloc: Global) -> Self
         ensures { AreIndexed [] result }
     {
@@ -29,7 +29,7 @@ impl Indexes {
         }
     }
 
-    /// Puts the number of a debt where it belongs. On an error it stands nowhere.
+    /// Puts the number of a debt into the indexes where it belongs. On an error it stands in none of them.
     pub(crate) fn put(&mut self, number: u64, debt: Debt) -> Result<(), AllocError>
         requires { AllShow number None self.old }
         ensures ok { OnOk result (AllTurn number (Some debt) self.old self.new) }
@@ -50,7 +50,7 @@ impl Indexes {
         Ok(())
     }
 
-    /// Takes the number of the debt from where it stands.
+    /// Takes the number of the debt from the indexes where it stands.
     pub(crate) fn take(&mut self, number: u64, debt: Debt)
         requires { AllShow number (Some debt) self.old }
         ensures { AllTurn number None self.old self.new }

@@ -1,4 +1,4 @@
-//! What many rows owe.
+//! What the states of one set owe: a row of debts for each state.
 #![tactic(auto, unfolding(crate::specs::Ledgers::rows_of))]
 
 ghost use Rattle.std.specs.Prelude.{◌≡◌, ◌↔◌, ◌<◌, ◌++◌, ◌∷◌, [], ℕ, List, IsTrue, OnOk, OnErr, IfOk, IfSome, IfNone, All, length, set, map, filter, take, drop};
@@ -42,7 +42,7 @@ impl Model for Ledger {
 }
 
 impl Ledger {
-    /// There are no rows.
+    /// A ledger without rows.
     pub fn new(alloc: Global) -> Self
         ensures { rows_of result ≡ [] }
     {
@@ -77,7 +77,7 @@ impl Ledger {
         self.push_behind_long()
     }
 
-    /// The same where there may be a long row.
+    /// Puts a row that owes nothing after the others, where one of them may be a long row. On an error all is as before.
     #[inline(never)]
     fn push_behind_long(&mut self) -> Result<(), AllocError>
         ensures ok { OnOk result (rows_of self.new ≡ rows_of self.old ++ [] ∷ []) }
@@ -105,7 +105,7 @@ impl Ledger {
         self.push_copy_of_long(row)
     }
 
-    /// The same where the row may be a long one.
+    /// Puts a row that owes what this one does after the others, where this one may be a long row. On an error all is as before.
     #[inline(never)]
     fn push_copy_of_long(&mut self, row: usize) -> Result<(), AllocError>
         requires { row < length (rows_of self.old) }
@@ -122,7 +122,7 @@ impl Ledger {
         Ok(())
     }
 
-    /// Keeps the first rows.
+    /// Keeps the first `rows` rows, and drops those after them.
     pub fn truncate(&mut self, rows: usize)
         ensures { rows_of self.new ≡ take rows (rows_of self.old) }
     {
@@ -132,7 +132,7 @@ impl Ledger {
         self.rows.truncate(rows);
     }
 
-    /// Drops the first rows.
+    /// Drops the first `rows` rows.
     pub fn drop_first(&mut self, rows: usize)
         ensures { rows_of self.new ≡ drop rows (rows_of self.old) }
     {
@@ -142,7 +142,7 @@ impl Ledger {
         self.rows.drop_first(rows);
     }
 
-    /// Lets the row owe what another one does, and nothing else.
+    /// Lets the row `to` owe what the row `from` does, and nothing else.
     pub fn copy(&mut self, from: usize, to: usize)
         requires from { from < length (rows_of self.old) }
         requires to { to < length (rows_of self.old) }
@@ -165,7 +165,7 @@ impl Ledger {
         self.gain_much(row, debt)
     }
 
-    /// The same where the row may be a long one, or become one.
+    /// Lets the row owe one more debt, after its others, where the row may be a long one, or become one. On an error all is as before.
     #[inline(never)]
     fn gain_much(&mut self, row: usize, debt: Debt) -> Result<(), AllocError>
         requires { row < length (rows_of self.old) }
@@ -198,7 +198,7 @@ impl Ledger {
         }
     }
 
-    /// The same of a send of one of these messages.
+    /// Takes out of the row the first debt that a send of one of these messages at the moment pays, and tells whether there was one.
     pub fn pay_any(&mut self, row: usize, numbers: &[u32], moment: u64) -> bool
         requires { row < length (rows_of self.old) }
         ensures paid { OnTrue result (IsWithoutFirst (λ debt. IsTrue (is_any_payable numbers.now moment debt)) (row_of self.old row) (row_of self.new row)) }
@@ -234,7 +234,7 @@ impl Ledger {
         }
     }
 
-    /// Drops what the row may send and whose deadline is below the moment.
+    /// Drops those debts of the row that may be sent, and whose deadline is below the moment.
     #[inline(never)]
     pub fn expire(&mut self, row: usize, moment: u64)
         requires { row < length (rows_of self.old) }
@@ -246,7 +246,7 @@ impl Ledger {
         }
     }
 
-    /// Of what the row owes, nothing has to be sent any more.
+    /// Lets the row owe what it did, but none of it must be sent any more.
     pub fn soften(&mut self, row: usize)
         requires { row < length (rows_of self.old) }
         ensures { rows_of self.new ≡ set (rows_of self.old) row (map softened_debt (row_of self.old row)) }
@@ -257,7 +257,7 @@ impl Ledger {
         }
     }
 
-    /// The row owes nothing any more.
+    /// Lets the row owe nothing.
     pub fn clear(&mut self, row: usize)
         requires { row < length (rows_of self.old) }
         ensures { rows_of self.new ≡ set (rows_of self.old) row [] }
@@ -268,7 +268,7 @@ impl Ledger {
         }
     }
 
-    /// The least deadline of what the row must send.
+    /// The least deadline of what the row must send, and None if it must send nothing.
     #[inline(never)]
     pub fn earliest_must(&self, row: usize) -> Option<u64>
         requires { row < length (rows_of self.now) }
@@ -314,7 +314,7 @@ impl Ledger {
         }
     }
 
-    /// The least and the greatest number of a message that the row owes.
+    /// The least and the greatest number of a message that the row owes, and None if it owes nothing.
     pub fn span(&self, row: usize) -> Option<(u32, u32)>
         requires { row < length (rows_of self.now) }
         ensures some { IfSome result (λ span. IsSpan (row_of self.now row) span.0 span.1) }
@@ -326,7 +326,7 @@ impl Ledger {
         }
     }
 
-    /// Puts the number of each message that the row owes after the others, once for each debt.
+    /// Puts the number of the message of each debt of the row after those in `numbers`, in the order of the debts.
     pub fn names(&self, row: usize, numbers: &mut Vec<u32>) -> Result<(), AllocError>
         requires { row < length (rows_of self.now) }
         ensures { OnOk result (numbers.new.items ≡ numbers.old.items ++ map (λ debt. debt.message) (row_of self.now row)) }
@@ -337,7 +337,7 @@ impl Ledger {
         }
     }
 
-    /// What the row owes, with equal neighbours in one.
+    /// What the row owes, in runs: equal debts side by side stand in one.
     pub fn runs(&self, alloc: Global, row: usize) -> Result<Vec<Run>, AllocError>
         requires { row < length (rows_of self.now) }
         ensures { IfOk result (λ runs. AreRuns (row_of self.now row) runs.items) }
@@ -348,8 +348,8 @@ impl Ledger {
         }
     }
 
-    /// Lets entries that no row owes go, where they fill half of the words or more, from the first one on. A long row that owes
-    /// little any more stands over a list of entries again, if there is memory.
+    /// Drops entries that no row owes, from the first one on, where they fill half of the words or more. A long row that owes
+    /// little by now stands over a list of entries again, if there is memory.
     pub fn tidy(&mut self)
         ensures { rows_of self.new ≡ rows_of self.old }
     {
@@ -367,7 +367,7 @@ impl Ledger {
     }
 }
 
-/// A row that owes no more than so many debts is not long.
+/// A row that owes no more debts than this need not be a long row.
 const LITTLE: usize = 16;
 
 /// What the only row owes, and one debt more, as a long row.
@@ -382,7 +382,7 @@ fn lengthened(rows: &Rows, debt: Debt) -> Result<Box<LongRow>, AllocError>
     Ok(Box::new(rows.allocator(), long)?)
 }
 
-/// One row that owes what the long row does.
+/// Rows of which the only one owes what the long row does.
 #[inline(never)]
 fn shortened(alloc: Global, long: &LongRow) -> Result<Rows, AllocError>
     ensures { IfOk result (λ rows. grid_rows rows ≡ values_of long.now ∷ []) }

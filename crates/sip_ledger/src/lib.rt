@@ -1,6 +1,7 @@
-//! What the states of one set owe: one list of debts for all, and for each state a row of bits over it.
+//! What the states of one set owe: one list of debts for all of them, and for each state a row of bits over it.
 #![tactic(auto)]
 
+mod accounts;
 mod bits;
 mod debt;
 mod index;
@@ -14,6 +15,7 @@ mod run;
 mod table;
 mod words;
 
+pub use crate::accounts::Accounts;
 pub use crate::debt::Debt;
 pub use crate::ledger::Ledger;
 pub use crate::run::Run;

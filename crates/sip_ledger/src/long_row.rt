@@ -1,4 +1,4 @@
-//! Many debts of one row.
+//! A row that owes many debts.
 ghost use Rattle.std.specs.Prelude.{◌≡◌, ◌==◌, ◌↔◌, ◌<◌, ◌≤◌, ◌-◌, ◌^◌, ◌++◌, ◌∷◌, [], ℕ, Bool, cond, None, true, false, IsTrue, IfSome, IfNone, IfOk, OnOk, OnErr, All, length, filter, map, nat_le};
 ghost use Rattle.std.specs.Bool.{OnTrue, OnFalse};
 ghost use Rattle.std.specs.Option.{option_map};
@@ -20,8 +20,8 @@ use std::alloc::{AllocError, Global};
 use std::collections::BTreeMap;
 use std::marker::Model;
 
-/// What one row owes, oldest first, where it owes much: each debt has a number, which rises, and is found by its message and
-/// by its deadline in few steps. Contracts see the debts in their order, each with its number.
+/// What one row owes, oldest first, where it owes much. Each debt has a number, which rises, and is found by its message or its
+/// deadline in few steps. Contracts see the debts in their order, each with its number.
 #[derive(Debug, Drop)]
 pub(crate) struct LongRow {
     debts: BTreeMap<u64, Debt>,
@@ -42,7 +42,7 @@ impl Model for LongRow {
 }
 
 impl LongRow {
-    /// Nothing is owed.
+    /// A long row that owes nothing.
     pub(crate) fn new(alloc: Global) -> Self
         ensures { result ≡ [] }
     {
@@ -53,7 +53,7 @@ impl LongRow {
         }
     }
 
-    /// These debts are owed.
+    /// A long row that owes these debts.
     #[inline(never)]
     pub(crate) fn of(alloc: Global, debts: &[Debt]) -> Result<LongRow, AllocError>
         ensures { IfOk result (λ row. values_of row ≡ debts.now) }
@@ -65,7 +65,7 @@ impl LongRow {
         Ok(row)
     }
 
-    /// One more debt is owed, after the others. On an error all is as before.
+    /// Lets the row owe one more debt, after the others. On an error all is as before.
     #[inline(never)]
     pub(crate) fn gain(&mut self, debt: Debt) -> Result<(), AllocError>
         ensures ok { OnOk result (values_of self.new ≡ values_of self.old ++ debt ∷ []) }
@@ -110,7 +110,7 @@ impl LongRow {
         }
     }
 
-    /// The same of a send of one of these messages.
+    /// Takes out the first debt that a send of one of these messages at the moment pays, and tells whether there was one.
     #[inline(never)]
     pub(crate) fn pay_any(&mut self, numbers: &[u32], moment: u64) -> bool
         ensures paid { OnTrue result (IsWithoutFirst (λ debt. IsTrue (is_any_payable numbers.now moment debt)) (values_of self.old) (values_of self.new)) }
@@ -141,7 +141,7 @@ impl LongRow {
         self.first_of_any(numbers, moment).is_some()
     }
 
-    /// The number of the first debt that a send of the message at the moment pays.
+    /// The number of the first debt that a send of the message at the moment pays, if there is one.
     fn first_payable(&self, message: u32, moment: u64) -> Option<u64>
         ensures { IsFound (is_payable message moment) self.now result }
     {
@@ -155,7 +155,7 @@ impl LongRow {
         None
     }
 
-    /// The same of a send of one of these messages.
+    /// The number of the first debt that a send of one of these messages at the moment pays, if there is one.
     fn first_of_any(&self, numbers: &[u32], moment: u64) -> Option<u64>
         ensures { IsFound (is_any_payable numbers.now moment) self.now result }
     {
@@ -176,7 +176,7 @@ impl LongRow {
         }
     }
 
-    /// Drops what may be sent and whose deadline is below the moment.
+    /// Drops the debts that may be sent, and whose deadline is below the moment.
     #[inline(never)]
     pub(crate) fn expire(&mut self, moment: u64)
         ensures { values_of self.new ≡ filter (counts_at moment) (values_of self.old) }
@@ -193,7 +193,7 @@ impl LongRow {
         }
     }
 
-    /// Whether no deadline is below the moment.
+    /// Whether it is sure that nothing expires: the first deadline is not below the moment.
     fn is_fresh(&self, moment: u64) -> bool
         ensures { OnTrue result (filter (counts_at moment) (values_of self.now) ≡ values_of self.now) }
     {
@@ -203,7 +203,7 @@ impl LongRow {
         }
     }
 
-    /// The first deadline below the moment, from this one and this number on, and the number of its debt.
+    /// The first deadline below the moment, from (deadline, from) on, with the number of its debt.
     fn first_past(&self, moment: u64, deadline: u64, from: u64) -> Option<(u64, u64)>
         ensures found { IfSome result (IsFirstPast self.now moment deadline from) }
         ensures none { IfNone result (NonePast self.now moment deadline from) }
@@ -235,7 +235,7 @@ impl LongRow {
         }
     }
 
-    /// Nothing has to be sent any more.
+    /// Lets the row owe what it did, but none of it must be sent any more.
     #[inline(never)]
     pub(crate) fn soften(&mut self)
         ensures { values_of self.new ≡ map softened_debt (values_of self.old) }
@@ -243,7 +243,7 @@ impl LongRow {
         soften_all(&mut self.debts, &mut self.indexes.due);
     }
 
-    /// The least deadline of what must be sent.
+    /// The least deadline of what must be sent, and None if nothing must be.
     #[inline(never)]
     pub(crate) fn earliest_must(&self) -> Option<u64>
         ensures { result ≡ earliest (debt_deadlines (values_of self.now)) }
@@ -269,7 +269,7 @@ impl LongRow {
         self.debts.is_empty()
     }
 
-    /// The least and the greatest number of a message that is owed.
+    /// The least and the greatest number of a message that is owed, and None if nothing is.
     #[inline(never)]
     pub(crate) fn span(&self) -> Option<(u32, u32)>
         ensures some { IfSome result (λ span. IsSpan (values_of self.now) span.0 span.1) }
@@ -282,7 +282,7 @@ impl LongRow {
         Some((least.message, greatest.message))
     }
 
-    /// What is owed.
+    /// The debts of the row, in their order.
     #[inline(never)]
     pub(crate) fn debts(&self, alloc: Global) -> Result<Vec<Debt>, AllocError>
         ensures { IfOk result (λ debts. debts.items ≡ values_of self.now) }
@@ -294,7 +294,7 @@ impl LongRow {
         Ok(debts)
     }
 
-    /// Puts the number of each message that is owed after the others, once for each debt.
+    /// Puts the number of the message of each debt after those in `numbers`, in the order of the debts.
     #[inline(never)]
     pub(crate) fn names(&self, numbers: &mut Vec<u32>) -> Result<(), AllocError>
         ensures { OnOk result (numbers.new.items ≡ numbers.old.items ++ map (λ debt. debt.message) (values_of self.now)) }
@@ -305,7 +305,7 @@ impl LongRow {
         Ok(())
     }
 
-    /// What is owed, with equal neighbours in one.
+    /// What the row owes, in runs: equal debts side by side stand in one.
     #[inline(never)]
     pub(crate) fn runs(&self, alloc: Global) -> Result<Vec<Run>, AllocError>
         ensures { IfOk result (λ runs. AreRuns (values_of self.now) runs.items) }
@@ -315,7 +315,7 @@ impl LongRow {
     }
 }
 
-/// The lesser of two numbers, where there are both.
+/// The lesser of two numbers, or the one that there is.
 fn earlier(one: Option<u64>, other: Option<u64>) -> Option<u64>
     ensures { result ≡ least_of one other }
 {
@@ -326,7 +326,7 @@ fn earlier(one: Option<u64>, other: Option<u64>) -> Option<u64>
     }
 }
 
-/// None of the debts has to be sent any more.
+/// Lets none of the debts be one that must be sent, and empties the index of those that were.
 fn soften_all(debts: &mut BTreeMap<u64, Debt>, due: &mut Index)
     requires ordered { IsStrictlySortedBy nat_cmp (keys_of debts.old.entries) }
     requires due { IsIndexed is_due debts.old.entries due.old }
@@ -338,7 +338,7 @@ fn soften_all(debts: &mut BTreeMap<u64, Debt>, due: &mut Index)
     }
 }
 
-/// The debt with the number has not to be sent any more.
+/// Lets the debt with the number be one that need not be sent any more.
 fn soften_one(debts: &mut BTreeMap<u64, Debt>, number: u64)
     ensures one { (n : ℕ) → debt_at debts.new.entries n ≡ cond (n == number) (option_map softened_debt (debt_at debts.old.entries n)) (debt_at debts.old.entries n) }
     ensures all { softened_all debts.new.entries ≡ softened_all debts.old.entries }

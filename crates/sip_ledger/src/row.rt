@@ -16,12 +16,12 @@ use crate::debt::{Debt, Entry};
 use crate::run::{Run, runs_of};
 use std::alloc::{AllocError, Global};
 
-/// A bit, and where the gap before it begins.
+/// A bit that is set, and where the gap before it begins.
 #[derive(Clone, Copy, Debug)]
 pub(crate) struct FoundBit {
-    /// One past the bit before it.
+    /// One past the bit before it, and 0 if there is none.
     low: usize,
-    /// The bit.
+    /// The place of the bit.
     at: usize,
 }
 
@@ -47,7 +47,7 @@ pub(crate) fn first_payable(
     None
 }
 
-/// The first bit of the word that the mask has too.
+/// The first bit of the word that the mask has as well, if they share one.
 pub(crate) fn first_in(owed: u64, bits: u64) -> Option<FoundBit>
     ensures found { IfSome result (IsFirstIn owed bits) }
     ensures none { IfNone result ((k : ℕ) → has (owed ∷ []) k ≡ true → test bits k ≡ false) }
@@ -64,7 +64,7 @@ pub(crate) fn first_in(owed: u64, bits: u64) -> Option<FoundBit>
     })
 }
 
-/// Whether each bit of the word that the mask has too must be sent.
+/// Whether each bit of the word that the mask has as well must be sent.
 pub(crate) fn keeps_past(owed: u64, must: u64, bits: u64) -> bool
     ensures { (moment : ℕ) (entries : List Entry) → IsMask (asked_of None moment) entries (length entries) bits →
         IsRow entries (has (owed ∷ [])) (has (must ∷ [])) →
@@ -80,7 +80,7 @@ fn is_paid(entry: Entry, numbers: &[u32], moment: u64) -> bool
     moment <= entry.deadline && numbers.contains(&entry.message)
 }
 
-/// Takes out the debt at the place.
+/// Clears the bit at the place, and lets the bits after it move where they may stand earlier.
 pub(crate) fn take_out(
     entries: &[Entry],
     rises: bool,
@@ -103,7 +103,7 @@ pub(crate) fn take_out(
     settle(entries, rises, owed, must, place);
 }
 
-/// Moves bits that have room before them to where they can stand earliest, until one stands that has no hole before it.
+/// Moves bits that have room before them to the earliest place where each can stand, until one stands that has no hole before it.
 fn settle(entries: &[Entry], rises: bool, owed: &mut [u64], must: &mut [u64], place: FoundBit)
     requires rising { rises ≡ true → AreRising entries.now }
     requires given { IsOpenRow entries.now (has owed.old) (has must.old) place.low place.at }
@@ -130,7 +130,7 @@ fn settle(entries: &[Entry], rises: bool, owed: &mut [u64], must: &mut [u64], pl
     }
 }
 
-/// The first entry from here on that is equal to the one at the index.
+/// The first entry from `low` on that is equal to the one at `at`.
 pub(crate) fn first_equal(entries: &[Entry], rises: bool, low: usize, at: usize) -> usize
     requires rising { rises ≡ true → AreRising entries.now }
     requires order { low ≤ at }
@@ -146,7 +146,7 @@ pub(crate) fn first_equal(entries: &[Entry], rises: bool, low: usize, at: usize)
     }
 }
 
-/// The same where deadlines never fall: equal entries stand among those of one deadline.
+/// The first entry from `low` on that is equal to the one at `at`, where deadlines never fall: equal ones stand among those of one deadline.
 fn first_of_deadline(entries: &[Entry], low: usize, at: usize) -> usize
     requires rising { AreRising entries.now }
     requires order { low ≤ at }
@@ -158,7 +158,7 @@ fn first_of_deadline(entries: &[Entry], low: usize, at: usize) -> usize
     first_of_all(entries, start_of_deadline(entries, low, at), at)
 }
 
-/// Where the entries of one deadline begin that end with the one at the index, or here if they begin before.
+/// Where the entries begin that have the deadline of the one at `at` and end with it, or `low` where they begin before.
 fn start_of_deadline(entries: &[Entry], low: usize, at: usize) -> usize
     requires order { low ≤ at }
     requires within { at < length entries.now }
@@ -173,7 +173,7 @@ fn start_of_deadline(entries: &[Entry], low: usize, at: usize) -> usize
     start
 }
 
-/// The same whatever the deadlines are.
+/// The first entry from `low` on that is equal to the one at `at`, whatever the deadlines are.
 fn first_of_all(entries: &[Entry], low: usize, at: usize) -> usize
     requires order { low ≤ at }
     requires within { at < length entries.now }
@@ -205,7 +205,7 @@ fn move_bit(owed: &mut [u64], must: &mut [u64], from: usize, to: usize)
     }
 }
 
-/// Where a debt of this entry is gained: the index of an entry that is there, or the number of all.
+/// Where a debt of this entry is gained: the index of an equal entry, or the number of entries where a new one must be put.
 pub(crate) fn gained_at(entries: &[Entry], owed: &[u64], entry: Entry) -> usize
     requires within { (k : ℕ) → has owed.now k ≡ true → k < length entries.now }
     requires fits { 64 * length owed.now < 2 ^ 64 }
@@ -218,7 +218,7 @@ pub(crate) fn gained_at(entries: &[Entry], owed: &[u64], entry: Entry) -> usize
     at
 }
 
-/// Sets a bit after the others.
+/// Sets the bit at `at`, which is after all others, and in `must` as well if it is due.
 pub(crate) fn owe(owed: &mut [u64], must: &mut [u64], at: usize, due: bool)
     requires owed { at / 64 < length owed.old }
     requires must { at / 64 < length must.old }
@@ -234,7 +234,7 @@ pub(crate) fn owe(owed: &mut [u64], must: &mut [u64], at: usize, due: bool)
     }
 }
 
-/// Whether nothing is owed.
+/// Whether the row owes nothing: no bit is set.
 pub(crate) fn owes_nothing(owed: &[u64]) -> bool
     requires { 64 * length owed.now < 2 ^ 64 }
     ensures { (entries : List Entry) (must : List ℕ) → IsRow entries (has owed.now) (has must) →
@@ -243,7 +243,7 @@ pub(crate) fn owes_nothing(owed: &[u64]) -> bool
     end(owed) == 0
 }
 
-/// The least deadline of what must be sent.
+/// The least deadline of what must be sent, and None if nothing must be.
 pub(crate) fn earliest_must(entries: &[Entry], must: &[u64]) -> Option<u64>
     requires within { (k : ℕ) → has must.now k ≡ true → k < length entries.now }
     requires fits { 64 * length must.now < 2 ^ 64 }
@@ -259,7 +259,7 @@ pub(crate) fn earliest_must(entries: &[Entry], must: &[u64]) -> Option<u64>
     least
 }
 
-/// The same where deadlines never fall.
+/// The least deadline of what must be sent, where deadlines never fall: that of the first bit.
 pub(crate) fn first_must(entries: &[Entry], must: &[u64]) -> Option<u64>
     requires within { (k : ℕ) → has must.now k ≡ true → k < length entries.now }
     requires fits { 64 * length must.now < 2 ^ 64 }
@@ -273,7 +273,7 @@ pub(crate) fn first_must(entries: &[Entry], must: &[u64]) -> Option<u64>
     }
 }
 
-/// The earlier of a moment and another one, if there is one.
+/// The earlier of a moment and another one, if there is another.
 fn earlier(moment: u64, other: Option<u64>) -> u64
     ensures { Some result ≡ earliest (moment ∷ option_to_list other) }
 {
@@ -283,7 +283,7 @@ fn earlier(moment: u64, other: Option<u64>) -> u64
     }
 }
 
-/// Drops what may be sent and whose deadline is below the moment.
+/// Drops the debts that may be sent, and whose deadline is below the moment.
 pub(crate) fn expire(
     entries: &[Entry],
     rises: bool,
@@ -307,7 +307,7 @@ pub(crate) fn expire(
     settle(entries, rises, owed, must, all);
 }
 
-/// Whether it is plain that nothing expires, where deadlines never fall: the first of what is owed does not.
+/// Whether it is plain that nothing expires, where deadlines never fall: the deadline of the first debt is not below the moment.
 pub(crate) fn is_fresh(entries: &[Entry], owed: &[u64], moment: u64) -> bool
     requires within { (k : ℕ) → has owed.now k ≡ true → k < length entries.now }
     requires fits { 64 * length owed.now < 2 ^ 64 }
@@ -320,7 +320,7 @@ pub(crate) fn is_fresh(entries: &[Entry], owed: &[u64], moment: u64) -> bool
     }
 }
 
-/// Clears the bits of what may be sent and whose deadline is below the moment.
+/// Clears the bits of the debts that may be sent, and whose deadline is below the moment.
 fn drop_past(entries: &[Entry], owed: &mut [u64], must: &[u64], moment: u64)
     requires within { (k : ℕ) → has owed.old k ≡ true → k < length entries.now }
     requires owed { length entries.now ≤ 64 * length owed.old }
@@ -336,7 +336,7 @@ fn drop_past(entries: &[Entry], owed: &mut [u64], must: &[u64], moment: u64)
     }
 }
 
-/// Puts the number of each message that is owed after the others, once for each debt.
+/// Puts the number of the message of each debt after those in `numbers`, in the order of the debts.
 pub(crate) fn names(
     entries: &[Entry],
     owed: &[u64],
@@ -354,7 +354,7 @@ pub(crate) fn names(
     Ok(())
 }
 
-/// What is owed, with equal neighbours in one.
+/// What the row owes, in runs: equal debts side by side stand in one.
 pub(crate) fn runs(
     alloc: Global,
     entries: &[Entry],
@@ -369,7 +369,7 @@ pub(crate) fn runs(
     runs_of(alloc, &owed)
 }
 
-/// What is owed.
+/// The debts of the row, in their order.
 pub(crate) fn debts(
     alloc: Global,
     entries: &[Entry],
@@ -394,7 +394,7 @@ pub(crate) fn debts(
     Ok(debts)
 }
 
-/// The least and the greatest number of a message that is owed.
+/// The least and the greatest number of a message that the row owes, and None if it owes nothing.
 pub(crate) fn span(entries: &[Entry], owed: &[u64]) -> Option<(u32, u32)>
     requires within { (k : ℕ) → has owed.now k ≡ true → k < length entries.now }
     requires fits { 64 * length owed.now < 2 ^ 64 }

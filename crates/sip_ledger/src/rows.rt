@@ -1,4 +1,4 @@
-//! What many rows owe.
+//! What many rows owe, over one list of entries.
 ghost use Rattle.std.specs.Prelude.{◌≡◌, ◌↔◌, ◌<◌, ◌++◌, ◌∷◌, [], ℕ, List, IsTrue, OnOk, OnErr, IfOk, IfSome, IfNone, is_some, None, Bool, All, true, length, set, map, filter, take, drop};
 ghost use Rattle.std.specs.Bool.{OnTrue, OnFalse};
 ghost use Rattle.std.specs.List.{list_any};
@@ -49,7 +49,7 @@ impl Model for Rows {
 }
 
 impl Rows {
-    /// There are no rows.
+    /// Rows of which there is none yet.
     pub(crate) fn new(alloc: Global) -> Self
         ensures { grid_rows result ≡ [] }
     {
@@ -106,7 +106,7 @@ impl Rows {
         Ok(())
     }
 
-    /// Keeps the first rows.
+    /// Keeps the first `rows` rows, and drops those after them.
     pub(crate) fn truncate(&mut self, rows: usize)
         ensures { grid_rows self.new ≡ take rows (grid_rows self.old) }
     {
@@ -118,7 +118,7 @@ impl Rows {
         }
     }
 
-    /// Drops the first rows.
+    /// Drops the first `rows` rows.
     pub(crate) fn drop_first(&mut self, rows: usize)
         ensures { grid_rows self.new ≡ drop rows (grid_rows self.old) }
     {
@@ -129,7 +129,7 @@ impl Rows {
         self.rows -= dropped;
     }
 
-    /// Lets the row owe what another one does, and nothing else.
+    /// Lets the row `to` owe what the row `from` does, and nothing else.
     pub(crate) fn copy(&mut self, from: usize, to: usize)
         requires from { from < length (grid_rows self.old) }
         requires to { to < length (grid_rows self.old) }
@@ -161,7 +161,7 @@ impl Rows {
         Ok(())
     }
 
-    /// Where the row gains a debt of this entry: the index of one that is there now. On an error all is as before.
+    /// Where the row gains a debt of this entry: the index of an entry that is there by now. On an error all is as before.
     fn place(&mut self, row: usize, entry: Entry) -> Result<usize, AllocError>
         requires { row < length (grid_rows self.old) }
         ensures ok { IfOk result (IsPlace row entry self.old self.new) }
@@ -175,7 +175,7 @@ impl Rows {
         Ok(at)
     }
 
-    /// Puts an entry after the others, which no row owes. On an error all is as before.
+    /// Puts an entry, which no row owes, after the others. On an error all is as before.
     fn grow(&mut self, entry: Entry) -> Result<(), AllocError>
         ensures ok { OnOk result (IsGrown entry self.old self.new) }
         ensures err { OnErr result (self.new ≡ self.old) }
@@ -214,7 +214,7 @@ impl Rows {
         }
     }
 
-    /// The same of a send of one of these messages.
+    /// Takes out of the row the first debt that a send of one of these messages at the moment pays, and tells whether there was one.
     pub(crate) fn pay_any(&mut self, row: usize, numbers: &[u32], moment: u64) -> bool
         requires { row < length (grid_rows self.old) }
         ensures paid { OnTrue result (IsWithoutFirst (λ debt. IsTrue (is_any_payable numbers.now moment debt)) (grid_row self.old row) (grid_row self.new row)) }
@@ -263,7 +263,7 @@ impl Rows {
         }
     }
 
-    /// The same of a send of one of these messages.
+    /// The first bit of the row whose debt a send of one of these messages at the moment pays.
     fn first_of_any(&self, row: usize, numbers: &[u32], moment: u64) -> Option<FoundBit>
         requires { row < length (grid_rows self.now) }
         ensures found { IfSome result (IsFirst (is_any_payable numbers.now moment) self.now.entries (has (part self.now.width row self.now.owed))) }
@@ -292,7 +292,7 @@ impl Rows {
         );
     }
 
-    /// Which entries a send of the message at the moment pays, where one word has all of them.
+    /// A bit for each entry that a send of the message at the moment pays, where one word has all entries.
     fn payable_bits(&mut self, message: u32, moment: u64) -> u64
         requires { self.old.width ≡ 1 }
         ensures same { self.new ≡ self.old }
@@ -309,7 +309,7 @@ impl Rows {
         self.payable.bits
     }
 
-    /// Which entries are past at the moment, where one word has all of them.
+    /// A bit for each entry that is past at the moment, where one word has all entries.
     fn past_bits(&mut self, moment: u64) -> u64
         requires { self.old.width ≡ 1 }
         ensures same { self.new ≡ self.old }
@@ -326,7 +326,7 @@ impl Rows {
         self.past.bits
     }
 
-    /// Drops what the row may send and whose deadline is below the moment.
+    /// Drops those debts of the row that may be sent, and whose deadline is below the moment.
     pub(crate) fn expire(&mut self, row: usize, moment: u64)
         requires { row < length (grid_rows self.old) }
         ensures rows { grid_rows self.new ≡ set (grid_rows self.old) row (filter (counts_at moment) (grid_row self.old row)) }
@@ -346,7 +346,7 @@ impl Rows {
         );
     }
 
-    /// Whether it is plain that nothing of the row expires.
+    /// Whether it is plain that nothing of what the row owes expires.
     fn is_fresh(&mut self, row: usize, moment: u64) -> bool
         requires { row < length (grid_rows self.old) }
         ensures same { self.new ≡ self.old }
@@ -359,7 +359,7 @@ impl Rows {
         self.rises && table::is_fresh(&self.entries, &self.owed, self.width, row, moment)
     }
 
-    /// Of what the row owes, nothing has to be sent any more.
+    /// Lets the row owe what it did, but none of it must be sent any more.
     pub(crate) fn soften(&mut self, row: usize)
         requires { row < length (grid_rows self.old) }
         ensures { grid_rows self.new ≡ set (grid_rows self.old) row (map softened_debt (grid_row self.old row)) }
@@ -367,7 +367,7 @@ impl Rows {
         table::clear(&mut self.must, self.width, row);
     }
 
-    /// The row owes nothing any more.
+    /// Lets the row owe nothing.
     pub(crate) fn clear(&mut self, row: usize)
         requires { row < length (grid_rows self.old) }
         ensures { grid_rows self.new ≡ set (grid_rows self.old) row [] }
@@ -376,7 +376,7 @@ impl Rows {
         table::clear(&mut self.must, self.width, row);
     }
 
-    /// The least deadline of what the row must send.
+    /// The least deadline of what the row must send, and None if it must send nothing.
     pub(crate) fn earliest_must(&self, row: usize) -> Option<u64>
         requires { row < length (grid_rows self.now) }
         ensures { result ≡ earliest (debt_deadlines (grid_row self.now row)) }
@@ -416,7 +416,7 @@ impl Rows {
         table::print(owed, &self.must, self.width, row)
     }
 
-    /// Puts the number of each message that the row owes after the others, once for each debt.
+    /// Puts the number of the message of each debt of the row after those in `numbers`, in the order of the debts.
     pub(crate) fn names(&self, row: usize, numbers: &mut Vec<u32>) -> Result<(), AllocError>
         requires { row < length (grid_rows self.now) }
         ensures { OnOk result (numbers.new.items ≡ numbers.old.items ++ map (λ debt. debt.message) (grid_row self.now row)) }
@@ -424,7 +424,7 @@ impl Rows {
         table::names(&self.entries, &self.owed, self.width, row, numbers)
     }
 
-    /// The least and the greatest number of a message that the row owes.
+    /// The least and the greatest number of a message that the row owes, and None if it owes nothing.
     pub(crate) fn span(&self, row: usize) -> Option<(u32, u32)>
         requires { row < length (grid_rows self.now) }
         ensures some { IfSome result (λ span. IsSpan (grid_row self.now row) span.0 span.1) }
@@ -433,7 +433,7 @@ impl Rows {
         table::span(&self.entries, &self.owed, self.width, row)
     }
 
-    /// What the row owes.
+    /// The debts of the row, in their order.
     pub(crate) fn debts(&self, row: usize) -> Result<Vec<Debt>, AllocError>
         requires { row < length (grid_rows self.now) }
         ensures { IfOk result (λ debts. debts.items ≡ grid_row self.now row) }
@@ -448,12 +448,12 @@ impl Rows {
         )
     }
 
-    /// The allocator.
+    /// The allocator of the rows.
     pub(crate) fn allocator(&self) -> Global {
         *self.entries.allocator()
     }
 
-    /// Whether there is one row alone, and one more entry would take a word more, which is not the first.
+    /// Whether there is one row alone, and one more entry would take it a second word or a later one.
     pub(crate) fn is_crowded(&self) -> bool
         ensures { result ≡ true → length (grid_rows self.now) ≡ 1 }
     {
@@ -463,7 +463,7 @@ impl Rows {
         self.width > 0 && self.entries.len() >= 64 * self.width
     }
 
-    /// What the row owes, with equal neighbours in one.
+    /// What the row owes, in runs: equal debts side by side stand in one.
     pub(crate) fn runs(&self, alloc: Global, row: usize) -> Result<Vec<Run>, AllocError>
         requires { row < length (grid_rows self.now) }
         ensures { IfOk result (λ runs. AreRuns (grid_row self.now row) runs.items) }
@@ -478,7 +478,7 @@ impl Rows {
         )
     }
 
-    /// Lets entries that no row owes go, where they fill half of the words or more, from the first one on.
+    /// Drops entries that no row owes, from the first one on, where they fill half of the words or more.
     pub(crate) fn tidy(&mut self)
         ensures { grid_rows self.new ≡ grid_rows self.old }
     {
@@ -496,7 +496,7 @@ impl Rows {
     }
 }
 
-/// Whether deadlines never fall, with one entry more.
+/// Whether deadlines never fall, with this entry after the others.
 fn rise(entries: &[Entry], rises: bool, entry: Entry) -> bool
     requires { rises ≡ true → AreRising entries.now }
     ensures { result ≡ true → AreRising (entries.now ++ entry ∷ []) }

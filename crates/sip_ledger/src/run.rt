@@ -10,13 +10,13 @@ use std::alloc::{AllocError, Global};
 /// Equal debts, one after another.
 #[derive(Clone, Copy, Debug, PartialEq, Eq)]
 pub struct Run {
-    /// Each of them.
+    /// The debt of which they are.
     pub debt: Debt,
-    /// How many there are.
+    /// How many of them there are.
     pub count: usize,
 }
 
-/// Puts a debt after the others, into the last run if that is of its equals.
+/// Puts a debt after those of the runs: into the last run, if that is of the same debt.
 fn append(runs: &mut Vec<Run>, debt: Debt) -> Result<(), AllocError>
     requires { length (debts_in runs.old.items) < 2 ^ 64 - 1 }
     ensures { (debts : List Debt) → AreRuns debts runs.old.items → OnOk result (AreRuns (debts ++ debt ∷ []) runs.new.items) }
@@ -30,7 +30,7 @@ fn append(runs: &mut Vec<Run>, debt: Debt) -> Result<(), AllocError>
     Ok(())
 }
 
-/// These debts, with equal neighbours in one.
+/// The runs of these debts: equal debts side by side stand in one.
 pub(crate) fn runs_of(alloc: Global, debts: &[Debt]) -> Result<Vec<Run>, AllocError>
     requires { length debts.now < 2 ^ 64 - 1 }
     ensures { IfOk result (λ runs. AreRuns debts.now runs.items) }

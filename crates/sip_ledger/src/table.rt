@@ -1,4 +1,4 @@
-//! Rows of words, one after another.
+//! The words of rows, one row after another, and what is asked of one row and done to it.
 ghost use Rattle.std.specs.Prelude.{◌≡◌, ◌↔◌, ◌<◌, ◌≤◌, ◌+◌, ◌*◌, ◌^◌, ◌++◌, ◌∷◌, [], ℕ, Bool, List, IsTrue, IfSome, IfNone, IfOk, OnOk, true, false, length, filter, fold, map};
 ghost use Rattle.std.specs.Bool.{OnTrue};
 ghost use Rattle.sip_ledger.specs.Bits.{has};
@@ -66,7 +66,7 @@ pub(crate) fn take_out(
     );
 }
 
-/// Drops what the row may send and whose deadline is below the moment.
+/// Drops those debts of the row that may be sent, and whose deadline is below the moment.
 pub(crate) fn expire(
     entries: &[Entry],
     rises: bool,
@@ -111,7 +111,7 @@ pub(crate) fn is_fresh(
     row::is_fresh(entries, &owed[start..end], moment)
 }
 
-/// Clears the bits of the row.
+/// Clears all bits of the row.
 pub(crate) fn clear(words: &mut [u64], width: usize, row: usize)
     requires { IsInside width row words.old }
     ensures changes { ChangesRow width row words.old words.new }
@@ -122,7 +122,7 @@ pub(crate) fn clear(words: &mut [u64], width: usize, row: usize)
     bits::clear_all(&mut words[start..end]);
 }
 
-/// Gives the row the bits of another one.
+/// Gives the row `to` the bits of the row `from`.
 pub(crate) fn copy(words: &mut [u64], width: usize, from: usize, to: usize)
     requires from { IsInside width from words.old }
     requires to { IsInside width to words.old }
@@ -145,7 +145,7 @@ pub(crate) fn owes_nothing(owed: &[u64], width: usize, row: usize) -> bool
     row::owes_nothing(&owed[start..end])
 }
 
-/// The least deadline of what the row must send.
+/// The least deadline of what the row must send, and None if it must send nothing.
 pub(crate) fn earliest_must(
     entries: &[Entry],
     must: &[u64],
@@ -163,7 +163,7 @@ pub(crate) fn earliest_must(
     row::earliest_must(entries, &must[start..end])
 }
 
-/// The same where deadlines never fall.
+/// The least deadline of what the row must send, where deadlines never fall.
 pub(crate) fn first_must(entries: &[Entry], must: &[u64], width: usize, row: usize) -> Option<u64>
     requires inside { IsInside width row must.now }
     requires within { (k : ℕ) → has (part width row must.now) k ≡ true → k < length entries.now }
@@ -180,7 +180,7 @@ pub(crate) fn first_must(entries: &[Entry], must: &[u64], width: usize, row: usi
     row::first_must(entries, &must[start..end])
 }
 
-/// Where the row gains a debt of this entry: the index of an entry that is there, or the number of all.
+/// Where the row gains a debt of this entry: the index of an equal entry, or the number of entries where a new one must be put.
 pub(crate) fn gained_at(
     entries: &[Entry],
     owed: &[u64],
@@ -198,7 +198,7 @@ pub(crate) fn gained_at(
     row::gained_at(entries, &owed[start..end], entry)
 }
 
-/// Lets the row gain a debt, at the index of its entry after the others.
+/// Lets the row gain a debt, at the index of an entry after the row's other bits.
 pub(crate) fn gain(
     owed: &mut [u64],
     must: &mut [u64],
@@ -236,7 +236,7 @@ pub(crate) fn same(words: &[u64], width: usize, row: usize, other: usize) -> boo
     }
 }
 
-/// The same word by word.
+/// Whether two rows have the same bits, found word by word.
 #[inline(never)]
 fn same_words(words: &[u64], width: usize, row: usize, other: usize) -> bool
     requires row { IsInside width row words.now }
@@ -248,7 +248,7 @@ fn same_words(words: &[u64], width: usize, row: usize, other: usize) -> bool
     &words[start..start + width] == &words[begin..begin + width]
 }
 
-/// A number for the words of the row, from another one.
+/// A number that is made of `seed` and the words of the row.
 pub(crate) fn print(seed: u64, words: &[u64], width: usize, row: usize) -> u64
     requires { IsInside width row words.now }
     ensures print { result ≡ fold mixed seed (part width row words.now) }
@@ -259,7 +259,7 @@ pub(crate) fn print(seed: u64, words: &[u64], width: usize, row: usize) -> u64
     words::print(seed, &words[start..end])
 }
 
-/// Puts the number of each message that the row owes after the others, once for each debt.
+/// Puts the number of the message of each debt of the row after those in `numbers`, in the order of the debts.
 pub(crate) fn names(
     entries: &[Entry],
     owed: &[u64],
@@ -277,7 +277,7 @@ pub(crate) fn names(
     row::names(entries, &owed[start..end], numbers)
 }
 
-/// What the row owes, with equal neighbours in one.
+/// What the row owes, in runs: equal debts side by side stand in one.
 pub(crate) fn runs(
     alloc: Global,
     entries: &[Entry],
@@ -294,7 +294,7 @@ pub(crate) fn runs(
     row::runs(alloc, entries, &owed[start..end], &must[start..end])
 }
 
-/// What the row owes.
+/// The debts of the row, in their order.
 pub(crate) fn debts(
     alloc: Global,
     entries: &[Entry],
@@ -311,7 +311,7 @@ pub(crate) fn debts(
     row::debts(alloc, entries, &owed[start..end], &must[start..end])
 }
 
-/// The least and the greatest number of a message that the row owes.
+/// The least and the greatest number of a message that the row owes, and None if it owes nothing.
 pub(crate) fn span(entries: &[Entry], owed: &[u64], width: usize, row: usize) -> Option<(u32, u32)>
     requires inside { IsInside width row owed.now }
     requires within { (k : ℕ) → has (part width row owed.now) k ≡ true → k < length entries.now }

@@ -1,4 +1,4 @@
-//! The words of all rows, one row after another.
+//! The words of all rows of what is owed and of what must be sent, one row after another.
 ghost use Rattle.std.specs.Prelude.{◌≡◌, ◌<◌, ◌≤◌, ◌+◌, ◌-◌, ◌*◌, ◌++◌, ℕ, IsOk, OnOk, OnErr, IfOk, length, drop, fold, get_or, replicate, take};
 ghost use Rattle.std.specs.Vec.{vec_len, vec_capacity};
 ghost use Rattle.sip_ledger.specs.Grids.{part};
@@ -7,7 +7,7 @@ ghost use Rattle.sip_ledger.specs.inner.Tables.{AreWords, IsInside, IsWidened, I
 
 use std::alloc::{AllocError, Global};
 
-/// Puts a row of no bits after the others in both. On an error they are as before.
+/// Puts a row without bits after the others in both lists of words. On an error both are as before.
 pub(crate) fn put_row(
     owed: &mut Vec<u64>,
     must: &mut Vec<u64>,
@@ -23,7 +23,7 @@ pub(crate) fn put_row(
     must.resize(must.len() + width, 0)
 }
 
-/// Puts a copy of a row after the others in both. On an error they are as before.
+/// Puts a copy of a row after the others in both lists of words. On an error both are as before.
 pub(crate) fn copy_row(
     owed: &mut Vec<u64>,
     must: &mut Vec<u64>,
@@ -44,7 +44,7 @@ pub(crate) fn copy_row(
     must.extend_from_within(start..end)
 }
 
-/// Puts copies of so many words from one on after the others in both. On an error they are as before.
+/// Puts a copy of `count` words from `start` on after the others in both lists. On an error both are as before.
 pub(crate) fn copy_behind(
     owed: &mut Vec<u64>,
     must: &mut Vec<u64>,
@@ -66,7 +66,7 @@ pub(crate) fn copy_behind(
     copy_to_end(must, start, count)
 }
 
-/// Puts copies of so many words from one on after the others, for which there is room.
+/// Puts a copy of `count` words from `start` on after the others, for which there is room.
 fn copy_to_end(words: &mut Vec<u64>, start: usize, count: usize) -> Result<(), AllocError>
     requires some { 0 < count }
     requires within { start + count ≤ length words.old.items }
@@ -82,7 +82,7 @@ fn copy_to_end(words: &mut Vec<u64>, start: usize, count: usize) -> Result<(), A
     Ok(())
 }
 
-/// Drops the first items.
+/// Drops the first `count` items.
 pub(crate) fn drop_first<T: Copy + Drop>(items: &mut Vec<T>, count: usize)
     requires { count ≤ length items.old.items }
     ensures { items.new.items ≡ drop count items.old.items }
@@ -92,7 +92,7 @@ pub(crate) fn drop_first<T: Copy + Drop>(items: &mut Vec<T>, count: usize)
     items.truncate(kept);
 }
 
-/// A copy in which each row has a word more.
+/// A copy of the words in which each row has one word more, which is 0.
 pub(crate) fn widened(
     alloc: Global,
     words: &[u64],
@@ -111,7 +111,7 @@ pub(crate) fn widened(
     Ok(wide)
 }
 
-/// How many words are 0 at the front of every row.
+/// How many words are 0 at the front of each row: as many as of the row that has the fewest.
 pub(crate) fn empty_front(words: &[u64], width: usize, rows: usize) -> usize
     requires { length words.now ≡ rows * width }
     ensures within { result ≤ width }
@@ -141,7 +141,7 @@ fn zeros(words: &[u64]) -> usize
     words.len()
 }
 
-/// Takes the first words out of each row.
+/// Takes the first `dropped` words out of each row.
 pub(crate) fn narrow(words: &mut Vec<u64>, width: usize, rows: usize, dropped: usize)
     requires long { length words.old.items ≡ rows * width }
     requires within { dropped ≤ width }
@@ -155,7 +155,7 @@ pub(crate) fn narrow(words: &mut Vec<u64>, width: usize, rows: usize, dropped: u
     words.truncate(rows * kept);
 }
 
-/// A number for the words, from another one.
+/// A number that is made of `seed` and the words.
 pub(crate) fn print(seed: u64, words: &[u64]) -> u64
     ensures { result ≡ fold mixed seed words.now }
 {
@@ -166,14 +166,14 @@ pub(crate) fn print(seed: u64, words: &[u64]) -> u64
     print
 }
 
-/// A number for another one and a word.
+/// A number that is made of another one and a word.
 fn mixed(print: u64, word: u64) -> u64
     ensures { result ≡ mixed print word }
 {
     (print ^ word).wrapping_mul(11_400_714_819_323_198_485)
 }
 
-/// A number for each row of one word from one on.
+/// A number for each row from `from` on, where each row has one word.
 pub(crate) fn prints(
     alloc: Global,
     owed: &[u64],

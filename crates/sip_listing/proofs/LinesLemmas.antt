@@ -4,7 +4,7 @@ use Rattle.std.specs.List.Sorted.{IsSortedBy}
 use Rattle.std.proofs.Common.{refl, subst, arith, append_assoc}
 use Rattle.std.proofs.lemmas.List.{get_or-map, length-map}
 
--- what ascends by f ascends as f's values
+-- where a list ascends by the values that f gives, the list of these values ascends
 pub IsSortedBy-map : {X Y : Type 0} (f : X → Y) (lt : Y → Y → Bool) (xs : List X) → IsSortedBy (λ x y. lt (f x) (f y)) xs → IsSortedBy lt (map f xs)
 IsSortedBy-map f lt [] sorted = λ k d low high. absurd (omega arith)
 IsSortedBy-map f lt (x ∷ xs) sorted =
@@ -13,7 +13,7 @@ IsSortedBy-map f lt (x ∷ xs) sorted =
     let before : k < length (x ∷ xs) = omega arith in
     rw (get_or-map f (x ∷ xs) (k + 1) x d within, get_or-map f (x ∷ xs) k x d before) (sorted k x low within)
 
--- what was appended in five pieces
+-- a text to which five pieces were appended, one after the other, is the text and the five pieces
 pub five_appended : (old a b c d e after_a after_b after_c after_d after_e : List ℕ) → after_a ≡ old ++ a → after_b ≡ after_a ++ b →
     after_c ≡ after_b ++ c → after_d ≡ after_c ++ d → after_e ≡ after_d ++ e → after_e ≡ old ++ (a ++ b ++ c ++ d ++ e)
 five_appended old a b c d e after_a after_b after_c after_d after_e first second third fourth fifth =

@@ -8,7 +8,6 @@ use Rattle.sip_machine.specs.Owing.{CodeOwing, owing_seen, owing_names}
 use Rattle.sip_machine.specs.Told.{told_of, field_message, messages_told}
 use Rattle.sip_standard.specs.Told.{ToldField, Told, Flag, Number, Message, field_by, told_by}
 use Rattle.sip_machine.specs.inner.DebtLaws.{All-front, All-back}
-use Rattle.sip_standard.specs.KeyMachine.{MachineKind, OfInviteClient, OfPlainClient, OfInviteServer, OfPlainServer, OfInviteClient3261, OfInviteServer3261}
 use Rattle.sip_states.specs.KeySets.{coded_of}
 use Rattle.sip_states.proofs.keyed.KeySetLaws.{of_machine, to_machine}
 use Rattle.sip_states.specs.Told.{Saying, said_state, meant, AreToldAs, AreTold}
@@ -24,7 +23,7 @@ use Rattle.sip_listing.specs.inner.FieldWords.{debts_fields}
 use Rattle.sip_listing.proofs.FieldLemmas.{debts_told, first_told, others_told}
 use Rattle.sip_listing.specs.inner.StateLine.{state_line}
 
--- the text of a state, whose phase is told in these words
+-- the text of a state whose phase is told by `words`, and whose messages are told by `number`
 abbrev owing_text : {X : Type 0} → (X → Told (List ℕ)) → (List ℕ → ℕ) → Owing X → List ℕ
 owing_text words number x = phase_text (told_by number (words x.phase)) ++ owes_fields number x.owes
 
@@ -32,7 +31,7 @@ abbrev telling : List ℕ → List (ToldField ℕ) → Told ℕ
 telling name fields = record { name = name; fields = fields }
 
 module _ (number : List ℕ → ℕ) (texts : Texts) where
-  -- messages that are told by their numbers in the book are those numbers again
+  -- where messages are told by their numbers in the book, fields that are told by what their numbers stand for are the fields again
   fields_back : (fields : List (ToldField ℕ)) → Tells number texts (filter_map field_message fields) → map (field_by number) (map (field_by (text_of texts)) fields) ≡ fields
   fields_back [] tells = refl
   fields_back (Flag name is ∷ fields) tells = ap (λ more. Flag name is ∷ more) (fields_back fields tells)
@@ -46,7 +45,7 @@ module _ (number : List ℕ → ℕ) (texts : Texts) where
   told_back told tells = ap (telling told.name) (fields_back told.fields tells)
 
   module _ {S X : Type 0} (words : X → Told (List ℕ)) (seen : Texts → S → X) (names : S → List ℕ) where
-    -- the text of a state is that of the words that tell it
+    -- where a told state says what a state of the code means, the text of that state is the line of the told one
     state_told : (x : CodeOwing S) (state : ToldState) → said_state texts state ≡ meant words seen names texts x → Tells number texts (owing_names names x)
         → owing_text words number (owing_seen seen texts x) ≡ state_line state
     state_told x state says tells =
@@ -57,7 +56,7 @@ module _ (number : List ℕ → ℕ) (texts : Texts) where
         (ap (told_by number) (sym (ap (λ (s : Saying). s.0) says)) ∙ back)
         (debts_told number texts x.owes of_debts ∙ ap debts_fields (sym (ap (λ (s : Saying). s.2) says)))
 
-    -- the texts of several states are those of what they stand for
+    -- where told states say what states of the code mean, one by one, the texts of these are the lines of the told ones
     states_told : (xs : List (CodeOwing S)) (states : List ToldState) → map (said_state texts) states ≡ map (meant words seen names texts) xs
         → All (λ x. Tells number texts (owing_names names x)) xs → map (λ x. owing_text words number (owing_seen seen texts x)) xs ≡ map state_line states
     states_told [] [] are tells = refl
@@ -69,25 +68,15 @@ module _ (number : List ℕ → ℕ) (texts : Texts) where
         ap₂ (λ line lines. line ∷ lines) (state_told x state first (All-head (λ x. Tells number texts (owing_names names x)) x xs tells))
         (states_told xs states more (All-tail (λ x. Tells number texts (owing_names names x)) x xs tells))
 
--- the words of a machine's phases are those by which the code tells them
-words_are : (machine : MachineKind) → (coded_of machine).told ≡ words_of machine
-words_are OfInviteClient = refl
-words_are OfPlainClient = refl
-words_are OfInviteServer = refl
-words_are OfPlainServer = refl
-words_are OfInviteClient3261 = refl
-words_are OfInviteServer3261 = refl
-
--- the lines of the words that tell a set list it
+-- where states are told as those of a set, and lines are theirs in order, the lines list the set
 pub listed : (set : AnySet) (states : List ToldState) (lines : List (List ℕ)) → AreTold set states → AreInOrder (map state_line states) lines → Lists set lines
 listed set states lines are in_order = λ number texts tells.
     let (machine, s, is) = some_machine set in
     let c = coded_of machine in
     let words = words_of machine in
-    let told = of_machine (λ kind held. AreToldAs (coded_of kind).told (coded_of kind).seen (coded_of kind).names held.states states) machine s
+    let told = of_machine (λ kind held. AreToldAs (words_of kind) (coded_of kind).seen (coded_of kind).names held.states states) machine s
     (subst (λ x. AreTold x states) is are) in
-    let told_so = subst (λ ws. AreToldAs ws c.seen c.names s.states states) (words_are machine) told in
     let known = of_set (λ X M S m s. All (λ x. Tells number texts (m.names x)) s.states) machine s (subst (TellsSet number texts) is tells) in
-    let same = states_told number texts words c.seen c.names s.states states (told_so texts) known in
+    let same = states_told number texts words c.seen c.names s.states states (told texts) known in
     subst (λ x. AreLinesOfSet number texts x lines) (sym is)
     (to_machine (λ kind held. AreLinesOfHeld number texts kind held lines) machine s (subst (λ ts. AreInOrder ts lines) (sym same) in_order))

@@ -10,22 +10,22 @@ use Rattle.sip_states.specs.KeySets.{StateOf, by_machine}
 use Rattle.sip_states.specs.declared.any_set.AnySet.{AnySet}
 use Rattle.sip_states.specs.AnySet.{meaning_of, OfSet}
 
--- these numbers of the book are the numbers by which their messages are told
+-- each of these numbers of the book is the number by which its message is told
 abbrev pub Tells : (List ℕ → ℕ) → Texts → List ℕ → Type 0
 Tells number texts names = All (λ name. number (text_of texts name) ≡ name) names
 
--- the numbers of the set's messages are those by which they are told
+-- the number of each message of the set is the number by which it is told
 abbrev pub TellsSet : (List ℕ → ℕ) → Texts → AnySet → Type 0
 TellsSet number texts set = OfSet (λ X M S m s. All (λ x. Tells number texts (m.names x)) s.states) set
 
--- the lines are those of the states of a set of this machine
+-- the lines are, in order, the texts of the states of a set of this machine
 abbrev pub AreLinesOfHeld : (List ℕ → ℕ) → Texts → (machine : MachineKind) → Held Times (StateOf machine) → List (List ℕ) → Type 0
 AreLinesOfHeld number texts machine s lines = AreInOrder (map (λ x. state_text machine number ((meaning_of machine).seen texts x)) s.states) lines
 
--- the lines are those of the set's states
+-- the lines are, in order, the texts of the states of the set
 abbrev pub AreLinesOfSet : (List ℕ → ℕ) → Texts → AnySet → List (List ℕ) → Type 0
 AreLinesOfSet number texts set lines = by_machine (λ machine s. AreLinesOfHeld number texts machine s lines) set
 
--- the lines list the set, wherever its messages are told by their numbers in the book
+-- the lines are those of the set's states wherever its messages are told by their numbers in the book
 abbrev pub Lists : AnySet → List (List ℕ) → Type 0
 Lists set lines = (number : List ℕ → ℕ) (texts : Texts) → TellsSet number texts set → AreLinesOfSet number texts set lines

@@ -8,7 +8,7 @@ use itoa::Buffer;
 use sip_machine::{Debt, Run, ToldField};
 use std::alloc::AllocError;
 
-/// Appends a value with its name, after a blank.
+/// Appends a blank, a name, `=` and a value.
 fn push_named(line: &mut String, name: &str, value: &str) -> Result<(), AllocError>
     ensures { OnOk result (string_bytes line.new ≡ string_bytes line.old ++ field name.now value.now) }
 {
@@ -18,14 +18,14 @@ fn push_named(line: &mut String, name: &str, value: &str) -> Result<(), AllocErr
     line.push_str(value)
 }
 
-/// Appends a moment, an interval, or the number of a message.
+/// Appends a number with its name: a moment, an interval, or the number of a message.
 fn push_number(line: &mut String, name: &str, value: u64) -> Result<(), AllocError>
     ensures { OnOk result (string_bytes line.new ≡ string_bytes line.old ++ number_field name.now value) }
 {
     push_named(line, name, Buffer::new().format(value))
 }
 
-/// Appends one that there may not be.
+/// Appends an optional number with its name.
 fn push_optional(line: &mut String, name: &str, value: Option<u64>) -> Result<(), AllocError>
     ensures { OnOk result (string_bytes line.new ≡ string_bytes line.old ++ optional_field name.now value) }
 {
@@ -35,14 +35,14 @@ fn push_optional(line: &mut String, name: &str, value: Option<u64>) -> Result<()
     }
 }
 
-/// Appends whether it is so.
+/// Appends a flag with its name: whether something is so.
 fn push_flag(line: &mut String, name: &str, value: bool) -> Result<(), AllocError>
     ensures { OnOk result (string_bytes line.new ≡ string_bytes line.old ++ flag_field name.now value) }
 {
     push_named(line, name, if value { "yes" } else { "no" })
 }
 
-/// Appends a field of a phase.
+/// Appends a field of a phase, with its name.
 pub(crate) fn push_field(line: &mut String, told: ToldField) -> Result<(), AllocError>
     ensures { OnOk result (string_bytes line.new ≡ string_bytes line.old ++ told_text (field_of_code told)) }
 {
@@ -64,7 +64,7 @@ fn push_owed(line: &mut String, debt: Debt) -> Result<(), AllocError>
     line.push_str(if debt.must { "must" } else { "may" })
 }
 
-/// Appends a message that is owed so often, as often.
+/// Appends a message that is owed several times, once for each.
 fn push_run(line: &mut String, run: Run) -> Result<(), AllocError>
     ensures { OnOk result (string_bytes line.new ≡ string_bytes line.old ++ debts_fields (replicate run.count run.debt)) }
 {
@@ -74,7 +74,7 @@ fn push_run(line: &mut String, run: Run) -> Result<(), AllocError>
     Ok(())
 }
 
-/// Appends what is owed, one after another.
+/// Appends the debts of the runs, one after another.
 pub(crate) fn push_owes(line: &mut String, owes: &[Run]) -> Result<(), AllocError>
     ensures { OnOk result (string_bytes line.new ≡ string_bytes line.old ++ debts_fields (flat_map (λ run. replicate run.count run.debt) owes.now)) }
 {

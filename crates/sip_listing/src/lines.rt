@@ -1,4 +1,4 @@
-//! The lines of states.
+//! The lines of states in a listing.
 ghost use Rattle.std.specs.Prelude.{◌≡◌, ◌++◌, IfOk, OnOk, map, string_bytes};
 ghost use Rattle.sip_standard.specs.StateLines.{AreInOrder, indented};
 ghost use Rattle.sip_listing.specs.inner.StateLine.{state_line};
@@ -7,7 +7,7 @@ use crate::state::push_state;
 use sip_states::ToldState;
 use std::alloc::{AllocError, Global};
 
-/// The texts of states, whose messages are told by their numbers in the book, in ascending order of their bytes.
+/// The texts of states, in ascending order of their bytes. Their messages are told by their numbers in the book.
 pub(crate) fn lines_of(alloc: Global, states: &[ToldState]) -> Result<Vec<String>, AllocError>
     ensures { IfOk result (λ lines. AreInOrder (map state_line states.now) (map string_bytes lines.items)) }
 {

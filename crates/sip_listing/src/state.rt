@@ -9,7 +9,7 @@ use sip_machine::Told;
 use sip_states::ToldState;
 use std::alloc::AllocError;
 
-/// Appends the text of a state, whose messages are told by their numbers in the book.
+/// Appends the text of a state. Its messages are told by their numbers in the book.
 pub(crate) fn push_state(line: &mut String, state: &ToldState) -> Result<(), AllocError>
     ensures { OnOk result (string_bytes line.new ≡ string_bytes line.old ++ state_line state.now) }
 {

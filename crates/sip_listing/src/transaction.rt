@@ -28,7 +28,7 @@ pub fn push_transaction(
     Ok(())
 }
 
-/// Appends the line of a transaction.
+/// Appends the first line of a transaction: its number, its key in words, and how many states it has.
 fn push_line(text: &mut String, number: u32, key: &Key, count: usize) -> Result<(), AllocError>
     ensures { OnOk result (IsAscii key.now.method → string_bytes text.new ≡ string_bytes text.old ++ transaction_line number key.now count) }
 {
@@ -48,7 +48,7 @@ fn push_with_number(text: &mut String, word: &str, number: u64) -> Result<(), Al
     text.push_str(Buffer::new().format(number))
 }
 
-/// Appends a key in words.
+/// Appends a key in words: its role and its method.
 fn push_key(text: &mut String, key: &Key) -> Result<(), AllocError>
     ensures { OnOk result (IsAscii key.now.method → string_bytes text.new ≡ string_bytes text.old ++ key_text key.now) }
 {
@@ -58,7 +58,7 @@ fn push_key(text: &mut String, key: &Key) -> Result<(), AllocError>
     Ok(())
 }
 
-/// The side of a transaction in a word.
+/// The role in a transaction as a word.
 fn role_text(role: Role) -> &'static str
     ensures { result.now ≡ role_text role }
 {
@@ -68,7 +68,7 @@ fn role_text(role: Role) -> &'static str
     }
 }
 
-/// Appends bytes, which are ASCII.
+/// Appends bytes as text. They are ASCII, which is why the text stays valid.
 fn push_ascii(text: &mut String, bytes: &[u8]) -> Result<(), AllocError>
     ensures { OnOk result (IsAscii bytes.now → string_bytes text.new ≡ string_bytes text.old ++ bytes.now) }
 {

@@ -3,4 +3,5 @@ pub mod NextLemmas
 pub mod NextRead
 pub mod ReadingLemmas
 pub mod SaysLemmas
+pub mod StreamLemmas
 pub mod ToldLemmas

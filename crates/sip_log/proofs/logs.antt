@@ -1,3 +1,4 @@
 pub mod LogExists
 pub mod LogLaws
 pub mod Logs
+pub mod Streams

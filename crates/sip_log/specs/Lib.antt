@@ -1,5 +1,6 @@
 pub mod Next
 pub mod Reading
+pub mod Stream
 pub mod Told
 pub mod Turn
 pub mod Writing

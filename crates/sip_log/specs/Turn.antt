@@ -3,7 +3,7 @@ use Rattle.sip_log.specs.Next.{gives, ComesNext}
 use Rattle.sip_standard.specs.LogEntry.{Item}
 use Rattle.sip_standard.specs.declared.format.Format.{Format}
 
--- after so many entries, the last at this moment: in the rest of an input these entries come in turn, and this is left after them
+-- after `count` entries with the last moment `last`, these entries come one after another in the rest of an input, and `left` is left
 abbrev pub ComeInTurn : Format → ℕ → ℕ → List ℕ → List Item → List ℕ → Type 0
 ComeInTurn format count last rest [] left = left ≡ rest
 ComeInTurn format count last rest (e ∷ es) left =

@@ -30,7 +30,9 @@ pub struct Entry {
     pub bytes: Vec<u8>,
 }
 
-/// Reads the entry after `count` others, the last of which is at the moment `last`, into the buffer. None at the end of the log.
+/// Reads the entry after `count` others, the last of which is at the moment `last`, into the buffer. The answer is `None` at the end
+/// of the log.
+#[inline(always)]
 pub(crate) fn next_entry<R: Source>(
     buffer: Vec<u8>,
     window: &mut Window,
@@ -57,7 +59,8 @@ pub(crate) fn next_entry<R: Source>(
     }
 }
 
-/// Reads an entry by its line.
+/// Reads an entry that must come, since bytes are left: its line, and what stands after it.
+#[inline(always)]
 fn read_entry<R: Source>(
     buffer: Vec<u8>,
     window: &mut Window,
@@ -83,7 +86,8 @@ fn read_entry<R: Source>(
     after_line(buffer, window, source, number, last, head)
 }
 
-/// Reads what is after an entry's line, if the line keeps the limits and the order.
+/// Reads what stands after an entry's line, where the line keeps the limits and the order.
+#[inline(always)]
 fn after_line<R: Source>(
     buffer: Vec<u8>,
     window: &mut Window,
@@ -105,7 +109,8 @@ fn after_line<R: Source>(
     read_body(buffer, window, source, number, head)
 }
 
-/// Reads what an entry has after its line: a message, or nothing.
+/// Reads the message after an entry's line, or nothing where the entry has none.
+#[inline(always)]
 fn read_body<R: Source>(
     mut buffer: Vec<u8>,
     window: &mut Window,
@@ -133,6 +138,7 @@ fn read_body<R: Source>(
 }
 
 /// Reads a message of `len` bytes and the line feed after it. Its bytes are copied once, out of the window into the empty buffer.
+#[inline(always)]
 fn read_message<R: Source>(
     mut buffer: Vec<u8>,
     window: &mut Window,

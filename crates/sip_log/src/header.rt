@@ -17,16 +17,16 @@ use memchr::memchr;
 use sip_standard::{Format, Source};
 use sip_times::{Params, Rules};
 
-/// The bytes of line 1 with its line feed.
+/// The number of bytes of line 1 with its line feed.
 const TITLE: usize = 12;
 
 /// The most bytes of line 2 with its line feed, where its numbers are within their limits.
 const LONGEST_TIMES: usize = 50;
 
-/// The bytes of the line of rules with its line feed.
+/// The number of bytes of the line of rules with its line feed.
 const RULES: usize = 11;
 
-/// Reads the header. Anything wrong in its first two lines is the fault `Header`.
+/// Reads the header. Whatever is wrong in its first two lines is the fault `Header`.
 pub(crate) fn read_header<R: Source>(
     window: &mut Window,
     source: &mut R,
@@ -44,7 +44,7 @@ pub(crate) fn read_header<R: Source>(
     read_second(window, source, format)
 }
 
-/// The format that line 1 tells.
+/// The format that this line 1 tells, or `None` where it is no line 1.
 fn format_of(line: &[u8]) -> Option<Format>
     ensures { MatchOption result ((f : Format) → ¬ (line.now ≡ title_text f)) (λ f. line.now ≡ title_text f) }
 {
@@ -57,7 +57,7 @@ fn format_of(line: &[u8]) -> Option<Format>
     None
 }
 
-/// Reads line 2, and the rules after it.
+/// Reads line 2, and the line of rules after it where there is one.
 fn read_second<R: Source>(
     window: &mut Window,
     source: &mut R,
@@ -76,7 +76,7 @@ fn read_second<R: Source>(
     read_third(window, source, format, times)
 }
 
-/// Reads the line of rules, where there is one. No entry begins as it does, so that a first entry is not waited for.
+/// Reads the line of rules, where there is one. No entry begins with its first letter, so that it does not wait for an entry.
 fn read_third<R: Source>(
     window: &mut Window,
     source: &mut R,
@@ -103,7 +103,7 @@ fn read_third<R: Source>(
     Ok((format, times.with_rules(rules)))
 }
 
-/// The rules that a line tells.
+/// The rules that this line tells, or `None` where it is no line of rules.
 fn rules_of(line: &[u8]) -> Option<Rules>
     ensures { MatchOption result ((r : Rules) → ¬ (line.now ≡ rules_text r)) (λ r. line.now ≡ rules_text r) }
 {
@@ -116,7 +116,7 @@ fn rules_of(line: &[u8]) -> Option<Rules>
     None
 }
 
-/// Reads line 2 without its line feed. None also where a number is outside its limits.
+/// Reads line 2 without its line feed. The answer is `None` where it is no line 2, or a number is outside its limits.
 fn read_times(format: Format, line: &[u8]) -> Option<Params>
     ensures { MatchOption result
         ((p : Times) → TimesLine format line.now p → ¬ (AreTimes p))
@@ -129,7 +129,7 @@ fn read_times(format: Format, line: &[u8]) -> Option<Params>
     Params::with_tolerances(t1, t2, t4, early, late)
 }
 
-/// Reads the end of line 2: how much an element may be early, and how much late. In format 1 both are one number.
+/// Reads the tolerances at the end of line 2: how early an element may be, and how late. In format 1 both are one number.
 fn read_tolerances(format: Format, text: &[u8]) -> Option<(u64, u64)>
     ensures { MatchOption result
         ((early late : ℕ) → ¬ (Tolerances format text.now early late))
@@ -148,7 +148,7 @@ fn read_tolerances(format: Format, text: &[u8]) -> Option<(u64, u64)>
     }
 }
 
-/// Reads a word and the number after it, with which the text ends.
+/// Reads a word and the number after it, which must end the text.
 fn last_number(text: &[u8], word: &[u8]) -> Option<u64>
     ensures { MatchOption result
         ((n : ℕ) → ¬ (NumberAfter word.now text.now n []))
@@ -161,7 +161,7 @@ fn last_number(text: &[u8], word: &[u8]) -> Option<u64>
     Some(value)
 }
 
-/// Reads a word and the number after it, up to a blank or the end, and answers what is after it too.
+/// Reads a word and the number after it, up to a blank or the end. The answer has the number and what stands after it.
 fn number_after<'a>(text: &'a [u8], word: &[u8]) -> Option<(u64, &'a [u8])>
     ensures { MatchOption result
         ((n : ℕ) (behind : List ℕ) → ¬ (NumberAfter word.now text.now n behind))

@@ -18,9 +18,10 @@ mod writing;
 
 pub use entry::Entry;
 pub use laws::{
-    a_log_of_format_1_is_as_it_was, a_log_of_format_1_is_one_of_format_2,
+    a_log_is_a_stream, a_log_of_format_1_is_as_it_was, a_log_of_format_1_is_one_of_format_2,
     an_entry_is_read_as_it_was_written, an_entry_is_written_as_it_was_read, an_input_has_one_log,
-    each_input_has_a_log, entries_read_in_turn_are_a_front_of_the_log, what_is_written_is_read,
+    an_input_has_one_stream, each_input_has_a_log, each_input_has_a_stream,
+    entries_read_in_turn_are_a_front_of_the_log, what_is_written_is_read,
 };
 pub use log_error::LogError;
 pub use progress::Progress;

@@ -1,14 +1,13 @@
 //! The line at which an entry begins.
-ghost use Rattle.std.specs.Prelude.{◌≡◌, ◌↔◌, ℕ, MatchOption, IsTrue};
+ghost use Rattle.std.specs.Prelude.{◌≡◌, ◌↔◌, ◌∷◌, ℕ, List, MatchOption, IsTrue};
 ghost use Rattle.sip_standard.specs.declared.action.Action.{Action};
 ghost use Rattle.sip_log.specs.inner.Number.{cut};
 ghost use Rattle.sip_standard.specs.LogEntry.{HasMessage, IsOf, IsWithinLimits};
-ghost use Rattle.sip_log.specs.inner.Spelling.{letter};
+ghost use Rattle.sip_log.specs.inner.Spelling.{letter, space};
 ghost use Rattle.sip_log.specs.inner.Line.{Numbers, HeadLine, cut_head, head_of, moment_of, KeepsLimits};
 ghost use Rattle.sip_log.specs.inner.Line as log;
 
-use crate::number::number;
-use memchr::memchr;
+use crate::number::{digits, is_plain, number};
 use sip_standard::Format;
 use sip_times::Action;
 
@@ -18,7 +17,7 @@ const LAST_MOMENT: u64 = 9_999_999_999_999;
 /// The most bytes of a message.
 const LONGEST_MESSAGE: u64 = 65_535;
 
-/// What an entry's line tells: of a message its moment and its length; of an entry without one its moment.
+/// What an entry's line tells: the action and the moment, and for a message its length too.
 #[derive(Clone, Copy)]
 pub(crate) enum Head {
     Message(Action, u64, u64),
@@ -64,7 +63,7 @@ pub(crate) fn is_within_limits(action: Action, moment: u64, len: u64) -> bool
     moment <= LAST_MOMENT && (!has_message(action) || (1..=LONGEST_MESSAGE).contains(&len))
 }
 
-/// The letter of an entry.
+/// The letter with which the line of an entry with this action begins.
 pub(crate) fn letter_of(action: Action) -> u8
     ensures { result ≡ letter action }
 {
@@ -77,7 +76,7 @@ pub(crate) fn letter_of(action: Action) -> u8
     }
 }
 
-/// What was done, by the letter of its entry.
+/// The action of the format whose letter this byte is, if there is one.
 fn action_of(format: Format, byte: u8) -> Option<Action>
     ensures { MatchOption result ((a : Action) → IsOf format a → ¬ (byte ≡ letter a)) (λ a. IsOf format a × (byte ≡ letter a)) }
 {
@@ -91,19 +90,32 @@ fn action_of(format: Format, byte: u8) -> Option<Action>
     }
 }
 
-/// Reads a moment, a blank and a length.
+/// What stands after the blank that the text begins with, if it begins with one.
+fn past_blank(text: &[u8]) -> Option<&[u8]>
+    ensures { MatchOption result ((rest : List ℕ) → ¬ (text.now ≡ space ∷ rest)) (λ r. text.now ≡ space ∷ r.now) }
+{
+    let [b' ', rest @ ..] = text else {
+        return None;
+    };
+    Some(rest)
+}
+
+/// Reads a moment, a blank and the length of a message, which must be the whole text.
 fn read_numbers(text: &[u8]) -> Option<(u64, u64)>
     ensures { MatchOption result
         ((moment len : ℕ) → ¬ (Numbers text.now moment len))
         (λ r. (moment : ℕ) × (len : ℕ) × Numbers text.now moment len × (r.0 ≡ cut moment) × (r.1 ≡ cut len)) }
 {
-    let blank = memchr(b' ', text)?;
-    let moment = number(&text[..blank])?;
-    let len = number(&text[blank + 1..])?;
+    let (moment, at) = digits(text);
+    if !is_plain(&text[..at]) {
+        return None;
+    }
+    let rest = past_blank(&text[at..])?;
+    let len = number(rest)?;
     Some((moment, len))
 }
 
-/// Reads an entry's line, without its line feed. Its numbers are kept as `number` keeps them.
+/// Reads an entry's line without its line feed, with each number as `number` keeps it.
 pub(crate) fn read_head(format: Format, line: &[u8]) -> Option<Head>
     ensures { MatchOption result
         ((h : log.Head) → ¬ (HeadLine format line.now h))

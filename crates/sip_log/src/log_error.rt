@@ -9,16 +9,16 @@ use thiserror::Error;
 /// Why an entry of a log, or its header, cannot be read. The first five are faults of the log itself.
 #[derive(Clone, Copy, Debug, PartialEq, Eq, Error)]
 pub enum LogError {
-    /// The first two lines are no header's.
+    /// The first two lines are not those of a header.
     #[error("no header")]
     Header,
-    /// The line is no entry's, or the byte after a message is no line feed.
+    /// The line is not that of an entry, or the byte after a message is no line feed.
     #[error("no entry line")]
     EntryLine,
     /// The input ends within an entry.
     #[error("truncated")]
     Truncated,
-    /// The moment is below that of the entry before.
+    /// The moment is below that of the entry before it.
     #[error("out of order")]
     Order,
     /// A moment or a length is outside the limits, or there are more than 1,000,000 entries.

@@ -15,7 +15,7 @@ use std::alloc::Global;
 use std::marker::Model;
 use std::mem;
 
-/// What is read next, if anything is.
+/// What is read next: the header first, then entries through a window, and nothing after the end or an error.
 #[derive(Debug, Drop)]
 enum Stage {
     Fresh,
@@ -52,7 +52,7 @@ impl Model for Progress {
 impl Progress {
     ghost use Rattle.sip_log.specs.inner.Window.{unread};
 
-    /// Nothing was read. Takes no memory.
+    /// A log of which nothing was read. It takes no memory.
     pub fn new(alloc: Global) -> Progress
         ensures { result ≡ record { stage = fresh; held = []; format = One; times = None; count = 0; last = 0 } }
     {
@@ -66,7 +66,7 @@ impl Progress {
         }
     }
 
-    /// Reads the header, and no entry yet. Answers its times, and how far the log was read.
+    /// Reads the header, and no entry yet. The answer has the times of the header, and how far the log was read.
     ///
     /// `LogError::Io` is answered only if the source has failed: in this call, if it had not before.
     pub fn open<R: Source>(alloc: Global, source: &mut R) -> Result<(Params, Progress), LogError>
@@ -90,6 +90,14 @@ impl Progress {
         }
     }
 
+    /// Counts the entries anew: as many may come from here on as a log has, the next of them with the number 1. All else stays. So an
+    /// input is read on that has more entries than a log.
+    pub fn count_anew(&mut self)
+        ensures { self.new ≡ record { stage = self.old.stage; held = self.old.held; format = self.old.format; times = self.old.times; count = 0; last = self.old.last } }
+    {
+        self.count = 0;
+    }
+
     /// The times of the log's header, once it was read.
     pub fn params(&self) -> Option<Params>
         ensures { result ≡ self.now.times }
@@ -97,7 +105,7 @@ impl Progress {
         self.params
     }
 
-    /// Reads the next entry, and before the first one the header. None at the end of the log, and then again.
+    /// Reads the next entry, and before the first one the header. The answer is `None` at the end of the log, and at every later call.
     ///
     /// `LogError::Io` is answered only if the source has failed: in this call, if it had not before. After an
     /// error every later call answers `LogError::Failed`. The source must be the same one in each call.
@@ -108,8 +116,9 @@ impl Progress {
         self.next_into(Vec::new(self.alloc), source)
     }
 
-    /// As `next`, with the entry's bytes in this buffer in place of a new one. What the buffer held is dropped, and
-    /// also the buffer itself where the answer is no entry.
+    /// Does what `next` does, and puts the entry's bytes into this buffer instead of a new one. What the buffer held is dropped, and also
+    /// the buffer itself where the answer is no entry.
+    #[inline(always)]
     pub fn next_into<R: Source>(
         &mut self,
         buffer: Vec<u8>,
@@ -140,7 +149,8 @@ impl Progress {
         }
     }
 
-    /// Reads the next entry.
+    /// Reads the next entry into the buffer, where the header was read before.
+    #[inline(always)]
     fn entry<R: Source>(
         &mut self,
         mut window: Window,

@@ -27,7 +27,7 @@ impl<R: Source> Model for LogReader<R> {
 }
 
 impl<R: Source> LogReader<R> {
-    /// Reads nothing yet, and takes no memory.
+    /// A reader that has read nothing, and takes no memory.
     pub fn new(alloc: Global, source: R) -> LogReader<R>
         ensures { result ≡ record { stage = fresh; left = R.left source; format = One; times = None; count = 0; last = 0; has_failed = R.has_failed source } }
     {
@@ -37,14 +37,14 @@ impl<R: Source> LogReader<R> {
         }
     }
 
-    /// The times of the log's header, once it was read, also after an error.
+    /// The times of the log's header, once it was read. They stay known after an error.
     pub fn params(&self) -> Option<Params>
         ensures { result ≡ self.now.times }
     {
         self.progress.params()
     }
 
-    /// Reads the next entry, and before the first one the header. None at the end of the log, and then again.
+    /// Reads the next entry, and before the first one the header. The answer is `None` at the end of the log, and at every later call.
     ///
     /// `LogError::Io` is answered only if the source has failed: in this call, if it had not before. After an
     /// error every later call answers `LogError::Failed`; nothing is read again.

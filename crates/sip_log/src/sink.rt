@@ -4,7 +4,7 @@ ghost use Rattle.std.specs.Prelude.{◌≡◌, false};
 use sip_standard::{Broken, Sink};
 use std::io::Write;
 
-/// A sink over a writer of std. A write that was interrupted is tried again; any other error is a failure.
+/// A sink that writes through a writer of std. A write that was interrupted is tried again, and any other error is a failure.
 #[derive(Debug, Drop)]
 pub struct ToWrite<W> {
     writer: W,

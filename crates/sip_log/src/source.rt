@@ -7,8 +7,8 @@ ghost use Rattle.sip_standard.specs.Source.{Fills};
 use sip_standard::{Broken, Source};
 use std::io::{ErrorKind, Read};
 
-/// A source over a reader of std. A read that was interrupted is tried again; any other error is a failure, and its kind is kept.
-/// A reader that told its end is not asked again.
+/// A source that reads through a reader of std. A read that was interrupted is tried again. Any other error is a failure, and its kind
+/// is kept. A reader that told its end is not asked again.
 #[derive(Debug, Drop)]
 pub struct FromRead<R> {
     reader: R,
@@ -29,7 +29,7 @@ impl<R: Read> FromRead<R> {
         }
     }
 
-    /// Reads once, and again where the read was interrupted.
+    /// Reads once, and again as long as the read is interrupted.
     fn read_on(&mut self, buf: &mut [u8]) -> Result<usize, Broken>
         ensures bytes { Fills (R.remaining self.old.reader) (R.remaining self.new.reader) result buf.new }
         ensures ok { OnOk result (self.new.failure ≡ self.old.failure) }

@@ -1,4 +1,4 @@
-//! Reads a log whole.
+//! Reads a whole log at once.
 ghost use Rattle.std.specs.Prelude.{◌≡◌, ◌++◌, ◌∷◌, [], List, map, IfOk, IfErr, IfSome, OnOk};
 ghost use Rattle.sip_standard.specs.Times.{Times};
 ghost use Rattle.sip_standard.specs.LogSays.{LogSays, Clean};
@@ -10,7 +10,7 @@ use crate::progress::Progress;
 use sip_standard::Source;
 use std::alloc::{AllocError, Global};
 
-/// All entries of a log that can be read to its end, or why it cannot. A long log takes as much memory as it has bytes.
+/// All entries of a log that can be read to its end, or why it cannot be read. A long log takes as much memory as it has bytes.
 ///
 /// `LogError::Io` is answered only if the source has failed, and `LogError::Failed` never.
 pub fn read_entries<R: Source>(alloc: Global, source: &mut R) -> Result<Vec<Entry>, LogError>

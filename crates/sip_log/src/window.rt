@@ -9,10 +9,10 @@ use memchr::memchr;
 use sip_standard::{Broken, Source};
 use std::alloc::{AllocError, Global};
 
-/// The bytes that a window has room for. The longest entry's message fits.
+/// The number of bytes for which a window has room, in which the longest message of an entry fits.
 const SIZE: usize = 128 * 1024;
 
-/// Bytes that were read and not yet taken. `Debug` tells where they stand, and leaves them out.
+/// Bytes that were read and not taken yet. `Debug` tells where they stand, and leaves them out.
 #[derive(Drop)]
 #[derive_where(Debug)]
 pub(crate) struct Window {
@@ -49,7 +49,7 @@ impl Window {
         &self.bytes[self.start..self.end]
     }
 
-    /// Takes the first bytes away.
+    /// Takes the first `count` bytes away.
     pub(crate) fn consume(&mut self, count: usize)
         requires { count ≤ length (items self.old) }
         ensures { items self.new ≡ drop count (items self.old) }
@@ -57,7 +57,7 @@ impl Window {
         self.start += count;
     }
 
-    /// Makes all of the room stand after what is held.
+    /// Moves the bytes that are held to the front, so that all of the room is after them.
     fn move_to_front(&mut self)
         ensures items { items self.new ≡ items self.old }
         ensures front { self.new.end ≡ length (items self.new) }
@@ -68,7 +68,7 @@ impl Window {
         self.end = end - start;
     }
 
-    /// Reads once into the room after what is held, and answers how many bytes came.
+    /// Reads once into the room after the bytes that are held, and returns how many bytes came.
     fn read_from<R: Source>(&mut self, source: &mut R) -> Result<usize, Broken>
         ensures reads { OnOk result (Reads (items self.old) (items self.new) (R.left source.old) (R.left source.new)
             (R.has_failed source.old) (R.has_failed source.new)) }
@@ -82,7 +82,7 @@ impl Window {
         Ok(count)
     }
 
-    /// Reads once. False at the end of the source.
+    /// Reads once, and returns false at the end of the source.
     fn more<R: Source>(&mut self, source: &mut R) -> Result<bool, Broken>
         requires { length (items self.old) < window_size }
         ensures reads { OnOk result (Reads (items self.old) (items self.new) (R.left source.old) (R.left source.new)
@@ -98,7 +98,7 @@ impl Window {
         Ok(count > 0)
     }
 
-    /// Reads until `count` bytes are held; false where the source ends before.
+    /// Reads until `count` bytes are held, and returns false where the source ends before.
     pub(crate) fn hold<R: Source>(&mut self, source: &mut R, count: usize) -> Result<bool, Broken>
         requires { count ≤ window_size }
         ensures reads { OnOk result (Reads (items self.old) (items self.new) (R.left source.old) (R.left source.new)
@@ -124,8 +124,7 @@ impl Window {
         memchr(b'\n', &held[..held.len().min(most)])
     }
 
-    /// The length of the line at the front, where its line feed is among the next `most` bytes.
-    /// Reads only as far as that takes.
+    /// The length of the line at the front, where its line feed is among the first `most` bytes. It reads only as far as it must to tell.
     pub(crate) fn line_len<R: Source>(
         &mut self,
         source: &mut R,

@@ -8,11 +8,10 @@ use thiserror::Error;
 /// Why a header or an entry could not be written.
 #[derive(Clone, Copy, Debug, PartialEq, Eq, Error)]
 pub enum WriteError {
-    /// The moment or the length is outside the limits of a log, or its format has one tolerance where there are two;
-    /// nothing was written.
+    /// The moment or the length is outside the limits of a log, or there are two tolerances and the format has one. Nothing was written.
     #[error("outside the limits")]
     Limit,
-    /// The sink failed; how much was written is not said.
+    /// The sink failed. How much was written before is not told.
     #[error("cannot write")]
     Io,
 }

@@ -17,8 +17,7 @@ use sip_times::{Action, Params, Rules};
 /// Writes the header of a log of format 1: the format, the times of the element, and its rules where they are those of
 /// RFC 3261. Takes no memory.
 ///
-/// `WriteError::Limit` is answered where early and late differ, since this format has one tolerance; nothing is written
-/// then.
+/// `WriteError::Limit` is answered where early and late differ, since this format has one tolerance. Nothing is written then.
 pub fn write_header<W: Sink>(writer: &mut W, params: &Params) -> Result<(), WriteError>
     ensures { WritesWithin (params.now.early ≡ params.now.late) writer.old writer.new
         (Writes (W.written writer.old) (W.written writer.new) (W.has_failed writer.old) (W.has_failed writer.new)
@@ -46,7 +45,7 @@ pub fn write_header_2<W: Sink>(writer: &mut W, params: &Params) -> Result<(), Wr
     Ok(())
 }
 
-/// Writes the header of format 1, with the late tolerance.
+/// Writes the header of format 1, with the late tolerance as its only one.
 fn put_header<W: Sink>(writer: &mut W, params: &Params) -> Result<(), Broken>
     ensures { Puts (W.written writer.old) (W.written writer.new) (W.has_failed writer.old) (W.has_failed writer.new)
         (header_text One params.now) result }
@@ -68,7 +67,7 @@ fn put_timers<W: Sink>(writer: &mut W, params: &Params) -> Result<(), Broken>
     put_named(writer, b" t4 ", params.t4())
 }
 
-/// Writes the line of rules for those of RFC 3261, and nothing for others.
+/// Writes the line of rules where they are those of RFC 3261, and nothing else.
 fn put_rules<W: Sink>(writer: &mut W, rules: Rules) -> Result<(), Broken>
     ensures { Puts (W.written writer.old) (W.written writer.new) (W.has_failed writer.old) (W.has_failed writer.new)
         (written_rules rules) result }
@@ -79,7 +78,7 @@ fn put_rules<W: Sink>(writer: &mut W, rules: Rules) -> Result<(), Broken>
     }
 }
 
-/// Writes an entry: what was done at a moment, in milliseconds, and the message. With a mark or a restart the bytes play no part.
+/// Writes an entry: its action, its moment in milliseconds, and its message. The bytes play no part in a mark or a restart.
 /// Takes no memory.
 ///
 /// `WriteError::Limit` is answered where the moment is above 9,999,999,999,999, or a message has no byte or more than
@@ -101,7 +100,7 @@ pub fn write_entry<W: Sink>(
     Ok(())
 }
 
-/// Writes the spelling of an entry, whether or not it is within the limits. With a mark or a restart the bytes play no part.
+/// Writes the spelling of an entry, whether or not it is within the limits. The bytes play no part in a mark or a restart.
 /// Takes no memory.
 pub fn put_entry<W: Sink>(
     writer: &mut W,
@@ -116,7 +115,7 @@ pub fn put_entry<W: Sink>(
     put_body(writer, action, bytes)
 }
 
-/// Writes the line of an entry and its line feed.
+/// Writes the line of an entry with its line feed.
 fn put_line<W: Sink>(writer: &mut W, action: Action, moment: u64, len: u64) -> Result<(), Broken>
     ensures { Puts (W.written writer.old) (W.written writer.new) (W.has_failed writer.old) (W.has_failed writer.new)
         (line_text action moment len ++ line_feed ∷ []) result }
@@ -127,7 +126,7 @@ fn put_line<W: Sink>(writer: &mut W, action: Action, moment: u64, len: u64) -> R
     writer.put(b"\n")
 }
 
-/// Writes the length of a message after the moment; nothing where there is none.
+/// Writes the length of a message, as it stands after the moment, or nothing where the entry has no message.
 fn put_length<W: Sink>(writer: &mut W, action: Action, len: u64) -> Result<(), Broken>
     ensures { Puts (W.written writer.old) (W.written writer.new) (W.has_failed writer.old) (W.has_failed writer.new)
         (length_text action len) result }
@@ -138,7 +137,7 @@ fn put_length<W: Sink>(writer: &mut W, action: Action, len: u64) -> Result<(), B
     }
 }
 
-/// Writes a message and its line feed; nothing where there is none.
+/// Writes a message with its line feed, or nothing where the entry has no message.
 fn put_body<W: Sink>(writer: &mut W, action: Action, bytes: &[u8]) -> Result<(), Broken>
     ensures { Puts (W.written writer.old) (W.written writer.new) (W.has_failed writer.old) (W.has_failed writer.new)
         (body_says action bytes.now) result }
@@ -152,7 +151,7 @@ fn put_body<W: Sink>(writer: &mut W, action: Action, bytes: &[u8]) -> Result<(),
     }
 }
 
-/// Writes a name and the number after it.
+/// Writes a name, with the blanks that it has, and the number after it.
 fn put_named<W: Sink>(writer: &mut W, name: &[u8], number: u64) -> Result<(), Broken>
     ensures { Puts (W.written writer.old) (W.written writer.new) (W.has_failed writer.old) (W.has_failed writer.new)
         (name.now ++ decimal number) result }

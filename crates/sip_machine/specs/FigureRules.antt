@@ -8,45 +8,45 @@ use Rattle.sip_machine.specs.Deadlines.{unexpired, must_deadlines, earliest, unl
 use Rattle.sip_machine.specs.Rules.{MachineRules}
 use Rattle.sip_standard.specs.Figure.{Change, drops, Figure, Owing, changed, quiet, Steps}
 
--- The figure as rules, which are the same (sip_states, laws.rt).
+-- The rules that a figure makes: the machine that a contract sees, which is the same (`laws.rt` of sip_states).
 
--- where a row leads
+-- where a row leads: to a phase, with a change of what is owed
 abbrev pub After : Type 0 → Type 0
 After X = X × Change
 
--- where a row leads from a phase with its debts
+-- the state to which a row leads at t, from a phase that owed this
 abbrev pub led_to : {X : Type 0} → Times → ℕ → List Owed → After X → Owing X
 led_to p t owes after = record { phase = after.0; owes = changed p t after.1 owes }
 
--- the close of a window, if it has one
+-- the moment at which a window closes, and no moment where it does not
 abbrev pub closes_of : Option (ℕ × Option ℕ) → List ℕ
 closes_of None = []
 closes_of (Some (from, None)) = []
 closes_of (Some (from, Some to)) = to ∷ []
 
--- until when its timers let a phase last
+-- the moments up to which the timers of a phase let it last: where its window closes, and what must be sent by then
 abbrev pub closes_at : {X : Type 0} → Figure X → Times → X → List ℕ
 closes_at f p x = closes_of (f.window p x) ++ f.sends_by p x
 
--- when a state may end: not while something has to be sent
+-- when a state may end: as its phase, but not while something must be sent
 abbrev pub window_of : {X : Type 0} → Figure X → Times → Owing X → Option (ℕ × Option ℕ)
 window_of f p x = unless_owed x.owes (f.window p x.phase)
 
--- how long a state may be waited in: until the first of its timers, and the first deadline of what has to be sent
+-- how long a state may be waited in: up to the first of its timers and of the deadlines of what must be sent
 abbrev pub until_of : {X : Type 0} → Figure X → Times → Owing X → Option ℕ
 until_of f p x = earliest (closes_at f p x.phase ++ must_deadlines x.owes)
 
--- a visible step of a state that has lasted until then
+-- the state takes the event: it has lasted until the event, and has a step without what has expired
 abbrev pub TakeOf : {X : Type 0} → Figure X → Times → Owing X → MachineEvent → Owing X → Type 0
 TakeOf f p x e y =
     IsWithin e.moment (until_of f p x) × Steps f p e.action e (record { phase = x.phase; owes = unexpired e.moment x.owes }) y
 
--- the machine of the figure
+-- the rules of the figure: its states owe something beside their phase
 abbrev pub rules_of : {X : Type 0} → Figure X → Times → MachineRules (Owing X)
 rules_of f p = record { first = quiet f.idle; ended = quiet f.ended; Take = TakeOf f p; window = window_of f p; until = until_of f p }
 
--- what a figure keeps: the idle and the ended phase have no timer; a row leads to a phase whose timers are not past; one that drops the debts, or
--- that a send has which may leave the state as it is, leads to another phase; and such a send pays nothing
+-- what a figure keeps: the idle and the ended phase have no timer; a row leads to a phase whose timers are not past; a send that drops the debts, or
+-- may leave the state as it is, leads to another phase where it has a row; and a send that may leave the state as it is pays nothing
 pub record IsFigure {X : Type 0} (f : Figure X) : Type 0 where
   pub idle_has_no_end : (p : Times) → f.window p f.idle ≡ None
   pub idle_stays : (p : Times) → closes_at f p f.idle ≡ []

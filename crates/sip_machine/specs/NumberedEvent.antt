@@ -6,7 +6,7 @@ use Rattle.sip_standard.specs.Times.{last_moment}
 use Rattle.sip_machine.specs.Texts.{Texts, Keeps, text_of}
 use Rattle.sip_standard.specs.MachineEvent.{MachineEvent}
 
--- an event of the code, whose message is a number of a book
+-- an event of the code, whose message is the number of one in a book
 pub record NumberedEvent : Type 0 where
   pub moment : ℕ
   pub action : Action
@@ -14,7 +14,7 @@ pub record NumberedEvent : Type 0 where
   pub kind : Kind
   pub reliable : Bool
 
--- the event of the code beside the texts of a book
+-- the event that an event of the code stands for beside a book
 abbrev pub event_in : Texts → NumberedEvent → MachineEvent
 event_in texts e =
     record { moment = e.moment; action = e.action; text = text_of texts e.number; kind = e.kind; reliable = e.reliable }

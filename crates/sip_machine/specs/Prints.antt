@@ -2,7 +2,7 @@ use Rattle.std.specs.Prelude.{◌≡◌, ◌<◌, ◌≤◌, ◌+◌, ◌-◌, �
 
 -- Numbers by which most values are told apart at once.
 
--- each value from one on has one, and equal ones have the same
+-- each value from one index on has a print, and equal values have the same
 pub record ArePrints {X : Type 0} (values : List X) (from : ℕ) (prints : List ℕ) : Type 0 where
   pub long : from + length prints ≡ length values
   pub same : (i k : ℕ) (x : X) → from ≤ i → i < length values → from ≤ k → k < length values → get_or values i x ≡ get_or values k x →

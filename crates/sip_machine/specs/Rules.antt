@@ -3,7 +3,7 @@ use Rattle.sip_machine.specs.Limits.{IsWithin, IsOpenAt}
 use Rattle.sip_machine.specs.Texts.{Texts, Keeps}
 use Rattle.sip_standard.specs.MachineEvent.{MachineEvent}
 
--- a machine over states X: its first state, its ended state, its visible steps, when it may end and how long it may stay
+-- the rules of a machine over states X: its first state, its ended state, its visible steps, when a state may end and how long it may be waited in
 pub record MachineRules (X : Type 0) : Type 1 where
   pub first : X
   pub ended : X
@@ -11,21 +11,21 @@ pub record MachineRules (X : Type 0) : Type 1 where
   pub window : X → Option (ℕ × Option ℕ)
   pub until : X → Option ℕ
 
--- a received message leads where P says, and where it has no row it changes nothing
+-- a received message leads from x where P says; where P says nothing, it leaves x as it is
 abbrev pub OrStays : {X : Type 0} → (X → Type 0) → X → X → Type 0
 OrStays {X} P x y = P y ⊎ (((z : X) → ¬ (P z)) × (y ≡ x))
 
--- x may stay until h
+-- the machine may wait in the state x until h
 abbrev pub Waits : {X : Type 0} → MachineRules X → X → ℕ → Type 0
 Waits r x h = IsWithin h (r.until x)
 
--- x may end at h, which gives y
+-- the machine may end at h in the state x, which gives the state y
 pub record Hide {X : Type 0} (r : MachineRules X) (x : X) (h : ℕ) (y : X) : Type 0 where
   pub opened : IsOpenAt h (r.window x)
   pub waited : Waits r x h
   pub gives : y ≡ r.ended
 
--- what every machine keeps: the first and the ended state stay for ever, and a visible step leads from and to a state that can wait at its own moment
+-- what each machine keeps: the first and the ended state stay for ever, and a visible step leads from and to a state that can wait at its own moment
 pub record IsLawful {X : Type 0} (r : MachineRules X) : Type 0 where
   pub first_has_no_end : r.window r.first ≡ None
   pub first_stays : r.until r.first ≡ None
@@ -34,7 +34,7 @@ pub record IsLawful {X : Type 0} (r : MachineRules X) : Type 0 where
   pub fresh : (x : X) (e : MachineEvent) (y : X) → r.Take x e y → Waits r y e.moment
   pub timely : (x : X) (e : MachineEvent) (y : X) → r.Take x e y → Waits r x e.moment
 
--- the messages that a state names are kept
+-- the book keeps the messages that a state names
 abbrev pub Knows : {S : Type 0} → (S → List ℕ) → Texts → S → Type 0
 Knows names texts x = All (Keeps texts) (names x)
 
@@ -51,7 +51,7 @@ pub record Covers {X S : Type 0} (names : S → List ℕ) (InRange : S → Type 
   pub known : All (Knows names texts) xs
   pub in_range : All InRange xs
 
--- one of the states leads to y
+-- one of the states xs leads to y
 abbrev pub FromSome : {X S : Type 0} → (S → X → Type 0) → List S → X → Type 0
 FromSome Leads [] y = ⊥
 FromSome Leads (x ∷ xs) y = Leads x y ⊎ FromSome Leads xs y

@@ -1,14 +1,14 @@
 use Rattle.std.specs.Prelude.{◌≡◌, ◌<◌, ℕ, List, [], ◌∷◌, Contains, AllPairs, map, if◌then◌else◌, ◌==◌}
 
--- what a book holds: the numbers of its messages with their bytes, in the order in which they were added
+-- what a book holds: the messages by their numbers, in the order in which they were added
 abbrev pub Texts : Type 0
 Texts = List (ℕ × List ℕ)
 
--- the message with this number is kept
+-- the book keeps a message with this number
 abbrev pub Keeps : Texts → ℕ → Type 0
 Keeps texts number = Contains (map (λ kept. kept.0) texts) number
 
--- the bytes of the message with this number, none if it is not kept
+-- the bytes of the message with this number, and no bytes if it is not kept
 abbrev pub text_of : Texts → ℕ → List ℕ
 text_of [] number = []
 text_of (kept ∷ texts) number = if kept.0 == number then kept.1 else text_of texts number

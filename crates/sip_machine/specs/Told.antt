@@ -5,9 +5,9 @@ use Rattle.sip_machine.specs.declared.told.ToldField.{ToldField as CodeField}
 use Rattle.sip_machine.specs.declared.told.ToldField.TheVariants as code
 use Rattle.sip_machine.specs.declared.told.Told.{Told as CodeTold}
 
--- A phase in words: its messages, and the words of the code, whose messages are numbers of a book.
+-- A phase in words of the code, whose messages are numbers of a book.
 
--- the messages that it tells
+-- the message that a field tells, if it tells one
 abbrev pub field_message : {M : Type 0} → ToldField M → Option M
 field_message (Message name message) = message
 field_message field = None
@@ -15,7 +15,7 @@ field_message field = None
 abbrev pub messages_told : {M : Type 0} → Told M → List M
 messages_told told = filter_map field_message told.fields
 
--- the words of the code
+-- the field of a field of the code
 abbrev pub field_of_code : CodeField → ToldField ℕ
 field_of_code (code.Flag name is) = Flag name.now is
 field_of_code (code.Number name value) = Number name.now value

@@ -21,11 +21,10 @@ use std::alloc::{AllocError, Global};
 use std::cmp::Ordering;
 use std::marker::Model;
 
-/// Messages by number: equal bytes have one number. They stand in the order of their numbers, and beside them
-/// their places stand in the order of hash and bytes, in runs, so that few places move for a new one. So a message
-/// is found by its number, and by its bytes, with a logarithm of comparisons, whatever the log is and however the
-/// hashes fall; its bytes are kept once. The newest one gets its place when the next one comes, so that one which is
-/// forgotten at once never has one.
+/// Messages by number: equal bytes have one number. They stand in the order of their numbers. A second list, in runs, has
+/// their places in the order of hash and bytes. So a message is found by its number and by its bytes with a logarithm of
+/// comparisons, whatever the log is and however the hashes fall, and a new one moves few places. The newest message gets
+/// its place only when the next one comes, so that a message that is forgotten at once never has one.
 #[derive(Debug, Drop)]
 pub struct Book {
     kept: Vec<KeptMessage>,
@@ -34,7 +33,7 @@ pub struct Book {
     loose: Option<Loose>,
     /// The To of some of the messages.
     tos: Tos,
-    /// Buffers of messages that were forgotten, for those that come.
+    /// The buffers of messages that were forgotten, for those that come.
     spare: Vec<Vec<u8>>,
 }
 
@@ -60,21 +59,21 @@ struct PlaceRun {
     places: Vec<Place>,
 }
 
-/// Between two places: in this run, before this place of it.
+/// A gap between two places: in this run, before this place of it.
 #[derive(Clone, Copy, Debug)]
 struct Gap {
     run: usize,
     place: usize,
 }
 
-/// Where the place of the newest message goes, with the hash of its bytes.
+/// The gap into which the place of the newest message goes, with the hash of its bytes.
 #[derive(Clone, Copy, Debug)]
 struct Loose {
     hash: u64,
     gap: Gap,
 }
 
-/// A run with so many places is halved before it takes another one.
+/// A run with as many places as this is halved before it takes another one.
 const MOST: usize = 128;
 
 impl Model for Book {
@@ -90,7 +89,7 @@ impl Model for Book {
 }
 
 impl Book {
-    /// An empty book.
+    /// A book without messages.
     pub fn new(alloc: Global) -> Self
         ensures { result ≡ [] }
     {
@@ -103,14 +102,14 @@ impl Book {
         }
     }
 
-    /// The numbers rise, and messages with equal bytes have one number.
+    /// Does nothing. Its contract tells that the numbers rise, and that messages with equal bytes have one number.
     pub fn known(&self)
         ensures { IsBook self.now }
     {
         let _ = &self.kept;
     }
 
-    /// The bytes of the message with this number, None if it is not kept.
+    /// The bytes of the message with this number, and None if it is not kept.
     pub fn bytes(&self, number: u32) -> Option<&[u8]>
         ensures { MatchOption result (Keeps self.now number → ⊥)
             (λ bytes. Keeps self.now number × (bytes.now ≡ text_of self.now number)) }
@@ -129,7 +128,7 @@ impl Book {
         self.bytes(number).unwrap()
     }
 
-    /// The message that is kept with this number, read anew; None where its bytes are none.
+    /// The message that is kept with this number, read anew; None where its bytes are no message.
     pub(crate) fn message(
         &self,
         alloc: Global,
@@ -145,9 +144,9 @@ impl Book {
         }
     }
 
-    /// Whether the message with this number has this To, from which the blanks were taken. It is read anew where
-    /// its To does not stand beside it. The To beside it is looked for at `near` first, which is left after it: so
-    /// messages that are asked for in the order of their numbers cost a step each.
+    /// Whether the message with this number has this To, from which the blanks were taken. It is read anew where its To does
+    /// not stand beside it. A To beside it is looked for at `near` first, and `near` is left after it: so messages that
+    /// are asked for in the order of their numbers cost one step each.
     pub(crate) fn has_to(
         &self,
         alloc: Global,
@@ -175,16 +174,16 @@ impl Book {
         }
     }
 
-    /// The To of the message with this number without its blanks, where it stands beside it: at `near`, or wherever
-    /// a search finds it.
+    /// The To, without its blanks, of the message with this number, where it stands beside the message: at `near`, or
+    /// where a search finds it.
     fn to_of(&self, number: u32, near: &mut usize) -> Option<&Hashed>
         ensures { IfSome result (λ to. IsToOf (text_of self.now number) to.now) }
     {
         self.tos.get(number, near)
     }
 
-    /// Which of the messages with numbers from `low` up to `high` has this To, from which the blanks were taken, where it
-    /// is told without a look at each of them: each has its To beside it, and no two have this one.
+    /// Which of the messages with numbers from `low` up to `high` has this To, from which the blanks were taken. It is told without
+    /// a look at each of them where each has its To beside it and no two have this one.
     pub(crate) fn holder(&self, to: &Hashed, low: u32, high: u32) -> Holder
         ensures { HoldsBetween self.now to.now low high result }
     {
@@ -194,7 +193,7 @@ impl Book {
         self.tos.holder(to)
     }
 
-    /// Puts the To of a message beside it where an ACK is owed for it, so that no ACK reads it anew. Where there is
+    /// Puts the To of a message beside it where an ACK is owed for the message, so that no ACK reads it anew. Where there is
     /// no memory for the To, all is as before.
     pub fn keep_to(&mut self, number: u32, message: &Message<'_>)
         requires kept { Keeps self.old number }
@@ -212,8 +211,8 @@ impl Book {
         }
     }
 
-    /// The number of the first kept message with these bytes; where there is none, they are kept
-    /// under the number of their entry, which is above all that are kept.
+    /// The number of the first kept message with these bytes. Where there is none, the bytes are kept under the number
+    /// of their entry, which is above all that are kept.
     pub fn add(&mut self, entry: u32, bytes: &[u8]) -> Result<u32, AllocError>
         requires { (n : ℕ) → Keeps self.old n → n < entry }
         ensures ok { IfOk result (λ n. Keeps self.new n × (text_of self.new n ≡ bytes.now)) }
@@ -237,7 +236,7 @@ impl Book {
         }
     }
 
-    /// Forgets the newest message, if it has this number, and neither its place nor its To stands beside it yet.
+    /// Forgets the newest message, if it has this number and neither its place nor its To stands beside it yet.
     pub fn forget_newest(&mut self, number: u32)
         ensures { (self.new ≡ self.old) ⊎ ((bytes : List ℕ) × (self.old ≡ self.new ++ (number, bytes) ∷ [])) }
     {
@@ -257,7 +256,7 @@ impl Book {
         self.kept.len()
     }
 
-    /// Keeps just the messages with these numbers, which rise. Their numbers and bytes stay. It takes no memory.
+    /// Keeps the messages with these numbers alone, which rise. Their numbers and bytes stay. It takes no memory.
     pub fn retain_only(&mut self, numbers: &[u32])
         requires rising { AllPairs (λ a b. a < b) numbers.now }
         requires kept { All (Keeps self.old) numbers.now }
@@ -272,7 +271,7 @@ impl Book {
     }
 }
 
-/// Whether the message refuses an INVITE: each that does is owed an ACK.
+/// Whether the message refuses an INVITE: a response that does is owed an ACK.
 fn is_refusal(message: &Message<'_>) -> bool {
     match message.start() {
         StartLine::Status { code, .. } => {
@@ -292,7 +291,7 @@ fn kept_between(kept: &[KeptMessage], low: u32, high: u32) -> usize
     to.saturating_sub(from)
 }
 
-/// The position of the message with these bytes; where there is none, its gap in the order.
+/// The position of the message with these bytes, and, where there is none, the gap of these bytes in the order.
 fn find(kept: &[KeptMessage], runs: &[PlaceRun], hash: u64, bytes: &[u8]) -> Result<usize, Gap>
     requires { IsInRuns (texts_of kept.now) runs.now }
     ensures found { IfOk result (λ position. (position < length kept.now) × (bytes_at (texts_of kept.now) position ≡ bytes.now)) }
@@ -311,15 +310,16 @@ fn find(kept: &[KeptMessage], runs: &[PlaceRun], hash: u64, bytes: &[u8]) -> Res
     }
 }
 
-/// Whether the first place of a run is none after this hash and these bytes.
+/// Whether the first place of the run is not after this hash and these bytes.
+#[inline(always)]
 fn begins_by(kept: &[KeptMessage], run: &PlaceRun, hash: u64, bytes: &[u8]) -> bool
     ensures { result ≡ begins_by (texts_of kept.now) (hash, bytes.now) run.now }
 {
     standing(kept, run.first, hash, bytes).is_le()
 }
 
-/// A copy of these bytes, in a spare buffer if there is one. Where there is none, it asks for room to set aside the buffers of
-/// as many messages as are kept, and does without it where there is no memory.
+/// A copy of these bytes, in a spare buffer if there is one. Where there is none, it asks for room in which the buffers of as
+/// many messages as are kept can be set aside, and does without it where there is no memory.
 fn copy(spare: &mut Vec<Vec<u8>>, kept: usize, bytes: &[u8]) -> Result<Vec<u8>, AllocError>
     ensures { IfOk result (λ copy. copy.items ≡ bytes.now) }
 {
@@ -332,7 +332,7 @@ fn copy(spare: &mut Vec<Vec<u8>>, kept: usize, bytes: &[u8]) -> Result<Vec<u8>, 
     Ok(copy)
 }
 
-/// The messages whose places stand in the order, or their numbers: all, or all but the newest, which comes last.
+/// The elements for messages whose places stand in the order: all of them, or all but the newest, which comes last.
 fn placed<T>(all: &[T], is_loose: bool) -> &[T]
     ensures { result.now ≡ placed is_loose all.now }
 {
@@ -343,7 +343,7 @@ fn placed<T>(all: &[T], is_loose: bool) -> &[T]
     }
 }
 
-/// Puts the place of the newest message with the others, if it stands in no run yet. On an error it stands in none.
+/// Puts the place of the newest message among the others, if it stands in no run yet. On an error it stands in none.
 fn place_newest(
     kept: &[KeptMessage],
     runs: &mut Vec<PlaceRun>,
@@ -369,7 +369,7 @@ fn place_newest(
     Ok(())
 }
 
-/// Where the place of the newest message goes, if it stands in no run.
+/// The gap into which the place of the newest message goes, if it stands in no run.
 fn loosened(kept: &[KeptMessage], runs: &[PlaceRun], is_loose: bool) -> Option<Loose>
     requires book { IsBook (texts_of kept.now) }
     requires order { IsInRuns (placed is_loose (texts_of kept.now)) runs.now }
@@ -389,7 +389,7 @@ fn loosened(kept: &[KeptMessage], runs: &[PlaceRun], is_loose: bool) -> Option<L
     }
 }
 
-/// Takes the newest message away, if it has this number.
+/// Takes the newest message out, if it has this number.
 fn pop_newest(kept: &mut Vec<KeptMessage>, number: u32) -> Option<KeptMessage>
     ensures none { IfNone result (kept.new.items ≡ kept.old.items) }
     ensures some { IfSome result (λ newest. (newest.number ≡ number) × (kept.old.items ≡ kept.new.items ++ newest ∷ [])) }
@@ -400,7 +400,7 @@ fn pop_newest(kept: &mut Vec<KeptMessage>, number: u32) -> Option<KeptMessage>
     }
 }
 
-/// Puts a place into the gap; on an error the places are as before.
+/// Puts a place into the gap. On an error the places are as before.
 fn insert(runs: &mut Vec<PlaceRun>, gap: Gap, place: Place) -> Result<(), AllocError>
     requires led { All IsLed runs.old.items }
     requires short { All (λ run. length run.places.items ≤ most_places) runs.old.items }
@@ -428,7 +428,7 @@ fn insert(runs: &mut Vec<PlaceRun>, gap: Gap, place: Place) -> Result<(), AllocE
     Ok(())
 }
 
-/// Halves the run of a gap where it is full, so that it has room. The gap as it is then; on an error the places are as before.
+/// Halves the run of a gap where the run is full, so that it has room, and gives the gap as it is then. On an error the places are as before.
 fn make_room(runs: &mut Vec<PlaceRun>, gap: Gap) -> Result<Gap, AllocError>
     requires led { All IsLed runs.old.items }
     requires short { All (λ run. length run.places.items ≤ most_places) runs.old.items }
@@ -456,7 +456,7 @@ fn make_room(runs: &mut Vec<PlaceRun>, gap: Gap) -> Result<Gap, AllocError>
     })
 }
 
-/// Where the message with these bytes and this hash stands among places in order, or where it would go.
+/// The place of the message with these bytes and this hash among places in order, or where it would go.
 fn search(kept: &[KeptMessage], places: &[Place], hash: u64, bytes: &[u8]) -> Result<usize, usize>
     ensures within { IsSearchInRange result (length places.now) }
     ensures found { IsBinarySearchResult (λ place. compare (key_of (texts_of kept.now) place) (hash, bytes.now)) places.now result }
@@ -464,7 +464,8 @@ fn search(kept: &[KeptMessage], places: &[Place], hash: u64, bytes: &[u8]) -> Re
     places.binary_search_by(|place| standing(kept, *place, hash, bytes))
 }
 
-/// How the message at a place stands to one with this hash and these bytes: by the hash, then by the bytes.
+/// How the message at a place compares with one of this hash and these bytes: by the hash, and then by the bytes.
+#[inline(always)]
 fn standing(kept: &[KeptMessage], place: Place, hash: u64, bytes: &[u8]) -> Ordering
     ensures { result ≡ compare (key_of (texts_of kept.now) place) (hash, bytes.now) }
 {
@@ -474,7 +475,7 @@ fn standing(kept: &[KeptMessage], place: Place, hash: u64, bytes: &[u8]) -> Orde
     }
 }
 
-/// The bytes at a position, none past the last message.
+/// The bytes of the message at a position, and no bytes past the last message.
 fn bytes_at(kept: &[KeptMessage], position: usize) -> &[u8]
     ensures { result.now ≡ bytes_at (texts_of kept.now) position }
 {

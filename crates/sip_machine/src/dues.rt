@@ -1,4 +1,4 @@
-//! What each of many states owes: a ledger, where any of them owes something.
+//! What each of many states owes: a ledger, if any of them owes something.
 ghost use Rattle.std.specs.Prelude.{◌≡◌, ◌↔◌, ◌<◌, ◌≤◌, ◌++◌, ◌∷◌, [], List, IsTrue, IfOk, OnOk, OnErr, None, All, length, set, map, filter, take, drop};
 ghost use Rattle.std.specs.List.{list_any};
 ghost use Rattle.sip_ledger.specs.Debts.{counts_at, softened_debt, is_payable, debt_deadlines, paid_by};
@@ -16,7 +16,7 @@ use std::alloc::{AllocError, Global};
 use std::marker::Model;
 
 /// What each of many states owes, oldest cause first, in a row of its own. Where none owes anything, nothing is allocated.
-/// Contracts see the rows. Beside them stand numbers between which those of all messages are that are owed.
+/// Contracts see the rows. Beside them stand two numbers, and the numbers of all messages that are owed are between these.
 #[derive(Debug, Drop)]
 pub struct Dues {
     rows: usize,
@@ -39,7 +39,7 @@ impl Model for Dues {
 }
 
 impl Dues {
-    /// There are no rows.
+    /// No rows.
     pub(crate) fn none() -> Dues
         ensures { result ≡ [] }
     {
@@ -78,7 +78,7 @@ impl Dues {
         Ok(())
     }
 
-    /// Keeps the first rows.
+    /// Keeps the first `rows` rows, and drops those after them.
     pub(crate) fn truncate(&mut self, rows: usize)
         ensures { self.new ≡ take rows self.old }
     {
@@ -88,7 +88,7 @@ impl Dues {
         self.rows = self.rows.min(rows);
     }
 
-    /// Drops the first rows.
+    /// Drops the first `rows` rows.
     pub(crate) fn drop_first(&mut self, rows: usize)
         requires { rows ≤ length self.old }
         ensures { self.new ≡ drop rows self.old }
@@ -99,7 +99,7 @@ impl Dues {
         self.rows -= rows;
     }
 
-    /// Lets the row owe what another one does, and nothing else.
+    /// Lets the row `to` owe what the row `from` does, and nothing else.
     pub(crate) fn copy(&mut self, from: usize, to: usize)
         requires from { from < length self.old }
         requires to { to < length self.old }
@@ -147,7 +147,7 @@ impl Dues {
         }
     }
 
-    /// Drops what the row may send and whose deadline is below the moment.
+    /// Drops those debts of the row that may be sent, and whose deadline is below the moment.
     #[inline(always)]
     pub(crate) fn expire(&mut self, row: usize, moment: u64)
         requires { row < length self.old }
@@ -158,7 +158,7 @@ impl Dues {
         }
     }
 
-    /// Of what the row owes, nothing has to be sent any more.
+    /// Lets the row owe what it did, but none of it must be sent any more.
     pub(crate) fn soften(&mut self, row: usize)
         requires { row < length self.old }
         ensures { self.new ≡ set self.old row (map softened_debt (owed_in self.old row)) }
@@ -168,7 +168,7 @@ impl Dues {
         }
     }
 
-    /// The row owes nothing any more.
+    /// Lets the row owe nothing.
     pub(crate) fn clear(&mut self, row: usize)
         requires { row < length self.old }
         ensures { self.new ≡ set self.old row [] }
@@ -178,7 +178,7 @@ impl Dues {
         }
     }
 
-    /// The least deadline of what the row must send.
+    /// The least deadline of what the row must send, and None if it must send nothing.
     #[inline(always)]
     pub(crate) fn earliest_must(&self, row: usize) -> Option<u64>
         requires { row < length self.now }
@@ -214,7 +214,7 @@ impl Dues {
         }
     }
 
-    /// A number for what each row from one on owes: rows that owe the same have the same, and others hardly ever.
+    /// A number for what each row from `from` on owes. Rows that owe the same have the same number, and others hardly ever.
     pub(crate) fn prints(&self, alloc: Global, from: usize) -> Result<Vec<u64>, AllocError>
         requires { from ≤ length self.now }
         ensures { IfOk result (λ prints. ArePrints self.now from prints.items) }
@@ -225,7 +225,7 @@ impl Dues {
         }
     }
 
-    /// Puts the number of each message that the row owes after the others, once for each debt. On an error they are as before.
+    /// Puts the number of the message of each debt of the row after those in the vector. On an error the vector is as before.
     pub(crate) fn names(
         &self,
         alloc: Global,
@@ -244,7 +244,7 @@ impl Dues {
         numbers.append(&mut owed)
     }
 
-    /// What the row owes, with equal neighbours in one.
+    /// What the row owes, in runs: equal debts side by side stand in one.
     pub(crate) fn runs(&self, alloc: Global, row: usize) -> Result<Vec<Run>, AllocError>
         requires { row < length self.now }
         ensures { IfOk result (λ runs. AreRuns (owed_in self.now row) runs.items) }
@@ -255,7 +255,7 @@ impl Dues {
         }
     }
 
-    /// Numbers between which those of all messages are that are owed.
+    /// Two numbers between which the numbers of all messages are that are owed.
     pub(crate) fn span(&self) -> (u32, u32)
         ensures { All (AreBetween result.0 result.1) self.now }
     {
@@ -279,7 +279,7 @@ impl Dues {
     }
 }
 
-/// A ledger of so many rows, of which this one owes a debt and no other owes anything.
+/// A ledger of `rows` rows, of which the row `row` owes this debt, and no other owes anything.
 fn opened(alloc: Global, rows: usize, row: usize, debt: Debt) -> Result<Box<Ledger>, AllocError>
     requires { row < rows }
     ensures { IfOk result (λ boxed. rows_of boxed.value ≡ set (rows_in rows None) row (owed_in (rows_in rows None) row ++ debt ∷ [])) }
@@ -289,7 +289,7 @@ fn opened(alloc: Global, rows: usize, row: usize, debt: Debt) -> Result<Box<Ledg
     Ok(Box::new(alloc, ledger)?)
 }
 
-/// A ledger of so many rows, which owe nothing.
+/// A ledger of `rows` rows that owe nothing.
 fn blank(alloc: Global, rows: usize) -> Result<Ledger, AllocError>
     ensures { IfOk result (λ ledger. rows_of ledger ≡ rows_in rows None) }
 {
@@ -300,7 +300,7 @@ fn blank(alloc: Global, rows: usize) -> Result<Ledger, AllocError>
     Ok(ledger)
 }
 
-/// Whether no row owes anything.
+/// Whether no row of the ledger owes anything.
 fn is_blank(ledger: &Ledger) -> bool
     ensures { IsTrue result → (rows_of ledger.now ≡ rows_in (length (rows_of ledger.now)) None) }
 {
@@ -312,7 +312,7 @@ fn is_blank(ledger: &Ledger) -> bool
     true
 }
 
-/// The same print for each of so many rows from one on that owe nothing.
+/// A print for each row from `from` on of `rows` rows that owe nothing: the same for all.
 fn zeros(alloc: Global, rows: usize, from: usize) -> Result<Vec<u64>, AllocError>
     requires { from ≤ rows }
     ensures { IfOk result (λ prints. ArePrints (rows_in rows None) from prints.items) }

@@ -1,4 +1,4 @@
-//! What an event does to a state, and how it is done to what the state owes.
+//! What an event does to a state, and how that is done to what the state owes.
 ghost use Rattle.std.specs.Prelude.{◌≡◌, ◌<◌, ◌≤◌, ◌++◌, OnOk, OnErr, drop, length, map, set, filter, take};
 ghost use Rattle.sip_ledger.specs.Debts.{counts_at};
 ghost use Rattle.sip_standard.specs.Times.{last_moment};
@@ -12,26 +12,26 @@ use sip_ledger::Debt;
 use sip_times::Params;
 use std::alloc::{AllocError, Global};
 
-/// What an event does to a state: a row may lead on, and a message that is sent may leave the phase as it is. Where neither is,
+/// What an event does to a state: a row may lead on, and a sent message may leave the phase as it is. Where neither is so,
 /// the event has no step.
 #[derive(Clone, Copy)]
 pub(crate) struct Effect<P> {
     /// Where a row leads.
     pub turn: Option<Turn<P>>,
-    /// How the phase stays.
+    /// How the phase stays, if it does.
     pub rest: Option<Rest>,
 }
 
-/// How a message that is sent leaves the phase as it is.
+/// How a sent message leaves the phase as it is.
 #[derive(Clone, Copy)]
 pub(crate) enum Rest {
     /// Nothing changes.
     Stays,
-    /// It pays the first debt that a send of this message pays.
+    /// It pays the first debt that a send of the message with this number pays.
     Pays(u32),
 }
 
-/// Does to what the state owes what a row does, with what has not expired. On an error all is as before.
+/// Drops what has expired of what the state owes, and does to the rest what the row does. On an error all is as before.
 #[inline(always)]
 pub(crate) fn lead(
     alloc: Global,
@@ -54,7 +54,7 @@ pub(crate) fn lead(
         }
         Change::Drops => dues.clear(row),
         Change::Gains { must, message } => {
-            // what is new counts at its own moment
+            // What is new counts at its own moment, so that it may come before what has expired goes.
             let debt = Debt {
                 message,
                 deadline: params.deadline(moment),
@@ -67,7 +67,7 @@ pub(crate) fn lead(
     Ok(())
 }
 
-/// The same to what each row from one on owes. On an error the rows before them are as before.
+/// Drops what has expired of what each row from `from` on owes, and does to the rest what the row does. On an error the rows before them are as before.
 pub(crate) fn lead_each(
     alloc: Global,
     params: &Params,
@@ -84,7 +84,7 @@ pub(crate) fn lead_each(
         Change::Keeps => dues.expire_each(from, moment),
         Change::Softens | Change::Drops => lead_rows(alloc, params, moment, change, dues, from)?,
         Change::Gains { must, message } => {
-            // what is new counts at its own moment
+            // What is new counts at its own moment, so that it may come before what has expired goes.
             let debt = Debt {
                 message,
                 deadline: params.deadline(moment),
@@ -97,7 +97,7 @@ pub(crate) fn lead_each(
     Ok(())
 }
 
-/// The same, one by one.
+/// Does to what each row from `from` on owes what the row does, row by row.
 fn lead_rows(
     alloc: Global,
     params: &Params,
@@ -116,7 +116,7 @@ fn lead_rows(
     Ok(())
 }
 
-/// Leaves the phase as it is, with what has not expired, and without the debt that is paid, if one is.
+/// Leaves the phase as it is: drops what has expired of what the state owes, and takes out the debt that is paid, if one is.
 #[inline(always)]
 pub(crate) fn come_to_rest(moment: u64, rest: Rest, dues: &mut Dues, row: usize)
     requires { row < length dues.old }

@@ -1,4 +1,4 @@
-//! What happened at a moment: a message that was sent, received, or refused by the transport.
+//! Events: messages that were sent, received or refused by the transport at a moment, and restarts.
 ghost use Rattle.std.specs.Prelude.{◌≡◌, ◌≢◌, ◌≤◌, ◌↔◌, IsTrue, false};
 ghost use Rattle.sip_standard.specs.Transport.{is_reliable};
 ghost use Rattle.sip_message.specs.ValueParts.{start_parts};
@@ -59,14 +59,14 @@ pub(crate) fn is_success(code: u16) -> bool
     (200..=299).contains(&code)
 }
 
-/// Whether the code is that of any other final response (RFC 3261, section 7.2).
+/// Whether the code is that of a final response that is no 2xx (RFC 3261, section 7.2).
 pub(crate) fn is_unsuccessful(code: u16) -> bool
     ensures { IsTrue result ↔ IsUnsuccessful code }
 {
     (300..=699).contains(&code)
 }
 
-/// A message that was sent, received or refused at a moment, by its number in a `Book`.
+/// A message that was sent, received or refused at a moment, by its number in a `Book`; or a restart.
 #[derive(Clone, Copy, Debug)]
 pub struct Event {
     moment: u64,
@@ -156,7 +156,7 @@ impl Event {
         self.kind
     }
 
-    /// Whether the transport delivers what it takes.
+    /// Whether the transport of the message is reliable.
     pub fn reliable(&self) -> bool
         ensures { result ≡ self.now.reliable }
     {

@@ -1,11 +1,11 @@
-//! Texts that their hashes tell apart.
+//! Texts that are told apart by their hashes first.
 ghost use Rattle.std.specs.Prelude.{◌≡◌, bytes_eq};
 ghost use Rattle.sip_machine.specs.inner.Order.{hash_of};
 
 use std::hash::{FoldHasher, Hasher};
 use std::marker::Model;
 
-/// A hash looks at so many bytes: the start line and the top Via stand there, which tell ordinary messages apart.
+/// How many bytes a hash looks at. The start line and the top Via stand among these, which tell ordinary messages apart.
 const MOST_HASHED: usize = 256;
 
 /// A text with its hash. Contracts see the text.
@@ -40,14 +40,14 @@ impl Hashed {
         &self.text
     }
 
-    /// Equal texts have equal ones.
+    /// The hash of the text: equal texts have equal hashes.
     pub(crate) fn hash(&self) -> u64
         ensures { result ≡ hash_of self.now }
     {
         self.hash
     }
 
-    /// Whether the texts are the same: other hashes tell at once that they are not.
+    /// Whether the texts are the same. Where their hashes differ, they are not, and no byte is compared.
     pub(crate) fn is(&self, other: &Hashed) -> bool
         ensures { result ≡ bytes_eq self.now other.now }
     {
@@ -58,7 +58,7 @@ impl Hashed {
     }
 }
 
-/// A hash of the front of these bytes, which says nothing of them but that equal bytes have equal hashes.
+/// A hash of the front of these bytes. It says nothing of them but that equal bytes have equal hashes.
 #[tactic(auto, using(std::proofs::lemmas::List::take_min))]
 pub(crate) fn hash(bytes: &[u8]) -> u64
     ensures { result ≡ hash_of bytes.now }

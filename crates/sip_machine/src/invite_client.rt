@@ -39,8 +39,8 @@ pub enum InviteClientPhase {
     Accepted {
         set: u64,
     },
-    /// Another final response came at the moment `set`, which starts timer D. It and each one that
-    /// came after it are owed an ACK until that is sent.
+    /// Another final response came at the moment `set`, which starts timer D. For it, and for each one that came after
+    /// it, an ACK is owed until it is sent.
     Completed {
         reliable: bool,
         request: u32,
@@ -200,7 +200,7 @@ impl Phases for InviteClient {
                 Idle => Idle,
                 _ => return Ok(None),
             },
-            // the first one counts, and in calling none is sent
+            // The first CANCEL counts, and none is sent in calling.
             Method::Cancel => match *phase {
                 Calling(_) => return Ok(None),
                 Proceeding {
@@ -253,15 +253,15 @@ impl Phases for InviteClient {
     fn timer_window(&self, phase: &InviteClientPhase) -> Option<(u64, Option<u64>)> {
         let params = &self.params;
         match *phase {
-            // timer B
+            // The window of timer B.
             Calling(waiting) => Some(params.window(waiting.start, timeout(params))),
             Proceeding { cancel, .. } => match cancel {
                 Some(first) => Some((params.opens(first, timeout(params)), None)),
                 None => None,
             },
-            // timer M
+            // The window of timer M.
             Accepted { set } => Some(params.window(set, timeout(params))),
-            // timer D
+            // The window of timer D.
             Completed { reliable, set, .. } if reliable => Some(params.window(set, 0)),
             Completed { set, .. } => Some((params.opens(set, TIMER_D), None)),
             Idle | Ended => None,

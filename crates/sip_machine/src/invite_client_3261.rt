@@ -16,7 +16,7 @@ use std::alloc::{AllocError, Global};
 use std::marker::Model;
 
 /// The INVITE client transaction of an element that was built before RFC 6026: a 2xx ends it. Its phases are those of
-/// `InviteClient`, of which it never enters accepted.
+/// `InviteClient`, and it never enters accepted.
 #[derive(Clone, Copy, Debug)]
 pub struct InviteClient3261 {
     corrected: InviteClient,

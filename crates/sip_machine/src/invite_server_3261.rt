@@ -32,10 +32,10 @@ use std::marker::Model;
 /// A phase of the INVITE server transaction of an element that was built before RFC 6026.
 #[derive(Clone, Copy, Debug, PartialEq, Eq, Hash)]
 pub enum InviteServer3261Phase {
-    /// A 2xx was sent: it is the user's, which sends it again, and the INVITE may come again.
+    /// A 2xx was sent: from then on it is the user that sends it again, and the INVITE may come again.
     Passed,
     In {
-        /// Never accepted.
+        /// The phase, as `InviteServer` has it; it is never accepted.
         phase: InviteServerPhase,
         /// Whether the INVITE came again after a 2xx.
         again: bool,
@@ -48,7 +48,7 @@ impl Phase for InviteServer3261Phase {
     ghost exact = { invite_server_3261_exact };
 }
 
-/// The INVITE server transaction of an element that was built before RFC 6026: a 2xx is the last that it does.
+/// The INVITE server transaction of an element that was built before RFC 6026: a 2xx is the last message that it sends.
 #[derive(Clone, Copy, Debug)]
 pub struct InviteServer3261 {
     corrected: InviteServer,
@@ -240,7 +240,7 @@ impl Phases for InviteServer3261 {
     ghost phases = { has_phases invite_server_3261_is_coded };
 }
 
-/// The phase before the INVITE, which is the one after the end too.
+/// The phase before the INVITE, which is also the one after the end.
 fn idle() -> InviteServer3261Phase
     ensures { result ≡ In Idle false }
 {
@@ -250,7 +250,7 @@ fn idle() -> InviteServer3261Phase
     }
 }
 
-/// Where a received message leads after a 2xx: the INVITE begins the transaction anew.
+/// Where a received message leads after a 2xx: an INVITE begins the transaction anew.
 fn invited_again(event: &Event) -> Option<Turn<InviteServer3261Phase>>
     requires { event.now.moment ≤ last_moment }
     ensures { (p : Times) (texts : Texts) → AnswersOne (turn_names invite_server_3261_names) (TurnInRange InviteServer3261InRange) (turn_seen invite_server_3261_seen) texts
@@ -272,7 +272,7 @@ fn invited_again(event: &Event) -> Option<Turn<InviteServer3261Phase>>
     })
 }
 
-/// Where a 2xx that is sent leads: after one, or as the final response.
+/// Where a sent 2xx leads: after another 2xx, or as the final response.
 fn succeeds(phase: &InviteServer3261Phase) -> Option<Turn<InviteServer3261Phase>>
     ensures { (p : Times) (texts : Texts) (code : ℕ) (e : MachineEvent) → IsSuccess code →
         AnswersOne (turn_names invite_server_3261_names) (TurnInRange InviteServer3261InRange) (turn_seen invite_server_3261_seen) texts
@@ -292,7 +292,7 @@ fn succeeds(phase: &InviteServer3261Phase) -> Option<Turn<InviteServer3261Phase>
     })
 }
 
-/// Where a row of `InviteServer` leads.
+/// A turn of `InviteServer` as one of this machine.
 fn within(turn: Option<Turn<InviteServerPhase>>, again: bool) -> Option<Turn<InviteServer3261Phase>>
     ensures { result ≡ option_map (turn_within again) turn }
 {
@@ -308,7 +308,7 @@ fn within(turn: Option<Turn<InviteServerPhase>>, again: bool) -> Option<Turn<Inv
     }
 }
 
-/// Whether it matters in the phase that the INVITE came again.
+/// Whether it matters in the phase whether the INVITE came again.
 fn remembers(phase: &InviteServerPhase) -> bool
     ensures { (texts : Texts) → result ≡ remembers (invite_server_seen texts phase.now) }
 {

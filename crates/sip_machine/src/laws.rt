@@ -1,4 +1,4 @@
-//! A law of the machines, beside those of the trait. The function does nothing.
+//! A law of the machines, beside those of the trait `Machine`. The function does nothing.
 ghost use Rattle.std.specs.Prelude.{◌∷◌, [], ◌++◌, ℕ, List, Contains};
 ghost use Rattle.sip_machine.specs.Texts.{Texts};
 ghost use Rattle.sip_machine.specs.Owing.{CodeOwing};
@@ -6,7 +6,7 @@ ghost use Rattle.sip_machine.specs.Rules.{StandFor};
 
 use crate::machine::Machine;
 
-/// A book may grow: states stand for the same beside it.
+/// States stand for the same beside a book that has grown.
 pub fn states_stay_when_the_book_grows<M: Machine>(_machine: &M)
     ensures { (texts : Texts) (number : ℕ) (bytes : List ℕ) (seen : List M.Seen) (xs : List (CodeOwing M.Phase)) →
         StandFor M.names M.in_range M.seen texts (Contains seen) xs →

@@ -1,9 +1,9 @@
-//! Last moments.
+//! Last moments, up to which something may be waited for.
 ghost use Rattle.std.specs.Prelude.{◌≡◌, ◌∷◌, MatchBool, Some, option_to_list};
 ghost use Rattle.sip_machine.specs.Limits.{IsWithin};
 ghost use Rattle.sip_machine.specs.Deadlines.{earliest};
 
-/// Whether the moment is past the last one, if there is one.
+/// Whether the moment is after the last one, if there is a last one.
 pub(crate) fn is_past(moment: u64, last: Option<u64>) -> bool
     ensures { MatchBool result (¬ (IsWithin moment last)) (IsWithin moment last) }
 {
@@ -13,7 +13,7 @@ pub(crate) fn is_past(moment: u64, last: Option<u64>) -> bool
     }
 }
 
-/// The earlier of a moment and another one, if there is one.
+/// The earlier of a moment and another one, if there is another.
 pub(crate) fn earlier(moment: u64, other: Option<u64>) -> u64
     ensures { Some result ≡ earliest (moment ∷ option_to_list other) }
 {

@@ -14,10 +14,10 @@ use crate::phases::Phase;
 use crate::pool::Pool;
 use std::alloc::AllocError;
 
-/// A machine of a transaction. What it means are its rules, over states that hold their messages as
-/// bytes; a state of the code holds numbers of a `Book` in their place, and stands in a `Pool`.
+/// A machine of a transaction. Its meaning is its rules, over states that hold their messages as bytes. A state of the code
+/// holds numbers of a `Book` in their place, and stands in a `Pool`.
 pub trait Machine: Drop {
-    /// A phase of the code: a state is one, with what is owed beside it.
+    /// A phase of the code: a state is a phase with what is owed beside it.
     type Phase: Phase;
 
     /// A state as the rules see it.
@@ -32,7 +32,7 @@ pub trait Machine: Drop {
     /// The moments of a state of the code are within the limits, so that no sum wraps.
     ghost in_range: { CodeOwing Self.Phase → Type 0 };
 
-    /// What may happen, and when.
+    /// The rules: what may happen, and when.
     ghost rules: { Self → MachineRules Seen };
 
     /// The state before anything was sent or received.
@@ -55,7 +55,7 @@ pub trait Machine: Drop {
     fn ended(&self) -> Self::Phase
         ensures { at_rest result ≡ ended self.now };
 
-    /// Puts each state after the others, once, that the event gives from the one at the index. On an error all is as before.
+    /// Puts each state that the event gives from the one at the index after the others, once each. On an error all is as before.
     fn successors(
         &self,
         book: &Book,
@@ -72,8 +72,8 @@ pub trait Machine: Drop {
             ((rules self.now).Take (seen book.now x) (event_in book.now event.now)) added)) pool.old at }
         ensures err { OnErr result (pool.new ≡ pool.old) };
 
-    /// Puts after the others the states that the event gives from the first ones, as many; some may be found more than once. On an
-    /// error some may have been put after the others.
+    /// Puts the states that the event gives from the first `count` states after the others. Some may be found more than once. On an
+    /// error some may have been put there already.
     fn successors_each(
         &self,
         book: &Book,
@@ -90,8 +90,8 @@ pub trait Machine: Drop {
             (FromSome (λ x. (rules self.now).Take (seen book.now x) (event_in book.now event.now)) (take count pool.old)) added) }
         ensures before { take (length pool.old) pool.new ≡ pool.old };
 
-    /// Takes the event where the only state stands, if it gives just one state, and tells whether it did. If it did not, or on
-    /// an error, all is as before.
+    /// Lets the only state of the pool take the event, if the event gives just one state, and tells whether it did. If it did not,
+    /// or on an error, all is as before.
     fn step(
         &self,
         book: &Book,
@@ -108,14 +108,14 @@ pub trait Machine: Drop {
         ensures other { IfOk result (λ stepped. OnFalse stepped (pool.new ≡ pool.old)) }
         ensures err { OnErr result (pool.new ≡ pool.old) };
 
-    /// From when, and until when if there is such a moment, the state at the index may end; None if it may not.
+    /// From when the state at the index may end, and until when if there is such a moment; None if it may not end.
     /// Moments are in milliseconds.
     fn end_window(&self, pool: &Pool<Self::Phase>, at: usize) -> Option<(u64, Option<u64>)>
         requires at { at < length pool.now }
         requires in_range { HoldsAt in_range pool.now at }
         ensures { HoldsAt (λ x. result ≡ end_window self.now x) pool.now at };
 
-    /// The last moment to which the state at the index may be waited in, in milliseconds; None if there is none.
+    /// The last moment to which the state at the index may be waited in, in milliseconds; None if it may be waited in for ever.
     fn until(&self, pool: &Pool<Self::Phase>, at: usize) -> Option<u64>
         requires at { at < length pool.now }
         requires in_range { HoldsAt in_range pool.now at }
@@ -135,22 +135,22 @@ pub trait Machine: Drop {
     /// The first and the ended state stay for ever, and an event leads from and to states that can wait at its moment.
     ghost lawful: { (m : Self) → IsLawful (rules m) };
 
-    /// The first state stands for that of the rules.
+    /// The first state of the code stands for that of the rules.
     ghost first_stands: { (m : Self) (texts : Texts) → seen texts (first m) ≡ (rules m).first };
 
-    /// So does the ended one.
+    /// The ended state of the code stands for that of the rules.
     ghost ended_stands: { (m : Self) (texts : Texts) → seen texts (ended m) ≡ (rules m).ended };
 
     /// The first state names no message and is in range.
     ghost first_fits: { (m : Self) → (names (first m) ≡ []) × in_range (first m) };
 
-    /// So does the ended one.
+    /// The ended state names no message and is in range.
     ghost ended_fits: { (m : Self) → (names (ended m) ≡ []) × in_range (ended m) };
 
-    /// A state ends when what it stands for does.
+    /// A state of the code may end when the state that it stands for may.
     ghost window_stands: { (m : Self) (texts : Texts) (x : CodeOwing Self.Phase) → (rules m).window (seen texts x) ≡ end_window m x };
 
-    /// And it is waited in as long.
+    /// A state of the code may be waited in as long as the state that it stands for.
     ghost until_stands: { (m : Self) (texts : Texts) (x : CodeOwing Self.Phase) → (rules m).until (seen texts x) ≡ until m x };
 
     /// States that stand for the same beside one book are the same one.

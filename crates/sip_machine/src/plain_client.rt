@@ -180,11 +180,11 @@ impl Phases for PlainClient {
     fn timer_window(&self, phase: &PlainClientPhase) -> Option<(u64, Option<u64>)> {
         let params = &self.params;
         match *phase {
-            // timer F
+            // The window of timer F.
             Trying(waiting) | Proceeding(waiting) => {
                 Some(params.window(waiting.start, timeout(params)))
             }
-            // timer K
+            // The window of timer K.
             Completed { reliable, set } => Some(params.window(set, linger(params, reliable))),
             Idle | Ended => None,
         }

@@ -22,7 +22,7 @@ use std::alloc::{AllocError, Global};
 use std::hash::{FoldHasher, Hasher};
 use std::marker::Model;
 
-/// So many states are told apart by a look at each other, which costs less than to keep their prints.
+/// Up to this many states are told apart by a look at each other, which costs less than to keep their prints.
 const FEW: usize = 8;
 
 /// States of a transaction: each has its phase, and a row of what it owes. Contracts see the list of the states.
@@ -45,7 +45,7 @@ impl<P: Phase> Model for Pool<P> {
 }
 
 impl<P: Phase> Pool<P> {
-    /// There are no states.
+    /// A pool without states.
     pub fn new(alloc: Global) -> Self
         ensures { result ≡ [] }
     {
@@ -55,7 +55,7 @@ impl<P: Phase> Pool<P> {
         }
     }
 
-    /// There are no states, and room for the phases of so many.
+    /// A pool without states, with room for the phases of `states` states.
     pub fn with_capacity(alloc: Global, states: usize) -> Result<Self, AllocError>
         ensures { IfOk result (λ pool. pool ≡ []) }
     {
@@ -72,7 +72,7 @@ impl<P: Phase> Pool<P> {
         self.phases.len()
     }
 
-    /// Whether there are none.
+    /// Whether there are no states.
     pub fn is_empty(&self) -> bool
         ensures { IsTrue result ↔ (self.now ≡ []) }
     {
@@ -87,7 +87,7 @@ impl<P: Phase> Pool<P> {
         self.phases[at]
     }
 
-    /// What the state at the index owes, with equal neighbours in one.
+    /// What the state at the index owes, in runs: equal debts side by side stand in one.
     pub fn runs(&self, alloc: Global, at: usize) -> Result<Vec<Run>, AllocError>
         requires { at < length self.now }
         ensures { HoldsAt (λ x. IfOk result (λ runs. AreRuns x.owes runs.items)) self.now at }
@@ -110,13 +110,13 @@ impl<P: Phase> Pool<P> {
         requires other { other < length self.now }
         ensures { (x : CodeOwing P) → IsTrue result ↔ (get_or self.now at x ≡ get_or self.now other x) }
     {
-        // copies are compared without a call
+        // Copies of the phases are compared, which takes no call.
         let phase = self.phases[at];
         let other_phase = self.phases[other];
         phase == other_phase && self.dues.same(at, other)
     }
 
-    /// Puts a state after the others that owes nothing. On an error all is as before.
+    /// Puts a state of this phase that owes nothing after the others. On an error all is as before.
     pub fn push(&mut self, phase: P) -> Result<(), AllocError>
         ensures ok { OnOk result (self.new ≡ self.old ++ at_rest phase ∷ []) }
         ensures err { OnErr result (self.new ≡ self.old) }
@@ -139,7 +139,7 @@ impl<P: Phase> Pool<P> {
         Ok(())
     }
 
-    /// Keeps the first states.
+    /// Keeps the first `len` states, and drops those after them.
     pub fn truncate(&mut self, len: usize)
         ensures { self.new ≡ take len self.old }
     {
@@ -147,7 +147,7 @@ impl<P: Phase> Pool<P> {
         self.dues.truncate(len);
     }
 
-    /// Puts a copy of a state in the place of another one.
+    /// Puts a copy of the state `from` in the place of the state `to`.
     pub fn copy(&mut self, from: usize, to: usize)
         requires from { from < length self.old }
         requires to { to < length self.old }
@@ -157,7 +157,7 @@ impl<P: Phase> Pool<P> {
         self.dues.copy(from, to);
     }
 
-    /// Drops the first states.
+    /// Drops the first `count` states.
     fn drop_first(&mut self, count: usize)
         requires { count ≤ length self.old }
         ensures { self.new ≡ drop count self.old }
@@ -168,7 +168,7 @@ impl<P: Phase> Pool<P> {
         self.dues.drop_first(count);
     }
 
-    /// Keeps just the states at the indices, which rise.
+    /// Keeps the states at the indices, which rise, and drops the others.
     pub fn keep(&mut self, rows: &[usize])
         requires within { All (λ row. row < length self.old) rows.now }
         requires rising { AllPairs (λ a b. a < b) rows.now }
@@ -183,7 +183,7 @@ impl<P: Phase> Pool<P> {
         }
     }
 
-    /// The same, one by one.
+    /// Keeps the states at the indices, which rise, one by one.
     fn keep_each(&mut self, rows: &[usize])
         requires within { All (λ row. row < length self.old) rows.now }
         requires rising { AllPairs (λ a b. a < b) rows.now }
@@ -193,7 +193,7 @@ impl<P: Phase> Pool<P> {
         self.dues.keep(rows);
     }
 
-    /// The indices of the states from one on, which rise: where some are the same, that of the first of them.
+    /// The indices, rising, of the states from `from` on; of equal states that of the first alone.
     pub fn first_ones(&self, from: usize) -> Result<Vec<usize>, AllocError>
         requires { from ≤ length self.now }
         ensures { IfOk result (λ rows. AreFirstOnes self.now from (length self.now) rows.items) }
@@ -205,7 +205,7 @@ impl<P: Phase> Pool<P> {
         }
     }
 
-    /// The same, by a look at each other one.
+    /// The indices of the states from `from` on, of equal ones that of the first alone, found by a look at each other.
     fn first_of_few(&self, from: usize) -> Result<Vec<usize>, AllocError>
         requires { from ≤ length self.now }
         ensures { IfOk result (λ rows. AreFirstOnes self.now from (length self.now) rows.items) }
@@ -219,7 +219,7 @@ impl<P: Phase> Pool<P> {
         Ok(rows)
     }
 
-    /// The same, by a look at those of the same print.
+    /// The indices of the states from `from` on, of equal ones that of the first alone, found by a look at those of the same print.
     #[inline(never)]
     fn first_of_many(&self, from: usize) -> Result<Vec<usize>, AllocError>
         requires { from ≤ length self.now }
@@ -239,7 +239,7 @@ impl<P: Phase> Pool<P> {
         Ok(rows)
     }
 
-    /// Whether a state at one of the indices, whose prints these are, is the same as this one, which has this print.
+    /// Whether one of the states at the indices, whose prints the slots have, is the same as the one at `at`, which has this print.
     fn is_repeat(&self, slots: &Slots, print: u64, rows: &[usize], at: usize) -> bool
         requires at { at < length self.now }
         requires within { All (λ row. row < length self.now) rows.now }
@@ -258,7 +258,7 @@ impl<P: Phase> Pool<P> {
         false
     }
 
-    /// Whether a state at one of the indices is the same as this one.
+    /// Whether one of the states at the indices is the same as the one at `at`.
     fn is_among(&self, rows: &[usize], at: usize) -> bool
         requires at { at < length self.now }
         requires within { All (λ row. row < length self.now) rows.now }
@@ -272,7 +272,7 @@ impl<P: Phase> Pool<P> {
         false
     }
 
-    /// A number for each state from one on: equal ones have the same, and others hardly ever.
+    /// A number for each state from `from` on. Equal states have the same number, and others hardly ever.
     #[inline(never)]
     fn prints(&self, from: usize) -> Result<Vec<u64>, AllocError>
         requires { from ≤ length self.now }
@@ -293,14 +293,14 @@ impl<P: Phase> Pool<P> {
         Ok(prints)
     }
 
-    /// Gives memory back that nothing owed needs.
+    /// Gives memory back that nothing that is owed needs.
     pub fn tidy(&mut self)
         ensures { self.new ≡ self.old }
     {
         self.dues.tidy();
     }
 
-    /// Moves the phases to a place of their own size, where there is memory for one.
+    /// Moves the phases to memory of their own size, where there is such.
     pub fn fit(&mut self)
         ensures { self.new ≡ self.old }
     {
@@ -335,7 +335,7 @@ impl<P: Phase> Pool<P> {
         Ok(())
     }
 
-    /// Brings the state at the index to rest.
+    /// Leaves the state at the index in its phase, as a sent message does.
     pub(crate) fn come_to_rest(&mut self, moment: u64, at: usize, rest: Rest)
         requires { at < length self.old }
         ensures { HoldsAt (λ x. self.new ≡ set self.old at (rests_at moment rest x)) self.old at }
@@ -343,7 +343,7 @@ impl<P: Phase> Pool<P> {
         come_to_rest(moment, rest, &mut self.dues, at);
     }
 
-    /// Puts the states after the others that the effect of an event gives from the one at the index. On an error all is as before.
+    /// Puts the states that the effect of an event gives from the one at the index after the others. On an error all is as before.
     pub(crate) fn push_given(
         &mut self,
         params: &Params,
@@ -365,8 +365,8 @@ impl<P: Phase> Pool<P> {
         Ok(())
     }
 
-    /// Puts a copy of the state at the index after the others that goes where the row leads, if there is one. On an error
-    /// all is as before.
+    /// Puts a copy of the state at the index after the others that goes where the row leads, if the event has a row. On an
+    /// error all is as before.
     fn push_led(
         &mut self,
         params: &Params,
@@ -391,7 +391,7 @@ impl<P: Phase> Pool<P> {
         Ok(())
     }
 
-    /// Puts a copy of the state at the index after the others that comes to rest, if it does. On an error all is as before.
+    /// Puts a copy of the state at the index after the others as a sent message leaves it in its phase, if it does. On an error all is as before.
     pub(crate) fn push_rested(
         &mut self,
         moment: u64,
@@ -412,7 +412,7 @@ impl<P: Phase> Pool<P> {
     }
 }
 
-/// Keeps just the phases at the indices, which rise.
+/// Keeps the phases at the indices, which rise, and drops the others.
 fn keep_phases<P: Phase>(phases: &mut Vec<P>, rows: &[usize])
     requires within { All (λ row. row < length phases.old.items) rows.now }
     requires rising { AllPairs (λ a b. a < b) rows.now }
@@ -425,7 +425,7 @@ fn keep_phases<P: Phase>(phases: &mut Vec<P>, rows: &[usize])
     phases.truncate(rows.len());
 }
 
-/// The first index, where each is the one after the index before it.
+/// The first index, if each index is the one after the index before it.
 fn run_of(rows: &[usize]) -> Option<usize>
     requires { AllPairs (λ a b. a < b) rows.now }
     ensures { IfSome result (λ first. IsRun first rows.now) }
@@ -441,7 +441,7 @@ fn run_of(rows: &[usize]) -> Option<usize>
     }
 }
 
-/// Mixes a hash into the prints from one index up to another.
+/// Mixes a hash into the prints from `from` up to `to`.
 fn mix(prints: &mut [u64], from: usize, to: usize, hash: u64)
     requires order { from ≤ to }
     requires within { to ≤ length prints.old }

@@ -1,4 +1,4 @@
-//! Provisional responses of the `Book`, read anew.
+//! Whether a message of the `Book` is a response 100, for which it is read anew.
 ghost use Rattle.std.specs.Prelude.{◌≡◌, ◌↔◌, IfOk, IsTrue, codes, drop, take};
 ghost use Rattle.sip_machine.specs.Texts.{Keeps, text_of};
 ghost use Rattle.sip_standard.specs.Provisional.{Is100};
@@ -23,7 +23,7 @@ pub(crate) fn is_100(alloc: Global, book: &Book, number: u32) -> Result<bool, Al
     }
 }
 
-/// Whether 100 stands where a response has its code. Most messages it tells at once to be no 100.
+/// Whether "100" stands where a response has its code. For most messages that tells at once that they are no 100.
 fn has_code_100(bytes: &[u8]) -> bool
     ensures { IsTrue result ↔ (take 3 (drop 8 bytes.now) ≡ codes "100") }
 {
@@ -33,7 +33,7 @@ fn has_code_100(bytes: &[u8]) -> bool
     &bytes[8..11] == b"100".as_slice()
 }
 
-/// Whether the start line is that of a 100.
+/// Whether the start line is that of a response 100.
 fn is_status_100(start: StartLine<'_>) -> bool
     ensures { IsTrue result ↔ IsStatus100 (start_parts start.entry) }
 {

@@ -1,4 +1,4 @@
-//! A message that is sent again as its timer fires (RFC 3261 sections 17.1.1.2, 17.1.2.2 and 17.2.1).
+//! Messages that are sent again as a timer fires (RFC 3261 sections 17.1.1.2, 17.1.2.2 and 17.2.1).
 ghost use Rattle.std.specs.Prelude.{◌≤◌, ◌<◌, ◌^◌, ◌↔◌, IsTrue};
 ghost use Rattle.sip_standard.specs.Times.{last_moment};
 ghost use Rattle.sip_machine.specs.Texts.{Keeps, text_of};
@@ -9,7 +9,7 @@ use crate::book::Book;
 use crate::event::Event;
 use sip_times::Params;
 
-/// Whether the event is the message again, as its timer fires, which was set at this moment for this interval, in milliseconds.
+/// Whether the event is the message again, as its timer fires, which was set at the moment `set` for this interval in milliseconds.
 pub(crate) fn retransmits(
     params: &Params,
     book: &Book,

@@ -1,22 +1,22 @@
-//! Prints, each found again by a look at those alone that fall into the same slot.
+//! Prints by slots: an equal print is found by a look at those alone that fall into the same slot.
 ghost use Rattle.std.specs.Prelude.{◌≡◌, ◌<◌, ◌≤◌, ◌++◌, ◌∷◌, [], IfOk, OnOk, OnErr, length, get_or, ℕ};
 ghost use Rattle.sip_machine.specs.inner.Slots.{IsLastBefore, IsNewest, slot_of};
 
 use std::alloc::{AllocError, Global};
 use std::marker::Model;
 
-/// A print that was put in.
+/// A print that was put in, with the one before it in its slot.
 #[derive(Clone, Copy, Debug)]
 pub(crate) struct SlotPrint {
     print: u64,
-    /// One past the index of the last one before it of its slot, 0 if there is none.
+    /// One past the index of the last print before it that is of its slot, and 0 if there is none.
     older: usize,
 }
 
-/// Prints, in the order in which they came.
+/// Prints in the order in which they came, by slots.
 #[derive(Debug, Drop)]
 pub(crate) struct Slots {
-    /// For each slot, one past the index of its last print, 0 if there is none.
+    /// For each slot, one past the index of its last print, and 0 if there is none.
     newest: Vec<usize>,
     kept: Vec<SlotPrint>,
 }
@@ -32,7 +32,7 @@ impl Model for Slots {
 }
 
 impl Slots {
-    /// There are none, and room for so many, of which about half are to be new.
+    /// Slots without prints, with room for `count`, of which about half are to be new.
     pub(crate) fn with_room(alloc: Global, count: usize) -> Result<Slots, AllocError>
         ensures { IfOk result (λ slots. slots.prints ≡ []) }
     {
@@ -57,7 +57,7 @@ impl Slots {
         Ok(())
     }
 
-    /// The index of the last one that is equal to the print.
+    /// The index of the last print that is equal to this one, if there is one.
     pub(crate) fn last(&self, print: u64) -> Option<usize>
         ensures { IsLastBefore self.now.prints print (length self.now.prints) result }
     {
@@ -65,7 +65,7 @@ impl Slots {
         self.last_from(print, self.newest[slot])
     }
 
-    /// The index of the last one before this one that is equal to it.
+    /// The index of the last print before the one at `at` that is equal to it, if there is one.
     pub(crate) fn before(&self, at: usize) -> Option<usize>
         requires { at < length self.now.prints }
         ensures { IsLastBefore self.now.prints (get_or self.now.prints at 0) at result }
@@ -74,7 +74,7 @@ impl Slots {
         self.last_from(kept.print, kept.older)
     }
 
-    /// The index of the last one before a limit that is equal to the print, where one past the last one of its slot is known.
+    /// The index of the last print equal to this one before a limit, where `newest` is one past the last print of its slot before the limit.
     fn last_from(&self, print: u64, newest: usize) -> Option<usize>
         requires { newest ≤ length self.now.prints }
         ensures { (limit : ℕ) → limit ≤ length self.now.prints → IsNewest (length self.now.newest) self.now.prints (slot_of (length self.now.newest) print) limit newest →
@@ -93,7 +93,7 @@ impl Slots {
     }
 }
 
-/// The slot of the print, by its highest bits, which hang on all that was mixed into it.
+/// The slot of the print, which its highest bits tell: they rest on all that was mixed into it.
 fn slot_of(slots: usize, print: u64) -> usize
     requires { 0 < slots }
     ensures is { result ≡ slot_of slots print }

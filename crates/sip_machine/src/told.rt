@@ -3,10 +3,10 @@ ghost use Rattle.std.specs.Prelude.{◌≡◌, IfOk};
 
 use std::alloc::{AllocError, Global};
 
-/// A name with its value.
+/// A field of a phase in words: a name with its value.
 #[derive(Clone, Copy, Debug)]
 pub enum ToldField {
-    /// Whether it is so.
+    /// Whether something is so.
     Flag(&'static str, bool),
     /// A moment or an interval in milliseconds, if there is one.
     Number(&'static str, Option<u64>),

@@ -1,4 +1,4 @@
-//! The Tos of messages for which an ACK may come, by the numbers of the messages and by themselves.
+//! The Tos of messages for which an ACK may come. They are found by the numbers of the messages, and by themselves.
 ghost use Rattle.std.specs.Prelude.{◌≡◌, ◌<◌, ◌≤◌, ◌++◌, ◌∷◌, [], ℕ, IfSome, OnOk, OnErr, IsTrue, All, AllPairs, Contains, length, map, take};
 ghost use Rattle.std.specs.List.{HoldsAt};
 ghost use Rattle.sip_machine.specs.declared.tos.To.{To};
@@ -17,12 +17,12 @@ pub(crate) struct To {
     text: Hashed,
 }
 
-/// Whose the Tos of a hash are.
+/// Whose the Tos of one hash are.
 #[derive(Clone, Copy, Debug)]
 enum Owner {
-    /// Those of this message alone.
+    /// They are those of the message with this number alone.
     Only(u32),
-    /// Those of several messages.
+    /// They may be those of several messages.
     Several,
 }
 
@@ -31,12 +31,12 @@ enum Owner {
 pub(crate) enum Holder {
     One(u32),
     Nobody,
-    /// It takes a look at each of them to tell.
+    /// Only a look at each of the messages can tell.
     Unknown,
 }
 
-/// Tos, that of a message with a lower number first. Beside them stands for each hash of a To whose it is, so that the only
-/// message with a To is found without a look at the others. Contracts see the list.
+/// The Tos of messages, in the order of the messages' numbers. Beside them stands for each hash of a To whose it is, so that the
+/// only message with a To is found without a look at the others. Contracts see the list.
 #[derive(Debug, Drop)]
 pub(crate) struct Tos {
     list: Vec<To>,
@@ -65,8 +65,8 @@ impl Tos {
         }
     }
 
-    /// The To of the message with this number: at `near`, or wherever a search finds it. It is left after it, so that
-    /// messages that are asked for in the order of their numbers cost a step each.
+    /// The To of the message with this number: at `near`, or where a search finds it. `near` is left after it, so that messages
+    /// that are asked for in the order of their numbers cost one step each.
     pub(crate) fn get(&self, number: u32, near: &mut usize) -> Option<&Hashed>
         ensures { IfSome result (λ text. Contains self.now (record { number = number; text = text.now })) }
     {
@@ -85,7 +85,7 @@ impl Tos {
         }
     }
 
-    /// Puts the To of a message after the others. On an error they are as before.
+    /// Puts the To of a message after the others. On an error the others are as before.
     pub(crate) fn push(&mut self, number: u32, text: Hashed) -> Result<(), AllocError>
         requires { All (λ to. to.number < number) self.old }
         ensures ok { OnOk result (self.new ≡ self.old ++ (record { number = number; text = text }) ∷ []) }
@@ -96,7 +96,7 @@ impl Tos {
         Ok(())
     }
 
-    /// Keeps those of the messages with these numbers, which rise. It takes no memory: where some went, there is room for
+    /// Keeps the Tos of the messages with these numbers, which rise. It takes no memory: where some Tos went, there is room for
     /// those that are left.
     pub(crate) fn retain(&mut self, numbers: &[u32])
         ensures { All (λ to. Contains self.old to × Contains numbers.now to.number) self.new }
@@ -106,7 +106,7 @@ impl Tos {
         note_all(&mut self.owners, &mut self.list);
     }
 
-    /// Which message has this To.
+    /// Which message of the list has this To, as far as the owners tell.
     pub(crate) fn holder(&self, text: &Hashed) -> Holder
         ensures { IsHolder self.now text.now result }
     {
@@ -118,7 +118,7 @@ impl Tos {
         }
     }
 
-    /// The same, where no message but the one with this number can have it.
+    /// Which message of the list has this To, where no message but the one with this number can have it.
     fn held_by(&self, number: u32, text: &Hashed) -> Holder
         requires { All (λ to. to.text ≡ text.now → to.number ≡ number) self.now }
         ensures { IsHolder self.now text.now result }
@@ -133,7 +133,7 @@ impl Tos {
         }
     }
 
-    /// How many of them are of messages with numbers from `low` up to `high`.
+    /// How many Tos of the list are of messages with numbers from `low` up to `high`.
     pub(crate) fn between(&self, low: u32, high: u32) -> usize
         ensures count { result ≡ count_between low high (map (λ to. to.number) self.now) }
         ensures rising { AllPairs (λ a b. a.number < b.number) self.now }
@@ -144,7 +144,7 @@ impl Tos {
     }
 }
 
-/// Where the To of the message with this number stands: here, or where a search finds it.
+/// The place of the To of the message with this number: `here`, or where a search finds it.
 fn place_of(list: &[To], number: u32, here: usize) -> Option<usize>
     ensures within { IfSome result (λ at. at < length list.now) }
     ensures number { IfSome result (λ at. HoldsAt (λ to. to.number ≡ number) list.now at) }
@@ -158,14 +158,14 @@ fn place_of(list: &[To], number: u32, here: usize) -> Option<usize>
     }
 }
 
-/// Whether the number is one of these, which rise.
+/// Whether the number is one of these numbers, which rise.
 fn is_among(numbers: &[u32], number: u32) -> bool
     ensures { IsTrue result → Contains numbers.now number }
 {
     numbers.binary_search(&number).is_ok()
 }
 
-/// Tells that a To of this hash is that of the message with this number, too.
+/// Notes that the message with this number has a To of this hash as well.
 fn note(owners: &mut HashMap<u64, Owner>, hash: u64, number: u32) -> Result<(), AllocError>
     ensures ok { OnOk result (MayOwn owners.new hash number) }
     ensures others { (h n : ℕ) → MayOwn owners.old h n → MayOwn owners.new h n }
@@ -175,7 +175,7 @@ fn note(owners: &mut HashMap<u64, Owner>, hash: u64, number: u32) -> Result<(), 
     Ok(())
 }
 
-/// Whose the Tos of a hash are with that of this message.
+/// The owner of a hash, once the message with this number has a To of that hash as well.
 fn owner_with(owner: Option<Owner>, number: u32) -> Owner
     ensures { result ≡ owner_with owner number }
 {
@@ -186,7 +186,7 @@ fn owner_with(owner: Option<Owner>, number: u32) -> Owner
     }
 }
 
-/// Tells of a To of each message but those with these numbers no more whose it is.
+/// Forgets the owner of the hash of each To in the list whose message is not one of these numbers.
 fn forget(owners: &mut HashMap<u64, Owner>, list: &[To], numbers: &[u32]) {
     for to in list {
         if !is_among(numbers, to.number) {
@@ -195,7 +195,7 @@ fn forget(owners: &mut HashMap<u64, Owner>, list: &[To], numbers: &[u32]) {
     }
 }
 
-/// Tells whose the Tos are. Those go for which there is no memory.
+/// Notes whose all Tos of the list are. Tos for which there is no memory are dropped from the list.
 fn note_all(owners: &mut HashMap<u64, Owner>, list: &mut Vec<To>)
     ensures kept { (n : ℕ) × (list.new.items ≡ take n list.old.items) }
     ensures owned { AreOwned owners.new list.new.items }
@@ -204,7 +204,7 @@ fn note_all(owners: &mut HashMap<u64, Owner>, list: &mut Vec<To>)
     list.truncate(told);
 }
 
-/// Tells whose the Tos are, until there is no memory, and how many are told then.
+/// Notes whose the Tos of the list are, until there is no memory, and gives how many are noted then.
 fn note_each(owners: &mut HashMap<u64, Owner>, list: &[To]) -> usize
     ensures { AreOwned owners.new (take result list.now) }
 {

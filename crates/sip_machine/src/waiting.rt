@@ -28,7 +28,7 @@ pub struct Waiting {
     pub start: u64,
     /// When timer A of an INVITE, and E of any other, was set last.
     pub set: u64,
-    /// What it was set to.
+    /// How long the timer was set for.
     pub interval: u64,
 }
 
@@ -66,7 +66,7 @@ impl Waiting {
         }
     }
 
-    /// What its phase tells of it.
+    /// What the words of its phase tell of the request.
     pub(crate) fn fields(&self) -> [ToldField; 5]
         ensures { map field_of_code result ≡ waiting_fields self.now.reliable self.now.request self.now.start self.now.set self.now.interval }
     {

@@ -15,7 +15,7 @@ use Rattle.sip_masks.proofs.WordLemmas.{test-shr, or-false}
 use Rattle.sip_masks.proofs.RunLemmas.{none-set}
 use Rattle.sip_masks.proofs.HostLemmas.{bad, at, good-from, good-labels}
 
--- the low bits
+-- of the highest word of 64 bits, moved down by 64 - len, each bit below len is set
 ones-low : (len i : ℕ) → i < len → len ≤ 32 → test (18446744073709551615 / 2 ^ (64 - len)) i ≡ true
 ones-low len i below small = test-shr 18446744073709551615 (64 - len) i ∙ test-ones (64 - len + i) (omega (arith, below, small))
 
@@ -23,7 +23,7 @@ and-left : (a b : Bool) → (a && b) ≡ false → b ≡ true → a ≡ false
 and-left true b e h = absurd (false≢true (sym e ∙ h))
 and-left false b e h = refl
 
--- where the text ends with no dot
+-- where the last byte of a text is no dot, no dot ends the text
 no-end : (text : List ℕ) → (slice_index text (length text - 1) == dot) ≡ false → up_to dot text ≡ None
 no-end text other = ap (λ b. cond (nat_lt 0 (length text) && b) (Some (take (length text - 1) text)) None) other ∙ go (nat_lt 0 (length text))
   where
@@ -31,7 +31,7 @@ no-end text other = ap (λ b. cond (nat_lt 0 (length text) && b) (Some (take (le
     go true = refl
     go false = refl
 
--- what stands before place n, a dot before the first
+-- where n is 0, or the byte before place n of the window is a dot, a dot stands before place n of a dot and the window
 pub before-at : (window : List ℕ) (n : ℕ) → (0 < n → get_or window (n - 1) 0 ≡ dot) → (get_or (dot ∷ window) n 0 == dot) ≡ true
 before-at window zero h = refl
 before-at window (suc n) h =
@@ -54,6 +54,7 @@ module _ (window : List ℕ) (len ss ds hs : ℕ) (room : 32 ≤ length window) 
   long : length text ≡ len
   long = length-take-le len window (omega (arith, room, small))
 
+  -- bit i of the word of beginnings is set exactly if a dot, or the start of the text, stands before byte i
   begins-is : (i : ℕ) → i < len → test (bit_or (shl 1 ds) 1) i ≡ (prev_is i == dot)
   begins-is zero below = test-or (shl 1 ds) 1 0 ∙ ap₂ (λ a b. a || b) (test-shl_low 1 0 ds (omega arith) (omega arith)) test-one_low
   begins-is (suc j) below =
@@ -67,6 +68,7 @@ module _ (window : List ℕ) (len ss ds hs : ℕ) (room : 32 ≤ length window) 
   abbrev pub bad_word : ℕ
   bad_word = bit_or (bit_or ss (bit_and (bit_or (shl 1 ds) 1) (bit_or ds hs))) (bit_and ds (shl 1 hs))
 
+  -- bit i of `bad_word` is set exactly if byte i of the text is bad after the byte before it
   bad-is : (i : ℕ) → i < len → test bad_word i ≡ bad (prev_is i) (get_or text i 0)
   bad-is i below =
       let in32 : i < 32 = omega (arith, below, small) in
@@ -78,6 +80,8 @@ module _ (window : List ℕ) (len ss ds hs : ℕ) (room : 32 ≤ length window) 
       (test-or _ _ i ∙ ap₂ (λ a b. a || b) s (test-and _ _ i ∙ ap₂ (λ a b. a && b) (begins-is i below) (test-or ds hs i ∙ ap₂ (λ a b. a || b) d h)))
       (test-and _ _ i ∙ ap₂ (λ a b. a && b) d (hyphen-before i below))
 
+  -- the first len bytes of the window are a hostname where no bad bit is among them, no dot stands from the place `top` on, a dot or the start
+  -- stands before it, a letter is there, and the last byte is no hyphen
   pub host-from : (top : ℕ) → bit_and bad_word (18446744073709551615 / 2 ^ (64 - len)) ≡ 0 → top < len → bit_and ds (18446744073709551615 / 2 ^ (64 - len)) / 2 ^ top ≡ 0
       → (get_or (dot ∷ window) top 0 == dot) ≡ true → (get_or window (len - 1) 0 == hyphen) ≡ false → is_ascii_alphabetic (get_or window top 0) ≡ true → Hostname (take len window)
   host-from top none within above before last letter =

@@ -8,11 +8,11 @@ use Rattle.sip_masks.specs.declared.block.TheConstants.{LOW, HIGH}
 use Rattle.sip_masks.proofs.LaneLemmas.{IsBlock}
 use Rattle.sip_masks.proofs.TableLemmas.{down, looked_up}
 
--- what both tables have of a byte
+-- the bits that the two tables share at a byte: its kinds
 abbrev pub kind : ℕ → ℕ
 kind x = bit_and (get_or LOW (bit_and x 15) 0) (get_or HIGH (x / 16) 0)
 
--- the kinds of all bytes of a block are found at once
+-- what the two tables, read at the halves of all bytes of a block, have in common is the kind of each byte
 pub kinds : (v : List ℕ) → IsBlock v → zip2 bit_and (swz_l w8 16 LOW 0 (zip2 bit_and v (replicate 64 15))) (swz_l w8 16 HIGH 0 (zip2 down v (replicate 64 4))) ≡ map kind v
 kinds v block =
     let low = looked_up LOW (λ x. bit_and x 15) v _ refl block (zip2_splat bit_and v 64 15 block.0) (λ x h. omega (arith, and_le_r x 15)) in

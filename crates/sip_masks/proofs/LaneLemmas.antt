@@ -7,15 +7,15 @@ use lib.Lanes.{zip2, mask_l, top, Each1}
 use Rattle.sip_masks.specs.Bits.{test}
 use Rattle.sip_masks.proofs.BitLemmas.{test-low, test-mask}
 
--- n bytes
+-- v is n bytes
 abbrev pub AreBytes : ℕ → List ℕ → Type 0
 AreBytes n v = (length v ≡ n) × Each1 (Fits w8) v
 
--- the lanes of a block of bytes
+-- v is the 64 bytes of a block
 abbrev pub IsBlock : List ℕ → Type 0
 IsBlock v = AreBytes 64 v
 
--- what a comparison leaves in a lane
+-- what the test of equal bytes leaves in a lane: 255 where it holds, and else 0
 abbrev pub hit : ℕ → ℕ → ℕ
 hit a b = cond (eqb a b) 255 0
 
@@ -25,11 +25,11 @@ below a b = cond (ltb a b) 255 0
 abbrev pub at_most : ℕ → ℕ → ℕ
 at_most a b = cond (leb a b) 255 0
 
--- an operation with one byte in each lane
+-- an operation of each lane with the same byte y is the operation of y with the value in each lane
 pub splatted : (h : ℕ → ℕ → ℕ) (f : ℕ → ℕ) (n y : ℕ) (v : List ℕ) {a : List ℕ} → length v ≡ n → a ≡ map f v → zip2 h a (replicate n y) ≡ map (λ x. h (f x) y) v
 splatted h f n y v long is = ap (λ a. zip2 h a (replicate n y)) is ∙ zip2_splat h (map f v) n y (length-map v f ∙ long) ∙ map-map (λ x. h x y) f v
 
--- one byte in each lane
+-- n lanes that all hold the byte y are y for each of n values
 filled : (n y : ℕ) (v : List ℕ) → length v ≡ n → replicate n y ≡ map (λ _. y) v
 filled n y v long = ap (λ k. replicate k y) (sym long) ∙ go v
   where
@@ -37,15 +37,15 @@ filled n y v long = ap (λ k. replicate k y) (sym long) ∙ go v
     go [] = refl
     go (x ∷ v) = ap (λ t. y ∷ t) (go v)
 
--- the lanes from a byte on
+-- the comparison of the byte y with each lane leaves in the lane whether y is at most its value
 pub from_byte : (f : ℕ → ℕ) (n y : ℕ) (v : List ℕ) {a : List ℕ} → length v ≡ n → a ≡ map f v → zip2 at_most (replicate n y) a ≡ map (λ x. at_most y (f x)) v
 from_byte f n y v long is = zip2_of_maps at_most (λ _. y) f v (filled n y v long) is
 
--- the lanes that hold one byte
+-- the comparison of each lane with the byte y leaves in the lane whether its value is y
 pub equal : (f : ℕ → ℕ) (n y : ℕ) (v : List ℕ) {a : List ℕ} → length v ≡ n → a ≡ map f v → zip2 hit a (replicate n y) ≡ map (λ x. hit (f x) y) v
 equal f n y v long is = splatted hit f n y v long is
 
--- the mask of the class p
+-- where the top bit of the lane f x says for each byte x whether p holds of it, bit i of the mask of the lanes says whether p holds of byte i
 pub classified : (f : ℕ → ℕ) (p : ℕ → Bool) (n : ℕ) (v z : List ℕ) → AreBytes n v → n ≤ 64 → z ≡ map f v → agree_below (λ x. top 7 (f x)) p 256 ≡ true
     → (i : ℕ) → i < n → test (mask_l (map (top 7) z) % 2 ^ 64) i ≡ p (get_or v i 0)
 classified f p n v z block most is all i small =

@@ -8,14 +8,15 @@ use Rattle.std.proofs.lemmas.List.Sums.{prefix_len_is}
 use Rattle.std.proofs.lemmas.Nat.Bits.{bit_at-zero, bit_at-trailing_zeros}
 use Rattle.sip_masks.specs.Bits.{test}
 
--- n bits of the word are the bytes from p on
+-- bit j of the word says for each j below n whether byte p + j of the text passes the test q
 abbrev pub Shows : ℕ → (ℕ → Bool) → List ℕ → ℕ → ℕ → Type 0
 Shows n q text p word = (j : ℕ) → j < n → test word j ≡ q (get_or text (p + j) 0)
 
--- each byte from p up to e passes
+-- each byte of the text from p up to e passes the test f
 abbrev pub Passes : (ℕ → Bool) → List ℕ → ℕ → ℕ → Type 0
 Passes f text p e = (k : ℕ) → p ≤ k → k < e → f (get_or text k 0) ≡ true
 
+-- of a word that is not 0, the bit at its number of trailing zeros is set, and no lower one is
 lowest-set : (word : ℕ) → 0 < word → word < 2 ^ 64 → (trailing_zeros w64 word < 64) × (test word (trailing_zeros w64 word) ≡ true) × ((i : ℕ) → i < trailing_zeros w64 word → test word i ≡ false)
 unfolding test
 lowest-set word some small =
@@ -34,6 +35,7 @@ flopped : (a b : Bool) → a ≡ not b → a ≡ true → b ≡ false
 flopped a false same high = refl
 flopped a true same high = absurd (false≢true (sym same ∙ high))
 
+-- where each byte from p up to e passes, and the one at e does not or is the end, the longest front that passes after p has e - p bytes
 pub run-is : (f : ℕ → Bool) (text : List ℕ) (p e : ℕ) → p ≤ e → e ≤ length text → Passes f text p e → (e < length text → f (get_or text e 0) ≡ false) → prefix_len f (drop p text) ≡ e - p
 run-is f text p e from within passes stops =
     let long = length-drop p text in
@@ -44,7 +46,7 @@ run-is f text p e from within passes stops =
     subst (λ x. f x ≡ false) (sym (get_or-drop p text (e - p) 0 ∙ ap (λ n. get_or text n 0) is)) (stops (omega (arith, below, long, from))))
 
 module _ (f q : ℕ → Bool) (opposite : (x : ℕ) → q x ≡ not (f x)) (nul : q 0 ≡ true) where
-  -- no bit is set: n bytes more
+  -- where no bit of the word is set, n bytes more pass, and they lie within the text
   pub goes-on : (text : List ℕ) (n s p word : ℕ) → word ≡ 0 → Shows n q text p word → Passes f text s p → p ≤ length text → Passes f text s (p + n) × (p + n ≤ length text)
   goes-on text n s p word none shows before within =
       let unset = λ (j : ℕ) (h : j < n). sym (shows j h) ∙ none-set word j none in (
@@ -64,7 +66,7 @@ module _ (f q : ℕ → Bool) (opposite : (x : ℕ) → q x ≡ not (f x)) (nul 
         ],
       )
 
-  -- the lowest bit is the end
+  -- where a bit of the word is set, the bytes up to the lowest set one pass, and it is where they end: at the end of the text or at a byte that fails
   pub stops-at : (text : List ℕ) (most s p word : ℕ) → 0 < word → word < 2 ^ 64 → Shows most q text p word → ((j : ℕ) → most ≤ j → j < 64 → test word j ≡ false) → s ≤ p → Passes f text s p → p ≤ length text
       → prefix_len f (drop s text) ≡ p + trailing_zeros w64 word - s
   stops-at text most s p word some small shows none order before within =

@@ -10,25 +10,28 @@ use Rattle.sip_masks.proofs.LaneLemmas.{IsBlock}
 abbrev pub down : ℕ → ℕ → ℕ
 down a b = a / 2 ^ b
 
+-- the shuffle by the upper halves of the bytes of a block is defined
 pub high_ok : (v : List ℕ) → IsBlock v → SwzOk w8 16 64 0 (zip2 down v (replicate 64 4))
 high_ok v fits =
     let small = Each1-weaker (λ a. a < 256) (λ a. a / 16 < 16) (λ a h. omega arith) v (below_from_Fits w8 v fits.1) in
     SwzOk-from_below w8 16 4 64 0 (zip2 down v (replicate 64 4)) refl (omega (arith, length-zip2 down v (replicate 64 4) fits.0))
     (Each1-zip2 down (λ j. j < 16) v (replicate 64 4) (Each2-splat (λ a b. down a b < 16) v 64 4 small))
 
+-- the shuffle by the lower halves of the bytes of a block is defined
 pub low_ok : (v : List ℕ) → IsBlock v → SwzOk w8 16 64 0 (zip2 bit_and v (replicate 64 15))
 low_ok v fits =
     let small = Each1-all (λ a. bit_and a 15 < 16) (λ a. omega (arith, and_le_r a 15)) v in
     SwzOk-from_below w8 16 4 64 0 (zip2 bit_and v (replicate 64 15)) refl (omega (arith, length-zip2 bit_and v (replicate 64 15) fits.0))
     (Each1-zip2 bit_and (λ j. j < 16) v (replicate 64 15) (Each2-splat (λ a b. bit_and a b < 16) v 64 15 small))
 
--- a table of sixteen that stands four times
+-- entry n of a table of 64 is its entry n % 16: sixteen entries stand four times
 abbrev pub repeats : List ℕ → ℕ → Bool
 repeats t n = eqb (get_or t n 0) (get_or t (n % 16) 0)
 
 abbrev pub always : ℕ → Bool
 always n = true
 
+-- where sixteen entries of the table t stand four times, the shuffle of t by g x for each byte x of a block gives the entry of t at g x
 pub looked_up : (t : List ℕ) (g : ℕ → ℕ) (v js : List ℕ) → agree_below (repeats t) always 64 ≡ true → IsBlock v → js ≡ map g v → ((x : ℕ) → x < 256 → g x < 16) → swz_l w8 16 t 0 js ≡ map (λ x. get_or t (g x) 0) v
 looked_up t g v js four fits e small =
     let long : length js ≡ 64 = ap length e ∙ length-map v g ∙ fits.0 in

@@ -20,7 +20,7 @@ pub or-false : (b : Bool) → (b || false) ≡ b
 or-false true = refl
 or-false false = refl
 
--- the words x and y joined from bit r of x on
+-- in the word that x from bit r on and y after it make, bit j is bit r + j of x where that is below 64
 pub joined : (x y r j : ℕ) → x < 2 ^ 64 → r < 64 → j < 64 → r + j < 64 → test (bit_or (x / 2 ^ r) (shl (63 - r) (shl 1 y))) j ≡ test x (r + j)
 joined x y r j small rl jl low =
     test-or (x / 2 ^ r) (shl (63 - r) (shl 1 y)) j
@@ -32,6 +32,7 @@ joined x y r j small rl jl low =
     ])
     ∙ or-false (test x (r + j))
 
+-- in the word that x from bit r on and y after it make, bit j is bit r + j - 64 of y where r + j is 64 or more
 pub joined-next : (x y r j : ℕ) → x < 2 ^ 64 → r < 64 → j < 64 → 64 ≤ r + j → test (bit_or (x / 2 ^ r) (shl (63 - r) (shl 1 y))) j ≡ test y (r + j - 64)
 joined-next x y r j small rl jl high =
     let k = r + j - 64 in
@@ -40,7 +41,7 @@ joined-next x y r j small rl jl high =
     ∙ ap₂ (λ a b. a || b) (test-shr x r j ∙ test-above x (r + j) small high)
     (subst (λ i. test (shl (63 - r) (shl 1 y)) i ≡ test y k) is (test-shl_high (63 - r) (1 + k) (shl 1 y) (omega (arith, is, jl)) ∙ test-shl_high 1 k y (omega (arith, is, jl))))
 
--- a word of a list, from any place on
+-- the word of 64 bits that begins at place p of a list of words has as its bit j the bit at place p + j of the list
 pub from_place : (words : List ℕ) (p j : ℕ) → get_or words (p / 64) 0 < 2 ^ 64 → j < 64 →
     test (bit_or (get_or words (p / 64) 0 / 2 ^ (p % 64)) (shl (63 - p % 64) (shl 1 (get_or words (p / 64 + 1) 0)))) j ≡ test (get_or words ((p + j) / 64) 0) ((p + j) % 64)
 from_place words p j small jl =
@@ -59,7 +60,7 @@ from_place words p j small jl =
           joined-next x y r j small rl jl high ∙ ap₂ (λ w i. test (get_or words w 0) i) word bit
     ]
 
--- a word more
+-- where words tell the first 64 k bytes of a text, and w tells the next 64, the words with w at place k tell the first 64 (k + 1) bytes
 pub marks-more : (p : ℕ → Bool) (text words : List ℕ) (k w : ℕ) → k < length words → BitsTell p text words (64 * k) → ((i : ℕ) → i < 64 → test w i ≡ p (get_or text (64 * k + i) 0)) → BitsTell p text (set words k w) (64 * (k + 1))
 marks-more p text words k w within before now i below =
     elim (cases_lt i (64 * k)) [
@@ -73,15 +74,15 @@ marks-more p text words k w within before now i below =
           ∙ now (i % 64) (omega arith) ∙ ap (λ n. p (get_or text n 0)) at
     ]
 
--- all ones, past the end
+-- past the end of a text, where NUL passes the test p, a word of ones tells the bytes
 pub ones-past : (p : ℕ → Bool) (text : List ℕ) (n i : ℕ) → p 0 ≡ true → length text ≤ n → i < 64 → test 18446744073709551615 i ≡ p (get_or text (n + i) 0)
 ones-past p text n i nul past below = test-ones i below ∙ sym (ap p (get_or_past text (n + i) 0 (omega (arith, past))) ∙ nul)
 
--- a front of the text
+-- words that tell n bytes of a text tell those of its front of n bytes
 pub marks-front : (p : ℕ → Bool) (text words : List ℕ) (n : ℕ) → BitsTell p text words n → BitsTell p (take n text) words n
 marks-front p text words n marks i below = marks i below ∙ ap p (sym (get_or-take n text i 0 below))
 
--- two words of ones after a front
+-- where words tell the first 64 k bytes of a text, and NUL passes, the words with two words of ones at place k are the masks of that front
 pub front-ends : (p : ℕ → Bool) (text words : List ℕ) (k : ℕ) → p 0 ≡ true → 64 * k ≤ length text → k + 1 < length words → BitsTell p text words (64 * k)
     → BitsTell p (take (64 * k) text) (set (set words k 18446744073709551615) (k + 1) 18446744073709551615) (64 * words_for (64 * k))
 front-ends p text words k nul within room marks i below =

@@ -6,9 +6,9 @@ ghost use Rattle.sip_masks.specs.inner.Strange.{is_strange};
 
 use std::simd::prelude::*;
 
-// For each low half of a byte a bit for each kind of high half with which it makes a plain byte, or a
-// control; and for each high half the bits of its kinds. The kinds of plain bytes are the low five bits:
-// 2, 3, 4 and 6, 5, and 7. Those of controls are the others: 0, 1, and 7. No byte is of both. Each table
+// A byte has kinds: for each low half LOW has a bit for each kind of high half with which the two halves make a plain byte or a
+// control, and for each high half HIGH has the bits of its kinds. The low five bits are the kinds of plain bytes, by the high halves
+// 2, 3, 4 and 6, 5, and 7. The others are those of controls, by the high halves 0, 1, and 7. No byte is of both. Each table
 // stands four times.
 const LOW: [u8; 64] = [
     0x7a, 0x7f, 0x7e, 0x7e, 0x7e, 0x7e, 0x7e, 0x7f, 0x7e, 0x5e, 0x7d, 0x65, 0x64, 0x65, 0x75, 0xec,
@@ -24,10 +24,10 @@ const HIGH: [u8; 64] = [
     0x20, 0x40, 0x01, 0x02, 0x04, 0x08, 0x04, 0x90, 0x00, 0x00, 0x00, 0x00, 0x00, 0x00, 0x00, 0x00,
 ];
 
-// Below this one no kind is that of a control.
+// A control has a kind that is this one or above; a plain byte has none.
 const CONTROL: u8 = 32;
 
-// The bytes that are not plain.
+// A bit for each byte of the block that is not plain.
 #[inline(always)]
 pub(crate) fn others(v: u8x64) -> u64
     ensures { (i : ℕ) → i < 64 → test result i ≡ is_other (get_or v i 0) }
@@ -38,7 +38,7 @@ pub(crate) fn others(v: u8x64) -> u64
     kinds.simd_eq(u8x64::splat(0)).to_bitmask() | kinds.simd_ge(u8x64::splat(CONTROL)).to_bitmask()
 }
 
-// The controls, HTAB aside. They are found as the others are, so that both need one look at the tables.
+// A bit for each control of the block other than HTAB. They are found by the same look-ups as the bytes that are not plain.
 #[inline(always)]
 pub(crate) fn controls(v: u8x64) -> u64
     ensures { (i : ℕ) → i < 64 → test result i ≡ is_control (get_or v i 0) }
@@ -48,7 +48,7 @@ pub(crate) fn controls(v: u8x64) -> u64
     (low & high).simd_ge(u8x64::splat(CONTROL)).to_bitmask()
 }
 
-// The last bytes, filled up with NUL: nothing is read past the end.
+// The last bytes of the text, filled up with NUL: nothing is read past the end.
 pub(crate) fn tail(text: &[u8], at: usize) -> u8x64
     requires { (at ≤ length text.now) × (length text.now < at + 64) }
     ensures { (i : ℕ) → i < 64 → get_or result i 0 ≡ get_or text.now (at + i) 0 }
@@ -62,7 +62,7 @@ pub(crate) fn tail(text: &[u8], at: usize) -> u8x64
     u8x64::from_array(last)
 }
 
-// The bytes that stand in no name of a host.
+// A bit for each byte that stands in no name of a host.
 #[inline(always)]
 pub(crate) fn strangers(v: u8x32) -> u64
     ensures { (i : ℕ) → i < 32 → test result i ≡ is_strange (get_or v i 0) }
@@ -73,7 +73,7 @@ pub(crate) fn strangers(v: u8x32) -> u64
     (letters & digits & marks).to_bitmask()
 }
 
-// The bytes that are this one.
+// A bit for each byte that is equal to this one.
 #[inline(always)]
 pub(crate) fn equal_to(v: u8x32, byte: u8) -> u64
     ensures { (i : ℕ) → i < 32 → test result i ≡ (get_or v i 0 == byte) }

@@ -5,12 +5,11 @@ ghost use Rattle.sip_standard.specs.Profile.{Hostname};
 use crate::block::{equal_to, strangers};
 use std::simd::prelude::*;
 
-// The longest name that is looked at, in bytes.
+// The longest name that the quick test looks at, in bytes.
 const LONGEST: usize = 32;
 
-/// Whether the first `len` bytes of the window are a hostname of an ordinary kind: it has at most 32 bytes,
-/// and no dot ends it. Where they are not, or where the window is shorter than 32 bytes, they may still be a
-/// hostname.
+/// Whether the first `len` bytes of the window are a hostname of an ordinary kind: one of at most 32 bytes that no dot ends.
+/// Where the answer is no, they may still be a hostname, of another kind or in a window of fewer than 32 bytes.
 pub fn is_ordinary_name(window: &[u8], len: usize) -> bool
     ensures { IsTrue result → Hostname (take len window.now) }
 {

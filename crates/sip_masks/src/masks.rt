@@ -27,7 +27,7 @@ impl<'t, 'm> Model for Masks<'t, 'm> {
     ghost invariant = { λ m. IsMasks m.text.now m.others.now m.controls.now };
 }
 
-// Marks the bytes of a front of the text, and two words' bytes past it as NUL. The front ends after
+// Marks the bytes of a front of the text in the words, and after them the places of two words as NUL. The front ends after
 // the block in which an empty line ends, or else with the text.
 #[inline(never)]
 fn mark(text: &[u8], other: &mut [u64], control: &mut [u64]) -> usize
@@ -60,14 +60,14 @@ fn mark(text: &[u8], other: &mut [u64], control: &mut [u64]) -> usize
     text.len()
 }
 
-// Whether four controls stand in a row, as where a head ends. Nothing rests on it but how many bytes
-// are marked.
+// Whether four bits in a row are set, as those of the controls at the end of a head are. Nothing rests on the answer but how many
+// bytes are marked.
 #[inline(always)]
 fn holds_empty_line(ends: u64) -> bool {
     ends & (ends >> 1) & (ends >> 2) & (ends >> 3) != 0
 }
 
-// The 64 bits from place p on.
+// The 64 bits of the words from place p on.
 #[inline(always)]
 fn word_at(words: &[u64], p: usize) -> u64
     requires { p / 64 + 1 < length words.now }
@@ -77,7 +77,7 @@ fn word_at(words: &[u64], p: usize) -> u64
     (words[p / 64] >> r) | ((words[p / 64 + 1] << 1) << (63 - r))
 }
 
-// The bits from place p on of the word that holds it.
+// The bits from place p on of the one word that holds it.
 #[inline(always)]
 fn rest_at(words: &[u64], p: usize) -> u64
     requires { p / 64 < length words.now }
@@ -88,7 +88,7 @@ fn rest_at(words: &[u64], p: usize) -> u64
 }
 
 impl<'t, 'm> Masks<'t, 'm> {
-    /// A front of the text with its masks, which go into the words. Mostly it ends with the block in
+    /// A front of the text with its masks, which are written into the words. Mostly it ends with the block in
     /// which the first empty line ends.
     pub fn of(text: &'t [u8], other: &'m mut [u64], control: &'m mut [u64]) -> Masks<'t, 'm>
         requires { (words_for (length text.now) ≤ length other.old) × (words_for (length text.now) ≤ length control.old) }
@@ -123,7 +123,7 @@ impl<'t, 'm> Masks<'t, 'm> {
         self.long_run(p)
     }
 
-    // The same of a run of any length.
+    // The length of the run of plain bytes at p, however long it is.
     #[inline(never)]
     fn long_run(&self, p: usize) -> usize
         requires { p ≤ length self.now }

@@ -14,11 +14,11 @@ zip2-map : (h : ℕ → ℕ → ℕ) (f g : ℕ → ℕ) (xs : List ℕ) → zip
 zip2-map h f g [] = refl
 zip2-map h f g (x ∷ xs) = ap (λ r. h (f x) (g x) ∷ r) (zip2-map h f g xs)
 
--- an operation on two vectors that were computed lane by lane from v
+-- an operation on the lanes of two vectors that f and g computed from v is the operation of f x and g x for each x of v
 pub joined : (h : ℕ → ℕ → ℕ) (f g : ℕ → ℕ) (v : List ℕ) {a b : List ℕ} → a ≡ map f v → b ≡ map g v → zip2 h a b ≡ map (λ x. h (f x) (g x)) v
 joined h f g v p q = ap₂ (zip2 h) p q ∙ zip2-map h f g v
 
--- no lane is set, and each byte whose lane is not set passes q
+-- where no top bit of the lanes f x is set, and each byte x whose top bit is not set passes q, the n bytes from place i on pass q
 pub all_pass : (q : ℕ → Bool) (d : List ℕ) (i n : ℕ) (z : List ℕ) → i + n ≤ length d → n ≤ 64 → ((k : ℕ) → Fits w8 (get_or d k 0))
     → eqb (mask_l (map (top 7) z) % 2 ^ 64) 0 ≡ true → (f : ℕ → ℕ) → z ≡ map f (chunk i n d)
     → agree_below (λ x. top 7 (f x) || q x) (λ _. true) 256 ≡ true → (k : ℕ) → i ≤ k → k < i + n → q (get_or d k 0) ≡ true
@@ -32,13 +32,13 @@ all_pass q d i n z room few fits none f lanes all k from to =
     let clear = subst (λ x. top 7 (f x) ≡ false) at (not-true _ (prefix_len_passes (λ x. not (top 7 (f x))) v (k - i) 0 (omega arith))) in
     sym (ap (λ b. b || q (get_or d k 0)) clear) ∙ agree_below_at (λ x. top 7 (f x) || q x) (λ _. true) 256 (get_or d k 0) all (fits k).fits
 
--- no lane is set
+-- where the mask of the top bits of n lanes is 0, no top bit is set
 none_set : (z : List ℕ) (n : ℕ) → length z ≡ n → n ≤ 64 → eqb (mask_l (map (top 7) z) % 2 ^ 64) 0 ≡ true → (k : ℕ) → k < n → top 7 (get_or z k 0) ≡ false
 none_set z n long few none k below =
     let whole = leading_from_mask_l (top 7) z (sym (mask_l-mod (map (top 7) z) 64 (omega (arith, length-map z (top 7), long, few))) ∙ eqb-true _ 0 none) in
     not-true _ (prefix_len_passes (λ x. not (top 7 x)) z k 0 (omega (arith, whole, long, below)))
 
--- no lane of an operation on two loads is set
+-- where the mask of the top bits of an operation on two loads of n bytes is 0, no top bit of the operation on a pair of their bytes is set
 pub two_clear : (d : List ℕ) (i j n : ℕ) (o : ℕ → ℕ → ℕ) (f g : ℕ → ℕ) (a b : List ℕ) → i + n ≤ length d → j + n ≤ length d → n ≤ 64 → a ≡ map f (chunk i n d) → b ≡ map g (chunk j n d)
     → eqb (mask_l (map (top 7) (zip2 o a b)) % 2 ^ 64) 0 ≡ true → (k : ℕ) → k < n → top 7 (o (f (get_or d (i + k) 0)) (g (get_or d (j + k) 0))) ≡ false
 two_clear d i j n o f g a b room_i room_j few a_is b_is none k below =
@@ -51,14 +51,14 @@ two_clear d i j n o f g a b room_i room_j few a_is b_is none k below =
     ap (λ l. get_or l k 0) b_is ∙ get_or-map g (chunk j n d) k 0 0 (omega (arith, length-chunk j n d room_j, below)) ∙ ap g (get_or-chunk j n d k 0 below) in
     subst (λ x. top 7 x ≡ false) (get_or-zip2 o a b k 0 0 0 (omega (arith, long_a, below)) (omega (arith, long_b, below)) ∙ ap₂ o first second) (none_set (zip2 o a b) n long few none k below)
 
--- two comparisons whose lanes do not differ agree
+-- where two comparisons leave lanes whose top bits do not differ, they have the same answer
 pub lanes_agree : (x y : Bool) → top 7 (bit_xor (cond x 255 0) (cond y 255 0)) ≡ false → x ≡ y
 lanes_agree true true none = refl
 lanes_agree false false none = refl
 lanes_agree true false none = absurd (both_ways true none refl)
 lanes_agree false true none = absurd (both_ways true none refl)
 
--- the front of eight bytes, moved up to the end of a word
+-- the number of eight bytes, moved up so that the first k are the highest, is the number of these k with NULs before them
 moved-up : (b0 b1 b2 b3 b4 b5 b6 b7 k : ℕ) → b0 < 256 → b1 < 256 → b2 < 256 → b3 < 256 → b4 < 256 → b5 < 256 → b6 < 256 → b7 < 256 → 1 ≤ k → k ≤ 8
     → from_le_bytes w64 (b0 ∷ b1 ∷ b2 ∷ b3 ∷ b4 ∷ b5 ∷ b6 ∷ b7 ∷ []) * 2 ^ (64 - 8 * k) % 2 ^ 64 ≡ from_le_bytes w64 (filled (take k (b0 ∷ b1 ∷ b2 ∷ b3 ∷ b4 ∷ b5 ∷ b6 ∷ b7 ∷ [])))
 moved-up b0 b1 b2 b3 b4 b5 b6 b7 zero h0 h1 h2 h3 h4 h5 h6 h7 some few = absurd (omega (arith, some))
@@ -72,7 +72,7 @@ moved-up b0 b1 b2 b3 b4 b5 b6 b7 (suc (suc (suc (suc (suc (suc (suc zero))))))) 
 moved-up b0 b1 b2 b3 b4 b5 b6 b7 (suc (suc (suc (suc (suc (suc (suc (suc zero)))))))) h0 h1 h2 h3 h4 h5 h6 h7 some few = omega (arith, h0, h1, h2, h3, h4, h5, h6, h7)
 moved-up b0 b1 b2 b3 b4 b5 b6 b7 (suc (suc (suc (suc (suc (suc (suc (suc (suc k))))))))) h0 h1 h2 h3 h4 h5 h6 h7 some few = absurd (omega (arith, few))
 
--- the number of the front of a window
+-- the number of eight bytes in small letters, moved up so that the first k are the highest, is the number that the first k write
 pub number-front : (window : List ℕ) (k : ℕ) → 8 ≤ length window → ((i : ℕ) → Fits w8 (get_or window i 0)) → 1 ≤ k → k ≤ 8
     → from_le_bytes w64 (map small (take 8 window)) * 2 ^ (64 - 8 * k) % 2 ^ 64 ≡ number_of (take k window)
 number-front [] k room fits some few = absurd (omega (arith, room))

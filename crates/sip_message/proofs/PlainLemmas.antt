@@ -1,4 +1,4 @@
--- Plain parts of values, and what the grammar has of them.
+-- Plain parts of values, and the texts of the grammar that they are.
 use Rattle.std.proofs.Common.{◌≡◌, ℕ, ◌+◌, ◌-◌, ◌<◌, ◌≤◌, true, false, ◌&&◌, ◌||◌, List, [], ◌∷◌, ◌++◌, Option, None, Some, length, take, drop, refl, sym, ap, ap₂, ◌∙◌, subst, inl, inr, arith}
 use Rattle.std.specs.Prelude.{codes}
 use Rattle.std.specs.Char.{is_ascii_alphanumeric}
@@ -27,7 +27,7 @@ use Rattle.sip_message.proofs.lemmas.front.Prefix.{prefix-at, all-some}
 use Rattle.sip_message.proofs.lemmas.text.Cuts.{same_by_front}
 use Rattle.sip_message.proofs.lemmas.params.Closed.{blanks-space}
 
--- a segment is cut at a place within it
+-- a segment is its part up to a place within it and its part from there on
 pub segment-cut : (text : List ℕ) (at mid to : ℕ) → at ≤ mid → mid ≤ to → segment at to text ≡ segment at mid text ++ segment mid to text
 segment-cut text at mid to first second =
     let count : to - at ≡ (mid - at) + (to - mid) = omega (arith, first, second) in
@@ -35,26 +35,26 @@ segment-cut text at mid to first second =
     ap (λ n. take n (drop at text)) count ∙ take-add (mid - at) (to - mid) (drop at text)
     ∙ ap (λ t. segment at mid text ++ take (to - mid) t) (drop-drop (mid - at) at text ∙ ap (λ k. drop k text) place)
 
--- nothing stands at one place
+-- the segment from a place up to the same place is empty
 pub segment-none : (text : List ℕ) (at : ℕ) → segment at at text ≡ []
 segment-none text at =
     let none : at - at ≡ 0 = omega arith in
     ap (λ n. take n (drop at text)) none
 
--- one part, and another after it
+-- where a text of P lies between two places, and a text of Q from the second one on, a text of P and then Q lies from the first one on
 pub then-stands : (P Q : List ℕ → Type 0) (text : List ℕ) (at end mid to : ℕ) → LiesWithin P text at end mid → LiesWithin Q text mid end to → LiesWithin (P then Q) text at end to
 then-stands P Q text at end mid to p q =
     (omega (arith, p.0, q.0), q.1, (segment at mid text, segment mid to text, p.2, q.2, segment-cut text at mid to p.0 q.0))
 
--- a part is one of another set
+-- where a text of P lies between two places, and each text of P is of Q, a text of Q lies there
 pub stands-as : (P Q : List ℕ → Type 0) (text : List ℕ) (at end to : ℕ) → ((u : List ℕ) → P u → Q u) → LiesWithin P text at end to → LiesWithin Q text at end to
 stands-as P Q text at end to turn p = (p.0, p.1, turn (segment at to text) p.2)
 
--- up to the end
+-- where the segment up to the end is of P, a text of P lies up to the end
 pub whole-stands : (P : List ℕ → Type 0) (text : List ℕ) (at end : ℕ) → at ≤ end → P (segment at end text) → LiesWithin P text at end end
 whole-stands P text at end within p = (within, omega arith, p)
 
--- what holds a byte takes room
+-- a segment that has a byte ends after the place at which it begins
 pub part-longer : (text rest : List ℕ) (at to b : ℕ) → segment at to text ≡ b ∷ rest → at < to
 part-longer text rest at to b is = elim (cases_lt at to) [
   | inl less ↦ less
@@ -63,13 +63,13 @@ part-longer text rest at to b is = elim (cases_lt at to) [
       absurd (omega (arith, ap length (sym (ap (λ n. take n (drop at text)) none) ∙ is)))
 ]
 
--- a parameter takes room
+-- a parameter ends after the place at which it begins
 pub param-longer : (p : List ℕ × Option (List ℕ)) (text : List ℕ) (at end to : ℕ) → LiesWithin (PlainParam p) text at end to → at < to
 param-longer p text at end to param =
     let w = param.2 in
     part-longer text w.1 at to semicolon (w.4 ∙ ap (λ t. t ++ w.1) w.2)
 
--- a run
+-- where some plain bytes stand from a place on, a run of plain bytes lies there
 pub run-stands : (text : List ℕ) (at end n : ℕ) → at < end → end ≤ length text → n ≡ prefix_len is_plain (drop at text) → 0 < n → n ≤ end - at → LiesWithin PlainRun text at end (at + n)
 run-stands text at end n before within is some most =
     let count : at + n - at ≡ n = omega arith in
@@ -78,7 +78,7 @@ run-stands text at end n before within is some most =
     let run : PlainRun front = all-some is_plain front (prefix-at is_plain (drop at text) n is).0 (λ none. omega (arith, some, len, ap length none)) in
     (omega arith, omega (arith, before, most), subst (λ k. PlainRun (take k (drop at text))) (sym count) run)
 
--- a plain byte is one of a user
+-- a plain byte may stand in a user
 user-byte : (b : ℕ) → is_plain b ≡ true → (is_unreserved b || is_user_unreserved b) ≡ true
 user-byte b is =
     elim (or_cases (is_ascii_alphanumeric b) (is_among "-.!*_+'~" b) is) [
@@ -90,7 +90,7 @@ user-byte b is =
     low : AllByRecursion (λ x. x < 256) (codes "-.!*_+'~")
     low = (omega arith, (omega arith, (omega arith, (omega arith, (omega arith, (omega arith, (omega arith, (omega arith, tt))))))))
 
--- plain runs are users and tokens
+-- a run of plain bytes is a user
 plain-user : (u : List ℕ) → PlainRun u → User u
 plain-user u run = some-map (One is_plain) (One is_user_unreserved or One is_unreserved or Escaped) u piece run
   where
@@ -103,25 +103,26 @@ plain-user u run = some-map (One is_plain) (One is_user_unreserved or One is_unr
 pub run-token : (u : List ℕ) → PlainRun u → Token u
 run-token u run = some-map (One is_plain) _ u (λ v one. (one.0, plain-token one.0 one.1, one.2)) run
 
--- a host has its own text
+-- a host is the text that its parts say
 pub host-own : (u : List ℕ) (h : HostParts) → HostText u h → HostText (host_text h) h × (u ≡ host_text h)
 host-own u (name t) is = ((subst Hostname (sym is.1) is.0, refl), sym is.1)
 host-own u (v4 t) is = ((subst Ipv4 (sym is.1) is.0, refl), sym is.1)
 host-own u (v6 t) is = ((subst Bracketed (sym is.1) is.0, refl), sym is.1)
 
--- a host without a port, and with one
+-- a host alone is a host with an optional port
 pub hostport-none : (h : HostParts) (u : List ℕ) → HostText u h → HostPort u
 hostport-none h u is =
     let own = host-own u h is in
     (h, None, own.0, tt, own.1 ∙ sym (append-nil (host_text h)))
 
+-- a host, a colon and a port are a host with an optional port
 pub hostport-some : (h : HostParts) (u : List ℕ) → ((λ t. HostText t h) then Byte colon then Port) u → HostPort u
 hostport-some h u w =
     let own = host-own w.0 h w.2 in
     let led = w.3.4 ∙ ap (λ t. t ++ w.3.1) w.3.2 in
     (h, Some w.3.1, own.0, w.3.3, w.4 ∙ ap₂ (λ x y. x ++ y) own.1 led)
 
--- a URI without a user, and with one
+-- "sip:" and a host with an optional port are a URI
 pub uri-bare : (u : List ℕ) → (Exactly (codes "sip:") then HostPort) u → SomeUri u
 uri-bare u w =
     let hp = w.3 in
@@ -131,6 +132,7 @@ uri-bare u w =
     let text : sip_text p ≡ at = append-nil (at ++ []) ∙ append-nil at in
     (sip p, (codes "sip", refl, fits, w.4 ∙ ap₂ (λ x y. x ++ y) w.2 (hp.4 ∙ sym text)))
 
+-- "sip:", a run of plain bytes, "@" and a host with an optional port are a URI
 pub uri-owned : (u : List ℕ) → (Exactly (codes "sip:") then PlainRun then Byte at_sign then HostPort) u → SomeUri u
 uri-owned u w =
     let user = w.3.0 in
@@ -143,20 +145,21 @@ uri-owned u w =
     let behind : w.3.1 ≡ at_sign ∷ at = w.3.3.4 ∙ ap₂ (λ x y. x ++ y) w.3.3.2 hp.4 in
     (sip p, (codes "sip", refl, fits, w.4 ∙ ap₂ (λ x y. x ++ y) w.2 (w.3.4 ∙ ap (λ t. user ++ t) behind ∙ sym text)))
 
--- one SP is blanks that may be none, and so is nothing
+-- one SP is an optional blank run
 pub sws-space : (u : List ℕ) → Byte space u → Sws u
 sws-space u is = inr (subst Blanks (sym is) blanks-space)
 
--- words
+-- a run of plain bytes is words
 pub words-one : (u : List ℕ) → PlainRun u → Words u
 words-one u run = (u, [], run-token u run, many-nil _, sym (append-nil u))
 
+-- words, a SP and a run of plain bytes are words
 pub words-more : (u : List ℕ) → (Words then Byte space then PlainRun) u → Words u
 words-more u w =
     let word : (Blanks then Token) w.1 = (w.3.0, w.3.1, subst Blanks (sym w.3.2) blanks-space, run-token w.3.1 w.3.3, w.3.4) in
     (w.2.0, w.2.1 ++ w.1, w.2.2, many-push _ w.2.1 w.1 w.2.3 word, w.4 ∙ ap (λ t. t ++ w.1) w.2.4 ∙ append_assoc w.2.0 w.2.1 w.1)
 
--- a segment is cut after what stands at its front
+-- where u stands first in a segment, the segment up to the end of u is u, and u ends within the segment
 pub front-cut : (text u rest : List ℕ) (at end : ℕ) → at ≤ end → end ≤ length text → segment at end text ≡ u ++ rest
     → (at + length u ≤ end) × (segment at (at + length u) text ≡ u) × (segment (at + length u) end text ≡ rest)
 front-cut text u rest at end before within is =
@@ -168,28 +171,29 @@ front-cut text u rest at end before within is =
     let same = same_by_front (segment at (at + n) text) (segment (at + n) end text) u rest len (sym (segment-cut text at (at + n) end (omega arith) most) ∙ is) in
     (most, same.0, same.1)
 
--- what stands at the front is a part
+-- where a text of P stands first in a segment, a text of P lies from the start of the segment up to its own end
 pub front-stands : (P : List ℕ → Type 0) (text u rest : List ℕ) (at end : ℕ) → at ≤ end → end ≤ length text → P u → segment at end text ≡ u ++ rest → LiesWithin P text at end (at + length u)
 front-stands P text u rest at end before within p is =
     let cut = front-cut text u rest at end before within is in
     (omega arith, cut.0, subst P (sym cut.1) p)
 
--- "<", and a display name before it
+-- "<" alone opens a URI in angles, without a display name
 pub opening-none : (u : List ℕ) → Byte left_angle u → Opening u
 opening-none u is = (None, tt, is)
 
 pub opening-some : (u : List ℕ) → (DisplayName then Sws then Byte left_angle) u → Opening u
 opening-some u w = (Some w.0, w.2, (w.0, w.1, refl, w.3, w.4))
 
--- a mark without blanks
+-- a byte without blanks is a mark
 pub mark-alone : (b : ℕ) → Mark b (b ∷ [])
 mark-alone b = ([], b ∷ [], inl refl, (b ∷ [], [], refl, inl refl, refl), refl)
 
--- a parameter without a value, and with one
+-- ";" and a run of plain bytes are a parameter without a value
 pub param-none : (text : List ℕ) (at end start behind : ℕ) → LiesWithin (Byte semicolon) text at end start → LiesWithin PlainRun text start end behind → LiesWithin (PlainParam (segment start behind text, None)) text at end behind
 param-none text at end start behind mark run =
     (omega (arith, mark.0, run.0), run.1, (segment at start text, segment start behind text, mark.2, (run-token (segment start behind text) run.2, refl), segment-cut text at start behind mark.0 run.0))
 
+-- ";", a run of plain bytes, "=" and another run are a parameter with a value
 pub param-some : (text : List ℕ) (at end start behind first to : ℕ) → LiesWithin (Byte semicolon) text at end start → LiesWithin PlainRun text start end behind → LiesWithin (Byte equals) text behind end first → LiesWithin PlainRun text first end to
     → LiesWithin (PlainParam (segment start behind text, Some (segment first to text))) text at end to
 param-some text at end start behind first to mark run equal value =
@@ -202,7 +206,7 @@ param-some text at end start behind first to mark run equal value =
     (name, segment behind to text, refl, led, segment-cut text start behind to run.0 later) in
     (omega (arith, mark.0, run.0, later), value.1, (segment at start text, segment start to text, mark.2, (run-token name run.2, inl (run-token v value.2), whole), segment-cut text at start to mark.0 (omega (arith, run.0, later))))
 
--- a parameter before others
+-- where a parameter lies before a segment of parameters, the segment from it on is these parameters with it at the front
 pub params-part : (p : List ℕ × Option (List ℕ)) (ps : List (List ℕ × Option (List ℕ))) (text : List ℕ) (at end to : ℕ) → LiesWithin (PlainParam p) text at end to → ParamsPart (segment to end text) ps → ParamsPart (segment at end text) (p ∷ ps)
 params-part p ps text at end to param later =
     let rest = segment to end text in
@@ -215,16 +219,16 @@ params-part p ps text at end to param later =
 pub params-behind : (p : List ℕ × Option (List ℕ)) (text : List ℕ) (at end to : ℕ) → LiesWithin (PlainParam p) text at end to → SomeParams (segment to end text) → SomeParams (segment at end text)
 params-behind p text at end to param later = (p ∷ later.0, params-part p later.0 text at end to param later.1)
 
--- none
+-- the empty segment is parameters: none
 pub params-none : (text : List ℕ) (end : ℕ) → SomeParams (segment end end text)
 params-none text end = ([], (subst OpensSolid (sym (segment-none text end)) tt, segment-none text end))
 
--- a part without blanks before it
+-- a part without blanks before it is a part that may have blanks before it
 pub behind-self : (u : List ℕ) → BehindBlanks u u
 behind-self [] = refl
 behind-self (b ∷ u) = ([], b ∷ u, inl refl, refl, refl)
 
--- an address
+-- what opens a URI in angles, a URI, ">" and parameters are an address
 pub address-plain : (u : List ℕ) → (Opening then SomeUri then Byte right_angle then SomeParams) u → SomeAddress u
 address-plain u w =
     let opening = w.2 in

@@ -14,7 +14,7 @@ use Rattle.sip_message.specs.inner.Quick.{is_open, IsOpen}
 use Rattle.sip_message.proofs.PlainLemmas.{then-stands, whole-stands, run-token}
 use Rattle.sip_message.proofs.lemmas.text.Cuts.{All, all_right}
 
--- a byte that is no control is one of a reason
+-- a byte that is no control may stand in a reason phrase
 reason-byte : (b : ℕ) → is_open b ≡ true → is_reason_byte b ≡ true
 reason-byte b clear =
     elim (cases_lt b 256) [
@@ -35,7 +35,7 @@ reason-bytes : (text : List ℕ) → All is_open text → list_all is_reason_byt
 reason-bytes [] clear = refl
 reason-bytes (b ∷ text) clear = and_from _ _ (reason-byte b clear.0) (reason-bytes text clear.1)
 
--- the reason of a line without controls
+-- the reason phrase of a status line without controls has only bytes that it may have
 pub reason-open : (line reason : List ℕ) (code : ℕ) → IsOpen line → CodeFront (drop 8 line) (code, reason) → list_all is_reason_byte reason ≡ true
 reason-open line reason code clear front =
     let behind : All is_open (drop 8 line) = all_right is_open (take 8 line) (drop 8 line) (subst (All is_open) (sym (take-append-drop 8 line)) clear) in
@@ -43,7 +43,7 @@ reason-open line reason code clear front =
     let last : All is_open front.3.1 = all_right is_open front.3.0 front.3.1 (subst (All is_open) front.3.4 later) in
     reason-bytes reason (subst (All is_open) front.3.3 last)
 
--- a request line
+-- where a run of plain bytes, a SP, a URI and " SIP/2.0" lie one after the other up to the end, the front of the text is a request line
 pub request-plain : (text : List ℕ) (end method uri to : ℕ) → LiesWithin PlainRun text 0 end method → LiesWithin (Byte space) text method end uri → LiesWithin SomeUri text uri end to
     → segment to end text ≡ codes " SIP/2.0" → StartText (segment 0 end text) (request (segment 0 method text) (segment uri to text))
 request-plain text end method uri to run mark is version =

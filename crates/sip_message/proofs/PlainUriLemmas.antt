@@ -7,10 +7,11 @@ use Rattle.sip_text.specs.Bytes.{at_sign, Byte}
 use Rattle.sip_message.specs.inner.Plain.{PlainRun, HostPort, SomeUri}
 use Rattle.sip_message.proofs.PlainLemmas.{uri-bare, uri-owned}
 
--- nothing, or a user with its `@`
+-- a run of plain bytes with "@" after it, or nothing
 abbrev pub PlainUser : List ℕ → Type 0
 PlainUser u = (u ≡ []) ⊎ (PlainRun then Byte at_sign) u
 
+-- "sip:", a plain user with its "@" or none, and a host with an optional port are a URI
 pub uri-plain : (u : List ℕ) → (Exactly (codes "sip:") then PlainUser then HostPort) u → SomeUri u
 uri-plain u (s, r, scheme, (x, y, inl none, host, r_is), is) =
     uri-bare u (s, y, scheme, host, is ∙ ap (λ t. s ++ t) (r_is ∙ ap (λ t. t ++ y) none))

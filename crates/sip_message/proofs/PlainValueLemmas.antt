@@ -30,7 +30,7 @@ use Rattle.sip_message.proofs.lemmas.text.Each.{each-one, each-many}
 use Rattle.sip_message.proofs.lemmas.front.Prefix.{all-some}
 use Rattle.sip_message.proofs.lemmas.params.Closed.{blanks-space}
 
--- a plain byte is one of a word
+-- a plain byte may stand in a word
 word-byte : (b : ℕ) → is_plain b ≡ true → is_word_byte b ≡ true
 word-byte b is =
     elim (or_cases (is_ascii_alphanumeric b) (is_among "-.!*_+'~" b) is) [
@@ -44,14 +44,14 @@ word-byte b is =
 run-word : (u : List ℕ) → PlainRun u → Word u
 run-word u run = some-map (One is_plain) (One is_word_byte) u (λ v one. (one.0, word-byte one.0 one.1, one.2)) run
 
--- a Call-ID of one run, and of two
+-- a run of plain bytes is a Call-ID
 pub call_id-one : (u : List ℕ) → PlainRun u → CallId u
 call_id-one u run = (u, [], run-word u run, inl refl, sym (append-nil u))
 
 pub call_id-two : (u : List ℕ) → (PlainRun then Byte at_sign then PlainRun) u → CallId u
 call_id-two u w = (w.0, w.1, run-word w.0 w.2, inr (w.3.0, w.3.1, w.3.2, run-word w.3.1 w.3.3, w.3.4), w.4)
 
--- a byte of a token is one of a quoted string
+-- a byte of a token may stand in a quoted string
 quoted-byte : (b : ℕ) → is_token_byte b ≡ true → is_quoted_byte b ≡ true
 quoted-byte b is =
     elim (cases_lt b 256) [
@@ -66,7 +66,7 @@ quoted-byte b is =
     over false false false true is = refl
     over x y z false is = absurd (both_ways false refl is)
 
--- words are what may stand between quotes
+-- a byte of qdtext, a quoted pair or a blank run: what may stand between quotes
 abbrev Inner : List ℕ → Type 0
 Inner = Qdtext or QuotedPair
 
@@ -76,6 +76,7 @@ inner-token u token = many-map (One is_token_byte) Inner u (λ v one. inl (inr (
 inner-blanks : (u : List ℕ) → Blanks u → Many Inner u
 inner-blanks u blanks = many-map Lws Inner u (λ v lws. inl (inl lws)) (many-some Lws u blanks)
 
+-- words may stand between quotes
 inner-words : (u : List ℕ) → Words u → Many Inner u
 inner-words u w =
     let more = many-flat (Blanks then Token) Inner w.1 (λ v p. subst (Many Inner) (sym p.4) (many-append Inner p.0 p.1 (inner-blanks p.0 p.2) (inner-token p.1 p.3))) w.3 in
@@ -84,13 +85,13 @@ inner-words u w =
 pub quoted-words : (u : List ℕ) → (Byte dquote then Words then Byte dquote) u → Quoted u
 quoted-words u w = (w.0, w.1, w.2, (w.3.0, w.3.1, inner-words w.3.0 w.3.2, w.3.3, w.3.4), w.4)
 
--- the digits before the index write the number, which is short
+-- the bytes before the index are digits, write the number, and are at most nine
 pub record ReadsShort (text : List ℕ) (at number : ℕ) : Type 0 where
   pub all : list_all is_ascii_digit (take at text) ≡ true
   pub value : number ≡ digits_value 10 (take at text)
   pub small : number < 2 ^ 31
 
--- one digit more
+-- where the digits before the index write a number of at most eight digits, and the byte at the index is one, those up to it write ten times as much and it
 pub short-more : (text : List ℕ) (at number : ℕ) → at < length text → ReadsShort text at number → is_ascii_digit (get_or text at 0) ≡ true → number ≤ 99999999 → ReadsShort text (at + 1) (number * 10 + (get_or text at 0 - 48))
 short-more text at number within reads is short =
     let digit = digit-above (get_or text at 0) is in record {
@@ -99,7 +100,7 @@ short-more text at number within reads is short =
       small = omega (arith, short, digit.1);
     }
 
--- at the end
+-- where the loop is at the end of a text that is not empty, the text is digits and writes the number, which is below 2^31
 pub short-end : (text : List ℕ) (at number : ℕ) → 0 < length text → length text ≤ at → ReadsShort text at number → Digits text × (number ≡ digits_value 10 text) × (number < 2 ^ 31)
 short-end text at number some end reads =
     let whole = take_all at text end in
@@ -107,7 +108,7 @@ short-end text at number some end reads =
     let each = each-many is_ascii_digit _ (each-one is_ascii_digit is_ascii_digit (λ b is. is)) text digits in
     (all-some is_ascii_digit text each (λ none. omega (arith, some, ap length none)), reads.value ∙ ap (digits_value 10) whole, reads.small)
 
--- a CSeq
+-- where digits, a SP and a run of plain bytes lie one after the other, the segment is a CSeq of that number and that method
 pub cseq-plain : (text : List ℕ) (at end digits method number : ℕ) → LiesWithin PlainRun text at end digits → LiesWithin (Byte space) text digits end method → LiesWithin PlainRun text method end end
     → Digits (segment at digits text) → number ≡ digits_value 10 (segment at digits text) → number < 2 ^ 31 → CSeqText (segment at end text) number (segment method end text)
 cseq-plain text at end digits method number run mark is are value low =

@@ -20,12 +20,12 @@ use Rattle.sip_message.proofs.lemmas.params.Branch.{cons-branch}
 use Rattle.sip_message.proofs.lemmas.params.Closed.{blanks-space}
 use Rattle.sip_message.proofs.lemmas.via.Steps.{one-via}
 
--- a parameter before those of a Via
+-- where a parameter lies before the parameters of a Via, the segment from it on is parameters of a Via, and its branch counts if it has one
 pub branch-behind : (p : Param) (found later : Option (List ℕ)) (text : List ℕ) (at end to : ℕ) → LiesWithin (PlainParam p) text at end to → BranchOf p found
     → ViaParams (segment to end text) later → ViaParams (segment at end text) (option_or found later)
 branch-behind p found later text at end to param is (ps, part, branch) = (p ∷ ps, params-part p ps text at end to param part, cons-branch p ps found later is branch)
 
--- no parameters
+-- the empty segment is parameters of a Via without a branch
 pub branch-none : (text : List ℕ) (end : ℕ) → ViaParams (segment end end text) None
 branch-none text end = subst (λ u. ViaParams u None) (sym (segment-none text end)) ([], (tt, refl), refl)
 
@@ -33,7 +33,7 @@ pub or-none : (b : Option (List ℕ)) → option_or b None ≡ b
 or-none None = refl
 or-none (Some v) = refl
 
--- a port after its colon
+-- where a colon and a port lie one after the other, an optional port with its colon lies there, and is that port
 pub port-led : (text : List ℕ) (at end port to : ℕ) → LiesWithin (Byte colon) text at end port → LiesWithin Port text port end to
     → LiesWithin (λ u. ColonPort (Some (segment port to text)) u × IfSome (Some (segment port to text)) Port) text at end to
 port-led text at end port to mark is =
@@ -42,18 +42,18 @@ port-led text at end port to mark is =
     then-stands (Mark colon) (Exactly p) text at end port to (stands-as (Byte colon) (Mark colon) text at end port (λ u byte. subst (Mark colon) (sym byte) (mark-alone colon)) mark) (is.0, is.1, refl) in
     (led.0, led.1, (led.2, is.2))
 
--- no port
+-- where no port lies, an optional port is missing there
 pub port-none : (text : List ℕ) (at end : ℕ) → at ≤ end → LiesWithin (λ u. ColonPort None u × IfSome None Port) text at end at
 port-none text at end within = (omega arith, within, (segment-none text at, tt))
 
--- a run is spelled as it stands
+-- a run of plain bytes that lies between two places is spelled as the segment between them
 spelled : (text : List ℕ) (at end to : ℕ) → LiesWithin PlainRun text at end to → LiesWithin (Exactly (segment at to text)) text at end to
 spelled text at end to run = (run.0, run.1, refl)
 
 marked : (text : List ℕ) (at end to : ℕ) → LiesWithin (Byte slash) text at end to → LiesWithin (Mark slash) text at end to
 marked text at end to mark = stands-as (Byte slash) (Mark slash) text at end to (λ u is. subst (Mark slash) (sym is) (mark-alone slash)) mark
 
--- an element
+-- where the parts of an element of Via lie one after the other, all plain and with one blank before the host, the segment is that element
 pub via-plain : (text : List ℕ) (at end name first version second transport sent_by behind params : ℕ) (host : HostParts) (port branch : Option (List ℕ))
     → LiesWithin PlainRun text at end name → LiesWithin (Byte slash) text name end first → LiesWithin PlainRun text first end version → LiesWithin (Byte slash) text version end second
     → LiesWithin PlainRun text second end transport → LiesWithin (Byte space) text transport end sent_by → LiesWithin (λ u. HostText u host) text sent_by end behind
@@ -86,10 +86,10 @@ via-plain text at end name first version second transport sent_by behind params 
     let s9 = then-stands (Exactly p) T8 text at end name end (spelled text at end name protocol_is) s8 in
     (fits, s9.2)
 
--- a value of one element
+-- a text that is one element of Via is a value of which that element is the first
 pub via-first : (text : List ℕ) (v : ViaParts) → ViaText text v → FirstVia text (text, v)
 via-first text v is = ((v, [], (text, [], is, refl, sym (append-nil text))), ([], (is, sym (append-nil text), inl refl)))
 
--- the only reading
+-- the first element of a value of Via is the only one that the value has as its first
 pub via-only : (text : List ℕ) (e : Element) → FirstVia text e → FirstVia text e × ((x : Element) → FirstVia text x → x ≡ e)
 via-only text e is = (is, λ x other. ap (λ y. y.0) (one-via text (x, other.1.0) (e, is.1.0) other.1.1 is.1.1))

@@ -38,14 +38,14 @@ use Rattle.sip_message.proofs.lemmas.canon.Spelling.{Inner, AreInner, lines-head
 use Rattle.sip_message.proofs.lemmas.lines.Reading.{fields-push}
 use Rattle.sip_message.proofs.lemmas.start_line.OneWay.{length-folded}
 
--- the text up to the first control
+-- no control stands in a text before its first control
 open-front : (text : List ℕ) → All is_open (take (prefix_len is_open text) text)
 open-front text =
     let front = run-front is_open text in
     let same : take (prefix_len is_open text) text ≡ front.0 = ap₂ take front.4 front.3 ∙ take-append_seam front.0 front.1 in
     subst (All is_open) (sym same) (each-many is_open _ (each-one is_open is_open (λ b is. is)) front.0 front.2)
 
--- a line that a CRLF ends, the first control in it
+-- where the first control after a place begins a CRLF, the text from the place on is a line without controls, its end, and the rest
 pub open-line : (text : List ℕ) (at end : ℕ) → end ≡ at + prefix_len is_open (drop at text) → end + 2 ≤ length text → get_or text end 0 ≡ 13 → get_or text (end + 1) 0 ≡ 10
     → IsOpen (take (end - at) (drop at text)) × (drop at text ≡ with_end (take (end - at) (drop at text)) ++ drop (end + 2) text)
 open-line text at end is room cr lf =
@@ -61,7 +61,7 @@ open-line text at end is room cr lf =
       sym (take-append-drop n (drop at text)) ∙ ap₂ (λ k t. take k (drop at text) ++ t) len behind ∙ sym (append_assoc (take (end - at) (drop at text)) crlf rest),
     )
 
--- a byte that is no control is one of a value, or a blank
+-- a byte that is no control may stand in a value that is not looked into, or is a blank
 open-byte : (b : ℕ) → is_open b ≡ true → (is_value_byte b || is_wsp b) ≡ true
 open-byte b clear =
     elim (cases_lt b 256) [
@@ -84,7 +84,7 @@ open-other (b ∷ text) clear = many-cons _ (b ∷ []) text (piece (or_cases (is
     piece (inl byte) = inr (b, byte, refl)
     piece (inr wsp) = inl (lws-blank (b ∷ []) ([], b ∷ [], inl refl, (b, wsp, refl), refl))
 
--- it has no line end
+-- a text without controls has no CR and no LF
 open-inner : (line : List ℕ) → IsOpen line → Inner line
 open-inner [] clear = tt
 open-inner (b ∷ line) clear = (inner b clear.0, open-inner line clear.1)
@@ -96,7 +96,7 @@ open-inner (b ∷ line) clear = (inner b clear.0, open-inner line clear.1)
           | inr high ↦ ap₂ (λ x y. not x && not y) (ne_eqb b carriage_return (λ same. omega (arith, same, high))) (ne_eqb b line_feed (λ same. omega (arith, same, high)))
         ]
 
--- what a run of plain bytes and a colon begin
+-- where a colon stands after n bytes of a line, the line is these bytes, the colon and what follows it
 pub line-cut : (text : List ℕ) (at n end : ℕ) → at + n < end → end ≤ length text → get_or text (at + n) 0 ≡ colon
     → take (end - at) (drop at text) ≡ take n (drop at text) ++ colon ∷ take (end - (at + n + 1)) (drop (at + n + 1) text)
 line-cut text at n end less within is =
@@ -109,7 +109,7 @@ line-cut text at n end less within is =
     let count : end - at ≡ length (take n t) + suc (end - (at + n + 1)) = omega (arith, length-take-le n t long, less) in
     ap₂ take count parts ∙ take-append-add (take n t) (colon ∷ drop (at + n + 1) text) (suc (end - (at + n + 1)))
 
--- a byte that stands in a list of bytes
+-- a byte that is one of some bytes below 256 is below 256
 pub low-one : (set : List ℕ) (b : ℕ) → AllByRecursion (λ x. x < 256) set → list_any (λ c. c == b) set ≡ true → b < 256
 low-one [] b low is = absurd (both_ways false refl is)
 low-one (x ∷ set) b low is =
@@ -118,7 +118,7 @@ low-one (x ∷ set) b low is =
       | inr later ↦ low-one set b low.1 later
     ]
 
--- a plain byte is one of a token
+-- a plain byte is a byte of a token
 pub plain-token : (b : ℕ) → is_plain b ≡ true → is_token_byte b ≡ true
 plain-token b is =
     elim (or_cases (is_ascii_alphanumeric b) (is_among "-.!*_+'~" b) is) [
@@ -130,7 +130,7 @@ plain-token b is =
     low : AllByRecursion (λ x. x < 256) (codes "-.!*_+'~")
     low = (omega arith, (omega arith, (omega arith, (omega arith, (omega arith, (omega arith, (omega arith, (omega arith, tt))))))))
 
--- the run of plain bytes at a place is a token
+-- a run of plain bytes at the front of a text, if it is not empty, is a token
 pub plain-run : (text : List ℕ) (n : ℕ) → n ≡ prefix_len is_plain text → 0 < n → Token (take n text)
 plain-run text n is some =
     let front = run-front is_plain text in
@@ -140,7 +140,7 @@ plain-run text n is some =
       | inr token ↦ subst Token (sym same) token
     ]
 
--- a line that begins with a run of plain bytes and a colon is named
+-- a line that begins with a run of plain bytes and a colon has the field name that the run spells, and what follows the colon is the rest
 pub plain-named : (text : List ℕ) (at n end : ℕ) → n ≡ prefix_len is_plain (drop at text) → 0 < n → at + n < end → end ≤ length text → get_or text (at + n) 0 ≡ colon
     → NameText (take (end - at) (drop at text)) (name_of (take n (drop at text))) (take (end - (at + n + 1)) (drop (at + n + 1) text))
 plain-named text at n end is some less within mark =
@@ -153,21 +153,21 @@ plain-named text at n end is some less within mark =
       whole = (name, colon ∷ rest, refl, ([], colon ∷ rest, many-nil _, (colon ∷ [], rest, refl, refl, refl), refl), line-cut text at n end less within mark);
     }
 
--- what is left after its colon has no controls
+-- what follows the colon of a line without controls has no controls
 pub behind-open : (text : List ℕ) (at n end : ℕ) → at + n < end → end ≤ length text → get_or text (at + n) 0 ≡ colon → IsOpen (take (end - at) (drop at text))
     → IsOpen (take (end - (at + n + 1)) (drop (at + n + 1) text))
 behind-open text at n end less within mark clear =
     let rest = take (end - (at + n + 1)) (drop (at + n + 1) text) in
     (all_right is_open (take n (drop at text)) (colon ∷ rest) (subst IsOpen (line-cut text at n end less within mark) clear)).1
 
--- the value of a text without controls has none
+-- the value in a text without controls has no controls
 pub value-open : (rest value : List ℕ) → IsOpen rest → ValueText rest value → IsOpen value
 value-open rest value clear valued =
     let w = valued.whole in
     let whole : rest ≡ w.0 ++ (value ++ w.3.1) = w.4 ∙ ap (λ t. w.0 ++ t) (w.3.4 ∙ ap (λ t. t ++ w.3.1) w.3.2) in
     all_left is_open value w.3.1 (all_right is_open w.0 (value ++ w.3.1) (subst IsOpen whole clear))
 
--- a field's line is not empty, and begins with no blank
+-- the line of a field is not empty, and begins with no blank
 line-begins : (line : List ℕ) (f : Field) → FieldText line f → (line ≡ [] → ⊥) × (OpensBlank line → ⊥)
 line-begins line f is =
     let n = is.named in
@@ -178,7 +178,7 @@ line-begins line f is =
     at [] token more begins = absurd (omega (arith, length-append token.0 token.1, ap length token.4, ap length token.2.2))
     at (b ∷ name) token more begins = both_ways (is_token_byte b) (blank-token b (wsp-blank b begins)) (each-token (b ∷ name) token).0
 
--- where no line of fields has a control, each begins without a blank and has no line end in it
+-- where lines are fields and have no controls, no line has a CR or LF in it or begins with a blank
 lines-begin : (lines : List (List ℕ)) (fields : List Field) → FieldsText lines fields → AllByRecursion IsOpen lines → AreInner lines × AllByRecursion (λ line. ¬ (OpensBlank line)) lines
 lines-begin [] fields are clear = (tt, tt)
 lines-begin (line ∷ lines) fields (f, fs, is, are, whole) clear =
@@ -195,7 +195,7 @@ start-some line (status code reason) is none =
     let w = is.1 in
     absurd (omega (arith, ap length (sym none ∙ w.4), length-append w.0 w.1, ap length w.3.4, length-append w.3.0 w.3.1, ap length w.3.2))
 
--- the lines from one place up to another, which are the fields so far
+-- the text between the two places is whole lines without controls, and they are these fields
 pub record LinesSoFar (text : List ℕ) (from at : ℕ) (fields : List Field) : Type 0 where
   pub lines : List (List ℕ)
   pub within : at ≤ length text
@@ -206,7 +206,7 @@ pub record LinesSoFar (text : List ℕ) (from at : ℕ) (fields : List Field) : 
 pub so_far-none : (text : List ℕ) (from : ℕ) → from ≤ length text → LinesSoFar text from from []
 so_far-none text from within = record { lines = []; within = within; whole = refl; are_open = tt; are = refl }
 
--- a line more
+-- where the text up to a place is lines without controls, and a further one ends with a CRLF, the text up to the end of that is lines with it
 pub so_far-more : (text : List ℕ) (from at end : ℕ) (fields : List Field) (f : Field) → LinesSoFar text from at fields → end + 2 ≤ length text → IsOpen (take (end - at) (drop at text))
     → drop at text ≡ with_end (take (end - at) (drop at text)) ++ drop (end + 2) text → FieldText (take (end - at) (drop at text)) f → LinesSoFar text from (end + 2) (fields ++ f ∷ [])
 so_far-more text from at end fields f so room clear is field =
@@ -221,7 +221,7 @@ so_far-more text from at end fields f so room clear is field =
       are = fields-push so.lines fields line f so.are field;
     }
 
--- after them the empty line
+-- where an empty line stands after lines that are fields, the fields of the head are those
 pub so_far-all : (text : List ℕ) (from at end : ℕ) (fields : List Field) → LinesSoFar text from at fields → end ≡ at → end + 2 ≤ length text
     → drop at text ≡ with_end (take (end - at) (drop at text)) ++ drop (end + 2) text → AreOrdinary text from at fields
 so_far-all text from at end fields so empty room is =
@@ -235,11 +235,11 @@ so_far-all text from at end fields so empty room is =
       are = so.are;
     }
 
--- a front and what follows it
+-- a text whose first bytes are a front is the front and what follows it
 pub front-rest : (text front : List ℕ) → front ≡ take (length front) text → text ≡ front ++ drop (length front) text
 front-rest text front is = sym (take-append-drop (length front) text) ∙ ap (λ t. t ++ drop (length front) text) (sym is)
 
--- a first line, lines that are fields, and an empty line are a head
+-- a start line without controls, lines that are fields, and an empty line are an ordinary head
 pub ordinary-head : (bytes text more rest : List ℕ) (start : StartLine) (fields : List Field) (end at : ℕ) → bytes ≡ text ++ more
     → IsOpen (take (end - 0) (drop 0 text)) → drop 0 text ≡ with_end (take (end - 0) (drop 0 text)) ++ drop (end + 2) text
     → StartText (take (end - 0) (drop 0 text)) start → AreOrdinary text (end + 2) at fields → rest ≡ drop (at + 2) text ++ more → IsOrdinary bytes start fields rest
@@ -272,7 +272,7 @@ Bytes text = (i : ℕ) → get_or text i 0 < 256
 abbrev pub is_name_byte : ℕ → Bool
 is_name_byte b = (nat_le 97 b && nat_le b 122) || b == 45
 
--- a byte of a token that is one of a known name once a bit is set is lowered by setting that bit
+-- a byte of a token that is a byte of a known name once the bit of small letters is set has that value as its lower case
 token-small : (b : ℕ) → b < 256 → is_token_byte b ≡ true → is_name_byte (small b) ≡ true → to_ascii_lowercase b ≡ small b
 token-small b low token name =
     eqb-true _ _ (by (is_token_byte b) (is_name_byte (small b)) _ token name (agree_below_at (λ x. not (is_token_byte x && is_name_byte (small x)) || to_ascii_lowercase x == small x) (λ _. true) 256 b refl low))
@@ -282,6 +282,7 @@ token-small b low token name =
     by true false z one two is = absurd (both_ways false refl two)
     by false y z one two is = absurd (both_ways false refl one)
 
+-- a byte whose lower case is a byte of a known name has that lower case once the bit of small letters is set
 lower-small : (b : ℕ) → b < 256 → is_name_byte (to_ascii_lowercase b) ≡ true → small b ≡ to_ascii_lowercase b
 lower-small b low name =
     eqb-true _ _ (by (is_name_byte (to_ascii_lowercase b)) _ name (agree_below_at (λ x. not (is_name_byte (to_ascii_lowercase x)) || small x == to_ascii_lowercase x) (λ _. true) 256 b refl low))
@@ -290,13 +291,14 @@ lower-small b low name =
     by true z one is = is
     by false z one is = absurd (both_ways false refl one)
 
--- a token whose bytes are those of a known name once that bit is set is lowered by setting it in each byte
+-- a token whose bytes are those of a known name once the bit of small letters is set has these bytes as its lower case
 small-folded : (text : List ℕ) → Bytes text → All is_token_byte text → list_all is_name_byte (map small text) ≡ true → folded text ≡ map small text
 small-folded [] fits token name = refl
 small-folded (b ∷ text) fits token name =
     let parts = and_parts (is_name_byte (small b)) (list_all is_name_byte (map small text)) name in
     ap₂ (λ x t. x ∷ t) (token-small b (fits 0) token.0 parts.0) (small-folded text (λ i. fits (suc i)) token.1 parts.1)
 
+-- a text whose lower case has only bytes of known names is that lower case once the bit of small letters is set in each byte
 folded-small : (text : List ℕ) → Bytes text → list_all is_name_byte (folded text) ≡ true → map small text ≡ folded text
 folded-small [] fits name = refl
 folded-small (b ∷ text) fits name =
@@ -307,17 +309,19 @@ folded-small (b ∷ text) fits name =
 abbrev pub is_some_byte : ℕ → Bool
 is_some_byte b = nat_lt 0 b
 
--- what stands in a number after its NULs
+-- NULs before a text are no bytes of it that are not NUL
 without-nul : (n : ℕ) (text : List ℕ) → filter is_some_byte (replicate n 0 ++ text) ≡ filter is_some_byte text
 without-nul zero text = refl
 without-nul (suc n) text = without-nul n text
 
+-- a byte with the bit of small letters set is not NUL, so that none is left out
 no-nul : (text : List ℕ) → Bytes text → filter is_some_byte (map small text) ≡ map small text
 no-nul [] fits = refl
 no-nul (b ∷ text) fits =
     ap (λ some. cond some (small b ∷ filter is_some_byte (map small text)) (filter is_some_byte (map small text))) (agree_below_at (λ x. is_some_byte (small x)) (λ _. true) 256 b refl (fits 0))
     ∙ ap (λ t. small b ∷ t) (no-nul text (λ i. fits (suc i)))
 
+-- each byte of NULs and a text with the bit of small letters set is below 256
 small-fits : (text : List ℕ) (n : ℕ) → Bytes text → (i : ℕ) → get_or (replicate n 0 ++ map small text) i 0 < 256
 small-fits text (suc n) fits zero = omega arith
 small-fits text (suc n) fits (suc i) = small-fits text n fits i
@@ -325,50 +329,55 @@ small-fits [] zero fits i = omega arith
 small-fits (b ∷ text) zero fits zero = or_of_8 b 32 (fits 0) (omega arith)
 small-fits (b ∷ text) zero fits (suc i) = small-fits text zero (λ j. fits (suc j)) i
 
--- a number gives back what writes it
+-- the bytes of the number that a text of at most eight bytes writes, without its NULs, are the text with the bit of small letters set
 number-bytes : (text : List ℕ) (n : ℕ) → Bytes text → length text ≤ 8 → n ≡ number_of text → filter is_some_byte (to_le_bytes w64 n) ≡ map small text
 number-bytes text n fits few is =
     let lower = map small text in
     let long : length (filled lower) ≡ 8 = omega (arith, few, length-map text small, length-append (replicate (8 - length lower) 0) lower, length-replicate {A = ℕ} (8 - length lower) 0) in
     ap (filter is_some_byte) (le_bytes_8 (filled lower) n long (small-fits text (8 - length lower) fits) is) ∙ without-nul (8 - length lower) lower ∙ no-nul text fits
 
--- the bytes of a number without its NULs
+-- the bytes of a number, without its NULs
 abbrev pub spelled : ℕ → List ℕ
 spelled n = filter is_some_byte (to_le_bytes w64 n)
 
--- the name that a text without case spells by a list
+-- the name of a text by a list of spellings, where `lower` is the text in small letters
 abbrev pub spelled_by : List (List ℕ × Known) → List ℕ → List ℕ → FieldName
 spelled_by [] lower text = other text
 spelled_by ((s, k) ∷ more) lower text = cond (bytes_eq lower s) (known k) (spelled_by more lower text)
 
--- a token whose bytes are those of a known name is that name
+-- a token that is a spelling of a known name, once the bit of small letters is set, has that name
 known-by : (text s : List ℕ) (k : Known) → Bytes text → Token text → map small text ≡ s → list_all is_name_byte s ≡ true → spelled_by spellings s text ≡ known k → known k ≡ name_of text
 known-by text s k fits token is name found =
     let lower = small-folded text fits (each-token text token) (ap (list_all is_name_byte) is ∙ name) ∙ is in
     sym (ap (λ t. spelled_by spellings t text) lower ∙ found)
 
+-- a token of at most eight bytes whose number is that of a spelling of a known name has that name
 pub short-known : (text : List ℕ) (n : ℕ) (k : Known) → ((i : ℕ) → Fits w8 (get_or text i 0)) → Token text → length text ≤ 8 → n ≡ number_of text
     → list_all is_name_byte (spelled n) ≡ true → spelled_by spellings (spelled n) text ≡ known k → known k ≡ name_of text
 short-known text n k fits token few is name found =
     let bytes : Bytes text = λ i. (fits i).fits in
     known-by text (spelled n) k bytes token (sym (number-bytes text n bytes few is)) name found
 
+-- the first n bytes of a text are at most n
 few-front : (n : ℕ) (text : List ℕ) → length (take n text) ≤ n
 few-front zero text = omega arith
 few-front (suc n) [] = omega arith
 few-front (suc n) (b ∷ text) = omega (arith, few-front n text)
 
+-- where all numbers of a text are bytes, those of its first n are
 bytes-take : (n : ℕ) (text : List ℕ) → Bytes text → Bytes (take n text)
 bytes-take zero text fits i = omega arith
 bytes-take (suc n) [] fits i = omega arith
 bytes-take (suc n) (b ∷ text) fits zero = fits 0
 bytes-take (suc n) (b ∷ text) fits (suc i) = bytes-take n text (λ j. fits (suc j)) i
 
+-- where all numbers of a text are bytes, those after its first n are
 bytes-drop : (n : ℕ) (text : List ℕ) → Bytes text → Bytes (drop n text)
 bytes-drop zero text fits = fits
 bytes-drop (suc n) [] fits = fits
 bytes-drop (suc n) (b ∷ text) fits = bytes-drop n text (λ j. fits (suc j))
 
+-- a token of at most sixteen bytes whose halves have the numbers of a spelling of a known name has that name
 pub halved-known : (text : List ℕ) (m n : ℕ) (k : Known) → ((i : ℕ) → Fits w8 (get_or text i 0)) → Token text → length text ≤ 16 → m ≡ number_of (take 8 text) → n ≡ number_of (drop 8 text)
     → list_all is_name_byte (spelled m ++ spelled n) ≡ true → spelled_by spellings (spelled m ++ spelled n) text ≡ known k → known k ≡ name_of text
 halved-known text m n k fits token few first second name found =
@@ -379,7 +388,7 @@ halved-known text m n k fits token few first second name found =
     ap (map small) (sym (take-append-drop 8 text)) ∙ map-append small (take 8 text) (drop 8 text) ∙ ap₂ (λ a b. a ++ b) (sym front) (sym rest) in
     known-by text (spelled m ++ spelled n) k bytes token whole name found
 
--- a text that is none of a list
+-- a text whose lower case is none of the spellings of a list has no known name by it
 unlisted : (list : List (List ℕ × Known)) (text : List ℕ) → AllByRecursion (λ s. folded text ≡ s.0 → ⊥) list → name_by list text ≡ other text
 unlisted [] text none = refl
 unlisted ((s, k) ∷ more) text none =
@@ -389,7 +398,7 @@ unlisted ((s, k) ∷ more) text none =
     not_equal true is = absurd (none.0 ((bytes_eq-Decides (folded text) s).0 is))
     not_equal false is = is
 
--- a text of 2 to 8 bytes whose number is that of no known name
+-- a text of 2 to 8 bytes whose number is that of no known name has no known name
 pub short-other : (text : List ℕ) → ((i : ℕ) → Fits w8 (get_or text i 0)) → 2 ≤ length text → length text ≤ 8
     → AllByRecursion (λ s. number_of text ≡ from_le_bytes w64 (filled s) → ⊥) (codes "via" ∷ codes "from" ∷ codes "to" ∷ codes "call-id" ∷ codes "cseq" ∷ codes "contact" ∷ codes "subject" ∷ codes "route" ∷ [])
     → other text ≡ name_of text
@@ -405,7 +414,7 @@ short-other text fits some few (via, (from, (to, (call_id, (cseq, (contact, (sub
     long : {s : List ℕ} → ltb 8 (length s) ≡ true → folded text ≡ s → ⊥
     long {s = s} more is = omega (arith, few, ltb-true 8 (length s) more, ap length is, length-folded text)
 
--- a text of 9 to 16 bytes whose halves are those of no known name
+-- a text of 9 to 16 bytes whose halves do not have the numbers of a known name has no known name
 pub halved-other : (text : List ℕ) → ((i : ℕ) → Fits w8 (get_or text i 0)) → 9 ≤ length text
     → AllByRecursion (λ s. number_of (take 8 text) ≡ from_le_bytes w64 (filled (take 8 s)) → number_of (drop 8 text) ≡ from_le_bytes w64 (filled (drop 8 s)) → ⊥)
     (codes "content-length" ∷ codes "content-encoding" ∷ codes "content-type" ∷ codes "supported" ∷ [])
@@ -423,7 +432,7 @@ halved-other text fits some (content_length, (content_encoding, (content_type, (
     short : {s : List ℕ} → ltb (length s) 9 ≡ true → folded text ≡ s → ⊥
     short {s = s} less is = omega (arith, some, ltb-true (length s) 9 less, ap length is, length-folded text)
 
--- one of two does not hold
+-- where A and B do not hold together, and A holds, B does not
 pub one-fails : {A B : Type 0} → (A × (B → ⊥)) ⊎ (A → ⊥) → A → B → ⊥
 one-fails (inl first) a b = first.1 b
 one-fails (inr none) a b = none a

@@ -19,13 +19,14 @@ use Rattle.sip_message.proofs.lemmas.params.Closed.{some-run, firm-token}
 use Rattle.sip_message.proofs.lemmas.front.Cuts.{ReadAs, NotRead, token-cut, same-behind, longest-behind, longest-blanks_front}
 use Rattle.sip_message.proofs.lemmas.front.OneWay.{AtMostOne, read-one}
 
--- a byte of a token, or a blank
+-- a piece of words: a byte of a token, or a blank
 abbrev WordItem : List ℕ → Type 0
 WordItem = One is_token_byte or Blank
 
 abbrev word_len : List ℕ → ℕ
 word_len text = if is_token_byte (slice_index text 0) then 1 else blank_len text
 
+-- where a blank stands at the front of a text, `word_len` gives its length
 word-blank : (u v : List ℕ) → Blank u → word_len (u ++ v) ≡ blank_len (u ++ v)
 word-blank u v (front, b, inl none, one, whole) =
     let text : u ≡ one.0 ∷ [] = whole ∙ ap (λ t. t ++ b) none ∙ one.2 in
@@ -35,6 +36,7 @@ word-blank u v (front, b, inr fold, one, whole) =
     let text : u ≡ crlf ++ (one.0 ∷ []) = whole ∙ ap (λ t. t ++ b) fold ∙ ap (λ t. crlf ++ t) one.2 in
     ap (λ t. word_len (t ++ v)) text ∙ sym (ap (λ t. blank_len (t ++ v)) text)
 
+-- where a piece of words stands at the front of a text, `word_len` gives its length
 word-at_front : (u v : List ℕ) → WordItem u → word_len (u ++ v) ≡ length u
 word-at_front u v (inl one) =
     ap (λ t. word_len (t ++ v)) one.2 ∙ ap (λ q. cond q 1 (blank_len (one.0 ∷ v))) one.1 ∙ sym (ap length one.2)
@@ -44,6 +46,7 @@ word-moves : (u : List ℕ) → WordItem u → 0 < length u
 word-moves u (inl one) = omega (arith, ap length one.2)
 word-moves u (inr blank) = blank-step.moves u blank
 
+-- `word_len` gives 0, or a piece of words of that length stands at the front of the text
 word-piece : (text : List ℕ) → (word_len text ≡ 0) ⊎ HasFront WordItem text (word_len text)
 word-piece [] = inl refl
 word-piece (a ∷ text) = at (is_token_byte a) refl
@@ -71,6 +74,7 @@ sws-items : (b : List ℕ) → Sws b → Many WordItem b
 sws-items b (inl none) = subst (Many WordItem) (sym none) (many-nil WordItem)
 sws-items b (inr blanks) = blank-items b blanks
 
+-- words are pieces of words
 words-items : (w : List ℕ) → Words w → Many WordItem w
 words-items w (t, more, token, many, whole) =
     subst (Many WordItem) (sym whole) (many-append WordItem t more (token-items t token) (many-flat (Blanks then Token) WordItem more word many))
@@ -86,7 +90,7 @@ no_item : (t : List ℕ) → StopsBlank t → Stops is_token_byte t → word_len
 no_item [] blank token = refl
 no_item (a ∷ t) blank token = ap (λ q. cond q 1 (blank_len (a ∷ t))) token ∙ blank
 
--- words are read in one way
+-- the words at the front of a text are read in one way
 pub one-words : (text : List ℕ) → AtMostOne (WordsFront text)
 one-words text (w, r) (x, s) (w_is, (stop, (stop_blank, (k, y, k_is, y_is, r_is)), stop_token), whole) (x_is, (halt, (halt_blank, (l, z, l_is, z_is, s_is)), halt_token), whole_too) =
     let left : text ≡ (w ++ k) ++ stop = whole ∙ ap (λ t. w ++ t) (r_is ∙ ap (λ t. k ++ t) y_is) ∙ sym (append_assoc w k stop) in
@@ -98,7 +102,7 @@ one-words text (w, r) (x, s) (w_is, (stop, (stop_blank, (k, y, k_is, y_is, r_is)
     let rests : r ≡ s = append_cancel_left x r s (ap (λ t. t ++ r) (sym words) ∙ sym whole ∙ whole_too) in
     ap (λ t. (t, r)) words ∙ ap (λ t. (x, t)) rests
 
--- after the longest token no byte of one stands
+-- after the longest token at the front of a text stands no byte of a token
 pub longest-stops : (text : List ℕ) (n : ℕ) → IsLongestFront Token text n → Stops is_token_byte (drop n text)
 longest-stops text zero longest = at text longest
   where
@@ -113,12 +117,13 @@ longest-stops text zero longest = at text longest
             absurd (omega (arith, none.longest 1 one))
 longest-stops text (suc n) longest = (token-cut text (suc n) longest (λ none. absurd (omega (arith, none)))).1
 
--- what was read so far is words, and no token goes on
+-- the bytes before the index are words, and no byte of a token stands after them
 pub record WordsSoFar (text : List ℕ) (at : ℕ) : Type 0 where
   pub within : at ≤ length text
   pub words : Words (take at text)
   pub stops : Stops is_token_byte (drop at text)
 
+-- the longest token at the front of a text, if there is one, is the first of its words
 pub words-first : (text : List ℕ) (n : ℕ) → n ≤ length text → IsLongestFront Token text n → (n ≡ 0 → ⊥) → WordsSoFar text n
 words-first text n within longest some = record {
   within = within;
@@ -126,14 +131,14 @@ words-first text n within longest some = record {
   stops = longest-stops text n longest;
 }
 
--- a text cut after its front
+-- a text that is a front and a rest is cut into these at the length of the front
 cut-at : (text front rest : List ℕ) (n : ℕ) → text ≡ front ++ rest → n ≡ length front → (take n text ≡ front) × (drop n text ≡ rest)
 cut-at text front rest n whole n_is = (
   ap (λ m. take m text) n_is ∙ ap (take (length front)) whole ∙ take-append_seam front rest,
   ap (λ m. drop m text) n_is ∙ ap (drop (length front)) whole ∙ drop-append_seam front rest,
 )
 
--- blanks and a word more
+-- where blanks and a token follow the words so far, they and these are the words so far
 pub words-more : (text rest stop : List ℕ) (at b w : ℕ) → rest ≡ drop at text → stop ≡ drop b rest → WordsSoFar text at → b ≤ length rest → w ≤ length stop → IsLongestFront Blanks rest b → (b ≡ 0 → ⊥) → IsLongestFront Token stop w → (w ≡ 0 → ⊥) → WordsSoFar text (at + (b + w))
 words-more text rest stop at b w rest_is stop_is so b_in w_in blanks some_b token some_w = record {
   within = omega (arith, ap length whole, length-append (take at text ++ (u ++ take w stop)) (drop w stop), size);
@@ -164,7 +169,7 @@ words-more text rest stop at b w rest_is stop_is so b_in w_in blanks some_b toke
     cut : (take (at + (b + w)) text ≡ take at text ++ (u ++ take w stop)) × (drop (at + (b + w)) text ≡ drop w stop)
     cut = cut-at text (take at text ++ (u ++ take w stop)) (drop w stop) (at + (b + w)) whole (sym size)
 
--- without blanks, or without a word after them, these are the words
+-- where no blank or no token follows the words so far, they are the words at the front of the text, and the only ones
 pub words-all : (text rest stop : List ℕ) (at b w : ℕ) → rest ≡ drop at text → stop ≡ drop b rest → WordsSoFar text at → IsLongestFront Blanks rest b → IsLongestFront Token stop w → (b ≡ 0) ⊎ (w ≡ 0) → ReadAs (WordsFront text) (take at text, rest)
 words-all text rest stop at b w rest_is stop_is so blanks token none =
     read-one (WordsFront text) (take at text, rest) (one-words text)
@@ -174,7 +179,7 @@ words-all text rest stop at b w rest_is stop_is so blanks token none =
     stops (inl no_blank) = subst (Stops is_token_byte) (sym (ap (λ n. drop n rest) no_blank ∙ rest_is)) so.stops
     stops (inr no_word) = subst (Stops is_token_byte) stop_is (longest-stops stop 0 (subst (IsLongestFront Token stop) no_word token))
 
--- without a token there are no words
+-- where no token stands at the front of a text, no words do
 pub no-words : (text : List ℕ) (n : ℕ) → IsLongestFront Token text n → n ≡ 0 → NotRead (WordsFront text)
 no-words text n longest none (w, r) ((t, more, token, many, w_is), no_word, whole) =
     let low = longest.longest (length t) (t, more ++ r, token, whole ∙ ap (λ x. x ++ r) w_is ∙ append_assoc t more r, refl) in
@@ -184,7 +189,7 @@ no-words text n longest none (w, r) ((t, more, token, many, w_is), no_word, whol
     at [] is = refl
     at (b ∷ u) is = absurd (omega (arith, is))
 
--- one blank is passed where none stands after it
+-- where one SP stands at the front of a text, and no blank after it, the text after the SP is the one rest after the blanks
 pub one-blank : (text rest : List ℕ) → text ≡ space ∷ rest → StopsBlank rest → IsOnlyBehind text rest
 one-blank text rest is stops =
     let blank : Blank (space ∷ []) = ([], space ∷ [], inl refl, (space, refl, refl), refl) in

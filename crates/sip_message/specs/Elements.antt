@@ -21,7 +21,7 @@ abbrev pub ElementsText : List ℕ → List Element → Type 0
 ElementsText text [] = ⊥
 ElementsText text (e ∷ es) = ViaText e.0 e.1 × (Exactly e.0 then MoreElements es) text
 
--- the values, one after another, are these elements
+-- the values of Via fields, one after another, are these elements
 abbrev pub AreElements : List (List ℕ) → List Element → Type 0
 AreElements [] es = es ≡ []
 AreElements (value ∷ values) es =

@@ -8,11 +8,11 @@ use Rattle.sip_message.specs.Message.{Message}
 use Rattle.sip_message.specs.Elements.{Element, AreElements, values}
 use Rattle.sip_standard.specs.Says.{IsFirstOf}
 
--- an address, with its text
+-- the text is an address of these parts, and is kept with them
 abbrev pub AddressValue : List ℕ → List ℕ × AddressParts → Type 0
 AddressValue text (whole, a) = AddressText text a × (whole ≡ text)
 
--- the parts of the named fields
+-- the parts of the named fields: the elements of Via, From, To, Call-ID and CSeq
 pub record Parts : Type 0 where
   pub via : Element
   pub others : List Element
@@ -21,7 +21,7 @@ pub record Parts : Type 0 where
   pub call_id : List ℕ
   pub cseq : ℕ × List ℕ
 
--- these are the parts of the named fields
+-- the fields have these parts, by the first field of each name and by all Via fields
 pub record HasParts (fields : List Field) (p : Parts) : Type 0 where
   pub vias : AreElements (values known_name.Via fields) (p.via ∷ p.others)
   pub from : (text : List ℕ) × IsFirstOf (values known_name.From fields) text × AddressValue text p.from

@@ -11,6 +11,7 @@ use Rattle.sip_standard.specs.Says.{Said}
 abbrev pub said_via : Element → SaidVia
 said_via e = record { whole = e.0; transport = e.1.transport; host = host_text e.1.host; port = e.1.port; branch = e.1.branch }
 
+-- what a message that was read says: its start line, its body and the parts of its named fields
 abbrev pub said_of : Reading → Said
 said_of r = record {
   start = r.message.start;

@@ -1,4 +1,4 @@
--- What a start line, an `Address` and a `CSeq` say.
+-- What the code's start lines, addresses and CSeqs say.
 use Rattle.std.specs.Prelude.{ℕ, List, option_copied}
 use Rattle.sip_text.specs.Uri.{uri_parts}
 use Rattle.sip_message.specs.declared.address.Address.{Address}

@@ -11,7 +11,7 @@ use crate::cursor::{cut, past, skip_blanks};
 use crate::params::{are_params, cut_quoted};
 use sip_text::{Uri, read_uri, skip_lws, token_len};
 
-/// The value of From or To (RFC 3261, section 20.10), in slices of the message.
+/// The value of From or To (RFC 3261, sections 20.20 and 20.39), in slices of the message.
 #[derive(Clone, Copy, Debug, PartialEq, Eq)]
 pub struct Address<'a> {
     /// The whole value.
@@ -26,7 +26,7 @@ pub struct Address<'a> {
     pub params: &'a [u8],
 }
 
-// The texts of an address, cut and not yet judged.
+// The texts in which an address is cut before they are judged.
 #[derive(Clone, Copy)]
 struct Cuts<'a> {
     display: Option<&'a [u8]>,
@@ -50,8 +50,8 @@ pub(crate) fn read_address(text: &[u8]) -> Option<Address<'_>>
     })
 }
 
-// The display name, the text of the URI, and what follows them. A text that begins with a scheme
-// has its URI without `<`.
+// Cuts an address into the display name, the text of the URI, and what follows them. Where the text begins with a scheme,
+// its URI stands without `<`.
 fn cut_address(text: &[u8]) -> Option<Cuts<'_>>
     ensures { IsOnlyValue AddressCut cut_parts text.now result }
 {
@@ -77,7 +77,7 @@ fn has_scheme(text: &[u8]) -> bool
     len < text.len() && text[len] == b':'
 }
 
-// The length of the front that a URI without `<` may hold.
+// The length of the longest front that a URI without `<` may hold.
 fn plain_len(text: &[u8]) -> usize
     ensures run { result ≡ prefix_len is_unmarked_byte text.now }
     ensures within { result ≤ length text.now }
@@ -90,7 +90,7 @@ fn plain_len(text: &[u8]) -> usize
     text.len()
 }
 
-// A byte of a URI that stands without `<`.
+// Whether the byte may stand in a URI that stands without `<`.
 #[inline]
 fn is_plain(byte: u8) -> bool
     ensures { result ≡ is_unmarked_byte byte }
@@ -98,7 +98,7 @@ fn is_plain(byte: u8) -> bool
     !matches!(byte, b' ' | b'\t' | b'\r' | b'\n' | b',' | b'?' | b';')
 }
 
-// The display name at the front if there is one, and what is after the `<` that follows it.
+// The display name at the front if there is one, and what follows the `<` after it.
 fn cut_display(text: &[u8]) -> Option<(Option<&[u8]>, &[u8])>
     ensures { IsOnlyValue DisplayFront display_parts text.now result }
 {
@@ -110,7 +110,7 @@ fn cut_display(text: &[u8]) -> Option<(Option<&[u8]>, &[u8])>
     Some((Some(name), inner))
 }
 
-// The display name at the front, and what is after it.
+// The display name at the front, and what is left after it.
 fn cut_name(text: &[u8]) -> Option<(&[u8], &[u8])>
     ensures { IsOnlyValue NameFront pair_parts text.now result }
 {
@@ -120,7 +120,7 @@ fn cut_name(text: &[u8]) -> Option<(&[u8], &[u8])>
     }
 }
 
-// The tokens at the front, with blanks between them, and what is after them.
+// The tokens at the front with blanks between them, and what is left after them.
 fn cut_words(text: &[u8]) -> Option<(&[u8], &[u8])>
     ensures { IsOnlyValue WordsFront pair_parts text.now result }
 {
@@ -139,7 +139,7 @@ fn cut_words(text: &[u8]) -> Option<(&[u8], &[u8])>
     }
 }
 
-// The parameters that the whole text is, after their blanks.
+// The parameters that the whole text is, without the blanks before them.
 fn read_tail(text: &[u8]) -> Option<&[u8]>
     ensures { IsOnlyValue TailText text_parts text.now result }
 {

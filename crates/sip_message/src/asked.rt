@@ -5,7 +5,7 @@ ghost use Rattle.sip_message.specs.inner.Asked.{AskedOf};
 use crate::values::CSeq;
 use crate::via::Via;
 
-/// What the first Via says, and of each other name the one field.
+/// What is kept of the fields: the first element of the first Via, and for each other name what the one field of the name says.
 #[derive(Clone, Copy, Drop)]
 pub(crate) struct Asked<'a> {
     pub(crate) via: Option<Via<'a>>,
@@ -17,7 +17,7 @@ pub(crate) struct Asked<'a> {
 }
 
 impl Asked<'_> {
-    /// What is kept of no fields.
+    /// What is kept where no fields were read.
     pub(crate) fn new() -> Self
         ensures { AskedOf [] result }
     {
@@ -31,7 +31,7 @@ impl Asked<'_> {
         }
     }
 
-    /// Whether no field is missing that a message has.
+    /// Whether something is kept of each name of which a message must have a field.
     #[inline]
     pub(crate) fn is_complete(&self) -> bool
         ensures { IsTrue result → IsSome self.now.via × IsSome self.now.from × IsSome self.now.to × IsSome self.now.call_id × IsSome self.now.cseq }
@@ -44,8 +44,8 @@ impl Asked<'_> {
     }
 }
 
-/// Keeps the value of a field that stands at most once, if it is one and none is kept yet. Whether it
-/// was kept.
+/// Keeps the value of a field whose name stands at most once, if `is` says that it is a right value, and if none is kept yet.
+/// Answers whether it was kept.
 #[inline]
 pub(crate) fn keep_once<'a>(is: bool, value: &'a [u8], kept: &mut Option<&'a [u8]>) -> bool
     ensures is { IsTrue result → IsTrue is }
@@ -58,7 +58,7 @@ pub(crate) fn keep_once<'a>(is: bool, value: &'a [u8], kept: &mut Option<&'a [u8
     true
 }
 
-/// Keeps what such a field says, if it says something and nothing is kept yet. Whether it was kept.
+/// Keeps what a field whose name stands at most once says, if it says something and nothing is kept yet. Answers whether it was kept.
 #[inline]
 pub(crate) fn keep_one<T: Copy>(said: Option<T>, kept: &mut Option<T>) -> bool
     ensures says { IsTrue result → IsSome said }

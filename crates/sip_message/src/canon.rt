@@ -1,4 +1,4 @@
-//! The canonical form.
+//! The canonical form of a message, and how it is written.
 ghost use Rattle.std.specs.Prelude.{◌≡◌, ◌≤◌, ◌<◌, ◌++◌, ℕ, List, decimal, OnOk, OnErr};
 ghost use Rattle.std.specs.List.{list_any};
 ghost use Rattle.sip_message.specs.inner.Lines.{with_end};
@@ -17,7 +17,7 @@ use crate::start_line::StartLine;
 use memchr::memchr2;
 use std::alloc::AllocError;
 
-// The start line, without its end.
+// Appends the start line without its line end.
 pub(crate) fn append_start(start: StartLine<'_>, out: &mut Vec<u8>) -> Result<(), AllocError>
     requires { HasCode (start_parts start) }
     ensures { Appends out.old.items out.new.items (start_text (start_parts start.entry)) result }
@@ -50,7 +50,7 @@ fn code_text(code: u16) -> [u8; 3]
     ]
 }
 
-// The name, in its long form if it is known.
+// Appends the name, in its long form if it is known.
 fn append_name(name: Name<'_>, out: &mut Vec<u8>) -> Result<(), AllocError>
     ensures { Appends out.old.items out.new.items (name_text (name_parts name.entry)) result }
 {
@@ -60,7 +60,7 @@ fn append_name(name: Name<'_>, out: &mut Vec<u8>) -> Result<(), AllocError>
     }
 }
 
-// The text, unfolded. Most texts have no line end.
+// Appends the text, unfolded. Most texts have no line end in them, and are appended as they are.
 fn append_unfolded(text: &[u8], out: &mut Vec<u8>) -> Result<(), AllocError>
     ensures { Appends out.old.items out.new.items (unfolded text.now) result }
 {
@@ -79,7 +79,7 @@ fn append_unfolded(text: &[u8], out: &mut Vec<u8>) -> Result<(), AllocError>
     append_run(&text[from..], out)
 }
 
-// A run of blanks: one SP, if it holds a line end.
+// Appends a run of blanks: one SP if it holds a line end, and else the run as it is.
 fn append_run(run: &[u8], out: &mut Vec<u8>) -> Result<(), AllocError>
     ensures { Appends out.old.items out.new.items (unfolded_run run.now) result }
 {
@@ -97,21 +97,21 @@ fn has_end(text: &[u8]) -> bool
     text.iter().any(|byte| matches!(*byte, b'\r' | b'\n'))
 }
 
-// Whether the byte may stand in a run of blanks.
+// Whether the byte may stand in a run of blanks: SP, HTAB, CR or LF.
 fn is_blank(byte: u8) -> bool
     ensures { result ≡ is_lws_byte byte }
 {
     matches!(byte, b' ' | b'\t' | b'\r' | b'\n')
 }
 
-// The text.
+// Appends the text as it is.
 fn append(text: &[u8], out: &mut Vec<u8>) -> Result<(), AllocError>
     ensures { Appends out.old.items out.new.items text.now result }
 {
     out.extend_from_slice(text)
 }
 
-// The field with its line's end.
+// Appends the field with its line end.
 pub(crate) fn append_field(field: &Field<'_>, out: &mut Vec<u8>) -> Result<(), AllocError>
     ensures { Appends out.old.items out.new.items (with_end (field_text (unfolded_field (field_parts field.entry.now)))) result }
 {
@@ -121,7 +121,7 @@ pub(crate) fn append_field(field: &Field<'_>, out: &mut Vec<u8>) -> Result<(), A
     append(b"\r\n", out)
 }
 
-// The fields, each with its line's end.
+// Appends the fields, each with its line end.
 pub(crate) fn append_fields(fields: &[Field<'_>], out: &mut Vec<u8>) -> Result<(), AllocError>
     ensures { Appends out.old.items out.new.items (fields_text (slice_fields fields.entry)) result }
 {
@@ -131,7 +131,7 @@ pub(crate) fn append_fields(fields: &[Field<'_>], out: &mut Vec<u8>) -> Result<(
     Ok(())
 }
 
-// All that stands before the body.
+// Appends all that stands before the body.
 fn append_all(
     start: StartLine<'_>,
     fields: &[Field<'_>],

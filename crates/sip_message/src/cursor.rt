@@ -1,4 +1,4 @@
-//! Cursors: what stands at the front of a text, and what is left after it.
+//! What stands at the front of a text, and what is left after it.
 ghost use Rattle.std.specs.Prelude.{◌≡◌, false, option_copied};
 ghost use Rattle.sip_text.specs.Parts.{IsOnlyValue};
 ghost use Rattle.sip_text.specs.inner.Cut.{before, behind, past};
@@ -8,7 +8,7 @@ ghost use Rattle.sip_message.specs.inner.Fronts.{IsOnlyBehind, StopsBlank, LineF
 use memchr::memchr;
 use sip_text::{skip_lws, token_len};
 
-/// The token at the front, and what is after it.
+/// The token at the front, and what is left after it.
 pub fn cut_token(text: &[u8]) -> Option<(&[u8], &[u8])>
     ensures { IsOnlyValue TokenFront pair_parts text.now result }
 {
@@ -19,7 +19,7 @@ pub fn cut_token(text: &[u8]) -> Option<(&[u8], &[u8])>
     Some((&text[..len], &text[len..]))
 }
 
-/// What is after the mark at the front: blanks, the byte, and blanks.
+/// What is left after a mark at the front: the byte, with the blanks before and after it.
 #[inline(always)]
 pub fn past_mark(text: &[u8], mark: u8) -> Option<&[u8]>
     requires { is_lws_byte mark ≡ false }
@@ -29,7 +29,7 @@ pub fn past_mark(text: &[u8], mark: u8) -> Option<&[u8]>
     Some(skip_blanks(inner))
 }
 
-/// `sent-protocol LWS` at the front: protocol name, version and transport, and what is after them.
+/// The protocol name, the version and the transport of a `sent-protocol LWS` at the front, and what is left after it.
 pub fn read_protocol(text: &[u8]) -> Option<(&[u8], &[u8], &[u8], &[u8])>
     ensures { IsOnlyValue ProtocolFront protocol_parts text.now result }
 {
@@ -43,7 +43,7 @@ pub fn read_protocol(text: &[u8]) -> Option<(&[u8], &[u8], &[u8], &[u8])>
     Some((protocol, version, transport, &rest[blanks..]))
 }
 
-/// What is after the blanks at the front. Before most texts there is none, or one SP.
+/// What is left after the blanks at the front. Before most texts stands none, or one SP.
 #[inline]
 pub(crate) fn skip_blanks(text: &[u8]) -> &[u8]
     ensures { IsOnlyBehind text.now result.now }
@@ -57,7 +57,7 @@ pub(crate) fn skip_blanks(text: &[u8]) -> &[u8]
     }
 }
 
-// Whether a blank run may stand at the front.
+// Whether a blank run may stand at the front. Where the answer is no, none does.
 #[inline]
 fn may_begin_blank(text: &[u8]) -> bool
     ensures { result ≡ false → StopsBlank text.now }
@@ -65,7 +65,7 @@ fn may_begin_blank(text: &[u8]) -> bool
     matches!(text, [b' ' | b'\t' | b'\r', ..])
 }
 
-// The same for any text.
+// What is left after the blanks at the front, however many there are.
 #[inline(never)]
 fn past_blanks(text: &[u8]) -> &[u8]
     ensures { IsOnlyBehind text.now result.now }
@@ -96,7 +96,7 @@ pub(crate) fn cut(text: &[u8], mark: u8) -> (&[u8], Option<&[u8]>)
     }
 }
 
-/// The first logical line, without its end, and what is after it. A line ends at a CRLF that no
+/// The first logical line without its end, and what is left after it. A line ends at a CRLF that no
 /// blank follows.
 pub fn cut_line(text: &[u8]) -> Option<(&[u8], &[u8])>
     ensures { IsOnlyValue LineFront pair_parts text.now result }
@@ -113,7 +113,7 @@ pub fn cut_line(text: &[u8]) -> Option<(&[u8], &[u8])>
     }
 }
 
-// Whether a line ends between the two texts, which an LF parts.
+// Whether a line ends at the LF between the two texts: CR stands before it, and no blank after it.
 fn is_line(front: &[u8], rest: &[u8]) -> bool
     ensures { result ≡ is_line front.now rest.now }
 {

@@ -1,13 +1,13 @@
-//! The ends of the lines of the head.
+//! The line ends of a head: whether each CR has its LF, and each LF its CR.
 ghost use Rattle.std.specs.Prelude.{◌+◌, ◌≤◌, ◌<◌, ◌↔◌, IsTrue, length};
 ghost use Rattle.sip_message.specs.inner.Lines.{HasNoBareEnd, ArePaired, BeginsWithFeed, IsPaired};
 
 use std::simd::prelude::*;
 
-// How many bytes are looked at at once.
+// How many bytes are looked at in one step.
 const BLOCK: usize = 32;
 
-/// No CR without LF, and no LF without CR.
+/// Whether the head has no CR without LF after it, and no LF without CR before it.
 pub(crate) fn is_clean(head: &[u8]) -> bool
     ensures { IsTrue result ↔ HasNoBareEnd head.now }
 {
@@ -19,8 +19,8 @@ pub(crate) fn is_clean(head: &[u8]) -> bool
     !begins_with_feed(head)
 }
 
-// The length of a front in which a LF stands after each CR, and after no other byte, looked at in
-// blocks. The last block may begin within the one before it.
+// The length of a front after each of whose bytes a LF stands exactly if the byte is a CR, found block by block.
+// The last block may begin within the one before it.
 fn blocks_len(text: &[u8]) -> usize
     ensures paired { ArePaired text.now 0 result }
     ensures within { result ≤ length text.now }
@@ -36,7 +36,7 @@ fn blocks_len(text: &[u8]) -> usize
     at
 }
 
-// Whether it is so after each byte of the block at this place.
+// Whether after each byte of the block at this place a LF stands exactly if the byte is a CR.
 #[inline]
 fn is_paired_block(text: &[u8], at: usize) -> bool
     requires { at + BLOCK < length text.now }
@@ -47,7 +47,7 @@ fn is_paired_block(text: &[u8], at: usize) -> bool
     (ends ^ feeds).to_bitmask() == 0
 }
 
-// Whether it is so after this byte.
+// Whether after the byte at this place a LF stands exactly if the byte is a CR.
 #[inline]
 fn is_paired(text: &[u8], at: usize) -> bool
     requires { at < length text.now }

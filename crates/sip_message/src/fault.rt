@@ -1,9 +1,9 @@
-//! Why bytes are no message.
+//! Why bytes are read as no message.
 use sip_standard::Fault;
 use std::alloc::AllocError;
 use thiserror::Error;
 
-/// Why bytes are no message.
+/// Why bytes are read as no message: want of memory, or their first fault.
 #[derive(Clone, Copy, Debug, PartialEq, Eq, Error)]
 pub enum ReadError {
     /// A growth was refused.

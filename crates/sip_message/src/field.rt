@@ -29,7 +29,7 @@ pub struct Field<'a> {
     pub value: &'a [u8],
 }
 
-// The name of the line's field, and what follows its colon.
+// The name of the field that the line is, and what follows its colon.
 fn cut_name(line: &[u8]) -> Option<(Name<'_>, &[u8])>
     ensures { IsOnlyValue HasName named_parts line.now result }
 {
@@ -49,7 +49,7 @@ fn past_wsp(text: &[u8]) -> &[u8]
     rest
 }
 
-// The value of a field of this name.
+// The value in what follows the colon, if a field of this name may have it.
 fn read_value<'a>(name: Name<'a>, rest: &'a [u8], kept: &mut Kept<'a>) -> Option<&'a [u8]>
     ensures value { IsOnlyValue (λ t v. IsValue (name_parts name.entry, t) v) text_parts rest.entry.now result }
     ensures kept { IfSome result (λ value. KeepsMore (record { name = name_parts name.entry; value = value.now }) kept.old kept.new) }
@@ -62,7 +62,7 @@ fn read_value<'a>(name: Name<'a>, rest: &'a [u8], kept: &mut Kept<'a>) -> Option
     }
 }
 
-// The field that line `n` is, or the fault of the line. What a first Via and a first CSeq say is kept.
+// The field that line `n` is, or the fault of the line. What the first Via and the first CSeq say is kept.
 fn read_field<'a>(n: usize, line: &'a [u8], kept: &mut Kept<'a>) -> Result<Field<'a>, Fault>
     ensures field { FieldOf n line.entry.now (outcome_of field_parts result) }
     ensures kept { IfOk result (λ f. KeepsMore (field_parts f) kept.old kept.new) }
@@ -82,10 +82,10 @@ fn read_field<'a>(n: usize, line: &'a [u8], kept: &mut Kept<'a>) -> Result<Field
     Ok(Field { name, value })
 }
 
-/// For how many fields there is room at first. Most messages have no more.
+/// How many fields there is room for at first. Most messages have no more.
 pub(crate) const ROOM: usize = 16;
 
-/// The fields that the lines are, with what is kept of them, or the first fault of the lines.
+/// The fields that the lines of the text are, with what is kept of them, or the first fault of the lines.
 pub(crate) fn read_fields(
     alloc: Global,
     text: &[u8],

@@ -1,4 +1,4 @@
-//! What is kept of fields as they are read.
+//! What is kept of the first Via and the first CSeq while fields are read.
 ghost use Rattle.std.specs.Prelude.{◌≡◌, [], is_some};
 ghost use Rattle.std.specs.Option.{option_or};
 ghost use Rattle.sip_message.specs.inner.Kept.{KeptOf};
@@ -14,7 +14,7 @@ pub(crate) struct Kept<'a> {
 }
 
 impl Kept<'_> {
-    /// What no fields say.
+    /// What is kept where no fields were read.
     pub(crate) fn new() -> Self
         ensures { KeptOf [] result }
     {
@@ -25,7 +25,7 @@ impl Kept<'_> {
     }
 }
 
-/// Whether a value says something. It is kept if nothing is kept yet.
+/// Keeps what a value says, if it says something and nothing is kept yet. Answers whether it says something.
 pub(crate) fn keep<T: Copy>(said: Option<T>, kept: &mut Option<T>) -> bool
     ensures says { result ≡ is_some said }
     ensures kept { kept.new ≡ option_or kept.old said }

@@ -82,13 +82,13 @@ impl<'a> Message<'a> {
     pub fn read(alloc: Global, bytes: &'a [u8]) -> Result<Self, ReadError>
         ensures { ReadsTo bytes.entry.now result }
     {
-        let mut fields = Vec::with_capacity(alloc, ROOM)?;
         let mut asked = Asked::new();
+        let mut fields = Vec::with_capacity(alloc, ROOM)?;
         let Some((start, rest)) = read_ordinary(bytes, &mut fields, &mut asked)? else {
-            return Message::whole(alloc, bytes);
+            return Message::any(alloc, bytes);
         };
         if !asked.is_complete() {
-            return Message::whole(alloc, bytes);
+            return Message::any(alloc, bytes);
         }
         let via = asked.via.unwrap();
         let from = asked.from.unwrap();
@@ -96,12 +96,20 @@ impl<'a> Message<'a> {
         let call_id = asked.call_id.unwrap();
         let cseq = asked.cseq.unwrap();
         let Some(len) = body_len(&start, &via, &cseq, asked.content_length, rest) else {
-            return Message::whole(alloc, bytes);
+            return Message::any(alloc, bytes);
         };
         Ok(Message::new(start, fields, &rest[..len], via, from, to, call_id, cseq))
     }
 
-    // The same for any message.
+    // The same for any message. The answer comes into a place of its own, so that an ordinary message needs none.
+    #[inline(always)]
+    fn any(alloc: Global, bytes: &'a [u8]) -> Result<Self, ReadError>
+        ensures { ReadsTo bytes.entry.now result }
+    {
+        Message::whole(alloc, bytes)
+    }
+
+    // The same, read anew.
     #[inline(never)]
     fn whole(alloc: Global, bytes: &'a [u8]) -> Result<Self, ReadError>
         ensures { ReadsTo bytes.entry.now result }
@@ -213,21 +221,21 @@ impl<'a> Message<'a> {
         Routes::new(&self.fields)
     }
 
-    /// Whether the transport of the top Via delivers what it takes: every one but UDP (RFC 3261, section 17).
+    /// Whether the transport of the top Via is reliable: every transport but UDP (RFC 3261, section 17).
     pub fn is_reliable(&self) -> bool
         ensures { result ≡ is_reliable self.now.parts.via.1.transport }
     {
         !same_text(self.top_via().transport, b"UDP")
     }
 
-    // The fields.
+    // The fields, in order.
     pub(crate) fn fields(&self) -> &[Field<'a>]
         ensures { slice_fields result ≡ self.now.message.fields }
     {
         &self.fields
     }
 
-    /// Some bytes are read as the message.
+    /// Does nothing. Its contract tells that some bytes are read as this message.
     pub fn known(&self)
         ensures { (bytes : List ℕ) × Reads bytes self.now }
     {

@@ -84,8 +84,8 @@ fn known_name(text: &[u8]) -> Option<Known>
     }
 }
 
-// The numbers of the known names, and of the halves of those with more than 8 bytes: the last letter
-// is the highest byte.
+// The numbers of the known names, and of the two halves of each known name of more than 8 bytes. The last letter of
+// a name is the highest byte of its number.
 const VIA: u64 = 0x6169_7600_0000_0000;
 
 const FROM: u64 = 0x6d6f_7266_0000_0000;
@@ -114,8 +114,8 @@ const TYPE: u64 = 0x6570_7974_0000_0000;
 
 const ENCODING: u64 = 0x676e_6964_6f63_6e65;
 
-/// The name that the first bytes of the window spell, a token. Where the window is long enough, it is
-/// found by its numbers.
+/// The name that the first `len` bytes of the window, which are a token, spell. Where the window has 16 bytes or more, the
+/// name is found by its numbers.
 #[inline(always)]
 pub(crate) fn quick_name(window: &[u8], len: usize) -> Name<'_>
     requires within { len ≤ length window.now }
@@ -134,7 +134,7 @@ pub(crate) fn quick_name(window: &[u8], len: usize) -> Name<'_>
     halved_name(text, first, second)
 }
 
-// The name that the text spells, which writes this number.
+// The name that the text of at most 8 bytes spells, whose number is this one.
 #[inline(always)]
 fn short_name(text: &[u8], number: u64) -> Name<'_>
     requires token { Token text.now }
@@ -163,7 +163,7 @@ fn short_name(text: &[u8], number: u64) -> Name<'_>
     }
 }
 
-// The name that the text spells, whose first 8 bytes and others write these numbers.
+// The name that the text of 9 to 16 bytes spells, whose first 8 bytes and other bytes have these numbers.
 #[inline(always)]
 fn halved_name(text: &[u8], first: u64, second: u64) -> Name<'_>
     requires token { Token text.now }
@@ -185,7 +185,7 @@ fn halved_name(text: &[u8], first: u64, second: u64) -> Name<'_>
     }
 }
 
-// The known name whose compact form the letter is.
+// The known name whose compact form is this letter.
 fn compact_name(letter: u8) -> Option<Known>
     ensures { name_or result (letter ∷ []) ≡ name_of (letter ∷ []) }
 {

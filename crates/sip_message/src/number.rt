@@ -1,10 +1,10 @@
-//! Names as numbers of 8 bytes.
+//! Names of fields as numbers of 8 bytes.
 ghost use Rattle.std.specs.Prelude.{◌≡◌, ◌≤◌, length, take};
 ghost use Rattle.sip_message.specs.inner.Numbers.{number_of};
 
 use std::simd::prelude::*;
 
-/// The number that the first bytes of the window write, whatever the case of their letters.
+/// The number that the first `len` bytes of the window write, whatever the case of their letters.
 #[inline(always)]
 pub(crate) fn number_of(window: &[u8], len: usize) -> u64
     requires { (8 ≤ length window.now) × (1 ≤ len) × (len ≤ 8) }

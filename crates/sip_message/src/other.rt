@@ -1,4 +1,4 @@
-//! Values that the reader doesn't look into.
+//! Values that the reader doesn't look into: it asks only that their bytes may stand there.
 ghost use Rattle.std.specs.Prelude.{◌≡◌, ◌+◌, ◌≤◌, ◌↔◌, IsTrue, length};
 ghost use Rattle.std.specs.List.{prefix_len};
 ghost use Rattle.sip_text.specs.inner.Blanks.{begins_with_fold};
@@ -6,7 +6,7 @@ ghost use Rattle.sip_message.specs.inner.Values.{OtherText, is_plain_byte, ArePl
 
 use std::simd::prelude::*;
 
-// How many bytes are looked at at once, and how many of a short text.
+// How many bytes are looked at in one step, and how many of a short text.
 const BLOCK: usize = 16;
 
 const HALF: usize = 8;
@@ -25,7 +25,7 @@ pub(crate) fn is_other(text: &[u8]) -> bool
     }
 }
 
-// The length of the front that has no fold: bytes of a value, and blanks.
+// The length of the longest front that has no fold: bytes of a value, and blanks.
 fn plain_len(text: &[u8]) -> usize
     ensures run { result ≡ prefix_len is_plain_byte text.now }
     ensures within { result ≤ length text.now }
@@ -37,7 +37,7 @@ fn plain_len(text: &[u8]) -> usize
     at
 }
 
-// The length of a front of such bytes, looked at in blocks. The last block may begin within the one
+// The length of a front of bytes of a value and blanks, found block by block. The last block may begin within the one
 // before it.
 fn blocks_len(text: &[u8]) -> usize
     ensures plain { ArePlain text.now 0 result }
@@ -54,7 +54,7 @@ fn blocks_len(text: &[u8]) -> usize
     if at == 0 { halves_len(text) } else { at }
 }
 
-// The same of a short text: its first half and its last one.
+// The length of such a front of a short text, found by its first 8 bytes and its last 8.
 #[inline]
 fn halves_len(text: &[u8]) -> usize
     ensures plain { ArePlain text.now 0 result }
@@ -70,7 +70,7 @@ fn halves_len(text: &[u8]) -> usize
     HALF
 }
 
-// Whether the bytes of the half block at this place are such bytes.
+// Whether the 8 bytes at this place are bytes of a value or blanks.
 #[inline]
 fn is_plain_half(text: &[u8], at: usize) -> bool
     requires { at + HALF ≤ length text.now }
@@ -81,7 +81,7 @@ fn is_plain_half(text: &[u8], at: usize) -> bool
     (is_control | half.simd_eq(u8x8::splat(0x7f))).to_bitmask() == 0
 }
 
-// Whether the bytes of the block at this place are such bytes.
+// Whether the bytes of the block at this place are bytes of a value or blanks.
 #[inline]
 fn is_plain_block(text: &[u8], at: usize) -> bool
     requires { at + BLOCK ≤ length text.now }
@@ -92,7 +92,7 @@ fn is_plain_block(text: &[u8], at: usize) -> bool
     (is_control | block.simd_eq(u8x16::splat(0x7f))).to_bitmask() == 0
 }
 
-// A byte of a value, or a blank.
+// Whether the byte is one of a value, or a blank.
 #[inline]
 fn is_plain(byte: u8) -> bool
     ensures { result ≡ is_plain_byte byte }
@@ -100,7 +100,7 @@ fn is_plain(byte: u8) -> bool
     matches!(byte, b'!'..=b'~' | 0x80..=0xff | b' ' | b'\t')
 }
 
-// Whether the text begins with a CRLF and a blank.
+// Whether the text begins with CRLF and a blank, which is a fold.
 #[inline]
 fn begins_with_fold(text: &[u8]) -> bool
     ensures { result ≡ begins_with_fold text.now }

@@ -11,7 +11,7 @@ ghost use Rattle.sip_message.specs.inner.ParamFronts.{Param, is_bare_byte, PastR
 use crate::cursor::{cut, cut_token, past, past_mark};
 use sip_text::{is_ipv6_address, read_host, read_quoted, token_len};
 
-/// Whether the whole text is parameters, from their first `;` on. It is also if it is empty.
+/// Whether the whole text is parameters, from their first `;` on. The empty text is parameters as well.
 pub(crate) fn are_params(text: &[u8]) -> bool
     ensures { IsTrue result ↔ ((params : List (List ℕ × Option (List ℕ))) × ParamsPart text.now params) }
 {
@@ -21,7 +21,7 @@ pub(crate) fn are_params(text: &[u8]) -> bool
     }
 }
 
-// What is after the parameters at the front.
+// What is left after the parameters at the front.
 fn past_params(text: &[u8]) -> &[u8]
     ensures { (params : List Param) × AllParamsFront text.now (params, result.now) }
 {
@@ -32,7 +32,7 @@ fn past_params(text: &[u8]) -> &[u8]
     rest
 }
 
-/// The parameter at the front, its name and its value if it has one, and what is after it.
+/// The name of the parameter at the front, its value if it has one, and what is left after it.
 #[inline(always)]
 pub(crate) fn cut_param(text: &[u8]) -> Option<(&[u8], Option<&[u8]>, &[u8])>
     ensures { IsOnlyValue ParamFront param_parts text.now result }
@@ -42,7 +42,7 @@ pub(crate) fn cut_param(text: &[u8]) -> Option<(&[u8], Option<&[u8]>, &[u8])>
     Some((name, value, rest))
 }
 
-// The value at the front, after its `=` if there is one.
+// The value at the front after its `=`, if there is a `=`, and what is left.
 #[inline(always)]
 fn cut_led_value(text: &[u8]) -> Option<(Option<&[u8]>, &[u8])>
     ensures { IsOnlyValue (LedFront equals ValueFront) led_parts text.now result }
@@ -54,7 +54,7 @@ fn cut_led_value(text: &[u8]) -> Option<(Option<&[u8]>, &[u8])>
     Some((Some(value), rest))
 }
 
-// The value of a parameter at the front.
+// The parameter's value at the front, and what is left after it.
 #[inline(always)]
 fn cut_value(text: &[u8]) -> Option<(&[u8], &[u8])>
     ensures { IsOnlyValue ValueFront pair_parts text.now result }
@@ -68,7 +68,7 @@ fn cut_value(text: &[u8]) -> Option<(&[u8], &[u8])>
     cut_bare(text)
 }
 
-/// The quoted string at the front, with its quotes; no blank stands before it.
+/// The quoted string at the front with its quotes, before which no blank stands, and what is left after it.
 #[inline(always)]
 pub(crate) fn cut_quoted(text: &[u8]) -> Option<(&[u8], &[u8])>
     ensures { IsOnlyValue QuotedFront pair_parts text.now result }
@@ -78,7 +78,7 @@ pub(crate) fn cut_quoted(text: &[u8]) -> Option<(&[u8], &[u8])>
     Some((&text[..len], &text[len..]))
 }
 
-// The IPv6 address in brackets at the front.
+// The IPv6 address in brackets at the front, and what is left after it.
 #[inline(always)]
 fn cut_reference(text: &[u8]) -> Option<(&[u8], &[u8])>
     ensures { IsOnlyValue ReferenceFront pair_parts text.now result }
@@ -88,7 +88,7 @@ fn cut_reference(text: &[u8]) -> Option<(&[u8], &[u8])>
     Some((part, rest))
 }
 
-/// What stands at the front from a `[` to the first `]`.
+/// What stands at the front from a `[` to the first `]`, and what is left after it.
 #[inline(always)]
 pub(crate) fn cut_brackets(text: &[u8]) -> Option<(&[u8], &[u8])>
     ensures { IsOnlyValue BracketFront pair_parts text.now result }
@@ -98,8 +98,8 @@ pub(crate) fn cut_brackets(text: &[u8]) -> Option<(&[u8], &[u8])>
     Some((&text[..text.len() - rest.len()], rest))
 }
 
-// The token or the IPv6 address without brackets at the front. A token that no colon follows is
-// looked at once.
+// The token or the IPv6 address without brackets at the front, and what is left after it. A token that no colon follows is
+// found in one look.
 fn cut_bare(text: &[u8]) -> Option<(&[u8], &[u8])>
     ensures { IsOnlyValue BareFront pair_parts text.now result }
 {
@@ -111,7 +111,7 @@ fn cut_bare(text: &[u8]) -> Option<(&[u8], &[u8])>
     cut_bare_run(text)
 }
 
-// The same from all bytes of tokens and colons at the front.
+// The token or the IPv6 address without brackets at the front, found by all bytes of tokens and colons there.
 #[inline(never)]
 fn cut_bare_run(text: &[u8]) -> Option<(&[u8], &[u8])>
     ensures { IsOnlyValue BareFront pair_parts text.now result }
@@ -132,7 +132,7 @@ fn is_bare(text: &[u8]) -> bool
     is_token(text) || is_ipv6_address(text)
 }
 
-// What is after the bytes of tokens and the colons at the front.
+// What is left after the bytes of tokens and the colons at the front.
 fn past_bare(text: &[u8]) -> &[u8]
     ensures { PastRun is_bare_byte text.now result.now }
 {
@@ -143,7 +143,7 @@ fn past_bare(text: &[u8]) -> &[u8]
     rest
 }
 
-// What is after the bytes of tokens at the front.
+// What is left after the bytes of tokens at the front.
 fn past_token(text: &[u8]) -> &[u8]
     ensures { PastRun is_token_byte text.now result.now }
 {

@@ -1,4 +1,4 @@
-//! Plain parts of values, found by the masks of their text: each is told by the place after it. What is not plain may
+//! Plain parts of values, found by the masks of their text. A function answers with the place after the part, or None: what is not plain may
 //! still be well spelled, and is left to the readers of all values.
 ghost use Rattle.std.specs.Prelude.{◌≡◌, ◌⊎◌, ◌≤◌, [], IfSome, IsTrue, codes, length, option_copied};
 ghost use Rattle.sip_standard.specs.Text.{Exactly, ◌then◌};
@@ -30,7 +30,7 @@ pub(crate) fn is_plain_address(masks: &Masks<'_, '_>, at: usize, end: usize) -> 
     are_plain_params(masks, params, end)
 }
 
-// The place after the display name, if there is one, and the `<`.
+// The place after the `<` that stands at `at`, or after a display name there.
 fn past_opening(masks: &Masks<'_, '_>, at: usize, end: usize) -> Option<usize>
     requires { (at ≤ end) × (end ≤ length masks.now) }
     ensures { IfSome result (LiesWithin Opening masks.now at end) }
@@ -42,7 +42,7 @@ fn past_opening(masks: &Masks<'_, '_>, at: usize, end: usize) -> Option<usize>
     past_byte(masks, past_space(masks, name, end), end, b'<')
 }
 
-// The place after the SP, if there is one.
+// The place after the SP that stands at `at`, and `at` itself if none does.
 fn past_space(masks: &Masks<'_, '_>, at: usize, end: usize) -> usize
     requires { (at ≤ end) × (end ≤ length masks.now) }
     ensures { LiesWithin Sws masks.now at end result }
@@ -53,7 +53,7 @@ fn past_space(masks: &Masks<'_, '_>, at: usize, end: usize) -> usize
     }
 }
 
-// The place after the display name.
+// The place after the display name that stands at `at`.
 fn past_name(masks: &Masks<'_, '_>, at: usize, end: usize) -> Option<usize>
     requires { (at ≤ end) × (end ≤ length masks.now) }
     ensures { IfSome result (LiesWithin DisplayName masks.now at end) }
@@ -67,7 +67,7 @@ fn past_name(masks: &Masks<'_, '_>, at: usize, end: usize) -> Option<usize>
     }
 }
 
-// The place after a quoted string of plain words.
+// The place after the quoted string of plain words that stands at `at`.
 fn past_plain_quoted(masks: &Masks<'_, '_>, at: usize, end: usize) -> Option<usize>
     requires { end ≤ length masks.now }
     ensures { IfSome result (LiesWithin Quoted masks.now at end) }
@@ -77,7 +77,7 @@ fn past_plain_quoted(masks: &Masks<'_, '_>, at: usize, end: usize) -> Option<usi
     past_byte(masks, close, end, b'"')
 }
 
-// The place after plain runs with a SP between any two.
+// The place after the plain runs, with a SP between any two, that stand at `at`.
 fn past_words(masks: &Masks<'_, '_>, at: usize, end: usize) -> Option<usize>
     requires { end ≤ length masks.now }
     ensures { IfSome result (LiesWithin Words masks.now at end) }
@@ -94,7 +94,7 @@ fn past_words(masks: &Masks<'_, '_>, at: usize, end: usize) -> Option<usize>
     }
 }
 
-/// The place after a SIP URI that has no parameters and no headers.
+/// The place after the SIP URI without parameters and headers that stands at `at`.
 pub(crate) fn past_uri(masks: &Masks<'_, '_>, at: usize, end: usize) -> Option<usize>
     requires { (at ≤ end) × (end ≤ length masks.now) }
     ensures { IfSome result (LiesWithin SomeUri masks.now at end) }
@@ -104,7 +104,7 @@ pub(crate) fn past_uri(masks: &Masks<'_, '_>, at: usize, end: usize) -> Option<u
     past_hostport(masks, host, end)
 }
 
-// The place after the user and its `@`, if there is one.
+// The place after the user and its `@` that stand at `at`, and `at` itself if no `@` follows the plain run there.
 #[inline]
 fn past_user(masks: &Masks<'_, '_>, at: usize, end: usize) -> Option<usize>
     requires { end ≤ length masks.now }
@@ -117,7 +117,7 @@ fn past_user(masks: &Masks<'_, '_>, at: usize, end: usize) -> Option<usize>
     }
 }
 
-// The place after `sip:`.
+// The place after the `sip:` that stands at `at`.
 fn past_sip(masks: &Masks<'_, '_>, at: usize, end: usize) -> Option<usize>
     requires { (at ≤ end) × (end ≤ length masks.now) }
     ensures { IfSome result (LiesWithin (Exactly (codes "sip:")) masks.now at end) }
@@ -128,7 +128,7 @@ fn past_sip(masks: &Masks<'_, '_>, at: usize, end: usize) -> Option<usize>
     }
 }
 
-// The place after the host, and the port if there is one.
+// The place after the host that stands at `at`, and after its port if it has one.
 #[inline]
 fn past_hostport(masks: &Masks<'_, '_>, at: usize, end: usize) -> Option<usize>
     requires { end ≤ length masks.now }
@@ -161,7 +161,7 @@ fn is_host(text: &[u8]) -> bool
     read_host(text).is_some()
 }
 
-// Whether a name of an ordinary kind stands between two places. Most hosts are such names.
+// Whether a hostname of an ordinary kind stands between two places. Most hosts are such names.
 #[inline]
 fn is_name_at(text: &[u8], at: usize, to: usize) -> bool
     requires { (at ≤ to) × (to ≤ length text.now) }
@@ -170,7 +170,7 @@ fn is_name_at(text: &[u8], at: usize, to: usize) -> bool
     is_ordinary_name(&text[at..], to - at)
 }
 
-/// The host, and the place after it.
+/// The host that stands at `at`, and the place after it.
 #[inline(always)]
 pub(crate) fn past_host<'a>(
     masks: &Masks<'a, '_>,
@@ -197,7 +197,7 @@ fn host_at(text: &[u8], at: usize, to: usize) -> Option<Host<'_>>
     read_host(&text[at..to])
 }
 
-/// The place after the port.
+/// The place after the port that stands at `at`.
 pub(crate) fn past_port(masks: &Masks<'_, '_>, at: usize, end: usize) -> Option<usize>
     requires { end ≤ length masks.now }
     ensures { IfSome result (LiesWithin Port masks.now at end) }
@@ -225,7 +225,7 @@ fn are_plain_params(masks: &Masks<'_, '_>, at: usize, end: usize) -> bool
     true
 }
 
-/// The name of a parameter, its value if it has one, and the place after it.
+/// The name of the parameter that stands at `at`, its value if it has one, and the place after it.
 #[inline(always)]
 pub(crate) fn past_param<'a>(
     masks: &Masks<'a, '_>,
@@ -246,7 +246,7 @@ pub(crate) fn past_param<'a>(
     Some((name, Some(&masks.text()[first..to]), to))
 }
 
-/// The place after the run of plain bytes.
+/// The place after the run of plain bytes that stands at `at`.
 #[inline]
 pub(crate) fn past_run(masks: &Masks<'_, '_>, at: usize, end: usize) -> Option<usize>
     requires { end ≤ length masks.now }
@@ -262,7 +262,7 @@ pub(crate) fn past_run(masks: &Masks<'_, '_>, at: usize, end: usize) -> Option<u
     Some(at + len)
 }
 
-/// The place after the byte.
+/// The place after this byte, if it stands at `at`.
 #[inline]
 pub(crate) fn past_byte(masks: &Masks<'_, '_>, at: usize, end: usize, byte: u8) -> Option<usize>
     requires { end ≤ length masks.now }

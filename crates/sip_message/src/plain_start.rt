@@ -10,7 +10,7 @@ use crate::start_line::{StartLine, cut_code, read_start};
 use sip_masks::Masks;
 use sip_text::same_text;
 
-/// The start line up to a place, before which no control stands.
+/// The start line that the text up to `end` is, in which no control stands.
 pub(crate) fn start_up_to<'a>(masks: &Masks<'a, '_>, end: usize) -> Option<StartLine<'a>>
     requires within { end ≤ length masks.now }
     requires clear { IsOpen (segment 0 end masks.now) }
@@ -42,7 +42,7 @@ fn open_status(line: &[u8]) -> Option<StartLine<'_>>
     Some(StartLine::Status { code, reason })
 }
 
-// The Request-Line up to a place, if its method is plain and its URI is a SIP URI of plain parts.
+// The Request-Line that the text up to `end` is, if its method is plain and its URI is a SIP URI of plain parts.
 fn plain_request<'a>(masks: &Masks<'a, '_>, end: usize) -> Option<StartLine<'a>>
     requires { end ≤ length masks.now }
     ensures { IfSome result (λ start. StartText (segment 0 end masks.now) (start_parts start)) }

@@ -20,7 +20,7 @@ pub(crate) fn is_call_id_at(masks: &Masks<'_, '_>, at: usize, end: usize) -> boo
     is_plain_call_id(masks, at, end) || is_call_id(&masks.text()[at..end])
 }
 
-// Whether one plain run stands there, or two with an `@` between them.
+// Whether one plain run stands from one place up to another, or two with an `@` between them.
 fn is_plain_call_id(masks: &Masks<'_, '_>, at: usize, end: usize) -> bool
     requires { end ≤ length masks.now }
     ensures { IsTrue result → CallId (segment at end masks.now) }
@@ -51,7 +51,7 @@ pub(crate) fn cseq_at<'a>(masks: &Masks<'a, '_>, at: usize, end: usize) -> Optio
     }
 }
 
-// The same where a short number, a SP and a plain method stand there.
+// The CSeq from one place up to another, if a short number, a SP and a plain method stand there.
 fn plain_cseq<'a>(masks: &Masks<'a, '_>, at: usize, end: usize) -> Option<CSeq<'a>>
     requires { end ≤ length masks.now }
     ensures { IfSome result (λ cseq. CSeqValue (segment at end masks.now) (cseq_parts cseq)) }
@@ -70,10 +70,10 @@ fn plain_cseq<'a>(masks: &Masks<'a, '_>, at: usize, end: usize) -> Option<CSeq<'
     })
 }
 
-// A number that is not above this one has at most nine digits with the next.
+// A number up to this one has, with one digit more, at most nine digits.
 const LAST_SHORT: u32 = 99_999_999;
 
-// The number that the whole text writes, if it is digits and the number has at most nine of them.
+// The number that the whole text writes, if the text is digits and the number has at most nine of them.
 fn short_number(text: &[u8]) -> Option<u32>
     ensures { IfSome result (λ number. Digits text.now × (number ≡ digits_value 10 text.now) × (number < 2 ^ 31)) }
 {

@@ -12,7 +12,7 @@ use crate::via::Via;
 use sip_masks::Masks;
 use sip_text::same_text;
 
-/// The one element of Via from one place up to another.
+/// The element of Via that stands from one place up to another, if it is the only one there and its parts are plain.
 pub(crate) fn plain_via<'a>(masks: &Masks<'a, '_>, at: usize, end: usize) -> Option<Via<'a>>
     requires { (at ≤ end) × (end ≤ length masks.now) }
     ensures { IfSome result (λ v. FirstVia (segment at end masks.now) (element v)) }
@@ -39,7 +39,7 @@ pub(crate) fn plain_via<'a>(masks: &Masks<'a, '_>, at: usize, end: usize) -> Opt
     })
 }
 
-// The port, if there is one, and the place after it.
+// The port that stands at `at` after its `:`, if there is one, and the place after it.
 fn past_led_port<'a>(
     masks: &Masks<'a, '_>,
     at: usize,
@@ -55,7 +55,7 @@ fn past_led_port<'a>(
     Some((Some(&masks.text()[port..to]), to))
 }
 
-// The branch of the parameters from one place up to another.
+// The branch of the plain parameters that stand from one place up to another.
 fn plain_branch<'a>(masks: &Masks<'a, '_>, at: usize, end: usize) -> Option<Option<&'a [u8]>>
     requires { (at ≤ end) × (end ≤ length masks.now) }
     ensures { IfSome result (λ branch. ViaParams (segment at end masks.now) (option_copied branch)) }
@@ -72,8 +72,8 @@ fn plain_branch<'a>(masks: &Masks<'a, '_>, at: usize, end: usize) -> Option<Opti
     Some(branch)
 }
 
-// The branch that a parameter is whose value is a token, None within where it has another name, and None
-// where it is a branch without a value.
+// The branch that a parameter gives whose value is a token: Some(None) where the parameter has another name, and None
+// where it is named branch and has no value.
 fn token_branch<'a>(name: &[u8], value: Option<&'a [u8]>) -> Option<Option<&'a [u8]>>
     requires { IfSome (option_copied value) Token }
     ensures { IfSome result (λ branch. BranchOf (name.entry.now, option_copied value.entry) (option_copied branch)) }

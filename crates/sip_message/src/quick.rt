@@ -25,13 +25,13 @@ use crate::via::{Via, first_via};
 use sip_masks::Masks;
 use std::alloc::AllocError;
 
-// How many bytes of a message are looked at, and how many words their masks take.
+// How many bytes of a message are looked at, and how many words each of its masks takes.
 const LONGEST: usize = 2047;
 
 const WORDS: usize = 33;
 
 /// The start line and what follows the head, where the head is an ordinary one. Its fields are put into
-/// the vector, and what is asked for is kept.
+/// the vector, and what is asked for is kept in `asked`.
 pub(crate) fn read_ordinary<'a>(
     bytes: &'a [u8],
     fields: &mut Vec<Field<'a>>,
@@ -57,7 +57,7 @@ pub(crate) fn read_ordinary<'a>(
     Ok(Some((start, &bytes[at + 2..])))
 }
 
-// The front of the bytes that is looked at.
+// The front of the bytes that is looked at: it ends before the byte after `LONGEST`, at most.
 #[inline]
 fn front(bytes: &[u8]) -> &[u8]
     ensures within { length result.now ≤ LONGEST }
@@ -70,8 +70,8 @@ fn front(bytes: &[u8]) -> &[u8]
     }
 }
 
-// The place of the empty line after the lines from here on, where they are ordinary ones. Their
-// fields are put into the vector, and what is asked for is kept.
+// The place of the empty line after the field lines from `at` on, where these are ordinary ones. Their
+// fields are put into the vector, and what is asked for is kept in `asked`.
 fn ordinary_fields<'a>(
     masks: &Masks<'a, '_>,
     from: usize,
@@ -99,7 +99,7 @@ fn ordinary_fields<'a>(
     }
 }
 
-// Where the line at this place ends, if a CRLF is the first control from there on.
+// The place where the line at this place ends, if a CRLF is the first control from there on.
 #[inline]
 fn line_end(masks: &Masks<'_, '_>, at: usize) -> Option<usize>
     requires { at ≤ length masks.now }
@@ -117,8 +117,8 @@ fn line_end(masks: &Masks<'_, '_>, at: usize) -> Option<usize>
     Some(end)
 }
 
-// Puts the field that the line from one place up to another is after the others, if its name is plain
-// and its colon stands right after that. What it says is kept if it is asked for.
+// Puts the field that the line from `at` up to `end` is after the others, if its name is plain and its colon stands
+// right after the name. What it says is kept if it is asked for. Answers whether that was done.
 #[inline]
 fn push_ordinary<'a>(
     masks: &Masks<'a, '_>,
@@ -150,7 +150,7 @@ fn push_ordinary<'a>(
     Ok(true)
 }
 
-// The place of the value between two places, if at most a SP stands before it, and it neither begins nor
+// The place where the value between two places begins, if at most one SP stands before it, and it neither begins nor
 // ends with a blank.
 #[inline]
 fn value_place(text: &[u8], at: usize, end: usize) -> Option<usize>
@@ -166,7 +166,7 @@ fn value_place(text: &[u8], at: usize, end: usize) -> Option<usize>
 }
 
 // Whether a field of this name may have the value between two places, in which no control stands. What
-// it says is kept if it is asked for, and a second field of a name that stands at most once is refused.
+// it says is kept if it is asked for. A second field of a name that stands at most once is refused.
 #[inline]
 fn is_value_at<'a>(
     masks: &Masks<'a, '_>,
@@ -199,8 +199,8 @@ fn is_value_at<'a>(
 }
 
 // Keeps the first element of Via between two places, if elements stand there and none is kept yet.
-// Whether they stand there.
-#[inline(never)]
+// Answers whether elements stand there.
+#[inline(always)]
 fn keep_via<'a>(masks: &Masks<'a, '_>, at: usize, end: usize, kept: &mut Option<Via<'a>>) -> bool
     requires { (at ≤ end) × (end ≤ length masks.now) }
     ensures { KeepsVia (segment at end masks.now) result kept.old kept.new }

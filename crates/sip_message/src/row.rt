@@ -39,7 +39,7 @@ pub(crate) fn is_solid(text: &[u8]) -> bool
     !text.is_empty() && !is_blank(text[0]) && !is_blank(text[text.len() - 1])
 }
 
-// The same for any text.
+// The value in what follows the colon, whatever blanks stand at its ends.
 fn trim_blanks(text: &[u8]) -> Option<&[u8]>
     ensures { IsOnlyValue ValueText text_parts text.now result }
 {
@@ -53,7 +53,7 @@ fn trim_blanks(text: &[u8]) -> Option<&[u8]>
     }
 }
 
-// The length of the front of bytes of blank runs.
+// The length of the longest front of bytes of blank runs.
 fn blank_len(text: &[u8]) -> usize
     ensures run { result ≡ prefix_len is_lws_byte text.now }
     ensures within { result ≤ length text.now }
@@ -79,7 +79,7 @@ fn solid_len(text: &[u8]) -> usize
     len
 }
 
-// A byte of a blank run. Most bytes are above all of these.
+// Whether the byte is one of a blank run. Most bytes are above all of these.
 #[inline]
 fn is_blank(byte: u8) -> bool
     ensures { result ≡ is_lws_byte byte }
@@ -94,7 +94,7 @@ fn is_sws(text: &[u8]) -> bool
     skip_lws(text) == text.len()
 }
 
-/// Whether a field of this name may have the value. What a first Via and a first CSeq say is kept.
+/// Whether a field of this name may have the value. What the first Via and the first CSeq say is kept.
 pub(crate) fn is_of_row<'a>(name: Name<'a>, value: &'a [u8], kept: &mut Kept<'a>) -> bool
     ensures row { IsTrue result ↔ Row (name_parts name.entry) value.entry.now }
     ensures kept { IsTrue result → KeepsMore (record { name = name_parts name.entry; value = value.entry.now }) kept.old kept.new }

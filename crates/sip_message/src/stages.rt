@@ -1,4 +1,4 @@
-//! The stages of reading.
+//! The stages of reading a message, each with its faults.
 ghost use Rattle.std.specs.Prelude.{◌≡◌, ◌↔◌, ◌≤◌, ◌<◌, ◌-◌, ℕ, List, ◌++◌, length, take, slice_index, Some, IsTrue, IfOk, IfSome, option_copied};
 ghost use Rattle.std.specs.Option.{option_map};
 ghost use Rattle.std.specs.Str.Parse.{digits_value};
@@ -32,7 +32,7 @@ use memchr::memmem;
 use sip_standard::{Fault, Reason, Unit};
 use sip_text::same_text;
 
-/// Where the named fields stand.
+/// The values of the named fields, those of Via and CSeq with the numbers of their lines.
 #[derive(Clone, Copy, Drop)]
 pub(crate) struct Named<'a> {
     pub(crate) via_line: usize,
@@ -44,7 +44,7 @@ pub(crate) struct Named<'a> {
     pub(crate) cseq: &'a [u8],
 }
 
-// The head, and what follows it.
+// The head with its last line end, and what follows the empty line after it.
 pub(crate) fn cut_head(bytes: &[u8]) -> Option<(&[u8], &[u8])>
     ensures { IsOnlyValue CutSays pair_parts bytes.now result }
 {
@@ -52,8 +52,8 @@ pub(crate) fn cut_head(bytes: &[u8]) -> Option<(&[u8], &[u8])>
     Some((&bytes[..at + 2], &bytes[at + 4..]))
 }
 
-// The place of the first CRLF CRLF. A CR stands after a LF in no other place of most messages, so
-// that the search for these seldom stops at another line.
+// The place of the first CRLF CRLF. It is searched for by LF CR LF: in most messages that stands nowhere else, so that
+// the search seldom stops at another line.
 #[inline]
 fn find_double_end(bytes: &[u8]) -> Option<usize>
     ensures { FindsNeedle bytes.now (crlf ++ crlf) 0 result }
@@ -68,7 +68,7 @@ fn find_double_end(bytes: &[u8]) -> Option<usize>
     }
 }
 
-// Whether a CR stands before this place.
+// Whether a CR stands right before this place.
 #[inline]
 fn is_behind_cr(bytes: &[u8], at: usize) -> bool
     requires { at ≤ length bytes.now }
@@ -77,7 +77,7 @@ fn is_behind_cr(bytes: &[u8], at: usize) -> bool
     at > 0 && bytes[at - 1] == b'\r'
 }
 
-// The first line, and the text of the others.
+// The first line, and the text of the other lines.
 pub(crate) fn cut_first(head: &[u8]) -> (&[u8], &[u8])
     ensures { (first : List ℕ) (others : List (List ℕ)) → LinesSay head.now first others → (first ≡ result.0.now) × AreLines result.1.now others }
 {
@@ -87,7 +87,7 @@ pub(crate) fn cut_first(head: &[u8]) -> (&[u8], &[u8])
     }
 }
 
-// The named fields, or the first of them that is missing or stands twice.
+// The values of the named fields, or the fault that the first of them that does so is missing or stands twice.
 pub(crate) fn find_named<'a>(fields: &[Field<'a>]) -> Result<Named<'a>, Fault>
     ensures names { NamesOf (slice_fields fields.entry) (outcome_of names_parts result) }
     ensures stand { IfOk result (λ named. Stand (slice_fields fields.entry) (names_of named)) }
@@ -109,7 +109,7 @@ pub(crate) fn find_named<'a>(fields: &[Field<'a>]) -> Result<Named<'a>, Fault>
     })
 }
 
-// The value of the first field of the name, with its line.
+// The value of the first field of the name, with the number of its line.
 fn find_first<'a>(fields: &[Field<'a>], name: Known) -> Result<(&'a [u8], usize), Fault>
     ensures present { FirstOf (found name (slice_fields fields.entry)) (outcome_of found_parts result) }
     ensures found { IfOk result (λ first. IsFound name 0 (slice_fields fields.entry) (Some (found_parts first))) }
@@ -123,7 +123,7 @@ fn find_first<'a>(fields: &[Field<'a>], name: Known) -> Result<(&'a [u8], usize)
     }
 }
 
-// That the name stands at most once.
+// Fails where the name stands twice.
 fn check_not_twice(fields: &[Field<'_>], name: Known) -> Result<(), Fault>
     ensures { NoSecond (found name (slice_fields fields.entry)) (outcome_of nothing_parts result) }
 {
@@ -139,7 +139,7 @@ fn check_not_twice(fields: &[Field<'_>], name: Known) -> Result<(), Fault>
     }
 }
 
-// The value of the one field of the name, with its line.
+// The value of the one field of the name, with the number of its line.
 fn find_once<'a>(fields: &[Field<'a>], name: Known) -> Result<(&'a [u8], usize), Fault>
     ensures { OneOf (found name (slice_fields fields.entry)) (outcome_of found_parts result) }
 {
@@ -153,7 +153,7 @@ fn find_once<'a>(fields: &[Field<'a>], name: Known) -> Result<(&'a [u8], usize),
     }
 }
 
-// The body. Inlined, since a Via of which a place is handed on twice is copied.
+// The body, or a fault of the method or the body. It is inlined, since a Via of which a place is handed on twice is copied.
 #[inline(always)]
 pub(crate) fn read_body<'a>(
     start: StartLine<'a>,
@@ -174,7 +174,7 @@ pub(crate) fn read_body<'a>(
     }
 }
 
-/// The same, where the value of Content-Length is at hand.
+/// The body, or a fault of the method or the body, where the value of Content-Length is at hand.
 pub(crate) fn body_by_length<'a>(
     start: StartLine<'a>,
     named: Named<'a>,
@@ -221,7 +221,7 @@ pub(crate) fn body_by_length<'a>(
     Ok(&rest[..len])
 }
 
-/// How many bytes the body of a message from an ordinary head has, if nothing is wrong with it.
+/// How many bytes the body of a message with an ordinary head has, or None where something is wrong with the method or the body.
 #[inline]
 pub(crate) fn body_len(
     start: &StartLine<'_>,
@@ -254,7 +254,7 @@ pub(crate) fn body_len(
     }
 }
 
-// Whether the method of CSeq is that of the request.
+// Whether the method of CSeq is that of the request. It is true of a response.
 fn fits_method(start: StartLine<'_>, cseq: CSeq<'_>) -> bool
     ensures { (text : List ℕ) → CSeqValue text (cseq_parts cseq.entry) → IsTrue result ↔ MethodFits (start_parts start.entry) text }
 {

@@ -40,7 +40,7 @@ pub(crate) fn read_start(line: &[u8]) -> Option<StartLine<'_>>
     Some(StartLine::Status { code, reason })
 }
 
-// The method and Request-URI of a Request-Line. The version has seven bytes.
+// The method and the Request-URI of the Request-Line that the line is. The version at its end has seven bytes.
 fn read_request(line: &[u8]) -> Option<(&[u8], &[u8])>
     ensures { IsOnlyValue RequestLine pair_parts line.now result }
 {
@@ -55,7 +55,7 @@ fn read_request(line: &[u8]) -> Option<(&[u8], &[u8])>
     Some((method, uri))
 }
 
-// The Status-Code and Reason-Phrase of a Status-Line.
+// The Status-Code and the Reason-Phrase of the Status-Line that the line is.
 fn read_status(line: &[u8]) -> Option<(u16, &[u8])>
     ensures { IsOnlyValue StatusLine status_parts line.now result }
 {
@@ -73,7 +73,7 @@ fn read_status(line: &[u8]) -> Option<(u16, &[u8])>
     Some((code, reason))
 }
 
-/// The Status-Code at the front, and what is after its SP.
+/// The Status-Code at the front, and what follows the SP after it.
 pub(crate) fn cut_code(text: &[u8]) -> Option<(u16, &[u8])>
     ensures { IsOnlyValue CodeFront status_parts text.now result }
 {

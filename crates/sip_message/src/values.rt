@@ -1,4 +1,4 @@
-//! The values of the other fields that are known: numbers, CSeq and Call-ID.
+//! The values of fields that are a number, CSeq and Call-ID.
 ghost use Rattle.std.specs.Prelude.{◌≡◌, ◌≤◌, ◌<◌, ◌↔◌, ℕ, List, IsTrue, MatchOption, length};
 ghost use Rattle.std.specs.List.{list_all, prefix_len};
 ghost use Rattle.std.specs.Char.{is_ascii_digit};
@@ -39,11 +39,11 @@ pub(crate) fn read_cseq(text: &[u8]) -> Option<CSeq<'_>>
     })
 }
 
-// The highest number of a CSeq.
+// The highest number that a CSeq may have.
 const LAST_NUMBER: usize = 0x7fff_ffff;
 
-/// The number that digits write, if it is at most `most`. There may be any number of digits. Of a
-/// text that holds another byte it is None.
+/// The number that digits write, if it is at most `most`. There may be any number of digits. It is None for a
+/// text that holds another byte.
 pub(crate) fn number_at_most(text: &[u8], most: usize) -> Option<usize>
     ensures { MatchOption result (Digits text.now → most < digits_value 10 text.now)
         (λ n. (n ≡ digits_value 10 text.now) × (n ≤ most)) }
@@ -62,7 +62,7 @@ pub(crate) fn number_at_most(text: &[u8], most: usize) -> Option<usize>
     Some(number)
 }
 
-// The length of the digits at the front.
+// The length of the longest front of digits.
 fn digits_len(text: &[u8]) -> usize
     ensures run { result ≡ prefix_len is_ascii_digit text.now }
     ensures within { result ≤ length text.now }
@@ -100,22 +100,22 @@ pub(crate) fn is_call_id(text: &[u8]) -> bool
     }
 }
 
-// Whether the text is a word. The bytes of a token at its front are those of a word, and most words
-// have no others.
+// Whether the text is a word. The bytes of a token may stand in a word, so that the longest token at its front need not be looked
+// at again; most words are that token.
 fn is_word(text: &[u8]) -> bool
     ensures { IsTrue result ↔ Word text.now }
 {
     !text.is_empty() && are_word_bytes(&text[token_len(text)..])
 }
 
-// Whether each byte is one of a word.
+// Whether each byte may stand in a word.
 fn are_word_bytes(text: &[u8]) -> bool
     ensures { result ≡ list_all is_word_byte text.now }
 {
     text.iter().all(|byte| is_word_byte(*byte))
 }
 
-// A byte of a word.
+// Whether the byte may stand in a word.
 #[inline]
 fn is_word_byte(byte: u8) -> bool
     ensures { result ≡ is_word_byte byte }

@@ -46,7 +46,7 @@ pub(crate) fn first_via(text: &[u8]) -> Option<Via<'_>>
     }
 }
 
-// Whether the whole text is elements of Via, each after a comma.
+// Whether the whole text is elements of Via, each with a comma before it.
 fn are_more_vias(text: &[u8]) -> bool
     ensures { IsTrue result ↔ ((vias : List ViaParts) × MoreVias vias text.now) }
 {
@@ -60,7 +60,7 @@ fn are_more_vias(text: &[u8]) -> bool
     rest.is_empty()
 }
 
-/// The element at the front, and what is after it: nothing, or a comma and more.
+/// The element at the front, and what is left after it: nothing, or a comma and further elements.
 pub(crate) fn read_via(text: &[u8]) -> Option<(Via<'_>, &[u8])>
     ensures { IsOnlyValue ViaFront front_parts text.now result }
 {
@@ -93,7 +93,7 @@ fn ends_element(text: &[u8]) -> bool
     text.is_empty() || past_mark(text, b',').is_some()
 }
 
-// The host at the front.
+// The host at the front, and what is left after it.
 fn cut_host(text: &[u8]) -> Option<(Host<'_>, &[u8])>
     ensures { IsOnlyValue HostFront host_front_parts text.now result }
 {
@@ -102,7 +102,7 @@ fn cut_host(text: &[u8]) -> Option<(Host<'_>, &[u8])>
     Some((host, rest))
 }
 
-// What may be a host at the front: the text from a `[` to the first `]`, or the longest token.
+// What may be a host at the front, from a `[` to the first `]` or else the longest token, and what is left after it.
 fn cut_host_text(text: &[u8]) -> Option<(&[u8], &[u8])>
     ensures { IsOnlyValue HostCut pair_parts text.now result }
 {
@@ -112,7 +112,7 @@ fn cut_host_text(text: &[u8]) -> Option<(&[u8], &[u8])>
     cut_token(text)
 }
 
-// The port at the front, after its colon if there is one.
+// The port at the front after its colon, if there is a colon, and what is left.
 fn cut_led_port(text: &[u8]) -> Option<(Option<&[u8]>, &[u8])>
     ensures { IsOnlyValue (LedFront colon PortFront) led_parts text.now result }
 {
@@ -123,7 +123,7 @@ fn cut_led_port(text: &[u8]) -> Option<(Option<&[u8]>, &[u8])>
     Some((Some(port), rest))
 }
 
-// The port at the front.
+// The port at the front, and what is left after it.
 fn cut_port(text: &[u8]) -> Option<(&[u8], &[u8])>
     ensures { IsOnlyValue PortFront pair_parts text.now result }
 {
@@ -135,7 +135,7 @@ fn cut_port(text: &[u8]) -> Option<(&[u8], &[u8])>
     }
 }
 
-// The parameters at the front, from their first `;` on, and the branch.
+// The parameters at the front from their first `;` on, their branch, and what is left after them.
 fn cut_tail(text: &[u8]) -> Option<(&[u8], Option<&[u8]>, &[u8])>
     ensures { IsOnlyValue TailFront tail_parts text.now result }
 {
@@ -143,7 +143,7 @@ fn cut_tail(text: &[u8]) -> Option<(&[u8], Option<&[u8]>, &[u8])>
     Some((skip_blanks(&text[..text.len() - rest.len()]), branch, rest))
 }
 
-// The branch of the parameters at the front, and what is after them.
+// The branch of the parameters at the front, and what is left after them.
 fn cut_branch(text: &[u8]) -> Option<(Option<&[u8]>, &[u8])>
     ensures { IsOnlyValue BranchFront led_parts text.now result }
 {
@@ -156,8 +156,8 @@ fn cut_branch(text: &[u8]) -> Option<(Option<&[u8]>, &[u8])>
     Some((branch, rest))
 }
 
-/// The branch that a parameter is, None within where it has another name, and None where it is a
-/// branch without a token.
+/// The branch that a parameter gives: Some(None) where the parameter has another name, and None where it is named branch
+/// and has no token for value.
 pub(crate) fn branch_of<'a>(name: &[u8], value: Option<&'a [u8]>) -> Option<Option<&'a [u8]>>
     ensures { MatchOption result
         ((branch : Option (List ℕ)) → ¬ (BranchOf (name.entry.now, option_copied value.entry) branch))

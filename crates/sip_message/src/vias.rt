@@ -33,7 +33,7 @@ impl<'s, 'a> Model for Vias<'s, 'a> {
 }
 
 impl<'s, 'a> Vias<'s, 'a> {
-    /// The elements of the fields.
+    /// The elements of the Via fields among these.
     pub(crate) fn new(fields: &'s [Field<'a>]) -> Self
         requires { (es : List Element) × IsOnly (AreElements (values known_name.Via (slice_fields fields))) es }
         ensures { IsOnly (AreElements (values known_name.Via (slice_fields fields.entry))) result }
@@ -65,7 +65,7 @@ impl<'s, 'a> Iterator for Vias<'s, 'a> {
     }
 }
 
-// The text that begins with the next element, and the place after its field.
+// The text at whose front the next element stands, and the place after the field of that text; None where no element is left.
 fn next_text<'a>(fields: &[Field<'a>], at: usize, rest: &'a [u8]) -> Option<(&'a [u8], usize)>
     ensures { MatchOption result
         ((es : List Element) → AreLeft rest.entry.now (values known_name.Via (drop at (slice_fields fields.entry))) es → es ≡ [])
@@ -92,7 +92,7 @@ impl<'s, 'a> Model for Routes<'s, 'a> {
 }
 
 impl<'s, 'a> Routes<'s, 'a> {
-    /// The values of the fields.
+    /// The values of the Route fields among these.
     pub(crate) fn new(fields: &'s [Field<'a>]) -> Self
         ensures { result ≡ values known_name.Route (slice_fields fields.entry) }
     {

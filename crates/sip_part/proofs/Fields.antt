@@ -1,4 +1,4 @@
--- The plain branch of a message that is read is that of its top Via: from a field to the bytes.
+-- Where a plain branch is found in a message that is read, it is the branch of the top Via: from one field to the bytes of the message.
 use Rattle.std.proofs.Common.{◌≡◌, ◌∙◌, ◌⊎◌, inl, inr, ℕ, ◌+◌, List, [], ◌∷◌, ◌++◌, Bool, Some, None, drop, filter, flat_map, map, cond, ◌&&◌, if◌then◌else◌, nat_eq, true, false, refl, sym, ap, subst, append_assoc, arith}
 use Rattle.std.proofs.lemmas.Bool.{eqb-true, false_from_ne_true}
 use Rattle.std.specs.Prelude.{codes, bytes_eq, nat_lt}
@@ -19,8 +19,9 @@ use Rattle.sip_part.proofs.Tokens.{token_run, same_run}
 use Rattle.sip_part.proofs.Lines.{Unit, Folded, Passed, line_from, pass_line}
 use Rattle.sip_part.proofs.Plain.{NoToken, Open, Opens, wsp_opens, open_no_token, not_colon, starts_is, value_found}
 
--- What follows a name, up to its colon.
+-- What follows is of the text after a field's name, up to its colon.
 
+-- blanks are none, or begin with a blank
 wsp_open : (w : List ℕ) → Many Wsp w → (w ≡ []) ⊎ Open w
 wsp_open w ([], all, whole) = inl whole
 wsp_open w (v ∷ vs, all, whole) =
@@ -28,6 +29,7 @@ wsp_open w (v ∷ vs, all, whole) =
     let flat = whole ∙ ap (λ t. t ++ concat vs) one.2 in
     inr (record { first = one.0; rest = concat vs; is = flat; opens = wsp_opens one.0 one.1 })
 
+-- where blanks and a colon stand, no token does
 colon_no_token : (w rest : List ℕ) → Many Wsp w → NoToken (w ++ (58 ∷ rest))
 colon_no_token w rest many = by (wsp_open w many)
   where
@@ -35,6 +37,7 @@ colon_no_token w rest many = by (wsp_open w many)
     by (inl none) = subst (λ t. NoToken (t ++ (58 ∷ rest))) (sym none) refl
     by (inr o) = open_no_token w (58 ∷ rest) o
 
+-- where blanks come before a colon and the text begins with a colon, there are no blanks
 colon_front : (w x y : List ℕ) → Many Wsp w → w ++ (58 ∷ x) ≡ 58 ∷ y → x ≡ y
 colon_front w x y many same = by (wsp_open w many)
   where
@@ -44,12 +47,13 @@ colon_front w x y many same = by (wsp_open w many)
         let e : o.first ∷ (o.rest ++ (58 ∷ x)) ≡ 58 ∷ y = ap (λ t. t ++ (58 ∷ x)) (sym o.is) ∙ same in
         let first : o.first ≡ 58 = cc in absurd (not_colon (subst Opens first o.opens))
 
--- The field is spelled with this word, and the branch is found after its colon.
+-- the field is spelled with this word and a colon, and the branch is found in what comes after the colon
 pub record Spelled (word field b : List ℕ) : Type 0 where
   pub rest : List ℕ
   pub is : field ≡ word ++ (58 ∷ rest)
   pub found : branch_in (from_stop rest) ≡ Some b
 
+-- a field with a plain branch is spelled "Via:" or "v:"
 via_spelled : (field b : List ℕ) → via_branch field ≡ Some b → Spelled (codes "Via") field b ⊎ Spelled (codes "v") field b
 via_spelled field b found = by (starts_with nat_eq field (codes "Via:")) (starts_with nat_eq field (codes "v:")) refl refl found
   where
@@ -59,11 +63,12 @@ via_spelled field b found = by (starts_with nat_eq field (codes "Via:")) (starts
     by false true is other f = inr (record { rest = drop 2 field; is = starts_is field (codes "v:") other; found = f })
     by false false is other f = absurd (cc)
 
--- What is found in a field.
+-- the field is a Via, and the first element of its value has the branch b
 pub record Found (b : List ℕ) (f : SaidField) : Type 0 where
   pub named : f.name ≡ codes "via"
   pub first : (via : SaidVia) (vias : List SaidVia) → ViasSay (via ∷ vias) f.value → via.branch ≡ Some b
 
+-- a field that is spelled with a word for Via is a Via, and the branch that is found after its colon is that of its first element
 word_found : (n : ℕ) (word line rest b : List ℕ) (f : SaidField) → Token word → full_name (folded word) ≡ codes "via" → FieldSays n line (gives f) → Spelled word (line ++ (13 ∷ rest)) b → Found b f
 word_found number word line rest b f token full (passes named (n, r, (is_token, n_is), (w, r2, wsp, (c, v, c_is, v_is, r2_is), r_is), line_is) (passes value ((trimmed, whole), row) given)) spelled =
     let flat : line ++ (13 ∷ rest) ≡ n ++ (w ++ (58 ∷ (v ++ (13 ∷ rest)))) =
@@ -84,6 +89,7 @@ word_found number word line rest b f token full (stopped fault stops_at e) spell
 token_of : (x : ℕ) (u : List ℕ) → is_token_byte x ≡ true → Many (One is_token_byte) u → Token (x ∷ u)
 token_of x u is many = (x ∷ [], u, (x, is, refl), many, refl)
 
+-- a field in whose line a plain branch is found is a Via, and the branch is that of its first element
 field_found : (n : ℕ) (line rest b : List ℕ) (f : SaidField) → FieldSays n line (gives f) → via_branch (line ++ (13 ∷ rest)) ≡ Some b → Found b f
 field_found n line rest b f says found = by (via_spelled (line ++ (13 ∷ rest)) b found)
   where
@@ -97,17 +103,17 @@ field_found n line rest b f says found = by (via_spelled (line ++ (13 ∷ rest))
     by (inl spelled) = word_found n (codes "Via") line rest b f full_word refl says spelled
     by (inr spelled) = word_found n (codes "v") line rest b f short_word refl says spelled
 
--- The first value of Via is that of a field of this name.
+-- The first value of Via is that of the first field, where this is named Via.
 first_value : (f : SaidField) (fs : List SaidField) → f.name ≡ codes "via" → said_values "via" (f ∷ fs) ≡ f.value ∷ said_values "via" fs
 first_value f fs named =
     ap (λ t. map (λ (found : ℕ × List ℕ). found.1) (map (λ g. (g.line, g.value)) (if bytes_eq t (codes "via") then f ∷ filter (λ g. bytes_eq g.name (codes "via")) fs else filter (λ g. bytes_eq g.name (codes "via")) fs))) named
 
--- without a first field named Via, the values are those of the fields after it
+-- where the first field is not named Via, the values of Via are those of the fields after it
 later_value : (f : SaidField) (fs : List SaidField) → bytes_eq f.name (codes "via") ≡ false → said_values "via" (f ∷ fs) ≡ said_values "via" fs
 later_value f fs other =
     ap (λ is. map (λ (found : ℕ × List ℕ). found.1) (map (λ g. (g.line, g.value)) (if is then f ∷ filter (λ g. bytes_eq g.name (codes "via")) fs else filter (λ g. bytes_eq g.name (codes "via")) fs))) other
 
--- A line that begins otherwise is a field of another name.
+-- a name that is neither "v" nor "via" is not Via in its full form either
 other_name : (name : List ℕ) → bytes_eq name (codes "v") ≡ false → bytes_eq name (codes "via") ≡ false → bytes_eq (full_name name) (codes "via") ≡ false
 other_name name compact full = by (bytes_eq name (codes "v")) (bytes_eq name (codes "f")) (bytes_eq name (codes "t")) (bytes_eq name (codes "i")) (bytes_eq name (codes "l")) compact
   where
@@ -120,6 +126,7 @@ other_name name compact full = by (bytes_eq name (codes "v")) (bytes_eq name (co
     by false false false false true is = refl
     by false false false false false is = full
 
+-- a byte that is no v in either case has no v as its lower case
 lower_v : (x : ℕ) → is_among "vV" x ≡ false → nat_eq (to_ascii_lowercase x) 118 ≡ false
 lower_v x other = false_from_ne_true (nat_eq (to_ascii_lowercase x) 118) (λ is. by (nat_lt x 65) (nat_lt x 91) (eqb-true (to_ascii_lowercase x) 118 is))
   where
@@ -128,6 +135,7 @@ lower_v x other = false_from_ne_true (nat_eq (to_ascii_lowercase x) 118) (λ is.
     by false true e = let up : x ≡ 86 = omega (arith, e) in let f : true ≡ false = ap (is_among "vV") (sym up) ∙ other in absurd (cc)
     by false false e = let f : true ≡ false = ap (is_among "vV") (sym e) ∙ other in absurd (cc)
 
+-- a name at the front of a line that does not begin as a Via is not that of Via
 named_other : (name rest : List ℕ) → Token name → opens_via (name ++ rest) ≡ false → bytes_eq (full_name (folded name)) (codes "via") ≡ false
 named_other name rest (u, us, (x, is, one), others, whole) opens =
     let flat : name ≡ x ∷ us = whole ∙ ap (λ t. t ++ us) one in
@@ -135,6 +143,7 @@ named_other name rest (u, us, (x, is, one), others, whole) opens =
     subst (λ t. bytes_eq (full_name (folded t)) (codes "via") ≡ false) (sym flat)
     (other_name (folded (x ∷ us)) (ap (λ same. same && bytes_eq (folded us) []) first) (ap (λ same. same && bytes_eq (folded us) (codes "ia")) first))
 
+-- the field of a line that does not begin as a Via is not named Via
 other_field : (n : ℕ) (line rest : List ℕ) (f : SaidField) → FieldSays n line (gives f) → opens_via (line ++ rest) ≡ false → bytes_eq f.name (codes "via") ≡ false
 other_field number line rest f (passes named (n, r, (is_token, n_is), more, line_is) (passes value is given)) opens =
     let field : f ≡ record { line = number; spelled = named.0; name = full_name (folded (named.0)); value = value } = cc in
@@ -144,6 +153,7 @@ other_field number line rest f (passes named (n, r, (is_token, n_is), more, line
 other_field number line rest f (passes named is (stopped fault stops_at e)) opens = absurd (cc)
 other_field number line rest f (stopped fault stops_at e) opens = absurd (cc)
 
+-- where the first value of Via has the branch b in its first element, the top Via has it
 top_found : (b value : List ℕ) (values : List (List ℕ)) (via : SaidVia) (others : List SaidVia) → ((v : SaidVia) (vias : List SaidVia) → ViasSay (v ∷ vias) value → v.branch ≡ Some b)
     → ViasTell (value ∷ values) (via ∷ others) → via.branch ≡ Some b
 top_found b value values via others first ([], more, says, later, same) = absurd says
@@ -162,7 +172,7 @@ ended_one line more = append_assoc line (codes "\r\n") (Ended more)
 passed : (line : List ℕ) (more : List (List ℕ)) → Many Unit (Ended (line ∷ more)) → Folded line → Passed line (Ended more)
 passed line more (us, all, whole) folded = pass_line us line (Ended more) all (sym whole ∙ ended_one line more) folded
 
--- a line of the head and its field: the branch is found in it, or in what stands after it
+-- where a branch is found from a line of the head on, it is the top Via's, if it is the top Via's wherever it is found after that line
 line_found : (n : ℕ) (line rest b : List ℕ) (more : List (List ℕ)) (f : SaidField) (fs : List SaidField) (via : SaidVia) (vias : List SaidVia) → FieldSays n line (gives f) → Passed line (Ended more)
     → branch_at (line_from (line ++ (13 ∷ (10 ∷ (Ended more ++ (13 ∷ rest)))))) ≡ Some b → ViasTell (said_values "via" (f ∷ fs)) (via ∷ vias)
     → (branch_at (line_from (Ended more ++ (13 ∷ rest))) ≡ Some b → ViasTell (said_values "via" fs) (via ∷ vias) → via.branch ≡ Some b) → via.branch ≡ Some b
@@ -181,7 +191,7 @@ line_found n line rest b more f fs via vias says passed found tells on = by (ope
     by false is at =
         on (sym (ap branch_at (passed.over tail)) ∙ at) (subst (λ vs. ViasTell vs (via ∷ vias)) (later_value f fs (other_field n line (13 ∷ (10 ∷ tail)) f says is)) tells)
 
--- the fields of the lines, of which the first that begins as a Via does is that in which the branch is found
+-- where a branch is found from the first of these lines on, it is the branch of the first Via of their fields
 lines_found : (n : ℕ) (others : List (List ℕ)) (rest b : List ℕ) (fields : List SaidField) (via : SaidVia) (vias : List SaidVia) → Many Unit (Ended others) → AllByRecursion Folded others → FieldsSay n others (gives fields)
     → branch_at (line_from (Ended others ++ (13 ∷ rest))) ≡ Some b → ViasTell (said_values "via" fields) (via ∷ vias) → via.branch ≡ Some b
 lines_found n [] rest b fields via vias clean folds says found tells =
@@ -195,7 +205,7 @@ lines_found n (line ∷ more) rest b fields via vias clean (fold, folds) (passes
 lines_found n (line ∷ more) rest b fields via vias clean folds (passes f f_is (stopped fault stops_at e)) found tells = absurd (cc)
 lines_found n (line ∷ more) rest b fields via vias clean folds (stopped fault stops_at e) found tells = absurd (cc)
 
--- the start line and the fields, and what stands after the head
+-- where a branch is found in the bytes of a start line, fields and what comes after the head, it is that of the top Via
 told_found : (bytes rest first : List ℕ) (others : List (List ℕ)) (b : List ℕ) (told : StartLine × List SaidField × List ℕ) (s : Said) → Many Unit (Ended (first ∷ others)) → AllByRecursion Folded (first ∷ others)
     → bytes ≡ Ended (first ∷ others) ++ (13 ∷ rest) → (behind : List ℕ) → LinesTell behind first others (gives told)
     → led_branch bytes ≡ Some b → FieldsTell (told.0) (told.1) s → s.via.branch ≡ Some b
@@ -211,6 +221,7 @@ told_found bytes rest first others b told s clean folds whole behind (passes sta
 told_found bytes rest first others b told s clean folds whole behind (passes start starts (stopped fault stops_at e)) found tell = absurd (cc)
 told_found bytes rest first others b told s clean folds whole behind (stopped fault stops_at e) found tell = absurd (cc)
 
+-- where a branch is found in bytes that tell a message, it is that of the top Via
 bytes_found : (bytes b : List ℕ) (told : StartLine × List SaidField × List ℕ) (s : Said) → BytesTell bytes (gives told) → led_branch bytes ≡ Some b → FieldsTell (told.0) (told.1) s → s.via.branch ≡ Some b
 bytes_found bytes b told s (passes cut cut_is (passes clean is_clean (first, others, lines, tells))) found tell =
     let rest = 10 ∷ (cut.1) in

@@ -1,4 +1,4 @@
--- The first line that begins as a Via does: from one line to the next.
+-- The search for the first line that begins as a Via does goes on from one line to the next.
 use Rattle.std.proofs.Common.{◌≡◌, ◌∙◌, ℕ, ◌+◌, ◌<◌, length, drop, List, [], ◌∷◌, ◌++◌, Bool, true, false, Option, Some, None, ◌&&◌, ◌||◌, not, nat_eq, if◌then◌else◌, refl, sym, ap, inl, inr, append_assoc, arith}
 use Rattle.std.proofs.lemmas.Bool.{eqb-true}
 use Rattle.std.specs.Prelude.{codes, ◌==◌}
@@ -12,16 +12,16 @@ use Rattle.sip_text.proofs.cuts.CutLemmas.{before-first, before-nowhere}
 use Rattle.memchr.specs.Find.{Nowhere, Passes, is_byte}
 use Rattle.sip_part.specs.Led.{opens_via, via_line}
 
--- what is found from the line at the front on
+-- the text from the first line that begins as a Via does, where the text's own front is such a line too
 abbrev pub line_from : List ℕ → Option (List ℕ)
 line_from text = if opens_via text then Some text else via_line text
 
--- what is found from this line on, where there is one
+-- the search from a line on, where there is a line
 abbrev pub found_in : Option (List ℕ) → Option (List ℕ)
 found_in None = None
 found_in (Some text) = line_from text
 
--- it is found after the first LF
+-- the search after the first line is the search from the text after the first LF on
 pub after_end : (text : List ℕ) → via_line text ≡ found_in (behind line_feed text)
 after_end [] = refl
 after_end (b ∷ text) = by (nat_eq b line_feed) (after_end text)
@@ -30,22 +30,23 @@ after_end (b ∷ text) = by (nat_eq b line_feed) (after_end text)
     by true on = refl
     by false on = on
 
--- where a LF stands, it is found from the line after the first one on
+-- where the first LF stands at the place k, the search after the first line is the search from the place after it on
 pub next_line : (k : ℕ) (text : List ℕ) → k < length text → Nowhere (Passes (is_byte 10) text) 0 k → Passes (is_byte 10) text k → via_line text ≡ line_from (drop (k + 1) text)
 next_line k text within none is = after_end text ∙ ap found_in ((before-first 10 k text within none is).1)
 
--- where no LF stands, nothing is found
+-- where the text has no LF, the search finds nothing
 pub no_line : (text : List ℕ) → Nowhere (Passes (is_byte 10) text) 0 (length text) → via_line text ≡ None
 no_line text none = after_end text ∙ ap found_in ((before-nowhere 10 text none).1)
 
--- The head of a message is clean: it has no CR without LF, and no LF without CR.
+-- the clean head of a message is made of such units: a CRLF, or a byte that is neither CR nor LF
 abbrev pub Unit : List ℕ → Type 0
 Unit = Lit "\r\n" or One (λ byte. not (byte == 0x0D) && not (byte == 0x0A))
 
--- a line is cut at no CRLF before a blank
+-- the line is folded: each CRLF in it is followed by a blank
 abbrev pub Folded : List ℕ → Type 0
 Folded line = (u v : List ℕ) → line ≡ u ++ (codes "\r\n" ++ v) → OpensBlank v
 
+-- a text that opens with a blank does not begin as a Via does
 blank_no_via : (text rest : List ℕ) → OpensBlank text → opens_via (text ++ rest) ≡ false
 blank_no_via [] rest blank = absurd blank
 blank_no_via (b ∷ text) rest blank = by (nat_eq b 32) (nat_eq b 9) refl refl blank
@@ -58,15 +59,16 @@ blank_no_via (b ∷ text) rest blank = by (nat_eq b 32) (nat_eq b 9) refl refl b
 folded_rest : (front line : List ℕ) → Folded (front ++ line) → Folded line
 folded_rest front line folded u v is = folded (front ++ u) v (ap (λ t. front ++ t) is ∙ sym (append_assoc front u (codes "\r\n" ++ v)))
 
--- A line of a clean head is passed over, and what stands after it is clean.
+-- the search passes over the line with its CRLF, and what comes after it is clean
 pub record Passed (line more : List ℕ) : Type 0 where
   pub over : (tail : List ℕ) → via_line (line ++ (13 ∷ (10 ∷ tail))) ≡ line_from tail
   pub clean : Many Unit more
 
--- the steps of it, over what is left after them
+-- whatever line the units give up to its CRLF, the search passes over it
 abbrev OnFrom : List (List ℕ) → List ℕ → Type 0
 OnFrom us more = (line : List ℕ) → concat us ≡ line ++ (13 ∷ (10 ∷ more)) → Folded line → Passed line more
 
+-- a line that begins with a CRLF is passed over where what comes after it is
 pass_end : (us : List (List ℕ)) (line more : List ℕ) → AllByRecursion Unit us → 13 ∷ (10 ∷ concat us) ≡ line ++ (13 ∷ (10 ∷ more)) → Folded line → OnFrom us more → Passed line more
 pass_end us [] more all same folded on = let rest : concat us ≡ more = cc in record { over = λ tail. refl; clean = (us, all, sym rest) }
 pass_end us (x ∷ []) more all same folded on = let odd : ◌≡◌ {A = ℕ} 10 13 = cc in absurd (omega (arith, odd))
@@ -81,6 +83,7 @@ pass_end us (x ∷ y ∷ line) more all same folded on =
       clean = later.clean;
     }
 
+-- a byte that is neither CR nor LF is no LF
 no_end : (b : ℕ) → (not (nat_eq b 13) && not (nat_eq b 10)) ≡ true → nat_eq b 10 ≡ false
 no_end b plain = by (nat_eq b 13) (nat_eq b 10) plain
   where
@@ -89,6 +92,7 @@ no_end b plain = by (nat_eq b 13) (nat_eq b 10) plain
     by false true is = absurd (cc)
     by false false is = refl
 
+-- a line that begins with a byte that is neither CR nor LF is passed over where what comes after it is
 pass_byte : (b : ℕ) (us : List (List ℕ)) (line more : List ℕ) → (not (nat_eq b 13) && not (nat_eq b 10)) ≡ true → b ∷ concat us ≡ line ++ (13 ∷ (10 ∷ more)) → Folded line → OnFrom us more → Passed line more
 pass_byte b us [] more plain same folded on =
     let odd : b ≡ 13 = cc in let e : false ≡ true = ap (λ x. not (nat_eq x 13) && not (nat_eq x 10)) (sym odd) ∙ plain in absurd (cc)
@@ -101,7 +105,7 @@ pass_byte b us (x ∷ line) more plain same folded on =
       clean = later.clean;
     }
 
--- a line of clean bytes is passed with its CRLF
+-- the search passes over each folded line of a clean head
 pub pass_line : (us : List (List ℕ)) (line more : List ℕ) → AllByRecursion Unit us → concat us ≡ line ++ (13 ∷ (10 ∷ more)) → Folded line → Passed line more
 pass_line [] [] more all is folded = absurd (cc)
 pass_line [] (x ∷ line) more all is folded = absurd (cc)

@@ -22,20 +22,20 @@ use Rattle.sip_part.specs.Led.{branch_in, from_stop, is_end, opens_other, token_
 use Rattle.sip_part.proofs.Stops.{no_stop}
 use Rattle.sip_part.proofs.Tokens.{token_none, token_run, token_whole, same_run}
 
--- Blanks.
+-- What follows is of blanks.
 
--- the byte may begin blanks
+-- the byte may begin blanks: SP, HTAB or CR
 abbrev pub Opens : ℕ → Type 0
 Opens x = (x ≡ 32) ⊎ ((x ≡ 9) ⊎ (x ≡ 13))
 
--- blanks are none, or begin with a blank or a CR
+-- the text begins with a byte that may begin blanks
 pub record Open (u : List ℕ) : Type 0 where
   pub first : ℕ
   pub rest : List ℕ
   pub is : u ≡ first ∷ rest
   pub opens : Opens first
 
--- SP and HTAB may begin blanks
+-- a blank may begin blanks
 pub wsp_opens : (b : ℕ) → is_wsp b ≡ true → Opens b
 wsp_opens b is = by (nat_eq b 32) (nat_eq b 9) refl refl is
   where
@@ -44,12 +44,14 @@ wsp_opens b is = by (nat_eq b 32) (nat_eq b 9) refl refl is
     by false true one two is = inr (inl (eqb-true b 9 two))
     by false false one two is = absurd (cc)
 
+-- blanks of one or more begin with a byte that may begin blanks
 blank_open : (u rest : List ℕ) → Blank u → Open (u ++ rest)
 blank_open u rest (front, b, inl none, one, whole) =
     record { first = one.0; rest = rest; is = ap (λ t. t ++ rest) (whole ∙ ap (λ t. t ++ b) none ∙ one.2); opens = wsp_opens one.0 one.1 }
 blank_open u rest (front, b, inr fold, one, whole) =
     record { first = 13; rest = 10 ∷ (b ++ rest); is = ap (λ t. t ++ rest) (whole ∙ ap (λ t. t ++ b) fold); opens = inr (inr refl) }
 
+-- blanks are none, or begin with a byte that may begin blanks
 sws_open : (u : List ℕ) → Sws u → (u ≡ []) ⊎ Open u
 sws_open u (inl none) = inl none
 sws_open u (inr blanks) = by (units-blanks u blanks)
@@ -58,11 +60,11 @@ sws_open u (inr blanks) = by (units-blanks u blanks)
     by ([], all, whole) = inl whole
     by (v ∷ vs, all, whole) = let o = blank_open v _ all.0 in inr (record { first = o.first; rest = o.rest; is = whole ∙ o.is; opens = o.opens })
 
--- no token stands at the front
+-- no token stands at the front of the text
 abbrev pub NoToken : List ℕ → Type 0
 NoToken text = prefix_len is_token_byte text ≡ 0
 
--- where blanks stand no token does
+-- where blanks stand at the front, no token does
 pub open_no_token : (u rest : List ℕ) → Open u → NoToken (u ++ rest)
 open_no_token u rest o = by o.opens
   where
@@ -71,6 +73,7 @@ open_no_token u rest o = by o.opens
     by (inr (inl is)) = ap (λ t. prefix_len is_token_byte (t ++ rest)) (o.is ∙ ap (λ x. x ∷ o.rest) is)
     by (inr (inr is)) = ap (λ t. prefix_len is_token_byte (t ++ rest)) (o.is ∙ ap (λ x. x ∷ o.rest) is)
 
+-- no token stands at the front of blanks before a text at whose front none stands
 sws_no_token : (u rest : List ℕ) → Sws u → NoToken rest → NoToken (u ++ rest)
 sws_no_token u rest sws ends = by (sws_open u sws)
   where
@@ -78,7 +81,7 @@ sws_no_token u rest sws ends = by (sws_open u sws)
     by (inl none) = subst (λ t. NoToken (t ++ rest)) (sym none) ends
     by (inr o) = open_no_token u rest o
 
--- blanks have no semicolon
+-- a blank is no semicolon
 lack-wsp : AllLack semicolon Wsp
 lack-wsp = lack-one semicolon _ refl
 
@@ -106,7 +109,7 @@ lack-equal = lack-then semicolon _ _ lack-sws (lack-then semicolon _ _ (lack-exa
 foreign : IsForeign semicolon
 foreign = record { label = refl; alphanumeric = refl; alphabetic = refl; hexdigit = refl; digit = refl; of_colon = refl; of_dot = refl; of_left = refl; of_right = refl }
 
--- the front of a text without one has none
+-- the front of a text without a semicolon has none
 lacks-front : (u v : List ℕ) → Lacks semicolon (u ++ v) → Lacks semicolon u
 lacks-front [] v lacks = tt
 lacks-front (b ∷ u) v (other, lacks) = (other, lacks-front u v lacks)
@@ -114,22 +117,24 @@ lacks-front (b ∷ u) v (other, lacks) = (other, lacks-front u v lacks)
 lack-a-host : AllLack semicolon Host
 lack-a-host u host = let parts = host-parts u host in subst (Lacks semicolon) (sym parts.2) (lack-host semicolon _ parts.0 foreign parts.1)
 
--- A text without a semicolon is passed over, or the search ends in it.
+-- What follows shows that the search passes over a text without a semicolon, or ends in it.
 
+-- where a byte is no semicolon and the search finds a branch, the search found it after the byte
 on_without : (ends semi : Bool) (here on : Option (List ℕ)) (b : List ℕ) → semi ≡ false → (if ends then None else if semi then here else on) ≡ Some b → on ≡ Some b
 on_without true semi here on b is found = absurd (cc)
 on_without false true here on b is found = absurd (cc)
 on_without false false here on b is found = found
 
+-- a branch that is found from a text without a semicolon on is found after that text
 passed : (u rest : List ℕ) (b : List ℕ) → Lacks semicolon u → branch_in (u ++ rest) ≡ Some b → branch_in rest ≡ Some b
 passed [] rest b lacks found = found
 passed (x ∷ u) rest b (other, lacks) found = passed u rest b lacks (on_without (is_end x) (nat_eq x semicolon) _ (branch_in (u ++ rest)) b other found)
 
--- the search goes on after the first of two texts, if that has no semicolon
+-- where u has no semicolon, a branch that is found from u and v on is found from v on
 step : (u v text tail : List ℕ) (b : List ℕ) → Lacks semicolon u → text ≡ u ++ v → branch_in (text ++ tail) ≡ Some b → branch_in (v ++ tail) ≡ Some b
 step u v text tail b lacks whole found = passed u (v ++ tail) b lacks (subst (λ t. branch_in t ≡ Some b) (ap (λ t. t ++ tail) whole ∙ append_assoc u v tail) found)
 
--- A search for a branch: it passes over a text without a semicolon, or ends in it, and it ends at a comma and at a CR.
+-- the search `find` is one for the branch b: it passes over a text without a semicolon, or ends in it, and it ends at a comma and at a CR
 record Search (find : List ℕ → Option (List ℕ)) (b : List ℕ) : Type 0 where
   pass : (u rest : List ℕ) → Lacks semicolon u → find (u ++ rest) ≡ Some b → find rest ≡ Some b
   at_semicolon : (t : List ℕ) → find (59 ∷ t) ≡ branch_in (59 ∷ t)
@@ -139,10 +144,11 @@ record Search (find : List ℕ → Option (List ℕ)) (b : List ℕ) : Type 0 wh
 among : (b : List ℕ) → Search branch_in b
 among b = record { pass = λ u rest. passed u rest b; at_semicolon = λ t. refl; at_comma = λ t. refl; at_cr = λ t. refl }
 
--- the search from the first comma, semicolon or CR on is one
+-- the branch that is found from the first comma, semicolon or CR on
 abbrev branch_from : List ℕ → Option (List ℕ)
 branch_from text = branch_in (from_stop text)
 
+-- the search from the first comma, semicolon or CR on passes over a text without a semicolon
 passed_from : (u rest : List ℕ) (b : List ℕ) → Lacks semicolon u → branch_from (u ++ rest) ≡ Some b → branch_from rest ≡ Some b
 passed_from [] rest b lacks found = found
 passed_from (x ∷ u) rest b (other, lacks) found = passed_from u rest b lacks (by (nat_eq x 44) (nat_eq x 13) refl refl)
@@ -155,8 +161,9 @@ passed_from (x ∷ u) rest b (other, lacks) found = passed_from u rest b lacks (
 from_first : (b : List ℕ) → Search branch_from b
 from_first b = record { pass = λ u rest. passed_from u rest b; at_semicolon = λ t. refl; at_comma = λ t. refl; at_cr = λ t. refl }
 
--- A mark, with the blanks at its sides.
+-- What follows is of a mark, as "=" is one, with blanks at its sides.
 
+-- the text m is the byte c with blanks before it and after it
 record Led (c : ℕ) (m : List ℕ) : Type 0 where
   before : List ℕ
   after : List ℕ
@@ -168,7 +175,7 @@ mark_led : (char : String) (c : ℕ) (m : List ℕ) → codes char ≡ c ∷ [] 
 mark_led char c m one (s1, r, sws1, (e, s2, e_is, sws2, r_is), m_is) =
     record { before = s1; after = s2; is = m_is ∙ ap (λ t. s1 ++ t) (r_is ∙ ap (λ t. t ++ s2) (e_is ∙ one)); blanks = sws1; more = sws2 }
 
--- the text with what follows it
+-- a mark with blanks and the text after it is the blanks, the byte, and all that comes after it
 led_rest : (c : ℕ) (m rest : List ℕ) (l : Led c m) → m ++ rest ≡ l.before ++ (c ∷ (l.after ++ rest))
 led_rest c m rest l = ap (λ t. t ++ rest) l.is ∙ append_assoc l.before (c ∷ l.after) rest
 
@@ -176,7 +183,7 @@ led_no_token : (c : ℕ) (m rest : List ℕ) → is_token_byte c ≡ false → L
 led_no_token c m rest other l =
     subst NoToken (sym (led_rest c m rest l)) (sws_no_token l.before (c ∷ (l.after ++ rest)) l.blanks (ap (λ b. cond b (1 + prefix_len is_token_byte (l.after ++ rest)) 0) other))
 
--- where the mark stands right at the front of a text, no blanks are before it
+-- where a text with blanks before the byte c begins with c, there are no blanks before it
 pub at_front : (c : ℕ) (before x y : List ℕ) → Sws before → (Opens c → ⊥) → before ++ (c ∷ x) ≡ c ∷ y → x ≡ y
 at_front c before x y sws not_blank same = by (sws_open before sws)
   where
@@ -186,26 +193,29 @@ at_front c before x y sws not_blank same = by (sws_open before sws)
         let e : o.first ∷ (o.rest ++ (c ∷ x)) ≡ c ∷ y = ap (λ t. t ++ (c ∷ x)) (sym o.is) ∙ same in
         let first : o.first ≡ c = cc in absurd (not_blank (subst Opens first o.opens))
 
+-- an equal sign may not begin blanks
 not_equal : Opens 61 → ⊥
 not_equal (inl is) = omega (arith, is)
 not_equal (inr (inl is)) = omega (arith, is)
 not_equal (inr (inr is)) = omega (arith, is)
 
--- a colon begins no blanks
+-- a colon may not begin blanks
 pub not_colon : Opens 58 → ⊥
 not_colon (inl is) = omega (arith, is)
 not_colon (inr (inl is)) = omega (arith, is)
 not_colon (inr (inr is)) = omega (arith, is)
 
--- What the search makes of a parameter.
+-- What follows is of what the search makes of a parameter.
 
--- a text that starts with another one is that one and what comes after it
+-- a text that starts with a needle is the needle and what comes after it
 pub starts_is : (t needle : List ℕ) → starts_with nat_eq t needle ≡ true → t ≡ needle ++ drop (length needle) t
 starts_is t needle is = sym (take-append-drop (length needle) t) ∙ ap (λ u. u ++ drop (length needle) t) (sym (same_text needle (take (length needle) t) (sym is)))
 
+-- the search finds b from the front of a parameter on: after "branch=", or further on where the parameter does not open as a branch may
 abbrev Seen : List ℕ → List ℕ → Type 0
 Seen b t = ((t ≡ codes "branch" ++ (61 ∷ drop 7 t)) × (token_at (drop 7 t) ≡ Some b)) ⊎ ((opens_other t ≡ false) × (branch_in t ≡ Some b))
 
+-- where b is found from a semicolon on, it is found from the parameter after it on
 param_seen : (t b : List ℕ) → branch_in (semicolon ∷ t) ≡ Some b → Seen b t
 param_seen t b found = by (starts_with nat_eq t (codes "branch=")) (opens_other t) refl refl found
   where
@@ -214,6 +224,7 @@ param_seen t b found = by (starts_with nat_eq t (codes "branch=")) (opens_other 
     by false true is other f = absurd (cc)
     by false false is other f = inr (other, f)
 
+-- a byte whose lower case is b is b or B
 lower_b : (x : ℕ) → to_ascii_lowercase x ≡ 98 → is_among " \tbB" x ≡ true
 lower_b x is = by (nat_lt x 65) (nat_lt x 91) is
   where
@@ -222,12 +233,12 @@ lower_b x is = by (nat_lt x 65) (nat_lt x 91) is
     by false true e = let up : x ≡ 66 = omega (arith, e) in ap (is_among " \tbB") up
     by false false e = ap (is_among " \tbB") e
 
--- a branch that is spelled otherwise opens so
+-- a parameter with the name branch, in any case, opens as a branch may
 named_opens : (name rest : List ℕ) → AnyCase "branch" name → opens_other (name ++ rest) ≡ true
 named_opens [] rest any = absurd (cc)
 named_opens (x ∷ name) rest any = let e : to_ascii_lowercase x ∷ folded name ≡ codes "branch" = any in let first : to_ascii_lowercase x ≡ 98 = cc in lower_b x first
 
--- blanks are not passed over
+-- where the token at the front of blanks, a value and a text without a token is b, the value is b
 token_after : (after value rest b : List ℕ) → Sws after → Token value → NoToken rest → token_at (after ++ (value ++ rest)) ≡ Some b → value ≡ b
 token_after after value rest b sws token ends found = by (sws_open after sws)
   where
@@ -236,7 +247,7 @@ token_after after value rest b sws token ends found = by (sws_open after sws)
         let e : Some value ≡ Some b = sym (token_whole value rest token ends) ∙ sym (ap (λ t. token_at (t ++ (value ++ rest))) none) ∙ found in cc
     by (inr o) = let e : None ≡ Some b = sym (token_none (after ++ (value ++ rest)) (open_no_token after (value ++ rest) o)) ∙ found in absurd (cc)
 
--- a branch is the one that is found
+-- where b is found from a parameter with the name branch on, its value is b
 branch_seen : (name m value rest b : List ℕ) → Token name → AnyCase "branch" name → Mark "=" m → Token value → NoToken rest → Seen b (name ++ (m ++ (value ++ rest))) → value ≡ b
 branch_seen name m value rest b token any mark is_token ends (inl (is, found)) =
     let t = name ++ (m ++ (value ++ rest)) in
@@ -251,21 +262,24 @@ quote_ends : (v rest b : List ℕ) → Quoted v → branch_in (v ++ rest) ≡ So
 quote_ends v rest b (q, r, q_is, more, whole) found =
     let e : None ≡ Some b = ap (λ t. branch_in (t ++ rest)) (sym (whole ∙ ap (λ t. t ++ r) q_is)) ∙ found in absurd (cc)
 
+-- an IPv6 address has no semicolon
 lack-ipv6 : AllLack semicolon Ipv6
 lack-ipv6 u is =
     let r : Host (91 ∷ (u ++ 93 ∷ [])) = inr (inr (91 ∷ [], u ++ 93 ∷ [], refl, (u, 93 ∷ [], is, refl, refl), refl)) in
     lacks-front u (93 ∷ []) (lack-a-host (91 ∷ (u ++ 93 ∷ [])) r).1
 
+-- a branch that is found from a parameter's value on is found after the value
 value_passed : (v rest b : List ℕ) → GenValue v → branch_in (v ++ rest) ≡ Some b → branch_in rest ≡ Some b
 value_passed v rest b (inl is) found = passed v rest b (lack-token v is) found
 value_passed v rest b (inr (inl is)) found = absurd (quote_ends v rest b is found)
 value_passed v rest b (inr (inr (inl is))) found = passed v rest b (lack-ipv6 v is) found
 value_passed v rest b (inr (inr (inr is))) found = passed v rest b (lack-a-host v (inr (inr is))) found
 
--- what a parameter of another name has after it
+-- what a parameter of another name has after it: nothing, or an equal sign and a value
 abbrev Valued : List ℕ → Type 0
 Valued = Optional (Mark "=" then GenValue)
 
+-- no token stands where a parameter's name ends
 valued_no_token : (tail rest : List ℕ) → Valued tail → NoToken rest → NoToken (tail ++ rest)
 valued_no_token tail rest (inl none) ends = subst (λ t. NoToken (t ++ rest)) (sym none) ends
 valued_no_token tail rest (inr (m, v, mark, is, whole)) ends =
@@ -275,14 +289,14 @@ valued_passed : (tail rest b : List ℕ) → Valued tail → branch_in (tail ++ 
 valued_passed tail rest b (inl none) found = subst (λ t. branch_in (t ++ rest) ≡ Some b) none found
 valued_passed tail rest b (inr (m, v, mark, is, whole)) found = value_passed v rest b is (step m v tail rest b (lack-equal m mark) whole found)
 
--- a parameter of another name is passed over
+-- a branch that is found from a parameter of another name on is found after the parameter
 other_seen : (name tail rest b : List ℕ) → Token name → ¬ (AnyCase "branch" name) → Valued tail → NoToken rest → Seen b (name ++ (tail ++ rest)) → branch_in rest ≡ Some b
 other_seen name tail rest b token other valued ends (inl (is, found)) =
     let same = same_run name (codes "branch") (tail ++ rest) (61 ∷ drop 7 (name ++ (tail ++ rest))) (token_run name token) refl (valued_no_token tail rest valued ends) refl is in
     absurd (other (ap folded same.0))
 other_seen name tail rest b token other valued ends (inr (opens, found)) = valued_passed tail rest b valued (passed name (tail ++ rest) b (lack-token name token) found)
 
--- the search finds the branch of the parameter, or goes on after it
+-- where b is found from a parameter on, the parameter has the branch b, or it has none and b is found after it
 param_step : (p : Option (List ℕ)) (param rest b : List ℕ) → ParamSays p param → NoToken rest → Seen b (param ++ rest) → (p ≡ Some b) ⊎ ((p ≡ None) × (branch_in rest ≡ Some b))
 param_step (Some branch) param rest b (name, r, (token, any), (m, value, mark, (is_token, is), r_is), whole) ends seen =
     let flat : param ++ rest ≡ name ++ (m ++ (value ++ rest)) =
@@ -292,7 +306,7 @@ param_step None param rest b (name, tail, (token, other), valued, whole) ends se
     let flat : param ++ rest ≡ name ++ (tail ++ rest) = ap (λ t. t ++ rest) whole ∙ append_assoc name tail rest in
     inr (refl, other_seen name tail rest b token other valued ends (subst (Seen b) flat seen))
 
--- blanks after a semicolon end the search
+-- from blanks after a semicolon on nothing is found
 seen_open : (after x b : List ℕ) → Open after → Seen b (after ++ x) → ⊥
 seen_open after x b o seen = by o.opens
   where
@@ -319,6 +333,7 @@ seen_open after x b o seen = by o.opens
     by (inr (inl is)) = tab (here 9 is)
     by (inr (inr is)) = line (here 13 is)
 
+-- where b is found from blanks and a parameter on, there are no blanks, and b is found from the parameter on
 seen_after : (after x b : List ℕ) → Sws after → Seen b (after ++ x) → Seen b x
 seen_after after x b sws seen = by (sws_open after sws)
   where
@@ -326,11 +341,12 @@ seen_after after x b sws seen = by (sws_open after sws)
     by (inl none) = subst (λ t. Seen b (t ++ x)) none seen
     by (inr o) = absurd (seen_open after x b o seen)
 
--- Parameters, one after another.
+-- What follows is of parameters, one after another.
 
 abbrev Params : List (Option (List ℕ)) → List ℕ → Type 0
 Params params = EachSays (λ param. Mark ";" then ParamSays param) params
 
+-- no token stands at the front of parameters before a text at whose front none stands
 params_no_token : (params : List (Option (List ℕ))) (text tail : List ℕ) → Params params text → NoToken tail → NoToken (text ++ tail)
 params_no_token [] text tail is ends = subst (λ t. NoToken (t ++ tail)) (sym is) ends
 params_no_token (p ∷ ps) text tail (u, v, (m, param, mark, says, u_is), more, whole) ends =
@@ -341,6 +357,7 @@ first_more : (p : Option (List ℕ)) (ps : List (Option (List ℕ))) (b : List �
 first_more p ps b X (inl is) on = ap (λ q. first_some (q ∷ ps)) is
 first_more p ps b X (inr (is, x)) on = ap (λ q. first_some (q ∷ ps)) is ∙ on x
 
+-- where a search finds b from parameters on, and nothing after them, b is the first branch among the parameters
 params_found : (find : List ℕ → Option (List ℕ)) (params : List (Option (List ℕ))) (text tail b : List ℕ) → Search find b → NoToken tail → (find tail ≡ Some b → ⊥) → (branch_in tail ≡ Some b → ⊥) → Params params text
     → find (text ++ tail) ≡ Some b → first_some params ≡ Some b
 params_found find [] text tail b search ends none never is found = absurd (none (subst (λ t. find (t ++ tail) ≡ Some b) is found))
@@ -353,17 +370,19 @@ params_found find (p ∷ ps) text tail b search ends none never (u, v, (m, param
     let seen = seen_after l.after (param ++ rest) b l.more (param_seen (l.after ++ (param ++ rest)) b (sym (search.at_semicolon (l.after ++ (param ++ rest))) ∙ at)) in
     first_more p ps b (branch_in rest ≡ Some b) (param_step p param rest b says (params_no_token ps v tail more ends) seen) (λ f. params_found branch_in ps v tail b (among b) ends never never more f)
 
--- An element of Via, and those after it.
+-- What follows is of an element of Via, and of the elements after it.
 
+-- a port has no semicolon
 lack-port-says : (port : Option (List ℕ)) → AllLack semicolon (PortSays port)
 lack-port-says None u is = subst (Lacks semicolon) (sym is) tt
 lack-port-says (Some port) u (m, v, mark, (fits, same), whole) =
     subst (Lacks semicolon) (sym whole) (lacks-append semicolon m v (lack-colon m mark) (lack-between semicolon 1 5 _ (lack-one semicolon is_ascii_digit refl) v fits.0))
 
--- it goes on after the first of two texts
+-- where u has no semicolon, a branch that is found from the first stop of u and v on is found from that of v on
 step_from : (u v text tail : List ℕ) (b : List ℕ) → Lacks semicolon u → text ≡ u ++ v → branch_from (text ++ tail) ≡ Some b → branch_from (v ++ tail) ≡ Some b
 step_from u v text tail b lacks whole found = passed_from u (v ++ tail) b lacks (subst (λ t. branch_from t ≡ Some b) (ap (λ t. t ++ tail) whole ∙ append_assoc u v tail) found)
 
+-- where b is found in an element of Via, and nothing after it, b is the element's branch
 via_found : (via : SaidVia) (text tail b : List ℕ) → NoToken tail → (branch_from tail ≡ Some b → ⊥) → (branch_in tail ≡ Some b → ⊥) → ViaSays via text → branch_from (text ++ tail) ≡ Some b → via.branch ≡ Some b
 via_found via text tail b ends none never
     (params, is, same, (t1, r1, one, (t2, r2, two, (t3, r3, three, (t4, r4, four, (t5, r5, five, (t6, r6, six, (t7, r7, seven, (t8, r8, eight, each, e8), e7), e6), e5), e4), e3), e2), e1)) found =
@@ -380,13 +399,14 @@ via_found via text tail b ends none never
 abbrev More : List SaidVia → List ℕ → Type 0
 More vias = EachSays (λ v. Mark "," then ViaSays v) vias
 
+-- no token stands at the front of further elements before a text at whose front none stands
 more_no_token : (vias : List SaidVia) (text tail : List ℕ) → More vias text → NoToken tail → NoToken (text ++ tail)
 more_no_token [] text tail is ends = subst (λ t. NoToken (t ++ tail)) (sym is) ends
 more_no_token (via ∷ vias) text tail (u, v, (m, x, mark, says, u_is), more, whole) ends =
     let flat : text ++ tail ≡ m ++ (x ++ (v ++ tail)) = ap (λ t. t ++ tail) (whole ∙ ap (λ t. t ++ v) u_is) ∙ append_assoc (m ++ x) v tail ∙ append_assoc m x (v ++ tail) in
     subst NoToken (sym flat) (led_no_token 44 m (x ++ (v ++ tail)) refl (mark_led "," 44 m refl mark))
 
--- a search ends before a second element
+-- a search that finds nothing after further elements of Via finds nothing from their comma on
 more_ends : (find : List ℕ → Option (List ℕ)) (vias : List SaidVia) (text tail b : List ℕ) → Search find b → More vias text → (find tail ≡ Some b → ⊥) → find (text ++ tail) ≡ Some b → ⊥
 more_ends find [] text tail b search is none found = none (subst (λ t. find (t ++ tail) ≡ Some b) is found)
 more_ends find (via ∷ vias) text tail b search (u, v, (m, x, mark, says, u_is), more, whole) none found =
@@ -396,13 +416,14 @@ more_ends find (via ∷ vias) text tail b search (u, v, (m, x, mark, says, u_is)
     let at = search.pass l.before (44 ∷ (l.after ++ (x ++ (v ++ tail)))) (lack-sws l.before l.blanks) (subst (λ t. find t ≡ Some b) flat found) in
     let e : None ≡ Some b = sym (search.at_comma (l.after ++ (x ++ (v ++ tail)))) ∙ at in absurd (cc)
 
+-- where b is found in the elements of a Via, and nothing after them, b is the branch of the first element
 vias_found : (via : SaidVia) (vias : List SaidVia) (text tail b : List ℕ) → NoToken tail → (branch_from tail ≡ Some b → ⊥) → (branch_in tail ≡ Some b → ⊥) → ViasSay (via ∷ vias) text
     → branch_from (text ++ tail) ≡ Some b → via.branch ≡ Some b
 vias_found via vias text tail b ends none never (u, v, says, more, whole) found =
     via_found via u (v ++ tail) b (more_no_token vias v tail more ends) (more_ends branch_from vias v tail b (from_first b) more none) (more_ends branch_in vias v tail b (among b) more never) says
     (subst (λ t. branch_from t ≡ Some b) (ap (λ t. t ++ tail) whole ∙ append_assoc u v tail) found)
 
--- a search ends after the blanks at the end of a line
+-- a search finds nothing from the blanks at the end of a line on
 line_ends : (find : List ℕ → Option (List ℕ)) (s rest b : List ℕ) → Search find b → Sws s → find (s ++ (13 ∷ rest)) ≡ Some b → ⊥
 line_ends find s rest b search sws found = let e : None ≡ Some b = sym (search.at_cr rest) ∙ search.pass s (13 ∷ rest) (lack-sws s sws) found in absurd (cc)
 

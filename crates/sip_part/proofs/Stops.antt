@@ -1,11 +1,11 @@
--- Where what is passed over of the value of a Via stops.
+-- Where the search stops as it passes over the value of a Via.
 use Rattle.std.proofs.Common.{◌≡◌, ◌∙◌, ℕ, zero, suc, ◌<◌, Bool, true, false, ◌||◌, List, [], ◌∷◌, length, drop, nat_eq, if◌then◌else◌, refl, sym, ap, arith}
 use Rattle.std.proofs.lemmas.Bool.{false_from_ne_true, eqb-true, eq-eqb}
 use Rattle.memchr.specs.Find.{Nowhere, Passes, is_byte3}
 use Rattle.sip_standard.specs.Chars.{is_among}
 use Rattle.sip_part.specs.Led.{from_stop}
 
--- two numbers are compared either way round
+-- it is the same to compare a with b and b with a
 either_way : (a b : ℕ) → nat_eq a b ≡ nat_eq b a
 either_way a b = by (nat_eq a b) (nat_eq b a) refl refl
   where
@@ -15,7 +15,7 @@ either_way a b = by (nat_eq a b) (nat_eq b a) refl refl
     by true false is other = sym (eq-eqb b a (sym (eqb-true a b is))) ∙ other
     by false true is other = sym is ∙ eq-eqb a b (sym (eqb-true b a other))
 
--- it stops at the three bytes that are looked for
+-- the bytes among ",;\r" are the three bytes that the code looks for
 same_stops : (b : ℕ) → is_among ",;\r" b ≡ is_byte3 44 59 13 b
 same_stops b =
     ap (λ x. x || (nat_eq 59 b || (nat_eq 13 b || false))) (either_way 44 b) ∙ ap (λ y. nat_eq b 44 || (y || (nat_eq 13 b || false))) (either_way 59 b)
@@ -31,7 +31,7 @@ same_stops b =
 pub no_stop : (b : ℕ) → nat_eq b 44 ≡ false → nat_eq b 59 ≡ false → nat_eq b 13 ≡ false → is_among ",;\r" b ≡ false
 no_stop b one two three = same_stops b ∙ ap (λ x. (x || nat_eq b 59) || nat_eq b 13) one ∙ ap (λ x. x || nat_eq b 13) two ∙ three
 
--- the first of them is where the value is cut
+-- where the first of the three bytes stands at the place k, the text from its first stop on is the text from k on
 pub stop_first : (k : ℕ) (text : List ℕ) → k < length text → Nowhere (Passes (is_byte3 44 59 13) text) 0 k → Passes (is_byte3 44 59 13) text k → from_stop text ≡ drop k text
 stop_first k [] within none is = absurd (omega (arith, within))
 stop_first zero (b ∷ text) within none is = ap (λ here. if here then b ∷ text else from_stop text) (same_stops b ∙ is)
@@ -40,7 +40,7 @@ stop_first (suc k) (b ∷ text) within none is =
     ap (λ here. if here then b ∷ text else from_stop text) (same_stops b ∙ other)
     ∙ stop_first k text (omega (arith, within)) (λ j low high. none (suc j) (omega arith) (omega arith)) is
 
--- where there is none, nothing is left
+-- where none of the three bytes stands in the text, nothing is left from a stop on
 pub stop_nowhere : (text : List ℕ) → Nowhere (Passes (is_byte3 44 59 13) text) 0 (length text) → from_stop text ≡ []
 stop_nowhere [] none = refl
 stop_nowhere (b ∷ text) none =

@@ -9,11 +9,11 @@ use Rattle.sip_text.proofs.texts.ManyLemmas.{many-some}
 use Rattle.sip_text.proofs.texts.RunLemmas.{run-list_all}
 use Rattle.sip_part.specs.Led.{token_at}
 
--- no token stands there
+-- where a text begins with no byte of a token, no token stands at its front
 pub token_none : (text : List ℕ) → prefix_len is_token_byte text ≡ 0 → token_at text ≡ None
 token_none text none = rw none refl
 
--- the longest one does
+-- where a text begins with n bytes of tokens, these are the token at its front
 pub token_some : (text : List ℕ) (n : ℕ) → prefix_len is_token_byte text ≡ n → n ≢ 0 → token_at text ≡ Some (take n text)
 token_some text n is some = by (nat_eq (prefix_len is_token_byte text) 0) refl
   where
@@ -21,11 +21,11 @@ token_some text n is some = by (nat_eq (prefix_len is_token_byte text) 0) refl
     by true zero = absurd (some (sym is ∙ eqb-true (prefix_len is_token_byte text) 0 zero))
     by false more = rw more (ap (λ k. Some (take k text)) is)
 
--- a text that no token stands before begins with no byte of one
+-- a text at whose front no token stands does not begin with a byte of a token
 pub no_front : (x : ℕ) (text : List ℕ) → is_token_byte x ≡ true → prefix_len is_token_byte (x ∷ text) ≡ 0 → ⊥
 no_front x text is none = let some : cond true (1 + prefix_len is_token_byte text) 0 ≡ 0 = subst (λ b. cond b (1 + prefix_len is_token_byte text) 0 ≡ 0) is none in absurd (omega (arith, some))
 
--- two runs of bytes of tokens that cannot go on, in one text, are the same
+-- two runs of bytes of tokens at the front of one text, after each of which no such byte comes, are the same run, and what comes after them is the same
 pub same_run : (u v rest more : List ℕ) → list_all is_token_byte u ≡ true → list_all is_token_byte v ≡ true → prefix_len is_token_byte rest ≡ 0 → prefix_len is_token_byte more ≡ 0
     → u ++ rest ≡ v ++ more → (u ≡ v) × (rest ≡ more)
 same_run [] [] rest more left right ends stops same = (refl, same)
@@ -38,11 +38,11 @@ same_run (x ∷ u) (y ∷ v) rest more left right ends stops same =
     let one : u ≡ v = on.0 in
     (cc, on.1)
 
--- the bytes of a token
+-- all bytes of a token are bytes of tokens
 pub token_run : (u : List ℕ) → Token u → list_all is_token_byte u ≡ true
 token_run u token = run-list_all is_token_byte u (many-some _ u token)
 
--- a run that cannot go on is what is measured
+-- a run of bytes of tokens after which none comes is as long as what is measured
 run_len : (u rest : List ℕ) → list_all is_token_byte u ≡ true → prefix_len is_token_byte rest ≡ 0 → prefix_len is_token_byte (u ++ rest) ≡ length u
 run_len [] rest all ends = ends
 run_len (x ∷ u) rest all ends =
@@ -50,10 +50,10 @@ run_len (x ∷ u) rest all ends =
     let on = run_len u rest parts.1 ends in
     ap (λ b. cond b (1 + prefix_len is_token_byte (u ++ rest)) 0) parts.0 ∙ omega (arith, on)
 
--- a token has a first byte
+-- a token is not empty
 token_long : (u : List ℕ) → Token u → length u ≢ 0
 token_long u (first, more, (x, is, one), others, whole) none = let e = ap length (whole ∙ ap (λ t. t ++ more) one) in omega (arith, e, none)
 
--- a token that cannot go on is what stands at the front
+-- a token after which no byte of a token comes is the token at the front of the text
 pub token_whole : (u rest : List ℕ) → Token u → prefix_len is_token_byte rest ≡ 0 → token_at (u ++ rest) ≡ Some u
 token_whole u rest token ends = token_some (u ++ rest) (length u) (run_len u rest (token_run u token) ends) (token_long u token) ∙ ap Some (take-append_seam u rest)

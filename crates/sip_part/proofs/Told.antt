@@ -20,22 +20,22 @@ use Rattle.sip_part.proofs.Fields.{led_found}
 pub told_branch : (text : List ℕ) (s : Said) (branch : List ℕ) → Says text (gives s) → TellsBranch text branch → branch ≡ compared s.via.branch
 told_branch text s branch says tells = tells.0 s says
 
--- a branch that stands plainly is told
+-- a branch that stands plainly in a message, in lower case, is the branch by which the message falls
 pub plain_told : (text plain : List ℕ) → led_branch text ≡ Some plain → TellsBranch text (folded plain)
 plain_told text plain led = ((λ s says. sym (ap compared (led_found text plain s says led))), (λ fault has. sym (ap compared led)))
 
--- of a message that is read, the branch of its top Via is told
+-- a message that is read falls by the branch of its top Via
 pub read_told : (text : List ℕ) (r : Reading) → Reads text r → TellsBranch text (compared ((said_of r).via.branch))
 read_told text r reads = (
   (λ s says. sym (ap (λ x. compared x.via.branch) (said-is text r s reads says))),
   (λ fault has. absurd (says-no_fault text (said_of r) fault reads.says has)),
 )
 
--- of bytes with a fault in which no branch stands plainly, the empty branch is told
+-- bytes with a fault in which no branch stands plainly fall by the empty branch
 pub fault_told : (text : List ℕ) (fault : Fault) → led_branch text ≡ None → Says text (stops fault) → TellsBranch text []
 fault_told text fault none has = ((λ s says. absurd (says-no_fault text s fault says has)), (λ other also. sym (ap compared none)))
 
--- one branch is told of a message
+-- two branches by which one message falls are the same
 pub one_told : (text a b : List ℕ) → TellsBranch text a → TellsBranch text b → a ≡ b
 one_told text a b one other = by (bytes_eq a b) (bytes_eq-Decides a b)
   where

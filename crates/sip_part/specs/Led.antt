@@ -4,12 +4,12 @@ use Rattle.std.specs.List.{prefix_len, starts_with}
 use Rattle.sip_standard.specs.Chars.{is_among}
 use Rattle.sip_text.specs.Bytes.{line_feed, semicolon, is_token_byte}
 
--- the line begins as a Via does, in full or compact
+-- the line begins with a v in either case, as a Via does, in full or compact
 abbrev pub opens_via : List ℕ → Bool
 opens_via [] = false
 opens_via (byte ∷ text) = is_among "vV" byte
 
--- what stands from the first line on that begins so after another one, if there is one
+-- the text from the first line that begins as a Via does, after the first line of all, and None where no line does
 abbrev pub via_line : List ℕ → Option (List ℕ)
 via_line [] = None
 via_line (byte ∷ text) = if byte == line_feed then (if opens_via text then Some text else via_line text) else via_line text
@@ -22,12 +22,12 @@ token_at text = if prefix_len is_token_byte text == 0 then None else Some (take 
 abbrev pub is_end : ℕ → Bool
 is_end = is_among ",\"\r\n"
 
--- the parameter begins with a blank, or as a branch may that is spelled otherwise
+-- the parameter begins with a blank or a b, as a branch that is spelled otherwise may
 abbrev pub opens_other : List ℕ → Bool
 opens_other [] = false
 opens_other (byte ∷ text) = is_among " \tbB" byte
 
--- the token after the first ";branch=" of the text, if there is one, no search ends before it, and no other parameter opens so
+-- the token after the first ";branch=" of the text; None where there is none, or the search ends before it, or another parameter before it opens so
 abbrev pub branch_in : List ℕ → Option (List ℕ)
 branch_in [] = None
 branch_in (byte ∷ text) =
@@ -35,7 +35,7 @@ branch_in (byte ∷ text) =
     else if byte == semicolon then (if starts_with nat_eq text (codes "branch=") then token_at (drop 7 text) else if opens_other text then None else branch_in text)
     else branch_in text
 
--- what stands from the first comma, semicolon or CR on
+-- the text from its first comma, semicolon or CR on
 abbrev pub from_stop : List ℕ → List ℕ
 from_stop [] = []
 from_stop (byte ∷ text) = if is_among ",;\r" byte then byte ∷ text else from_stop text
@@ -46,11 +46,11 @@ via_branch field =
     if starts_with nat_eq field (codes "Via:") then branch_in (from_stop (drop 4 field))
     else if starts_with nat_eq field (codes "v:") then branch_in (from_stop (drop 2 field)) else None
 
--- that of the field that stands there, if one does
+-- the plain branch of the field that stands here, where there is a field
 abbrev pub branch_at : Option (List ℕ) → Option (List ℕ)
 branch_at None = None
 branch_at (Some field) = via_branch field
 
--- the plain branch of a message
+-- the plain branch of a message: that of its first line, after the start line, that begins as a Via does
 abbrev pub led_branch : List ℕ → Option (List ℕ)
 led_branch text = branch_at (via_line text)

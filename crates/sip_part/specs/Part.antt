@@ -6,25 +6,25 @@ use Rattle.sip_standard.specs.Outcome.{gives, stops}
 use Rattle.sip_standard.specs.Says.{Said, Says}
 use Rattle.sip_part.specs.Led.{led_branch}
 
--- part `number`, from 1, of `count`
+-- the part with the number `number`, from 1, of `count` parts
 pub record PartOf : Type 0 where
   pub number : ℕ
   pub count : ℕ
 
--- FNV-1a of 32 bits: from 2166136261 on, each byte is put in by exclusive or, and the sum is multiplied by 16777619
+-- FNV-1a of 32 bits: the sum begins as 2166136261; for each byte it is joined with the byte by exclusive or, and then multiplied by 16777619
 abbrev pub fnv1a : List ℕ → ℕ
 fnv1a text = fold (λ sum byte. (bit_xor sum byte * 16777619) % 2 ^ 32) 2166136261 text
 
--- a branch, in lower case, falls into this part
+-- whether a branch, in lower case, falls into this part
 abbrev pub falls_into : PartOf → List ℕ → Bool
 falls_into part branch = fnv1a branch % part.count + 1 == part.number
 
--- a branch in lower case, as it is compared; nothing where there is none
+-- a branch in lower case, as it is compared; no bytes where there is no branch
 abbrev pub compared : Option (List ℕ) → List ℕ
 compared None = []
 compared (Some branch) = folded branch
 
--- the branch by which a message falls into its part: that of its top Via, or of a message with a fault the one that stands plainly in it
+-- the branch by which a message falls into its part: that of its top Via, or, of a message with a fault, the one that stands plainly in it
 abbrev pub TellsBranch : List ℕ → List ℕ → Type 0
 TellsBranch text branch =
     ((s : Said) → Says text (gives s) → branch ≡ compared s.via.branch)

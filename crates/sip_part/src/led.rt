@@ -5,8 +5,8 @@ ghost use Rattle.sip_part.specs.Led.{branch_in, from_stop, is_end, led_branch, o
 use memchr::{memchr, memchr3};
 use sip_text::token_len;
 
-/// The branch of the top Via, where this is spelled `Via:` or `v:` and the branch stands plainly in it. What is not so plain may still
-/// have one.
+/// The branch of the top Via, where the field is spelled `Via:` or `v:` and the branch stands plainly in it. A message whose branch is not so
+/// plain may still have one.
 pub fn led_branch(text: &[u8]) -> Option<&[u8]>
     ensures { option_copied result ≡ led_branch text.now }
 {
@@ -20,7 +20,7 @@ pub fn led_branch(text: &[u8]) -> Option<&[u8]>
     None
 }
 
-/// The first line after another one that begins as a Via does, with all that stands after it.
+/// The text from the first line that begins as a Via does, after the first line of all.
 fn via_line(text: &[u8]) -> Option<&[u8]>
     ensures { option_copied result ≡ via_line text.now }
 {

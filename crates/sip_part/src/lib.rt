@@ -3,6 +3,7 @@
 
 mod laws;
 mod led;
+mod lower;
 mod part;
 
 pub use laws::{

@@ -5,6 +5,7 @@ ghost use Rattle.sip_part.specs.Led.{led_branch};
 ghost use Rattle.sip_part.specs.Part.{PartOf, TellsBranch, compared, falls_into, fnv1a};
 
 use crate::led::led_branch;
+use crate::lower::lower;
 use sip_message::{Message, ReadError};
 use std::alloc::{AllocError, Global};
 use std::marker::Model;
@@ -38,16 +39,16 @@ impl Part {
         Some(Part { number, count })
     }
 
-    /// Whether a branch falls into the part: FNV-1a of 32 bits of its bytes in lower case, modulo the count of parts, is one less than
-    /// the number of the part.
+    /// Whether a branch falls into the part: it does where FNV-1a of 32 bits of its bytes in lower case, modulo the count of parts, is one less
+    /// than the number of the part.
     pub fn has_branch(&self, branch: &[u8]) -> bool
         ensures { result ≡ falls_into self.now (folded branch.now) }
     {
         fnv1a(branch) % self.count + 1 == self.number
     }
 
-    /// Whether a message falls into the part, by the branch of its top Via. One with a fault does by the branch that stands plainly in
-    /// the first line that begins as a Via does, or as one without a branch.
+    /// Whether a message falls into the part, by the branch of its top Via. A message with a fault falls by the branch that stands plainly in
+    /// its first line that begins as a Via does, or as a message without a branch.
     pub fn has_message(&self, alloc: Global, bytes: &[u8]) -> Result<bool, AllocError>
         ensures { IfOk result (λ falls. (branch : List ℕ) × TellsBranch bytes.now branch × (falls ≡ falls_into self.now branch)) }
     {
@@ -69,7 +70,7 @@ impl Part {
         }
     }
 
-    /// Whether a branch falls into the part, or what has none.
+    /// Whether a message with this branch, or with none, falls into the part.
     fn has_compared(&self, branch: Option<&[u8]>) -> bool
         ensures { result ≡ falls_into self.now (compared (option_copied branch.entry)) }
     {
@@ -80,13 +81,13 @@ impl Part {
     }
 }
 
-/// FNV-1a of 32 bits of the bytes in lower case.
+/// FNV-1a of 32 bits of the bytes of the text in lower case.
 fn fnv1a(text: &[u8]) -> u32
     ensures { result ≡ fnv1a (folded text.now) }
 {
     let mut sum: u32 = 2_166_136_261;
     for byte in text {
-        sum = (sum ^ u32::from(byte.to_ascii_lowercase())).wrapping_mul(16_777_619);
+        sum = (sum ^ u32::from(lower(*byte))).wrapping_mul(16_777_619);
     }
     sum
 }

@@ -1,4 +1,4 @@
-//! What std gives a program to run on.
+//! The platform that std gives to a program.
 #![tactic(auto)]
 
 mod platform;

@@ -1,5 +1,5 @@
-//! What std gives the program to run on. This is all that is trusted of the program itself: std tells no words, and of no file which
-//! bytes it has, so no contract says that each call asks std for what its name says.
+//! The platform that std gives to a program. This is all that is trusted of the program itself: std tells no words, and of no file which
+//! bytes it has, so that no contract says that each call asks std for what its name says.
 
 ghost use Rattle.std.specs.Prelude.{None};
 

@@ -1,38 +1,38 @@
--- What stays an answer where the writer keeps its bytes.
+-- An answer stays an answer where the writer keeps its bytes.
 use Rattle.std.proofs.Common.{◌≡◌, ◌∙◌, ℕ, List, Option, None, Some, IfSome, subst}
 use Rattle.std.specs.Io.KnownBytes.{Appends, Keeps}
 use Rattle.sip_standard.specs.declared.asked.Asked.{Asked}
 use Rattle.sip_standard.specs.declared.asked.Asked.TheVariants.{Input, Check, Show, States}
 use Rattle.sip_standard.specs.Answers.{IsJudged, IsShown, IsListed, IsAnswer, IsAnswerTo}
 
--- what was appended is appended still
+-- bytes that were appended are appended still, where the writer keeps all its bytes
 Appends-kept : (a b c : Option (List ℕ)) (bytes : List ℕ) → Appends a b bytes → Keeps b c → Appends a c bytes
 Appends-kept None b c bytes appended kept = tt
 Appends-kept (Some x) None c bytes appended kept = absurd appended
 Appends-kept (Some x) (Some y) None bytes appended kept = absurd kept
 Appends-kept (Some x) (Some y) (Some z) bytes appended kept = kept ∙ appended
 
--- a verdict that is written
+-- where the writer keeps its bytes, a verdict that was written is written still
 IsJudged-kept : (input a b c : Option (List ℕ)) (status : ℕ) → IsJudged input a b status → Keeps b c → IsJudged input a c status
 IsJudged-kept input a b c status it kept = record { verdict = it.verdict; is = it.is; written = Appends-kept a b c _ it.written kept; ends = it.ends }
 
--- a log that is shown
+-- where the writer keeps its bytes, a log that was shown is shown still
 IsShown-kept : (input a b c : Option (List ℕ)) (status : ℕ) → IsShown input a b status → Keeps b c → IsShown input a c status
 IsShown-kept None a b c status it kept = record { shown = it.shown; is = tt; ends = it.ends }
 IsShown-kept (Some bytes) a b c status it kept = record { shown = it.shown; is = (it.is.0, it.is.1, Appends-kept a b c _ it.is.2 kept); ends = it.ends }
 
--- a listing that is written
+-- where the writer keeps its bytes, a listing that was written is written still
 IsListed-kept : (entry : ℕ) (input a b c : Option (List ℕ)) (status : ℕ) → IsListed entry input a b status → Keeps b c → IsListed entry input a c status
 IsListed-kept entry input a b c status it kept = record { listing = it.listing; is = it.is; written = Appends-kept a b c _ it.written kept; ends = it.ends }
 
--- an answer
+-- where the writer keeps its bytes, an answer to what is asked is one still
 pub IsAnswer-kept : (asked : Asked) (input a b c : Option (List ℕ)) (status : ℕ) → IsAnswer asked input a b status → Keeps b c → IsAnswer asked input a c status
 IsAnswer-kept Input input a b c status it kept = IsJudged-kept input a b c status it kept
 IsAnswer-kept (Check path) input a b c status it kept = IsJudged-kept input a b c status it kept
 IsAnswer-kept (Show path) input a b c status it kept = IsShown-kept input a b c status it kept
 IsAnswer-kept (States path entry) input a b c status it kept = IsListed-kept entry input a b c status it kept
 
--- an answer to the words that were given is one to those that are known, if they are the same
+-- an answer to the words that were given is an answer to the words that are known, where they are the same
 pub IsAnswerTo-known : (known : Option (List (List ℕ))) (words : List (List ℕ)) (input : Option (List ℕ)) (file : List ℕ → Option (List ℕ)) (before after : Option (List ℕ)) (status : ℕ)
     → IfSome known (λ theirs. words ≡ theirs) → IsAnswerTo words input file before after status → IfSome known (λ theirs. IsAnswerTo theirs input file before after status)
 IsAnswerTo-known None words input file before after status same it = tt

@@ -1,4 +1,4 @@
--- Two words, each by its place.
+-- Words are told by the bytes of each, at its place.
 use Rattle.std.proofs.Common.{◌≡◌, ◌≢◌, ℕ, ◌<◌, ◌≤◌, false, List, [], ◌∷◌, codes, length, map, get_or, ap, sym, ◌∙◌, arith}
 use Rattle.std.specs.Prelude.{bytes_eq, decimal}
 use Rattle.std.proofs.lemmas.Bool.{both_ways}
@@ -8,7 +8,7 @@ use Rattle.sip_standard.specs.declared.asked.Asked.{Asked}
 use Rattle.sip_standard.specs.declared.asked.Asked.TheVariants.{Input, Check, Show, States}
 use Rattle.sip_standard.specs.Asked.{words_for}
 
--- what a function tells of two words is what it tells of the first and of the second
+-- two words are the first and the second one, each told by its bytes
 pub two-words : {X : Type 0} (f : X → List ℕ) (words : List X) (a b : X) (first second : List ℕ) →
     2 ≤ length words → length words < 3 → a ≡ get_or words 0 a → b ≡ get_or words 1 b → first ≡ f a → second ≡ f b →
     map f words ≡ first ∷ second ∷ []
@@ -18,7 +18,7 @@ two-words f (x ∷ y ∷ []) a b first second some few is-a is-b is-first is-sec
     ap (λ word. word ∷ f y ∷ []) (sym (is-first ∙ ap f is-a)) ∙ ap (λ word. first ∷ word ∷ []) (sym (is-second ∙ ap f is-b))
 two-words f (x ∷ y ∷ z ∷ rest) a b first second some few is-a is-b is-first is-second = absurd (omega arith)
 
--- three words are those, each told by its bytes
+-- three words are the first, the second and the third one, each told by its bytes
 pub three-words : {X : Type 0} (f : X → List ℕ) (words : List X) (a b c : X) (first second third : List ℕ) →
     3 ≤ length words → length words < 4 → a ≡ get_or words 0 a → b ≡ get_or words 1 b → c ≡ get_or words 2 c → first ≡ f a → second ≡ f b → third ≡ f c →
     map f words ≡ first ∷ second ∷ third ∷ []
@@ -26,28 +26,28 @@ three-words f [] a b c first second third some few is-a is-b is-c is-first is-se
 three-words f (x ∷ words) a b c first second third some few is-a is-b is-c is-first is-second is-third =
     ap (λ word. word ∷ map f words) (sym (is-first ∙ ap f is-a)) ∙ ap (λ more. first ∷ more) (two-words f words b c second third (omega arith) (omega arith) is-b is-c is-second is-third)
 
--- the first of some words
+-- where words are told by a list of texts, the first word is told by the first text
 first-word : {X : Type 0} (f : X → List ℕ) (words : List X) (a : X) (first : List ℕ) (rest : List (List ℕ)) → a ≡ get_or words 0 a → map f words ≡ first ∷ rest → f a ≡ first
 first-word f [] a first rest is same = cc
 first-word f (x ∷ words) a first rest is same = ap f is ∙ (let e : f x ≡ first = cc in e)
 
--- they do not begin with another one
+-- words whose first one is not told by the wanted text are not told by texts that begin with it
 not-word : {X : Type 0} (f : X → List ℕ) (words : List X) (a : X) (text wanted : List ℕ) (rest : List (List ℕ)) → a ≡ get_or words 0 a → text ≡ f a → false ≡ bytes_eq text wanted → map f words ≡ wanted ∷ rest → ⊥
 not-word f words a text wanted rest is told differ same =
     both_ways (bytes_eq text wanted) (sym differ) ((bytes_eq-Decides text wanted).1 (told ∙ first-word f words a wanted rest is same))
 
--- there are as many
+-- there are as many words as texts by which they are told
 as-many : {X : Type 0} (f : X → List ℕ) (words : List X) (others : List (List ℕ)) → map f words ≡ others → length words ≡ length others
 as-many f words others same = sym (length-map words f) ∙ ap length same
 
--- more than three words ask for nothing
+-- one word, and more than three words, ask for nothing
 pub not-long : {X : Type 0} (f : X → List ℕ) (words : List X) → 0 ≢ length words → 2 ≢ length words → 3 ≢ length words → (asked : Asked) → map f words ≡ words_for asked → ⊥
 not-long f words none two three Input same = none (sym (as-many f words [] same))
 not-long f words none two three (Check file) same = two (sym (as-many f words (words_for (Check file)) same))
 not-long f words none two three (Show file) same = two (sym (as-many f words (words_for (Show file)) same))
 not-long f words none two three (States file entry) same = three (sym (as-many f words (words_for (States file entry)) same))
 
--- two words ask for nothing where the first is no form that one word follows
+-- two words ask for nothing where the first is neither `check` nor `show`
 pub not-two : {X : Type 0} (f : X → List ℕ) (words : List X) (a b : X) (s t : List ℕ) → 2 ≤ length words → length words < 3 → a ≡ get_or words 0 a → b ≡ get_or words 0 b → s ≡ f a → t ≡ f b
     → false ≡ bytes_eq s (codes "check") → false ≡ bytes_eq t (codes "show") → (asked : Asked) → map f words ≡ words_for asked → ⊥
 not-two f words a b s t some few is-a is-b told-a told-b check show Input same = let many = as-many f words [] same in omega (arith, many, some)

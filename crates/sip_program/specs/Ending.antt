@@ -8,12 +8,12 @@ use Rattle.sip_standard.specs.Asked.{IsAskedBy}
 use Rattle.sip_program.specs.Failures.{status_without}
 use Rattle.sip_standard.specs.Failures.{line_of}
 
--- the status of an answer, or that of there being none
+-- the status of an answer, or the status that says why there is none
 abbrev pub status_at_end : Result ℕ Failure → ℕ
 status_at_end (Ok status) = status
 status_at_end (Err failure) = status_without failure
 
--- what is told of how a run ends: nothing of an answer
+-- what is told of how a run ends: nothing where it has an answer, and else why it has none
 abbrev pub told_at_end : Result ℕ Failure → List ℕ
 told_at_end (Ok status) = []
 told_at_end (Err failure) = line_of failure
@@ -25,13 +25,13 @@ IsCause words has_read_failed has_write_failed Write = has_write_failed ≡ true
 IsCause words has_read_failed has_write_failed Memory = ⊤
 IsCause words has_read_failed has_write_failed Usage = IfSome words (λ known. IsAskedBy known None)
 
--- what a run comes to: what the words ask for is written of its log, or there is a cause
+-- what a run comes to: what the words ask for is written of its log, or there is a cause why it is not
 abbrev pub IsRun : (words : Option (List (List ℕ))) (input : Option (List ℕ)) (file : List ℕ → Option (List ℕ)) (before after : Option (List ℕ))
     (has_read_failed has_write_failed : Bool) → Result ℕ Failure → Type 0
 IsRun words input file before after has_read_failed has_write_failed (Ok status) = IfSome words (λ known. IsAnswerTo known input file before after status)
 IsRun words input file before after has_read_failed has_write_failed (Err failure) = IsCause words has_read_failed has_write_failed failure
 
--- the program ends with the status of its run, and has told what is told of it unless the standard error has failed
+-- the program ends with the status of its run, and has told why there is no answer, unless the standard error has failed
 pub record IsEnd (words : Option (List (List ℕ))) (input : Option (List ℕ)) (file : List ℕ → Option (List ℕ)) (before after : Option (List ℕ))
     (has_read_failed has_write_failed : Bool) (errors_before errors_after : Option (List ℕ)) (has_telling_failed : Bool) (status : ℕ) : Type 0 where
   pub ended : Result ℕ Failure

@@ -13,7 +13,7 @@ use sip_verdict::{Listing, Verdict, judge, render, show, states_at};
 use std::alloc::Global;
 use std::hash::BuildHasher;
 
-/// Judges the log that the reader has left, and writes the verdict. The answer is its status.
+/// Judges the log that the reader has left, and writes the verdict. It answers the status of the verdict.
 pub fn check<R: Source, W: Sink, H: BuildHasher + Drop>(
     alloc: Global,
     seed: H,
@@ -30,7 +30,7 @@ pub fn check<R: Source, W: Sink, H: BuildHasher + Drop>(
     Ok(status_of(&verdict))
 }
 
-/// Shows the log that the reader has left. The answer is the status of how it ends.
+/// Shows the log that the reader has left. It answers the status of how the log ends.
 pub fn show_log<R: Source, W: Sink>(
     alloc: Global,
     reader: &mut R,
@@ -44,7 +44,7 @@ pub fn show_log<R: Source, W: Sink>(
     Ok(status_of_shown(&shown))
 }
 
-/// Lists the states of the transactions that an entry of the reader's log concerns. The answer is the status of the listing.
+/// Lists the states of the transactions that an entry of the reader's log concerns. It answers the status of the listing.
 pub fn list_states<R: Source, W: Sink, H: BuildHasher + Drop>(
     alloc: Global,
     seed: H,

@@ -25,9 +25,9 @@ fn entry_number(word: &str) -> Option<u32>
     Some(number)
 }
 
-/// What the words after the program's name ask for: no word asks for the standard input, `check FILE` and `show FILE` for what they
-/// say, and `states FILE ENTRY` for the states after that entry, whose number is 1 to 1,000,000 in digits without a leading zero. Any
-/// other words ask for nothing. It takes no memory.
+/// What the words after the program's name ask for. No word asks for the verdict on the standard input; `check FILE` and `show FILE` ask for the
+/// verdict on the file and for its log to be shown, and `states FILE ENTRY` for the states after that entry, whose number is 1 to 1,000,000 in
+/// digits without a leading zero. Any other words ask for nothing. It takes no memory.
 pub fn asked(words: &[String]) -> Option<Asked<'_>>
     ensures { IsAskedBy (map string_bytes words.now) result }
 {

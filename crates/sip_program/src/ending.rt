@@ -7,7 +7,7 @@ use crate::failure::status_without;
 use sip_log::Sink;
 use sip_standard::Failure;
 
-/// Tells why there is no answer, if there is none. The result is the status that the program ends with, also where nothing can be told.
+/// Tells why there is no answer, if there is none. It answers the status that the program ends with, also where nothing can be told.
 pub fn end<E: Sink>(ended: Result<u8, Failure>, errors: &mut E) -> u8
     ensures status { result ≡ status_at_end ended }
     ensures told { E.has_failed errors.new ≡ false → Appends (E.written errors.old) (E.written errors.new) (told_at_end ended) }

@@ -18,7 +18,7 @@ pub fn status_without(failure: &Failure) -> u8
     }
 }
 
-/// What could not be had from the system.
+/// The failure that stands for an error of the system: want of memory where that is the error, and else that something cannot be read.
 pub fn read_failure(error: io::Error) -> Failure
     ensures memory { error_kind error ≡ OutOfMemory → result ≡ Memory }
     ensures read { error_kind error ≢ OutOfMemory → result ≡ Read }

@@ -8,7 +8,7 @@ use sip_standard::System;
 use std::io;
 use std::io::Read;
 
-/// What is read.
+/// The log that is read: the standard input, or a file.
 #[derive(Debug, Drop)]
 enum Log<I, F> {
     Input(FromRead<I>),

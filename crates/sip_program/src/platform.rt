@@ -10,13 +10,13 @@ pub trait Platform {
     // The words that the program is given, its own name the first, where they are known.
     ghost words: { Self → Option (List (List ℕ)) };
 
-    // The bytes of the file at a path, where they are known. Each implementation says so itself.
+    // The bytes of the file at a path, where they are known. Each implementation says itself of which files they are.
     ghost file: { Self → List ℕ → Option (List ℕ) };
 
-    /// What a seed is for.
+    /// The hashers that a seed makes.
     type Seed: BuildHasher + Drop;
 
-    /// What reads a file.
+    /// The reader of an opened file.
     type File: Read + Drop;
 
     /// The words that the program is given, its own name the first.

@@ -16,7 +16,7 @@ use sip_standard::{Asked, Failure, Output, System};
 use std::alloc::Global;
 use std::io::Write;
 
-/// Writes what is asked for. The answer is its status.
+/// Writes what is asked for, and answers its status.
 fn answer<S: System, W: Sink>(
     alloc: Global,
     system: &mut S,
@@ -50,7 +50,7 @@ fn answer<S: System, W: Sink>(
     }
 }
 
-/// Writes what the words of the system ask for, to the last byte. The answer is its status.
+/// Writes what the words of the system ask for, to the last byte, and answers its status.
 pub fn run<S: System, W: Write + Drop>(
     alloc: Global,
     system: &mut S,

@@ -4,7 +4,7 @@ use sip_standard::{Failure, Output, Program, System};
 use std::alloc::Global;
 use std::io::Write;
 
-/// The program by the function `run`: so that has the contract that stands in `sip_standard`.
+/// The program by the function `run`, so that it has the contract of `sip_standard`.
 #[derive(Clone, Copy, Debug)]
 pub struct SiptraceProgram;
 

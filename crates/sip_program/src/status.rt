@@ -16,7 +16,7 @@ pub fn status_of(verdict: &Verdict) -> u8
     }
 }
 
-/// The status that the program ends with after a log that it showed.
+/// The status that the program ends with after it has shown a log.
 pub fn status_of_shown(shown: &Shown) -> u8
     ensures { result ≡ status_of_shown shown.now }
 {
@@ -27,7 +27,7 @@ pub fn status_of_shown(shown: &Shown) -> u8
     }
 }
 
-/// The status that the program ends with after what it lists of an entry.
+/// The status that the program ends with after it has listed the states of an entry, or said why it cannot.
 pub fn status_of_listing(listing: &Listing) -> u8
     ensures { result ≡ status_of_listing listing.now }
 {

@@ -14,19 +14,19 @@ pub AllPairs-tail : {X : Type 0} (R : X → X → Type 0) (x : X) (xs : List X) 
 AllPairs-tail R x xs apart i j d low high = apart (suc i) (suc j) d (omega arith) (omega arith)
 
 module _ {X : Type 0} (xs : List X) (i : ℕ) (within : i < length xs) (x : X) where
-  -- an element before the place that goes stays where it is
+  -- an element before the place that is removed stays where it is
   before_it : (k : ℕ) → k < i → get_or xs k x ≡ x → Contains (remove xs i) x
   before_it k low at =
       let long = length-remove xs i within in (k, omega (arith, long), get_or-remove_below xs i x k low within ∙ at)
 
-  -- one after it moves up
+  -- an element after the place that is removed moves up by one place
   after_it : (k : ℕ) → i < k → k < length xs → get_or xs k x ≡ x → Contains (remove xs i) x
   after_it zero high low at = absurd (omega arith)
   after_it (suc j) high low at =
       let long = length-remove xs i within in
       (j, omega (arith, long), get_or-remove_above xs i x j (omega arith) within ∙ rw add-one at)
 
-  -- each element that differs from the one that goes stays
+  -- each element that differs from the one that is removed stays in the list
   pub still_has : (y : X) → get_or xs i y ≡ y → y ≢ x → Contains xs x → Contains (remove xs i) x
   still_has y is differs (k, low, at) = go (dec_lt k i) (dec_lt i k)
     where

@@ -5,11 +5,11 @@ use Rattle.sip_standard.specs.Outcome.{gives}
 use Rattle.sip_standard.specs.Says.{Said, Says}
 use Rattle.sip_standard.specs.Solid.{solid}
 
--- the two are equal without their blanks
+-- the two texts are equal once their blanks are left out
 abbrev pub SameSolid : List ℕ → List ℕ → Type 0
 SameSolid a b = solid a ≡ solid b
 
--- an ACK, with the Request-URI of the request
+-- the first start line is that of an ACK, with the Request-URI of the second
 abbrev pub IsAckLine : StartLine → StartLine → Type 0
 IsAckLine ack invite = (uri : List ℕ) × (method : List ℕ) × (ack ≡ request (codes "ACK") uri) × (invite ≡ request method uri)
 
@@ -24,7 +24,7 @@ pub record IsAckOf (ack invite response : Said) : Type 0 where
   pub number : ack.cseq.0 ≡ invite.cseq.0
   pub route : SameSolid ack.route invite.route
 
--- three texts that say messages which are so related
+-- the three texts say messages of which the first is the ACK for the third, a response to the second
 abbrev pub AckOf : List ℕ → List ℕ → List ℕ → Type 0
 AckOf ack invite response =
     (a : Said) × (i : Said) × (r : Said) × Says ack (gives a) × Says invite (gives i) × Says response (gives r) × IsAckOf a i r

@@ -28,7 +28,7 @@ pub record IsJudged (input before after : Option (List ℕ)) (status : ℕ) : Ty
   pub written : Appends before after (rendered verdict ++ line_feed ∷ [])
   pub ends : status ≡ status_of verdict
 
--- this input is shown, and this is the status of how it ends
+-- what is shown of this input is written, and this is the status of how it ends
 pub record IsShown (input before after : Option (List ℕ)) (status : ℕ) : Type 0 where
   pub shown : Shown
   pub is : IfSome input (λ bytes. (text : List ℕ) × IsShownOf bytes text shown × Appends before after text)

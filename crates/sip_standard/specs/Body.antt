@@ -10,7 +10,7 @@ use Rattle.sip_standard.specs.StartLine.{StartLine, request, status}
 use Rattle.sip_standard.specs.Via.{SaidVia, ViasSay}
 use Rattle.sip_standard.specs.Values.{CSeqSays}
 
--- the number of the first of these fields, if there is one
+-- the number that the first of these fields says, if there is one
 abbrev pub length_in : List (ℕ × List ℕ) → Option ℕ
 length_in [] = None
 length_in (one ∷ more) = Some (digits_value 10 (one.1))
@@ -20,7 +20,7 @@ abbrev pub MethodSays : StartLine → List ℕ → Type 0
 MethodSays (request method uri) cseq = (number : ℕ) × CSeqSays (number, method) cseq
 MethodSays (status code why) cseq = ⊤
 
--- the transport of the first element is a stream, TCP or TLS
+-- the transport of the first element of this Via is a stream, TCP or TLS
 abbrev pub StreamSays : List ℕ → Type 0
 StreamSays via = (v : SaidVia) × (more : List SaidVia) × ViasSay (v ∷ more) via × (AnyCase "tcp" or AnyCase "tls") v.transport
 
@@ -29,7 +29,7 @@ abbrev pub cut_body : Option ℕ → List ℕ → List ℕ
 cut_body None rest = rest
 cut_body (Some n) rest = take n rest
 
--- 8 to 11: the method, and as many bytes after the head as Content-Length says, which a stream has, and no more (section 18.3); the body is given
+-- 8 to 11: the method; over a stream there is a Content-Length; after the head stand at least as many bytes as it says, over a stream no more (section 18.3)
 abbrev pub BodySays : StartLine → ℕ × List ℕ → List ℕ → Option ℕ → List ℕ → Outcome (List ℕ) → Type 0
 BodySays start cseq via len rest =
     Then (Holds (MethodSays start (cseq.1)) (fault_in_line (cseq.0) reason.MethodMismatch)) (λ _.

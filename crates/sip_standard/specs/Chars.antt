@@ -22,12 +22,12 @@ is_among chars byte = list_any (λ b. b == byte) (codes chars)
 abbrev pub is_alphanum_or : String → ℕ → Bool
 is_alphanum_or chars byte = is_ascii_alphanumeric byte || is_among chars byte
 
--- a text of P, which is this one
+-- P is part: a text of P that is this part
 infixr 50 ◌is◌
 abbrev pub ◌is◌ : (List ℕ → Type 0) → List ℕ → List ℕ → Type 0
 (P is part) text = P text × (part ≡ text)
 
--- texts one after another, each saying one of these
+-- texts one after another, each saying one of the values
 abbrev pub EachSays : {A : Type 0} → (A → List ℕ → Type 0) → List A → List ℕ → Type 0
 EachSays R [] text = text ≡ []
 EachSays R (a ∷ more) text = (R a then EachSays R more) text

@@ -35,7 +35,7 @@ own_key s direction =
     let role = role_of s.start direction in
     option_map (λ branch. record { role = role; branch = branch; sent_by = sent_by_of role s.via; method = method_of s.start s.cseq.1 }) (cookie_branch s.via.branch)
 
--- a request that is sent, whose method passes
+-- the start line is that of a request that is sent and whose method passes the test
 abbrev pub is_sent : (List ℕ → Bool) → StartLine → Direction → Bool
 is_sent passes (request method uri) Sent = passes method
 is_sent passes start direction = false
@@ -50,6 +50,6 @@ cancelled_key s direction =
 abbrev pub Concerns : Said → Direction → List KeyParts → Type 0
 Concerns s direction keys = keys ≡ option_to_list (own_key s direction) ++ option_to_list (cancelled_key s direction)
 
--- a request that is sent must have the cookie (section 8.1.1.7), and this one lacks it
+-- the message is a request that is sent, which must have the cookie (section 8.1.1.7), and lacks it
 abbrev pub lacks_cookie : Said → Direction → Bool
 lacks_cookie s direction = is_sent (λ method. true) s.start direction && not (is_some (cookie_branch s.via.branch))

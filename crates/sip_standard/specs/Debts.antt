@@ -8,7 +8,7 @@ pub record Owed : Type 0 where
   pub deadline : ℕ
   pub must : Bool
 
--- all of it may be sent, none of it has to be
+-- the debts with each made one that may be sent and need not be
 abbrev pub softened : List Owed → List Owed
 softened owes = map (λ owed. record { message = owed.message; deadline = owed.deadline; must = false }) owes
 

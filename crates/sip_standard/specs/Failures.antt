@@ -7,18 +7,18 @@ use Rattle.sip_standard.specs.declared.show_error.ShowError.TheVariants as showi
 use Rattle.sip_standard.specs.declared.failure.Failure.{Failure}
 use Rattle.sip_standard.specs.declared.failure.Failure.TheVariants.{Read, Write, Memory, Usage}
 
--- what a log that could not be judged is told as
+-- how it is told that a log could not be judged
 abbrev pub failure_of : JudgeError → Failure
 failure_of judging.Io = Read
 failure_of judging.Memory = Memory
 
--- what a log that could not be shown is told as
+-- how it is told that a log could not be shown
 abbrev pub failure_to_show : ShowError → Failure
 failure_to_show showing.Read = Read
 failure_to_show showing.Write = Write
 failure_to_show showing.Memory = Memory
 
--- the line that is told of it on the standard error
+-- the line that is written of a failure on the standard error
 abbrev pub line_of : Failure → List ℕ
 line_of Read = codes "siptrace: cannot read\n"
 line_of Write = codes "siptrace: cannot write\n"

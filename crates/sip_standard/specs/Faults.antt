@@ -13,7 +13,7 @@ fault_in_line n why = record { unit = place.Line n; reason = why }
 abbrev pub fault_in_body : Reason → Fault
 fault_in_body why = record { unit = place.Body; reason = why }
 
--- the line of the second of these fields
+-- the number of the line of the second of these fields
 abbrev pub second_line : List (ℕ × List ℕ) → ℕ
 second_line (one ∷ two ∷ more) = two.0
 second_line _ = 0

@@ -21,7 +21,7 @@ full_name name =
     if has "v" then codes "via" else if has "f" then codes "from" else if has "t" then codes "to" else if has "i" then codes "call-id"
     else if has "l" then codes "content-length" else name
 
--- what a field of the name may hold; a value that is not looked into is header-value = *( TEXT-UTF8char / UTF8-CONT / LWS )
+-- what a field of this name may hold; a value that is not looked into is header-value = *( TEXT-UTF8char / UTF8-CONT / LWS )
 -- Lenient: there any byte from %x80 on stands for UTF8-NONASCII.
 abbrev pub RowSays : List ℕ → List ℕ → Type 0
 RowSays name text =
@@ -44,7 +44,7 @@ pub record SaidField : Type 0 where
 abbrev pub all : String → List SaidField → List (ℕ × List ℕ)
 all name fields = map (λ f. (f.line, f.value)) (filter (λ f. bytes_eq f.name (codes name)) fields)
 
--- their values
+-- the values of the fields of a name, in order
 abbrev pub said_values : String → List SaidField → List (List ℕ)
 said_values name fields = map (λ found. found.1) (all name fields)
 
@@ -52,7 +52,7 @@ said_values name fields = map (λ found. found.1) (all name fields)
 abbrev pub is_lws_byte : ℕ → Bool
 is_lws_byte byte = (byte == 0x20 || byte == 0x09) || (byte == 0x0D || byte == 0x0A)
 
--- the text neither begins nor ends with such a byte
+-- the text neither begins nor ends with a byte of a blank run
 abbrev pub IsTrimmed : List ℕ → Type 0
 IsTrimmed text =
     ¬ ((One is_lws_byte then (λ behind. ⊤)) text) × ¬ (((λ before. ⊤) then One is_lws_byte) text)
@@ -69,15 +69,15 @@ abbrev pub FieldsSay : ℕ → List (List ℕ) → Outcome (List SaidField) → 
 FieldsSay n [] = Gives []
 FieldsSay n (line ∷ lines) = Then (FieldSays n line) (λ f. Then (FieldsSay (n + 1) lines) (λ fields. Gives (f ∷ fields)))
 
--- 7: of these fields there is a first
+-- 7: there is a first of these fields, which is given
 abbrev pub FirstOf : List (ℕ × List ℕ) → Outcome (ℕ × List ℕ) → Type 0
 FirstOf found = Demand (λ first. (more : List (ℕ × List ℕ)) × (found ≡ first ∷ more)) (fault_in_head reason.Missing)
 
--- 6: and no second
+-- 6: there is no second of these fields
 abbrev pub NoSecond : List (ℕ × List ℕ) → Outcome ⊤ → Type 0
 NoSecond found = Holds (length found ≤ 1) (fault_in_line (second_line found) reason.Repeated)
 
--- both
+-- 6 and 7: there is exactly one of these fields, which is given
 abbrev pub OneOf : List (ℕ × List ℕ) → Outcome (ℕ × List ℕ) → Type 0
 OneOf found = Then (NoSecond found) (λ _. FirstOf found)
 

@@ -17,7 +17,7 @@ pub data InviteServer3261Phase : Type 0 where
   Passed : InviteServer3261Phase
   In : InviteServerPhase → (again : Bool) → InviteServer3261Phase
 
--- a row of InviteServer, in which what came again has done so
+-- a row of InviteServer, before and after which it is remembered alike whether the INVITE came again
 abbrev pub Within : (InviteServerPhase × Change → Type 0) → Bool → InviteServer3261Phase × Change → Type 0
 Within Row again y = (after : InviteServerPhase × Change) × Row after × (y ≡ (In after.0 again, after.1))
 
@@ -42,13 +42,13 @@ abbrev pub Satisfies : InviteServer3261Phase → Kind → MachineEvent → List 
 Satisfies x (Request method) e message = ⊥
 Satisfies x (Response code) e message = ¬ (IsSuccess code) × (message ≡ e.text)
 
--- the phases in which it matters that the INVITE came again
+-- the phase is one in which it matters that the INVITE came again after a 2xx
 abbrev pub remembers : InviteServerPhase → Bool
 remembers Idle = false
 remembers (Accepted set) = false
 remembers x = true
 
--- in these the user may repeat its 2xx where the INVITE came again (own, lenient)
+-- in a phase in which that matters, the user may repeat its 2xx where the INVITE came again after it (own, lenient)
 abbrev pub Stays : InviteServer3261Phase → Kind → Type 0
 Stays (In x again) (Response code) = (again ≡ true) × (remembers x ≡ true) × IsSuccess code
 Stays x k = ⊥

@@ -12,7 +12,7 @@ pub record Item : Type 0 where
   pub moment : ℕ
   pub text : List ℕ
 
--- a mark and a restart have no message
+-- an entry with this action has a message: a mark and a restart have none
 abbrev pub HasMessage : Action → Type 0
 HasMessage action = (action ≢ Mark) × (action ≢ Restart)
 
@@ -24,15 +24,15 @@ has_message Failed = true
 has_message Mark = false
 has_message Restart = false
 
--- moments are at most 9,999,999,999,999, and a message has 1 to 65,535 bytes
+-- the moment is at most 9,999,999,999,999, and a message has 1 to 65,535 bytes
 abbrev pub IsWithinLimits : Action → ℕ → ℕ → Type 0
 IsWithinLimits action moment len = (moment ≤ last_moment) × (HasMessage action → (1 ≤ len) × (len ≤ 65535))
 
--- a restart is of format 2 alone
+-- an action of the format: a restart is of format 2 alone
 abbrev pub IsOf : Format → Action → Type 0
 IsOf format action = action ≡ Restart → format ≡ Two
 
--- an entry is of the format and keeps the limits, and a mark and a restart have no message
+-- the entry is of the format and keeps the limits, and has no message where it is a mark or a restart
 abbrev pub IsEntry : Format → Item → Type 0
 IsEntry format e = IsOf format e.action × IsWithinLimits e.action e.moment (length e.text) × (¬ (HasMessage e.action) → e.text ≡ [])
 
@@ -46,7 +46,7 @@ abbrev pub last_of : ℕ → List Item → ℕ
 last_of last [] = last
 last_of last (e ∷ es) = last_of e.moment es
 
--- an entry's line: its letter, SP, its moment; of a message also SP and its length
+-- an entry's line, without its LF: its letter, SP, its moment, and for a message also SP and its length
 abbrev pub line_says : Action → ℕ → ℕ → List ℕ
 line_says Sent moment len = codes "S " ++ decimal moment ++ (codes " " ++ decimal len)
 line_says Received moment len = codes "R " ++ decimal moment ++ (codes " " ++ decimal len)
@@ -54,7 +54,7 @@ line_says Failed moment len = codes "F " ++ decimal moment ++ (codes " " ++ deci
 line_says Mark moment len = codes "M " ++ decimal moment
 line_says Restart moment len = codes "Z " ++ decimal moment
 
--- what stands after an entry's line: the message and LF, nothing for a mark and a restart
+-- what stands after an entry's line: the message and LF, or nothing for a mark and a restart
 abbrev pub body_says : Action → List ℕ → List ℕ
 body_says Mark text = []
 body_says Restart text = []

@@ -16,11 +16,11 @@ line_feed = 10
 abbrev pub most_entries : ℕ
 most_entries = 1000000
 
--- the first of two cases: this one, with its fault, or it does not hold, and the later one does
+-- the first of two cases holds, with its fault; or it does not hold, and a later one does
 abbrev pub First : Type 0 → LogReason → LogReason → Type 0 → Type 0
 First Case its fault Later = (Case × (fault ≡ its)) ⊎ (¬ Case × Later)
 
--- the line at the front, with what is after its LF, which is among the first 32 bytes
+-- the front line of the rest, and what is after its LF, which is among the first 32 bytes
 pub record FrontLine (rest line behind : List ℕ) : Type 0 where
   pub whole : rest ≡ line ++ line_feed ∷ behind
   pub first : (k : ℕ) → k < length line → slice_index line k ≢ line_feed
@@ -50,7 +50,7 @@ EndsWith format count last rest (Stops fault) =
     ((((line behind : List ℕ) → ¬ (FrontLine rest line behind)) × First (length rest < 32) Truncated fault (fault ≡ EntryLine))
     ⊎ ((line : List ℕ) × (behind : List ℕ) × FrontLine rest line behind × LineFault format last line behind fault))
 
--- a header and these entries stand in a row at the front of an input, they keep limits and order, and then it ends so
+-- a header and these entries stand in a row at the front of an input, they keep limits and order, and the input ends in this way after them
 pub record LogSays (input : List ℕ) (p : Times) (items : List Item) (end : LogEnd) : Type 0 where
   pub format : Format
   pub rest : List ℕ

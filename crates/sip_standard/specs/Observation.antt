@@ -52,10 +52,10 @@ no_cookie = record { unit = Head; reason = NoCookie }
 
 -- what is observed of an entry whose message went this way
 pub data ObservesMessage (direction : Direction) (item : Item) (e : Observation KeyParts) : Type 0 where
-  -- the first fault of its bytes, sections 7 and 25
+  -- of a message with a fault: the first fault of its bytes, sections 7 and 25
   has_fault : (fault : Fault) → Says item.text (stops fault) → e ≡ fault_observation item fault → ObservesMessage direction item e
-  -- else, that it is sent and lacks the cookie
+  -- of a message without a fault that is sent and lacks the cookie: that fault
   has_no_cookie : (s : Said) → Says item.text (gives s) → lacks_cookie s direction ≡ true → e ≡ fault_observation item no_cookie → ObservesMessage direction item e
-  -- else its event and its keys, sections 17.1.3, 17.2.3 and 9.1
+  -- of any other message: its event and its keys, sections 17.1.3, 17.2.3 and 9.1
   is_heard : (s : Said) (keys : List KeyParts) → Says item.text (gives s) → lacks_cookie s direction ≡ false → Concerns s direction keys
       → e ≡ record { fault = None; event = message_event item s; keys = keys } → ObservesMessage direction item e

@@ -14,7 +14,7 @@ waiting_fields reliable request start set interval =
     Flag (codes "reliable") reliable ∷ Message (codes "request") (Some request) ∷ Number (codes "start") (Some start)
     ∷ Number (codes "set") (Some set) ∷ Number (codes "interval") (Some interval) ∷ []
 
--- the phases of the non-INVITE client
+-- what is told of a phase of the non-INVITE client
 abbrev pub plain_client_told : client.PlainClientPhase → Told (List ℕ)
 plain_client_told client.Idle = record { name = codes "idle"; fields = [] }
 plain_client_told (client.Trying w) = record { name = codes "trying"; fields = waiting_fields w.reliable w.request w.start w.set w.interval }
@@ -22,7 +22,7 @@ plain_client_told (client.Proceeding w) = record { name = codes "proceeding"; fi
 plain_client_told (client.Completed reliable set) = record { name = codes "completed"; fields = Flag (codes "reliable") reliable ∷ Number (codes "set") (Some set) ∷ [] }
 plain_client_told client.Ended = record { name = codes "ended"; fields = [] }
 
--- those of the non-INVITE server
+-- what is told of a phase of the non-INVITE server
 abbrev pub plain_server_told : server.PlainServerPhase → Told (List ℕ)
 plain_server_told server.Idle = record { name = codes "idle"; fields = [] }
 plain_server_told (server.Trying reliable) = record { name = codes "trying"; fields = Flag (codes "reliable") reliable ∷ [] }
@@ -30,7 +30,7 @@ plain_server_told (server.Proceeding reliable last) = record { name = codes "pro
 plain_server_told (server.Completed reliable final set) =
     record { name = codes "completed"; fields = Flag (codes "reliable") reliable ∷ Message (codes "final") (Some final) ∷ Number (codes "set") (Some set) ∷ [] }
 
--- those of the INVITE client, with and without RFC 6026
+-- what is told of a phase of the INVITE client, with and without RFC 6026
 abbrev pub invite_client_told : inviting.InviteClientPhase → Told (List ℕ)
 invite_client_told inviting.Idle = record { name = codes "idle"; fields = [] }
 invite_client_told (inviting.Calling w) = record { name = codes "calling"; fields = waiting_fields w.reliable w.request w.start w.set w.interval }
@@ -41,7 +41,7 @@ invite_client_told (inviting.Completed reliable request set) =
     record { name = codes "completed"; fields = Flag (codes "reliable") reliable ∷ Message (codes "request") (Some request) ∷ Number (codes "set") (Some set) ∷ [] }
 invite_client_told inviting.Ended = record { name = codes "ended"; fields = [] }
 
--- those of the INVITE server
+-- what is told of a phase of the INVITE server
 abbrev pub invite_server_told : invited.InviteServerPhase → Told (List ℕ)
 invite_server_told invited.Idle = record { name = codes "idle"; fields = [] }
 invite_server_told (invited.Proceeding reliable set last) =
@@ -55,7 +55,7 @@ invite_server_told (invited.Completed reliable final set repeat interval) =
     }
 invite_server_told (invited.Confirmed reliable set) = record { name = codes "confirmed"; fields = Flag (codes "reliable") reliable ∷ Number (codes "set") (Some set) ∷ [] }
 
--- those of the INVITE server without RFC 6026: whether the INVITE came again stands after the rest, where it matters
+-- what is told of a phase of the INVITE server without RFC 6026: where it matters, whether the INVITE came again stands last
 abbrev pub invite_server_3261_told : InviteServer3261Phase → Told (List ℕ)
 invite_server_3261_told Passed = record { name = codes "passed"; fields = [] }
 invite_server_3261_told (In x again) =

@@ -43,7 +43,7 @@ log_reason_number Truncated = 22
 log_reason_number Order = 23
 log_reason_number Limit = 24
 
--- its name
+-- the name of a log's fault
 abbrev pub log_reason_name : LogReason → List ℕ
 log_reason_name Header = codes "Header"
 log_reason_name EntryLine = codes "EntryLine"

@@ -6,7 +6,7 @@ use Rattle.sip_standard.specs.declared.verdict.Verdict.{Verdict}
 use Rattle.sip_standard.specs.declared.verdict.Verdict.TheVariants.{Legal, Malformed, Breach, Undecided, LogFault}
 use Rattle.sip_standard.specs.declared.fault as fault
 
--- where a message has its fault
+-- the text of where a message has its fault
 abbrev pub rendered_unit : fault.Unit.Unit → List ℕ
 rendered_unit Head = codes "head"
 rendered_unit (Line number) = codes "line " ++ decimal number

@@ -19,7 +19,7 @@ LinesTell rest first others =
     Then (Demand (StartSays first) (fault_in_line 0 reason.StartLine)) (λ start. Then (FieldsSay 1 others) (λ fields. Then (NamesSay fields) (λ names.
     Then (BodySays start (names.1) (names.0.1) (length_in (all "content-length" fields)) rest) (λ body. Gives (start, fields, body)))))
 
--- 1 to 11: those of the bytes, in whose head no CR stands without LF, and no LF without CR
+-- 1 to 11: what the lines of the bytes tell, in whose head no CR stands without LF, and no LF without CR
 abbrev pub BytesTell : List ℕ → Outcome (StartLine × List SaidField × List ℕ) → Type 0
 BytesTell bytes =
     Then (Demand (CutSays bytes) (fault_in_head reason.NoHeadEnd)) (λ cut.
@@ -43,7 +43,7 @@ ViasTell [] vias = vias ≡ []
 ViasTell (value ∷ values) vias =
     (now : List SaidVia) × (more : List SaidVia) × ViasSay now value × ViasTell values more × (vias ≡ now ++ more)
 
--- the text is the first of these
+-- the text is the first of these values
 abbrev pub IsFirstOf : List (List ℕ) → List ℕ → Type 0
 IsFirstOf values text = (more : List (List ℕ)) × (values ≡ text ∷ more)
 

@@ -4,7 +4,7 @@ use Rattle.sip_standard.specs.LogEntry.{Item}
 use Rattle.sip_standard.specs.Observation.{Observation}
 use Rattle.sip_standard.specs.VerdictOf.{Sees}
 
--- what is observed of the entries of a log, one after another, after these
+-- the observations of entries of a log, one after another, which come after those of the entries `before`
 abbrev pub AreSeen : List (Observation KeyParts) → List Item → List (Observation KeyParts) → Type 0
 AreSeen before [] [] = ⊤
 AreSeen before [] (e ∷ es) = ⊥

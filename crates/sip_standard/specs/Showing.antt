@@ -19,7 +19,7 @@ use Rattle.sip_standard.specs.declared.judge_error.JudgeError.TheVariants as jud
 use Rattle.sip_standard.specs.declared.show_error.ShowError.{ShowError}
 use Rattle.sip_standard.specs.declared.show_error.ShowError.TheVariants.{Read, Memory}
 
--- what stands for an entry's message: its canonical form, and nothing where it has none
+-- the text that stands for an entry's message: its canonical form, or nothing where the entry has none
 abbrev pub IsCanonOf : Action → List ℕ → List ℕ → Type 0
 IsCanonOf Sent bytes text = IsCanonical bytes text
 IsCanonOf Received bytes text = IsCanonical bytes text
@@ -31,19 +31,19 @@ IsCanonOf Restart bytes text = text ≡ []
 abbrev pub shown_entry : ℕ → Item → List ℕ → List ℕ
 shown_entry number e text = decimal number ++ codes " " ++ entry_says (record { action = e.action; moment = e.moment; text = text })
 
--- this text is shown of the entries after so many others
+-- this text is shown of the entries, whose numbers go on from `count`
 abbrev pub AreShown : ℕ → List Item → List ℕ → Type 0
 AreShown count [] text = text ≡ []
 AreShown count (e ∷ es) text =
     (form : List ℕ) × (more : List ℕ) × IsCanonOf e.action e.text form × AreShown (count + 1) es more × (text ≡ shown_entry (count + 1) e form ++ more)
 
--- the last line
+-- the last line of what is shown, by how it ends
 abbrev pub last_text : Shown → List ℕ
 last_text (End entries) = codes "end " ++ decimal entries
 last_text (Malformed entry fault) = rendered (verdicts.Malformed entry fault)
 last_text (LogFault entry reason) = rendered (verdicts.LogFault entry reason)
 
--- how it ends after so many entries: with the fault of the next one's message, or with the log
+-- what is shown ends in this way after `count` entries: with the fault of the next one's message, or with the log
 abbrev pub EndsAs : ℕ → List Item → LogEnd → Shown → Type 0
 EndsAs count (e ∷ rest) end shown = (fault : Fault) × (has_message e.action ≡ true) × Says e.text (stops fault) × (shown ≡ Malformed (count + 1) fault)
 EndsAs count [] Clean shown = shown ≡ End count
@@ -61,12 +61,12 @@ pub record ShowsEntries (input text : List ℕ) (shown : Shown) : Type 0 where
   pub ends : EndsAs (length items) rest end shown
   pub whole : text ≡ front ++ (last_text shown ++ line_feed ∷ [])
 
--- what is shown of an input, and how it ends
+-- this text is shown of an input, and it ends in this way
 abbrev pub IsShownOf : List ℕ → List ℕ → Shown → Type 0
 IsShownOf input text shown =
     (LacksHeader input × (shown ≡ LogFault 0 reasons.Header) × (text ≡ last_text shown ++ line_feed ∷ [])) ⊎ ShowsEntries input text shown
 
--- what a log that cannot be read, or a want of memory, is told as
+-- how it is told of a log that is shown that it cannot be read, or that memory is wanting
 abbrev pub unshown : JudgeError → ShowError
 unshown judging.Io = Read
 unshown judging.Memory = Memory

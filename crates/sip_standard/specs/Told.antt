@@ -3,7 +3,7 @@ use Rattle.std.specs.Option.{option_map}
 
 -- A phase in words, as a listing tells it: of messages M, which are bytes in a figure, and numbers of entries in a text.
 
--- a name with its value: whether it is so; a moment or an interval, if there is one; a message, if there is one
+-- a field of a phase: its name, and as its value a flag, a moment or an interval if there is one, or a message if there is one
 pub data ToldField (M : Type 0) : Type 0 where
   Flag : (name : List ℕ) → Bool → ToldField M
   Number : (name : List ℕ) → Option ℕ → ToldField M

@@ -2,7 +2,7 @@ use Rattle.sip_standard.specs.Figure.{Figure}
 
 -- A transaction of RFC 3261 section 17.
 
--- its figure, over phases that hold their messages as bytes
+-- a transaction: its figure, over phases that hold their messages as bytes
 pub record Transaction : Type 1 where
   pub Phase : Type 0
   pub figure : Figure Phase

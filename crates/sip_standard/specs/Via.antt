@@ -27,7 +27,7 @@ abbrev pub ParamSays : Option (List ℕ) → List ℕ → Type 0
 ParamSays (Some branch) = (λ name. Token name × AnyCase "branch" name) then Mark "=" then (Token is branch)
 ParamSays None = (λ name. Token name × ¬ (AnyCase "branch" name)) then Optional (Mark "=" then GenValue)
 
--- the first that is there
+-- the first text that is there
 abbrev pub first_some : List (Option (List ℕ)) → Option (List ℕ)
 first_some [] = None
 first_some (None ∷ more) = first_some more

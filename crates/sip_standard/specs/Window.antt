@@ -6,7 +6,7 @@ use Rattle.sip_standard.specs.Times.{Times}
 abbrev pub open_at : Times → ℕ → ℕ → ℕ
 open_at p s d = s + (d - p.early)
 
--- the last moment at which it may: so much after s + d as an element may be late; what is due at once has d = 0, so that a deadline is a close too
+-- the last moment at which a timer that was set at s for d may fire: so much after s + d as an element may be late; a deadline has d = 0
 abbrev pub close_at : Times → ℕ → ℕ → ℕ
 close_at p s d = s + d + p.late
 

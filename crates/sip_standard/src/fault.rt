@@ -26,7 +26,7 @@ impl fmt::Display for Unit {
     }
 }
 
-/// What is wrong.
+/// What is wrong with a message.
 #[derive(Clone, Copy, Debug, PartialEq, Eq)]
 pub enum Reason {
     /// There is no empty line.
@@ -120,7 +120,7 @@ impl fmt::Display for Reason {
 #[derive(Clone, Copy, Debug, PartialEq, Eq, Error)]
 #[error("{unit}: {reason} ({} {})", .reason.number(), .reason.name())]
 pub struct Fault {
-    /// Where it is.
+    /// Where the fault is.
     pub unit: Unit,
     /// What is wrong.
     pub reason: Reason,

@@ -6,7 +6,7 @@ pub enum Method {
     Invite,
     Ack,
     Cancel,
-    /// Any other.
+    /// Any other method.
     Other,
 }
 

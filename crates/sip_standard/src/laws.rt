@@ -11,13 +11,13 @@ ghost use Rattle.sip_standard.specs.VerdictOf.{events_for, IsWideAt};
 use crate::sink::Sink;
 use crate::source::Source;
 
-/// A source through a reference to it has left what it has left, and has failed if it has.
+/// Through a reference a source has left what it has left itself, and has failed where it has failed itself.
 pub fn a_source_through_a_reference_is_that_source<'a, S: Source>(source: &&'a mut S)
     ensures left { ⟦<&'a mut S as Source>⟧.left source.now ≡ S.left source.now.now }
     ensures failed { ⟦<&'a mut S as Source>⟧.has_failed source.now ≡ S.has_failed source.now.now }
 {}
 
-/// A sink through a reference to it has taken what it has taken, and has failed if it has.
+/// Through a reference a sink has taken what it has taken itself, and has failed where it has failed itself.
 pub fn a_sink_through_a_reference_is_that_sink<'a, S: Sink>(sink: &&'a mut S)
     ensures written { ⟦<&'a mut S as Sink>⟧.written sink.now ≡ S.written sink.now.now }
     ensures failed { ⟦<&'a mut S as Sink>⟧.has_failed sink.now ≡ S.has_failed sink.now.now }

@@ -1,19 +1,19 @@
-//! The side of a transaction, and the way of a message.
+//! The role of an element in a transaction, and the way of a message.
 
-/// The side of a transaction (RFC 3261, section 17).
+/// The role of an element in a transaction (RFC 3261, section 17).
 #[derive(Clone, Copy, Debug, PartialEq, Eq, Hash)]
 pub enum Role {
-    /// The side that sends the request.
+    /// The role of the element that sends the request.
     Client,
-    /// The side that receives it.
+    /// The role of the element that receives the request.
     Server,
 }
 
 /// Which way a message went.
 #[derive(Clone, Copy, Debug, PartialEq, Eq)]
 pub enum Direction {
-    /// It was sent, or its send was refused by the transport.
+    /// The message was sent, or its send was refused by the transport.
     Sent,
-    /// It was received.
+    /// The message was received.
     Received,
 }

@@ -1,4 +1,5 @@
 pub mod EachOnce
 pub mod Kept
 pub mod Listed
+pub mod Places
 pub mod Twice

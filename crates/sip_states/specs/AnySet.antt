@@ -29,20 +29,20 @@ meaning_of machine =
     }
 
 module _ (P : (X M S : Type 0) → Meaning X M S → Held M S → Type 0) where
-  -- P of a set of this machine
+  -- P holds of a set of this machine
   abbrev pub OfHeld : (machine : MachineKind) → Held Times (StateOf machine) → Type 0
   OfHeld machine s = P (PhaseOf machine) Times (StateOf machine) (meaning_of machine) s
 
-  -- P of the set, by its machine
+  -- P holds of the set, as one of its machine
   abbrev pub OfSet : AnySet → Type 0
   OfSet set = by_machine OfHeld set
 
 module _ (P : (X M S : Type 0) → Meaning X M S → Held M S → Held M S → Type 0) where
-  -- P of two sets of this machine
+  -- P holds of two sets of this machine
   abbrev pub OfHelds : (machine : MachineKind) → Held Times (StateOf machine) → Held Times (StateOf machine) → Type 0
   OfHelds machine s t = P (PhaseOf machine) Times (StateOf machine) (meaning_of machine) s t
 
-  -- the new set is of the old one's machine, and P of the two
+  -- the new set is of the machine of the old one, and P holds of the two
   abbrev pub OfSets : AnySet → AnySet → Type 0
   OfSets set new = by_one_machine OfHelds set new
 
@@ -50,23 +50,23 @@ module _ (P : (X M S : Type 0) → Meaning X M S → Held M S → Held M S → T
 abbrev pub moment_of : AnySet → ℕ
 moment_of set = (held_of set).1.moment
 
--- each of its states is there once, is in range and can wait at its moment, and there are not too many
+-- each state of the set is in it once, is in range and can wait at the set's moment, and there are no more than are followed
 abbrev pub IsKeptSet : AnySet → Type 0
 IsKeptSet set = OfSet (λ X M S m s. IsKeptBy m s) set
 
--- it has no state
+-- the set has no state
 abbrev pub IsEmpty : AnySet → Type 0
 IsEmpty set = OfSet (λ X M S m s. s.states ≡ []) set
 
--- the book has all that its states name
+-- the book has every message that the states of the set name
 abbrev pub IsKnownSet : Texts → AnySet → Type 0
 IsKnownSet texts set = OfSet (λ X M S m s. IsKnown m texts s) set
 
--- it has waited until the moment
+-- the new set is the old one once it has waited until the moment
 abbrev pub SetWaits : ℕ → AnySet → AnySet → Type 0
 SetWaits moment old new = OfSets (λ X M S m s t. HasWaited m moment s t) old new
 
--- it has taken the event
+-- the new set is the old one once it has taken the event
 abbrev pub SetTakes : Texts → NumberedEvent → AnySet → AnySet → Type 0
 SetTakes texts e old new = OfSets (λ X M S m s t. HasTaken m texts e s t) old new
 
@@ -74,15 +74,15 @@ SetTakes texts e old new = OfSets (λ X M S m s t. HasTaken m texts e s t) old n
 abbrev pub IsSetTooWide : Texts → NumberedEvent → AnySet → Type 0
 IsSetTooWide texts e set = OfSet (λ X M S m s. IsWide (Given m texts s e)) set
 
--- a wait can last until exactly the moments within the limit
+-- a wait in the set can last until exactly the moments within the limit
 abbrev pub IsAgendaOf : Option ℕ → AnySet → Type 0
 IsAgendaOf limit set = OfSet (λ X M S m s. HasAgenda m limit s) set
 
--- one state alone is in it, and it is the one before anything was sent or received, or the one after an end
+-- the set has one state, which is the first one or the ended one
 abbrev pub IsQuietIn : (machine : MachineKind) → Held Times (StateOf machine) → Type 0
 IsQuietIn machine s = (s.states ≡ idle_state (coded_of machine) ∷ []) ⊎ (s.states ≡ ended_state (coded_of machine) ∷ [])
 
--- the set is quiet: a restart of the element leaves it as it is
+-- the set is quiet, so that a restart of the element leaves it as it is
 abbrev pub IsQuietSet : AnySet → Type 0
 IsQuietSet set = by_machine IsQuietIn set
 

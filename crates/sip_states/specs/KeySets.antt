@@ -1,4 +1,4 @@
--- The machine of each key as rules, how the code has it, and the sets of its states.
+-- The machine of each key as rules, how the code represents it, and the sets of its states.
 use Rattle.std.specs.Prelude.{[], ◌∷◌}
 use Rattle.sip_standard.specs.Times.{Times}
 use Rattle.sip_machine.specs.Rules.{MachineRules}
@@ -17,17 +17,17 @@ use Rattle.sip_states.specs.declared.any_set.AnySet.{AnySet}
 use Rattle.sip_states.specs.declared.any_set.AnySet.TheVariants.{InviteClient, PlainClient, InviteServer, PlainServer, InviteClient3261, InviteServer3261}
 use Rattle.sip_standard.specs.KeyMachine.{MachineKind, OfInviteClient, OfPlainClient, OfInviteServer, OfPlainServer, OfInviteClient3261, OfInviteServer3261, transaction_of}
 
--- the states of each machine: a phase, and what is owed
+-- a state of the machine: a phase, and what is owed
 abbrev pub PhaseOf : MachineKind → Type 0
 PhaseOf machine = Owing (transaction_of machine).Phase
 
--- its rules with these times
+-- the rules of the machine with these times
 abbrev pub key_rules : Times → (machine : MachineKind) → MachineRules (PhaseOf machine)
 key_rules p machine = rules_of_figure (transaction_of machine).figure p
 
--- How the code has the machines, and the sets of their states.
+-- What follows is how the code represents the machines and the sets of their states.
 
--- how the code has each machine
+-- how the code represents each machine
 abbrev pub coded_of : (machine : MachineKind) → Coded (transaction_of machine).Phase
 coded_of OfInviteClient = invite_client_coded
 coded_of OfPlainClient = plain_client_coded
@@ -36,11 +36,11 @@ coded_of OfPlainServer = plain_server_coded
 coded_of OfInviteClient3261 = invite_client_3261_coded
 coded_of OfInviteServer3261 = invite_server_3261_coded
 
--- the states of each machine as the code has them
+-- a state of the machine as the code represents it
 abbrev pub StateOf : MachineKind → Type 0
 StateOf machine = CodeOwing (coded_of machine).Code
 
--- a set of this machine
+-- the set of this machine that holds these states
 abbrev pub set_of : (machine : MachineKind) → Held Times (StateOf machine) → AnySet
 set_of OfInviteClient s = InviteClient s
 set_of OfPlainClient s = PlainClient s
@@ -58,7 +58,7 @@ held_of (PlainServer s) = (OfPlainServer, s)
 held_of (InviteClient3261 s) = (OfInviteClient3261, s)
 held_of (InviteServer3261 s) = (OfInviteServer3261, s)
 
--- P of the set, by its machine
+-- P holds of the set, as one of its machine
 abbrev pub by_machine : ((machine : MachineKind) → Held Times (StateOf machine) → Type 0) → AnySet → Type 0
 by_machine P (InviteClient s) = P OfInviteClient s
 by_machine P (PlainClient s) = P OfPlainClient s
@@ -67,7 +67,7 @@ by_machine P (PlainServer s) = P OfPlainServer s
 by_machine P (InviteClient3261 s) = P OfInviteClient3261 s
 by_machine P (InviteServer3261 s) = P OfInviteServer3261 s
 
--- P of two sets that are of one machine
+-- P holds of two sets, which are of one machine
 abbrev pub by_one_machine : ((machine : MachineKind) → Held Times (StateOf machine) → Held Times (StateOf machine) → Type 0) → AnySet → AnySet → Type 0
 by_one_machine P (InviteClient s) (InviteClient t) = P OfInviteClient s t
 by_one_machine P (PlainClient s) (PlainClient t) = P OfPlainClient s t

@@ -6,8 +6,8 @@ use Rattle.sip_machine.specs.Rules.{MachineRules, Knows, StandFor}
 use Rattle.sip_states.specs.Runs.{Wait, RunGives, IsAgenda, widest}
 use Rattle.sip_states.specs.Held.{Held, IsKept}
 
--- what a machine M with states S of the code means: the messages that a state names, what it stands for, which moments it may have, the rules,
--- the last moment of a state, and the ended state
+-- what a machine M with states S of the code means: the messages that a state names, what it stands for, whether its moments are in range, the
+-- rules, the last moment of a state, and the ended state
 pub record Meaning (X M S : Type 0) : Type 1 where
   pub names : S → List ℕ
   pub seen : Texts → S → X
@@ -17,23 +17,23 @@ pub record Meaning (X M S : Type 0) : Type 1 where
   pub ended : M → S
 
 module _ {X M S : Type 0} (m : Meaning X M S) where
-  -- what every set keeps
+  -- the set keeps what every set keeps
   abbrev pub IsKeptBy : Held M S → Type 0
   IsKeptBy s = IsKept m.in_range m.until m.ended s
 
-  -- the book has all that the set's states name
+  -- the book has every message that the states of the set name
   abbrev pub IsKnown : Texts → Held M S → Type 0
   IsKnown texts s = All (Knows m.names texts) s.states
 
-  -- where one can stand who stood in the set and waits until the moment
+  -- the states in which one can stand at the moment, after standing in one of the set and waiting
   abbrev pub Waiting : Texts → Held M S → ℕ → X → Type 0
   Waiting texts s moment = Wait (m.rules s.machine) (Contains (map (m.seen texts) s.states)) s.moment moment
 
-  -- where one can stand after the event
+  -- the states in which one can stand after the event
   abbrev pub Given : Texts → Held M S → NumberedEvent → X → Type 0
   Given texts s e = RunGives (m.rules s.machine) (Waiting texts s e.moment) (event_in texts e)
 
-  -- the set, once it has waited until the moment
+  -- the new set is the old one once it has waited until the moment
   pub record HasWaited (moment : ℕ) (old new : Held M S) : Type 0 where
     pub machine : new.machine ≡ old.machine
     pub at : new.moment ≡ moment
@@ -41,7 +41,7 @@ module _ {X M S : Type 0} (m : Meaning X M S) where
         StandFor m.names m.in_range m.seen texts (Waiting texts old moment) new.states
     pub one_more : length new.states ≤ length old.states + 1
 
-  -- the set, once it has taken the event
+  -- the new set is the old one once it has taken the event
   pub record HasTaken (texts : Texts) (e : NumberedEvent) (old new : Held M S) : Type 0 where
     pub machine : new.machine ≡ old.machine
     pub at : new.moment ≡ e.moment

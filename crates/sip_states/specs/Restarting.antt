@@ -4,7 +4,7 @@ use Rattle.sip_states.specs.declared.any_set.AnySet.{AnySet}
 use Rattle.sip_states.specs.AnySet.{IsQuietSet}
 use Rattle.sip_states.specs.Tables.{Tabled, IsGiven}
 
--- these numbers were given, each once; every set with another number is quiet
+-- each of these numbers was given, and none is in the list twice; every set with another number is quiet
 pub record AreToRestart (t : Tabled) (numbers : List ℕ) : Type 0 where
   pub given : All (IsGiven t) numbers
   pub apart : AllPairs (λ a b. a ≢ b) numbers

@@ -3,7 +3,7 @@ use Rattle.sip_machine.specs.Limits.{IsWithin}
 use Rattle.sip_standard.specs.MachineEvent.{MachineEvent}
 use Rattle.sip_machine.specs.Rules.{MachineRules, Waits, Hide}
 
--- a step of a run: an end at any moment, or an event
+-- a step of a run: a hidden end at a moment, or an event
 pub data Step : Type 0 where
   Hides : ℕ → Step
   Takes : MachineEvent → Step
@@ -17,7 +17,7 @@ abbrev pub Does : {X : Type 0} → MachineRules X → X → Step → X → Type 
 Does r x (Hides h) y = Hide r x h y
 Does r x (Takes e) y = Waits r x e.moment × r.Take x e y
 
--- from x at h the steps lead to y at m, the moment of the last one: moments do not fall, and each state waits until the step that leaves it
+-- from x at h the steps lead to y at m, the moment of the last one; moments do not fall, and each state waits until the step that leaves it
 abbrev pub Goes : {X : Type 0} → MachineRules X → X → ℕ → List Step → X → ℕ → Type 0
 Goes r x h [] y m = (y ≡ x) × (m ≡ h)
 Goes {X} r x h (step ∷ steps) y m = (z : X) × (h ≤ moment_of_step step) × Does r x step z × Goes r z (moment_of_step step) steps y m
@@ -42,7 +42,7 @@ pub record Wait {X : Type 0} (r : MachineRules X) (S : X → Type 0) (h m : ℕ)
   pub ends : List ℕ
   pub stands : Reaches r start h (map Hides ends) y m
 
--- a state that e gives from one of S
+-- y is a state that the event gives from one of the states of S
 pub record RunGives {X : Type 0} (r : MachineRules X) (S : X → Type 0) (e : MachineEvent) (y : X) : Type 0 where
   pub before : X
   pub among : S before
@@ -54,7 +54,7 @@ pub record RuledRun {X : Type 0} (r : MachineRules X) (events : List MachineEven
   pub stands : Reaches r r.first 0 steps y m
   pub takes : taken steps ≡ events
 
--- y is the last state of a run over these events and e, whose last step is that of e
+-- y is the last state of a run over these events and then e, whose last step is that of e
 pub record AfterRun {X : Type 0} (r : MachineRules X) (events : List MachineEvent) (e : MachineEvent) (y : X) : Type 0 where
   pub steps : List Step
   pub goes : Goes r r.first 0 (steps ++ Takes e ∷ []) y e.moment
@@ -68,7 +68,7 @@ IsAgenda {X} r S h limit = (m : ℕ) → h ≤ m → ((y : X) × Wait r S h m y)
 abbrev pub widest : ℕ
 widest = 1024
 
--- there are more than that of which P holds
+-- P holds of more states than are followed
 pub record IsWide {X : Type 0} (P : X → Type 0) : Type 0 where
   pub many : List X
   pub distinct : AllPairs (λ x y. x ≢ y) many

@@ -1,4 +1,4 @@
--- What a sweep over the sets of tables does: they wait, and tell which messages they name.
+-- What a sweep over the sets of tables does: it lets them wait, and tells which messages they name.
 use Rattle.std.specs.Prelude.{◌≡◌, ◌<◌, ◌⊎◌, ◌↔◌, ◌++◌, [], ℕ, List, Some, AllPairs, Contains, flat_map, length, slice_get}
 use Rattle.sip_standard.specs.Times.{Times}
 use Rattle.sip_machine.specs.Owing.{owing_names}
@@ -18,15 +18,15 @@ names_of machine s = flat_map (owing_names (coded_of machine).names) s.states
 abbrev pub numbers_of : AnySet → List ℕ
 numbers_of set = names_of (held_of set).0 (held_of set).1
 
--- they were appended, each at least once
+-- the numbers of the messages that the set names were appended, each at least once
 abbrev pub AppendsNumbers : AnySet → List ℕ → List ℕ → Type 0
 AppendsNumbers set old new = by_machine (λ machine s. AppendsAll (names_of machine s) old new) set
 
--- the set has waited until the moment; or it names nothing, and stays
+-- the set has waited until the moment; or it names no message, and is as before
 abbrev pub IsAdvanced : ℕ → AnySet → AnySet → Type 0
 IsAdvanced moment old new = SetWaits moment old new ⊎ ((new ≡ old) × (numbers_of old ≡ []))
 
--- nothing but the sets changes, and P holds of each and what came of it
+-- nothing but the sets changes, and P holds of each set and what became of it
 pub record ChangesSets (P : AnySet → AnySet → Type 0) (old new : Tabled) : Type 0 where
   pub times : new.times ≡ old.times
   pub keys : new.keys ≡ old.keys
@@ -34,15 +34,15 @@ pub record ChangesSets (P : AnySet → AnySet → Type 0) (old new : Tabled) : T
   pub long : length new.sets ≡ length old.sets
   pub each : (n : ℕ) (before after : AnySet) → slice_get old.sets n ≡ Some before → slice_get new.sets n ≡ Some after → P before after
 
--- each set has waited until the moment, but for those that name nothing
+-- each set has waited until the moment, except for those that name no message, which may be as before
 abbrev pub AdvancesAll : ℕ → Tabled → Tabled → Type 0
 AdvancesAll moment old new = ChangesSets (IsAdvanced moment) old new
 
--- some have, and the others are as before
+-- each set has waited until the moment, or is as before
 abbrev pub AdvancesSome : ℕ → Tabled → Tabled → Type 0
 AdvancesSome moment old new = ChangesSets (λ before after. IsAdvanced moment before after ⊎ (after ≡ before)) old new
 
--- the numbers of the messages that the sets name were appended, ascending, each once
+-- the numbers of the messages that the sets name were appended, ascending and each once
 abbrev pub AppendsNamed : Tabled → List ℕ → List ℕ → Type 0
 AppendsNamed t old new =
     (added : List ℕ) × (new ≡ old ++ added) × AllPairs (λ a b. a < b) added × ((n : ℕ) → Contains added n ↔ Contains (flat_map numbers_of t.sets) n)

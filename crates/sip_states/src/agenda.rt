@@ -1,4 +1,4 @@
-//! The last moments on record, by index.
+//! The last moments on record, found by index or in the order of the moments.
 ghost use Rattle.std.specs.Prelude.{◌≡◌, ◌<◌, ◌++◌, ◌∷◌, [], IfNone, IfOk, IfSome, None, OnErr, OnOk, Some, length, position, slice_index_or, slice_set, true, ◌≤◌, ◌↔◌, ℕ};
 ghost use Rattle.std.specs.BTreeSet.{IsUnchanged};
 ghost use Rattle.sip_states.specs.Agenda.{Records, is_overdue};
@@ -9,7 +9,7 @@ use std::alloc::{AllocError, Global};
 use std::collections::BTreeSet;
 use std::marker::Model;
 
-/// The last moment on record of each index, if it was settled, and these moments in their order.
+/// For each index its last moment on record, once it was settled, and the last moments in their order.
 #[derive(Debug, Drop)]
 pub(crate) struct Agenda {
     records: Vec<Option<Option<u64>>>,
@@ -71,7 +71,7 @@ impl Agenda {
         }
     }
 
-    /// One more index, not settled yet.
+    /// Adds an index, which is not settled yet.
     pub(crate) fn push(&mut self) -> Result<(), AllocError>
         ensures ok { OnOk result (self.new ≡ self.old ++ None ∷ []) }
         ensures err { OnErr result (self.new ≡ self.old) }
@@ -80,7 +80,7 @@ impl Agenda {
         Ok(())
     }
 
-    /// Takes the last index away, which was not settled.
+    /// Takes the last index away, which must not be settled.
     pub(crate) fn pop(&mut self)
         requires { (rest : Records) × (self.old ≡ rest ++ None ∷ []) }
         ensures { self.old ≡ self.new ++ None ∷ [] }
@@ -88,7 +88,7 @@ impl Agenda {
         self.records.pop();
     }
 
-    /// One more index, with what is on record of it. On an error some of it may be there.
+    /// Adds an index with what is on record of it. On an error some of it may stay.
     #[tactic(auto, using(crate::proofs::lists::Kept::slice_set_last))]
     fn push_record(&mut self, recorded: Option<Option<u64>>) -> Result<(), AllocError>
         ensures { OnOk result (self.new ≡ self.old ++ recorded ∷ []) }
@@ -101,7 +101,7 @@ impl Agenda {
         Ok(())
     }
 
-    /// What is on record of the indices at which the flag is true, in their order.
+    /// Copies what is on record of the indices whose flag is true, in their order.
     pub(crate) fn kept(&self, alloc: Global, flags: &[bool]) -> Result<Agenda, AllocError>
         requires { length flags.now ≡ length self.now }
         ensures { IfOk result (λ agenda. agenda ≡ kept_of flags.now self.now) }
@@ -115,7 +115,7 @@ impl Agenda {
         Ok(agenda)
     }
 
-    /// How many indices there are.
+    /// The number of indices.
     pub(crate) fn len(&self) -> usize
         ensures { result ≡ length self.now }
     {
@@ -152,7 +152,7 @@ impl Agenda {
             .position(|kept| is_overdue(*kept, moment))
     }
 
-    /// An index whose last moment on record is below the moment: one with the earliest. It looks no further than that one.
+    /// An index with the earliest last moment, if that is below the moment. It looks no further than that one.
     pub(crate) fn overdue(&self, moment: u64) -> Option<usize>
         ensures some { IfSome result (λ index. (index < length self.now) × (is_overdue moment (slice_index_or self.now index None) ≡ true)) }
         ensures none { IfNone result (position (is_overdue moment) self.now ≡ None) }

@@ -17,21 +17,21 @@ use std::alloc::{AllocError, Global};
 /// The states in which the runs of one of the machines of RFC 3261 section 17 can stand.
 #[derive(Debug, Drop)]
 pub enum AnySet {
-    /// Section 17.1.1, with the accepted state of RFC 6026.
+    /// The INVITE client of section 17.1.1, with the accepted state of RFC 6026.
     InviteClient(StateSet<InviteClient>),
-    /// Section 17.1.2.
+    /// The non-INVITE client of section 17.1.2.
     PlainClient(StateSet<PlainClient>),
-    /// Section 17.2.1, with the accepted state of RFC 6026.
+    /// The INVITE server of section 17.2.1, with the accepted state of RFC 6026.
     InviteServer(StateSet<InviteServer>),
-    /// Section 17.2.2.
+    /// The non-INVITE server of section 17.2.2.
     PlainServer(StateSet<PlainServer>),
-    /// Section 17.1.1, without the accepted state of RFC 6026.
+    /// The INVITE client of section 17.1.1, without the accepted state of RFC 6026.
     InviteClient3261(StateSet<InviteClient3261>),
-    /// Section 17.2.1, without the accepted state of RFC 6026.
+    /// The INVITE server of section 17.2.1, without the accepted state of RFC 6026.
     InviteServer3261(StateSet<InviteServer3261>),
 }
 
-/// The same of a set, whichever machine it has.
+/// What `$answer` gives of the set of states that a set of any machine holds.
 macro_rules! each_machine {
     ($any:expr, $set:ident => $answer:expr) => {
         match $any {
@@ -84,7 +84,7 @@ impl AnySet {
         each_machine!(self, set => set.advance(moment))
     }
 
-    /// Takes the event. On an error the set is as before.
+    /// Takes the event, after waiting until its moment. On an error the set is as before.
     #[tactic(auto, using(crate::proofs::keyed::AnyLemmas::has_taken))]
     pub fn take(&mut self, book: &Book, event: &Event) -> Result<(), TakeError>
         requires order { moment_of self.old ≤ event.now.moment }
@@ -97,22 +97,22 @@ impl AnySet {
         each_machine!(self, set => set.take(book, event))
     }
 
-    /// Gives back the room that no state takes.
+    /// Gives back the room that no state needs.
     pub(crate) fn trim(&mut self)
         ensures { self.new ≡ self.old }
     {
         each_machine!(self, set => set.trim())
     }
 
-    /// Each state is there once and in range, each can wait at the moment, and there are at most
-    /// 1,024 beside the ended one.
+    /// What every set keeps: each state is in it once, is in range and can wait at the moment, and beside the ended one there are
+    /// at most 1,024.
     pub fn known(&self)
         ensures { IsKeptSet self.now }
     {
         each_machine!(self, set => set.known())
     }
 
-    /// The last moment to which some run can wait, in milliseconds; None if there is none.
+    /// The last moment to which some run can wait, in milliseconds, or `None` where every moment can be reached.
     pub fn last_moment(&self) -> Option<u64>
         requires { ¬ IsEmpty self.now }
         ensures { IsAgendaOf result self.now }
@@ -127,28 +127,28 @@ impl AnySet {
         each_machine!(self, set => set.names(out))
     }
 
-    /// Whether one of its states may name the message with this number.
+    /// Whether one of its states may name the message with this number. A number that none may name is named by none.
     pub fn may_name(&self, number: u32) -> bool
         ensures { result ≡ false → ¬ Contains (numbers_of self.now) number }
     {
         each_machine!(self, set => set.may_name(number))
     }
 
-    /// Whether it has one state alone, which is the one before anything was sent or received, or the one after an end.
+    /// Whether its only state is the first one, before anything was sent or received, or the ended one.
     pub fn is_quiet(&self) -> bool
         ensures { IsTrue result ↔ IsQuietSet self.now }
     {
         each_machine!(self, set => set.is_quiet())
     }
 
-    /// Its states in words, in no order of their own.
+    /// Its states in words, in no order.
     pub fn told(&self, alloc: Global) -> Result<Vec<ToldState>, AllocError>
         ensures { IfOk result (λ told. AreTold self.now told.items) }
     {
         each_machine!(self, set => told_states(alloc, set))
     }
 
-    /// Whether no run is left.
+    /// Whether it has no state, so that no run is left.
     pub fn is_empty(&self) -> bool
         ensures { IsTrue result ↔ IsEmpty self.now }
     {

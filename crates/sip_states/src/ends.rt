@@ -8,7 +8,7 @@ ghost use Rattle.sip_states.specs.inner.Ways.{is_within, IsFirstEnd, CanEnd, Som
 use sip_machine::{Machine, Phase, Pool};
 use std::alloc::AllocError;
 
-/// Whether the moment is not past the limit, if there is one.
+/// Whether the moment is within the limit, which none is past where there is no limit.
 pub(crate) fn is_within(moment: u64, limit: Option<u64>) -> bool
     ensures { result ≡ is_within moment limit }
 {
@@ -18,7 +18,7 @@ pub(crate) fn is_within(moment: u64, limit: Option<u64>) -> bool
     }
 }
 
-/// The first moment from `from` on at which the state at the index can end, None if it cannot.
+/// The first moment from `from` on at which the state at the index can end, or `None` where it cannot.
 #[inline(always)]
 fn first_end<M: Machine>(machine: &M, pool: &Pool<M::Phase>, at: usize, from: u64) -> Option<u64>
     requires at { at < length pool.now }
@@ -47,7 +47,7 @@ fn can_end<M: Machine>(machine: &M, pool: &Pool<M::Phase>, at: usize, from: u64,
     }
 }
 
-/// Whether one of the states can.
+/// Whether one of the states can end at a moment from `from` to `to`.
 #[inline(always)]
 pub(crate) fn some_can_end<M: Machine>(
     machine: &M,
@@ -81,7 +81,7 @@ fn keep_waiting<M: Machine>(machine: &M, pool: &mut Pool<M::Phase>, moment: u64)
     pool.truncate(kept);
 }
 
-/// Whether one of the states is in this phase, and owes nothing.
+/// Whether one of the states is in this phase and owes nothing.
 fn has_at_rest<P: Phase>(pool: &Pool<P>, phase: P) -> bool
     ensures { IsTrue result ↔ Contains pool.now (at_rest phase) }
 {
@@ -93,7 +93,7 @@ fn has_at_rest<P: Phase>(pool: &Pool<P>, phase: P) -> bool
     false
 }
 
-/// Lets the states wait: those that can stay, and the ended one where one of them can end.
+/// Lets the states wait until the moment: it keeps those that can stay, and adds the ended one where one of them can end.
 pub(crate) fn advance_states<M: Machine>(
     machine: &M,
     pool: &mut Pool<M::Phase>,
@@ -112,8 +112,7 @@ pub(crate) fn advance_states<M: Machine>(
     Ok(())
 }
 
-/// The last moment to which one can wait who stands in the state at the index, None if there is none: once the
-/// state can end one can wait for ever.
+/// The last moment to which one can wait from the state at the index, or `None` where one can wait for ever, as after an end.
 fn last_of<M: Machine>(machine: &M, pool: &Pool<M::Phase>, at: usize, from: u64) -> Option<u64>
     requires at { at < length pool.now }
     requires in_range { HoldsAt M.in_range pool.now at }
@@ -125,7 +124,7 @@ fn last_of<M: Machine>(machine: &M, pool: &Pool<M::Phase>, at: usize, from: u64)
     }
 }
 
-/// The last moment to which one can wait who stands in one of the states, None if there is none.
+/// The last moment to which one can wait from one of the states, or `None` where one can wait for ever.
 pub(crate) fn last_of_all<M: Machine>(machine: &M, pool: &Pool<M::Phase>, from: u64) -> Option<u64>
     requires some { pool.now ≢ [] }
     requires in_range { All M.in_range pool.now }

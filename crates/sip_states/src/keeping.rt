@@ -1,4 +1,4 @@
-//! Some elements of a list, by a flag for each.
+//! How elements of a list are kept, by a flag for each.
 ghost use Rattle.std.specs.Prelude.{◌≡◌, length};
 ghost use Rattle.indexmap.specs.IndexMap.{index_map_len};
 ghost use Rattle.sip_states.specs.Kept.{kept_of};
@@ -6,7 +6,7 @@ ghost use Rattle.sip_states.specs.Kept.{kept_of};
 use indexmap::IndexMap;
 use std::hash::{BuildHasher, Hash};
 
-/// Keeps the elements at which the flag is true, in their order; one without a flag goes.
+/// Keeps the elements whose flag is true, in their order, and drops the others and those without a flag.
 pub fn keep_each<T: Drop>(items: &mut Vec<T>, flags: &[bool])
     ensures { items.new.items ≡ kept_of flags.now items.old.items }
 {
@@ -20,7 +20,7 @@ pub fn keep_each<T: Drop>(items: &mut Vec<T>, flags: &[bool])
     items.truncate(count);
 }
 
-/// Keeps the entries at which the flag is true, in their order.
+/// Keeps the entries whose flag is true, in their order, and drops the others.
 pub(crate) fn keep_entries<K: Eq + Hash + Drop, V: Drop, H: BuildHasher>(
     map: &mut IndexMap<K, V, H>,
     flags: &[bool],

@@ -20,7 +20,7 @@ ghost use Rattle.sip_standard.specs.declared.rules.Rules.TheVariants.{R6026};
 
 use sip_machine::Machine;
 
-/// A run by the rules of a machine is one in the words of the standard, and an event leads from it to the same states.
+/// A run by the rules of a machine stands where one in the words of the standard stands, and an event leads from both to the same states.
 pub fn a_run_by_rules_stands()
     ensures stands { (p : Times) (machine : MachineKind) (events : List MachineEvent) (m : ℕ) (y : PhaseOf machine) →
         RuledRun (key_rules p machine) events m y ↔ Stands (transaction_of machine).figure p events m y }
@@ -28,15 +28,15 @@ pub fn a_run_by_rules_stands()
         AfterRun (key_rules p machine) events e y ↔ StandsAfter (transaction_of machine).figure p events e y }
 {}
 
-/// One wait or two lead to the same states.
+/// To wait until one moment and then until another leads to the same states as one wait until the latter.
 pub fn in_one_wait_or_two<M: Machine>(_machine: &M)
     ensures { (xs : List M.Seen) (h m n : ℕ) (y : M.Seen) → h ≤ m → m ≤ n →
         Wait (M.rules _machine.now) (Wait (M.rules _machine.now) (Contains xs) h m) m n y
         ↔ Wait (M.rules _machine.now) (Contains xs) h n y }
 {}
 
-/// The last states of runs are exactly what waiting and then stepping gives: from the first state at
-/// moment 0, and from the last states at the event before.
+/// The last states of runs are exactly what waiting and then an event give: from the first state at moment 0, and from the last
+/// states after the event before.
 pub fn by_waiting_and_stepping<M: Machine>(_machine: &M)
     ensures first { (e : MachineEvent) (y : M.Seen) → AfterRun (M.rules _machine.now) [] e y
         ↔ RunGives (M.rules _machine.now) (Wait (M.rules _machine.now) (λ x. x ≡ (M.rules _machine.now).first) 0 e.moment) e y }
@@ -44,7 +44,7 @@ pub fn by_waiting_and_stepping<M: Machine>(_machine: &M)
         ↔ RunGives (M.rules _machine.now) (Wait (M.rules _machine.now) (AfterRun (M.rules _machine.now) events e) e.moment f.moment) f y }
 {}
 
-/// A run over some events holds one over the first of them, which stands at any moment from those to the others.
+/// A run over some events contains a run over the first of them, which stands at any moment between those and the others.
 pub fn a_run_holds_one_over_fewer_events<M: Machine>(_machine: &M)
     ensures { (events more : List MachineEvent) (m n : ℕ) (y : M.Seen) → All (λ e. e.moment ≤ m) events → All (λ e. m ≤ e.moment) more → m ≤ n →
         RuledRun (M.rules _machine.now) (events ++ more) n y → (x : M.Seen) × RuledRun (M.rules _machine.now) events m x }
@@ -62,8 +62,8 @@ pub fn after_a_final_response_a_client_sends_no_request()
         StandsAfter (transaction_of (machine_of rules Client false)).figure p (before ++ request ∷ (between ++ final ∷ later)) e y → ⊥ }
 {}
 
-/// By the rules of RFC 6026 a client whose first event is an INVITE that it sends repeats it byte for byte, over an unreliable transport alone, and
-/// no earlier than T1 after it, less the time by which a timer may fire early (RFC 3261 section 17.1.1.2).
+/// By the rules of RFC 6026 a client whose first event is an INVITE that it sends repeats it byte for byte, over an unreliable
+/// transport alone, and no earlier than T1 after it, less the time by which a timer may fire early (RFC 3261 section 17.1.1.2).
 pub fn an_invite_is_sent_again_after_t1()
     ensures { (p : Times) (first : MachineEvent) (between : List MachineEvent) (e : MachineEvent) (y : PhaseOf (machine_of R6026 Client true)) → first.action ≡ Sent → first.kind ≡ Request Invite →
         e.action ≡ Sent → e.kind ≡ Request Invite →
@@ -71,12 +71,12 @@ pub fn an_invite_is_sent_again_after_t1()
         (e.text ≡ first.text) × (first.reliable ≡ false) × (open_at p first.moment p.t1 ≤ e.moment) }
 {}
 
-/// A restart of the element after a restart changes nothing.
+/// A second restart of the element, right after the first, changes nothing.
 pub fn a_second_restart_changes_nothing()
     ensures { (machine : MachineKind) (x y z : PhaseOf machine) → Restarts (transaction_of machine).figure x y → Restarts (transaction_of machine).figure y z → z ≡ y }
 {}
 
-/// A server sends nothing before a request came in (section 17.2), whichever rules it was built by, for INVITE and any other method.
+/// A server sends nothing before it has received a request (section 17.2), by both rules, for INVITE and any other method.
 pub fn a_server_sends_when_it_was_asked()
     ensures { (p : Times) (rules : Rules) (invite : Bool) (events : List MachineEvent) (e : MachineEvent) (y : PhaseOf (machine_of rules Server invite)) →
         StandsAfter (transaction_of (machine_of rules Server invite)).figure p events e y → e.action ≡ Sent →

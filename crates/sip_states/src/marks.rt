@@ -1,4 +1,4 @@
-//! Some of the indices of a list, which are found without a look at the others.
+//! Marks of indices: the marked ones are found without a look at the others.
 ghost use Rattle.std.specs.Prelude.{◌≡◌, ◌≢◌, ◌↔◌, ◌<◌, ◌≤◌, ◌++◌, ◌∷◌, [], ℕ, List, Bool, false, true, All, AllPairs, Contains, IfOk, OnErr, OnOk, length, set, get_or};
 ghost use Rattle.sip_states.specs.Tables.{most_keys};
 ghost use Rattle.sip_states.specs.inner.Marks.{IsMarked, exchanged_order, exchanged_places};
@@ -6,8 +6,8 @@ ghost use Rattle.sip_states.specs.inner.Marks.{IsMarked, exchanged_order, exchan
 use std::alloc::{AllocError, Global};
 use std::marker::Model;
 
-/// Which of the indices are marked. Those stand first in `order`, which has every index once; `places` tells
-/// where each stands. So an index is marked, and taken off, in few steps and without memory.
+/// Marks for the indices of a list. Those that are marked stand first in `order`, which has every index once, and `places` tells
+/// where each stands. So a mark is put on or taken off in few steps and without memory.
 #[derive(Debug, Drop)]
 pub(crate) struct Marks {
     order: Vec<u32>,
@@ -37,7 +37,7 @@ impl Marks {
         }
     }
 
-    /// So many indices, which are all marked.
+    /// Marks for `count` indices, which are all marked.
     pub(crate) fn all(alloc: Global, count: usize) -> Result<Self, AllocError>
         requires { count ≤ most_keys }
         ensures long { IfOk result (λ marks. length marks ≡ count) }
@@ -51,7 +51,7 @@ impl Marks {
         Ok(marks)
     }
 
-    /// One more index, which is not marked.
+    /// Adds an index, which is not marked.
     pub(crate) fn push(&mut self) -> Result<(), AllocError>
         requires { length self.old < most_keys }
         ensures ok { OnOk result (self.new ≡ self.old ++ false ∷ []) }
@@ -66,7 +66,7 @@ impl Marks {
         Ok(())
     }
 
-    /// Takes the last index away, which is not marked.
+    /// Takes the last index away, which must not be marked.
     pub(crate) fn pop(&mut self)
         requires { (rest : List Bool) × (self.old ≡ rest ++ false ∷ []) }
         ensures { self.old ≡ self.new ++ false ∷ [] }
@@ -111,7 +111,7 @@ impl Marks {
     }
 }
 
-/// The indices at two places change for one another.
+/// Exchanges the indices at two places of the order.
 fn exchange(order: &mut Vec<u32>, places: &mut Vec<u32>, p: usize, q: usize)
     requires first { p < length order.old.items }
     requires second { q < length order.old.items }

@@ -19,7 +19,7 @@ use std::alloc::{AllocError, Global};
 use std::marker::Model;
 use thiserror::Error;
 
-/// How many states are followed after an event.
+/// The most states that are followed after an event.
 const WIDEST: usize = 1_024;
 
 /// Why an event is not taken.
@@ -28,7 +28,7 @@ pub enum TakeError {
     /// A growth was refused.
     #[error("out of memory")]
     Memory,
-    /// It leads to more than 1,024 states.
+    /// The event leads to more than 1,024 states.
     #[error("more than 1,024 possible states")]
     TooMany,
 }
@@ -65,7 +65,7 @@ impl<M: Machine> Model for StateSet<M> {
 }
 
 impl<M: Machine> StateSet<M> {
-    /// The first state alone, at moment 0. It takes no more room than that one.
+    /// A set of the first state alone, at moment 0, with room for no other one.
     pub fn start(alloc: Global, machine: M) -> Result<Self, AllocError>
         ensures { IfOk result (λ set. set ≡ record { machine = machine; moment = 0; states = M.first machine ∷ [] }) }
     {
@@ -78,8 +78,7 @@ impl<M: Machine> StateSet<M> {
         })
     }
 
-    /// Lets the set wait until the moment: its states are those in which one can stand there. On an
-    /// error the set is as before.
+    /// Lets the set wait until the moment. It then has the states in which one can stand there. On an error the set is as before.
     pub fn advance(&mut self, moment: u64) -> Result<(), AllocError>
         requires { self.old.moment ≤ moment }
         ensures at { OnOk result ((self.new.machine ≡ self.old.machine) × (self.new.moment ≡ moment)) }
@@ -94,8 +93,8 @@ impl<M: Machine> StateSet<M> {
         Ok(())
     }
 
-    /// Takes the event: the states are those that it gives from one in which one can stand at its
-    /// moment. On an error the set is as before.
+    /// Takes the event. The set then has the states that the event gives from those in which one can stand at its moment. On an error
+    /// the set is as before.
     pub fn take(&mut self, book: &Book, event: &Event) -> Result<(), TakeError>
         requires order { self.old.moment ≤ event.now.moment }
         requires fits { FitsBook book.now event.now }
@@ -117,8 +116,8 @@ impl<M: Machine> StateSet<M> {
         Ok(())
     }
 
-    /// Lets the only state take the event where it stands, and tells whether it did. If it did not, or on an error, the set is
-    /// as before.
+    /// Lets the only state take the event where it stands, and tells whether it did. Where it did not, and on an error, the set is as
+    /// before.
     #[inline(always)]
     fn take_alone(&mut self, book: &Book, event: &Event) -> Result<bool, AllocError>
         requires order { self.old.moment ≤ event.now.moment }
@@ -139,7 +138,7 @@ impl<M: Machine> StateSet<M> {
         Ok(stepped)
     }
 
-    /// Lets each state take the event.
+    /// Lets each state take the event, and keeps the states that it leads to, each once.
     #[inline(never)]
     fn take_each(&mut self, book: &Book, event: &Event) -> Result<(), TakeError>
         requires order { self.old.moment ≤ event.now.moment }
@@ -170,22 +169,22 @@ impl<M: Machine> StateSet<M> {
         }
     }
 
-    /// Gives back the room that no state takes.
+    /// Gives back the room that no state needs.
     pub(crate) fn trim(&mut self)
         ensures { self.new ≡ self.old }
     {
         self.states.fit();
     }
 
-    /// Each state is there once and in range, each can wait at the moment, and there are at most
-    /// 1,024 beside the ended one.
+    /// What every set keeps: each state is in it once, is in range and can wait at the moment, and beside the ended one there are
+    /// at most 1,024.
     pub fn known(&self)
         ensures { IsKept M.in_range M.until M.ended self.now }
     {
         let _ = &self.states;
     }
 
-    /// The last moment to which some run can wait, in milliseconds; None if there is none.
+    /// The last moment to which some run can wait, in milliseconds, or `None` where every moment can be reached.
     pub fn last_moment(&self) -> Option<u64>
         requires { self.now.states ≢ [] }
         ensures { (texts : Texts) → IsAgenda (M.rules self.now.machine) (Contains (map (M.seen texts) self.now.states)) self.now.moment result }
@@ -203,7 +202,7 @@ impl<M: Machine> StateSet<M> {
         Ok(())
     }
 
-    /// Whether its one state is the first or the ended one.
+    /// Whether its only state is the first or the ended one.
     pub(crate) fn is_quiet(&self) -> bool
         ensures { IsTrue result ↔ (self.now.states ≡ M.first self.now.machine ∷ []) ⊎ (self.now.states ≡ M.ended self.now.machine ∷ []) }
     {
@@ -212,14 +211,14 @@ impl<M: Machine> StateSet<M> {
                 || self.states.is_at_rest(0, self.machine.ended()))
     }
 
-    /// Whether no run is left.
+    /// Whether it has no state, so that no run is left.
     pub fn is_empty(&self) -> bool
         ensures { IsTrue result ↔ (self.now.states ≡ []) }
     {
         self.states.is_empty()
     }
 
-    /// The states, each once, in any order.
+    /// The states, each once, in no order.
     pub fn states(&self) -> &Pool<M::Phase>
         ensures { result.now ≡ self.now.states }
     {
@@ -228,7 +227,7 @@ impl<M: Machine> StateSet<M> {
 }
 
 impl<M: Phases> StateSet<M> {
-    /// Whether a state may name the message with this number. One that owes something may name any.
+    /// Whether a state may name the message with this number. A state that owes something is taken to name any.
     pub(crate) fn may_name(&self, number: u32) -> bool
         ensures { result ≡ false → ¬ Contains (flat_map (owing_names M.names) self.now.states) number }
     {
@@ -256,8 +255,8 @@ fn state_may_name<M: Phases>(machine: &M, states: &Pool<M::Phase>, at: usize, nu
     }
 }
 
-/// Finds the states that the event gives, after the others, and tells where the first of each stand. On an error they may
-/// stand there still.
+/// Puts the states that the event gives after the others, and tells where the first of each of them stands. On an error some may
+/// stay there.
 fn given_rows<M: Machine>(
     machine: &M,
     book: &Book,

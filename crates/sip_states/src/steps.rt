@@ -1,4 +1,4 @@
-//! What an event gives from states.
+//! How states take an event: what it leads to is put after them.
 ghost use Rattle.std.specs.Prelude.{◌≡◌, ◌≤◌, ◌++◌, List, All, IfOk, OnOk, OnErr, drop, length, take};
 ghost use Rattle.std.specs.Bool.{OnTrue, OnFalse};
 ghost use Rattle.sip_machine.specs.NumberedEvent.{FitsBook, event_in};
@@ -10,8 +10,9 @@ use crate::ends::some_can_end;
 use sip_machine::{Book, Event, Machine, Pool};
 use std::alloc::AllocError;
 
-/// Lets the only state take the event where it stands, after standing in it at `from`, and tells whether it did: not where
-/// there are others, where it may end before, or where it gives not just one. Then, and on an error, all is as before.
+/// Lets the only state take the event where it stands, after standing in it at `from`, and tells whether it did. It does not where
+/// there are other states, where the state may end before the event, or where the event leads to none or to several states. If
+/// it did not, and on an error, the states are as before.
 #[inline(always)]
 pub(crate) fn step_alone<M: Machine>(
     machine: &M,
@@ -36,9 +37,9 @@ pub(crate) fn step_alone<M: Machine>(
     machine.step(book, pool, event)
 }
 
-/// Puts after the states those that the event gives from the ones in which one can stand at its moment, after standing in
-/// one of them at `from`, and tells where they begin; some may be found more than once. Between them the ended state may stand.
-/// On an error some may have been put after the others.
+/// Puts the states that the event leads to after the others, from those in which one can stand at its moment after standing in one
+/// at `from`, and tells where they begin. Some may be found more than once, and the ended state may stand before them. On an
+/// error some may have been put after the others.
 pub(crate) fn find_given<M: Machine>(
     machine: &M,
     book: &Book,
@@ -67,8 +68,8 @@ pub(crate) fn find_given<M: Machine>(
     Ok(first)
 }
 
-/// Puts after the states those that the event gives from the first ones, as many: none from one that cannot wait until its
-/// moment. On an error some may have been put after the others.
+/// Puts the states to which the event leads from the first `count` states after the others. A state that cannot wait until the
+/// moment of the event leads to none. On an error some may have been put after the others.
 fn step_each<M: Machine>(
     machine: &M,
     book: &Book,

@@ -1,4 +1,4 @@
-//! The states of every transaction, by key.
+//! The states of every transaction, found by its key.
 ghost use Rattle.std.specs.Prelude.{◌≡◌, ◌≢◌, ◌<◌, ◌≤◌, ◌+◌, ◌++◌, ◌-◌, ◌∷◌, [], All, AllPairs, length, slice_get, slice_index_or, ℕ, IfNone, IfOk, IfSome, None, OnErr, OnOk, Some, true, ◌↔◌};
 ghost use Rattle.std.specs.Borrow.{sem};
 ghost use Rattle.indexmap.specs.IndexMap.{keys, values, index_map_len, with_value_at};
@@ -30,9 +30,9 @@ pub struct Tables<H: BuildHasher> {
     params: Params,
     sets: IndexMap<Key, AnySet, H>,
     agenda: Agenda,
-    /// The sets that may name a message.
+    /// Which of the sets may name a message: those that are not marked name none.
     marks: Marks,
-    /// The sets that a restart of the element may change, those that may name a message among them.
+    /// Which of the sets a restart of the element may change: those that are not marked are quiet.
     moved: Marks,
 }
 
@@ -51,7 +51,7 @@ impl<H: BuildHasher> Model for Tables<H> {
         × (length t.moved ≡ index_map_len t.sets) × AreMoved t.moved t.marks (values t.sets) };
 }
 
-/// Puts a new key and its set after the others. On an error nothing changes, and both are dropped.
+/// Puts a new key and its set after the others. On an error nothing changes, and the key and its set are dropped.
 fn append<H: BuildHasher>(
     sets: &mut IndexMap<Key, AnySet, H>,
     key: Key,
@@ -85,7 +85,7 @@ fn advance_each<H: BuildHasher>(
     Ok(())
 }
 
-/// Gives back the room that the states of the set at the index do not take.
+/// Gives back the room that the states of the set at the index do not need.
 fn trim_at<H: BuildHasher>(sets: &mut IndexMap<Key, AnySet, H>, index: usize)
     requires { index < index_map_len sets.old }
     ensures { sets.new ≡ sets.old }
@@ -101,8 +101,8 @@ fn put_at<H: BuildHasher>(sets: &mut IndexMap<Key, AnySet, H>, index: usize, set
     sets[index] = set;
 }
 
-/// Takes the marks off those sets that name no message, and gives back what room they do not need. On an error some are still
-/// marked.
+/// Takes the mark off each set that names no message, and gives back the room that it does not need. On an error some of these sets
+/// are still marked.
 fn unmark_silent<H: BuildHasher>(
     marks: &mut Marks,
     sets: &mut IndexMap<Key, AnySet, H>,
@@ -129,7 +129,7 @@ fn unmark_silent<H: BuildHasher>(
     Ok(())
 }
 
-/// Takes both marks off those sets that are quiet, and gives back what room they do not need.
+/// Takes both marks off each set that is quiet, and gives back the room that it does not need.
 fn unmark_quiet<H: BuildHasher>(
     moved: &mut Marks,
     marks: &mut Marks,
@@ -171,8 +171,8 @@ impl<H: BuildHasher> Tables<H> {
         }
     }
 
-    /// The key's number. A new key gets the next one, and the set that it starts with. On an error
-    /// nothing changes, and the key is dropped.
+    /// Returns the number of the key. A new key gets the next number and the set that it starts with. On an error nothing changes, and
+    /// the key is dropped.
     pub fn touch(&mut self, key: Key) -> Result<u32, AllocError>
         requires { length self.old.keys < most_keys }
         ensures ok { IfOk result (λ number. Touches key number self.old self.new) }
@@ -221,7 +221,7 @@ impl<H: BuildHasher> Tables<H> {
         &self.sets[number as usize - 1]
     }
 
-    /// The set of the key with this number, to be changed.
+    /// The set of the key with this number, which the caller may change.
     pub fn set_mut(&mut self, number: u32) -> &mut AnySet
         requires { IsGiven self.old number }
         ensures* writes_back { sem 𝓛 (LendsSet H.row H.Hasher.row H.BuildHasher H.Hasher.Hasher self.entry number result) }
@@ -233,8 +233,7 @@ impl<H: BuildHasher> Tables<H> {
         &mut self.sets[index]
     }
 
-    /// Puts the last moment of the set of this number on record, in place of an older one. On an error
-    /// nothing changes.
+    /// Puts the last moment of the set of the key with this number on record, in place of an older one. On an error nothing changes.
     pub fn settle(&mut self, number: u32) -> Result<(), AllocError>
         requires given { IsGiven self.old number }
         requires state { HasState self.old number }
@@ -246,16 +245,15 @@ impl<H: BuildHasher> Tables<H> {
         self.agenda.set(index, limit)
     }
 
-    /// The least number whose last moment on record is below the moment, in milliseconds. It looks no
-    /// further than the earliest last moment, unless that one is below.
+    /// The least number whose last moment on record is below the moment, in milliseconds. It looks at the earliest last moment first,
+    /// and no further where that one is not below.
     pub fn due(&self, moment: u64) -> Option<u32>
         ensures { result ≡ due_of self.now moment }
     {
         self.agenda.due(moment).map(|index| index as u32 + 1)
     }
 
-    /// A number whose last moment on record is below the moment, in milliseconds: one with the earliest. It looks no further than
-    /// that one.
+    /// A number with the earliest last moment on record, if that is below the moment, in milliseconds. It looks no further than that one.
     pub fn overdue(&self, moment: u64) -> Option<u32>
         ensures some { IfSome result (λ number. IsGiven self.now number × (is_overdue moment (slice_index_or self.now.records (number - 1) None) ≡ true)) }
         ensures none { IfNone result (due_of self.now moment ≡ None) }
@@ -263,8 +261,8 @@ impl<H: BuildHasher> Tables<H> {
         self.agenda.overdue(moment).map(|index| index as u32 + 1)
     }
 
-    /// The key with this number starts anew: it has the set with which it came, and no last moment is on record. The states that
-    /// it had are dropped. On an error nothing changes.
+    /// Lets the key with this number start anew: it gets the set that a new key has, which can wait for ever. The states that it had are
+    /// dropped. On an error nothing changes.
     pub fn restart_key(&mut self, number: u32) -> Result<(), AllocError>
         requires { IsGiven self.old number }
         ensures ok { OnOk result (StartsAnew number self.old self.new) }
@@ -316,8 +314,8 @@ impl<H: BuildHasher> Tables<H> {
         out.extend_from_slice(&found)
     }
 
-    /// The numbers of the sets that a restart of the element may change: those that were lent to be changed since the last restart,
-    /// and those that it left with more than one state; after `wait_all` or `keep`, all of them.
+    /// The numbers of the sets that a restart of the element may change: those that were lent to be changed since the last restart, and
+    /// those that it left with more than one state. After `wait_all` or `keep` they are all of them.
     pub fn to_restart(&self) -> Result<Vec<u32>, AllocError>
         ensures { IfOk result (λ numbers. AreToRestart self.now numbers.items) }
     {
@@ -328,14 +326,14 @@ impl<H: BuildHasher> Tables<H> {
         Ok(numbers)
     }
 
-    /// The sets have taken a restart: those that it left quiet are not to take the next one.
+    /// Says that the sets have taken a restart of the element: those that it left quiet need not take the next one.
     pub fn restarted(&mut self)
         ensures { self.new ≡ self.old }
     {
         unmark_quiet(&mut self.moved, &mut self.marks, &mut self.sets);
     }
 
-    /// Keeps the keys at which the flag is true, in their order: they are numbered anew. On an error nothing changes.
+    /// Keeps the keys whose flag is true, in their order, and numbers them anew. On an error nothing changes.
     pub fn keep(&mut self, flags: &[bool]) -> Result<(), AllocError>
         requires { length flags.now ≡ length self.old.keys }
         ensures ok { OnOk result (self.new ≡ kept_tables flags.now self.old) }
@@ -361,14 +359,14 @@ impl<H: BuildHasher> Tables<H> {
         key
     }
 
-    /// How many keys there are.
+    /// The number of keys.
     pub fn len(&self) -> u32
         ensures { result ≡ length self.now.keys }
     {
         self.sets.len() as u32
     }
 
-    /// No key is there twice, and each has a set and a place for its last moment.
+    /// What all tables keep: no key is there twice, and each has a set and a place for its last moment.
     pub fn known(&self)
         ensures unique { AllPairs (λ a b. a ≢ b) self.now.keys }
         ensures sets { length self.now.sets ≡ length self.now.keys }
@@ -377,7 +375,7 @@ impl<H: BuildHasher> Tables<H> {
         let _ = self.sets.len();
     }
 
-    /// The earliest last moment on record, in milliseconds, and None where none is: nothing is overdue up to it.
+    /// The earliest last moment on record, in milliseconds, or `None` where none is: nothing is overdue up to it.
     pub fn earliest(&self) -> Option<u64>
         ensures { (moment : ℕ) → (due_of self.now moment ≡ None) ↔ IfSome result (λ last. moment ≤ last) }
     {

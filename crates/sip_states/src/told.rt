@@ -13,7 +13,7 @@ pub struct ToldState {
     pub owes: Vec<Run>,
 }
 
-/// The states of the set in words, in the order in which they stand there.
+/// The states of the set in words, in the order of the set.
 pub(crate) fn told_states<M: Phases>(
     alloc: Global,
     set: &StateSet<M>,

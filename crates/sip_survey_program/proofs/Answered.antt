@@ -10,6 +10,7 @@ use Rattle.sip_survey_program.specs.Answers.{IsAnswerTo, IsSurveyFor, IsSurveyed
 use Rattle.sip_survey_program.specs.Asked.{IsAskedBy}
 use Rattle.sip_survey_program.specs.Status.{status_of}
 
+-- a survey that is written of the log that was left is the survey that is asked for of the same log, with its status
 pub answered : (forget : Option ℕ) (part : Option PartOf) (left input before after : Option (List ℕ)) (s : Summary) (status : ℕ) → left ≡ input
     → IfSome left (λ bytes. (found : List Finding) × (text : List ℕ) × IsSurveyFor forget part bytes found s.end text × SumsUp found s × Appends before after text)
     → ((found : List Finding) → SumsUp found s → status ≡ status_of found s.end) → IsSurveyed forget part input before after status
@@ -20,7 +21,7 @@ answered forget part left input before after s status same written counts = subs
     by None none = tt
     by (Some bytes) (found, text, told, sums, appends) = (found, s.end, text, told, appends, counts found sums)
 
--- what is written for words is the answer to them, where they are told
+-- what is written for the words that were given is the answer to the words that are known, where they are the same
 pub answered_to : {E : Type 0} (known : Option (List (List ℕ))) (words : List (List ℕ)) (asked : Asked) (r : Result ℕ E) (now input : Option (List ℕ)) (after_words file : List ℕ → Option (List ℕ)) (before after : Option (List ℕ))
     → IfSome known (λ told. words ≡ told) → IsAskedBy words (Some asked) → now ≡ input → after_words ≡ file
     → IfOk r (IsSurveyed asked.forget asked.part (log_for asked.log now after_words) before after) → IfOk r (λ status. IfSome known (λ told. IsAnswerTo told input file before after status))

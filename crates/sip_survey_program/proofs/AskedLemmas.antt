@@ -1,4 +1,4 @@
--- Words that begin with one that says what the next one is.
+-- What words ask for that begin with `--part` or `--forget` and one word more.
 use Rattle.std.proofs.Common.{◌≡◌, ◌≢◌, ◌<◌, ◌^◌, ◌∙◌, ℕ, true, false, List, [], ◌∷◌, ◌++◌, Option, None, Some, IfSome, map, drop, get_or, codes, refl, sym, ap, subst, true≢false}
 use Rattle.std.specs.Prelude.{decimal}
 use Rattle.std.proofs.lemmas.Bool.{false≢true}
@@ -10,7 +10,7 @@ use Rattle.sip_survey_program.specs.declared.words.Log.TheVariants.{Input, File}
 use Rattle.sip_survey_program.specs.Asked.{CanBeNamed, IsAskedBy, IsRestFor, begin_with, forget_words, log_words, part_words, words_for}
 
 module _ {X : Type 0} (f : X → List ℕ) where
-  -- words that begin so are that word, the next one and the others
+  -- words of which the first is the given one are this word, the one after it, and the others
   pub split_first : (first : List ℕ) (words : List X) (b : X) → begin_with first (map f words) ≡ true → b ≡ get_or words 1 b → map f words ≡ first ∷ f b ∷ map f (drop 2 words)
   split_first first [] b begins second = absurd (cc)
   split_first first (x ∷ []) b begins second = absurd (cc)
@@ -18,11 +18,11 @@ module _ {X : Type 0} (f : X → List ℕ) where
       let is : f x ≡ first = (bytes_eq-Decides (f x) first).0 begins in
       ap (λ w. w ∷ f y ∷ map f more) is ∙ ap (λ w. first ∷ f w ∷ map f more) (sym second)
 
--- the words that ask for the same, where this has it forget
+-- the words that ask for the same part and log, by a survey that forgets as `forget` says
 abbrev Forgetting : Asked → Option ℕ → List (List ℕ)
 Forgetting asked forget = forget_words forget ++ part_words asked.part ++ log_words asked.log
 
--- words that do not begin so have it forget nothing
+-- words that do not begin with `--forget` ask for what their rest asks for, by a survey that forgets nothing
 pub without_forget : (words : List (List ℕ)) (r : Option Asked) → begin_with (codes "--forget") words ≡ false → IsRestFor None words r → IsAskedBy words r
 without_forget words (Some asked) other (is, part, none) =
     (is ∙ ap (Forgetting asked) (sym none), (part, subst (λ o. IfSome o (λ age. age < 2 ^ 32)) (sym none) tt))
@@ -35,13 +35,14 @@ without_forget words None other never = λ asked can same. by asked can same ask
         let begins : begin_with (codes "--forget") words ≡ true = ap (begin_with (codes "--forget")) whole in
         true≢false (sym begins ∙ other)
 
--- words that begin so have it forget, from the next word on
+-- what the words `--forget`, `second` and `more` ask for: a survey that forgets after the milliseconds of `second`, of the part and log of `more`
 record Forgets (asked : Asked) (second : List ℕ) (more : List (List ℕ)) : Type 0 where
   pub age : ℕ
   pub is : asked.forget ≡ Some age
   pub word : second ≡ decimal age
   pub others : more ≡ part_words asked.part ++ log_words asked.log
 
+-- where words that begin with `--forget` ask for something, they ask for a survey that forgets, by the word after it
 forgets : (asked : Asked) (second : List ℕ) (more : List (List ℕ)) → codes "--forget" ∷ second ∷ more ≡ words_for asked → Forgets asked second more
 forgets asked second more same =
     let (age, is, next, rest) = by asked.forget asked.part asked.log refl same in
@@ -57,6 +58,7 @@ forgets asked second more same =
         let rest : more ≡ part_words part ++ log_words log = cc in
         (age, is, next, rest)
 
+-- words of which the first is `--forget` and the second is the number `age` ask for what the others ask for, by a survey that forgets
 pub with_forget : (words : List (List ℕ)) (second : List ℕ) (more : List (List ℕ)) (age : ℕ) (r : Option Asked) → words ≡ codes "--forget" ∷ second ∷ more → age < 2 ^ 32 → second ≡ decimal age → IsRestFor (Some age) more r → IsAskedBy words r
 with_forget words second more age (Some asked) whole low next (is, part, forget) = (
   whole ∙ ap (λ w. codes "--forget" ∷ w ∷ more) next ∙ ap (λ ws. codes "--forget" ∷ decimal age ∷ ws) is ∙ ap (Forgetting asked) (sym forget),
@@ -64,6 +66,7 @@ with_forget words second more age (Some asked) whole low next (is, part, forget)
 )
 with_forget words second more age None whole low next never = λ asked can same. never asked can.0 (forgets asked second more (sym whole ∙ same)).others
 
+-- words of which the first is `--forget` and the second is no number below 2^32 ask for nothing
 pub no_forget : (words : List (List ℕ)) (second : List ℕ) (more : List (List ℕ)) → words ≡ codes "--forget" ∷ second ∷ more → ((age : ℕ) → age < 2 ^ 32 → second ≢ decimal age) → IsAskedBy words None
 no_forget words second more whole none = λ asked can same.
     let f = forgets asked second more (sym whole ∙ same) in

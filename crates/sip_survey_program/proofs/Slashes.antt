@@ -1,4 +1,4 @@
--- Two numbers round a slash.
+-- A word of two numbers with a slash between them is split at the slash.
 use Rattle.std.proofs.Common.{◌≡◌, ◌≢◌, ◌<◌, ◌+◌, ◌%◌, ◌^◌, ◌∙◌, ℕ, Bool, true, false, not, cond, nat_eq, List, [], ◌∷◌, ◌++◌, length, take, drop, get_or, refl, ap, arith}
 use Rattle.std.specs.Prelude.{decimal}
 use Rattle.std.specs.List.{position_or_len, before_first, after_first}
@@ -9,10 +9,11 @@ use Rattle.std.proofs.lemmas.Fmt.{decimal_by_steps}
 use Rattle.std.proofs.lemmas.List.Sums.{split_at_first, prefix_len_stops}
 use Rattle.sip_text.proofs.texts.LacksLemmas.{Lacks, lacks-append}
 
--- a byte is a slash
+-- whether a byte is a slash
 abbrev pub is_slash : ℕ → Bool
 is_slash b = nat_eq b 47
 
+-- no digit is a slash
 digit_lacks : (d : ℕ) → nat_eq (48 + d) 47 ≡ false
 digit_lacks d = by (nat_eq (48 + d) 47) refl
   where
@@ -20,11 +21,11 @@ digit_lacks d = by (nat_eq (48 + d) 47) refl
     by true e = let same = eqb-true (48 + d) 47 e in absurd (omega (arith, same))
     by false e = e
 
--- a number has none
+-- a number in digits has no slash
 decimal_lacks : (n : ℕ) → n < 2 ^ 64 → Lacks 47 (decimal n)
 decimal_lacks n low = decimal_by_steps (λ m ds. Lacks 47 ds) (λ m few. (digit_lacks m, tt)) (λ m ds many lacks. lacks-append 47 ds ((48 + m % 10) ∷ []) lacks (digit_lacks (m % 10), tt)) n low
 
--- the first slash stands after what has none
+-- where a text without a slash stands before a slash, the first slash stands at the text's length
 slash_at : (xs ys : List ℕ) → Lacks 47 xs → position_or_len is_slash (xs ++ 47 ∷ ys) ≡ length xs
 slash_at [] ys lacks = refl
 slash_at (x ∷ xs) ys (other, lacks) =
@@ -44,7 +45,7 @@ module _ (k n : ℕ) (low : k < 2 ^ 64) where
   pub has_slash : position_or_len is_slash (decimal k ++ 47 ∷ decimal n) ≢ length (decimal k ++ 47 ∷ decimal n)
   has_slash same = let long = length-append (decimal k) (47 ∷ decimal n) in let here = at in omega (arith, long, here, same)
 
--- what is split at its first slash is the two parts round one
+-- a word with a slash is the part before its first slash, the slash, and the part after it
 pub split_slash : (word : List ℕ) → position_or_len is_slash word < length word → word ≡ before_first is_slash word ++ 47 ∷ after_first is_slash word
 split_slash word within =
     let found = prefix_len_stops (λ b. not (is_slash b)) word 0 within in

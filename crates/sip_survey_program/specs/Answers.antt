@@ -1,4 +1,4 @@
--- What the program writes of a log, and the status that it ends with. What it reads and writes is spoken of where it is known.
+-- What the program writes of a log, and the status that it ends with. The definitions speak of input and output where these are known.
 use Rattle.std.specs.Prelude.{◌≡◌, ℕ, List, Option, None, Some, IfSome}
 use Rattle.std.specs.Io.KnownBytes.{Appends}
 use Rattle.sip_verdict.specs.declared.finding.Finding.{Finding}
@@ -13,7 +13,7 @@ use Rattle.sip_survey_program.specs.declared.words.Log.TheVariants.{Input, File}
 use Rattle.sip_survey_program.specs.Asked.{IsAskedBy}
 use Rattle.sip_survey_program.specs.Status.{status_of}
 
--- the survey of the input, or of the part that is named, and its text; one that forgets where the milliseconds are named after which it may
+-- the survey of the input, or of the part that is named, and its text; by a survey that may forget after these milliseconds, where they are named
 abbrev pub IsSurveyFor : (forget : Option ℕ) → Option PartOf → List ℕ → List Finding → SurveyEnd → List ℕ → Type 0
 IsSurveyFor None None input found end text = IsToldOf input found end text
 IsSurveyFor None (Some part) input found end text = IsPartToldOf part input found end text
@@ -25,7 +25,7 @@ IsSurveyed forget part input before after status =
     IfSome input (λ bytes. (found : List Finding) × (end : SurveyEnd) × (text : List ℕ) × IsSurveyFor forget part bytes found end text × Appends before after text
     × (status ≡ status_of found end))
 
--- the log that is asked for: the standard input, or what the file of that path has
+-- the log that is asked for: the standard input, or the file at this path
 abbrev pub log_for : Log → (input : Option (List ℕ)) (file : List ℕ → Option (List ℕ)) → Option (List ℕ)
 log_for Input input file = input
 log_for (File path) input file = file path.now

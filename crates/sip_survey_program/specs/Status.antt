@@ -5,7 +5,7 @@ use Rattle.sip_verdict.specs.declared.survey_end.SurveyEnd.{SurveyEnd}
 use Rattle.sip_verdict.specs.declared.survey_end.SurveyEnd.TheVariants.{Clean, LogFault}
 use Rattle.sip_verdict.specs.SurveyText.{is_undecided}
 
--- the status of the program by what it found and how the log ended
+-- the status of the program by what was found and how the log ended
 abbrev pub status_of : List Finding → SurveyEnd → ℕ
 status_of found (LogFault entry reason) = 2
 status_of [] (Clean entries transactions) = 0

@@ -5,7 +5,7 @@ ghost use Rattle.sip_survey_program.specs.Asked.{IsAskedBy, IsLogFor, IsRestFor,
 use crate::part_word::{number_of, part_of};
 use crate::words::{Asked, Log};
 
-/// The log that the words name: no word names the standard input, and one word the file at this path. More words name none.
+/// The log that the words name: no word names the standard input, and one word names the file at this path. More words name no log.
 fn log_of(words: &[String]) -> Option<Log<'_>>
     ensures { IsLogFor (map string_bytes words.now) result }
 {
@@ -30,7 +30,7 @@ fn names_forget(words: &[String]) -> bool
     words.len() >= 2 && words[0].as_str() == "--forget"
 }
 
-/// What the words ask for that come after those that have it forget.
+/// What the words ask for that come after the words about forgetting.
 fn rest_of(words: &[String], forget: Option<u32>) -> Option<Asked<'_>>
     ensures { IsRestFor forget (map string_bytes words.now) result }
 {
@@ -48,10 +48,10 @@ fn rest_of(words: &[String], forget: Option<u32>) -> Option<Asked<'_>>
     Some(Asked { log, part, forget })
 }
 
-/// What the words after the program's name ask for: no word asks for a survey of the standard input, and one word for that of the file
-/// at this path; `--part` and `K/N` before them for that of part K of N, which are numbers without leading zeros, from 1 and below 2^32;
-/// `--forget` and such a number, or 0, before all of these for a survey that forgets, so many milliseconds after its last entry, a
-/// transaction that is over. Other words ask for nothing. It takes no memory.
+/// What the words after the program's name ask for. No word asks for a survey of the standard input, and one word for a survey of the file at
+/// this path. `--part` and `K/N` before them ask for part K of N alone, which are numbers without leading zeros, from 1 and below 2^32.
+/// `--forget` and a number of milliseconds, from 0 and below 2^32, before all of these ask for a survey that forgets a transaction that is
+/// over once its last entry is so old. Other words ask for nothing. It takes no memory.
 pub fn asked(words: &[String]) -> Option<Asked<'_>>
     ensures { IsAskedBy (map string_bytes words.now) result }
 {

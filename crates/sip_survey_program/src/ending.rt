@@ -6,7 +6,7 @@ ghost use Rattle.sip_survey_program.specs.Ending.{status_at_end, told_at_end};
 use crate::failure::{Failure, status_without};
 use sip_log::Sink;
 
-/// Tells why there is no survey to the end, if there is none. The result is the status that the program ends with, also where nothing can be told.
+/// Tells why the survey was not written to its end, if it was not. It answers the status that the program ends with, also where nothing can be told.
 pub fn end<E: Sink>(ended: Result<u8, Failure>, errors: &mut E) -> u8
     ensures status { result ≡ status_at_end ended }
     ensures told { E.has_failed errors.new ≡ false → Appends (E.written errors.old) (E.written errors.new) (told_at_end ended) }

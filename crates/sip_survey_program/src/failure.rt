@@ -13,7 +13,7 @@ use thiserror::Error;
 /// Why the program ends before its last line.
 #[derive(Debug, Drop, Error)]
 pub enum Failure {
-    /// What was asked for, or the log, cannot be read.
+    /// The file, or the log, cannot be read.
     #[error("cannot read")]
     Read,
     /// A line cannot be written.
@@ -22,13 +22,13 @@ pub enum Failure {
     /// A growth was refused.
     #[error("out of memory")]
     Memory,
-    /// The words ask for nothing that it can do.
+    /// The words ask for nothing that the program can do.
     #[error("usage: sipsurvey [--forget MILLISECONDS] [--part K/N] [FILE]")]
     Usage,
 }
 
 impl Failure {
-    /// The line that is told of it on the standard error.
+    /// The line on the standard error that tells the failure.
     pub fn line(&self) -> &'static [u8]
         ensures { result.now ≡ line_of self.now }
     {
@@ -72,7 +72,7 @@ pub fn status_without(failure: &Failure) -> u8
     }
 }
 
-/// What could not be had from the system.
+/// The failure that stands for an error of the system: want of memory where that is the error, and else that something cannot be read.
 pub fn read_failure(error: io::Error) -> Failure
     ensures memory { error_kind error ≡ OutOfMemory → result ≡ Memory }
     ensures read { error_kind error ≢ OutOfMemory → result ≡ Read }

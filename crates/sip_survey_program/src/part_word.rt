@@ -4,7 +4,7 @@ ghost use Rattle.sip_survey_program.specs.PartWords.{IsNumberFor, IsPartBetween,
 use itoa::Buffer;
 use sip_part::Part;
 
-/// The number that a word is, below 2^32 and without a leading zero.
+/// The number that a word is: below 2^32, and without a leading zero. None where the word is no such number.
 pub(crate) fn number_of(word: &str) -> Option<u32>
     ensures { IsNumberFor word.now result }
 {
@@ -17,7 +17,7 @@ pub(crate) fn number_of(word: &str) -> Option<u32>
     Some(number)
 }
 
-/// The part that two numbers name, its own first.
+/// The part that two words name: its number and the count of all parts.
 fn part_between(number: &str, count: &str) -> Option<Part>
     ensures { IsPartBetween number.now count.now result }
 {
@@ -26,7 +26,7 @@ fn part_between(number: &str, count: &str) -> Option<Part>
     Part::new(number, count)
 }
 
-/// The part that a word names: `K/N` is part K of N, the least being 1.
+/// The part that a word names: `K/N` names part K of N, where K is 1 at least and N at most.
 pub fn part_of(word: &str) -> Option<Part>
     ensures { IsPartFor word.now result }
 {

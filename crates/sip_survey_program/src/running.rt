@@ -21,7 +21,7 @@ use sip_verdict::{Summary, SurveyError, survey, survey_forgetting, survey_part};
 use std::alloc::Global;
 use std::hash::BuildHasher;
 
-/// Writes the survey that is asked for of what the system has to be read.
+/// Writes the survey that is asked for of the log that the system has to be read.
 fn write_survey<S: System, W: Sink, H: BuildHasher + Drop>(
     alloc: Global,
     system: &mut S,
@@ -46,7 +46,7 @@ fn write_survey<S: System, W: Sink, H: BuildHasher + Drop>(
     }
 }
 
-/// Writes the survey of the log that is asked for. The answer is its status.
+/// Writes the survey of the log that is asked for, and answers its status.
 fn answer<S: System, W: Sink>(
     alloc: Global,
     system: &mut S,
@@ -66,7 +66,7 @@ fn answer<S: System, W: Sink>(
     Ok(status_of(&summary))
 }
 
-/// Writes what the words of the system ask for, each line as soon as it is found. The answer is the status.
+/// Writes what the words of the system ask for, each line as soon as its finding is found, and answers the status.
 pub fn run<S: System, W: Sink>(alloc: Global, system: &mut S, output: &mut W) -> Result<u8, Failure>
     requires { S.has_failed system.old ≡ false }
     ensures answer { IfOk result (λ status. IfSome (S.words system.old) (λ words. IsAnswerTo words (S.left system.old) (S.file system.old) (W.written output.old) (W.written output.new) status)) }
@@ -82,7 +82,7 @@ pub fn run<S: System, W: Sink>(alloc: Global, system: &mut S, output: &mut W) ->
     answer(alloc, system, asked, output)
 }
 
-/// The whole program: it runs, and tells on the standard error why it did not reach its last line. The result is the status that it ends with.
+/// The whole program: it runs, and tells on the standard error why it did not reach its last line. It answers the status that it ends with.
 pub fn program<S: System, W: Sink, E: Sink>(
     alloc: Global,
     system: &mut S,

@@ -1,12 +1,12 @@
 //! What the words of the program can ask for.
 use sip_part::Part;
 
-/// Whose log is surveyed.
+/// The log that is surveyed.
 #[derive(Clone, Copy, Debug)]
 pub enum Log<'a> {
-    /// That on the standard input.
+    /// The log on the standard input.
     Input,
-    /// That in a file.
+    /// The log in the file at this path.
     File(&'a str),
 }
 
@@ -15,6 +15,6 @@ pub enum Log<'a> {
 pub struct Asked<'a> {
     pub log: Log<'a>,
     pub part: Option<Part>,
-    /// The milliseconds after its last entry from which on a transaction may be forgotten that is over.
+    /// How many milliseconds after its last entry a transaction that is over may be forgotten; None where nothing is forgotten.
     pub forget: Option<u32>,
 }

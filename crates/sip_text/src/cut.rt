@@ -19,8 +19,8 @@ pub fn cut(text: &[u8], mark: u8) -> (&[u8], Option<&[u8]>)
     }
 }
 
-/// The same where each byte before the first mark is of the class, and None where one is not. The
-/// mark itself is not of the class, so that no byte is looked at twice.
+/// The text before the first mark, and the text after it if there is one, where each byte before that mark is of the
+/// class; None where one is not. The mark itself is not of the class, so that no byte is looked at twice.
 #[inline]
 pub fn cut_run(class: Class, text: &[u8], mark: u8) -> Option<(&[u8], Option<&[u8]>)>
     requires { is_in class mark ≡ false }

@@ -47,7 +47,7 @@ pub fn is_ipv6_address(text: &[u8]) -> bool
     is_v6(text)
 }
 
-// IPv6reference
+// Whether the text is an IPv6reference.
 fn is_v6_reference(text: &[u8]) -> bool
     ensures { result ≡ is_v6_reference text.now }
 {
@@ -60,14 +60,14 @@ fn is_v6_reference(text: &[u8]) -> bool
     }
 }
 
-// IPv6address
+// Whether the text is an IPv6address.
 fn is_v6(text: &[u8]) -> bool
     ensures { result ≡ is_v6 text.now }
 {
     is_hexpart(text) || has_v4_tail(text)
 }
 
-// An IPv6address that ends with an IPv4address.
+// Whether the text is an IPv6address that ends with an IPv4address.
 fn has_v4_tail(text: &[u8]) -> bool
     ensures { result ≡ has_v4_tail text.now }
 {
@@ -77,14 +77,14 @@ fn has_v4_tail(text: &[u8]) -> bool
     }
 }
 
-// What may stand before the last `:`, after which an IPv4address stands.
+// Whether the text may stand before the last `:` of an IPv6address, after which an IPv4address stands.
 fn is_before_v4(text: &[u8]) -> bool
     ensures { result ≡ is_before_v4 text.now }
 {
     is_hexpart(text) || is_open(text)
 }
 
-// A hexpart that ends with `::`, but for its last `:`.
+// Whether the text is a hexpart that ends with `::`, but for its last `:`.
 fn is_open(text: &[u8]) -> bool
     ensures { result ≡ is_open text.now }
 {
@@ -94,7 +94,7 @@ fn is_open(text: &[u8]) -> bool
     }
 }
 
-// hexpart
+// Whether the text is a hexpart.
 fn is_hexpart(text: &[u8]) -> bool
     ensures { result ≡ is_hexpart text.now }
 {
@@ -117,14 +117,14 @@ fn cut_double(text: &[u8]) -> (&[u8], Option<&[u8]>)
     (text, None)
 }
 
-// [ hexseq ]
+// Whether the text is empty or a hexseq.
 fn is_optional_hexseq(text: &[u8]) -> bool
     ensures { result ≡ is_optional_hexseq text.now }
 {
     text.is_empty() || is_hexseq(text)
 }
 
-// hexseq
+// Whether the text is a hexseq.
 fn is_hexseq(text: &[u8]) -> bool
     ensures { result ≡ is_hexseq text.now }
 {
@@ -143,7 +143,7 @@ fn is_hexseq(text: &[u8]) -> bool
     }
 }
 
-// IPv4address
+// Whether the text is an IPv4address.
 fn is_v4(text: &[u8]) -> bool
     ensures { result ≡ is_v4 text.now }
 {
@@ -167,28 +167,28 @@ fn past_decimal(text: &[u8]) -> Option<&[u8]>
     if has_len(3, group) { rest } else { None }
 }
 
-// One byte of the class or more, and at most so many.
+// Whether the text is one byte of the class or more, and at most `most`.
 fn is_group(class: Class, most: usize, text: &[u8]) -> bool
     ensures { result ≡ is_group class most text.now }
 {
     has_len(most, text) && all_in(class, text)
 }
 
-// One byte or more, and at most so many.
+// Whether the text has one byte or more, and at most `most`.
 fn has_len(most: usize, text: &[u8]) -> bool
     ensures { result ≡ has_len most text.now }
 {
     !text.is_empty() && text.len() <= most
 }
 
-// hostname
+// Whether the text is a hostname.
 fn is_hostname(text: &[u8]) -> bool
     ensures { result ≡ is_hostname text.now }
 {
     is_name(up_to(text, b'.').unwrap_or(text))
 }
 
-// A hostname without the dot at its end.
+// Whether the text is a hostname without a dot at its end.
 fn is_name(text: &[u8]) -> bool
     ensures { result ≡ are_labels (parts dot text.now) }
 {
@@ -205,7 +205,7 @@ fn is_name(text: &[u8]) -> bool
     }
 }
 
-// The text is not empty, and neither begins nor ends with a hyphen.
+// Whether the text is not empty, and neither begins nor ends with a hyphen.
 fn has_label_ends(text: &[u8]) -> bool
     ensures { result ≡ has_label_ends text.now }
 {
@@ -215,7 +215,7 @@ fn has_label_ends(text: &[u8]) -> bool
     }
 }
 
-// A last label has these ends, and begins with a letter.
+// Whether the text begins with a letter, as the last label must, and does not end with a hyphen.
 fn has_top_ends(text: &[u8]) -> bool
     ensures { result ≡ has_top_ends text.now }
 {

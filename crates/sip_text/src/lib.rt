@@ -1,4 +1,4 @@
-//! The lowest texts of SIP (RFC 3261, section 25.1), read exactly: tokens, blank runs, quoted
+//! The smallest texts of SIP's grammar (RFC 3261, section 25.1), read exactly: tokens, blank runs, quoted
 //! strings, hosts and URIs. No call allocates, and none fails.
 #![tactic(auto)]
 

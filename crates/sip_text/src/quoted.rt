@@ -22,7 +22,7 @@ pub fn read_quoted(text: &[u8]) -> Option<usize>
     Some(open + close + 2)
 }
 
-// The length of what may stand between two quotes, up to the first byte that may not.
+// The length of the longest front that may stand between two quotes: it ends before the first byte that may not.
 fn contents_len(text: &[u8]) -> usize
     ensures front { HasFront (Many QuotedItem) text.now result }
     ensures stops { item_len (drop result text.now) ≡ 0 }
@@ -38,7 +38,7 @@ fn contents_len(text: &[u8]) -> usize
     }
 }
 
-// The length of the byte, the pair or the blank at the front of the text, and 0 if there is none.
+// The length of the byte of qdtext, the quoted pair or the blank at the front of the text, and 0 if there is none.
 #[inline]
 fn item_len(text: &[u8]) -> usize
     ensures len { result ≡ item_len text.now }

@@ -31,7 +31,7 @@ pub fn token_len(text: &[u8]) -> usize
     last + block_len(text, last)
 }
 
-/// Whether each byte is one of a token.
+/// Whether each byte is a byte of a token.
 #[inline]
 pub fn are_token_bytes(text: &[u8]) -> bool
     ensures { result ≡ list_all is_token_byte text.now }
@@ -39,11 +39,11 @@ pub fn are_token_bytes(text: &[u8]) -> bool
     token_len(text) == text.len()
 }
 
-// How many bytes are looked at at once.
+// How many bytes are looked at in one step.
 const BLOCK: usize = 16;
 
-// For each low half of a byte a bit for each high half, 2 to 7, with which it makes a byte of a
-// token; and for each high half its bit.
+// For each low half of a byte, LOW has a bit for each high half, 2 to 7, with which it makes a byte of a token. For each high half
+// HIGH has its bit. A byte is one of a token exactly if its two entries share a bit.
 const LOW: [u8; 16] = [
     0x3a, 0x3f, 0x3e, 0x3e, 0x3e, 0x3f, 0x3e, 0x3f, 0x3e, 0x3e, 0x3d, 0x15, 0x14, 0x15, 0x35, 0x1c,
 ];
@@ -70,7 +70,7 @@ fn block_len(text: &[u8], at: usize) -> usize
     }
 }
 
-// What each byte's low half has.
+// The entry of LOW for the low half of each byte.
 #[inline]
 fn by_low(block: u8x16) -> u8x16
     ensures { result ≡ map (λ x. slice_index LOW (bit_and x 15)) block }
@@ -78,7 +78,7 @@ fn by_low(block: u8x16) -> u8x16
     u8x16::from_array(LOW).swizzle_dyn(block & u8x16::splat(15))
 }
 
-// What each byte's high half has.
+// The entry of HIGH for the high half of each byte.
 #[inline]
 fn by_high(block: u8x16) -> u8x16
     ensures { result ≡ map (λ x. slice_index HIGH (x / 16)) block }

@@ -91,7 +91,7 @@ struct Cuts<'a> {
     headers: Option<&'a [u8]>,
 }
 
-// The SIP URI whose scheme this text follows.
+// The SIP URI that the text is after its scheme and `:`.
 #[inline(always)]
 fn read_sip(secure: bool, text: &[u8]) -> Option<Uri<'_>>
     ensures { IsOnlyValue (SipText secure) uri_parts text.now result }
@@ -120,8 +120,8 @@ fn read_sip(secure: bool, text: &[u8]) -> Option<Uri<'_>>
     })
 }
 
-// Cuts what follows the scheme of a SIP URI, each time at the first byte that the part before it
-// cannot hold. Where no such byte stands after the userinfo, all of it is the host.
+// Cuts what follows the scheme of a SIP URI: each part ends at the first byte that it cannot hold. Where no such byte
+// stands after the userinfo, all that follows the userinfo is the host.
 #[inline(always)]
 fn cut_sip(text: &[u8]) -> Cuts<'_>
     ensures { IsSipCut text.now (cut_parts result) }
@@ -205,7 +205,7 @@ fn is_scheme(text: &[u8]) -> bool
     }
 }
 
-// The most digits of a port, and the highest.
+// The most digits of a port, and the highest port.
 const PORT_DIGITS: usize = 5;
 
 const LAST_PORT: u32 = 65535;
@@ -296,7 +296,7 @@ fn is_header(text: &[u8]) -> bool
     }
 }
 
-// Whether the text is one or more characters of the class.
+// Whether the text is one or more characters of the class: its bytes, and escapes.
 fn is_some_chars(class: Class, text: &[u8]) -> bool
     requires { is_in class percent ≡ false }
     ensures { IsTrue result ↔ OneOrMore (ClassChar class) text.now }
@@ -304,7 +304,7 @@ fn is_some_chars(class: Class, text: &[u8]) -> bool
     !text.is_empty() && is_chars(class, text)
 }
 
-// Whether the text is characters of the class: its bytes, and escapes. A `%` is never such a byte.
+// Whether the text is any number of characters of the class: its bytes, and escapes. A `%` is never a byte of the class.
 fn is_chars(class: Class, text: &[u8]) -> bool
     requires { is_in class percent ≡ false }
     ensures { IsTrue result ↔ Many (ClassChar class) text.now }
@@ -319,7 +319,7 @@ fn is_chars(class: Class, text: &[u8]) -> bool
     }
 }
 
-// What stands after the escape at the front.
+// What follows the escape at the front of the text, if the text begins with one.
 fn strip_escape(text: &[u8]) -> Option<&[u8]>
     ensures { option_copied result ≡ behind_escape text.now }
 {

@@ -124,7 +124,7 @@ impl Params {
         self.rules
     }
 
-    /// The first moment at which a timer that was set then for so long may fire, in milliseconds.
+    /// The first moment, in milliseconds, at which a timer may fire that was set at the moment `set` for `duration` milliseconds.
     pub fn opens(&self, set: u64, duration: u64) -> u64
         requires set { set ≤ last_moment }
         requires duration { duration < 2 ^ 50 }
@@ -133,7 +133,7 @@ impl Params {
         set + duration.saturating_sub(self.early())
     }
 
-    /// The last moment at which it may, in milliseconds.
+    /// The last moment, in milliseconds, at which a timer may fire that was set at the moment `set` for `duration` milliseconds.
     pub fn closes(&self, set: u64, duration: u64) -> u64
         requires set { set ≤ last_moment }
         requires duration { duration < 2 ^ 50 }
@@ -142,7 +142,7 @@ impl Params {
         set + duration + self.late()
     }
 
-    /// From when, and until when, a timer that was set then for so long may fire, in milliseconds.
+    /// From when, and until when, a timer may fire that was set at the moment `set` for `duration` milliseconds.
     pub fn window(&self, set: u64, duration: u64) -> (u64, Option<u64>)
         requires set { set ≤ last_moment }
         requires duration { duration < 2 ^ 50 }
@@ -151,7 +151,7 @@ impl Params {
         (self.opens(set, duration), Some(self.closes(set, duration)))
     }
 
-    /// The last moment at which what is due at once may be done, in milliseconds.
+    /// The last moment, in milliseconds, at which what is due at the moment itself may still be done.
     pub fn deadline(&self, moment: u64) -> u64
         requires { moment ≤ last_moment }
         ensures value { result ≡ close_at self.now moment 0 }

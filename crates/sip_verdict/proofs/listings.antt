@@ -1,5 +1,6 @@
 pub mod EntryText
 pub mod ListingLemmas
 pub mod NumberingLemmas
+pub mod StreamingLemmas
 pub mod WalkingLemmas
 pub mod WalksLemmas

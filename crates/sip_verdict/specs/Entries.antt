@@ -1,14 +1,14 @@
--- What is said of the entries of a log beside the words of the standard.
+-- Words about the entries of a log, beside those of the standard.
 use Rattle.std.specs.Prelude.{◌≡◌, ℕ, List, [], fold}
 use Rattle.sip_standard.specs.Key.{KeyParts}
 use Rattle.sip_standard.specs.LogEntry.{Item}
 use Rattle.sip_standard.specs.Observation.{Observation}
 use Rattle.sip_standard.specs.VerdictOf.{Sees}
 
--- the moment of the newest entry, 0 if there is none
+-- the moment of the newest of these entries, and 0 where there is none
 abbrev pub newest_moment : List (Observation KeyParts) → ℕ
 newest_moment es = fold (λ moment e. e.event.moment) 0 es
 
--- the entry concerns no key
+-- the item concerns no key: it has no message, or the message has no key
 abbrev pub ConcernsNone : Item → Type 0
 ConcernsNone item = (e : Observation KeyParts) × Sees [] item e × (e.keys ≡ [])

@@ -1,4 +1,4 @@
--- What a survey that forgets transactions stands for.
+-- What the entries of a log are to a survey that has forgotten transactions.
 use Rattle.std.specs.Prelude.{◌≡◌, ◌≤◌, ◌↔◌, ◌⊎◌, ℕ, Bool, false, List, ◌++◌, ◌∷◌, length, map, filter}
 use Rattle.sip_standard.specs.Key.{KeyParts}
 use Rattle.sip_standard.specs.Times.{Times}
@@ -13,27 +13,27 @@ use Rattle.sip_verdict.specs.SurveyOf.{IsSound, Breaks, Widens}
 use Rattle.sip_verdict.specs.SurveyLaws.{IsIdleAgain}
 use Rattle.sip_verdict.specs.SurveyText.{IsLastOf}
 
--- the entries without the transactions that are not kept: each has its moment, its event, and what it concerns of the others
+-- the entries without the transactions that are not kept: each has its moment, its event, and the kept ones of the keys that it concerns
 abbrev pub remembered : (KeyParts → Bool) → List (Observation KeyParts) → List (Observation KeyParts)
 remembered kept es = map (λ e. record { fault = e.fault; event = e.event; keys = filter kept e.keys }) es
 
--- a run over the events has ended by the moment, and none stands in any other state
+-- the transaction of this machine has ended by the moment: a run over its events stands in the ended phase then, and none stands in any other
 abbrev pub HasEnded : MachineKind → Times → List MachineEvent → ℕ → Type 0
 HasEnded kind p events m =
     Stands (transaction_of kind).figure p events m (quiet (transaction_of kind).figure.ended)
     × ((x : Owing (transaction_of kind).Phase) → Stands (transaction_of kind).figure p events m x → x ≡ quiet (transaction_of kind).figure.ended)
 
--- the transaction is over: it is in trouble, or idle again, or it has ended
+-- the transaction is over: it is in trouble, or it is idle again, or it has ended
 abbrev pub IsOver : Times → List (Observation KeyParts) → KeyParts → Type 0
 IsOver p es key =
     ¬ (IsSound p es key)
     ⊎ (IsIdleAgain (machine_of_key p.rules key) p (events_for key es) (newest_moment es) ⊎ HasEnded (machine_of_key p.rules key) p (events_for key es) (newest_moment es))
 
--- just those transactions of the entries are not kept that are over, and whose last entry has a number up to this one
+-- the keys that are not kept are just those of the entries whose transaction is over and whose last entry has a number up to `until`
 abbrev pub ForgetsUpTo : ℕ → Times → List (Observation KeyParts) → (KeyParts → Bool) → Type 0
 ForgetsUpTo until p es kept = (key : KeyParts) → (kept key ≡ false) ↔ (IsOver p es key × ((last : ℕ) × IsLastOf es key last × (last ≤ until)))
 
--- at the entry with the same number of those that came after old and after left, the key has the same trouble
+-- the entries `es` came after `old`, and the entries `others` after `left`: the key has the same trouble at entries of the same number in both
 abbrev pub HasSameTroubleAfter : Times → (old left : List (Observation KeyParts)) → (es others : List (Observation KeyParts)) → KeyParts → Type 0
 HasSameTroubleAfter p old left es others key =
     (front back : List (Observation KeyParts)) (e f : Observation KeyParts) (rest more : List (Observation KeyParts)) → es ≡ front ++ e ∷ rest → others ≡ back ++ f ∷ more

@@ -1,4 +1,4 @@
--- What a judge that takes the entries of a log as they come stands for.
+-- What a judge holds while it takes the entries of a log as they come, and what it can answer.
 use Rattle.std.specs.Prelude.{◌≡◌, ◌≢◌, ◌≤◌, ◌+◌, ℕ, List, [], ◌∷◌, ◌++◌, Option, Some, None, Result, Ok, Err, All, length}
 use Rattle.sip_standard.specs.Key.{KeyParts}
 use Rattle.sip_standard.specs.Times.{Times, last_moment}
@@ -30,20 +30,20 @@ pub record Judging : Type 0 where
   pub left : ℕ
   pub stage : Stage
 
--- messages and sets follow these entries, none of which is in trouble; so many messages were named after one of them, and few more are kept
+-- messages and sets follow these entries, none of which is in trouble; `left` messages were named after one of them, and few more are kept
 pub record AreFollowed (texts : Texts) (t : Tabled) (left : ℕ) (es : List (Observation KeyParts)) : Type 0 where
   pub tracks : TablesTrack texts es t
   pub named : WereNamed t.times es left
   pub few : length texts ≤ left + left + 64
 
--- the judge stands for these entries
+-- the judge has taken just these entries
 pub record StandsFor (j : Judging) (es : List (Observation KeyParts)) : Type 0 where
   pub goes_on : j.stage ≡ Open
   pub number : j.number ≡ length es
   pub moment : j.moment ≡ newest_moment es
   pub follows : AreFollowed j.texts j.tables j.left es
 
--- an entry of this number and moment may come after one of the number count and the moment last
+-- an entry with this number and moment may come after an entry with the number `count` and the moment `last`
 pub record MayComeNext (count last number moment : ℕ) : Type 0 where
   pub next : number ≡ count + 1
   pub order : last ≤ moment
@@ -55,24 +55,24 @@ abbrev pub CanWaitUntil : Times → List (Observation KeyParts) → ℕ → Type
 CanWaitUntil p es moment =
     All (λ key. let machine = transaction_of (machine_of_key p.rules key) in (x : Owing machine.Phase) × Stands machine.figure p (events_for key es) moment x) (keys_in es)
 
--- what is judged of an entry after those that the judge stood for: it stands for this one too, or this is the verdict of the entry
+-- the judge has taken this entry as well, after the others, or the verdict of the entry is given
 abbrev pub IsNext : Judging → List (Observation KeyParts) → Observation KeyParts → Option Verdict → Type 0
 IsNext j es e None = StandsFor j (es ++ e ∷ [])
 IsNext j es e (Some v) = HasTrouble j.tables.times es e v
 
--- what a judge of this stage can answer: a verdict that was told again, and after a failure that it failed
+-- what a judge at this stage can answer: the verdict again where it has told one, and that it failed where it has failed
 abbrev pub CanAnswer : Stage → Result (Option Verdict) StepError → Type 0
 CanAnswer Open answer = answer ≢ Err errors.Failed
 CanAnswer (Told v) answer = answer ≡ Ok (Some v)
 CanAnswer Failed answer = answer ≡ Err errors.Failed
 
--- how far it is after an answer
+-- the stage of a judge after this answer
 abbrev pub stage_after : Result (Option Verdict) StepError → Stage
 stage_after (Ok None) = Open
 stage_after (Ok (Some v)) = Told v
 stage_after (Err e) = Failed
 
--- the verdict with which a judge ends that took so many entries, of so many transactions: what it told, or that they are legal; none after a failure
+-- the verdict with which a judge ends: the one that it told, or that this many entries of this many transactions are legal; none where it has failed
 abbrev pub last_verdict : ℕ → ℕ → Stage → Option Verdict
 last_verdict entries transactions Open = Some (Legal entries transactions)
 last_verdict entries transactions (Told v) = Some v

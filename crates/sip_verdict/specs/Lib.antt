@@ -4,6 +4,7 @@ pub mod ForgettingText
 pub mod Judging
 pub mod LegalLog
 pub mod Named
+pub mod Room
 pub mod SurveyLaws
 pub mod SurveyOf
 pub mod SurveyParts

@@ -6,13 +6,14 @@ use Rattle.sip_standard.specs.Stands.{Stands}
 use Rattle.sip_standard.specs.KeyMachine.{MachineKind, machine_of_key, transaction_of}
 use Rattle.sip_standard.specs.Observation.{Observation}
 use Rattle.sip_standard.specs.VerdictOf.{events_for}
+use Rattle.sip_standard.specs.PhaseWords.{words_of}
 use Rattle.sip_machine.specs.Told.{messages_told}
-use Rattle.sip_states.specs.KeySets.{PhaseOf, coded_of}
+use Rattle.sip_states.specs.KeySets.{PhaseOf}
 use Rattle.sip_verdict.specs.Entries.{newest_moment}
 
--- the messages that a state names: those that its phase tells, and what is owed
+-- the messages that a state names: those that its phase tells of, and those that are owed
 abbrev pub messages_of : (machine : MachineKind) → PhaseOf machine → List (List ℕ)
-messages_of machine x = messages_told ((coded_of machine).told x.phase) ++ map (λ owed. owed.message) x.owes
+messages_of machine x = messages_told (words_of machine x.phase) ++ map (λ owed. owed.message) x.owes
 
 -- the messages that a state of the machine of this key names
 abbrev pub key_messages : (p : Times) (key : KeyParts) → PhaseOf (machine_of_key p.rules key) → List (List ℕ)
@@ -25,20 +26,20 @@ pub record IsNamed (p : Times) (es : List (Observation KeyParts)) (text : List �
   pub stands : Stands (transaction_of (machine_of_key p.rules key)).figure p (events_for key es) (newest_moment es) state
   pub names : Contains (key_messages p key state) text
 
--- there are just so many texts of which P holds
+-- P holds of exactly `count` texts
 pub record AreMany (P : List ℕ → Type 0) (count : ℕ) : Type 0 where
   pub texts : List (List ℕ)
   pub distinct : AllPairs (λ a b. a ≢ b) texts
   pub just : (text : List ℕ) → Contains texts text ↔ P text
   pub counts : count ≡ length texts
 
--- this many messages were named after some entry, or before the first
+-- exactly `count` messages are named after the first entries of the log, for some number of them, which may be 0
 pub record WereNamed (p : Times) (es : List (Observation KeyParts)) (count : ℕ) : Type 0 where
   pub front : List (Observation KeyParts)
   pub rest : List (Observation KeyParts)
   pub whole : es ≡ front ++ rest
   pub many : AreMany (IsNamed p front) count
 
--- few messages are kept: at most twice as many as were named after some entry, and 64 more
+-- few messages are kept: at most twice as many as are named after the first entries, for some number of them, and 64 more
 abbrev pub AreFew : Times → List (Observation KeyParts) → ℕ → Type 0
 AreFew p es kept = (named : ℕ) × WereNamed p es named × (kept ≤ named + named + 64)

@@ -1,4 +1,4 @@
--- What the laws of surveys speak of.
+-- The words in which the laws of surveys are said.
 use Rattle.std.specs.Prelude.{◌≡◌, ◌↔◌, ◌⊎◌, ◌+◌, ◌≢◌, ℕ, Bool, true, false, List, [], ◌∷◌, ◌++◌, length, filter, All, Contains, ⊤}
 use Rattle.sip_standard.specs.Key.{KeyParts}
 use Rattle.sip_standard.specs.declared.action.Action.TheVariants.{Mark, Restart}
@@ -15,7 +15,7 @@ use Rattle.sip_standard.specs.Seen.{AreSeen}
 use Rattle.sip_standard.specs.VerdictOf.{keys_in}
 use Rattle.sip_verdict.specs.SurveyOf.{Breaks, Widens, HoldsOf}
 
--- The transactions in trouble.
+-- What follows is of the transactions in trouble.
 
 -- the finding is of the transaction with this number
 abbrev pub IsOf : ℕ → Finding → Type 0
@@ -23,25 +23,25 @@ IsOf transaction (Malformed entry fault) = ⊥
 IsOf transaction (Breach entry number) = number ≡ transaction
 IsOf transaction (Undecided entry number) = number ≡ transaction
 
--- the findings say this of the key at the entry with this number, by the key's number among those that are counted
+-- the findings have one of this kind of the key at the entry with this number, where keys have their numbers among those that are counted
 abbrev pub Names : (ℕ → ℕ → Finding) → (List (Observation KeyParts) → List KeyParts) → List (Observation KeyParts) → List Finding → KeyParts → ℕ → Type 0
 Names kind counted es found key entry =
     (front : List (Observation KeyParts)) × (e : Observation KeyParts) × (more : List (Observation KeyParts)) × (number : ℕ)
     × (es ≡ front ++ e ∷ more) × (entry ≡ length front + 1) × HoldsOf (λ k. k ≡ key) (counted (front ++ e ∷ [])) number × Contains found (kind entry number)
 
--- the findings name the key at one of the entries
+-- some finding names the key at one of the entries
 abbrev pub AreAbout : List (Observation KeyParts) → List Finding → KeyParts → Type 0
 AreAbout es found key = (entry : ℕ) × (Names (λ n t. Breach n t) keys_in es found key entry ⊎ Names (λ n t. Undecided n t) keys_in es found key entry)
 
--- The log of some transactions.
+-- What follows is of the log of some transactions.
 
--- an item stays that concerns chosen keys alone, and a restart; one that concerns none of them becomes a mark of its moment
+-- an item stays where it concerns chosen keys alone, or is a restart; an item that concerns no chosen key becomes a mark of its moment
 abbrev pub StaysOrIsMark : (KeyParts → Bool) → Item → Observation KeyParts → Item → Type 0
 StaysOrIsMark chosen item e cut =
     ((cut ≡ item) × ((item.action ≡ Restart) ⊎ All (λ key. chosen key ≡ true) e.keys))
     ⊎ ((cut ≡ record { action = Mark; moment = item.moment; text = [] }) × All (λ key. chosen key ≡ false) e.keys)
 
--- the log of some keys: each item is either so
+-- the log of some keys: each item of the whole log stays in it or becomes a mark in it
 abbrev pub IsCutLog : (KeyParts → Bool) → List Item → List (Observation KeyParts) → List Item → Type 0
 IsCutLog chosen [] [] [] = ⊤
 IsCutLog chosen (item ∷ items) (e ∷ es) (cut ∷ cuts) = StaysOrIsMark chosen item e cut × IsCutLog chosen items es cuts
@@ -51,13 +51,13 @@ IsCutLog chosen items es cuts = ⊥
 abbrev pub chosen_in : (KeyParts → Bool) → List (Observation KeyParts) → List KeyParts
 chosen_in chosen es = filter chosen (keys_in es)
 
--- the item of the entry with this number stays
+-- the item of the entry with this number is the same in both logs
 abbrev pub StaysAt : List Item → List Item → ℕ → Type 0
 StaysAt items cuts entry =
     (front : List Item) × (item : Item) × (rest : List Item) × (back : List Item) × (others : List Item)
     × (items ≡ front ++ item ∷ rest) × (cuts ≡ back ++ item ∷ others) × (entry ≡ length front + 1) × (length front ≡ length back)
 
--- an entry of a log that is cut: the moment of the one for which it stands, the chosen ones of its keys, and its event where it has any
+-- an entry of a log that was cut has the moment of the entry for which it stands, the chosen ones of its keys, and its event where it has any of them
 abbrev pub IsCutOf : (KeyParts → Bool) → Observation KeyParts → Observation KeyParts → Type 0
 IsCutOf chosen e cut = (cut.event.moment ≡ e.event.moment) × (cut.keys ≡ filter chosen e.keys) × (cut.keys ≢ [] → cut.event ≡ e.event)
 
@@ -67,16 +67,16 @@ HasSameTrouble p es cuts key =
     (front back : List (Observation KeyParts)) (e cut : Observation KeyParts) (rest others : List (Observation KeyParts)) → es ≡ front ++ e ∷ rest → cuts ≡ back ++ cut ∷ others
     → length front ≡ length back → (Breaks p front e key ↔ Breaks p back cut key) × (Widens p front e key ↔ Widens p back cut key)
 
--- what a cut leaves of a log: the chosen keys in their order, and the trouble of each
+-- what the log of some keys keeps of the whole log: the chosen keys in their order, and the trouble of each
 pub record Keeps (p : Times) (chosen : KeyParts → Bool) (es : List (Observation KeyParts)) (cuts : List Item) : Type 0 where
   pub seen : List (Observation KeyParts)
   pub are : AreSeen [] cuts seen
   pub keys : keys_in seen ≡ chosen_in chosen es
   pub troubles : (key : KeyParts) → chosen key ≡ true → HasSameTrouble p es seen key
 
--- A transaction that is over.
+-- What follows is of a transaction that is over.
 
--- a run over the events stands in idle at the moment, without debts, and none stands in any other state
+-- the transaction of this machine is idle again: a run over its events stands in idle at the moment without debts, and none stands in any other state
 abbrev pub IsIdleAgain : MachineKind → Times → List MachineEvent → ℕ → Type 0
 IsIdleAgain kind p events m =
     Stands (transaction_of kind).figure p events m (quiet (transaction_of kind).figure.idle)

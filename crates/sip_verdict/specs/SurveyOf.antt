@@ -20,11 +20,11 @@ IsSound p es key =
     RunsOver p es key
     × ((front : List (Observation KeyParts)) (e : Observation KeyParts) (rest : List (Observation KeyParts)) → es ≡ front ++ e ∷ rest → ¬ (IsWideAt p front e key))
 
--- the transaction breaks at the entry after these: it was in no trouble before, and now has no run
+-- the transaction breaks at the entry e after these: it was in no trouble before, and has no run over them and e
 abbrev pub Breaks : Times → List (Observation KeyParts) → Observation KeyParts → KeyParts → Type 0
 Breaks p front e key = IsSound p front key × ¬ (RunsOver p (front ++ e ∷ []) key)
 
--- it is followed no further: it was in no trouble before, and its runs that end with the entry's step can stand in more than 1,024 states
+-- from the entry e on the transaction is not followed: it was in no trouble before, and its runs that end with the step of e stand in more than 1,024 states
 abbrev pub Widens : Times → List (Observation KeyParts) → Observation KeyParts → KeyParts → Type 0
 Widens p front e key = IsSound p front key × IsWideAt p front e key
 
@@ -33,13 +33,13 @@ abbrev pub HoldsOf : (KeyParts → Type 0) → List KeyParts → ℕ → Type 0
 HoldsOf P keys number =
     (before : List KeyParts) × (key : KeyParts) × (rest : List KeyParts) × (keys ≡ before ++ key ∷ rest) × P key × (number ≡ length before + 1)
 
--- what is found at the entry after these: the fault of its message, a transaction that breaks, or one that is followed no further
+-- what is found at the entry e after these: the fault of its message, a transaction that breaks, or one that is followed no further
 abbrev pub IsFoundAt : Times → List (Observation KeyParts) → Observation KeyParts → Finding → Type 0
 IsFoundAt p front e (Malformed entry fault) = (entry ≡ length front + 1) × (e.fault ≡ Some fault)
 IsFoundAt p front e (Breach entry transaction) = (entry ≡ length front + 1) × HoldsOf (Breaks p front e) (keys_in (front ++ e ∷ [])) transaction
 IsFoundAt p front e (Undecided entry transaction) = (entry ≡ length front + 1) × HoldsOf (Widens p front e) (keys_in (front ++ e ∷ [])) transaction
 
--- the order of what is found at an entry: its fault, then the breaches by number, then what is followed no further by number
+-- findings of one entry stand in order: the fault, then the breaches by number, then the transactions that are followed no further by number
 abbrev pub Precedes : Finding → Finding → Type 0
 Precedes (Malformed entry fault) (Breach n transaction) = ⊤
 Precedes (Malformed entry fault) (Undecided n transaction) = ⊤
@@ -48,11 +48,11 @@ Precedes (Breach entry transaction) (Undecided n other) = ⊤
 Precedes (Undecided entry transaction) (Undecided n other) = transaction < other
 Precedes f g = ⊥
 
--- these are what is found at the entry after those, each once and in order
+-- the findings of the entry e after these, each once and in order
 abbrev pub AreFoundAt : Times → List (Observation KeyParts) → Observation KeyParts → List Finding → Type 0
 AreFoundAt p front e found = AllPairs Precedes found × ((f : Finding) → Contains found f ↔ IsFoundAt p front e f)
 
--- what is found at the entries that are left after these, one after another, and how they end
+-- what a survey finds at these items after these entries, item by item, and how they end
 abbrev pub IsSurveyAfter : Times → List (Observation KeyParts) → List Item → LogEnd → List Finding → SurveyEnd → Type 0
 IsSurveyAfter p es [] Clean found end = (found ≡ []) × (end ≡ ended.Clean (length es) (length (keys_in es)))
 IsSurveyAfter p es [] (Stops fault) found end = (found ≡ []) × (end ≡ ended.LogFault (length es + 1) fault)
@@ -60,7 +60,7 @@ IsSurveyAfter p es (item ∷ items) close found end =
     (e : Observation KeyParts) × (here : List Finding) × (later : List Finding) × Sees es item e × (found ≡ here ++ later)
     × AreFoundAt p es e here × IsSurveyAfter p (es ++ e ∷ []) items close later end
 
--- the survey of an input, its messages being those of RFC 3261: how its header ends it, or what is found at its entries
+-- the survey of an input by the profile of RFC 3261: its end where the header has a fault, and else what is found at its entries
 abbrev pub IsSurveyOf : List ℕ → List Finding → SurveyEnd → Type 0
 IsSurveyOf input found end =
     (LacksHeader input × (found ≡ []) × (end ≡ ended.LogFault 0 Header))

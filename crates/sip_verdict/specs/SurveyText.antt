@@ -24,7 +24,7 @@ use Rattle.sip_standard.specs.declared.verdict.Verdict.TheVariants as verdicts
 abbrev pub is_of : KeyParts → Observation KeyParts → Bool
 is_of key e = list_any (same_key key) e.keys
 
--- the first of the entries that concern the transaction has this number, and its message spells the branch so
+-- the first of the entries that concern the transaction has this number, and its message spells the branch as these bytes
 abbrev pub IsFirstOf : List (Observation KeyParts) → KeyParts → ℕ → List ℕ → Type 0
 IsFirstOf es key number branch =
     (before : List (Observation KeyParts)) × (e : Observation KeyParts) × (after : List (Observation KeyParts)) × (es ≡ before ++ e ∷ after)
@@ -42,12 +42,12 @@ abbrev pub transaction_words : KeyParts → (branch : List ℕ) → (first last 
 transaction_words key branch first last =
     codes " " ++ key_text key ++ codes " " ++ branch ++ codes " " ++ decimal first ++ codes " " ++ decimal last
 
--- these are the words for the transaction after the entries
+-- these bytes are the words for the transaction after the entries
 abbrev pub AreWordsOf : List (Observation KeyParts) → List ℕ → KeyParts → Type 0
 AreWordsOf es words key =
     (branch : List ℕ) × (first : ℕ) × (last : ℕ) × IsFirstOf es key first branch × IsLastOf es key last × (words ≡ transaction_words key branch first last)
 
--- the line of what is found at the last of these entries: the words of a verdict, and after them those for the transaction, if it is found of one
+-- the line of a finding at the last of these entries: the words of a verdict, and after them those for its transaction, where it is of one
 abbrev pub IsLineOf : List (Observation KeyParts) → Finding → List ℕ → Type 0
 IsLineOf es (Malformed entry fault) line = line ≡ rendered (verdicts.Malformed entry fault) ++ line_feed ∷ []
 IsLineOf es (Breach entry transaction) line =
@@ -68,7 +68,7 @@ IsTextOf es (f ∷ found) text =
     (front : List (Observation KeyParts)) × (rest : List (Observation KeyParts)) × (line : List ℕ) × (more : List ℕ) × (es ≡ front ++ rest)
     × (length front ≡ entry_of f) × IsLineOf front f line × IsTextOf es found more × (text ≡ line ++ more)
 
--- the last line, after so many findings: the numbers of entries, transactions and findings, or why the log cannot be read to its end
+-- the last line of a survey with this many findings: the numbers of entries, transactions and findings, or why the log cannot be read to its end
 abbrev pub end_text : SurveyEnd → ℕ → List ℕ
 end_text (Clean entries transactions) findings =
     codes "end entries " ++ decimal entries ++ codes " transactions " ++ decimal transactions ++ codes " findings " ++ decimal findings ++ line_feed ∷ []
@@ -88,13 +88,13 @@ AreEntriesOf input es =
 abbrev pub IsToldOf : List ℕ → List Finding → SurveyEnd → List ℕ → Type 0
 IsToldOf input found end text = IsSurveyOf input found end × ((es : List (Observation KeyParts)) × AreEntriesOf input es × IsSurveyText es found end text)
 
--- a transaction that is followed no further
+-- whether the finding is that a transaction is followed no further
 abbrev pub is_undecided : Finding → Bool
 is_undecided (Undecided entry transaction) = true
 is_undecided (Malformed entry fault) = false
 is_undecided (Breach entry transaction) = false
 
--- the summary counts what was found
+-- the summary gives how many findings there are, and how many of them are of a transaction that is followed no further
 pub record SumsUp (found : List Finding) (s : Summary) : Type 0 where
   pub findings : s.findings ≡ length found
   pub undecided : s.undecided ≡ length (filter is_undecided found)

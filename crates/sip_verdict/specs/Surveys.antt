@@ -1,7 +1,7 @@
--- What a survey that takes the entries of a log as they come stands for.
+-- What a survey holds while it takes the entries of a log as they come.
 use Rattle.std.specs.Prelude.{◌≡◌, ◌≢◌, ◌≤◌, ◌+◌, ℕ, Bool, true, false, List, ◌++◌, Option, Some, None, Result, Err, Contains, length, max, slice_get}
 use Rattle.sip_standard.specs.Key.{KeyParts}
-use Rattle.sip_standard.specs.Times.{Times}
+use Rattle.sip_standard.specs.Times.{Times, last_moment}
 use Rattle.sip_machine.specs.Texts.{Texts}
 use Rattle.sip_states.specs.Tables.{Tabled}
 use Rattle.sip_verdict.specs.declared.step_error.StepError.{StepError}
@@ -12,6 +12,7 @@ use Rattle.sip_standard.specs.Stands.{Stands}
 use Rattle.sip_standard.specs.KeyMachine.{machine_of_key, transaction_of}
 use Rattle.sip_states.specs.KeySets.{PhaseOf}
 use Rattle.sip_verdict.specs.Named.{AreMany, key_messages}
+use Rattle.sip_verdict.specs.Room.{HasRoom}
 use Rattle.sip_verdict.specs.SurveyOf.{IsSound}
 use Rattle.sip_verdict.specs.inner.Surveying.{TablesSurvey}
 use Rattle.sip_verdict.specs.declared.histories.Histories.{Histories}
@@ -29,14 +30,14 @@ pub record IsStillNamed (p : Times) (es : List (Observation KeyParts)) (text : L
   pub stands : Stands (transaction_of (machine_of_key p.rules key)).figure p (events_for key es) (newest_moment es) state
   pub names : Contains (key_messages p key state) text
 
--- this many messages were named by transactions in no trouble, after some entry or before the first
+-- transactions in no trouble name exactly `count` messages after the first entries of the log, for some number of them, which may be 0
 pub record WereStillNamed (p : Times) (es : List (Observation KeyParts)) (count : ℕ) : Type 0 where
   pub front : List (Observation KeyParts)
   pub rest : List (Observation KeyParts)
   pub whole : es ≡ front ++ rest
   pub many : AreMany (IsStillNamed p front) count
 
--- few messages are kept: at most twice as many as transactions in no trouble named after some entry, and 64 more
+-- few messages are kept: at most twice as many as transactions in no trouble name after the first entries, for some number of them, and 64 more
 abbrev pub AreFewKept : Times → List (Observation KeyParts) → ℕ → Type 0
 AreFewKept p es kept = (named : ℕ) × WereStillNamed p es named × (kept ≤ named + named + 64)
 
@@ -45,14 +46,14 @@ pub record IsHistoryOf (es : List (Observation KeyParts)) (restart : ℕ) (key :
   pub first : IsFirstOf es key h.first h.branch.items
   pub last : IsLastOf es key (max h.last restart)
 
--- there is a history of each transaction of the entries
+-- there is a history of each transaction of the entries, in the order of the transactions
 pub record AreHistories (es : List (Observation KeyParts)) (b : Histories) : Type 0 where
   pub long : length b.each.items ≡ length (keys_in es)
   pub restart : b.restart ≤ length es
   pub each : (n : ℕ) (key : KeyParts) (h : History) → slice_get (keys_in es) n ≡ Some key → slice_get b.each.items n ≡ Some h → IsHistoryOf es b.restart key h
 
--- what a survey holds: the number and the moment of its newest entry, the messages that it keeps, the set of each key, which of them are in trouble, the
--- history of each, how many messages its last sweep left, and whether it failed
+-- what a survey holds: the number and the moment of its newest entry, the messages that it keeps, the set of each key, which transactions are in trouble,
+-- the history of each, how many messages its last sweep left, and whether it failed
 pub record Surveying : Type 0 where
   pub number : ℕ
   pub moment : ℕ
@@ -63,13 +64,13 @@ pub record Surveying : Type 0 where
   pub left : ℕ
   pub failed : Bool
 
--- messages and sets follow these entries, each transaction for itself; so many messages were named after one of them, and few more are kept
+-- messages and sets follow these entries, each transaction for itself; `left` messages were named after one of them, and few more are kept
 pub record AreSurveyed (texts : Texts) (t : Tabled) (deaf : List Bool) (left : ℕ) (es : List (Observation KeyParts)) : Type 0 where
   pub tracks : TablesSurvey texts es t deaf
   pub named : WereStillNamed t.times es left
   pub few : length texts ≤ left + left + 64
 
--- the survey stands for these entries
+-- the survey has taken just these entries
 pub record SurveysFor (s : Surveying) (es : List (Observation KeyParts)) : Type 0 where
   pub goes_on : s.failed ≡ false
   pub number : s.number ≡ length es
@@ -77,12 +78,19 @@ pub record SurveysFor (s : Surveying) (es : List (Observation KeyParts)) : Type 
   pub follows : AreSurveyed s.texts s.tables s.deaf s.left es
   pub histories : AreHistories es s.histories
 
--- what a survey can answer: after a failure that it failed
+-- an entry of this number and moment may come after one of the number count and the moment last, to a survey of so many transactions
+pub record MayFollow (count last transactions number moment : ℕ) : Type 0 where
+  pub next : number ≡ count + 1
+  pub order : last ≤ moment
+  pub limit : moment ≤ last_moment
+  pub room : HasRoom count transactions
+
+-- what a survey can answer: that it failed, where it has failed before, and anything else where it has not
 abbrev pub MayAnswer : Bool → Result Unit StepError → Type 0
 MayAnswer true answer = answer ≡ Err errors.Failed
 MayAnswer false answer = answer ≢ Err errors.Failed
 
--- the end of a survey that took so many entries, of so many transactions: none after a failure
+-- the end of the survey of this many entries of this many transactions, and none where the survey has failed
 abbrev pub end_after : ℕ → ℕ → Bool → Option SurveyEnd
 end_after entries transactions true = None
 end_after entries transactions false = Some (ended.Clean entries transactions)

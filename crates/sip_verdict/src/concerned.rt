@@ -5,10 +5,10 @@
 pub(crate) enum Concerned<T> {
     /// None: the entry has no message, or a message without a key.
     None,
-    /// That of its message.
+    /// The transaction of its message.
     Own(T),
-    /// That of its message, and the one that this message cancels.
+    /// The transaction of its message, and the one that this message cancels.
     OwnAndCancelled(T, T),
-    /// All that there are: the entry is a restart of the element.
+    /// All transactions that there are: the entry is a restart of the element.
     All,
 }

@@ -2,12 +2,13 @@
 ghost use Rattle.std.specs.Prelude.{◌≡◌, ◌≤◌, ◌+◌, ◌++◌, ◌∷◌, [], List, All, Contains, IfOk, OnOk, length};
 ghost use Rattle.sip_standard.specs.Key.{KeyParts};
 ghost use Rattle.sip_standard.specs.Times.{last_moment};
-ghost use Rattle.sip_standard.specs.LogSays.{most_entries};
+ghost use Rattle.sip_states.specs.Tables.{most_keys};
 ghost use Rattle.sip_log.specs.Told.{item};
 ghost use Rattle.sip_verdict.specs.declared.finding.Finding.{Finding};
 ghost use Rattle.sip_standard.specs.Observation.{Observation};
 ghost use Rattle.sip_verdict.specs.Entries.{newest_moment, ConcernsNone};
 ghost use Rattle.sip_standard.specs.VerdictOf.{keys_in, Sees};
+ghost use Rattle.sip_verdict.specs.Room.{most_surveyed};
 ghost use Rattle.sip_verdict.specs.SurveyOf.{AreFoundAt};
 ghost use Rattle.sip_verdict.specs.Surveys.{AreHistories, AreSurveyed};
 ghost use Rattle.sip_verdict.specs.inner.TablesTracking.{is_among, MayTake};
@@ -28,8 +29,8 @@ use sip_standard::Fault;
 use std::alloc::{AllocError, Global};
 use std::hash::BuildHasher;
 
-/// Takes the entry that comes next: the fault of its message, if it has one. Which transactions come into trouble is added to those
-/// that are, and the entry is noted of those that it concerns.
+/// Takes the entry that comes next, and answers the fault of its message, if it has one. Transactions that come into trouble are added to
+/// those in trouble, and the entry is written into the history of each transaction that it concerns.
 fn take<H: BuildHasher>(
     alloc: Global,
     standing: &mut Standing<H>,
@@ -38,10 +39,11 @@ fn take<H: BuildHasher>(
     entry: &Entry,
 ) -> Result<Option<Fault>, AllocError>
     requires limit { entry.now.moment ≤ last_moment }
-    requires count { entry.now.number ≤ most_entries }
+    requires room { length standing.old.tables.keys + 2 ≤ most_keys }
     requires may { MayTake standing.old.book standing.old.tables entry.now.number entry.now.moment }
     requires watched { AreWatched [] standing.old.tables troubled.old }
     ensures times { OnOk result (standing.new.tables.times ≡ standing.old.tables.times) }
+    ensures keys { OnOk result (length standing.new.tables.keys ≤ length standing.old.tables.keys + 2) }
     ensures may { OnOk result (MayTake standing.new.book standing.new.tables (entry.now.number + 1) entry.now.moment) }
     ensures watched { OnOk result (AreWatched [] standing.new.tables troubled.new) }
     ensures keyless { OnOk result (ConcernsNone (item entry.now) → standing.new.book ≡ standing.old.book) }
@@ -109,7 +111,7 @@ fn take<H: BuildHasher>(
     }
 }
 
-/// Appends that the message of the entry has this fault, if it has one.
+/// Appends the fault of the entry's message to the findings, if there is one.
 fn push_fault(entry: u32, fault: Option<Fault>, found: &mut Vec<Finding>) -> Result<(), AllocError>
     ensures pushed { OnOk result (found.new.items ≡ found.old.items ++ fault_listing entry fault) }
     ensures front { (more : List Finding) × (found.new.items ≡ found.old.items ++ more) }
@@ -120,8 +122,8 @@ fn push_fault(entry: u32, fault: Option<Fault>, found: &mut Vec<Finding>) -> Res
     Ok(())
 }
 
-/// Appends what is found at the entry that comes next: the fault of its message, the breaches by number, and then what is followed no
-/// further by number.
+/// Appends what is found at the entry that comes next: the fault of its message, the transactions that break by number, and then those
+/// that are followed no further by number.
 fn find<H: BuildHasher>(
     alloc: Global,
     standing: &mut Standing<H>,
@@ -131,11 +133,12 @@ fn find<H: BuildHasher>(
     found: &mut Vec<Finding>,
 ) -> Result<(), AllocError>
     requires limit { entry.now.moment ≤ last_moment }
-    requires count { entry.now.number ≤ most_entries }
+    requires room { length standing.old.tables.keys + 2 ≤ most_keys }
     requires may { MayTake standing.old.book standing.old.tables entry.now.number entry.now.moment }
     requires watched { AreWatched [] standing.old.tables troubled.old }
     requires fresh { IsFresh troubled.old }
     ensures times { OnOk result (standing.new.tables.times ≡ standing.old.tables.times) }
+    ensures keys { OnOk result (length standing.new.tables.keys ≤ length standing.old.tables.keys + 2) }
     ensures may { OnOk result (MayTake standing.new.book standing.new.tables (entry.now.number + 1) entry.now.moment) }
     ensures watched { OnOk result (AreWatched [] standing.new.tables troubled.new) }
     ensures fresh { OnOk result (IsFresh troubled.new) }
@@ -154,7 +157,7 @@ fn find<H: BuildHasher>(
     troubled.tell(entry.number, found)
 }
 
-/// Appends what is found at the entry that comes next. Where many more messages are kept than the last sweep left, those go that no
+/// Appends what is found at the entry that comes next. Where many more messages are kept than the last sweep left, it drops those that no
 /// transaction needs.
 pub(crate) fn find_next<H: BuildHasher>(
     alloc: Global,
@@ -166,16 +169,18 @@ pub(crate) fn find_next<H: BuildHasher>(
     found: &mut Vec<Finding>,
 ) -> Result<(), AllocError>
     requires limit { entry.now.moment ≤ last_moment }
-    requires count { entry.now.number ≤ most_entries }
+    requires count { entry.now.number ≤ most_surveyed }
+    requires room { length standing.old.tables.keys + 2 ≤ most_keys }
     requires may { MayTake standing.old.book standing.old.tables entry.now.number entry.now.moment }
     requires watched { AreWatched [] standing.old.tables troubled.old }
     requires fresh { IsFresh troubled.old }
-    requires left { left.old ≤ most_entries + 1 }
+    requires left { left.old ≤ most_surveyed + 1 }
     ensures times { OnOk result (standing.new.tables.times ≡ standing.old.tables.times) }
+    ensures keys { OnOk result (length standing.new.tables.keys ≤ length standing.old.tables.keys + 2) }
     ensures may { OnOk result (MayTake standing.new.book standing.new.tables (entry.now.number + 1) entry.now.moment) }
     ensures watched { OnOk result (AreWatched [] standing.new.tables troubled.new) }
     ensures fresh { OnOk result (IsFresh troubled.new) }
-    ensures left { left.new ≤ most_entries + 1 }
+    ensures left { left.new ≤ most_surveyed + 1 }
     ensures keyless { OnOk result (ConcernsNone (item entry.now) → All (Contains standing.old.book) standing.new.book) }
     ensures histories { OnOk result ((es : List (Observation KeyParts)) (e : Observation KeyParts) → AreHistories es histories.old → standing.old.tables.keys ≡ keys_in es
         → entry.now.number ≡ length es + 1 → Sees es (item entry.now) e → AreHistories (es ++ e ∷ []) histories.new) }

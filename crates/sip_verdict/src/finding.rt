@@ -11,7 +11,7 @@ pub enum Finding {
     Malformed { entry: u32, fault: Fault },
     /// After the entry the transaction has no run, and it was in no trouble before.
     Breach { entry: u32, transaction: u32 },
-    /// The runs of the transaction can stand in more states after the entry than are followed, and it was in no trouble before.
+    /// The runs of the transaction can stand after the entry in more states than a survey follows, and it was in no trouble before.
     Undecided { entry: u32, transaction: u32 },
 }
 

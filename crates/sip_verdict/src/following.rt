@@ -1,5 +1,5 @@
 //! A survey that takes the entries of a log as they come.
-ghost use Rattle.std.specs.Prelude.{◌≡◌, ◌<◌, ◌-◌, ◌↔◌, ◌++◌, ◌∷◌, [], Bool, false, List, Some, All, Contains, IfSome, IsSomeAnd, IsTrue, OnOk, OnErr, length, slice_get};
+ghost use Rattle.std.specs.Prelude.{◌≡◌, ◌<◌, ◌≤◌, ◌+◌, ◌-◌, ◌↔◌, ◌++◌, ◌∷◌, [], Bool, false, List, Some, All, Contains, IfSome, IsSomeAnd, IsTrue, OnOk, OnErr, length, slice_get};
 ghost use Rattle.std.specs.Result.{is_err};
 ghost use Rattle.sip_standard.specs.Key.{KeyParts};
 ghost use Rattle.sip_log.specs.Told.{item};
@@ -12,8 +12,8 @@ ghost use Rattle.sip_verdict.specs.SurveyOf.{AreFoundAt};
 ghost use Rattle.sip_verdict.specs.Forgetting.{ForgetsUpTo, remembered};
 ghost use Rattle.sip_verdict.specs.Named.{AreMany};
 ghost use Rattle.sip_verdict.specs.SurveyText.{IsFirstOf, IsLastOf};
-ghost use Rattle.sip_verdict.specs.Judging.{MayComeNext};
-ghost use Rattle.sip_verdict.specs.Surveys.{AreFewKept, IsStillNamed, MayAnswer, SurveysFor, end_after};
+ghost use Rattle.sip_verdict.specs.Room.{HasRoom};
+ghost use Rattle.sip_verdict.specs.Surveys.{AreFewKept, IsStillNamed, MayAnswer, MayFollow, SurveysFor, end_after};
 
 use crate::entries::find_next;
 use crate::finding::Finding;
@@ -21,7 +21,7 @@ use crate::forgetting::{Newest, forget};
 use crate::histories::Histories;
 use crate::standing::Standing;
 use crate::step_error::StepError;
-use crate::stream::may_come_next;
+use crate::stream::LAST_MOMENT;
 use crate::survey_end::SurveyEnd;
 use crate::transaction::Transaction;
 use crate::troubled::Troubled;
@@ -31,8 +31,8 @@ use std::alloc::{AllocError, Global};
 use std::hash::BuildHasher;
 use std::marker::Model;
 
-/// Judges the entries of a log as they come, each transaction for itself, and goes on after those that are in trouble. It drops the
-/// messages that it does not need any more.
+/// Judges the entries of a log as they come, each transaction for itself, and goes on after one comes into trouble. It drops the messages
+/// that it needs no more.
 #[derive(Drop)]
 pub struct Survey<H: BuildHasher> {
     alloc: Global,
@@ -47,7 +47,7 @@ pub struct Survey<H: BuildHasher> {
 
 impl<H: BuildHasher> Model for Survey<H> {
     ghost use Rattle.std.specs.Prelude.{◌≡◌, ◌≤◌, ◌+◌, [], false};
-    ghost use Rattle.sip_standard.specs.LogSays.{most_entries};
+    ghost use Rattle.sip_verdict.specs.Room.{most_surveyed};
     ghost use Rattle.sip_verdict.specs.Surveys.{Surveying};
     ghost use Rattle.sip_verdict.specs.inner.TablesTracking.{MayTake};
     ghost use Rattle.sip_verdict.specs.inner.Surveying.{AreWatched, IsFresh};
@@ -57,14 +57,38 @@ impl<H: BuildHasher> Model for Survey<H> {
     ghost view = { λ s. record { number = s.number; moment = s.moment; texts = s.standing.book; tables = s.standing.tables; deaf = s.troubled.deaf.items; histories = s.histories; left = s.left; failed = s.failed } };
 
     ghost invariant = { λ s. s.failed ≡ false → MayTake s.standing.book s.standing.tables (s.number + 1) s.moment × AreWatched [] s.standing.tables s.troubled
-        × IsFresh s.troubled × (s.left ≤ most_entries + 1) × (s.number ≤ most_entries) };
+        × IsFresh s.troubled × (s.left ≤ most_surveyed + 1) × (s.number ≤ most_surveyed) };
+}
+
+/// The most entries of a survey.
+const MOST_ENTRIES: u32 = 4_000_000_000;
+
+/// The most transactions that a survey has at a time.
+const MOST_TRANSACTIONS: u32 = 2_000_000;
+
+/// Whether a survey of so many entries and transactions has room for one entry more, which may begin two transactions.
+fn is_room(entries: u32, transactions: u32) -> bool
+    ensures { IsTrue result ↔ HasRoom entries transactions }
+{
+    entries < MOST_ENTRIES && transactions <= MOST_TRANSACTIONS - 2
+}
+
+/// Whether the entry may come after one of this number and moment, where there are so many transactions.
+fn may_follow(number: u32, moment: u64, transactions: u32, entry: &Entry) -> bool
+    ensures { IsTrue result ↔ MayFollow number moment transactions entry.now.number entry.now.moment }
+{
+    if !is_room(number, transactions) || entry.number != number + 1 {
+        return false;
+    }
+    moment <= entry.moment && entry.moment <= LAST_MOMENT
 }
 
 impl<H: BuildHasher + Drop> Survey<H> {
-    /// No entry was judged yet. It takes no memory.
+    /// A survey that has judged no entry yet. It takes no memory.
     pub fn new(alloc: Global, params: Params, hasher: H) -> Survey<H>
         ensures stands { SurveysFor result [] }
         ensures times { result.tables.times ≡ params }
+        ensures none { result.tables.keys ≡ [] }
     {
         Survey {
             alloc,
@@ -78,19 +102,28 @@ impl<H: BuildHasher + Drop> Survey<H> {
         }
     }
 
-    /// Whether the entry may come next: its number is one above that of the entry before, counted from 1, its moment is not
-    /// below that one's, and both are within the limits of a log. After an error any entry may.
-    pub fn may_take(&self, entry: &Entry) -> bool
-        ensures { IsTrue result ↔ (self.now.failed ≡ false → MayComeNext self.now.number self.now.moment entry.now.number entry.now.moment) }
+    /// Whether there is room for one entry more: a survey takes at most 4,000,000,000 entries, and has at most 2,000,000 transactions at a
+    /// time that it did not forget. An entry begins at most two.
+    pub fn has_room(&self) -> bool
+        ensures { IsTrue result ↔ HasRoom self.now.number (length self.now.tables.keys) }
     {
-        self.failed || may_come_next(self.number, self.moment, entry)
+        is_room(self.number, self.standing.transactions())
+    }
+
+    /// Whether the entry may come next: its number is one above that of the entry before, counted from 1, its moment is not below that
+    /// one's and within the limits of a log, and there is room for it. After an error any entry may.
+    pub fn may_take(&self, entry: &Entry) -> bool
+        ensures { IsTrue result ↔ (self.now.failed ≡ false → MayFollow self.now.number self.now.moment (length self.now.tables.keys) entry.now.number entry.now.moment) }
+    {
+        let transactions = self.standing.transactions();
+        self.failed || may_follow(self.number, self.moment, transactions, entry)
     }
 
     /// Judges the next entry, and appends what is found at it: the fault of its message, then the transactions that break by number,
     /// then those that are followed no further by number. Each transaction is found once. After an error every call answers
     /// `StepError::Failed`, and appends nothing.
     pub fn entry(&mut self, entry: &Entry, found: &mut Vec<Finding>) -> Result<(), StepError>
-        requires { self.old.failed ≡ false → MayComeNext self.old.number self.old.moment entry.now.number entry.now.moment }
+        requires { self.old.failed ≡ false → MayFollow self.old.number self.old.moment (length self.old.tables.keys) entry.now.number entry.now.moment }
         ensures found { OnOk result ((es : List (Observation KeyParts)) → SurveysFor self.old es
             → (e : Observation KeyParts) × (here : List Finding) × Sees es (item entry.now) e
             × AreFoundAt self.old.tables.times es e here × (found.new.items ≡ found.old.items ++ here) × SurveysFor self.new (es ++ e ∷ [])) }
@@ -99,6 +132,7 @@ impl<H: BuildHasher + Drop> Survey<H> {
         ensures newest { OnOk result ((self.new.number ≡ entry.now.number) × (self.new.moment ≡ entry.now.moment)) }
         ensures front { OnErr result ((more : List Finding) × (found.new.items ≡ found.old.items ++ more)) }
         ensures keyless { OnOk result (ConcernsNone (item entry.now) → All (Contains self.old.texts) self.new.texts) }
+        ensures keys { OnOk result (length self.new.tables.keys ≤ length self.old.tables.keys + 2) }
         ensures times { OnOk result (self.new.tables.times ≡ self.old.tables.times) }
     {
         if self.failed {
@@ -126,13 +160,13 @@ impl<H: BuildHasher + Drop> Survey<H> {
         }
     }
 
-    /// Forgets the transactions that are over and that no entry concerns whose number is above `until`: those that are in trouble, are
-    /// idle again, or have ended. It goes on as after the same entries without them. The others are numbered anew, in their order. The
-    /// messages that are kept then are just those that the others name.
+    /// Forgets the transactions that are over and that no entry with a number above `until` concerns. A transaction is over that is in trouble,
+    /// is idle again, or has ended. The survey goes on as after the same entries without the forgotten ones. The transactions that are left
+    /// are numbered anew, in their order, and the messages that are kept then are just those that they name.
     ///
-    /// Of one that was idle again, as a server is that has ended, nothing is lost. A later message of another begins a new transaction:
-    /// that a client that ended sends its request again is no breach then. So `until` is best the number that the newest entry had so
-    /// long ago that no message of an ended transaction can be on its way. After an error every call answers `StepError::Failed`.
+    /// Of a transaction that was idle again, as a server is that has ended, nothing is lost. A later message of another forgotten transaction
+    /// begins a new one: that a client that ended sends its request again is no breach then. So `until` is best the number that the newest
+    /// entry had so long ago that no message of an ended transaction can be on its way. After an error every call answers `StepError::Failed`.
     pub fn forget(&mut self, until: u32) -> Result<(), StepError>
         ensures forgets { OnOk result ((es : List (Observation KeyParts)) → SurveysFor self.old es
             → (kept : KeyParts → Bool) × ForgetsUpTo until self.old.tables.times es kept × SurveysFor self.new (remembered kept es)
@@ -168,7 +202,7 @@ impl<H: BuildHasher + Drop> Survey<H> {
         }
     }
 
-    /// How many transactions there are that it did not forget.
+    /// How many transactions the survey has that it did not forget.
     pub fn transactions(&self) -> u32
         ensures transactions { result ≡ length self.now.tables.keys }
         ensures are { (es : List (Observation KeyParts)) → SurveysFor self.now es → result ≡ length (keys_in es) }
@@ -176,7 +210,7 @@ impl<H: BuildHasher + Drop> Survey<H> {
         self.standing.transactions()
     }
 
-    /// How a log ends that ends after these entries: with how many they are, and how many transactions. None after an error.
+    /// The end of a log that ends after these entries: how many entries and how many transactions it has. None after an error.
     pub fn end(&self) -> Option<SurveyEnd>
         ensures end { result ≡ end_after self.now.number (length self.now.tables.keys) self.now.failed }
         ensures clean { (es : List (Observation KeyParts)) → SurveysFor self.now es → result ≡ Some (Clean (length es) (length (keys_in es))) }
@@ -190,7 +224,7 @@ impl<H: BuildHasher + Drop> Survey<H> {
         })
     }
 
-    /// The transaction with this number, by which a finding names it; None where no transaction has it.
+    /// The transaction with this number, by which a finding names it, and None where no transaction has the number.
     pub fn transaction(&self, number: u32) -> Option<Transaction<'_>>
         ensures { (es : List (Observation KeyParts)) → SurveysFor self.now es → 0 < number
             → IfSome (slice_get (keys_in es) (number - 1)) (λ key. IsSomeAnd result (λ t. (t.key.now ≡ key) × IsFirstOf es key t.first t.branch.now × IsLastOf es key t.last)) }
@@ -205,7 +239,7 @@ impl<H: BuildHasher + Drop> Survey<H> {
         })
     }
 
-    /// How many messages it keeps.
+    /// How many messages the survey keeps.
     pub fn kept(&self) -> usize
         ensures kept { result ≡ length self.now.texts }
         ensures few { (es : List (Observation KeyParts)) → SurveysFor self.now es → AreFewKept self.now.tables.times es result }

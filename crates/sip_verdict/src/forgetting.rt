@@ -1,7 +1,6 @@
 //! Forgets transactions that are over.
 ghost use Rattle.std.specs.Prelude.{◌≡◌, ◌↔◌, ◌≤◌, ◌+◌, ◌-◌, [], Bool, List, Some, All, Contains, IfOk, IsTrue, OnOk, length, slice_get};
 ghost use Rattle.sip_standard.specs.Key.{KeyParts};
-ghost use Rattle.sip_standard.specs.LogSays.{most_entries};
 ghost use Rattle.sip_standard.specs.Observation.{Observation};
 ghost use Rattle.sip_states.specs.Tables.{IsGiven};
 ghost use Rattle.sip_states.specs.declared.any_set.AnySet.{AnySet as AnySetValue};
@@ -9,6 +8,7 @@ ghost use Rattle.sip_verdict.specs.declared.histories.History.{History as Histor
 ghost use Rattle.sip_verdict.specs.Forgetting.{ForgetsUpTo, remembered};
 ghost use Rattle.sip_verdict.specs.Entries.{newest_moment};
 ghost use Rattle.sip_verdict.specs.Named.{AreMany};
+ghost use Rattle.sip_verdict.specs.Room.{most_surveyed};
 ghost use Rattle.sip_verdict.specs.Surveys.{AreHistories, AreSurveyed, IsStillNamed};
 ghost use Rattle.sip_verdict.specs.inner.Forgetting.{AreFlags, IsPast};
 ghost use Rattle.sip_verdict.specs.inner.Surveying.{AreWatched, IsFresh};
@@ -40,7 +40,7 @@ fn is_past<H: BuildHasher>(
     }
 }
 
-/// Whether each transaction is kept: all are but those that are quiet and that no entry concerns whose number is above `until`.
+/// A flag for each transaction: false where the transaction is quiet and no entry with a number above `until` concerns it, and else true.
 fn kept_flags<H: BuildHasher>(
     alloc: Global,
     tables: &Tables<H>,
@@ -64,8 +64,8 @@ pub(crate) struct Newest {
     pub(crate) moment: u64,
 }
 
-/// Forgets the transactions that are over and that no entry concerns whose number is above `until`. The others are numbered anew, in their
-/// order. Those messages go that none of them needs at the moment of the newest entry.
+/// Forgets the transactions that are over and that no entry with a number above `until` concerns. The others are numbered anew, in their
+/// order. Messages that none of the others needs at the moment of the newest entry are dropped.
 pub(crate) fn forget<H: BuildHasher>(
     alloc: Global,
     standing: &mut Standing<H>,
@@ -75,7 +75,7 @@ pub(crate) fn forget<H: BuildHasher>(
     newest: Newest,
     until: u32,
 ) -> Result<(), AllocError>
-    requires count { newest.number ≤ most_entries }
+    requires count { newest.number ≤ most_surveyed }
     requires may { MayTake standing.old.book standing.old.tables (newest.number + 1) newest.moment }
     requires watched { AreWatched [] standing.old.tables troubled.old }
     requires fresh { IsFresh troubled.old }
@@ -83,7 +83,7 @@ pub(crate) fn forget<H: BuildHasher>(
     ensures may { OnOk result (MayTake standing.new.book standing.new.tables (newest.number + 1) newest.moment) }
     ensures watched { OnOk result (AreWatched [] standing.new.tables troubled.new) }
     ensures fresh { OnOk result (IsFresh troubled.new) }
-    ensures left { OnOk result (left.new ≤ most_entries + 1) }
+    ensures left { OnOk result (left.new ≤ most_surveyed + 1) }
     ensures fewer { OnOk result (All (Contains standing.old.book) standing.new.book) }
     ensures forgets { OnOk result ((es : List (Observation KeyParts)) → AreSurveyed standing.old.book standing.old.tables troubled.old.deaf.items left.old es
         → AreHistories es histories.old → newest_moment es ≡ newest.moment

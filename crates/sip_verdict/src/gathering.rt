@@ -13,8 +13,8 @@ use sip_standard::{JudgeError, LogReason};
 use std::alloc::Global;
 use std::hash::BuildHasher;
 
-/// All that is wrong in the log of these bytes, in the order in which `survey` writes it, and how the log ends; or
-/// `JudgeError::Memory`. The hasher is for the keys of the transactions; any hasher gives the same survey.
+/// All that is wrong in the log of these bytes, in the order in which `survey` writes it, and how the log ends; or `JudgeError::Memory`. The
+/// hasher is for the keys of the transactions; any hasher gives the same survey.
 pub fn survey_bytes<H: BuildHasher + Drop>(
     alloc: Global,
     bytes: &[u8],
@@ -36,8 +36,8 @@ pub fn survey_bytes<H: BuildHasher + Drop>(
     }
 }
 
-/// Reads on after the header to the end of the log: what is found at its entries, and how it ends. Every entry is read into the same
-/// buffer.
+/// Reads on after the header to the end of the log, and answers what is found at its entries and how it ends. Every entry is read into the
+/// same buffer.
 fn gather_entries<R: Source, H: BuildHasher + Drop>(
     alloc: Global,
     survey: &mut Survey<H>,

@@ -24,11 +24,11 @@ pub(crate) struct History {
 #[derive(Drop)]
 pub(crate) struct Histories {
     pub(crate) each: Vec<History>,
-    /// The number of the newest restart of the element, which concerns all that there were; 0 before the first.
+    /// The number of the newest restart of the element, which concerns all transactions that there were; 0 before the first restart.
     pub(crate) restart: u32,
 }
 
-/// The branch of the top Via, as it is spelled. Nothing where the bytes are no message, or have none.
+/// The branch of the top Via as the message spells it, and nothing where the bytes are no message or the message has no branch.
 fn spelled_branch(alloc: Global, bytes: &[u8]) -> Result<Vec<u8>, AllocError>
     ensures { IfOk result (λ branch. SpellsBranch bytes.now branch.items) }
 {
@@ -46,7 +46,7 @@ fn spelled_branch(alloc: Global, bytes: &[u8]) -> Result<Vec<u8>, AllocError>
 }
 
 impl Histories {
-    /// There is no transaction yet. It takes no memory.
+    /// The histories before the first transaction. They take no memory.
     pub(crate) fn new(alloc: Global) -> Histories
         ensures each { result.each.items ≡ [] }
         ensures restart { result.restart ≡ 0 }
@@ -57,7 +57,7 @@ impl Histories {
         }
     }
 
-    /// The entry concerns the transaction with this number, which may be one above those that there are.
+    /// Writes into the history of the transaction with this number that the entry concerns it. The number may be one above those that there are.
     fn note(&mut self, alloc: Global, number: u32, entry: &Entry) -> Result<(), AllocError>
         requires { 0 < number }
         ensures noted { OnOk result (Notes entry.now.number entry.now.bytes.items number self.old.each.items self.new.each.items) }
@@ -77,7 +77,7 @@ impl Histories {
         Ok(())
     }
 
-    /// The entry has a message that concerns these.
+    /// Writes into the histories of the transactions with these numbers that the message of the entry concerns them.
     pub(crate) fn note_each(
         &mut self,
         alloc: Global,

@@ -5,26 +5,26 @@ ghost use Rattle.sip_standard.specs.Observation.{Observation};
 ghost use Rattle.sip_verdict.specs.Entries.{newest_moment};
 ghost use Rattle.sip_verdict.specs.inner.ForgettingLogs.{IsHorizonOf};
 
-/// The least number of transactions of which some are forgotten.
+/// How many transactions a survey has at least before it forgets some of them.
 const LEAST: u32 = 64;
 
-/// Up to which entry a survey may forget the transactions that are over.
+/// The horizon of a survey: up to which entry it may forget the transactions that are over.
 #[derive(Drop)]
 pub(crate) struct Horizon {
-    /// How many milliseconds ago the last entry of a transaction has to be that is forgotten.
+    /// A transaction is forgotten only if its last entry is this many milliseconds old.
     pub(crate) age: u64,
-    /// The number of an entry that came so long ago; 0 before there is one.
+    /// The number of an entry that is at least `age` milliseconds old; 0 before there is one.
     pub(crate) until: u32,
-    /// The number of a later entry, which comes to be `until`.
+    /// The number of a later entry, which takes the place of `until` once it is as old.
     pub(crate) number: u32,
-    /// The moment of that one.
+    /// The moment of the entry with the number `number`.
     pub(crate) moment: u64,
-    /// How many transactions were left when some were forgotten last.
+    /// How many transactions were left when the survey last forgot some.
     pub(crate) left: u32,
 }
 
 impl Horizon {
-    /// Before the first entry it may forget nothing.
+    /// The horizon before the first entry: nothing may be forgotten.
     pub(crate) fn new(age: u64) -> Horizon
         ensures horizon { (es : List (Observation KeyParts)) → IsHorizonOf result es }
         ensures age { result.age ≡ age }
@@ -38,7 +38,7 @@ impl Horizon {
         }
     }
 
-    /// The newest entry has this number and this moment.
+    /// Notes that the newest entry has this number and this moment, and moves the horizon on where it may.
     pub(crate) fn note(&mut self, number: u32, moment: u64)
         ensures horizon { (es : List (Observation KeyParts)) → IsHorizonOf self.old es → number ≡ length es → moment ≡ newest_moment es → IsHorizonOf self.new es }
         ensures age { self.new.age ≡ self.old.age }
@@ -50,7 +50,8 @@ impl Horizon {
         }
     }
 
-    /// Whether some of so many transactions are to be forgotten: they are twice those that were left, so that it costs each entry the same.
+    /// Whether it is time to forget some of this many transactions: they are twice those that were left last, so that the cost for each entry
+    /// stays the same.
     pub(crate) fn are_due(&self, transactions: u32) -> bool
         ensures { IsTrue result ↔ ((self.now.until ≢ 0) × (64 ≤ transactions) × (self.now.left + self.now.left ≤ transactions)) }
     {

@@ -9,7 +9,7 @@ use sip_standard::{JudgeError, Listing, Verdict};
 use std::alloc::Global;
 use std::hash::BuildHasher;
 
-/// What is listed of an entry that comes after this verdict.
+/// What is listed of an entry where the walk ended with this verdict before it.
 pub(crate) fn listing_after(verdict: Verdict) -> Listing
     ensures { result ≡ listed_after verdict }
 {
@@ -23,8 +23,8 @@ pub(crate) fn listing_after(verdict: Verdict) -> Listing
 /// first, the line `transaction T ROLE METHOD states COUNT`, and for each state a line after two blanks, in ascending order
 /// of their bytes; `no transaction` where it concerns none. A message is told by the number of the first entry with its bytes.
 ///
-/// Entries are numbered from 1. That nothing after it is read is tested and not proved. `JudgeError::Io` is answered only
-/// if the reader failed in this call, and after an error the reader is used up to a place that is not said.
+/// Entries are numbered from 1. That nothing after the listed entry is read is tested and not proved. `JudgeError::Io` is answered
+/// only if the reader failed in this call, and after an error the reader is used up to a place that is not said.
 pub fn states_at<R: Source, H: BuildHasher + Drop>(
     alloc: Global,
     reader: &mut R,

@@ -5,7 +5,7 @@ ghost use Rattle.sip_verdict.specs.inner.Judging.{told_as};
 use sip_log::LogError;
 use sip_standard::{JudgeError, LogReason};
 
-/// The reason by which a verdict names a log's fault. Any other error is one of judging.
+/// The reason by which a verdict names a log's fault, or, where the error is no fault of the log, the error of judging.
 pub(crate) fn reason_of(error: LogError) -> Result<LogReason, JudgeError>
     ensures { result ≡ told_as error }
 {

@@ -20,7 +20,7 @@ use std::alloc::{AllocError, Global};
 /// What an entry says to the judge.
 #[derive(Drop)]
 pub(crate) enum Observed {
-    /// Nothing that a transaction hears: a mark, or a message that concerns none and is not kept. Its moment was reached.
+    /// Nothing that a transaction hears: the entry is a mark, or its message concerns no transaction and is not kept. Its moment was reached.
     Unheard,
     /// The message has this fault.
     Fault(Fault),
@@ -33,13 +33,13 @@ pub(crate) enum Observed {
     },
 }
 
-/// The fault of a request that is sent without the cookie (RFC 3261 section 8.1.1.7).
+/// The fault of a request that is sent without the cookie in its top branch (RFC 3261 section 8.1.1.7).
 const NO_COOKIE: Fault = Fault {
     unit: Unit::Head,
     reason: Reason::NoCookie,
 };
 
-/// Which way the message of an entry went. A mark has none, nor has a restart.
+/// Which way the message of an entry went; None for a mark and for a restart, which have no message.
 pub(crate) fn direction_of(action: Action) -> Option<Direction>
     ensures { result ≡ direction_of action }
 {
@@ -50,8 +50,7 @@ pub(crate) fn direction_of(action: Action) -> Option<Direction>
     }
 }
 
-/// The keys of the transactions that a message concerns: its own, and for a CANCEL that is sent that of the request which it
-/// cancels.
+/// The keys of the transactions that a message concerns: its own, and for a CANCEL that is sent also the key of the request that it cancels.
 fn keys_of(
     alloc: Global,
     message: &Message<'_>,
@@ -68,7 +67,7 @@ fn keys_of(
     })
 }
 
-/// What an entry without a message says.
+/// What an entry without a message says, by its action.
 fn told_without_message(action: Action) -> Observed
     ensures { result ≡ silent_told action }
 {
@@ -78,7 +77,7 @@ fn told_without_message(action: Action) -> Observed
     }
 }
 
-/// Reads the message of an entry, and keeps it in the book if it concerns a transaction. The book is as before on an error.
+/// Reads the message of an entry, and keeps it in the book if it concerns a transaction. On an error the book is as before.
 pub(crate) fn observe(alloc: Global, book: &mut Book, entry: &Entry) -> Result<Observed, AllocError>
     requires limit { entry.now.moment ≤ last_moment }
     requires numbered { (n : ℕ) → Keeps book.old n → n < entry.now.number }

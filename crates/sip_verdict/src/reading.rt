@@ -1,10 +1,13 @@
-//! Reads a log entry by entry, for those who answer the fault that ends it.
-ghost use Rattle.std.specs.Prelude.{◌≡◌, true, Some, [], Option, List, ℕ, IfOk, IfErr, IfSome, OnOk, IsErrOf};
+//! Reads a log entry by entry, for a judge or a survey, each of which answers a fault of the log in its own words.
+ghost use Rattle.std.specs.Prelude.{◌≡◌, ◌≤◌, true, Some, [], Option, List, ℕ, IfOk, IfErr, IfSome, OnOk, IsErrOf};
 ghost use Rattle.sip_standard.specs.Times.{Times};
 ghost use Rattle.sip_log.specs.Reading.{entries, beside_source};
 ghost use Rattle.sip_standard.specs.LogEntry.{Item};
 ghost use Rattle.sip_standard.specs.VerdictOf.{IsVerdictOf};
 ghost use Rattle.sip_standard.specs.ListingOf.{trouble_of};
+ghost use Rattle.sip_log.proofs.answers.StreamLemmas.{HasStreamed};
+ghost use Rattle.sip_verdict.specs.Room.{most_surveyed};
+ghost use Rattle.sip_verdict.specs.inner.ForgettingLogs.{StreamGives, StreamsOn};
 ghost use Rattle.sip_verdict.specs.inner.Walking.{HasRead, WalkGives, MovesOn};
 
 use crate::log_reason::reason_of;
@@ -13,18 +16,18 @@ use sip_machine::Params;
 use sip_standard::{JudgeError, LogReason, Verdict};
 use std::alloc::Global;
 
-/// What a log has after the entries that were read.
+/// What a log has after the entries that were read so far.
 #[derive(Drop)]
 pub(crate) enum Next {
     /// One more entry.
     Entry(Entry),
-    /// Nothing: the log ends.
+    /// No more entries: the log ends.
     End,
-    /// Something that is no entry.
+    /// Bytes that are no entry, with the reason why not.
     Fault(LogReason),
 }
 
-/// Reads the header, and no entry yet. In its place the verdict if it has a fault.
+/// Reads the header, and no entry yet. Where the header has a fault it answers the verdict instead.
 pub(crate) fn read_header<R: Source>(
     alloc: Global,
     reader: &mut R,
@@ -46,7 +49,35 @@ pub(crate) fn read_header<R: Source>(
     }
 }
 
-/// Reads on after the header or an entry, into the buffer.
+/// Reads on after the header or so many entries, into the buffer, however many there are. An entry has the number after theirs.
+pub(crate) fn read_on<R: Source>(
+    progress: &mut Progress,
+    buffer: Vec<u8>,
+    reader: &mut R,
+    count: u32,
+) -> Result<Next, JudgeError>
+    requires on { progress.old.stage ≡ entries }
+    requires count { count ≤ most_surveyed }
+    ensures moves { IfOk result (λ next. StreamsOn count progress.old progress.new next) }
+    ensures gives { IfOk result (λ next. (start : Option (List ℕ)) (times : Times) (items : List Item)
+        → HasStreamed start times items (beside_source progress.old (R.left reader.old) (R.has_failed reader.old))
+        → StreamGives start times items (beside_source progress.new (R.left reader.new) (R.has_failed reader.new)) next) }
+    ensures ok { OnOk result (R.has_failed reader.new ≡ R.has_failed reader.old) }
+    ensures io { IsErrOf result JudgeError.Io → R.has_failed reader.new ≡ true }
+{
+    progress.count_anew();
+    match progress.next_into(buffer, reader) {
+        Ok(Some(mut entry)) => {
+            entry.number = count + 1;
+            Ok(Next::Entry(entry))
+        }
+        Ok(None) => Ok(Next::End),
+        Err(error) => Ok(Next::Fault(reason_of(error)?)),
+    }
+}
+
+/// Reads what comes next in the log, after its header or an entry, into the buffer.
+#[inline(always)]
 pub(crate) fn read_next<R: Source>(
     progress: &mut Progress,
     buffer: Vec<u8>,

@@ -1,4 +1,4 @@
-//! What one entry leaves of the runs of each transaction, where those in trouble start anew and hear nothing more.
+//! Lets an entry pass in a survey: a transaction that comes into trouble starts anew and hears nothing more, and the others go on.
 ghost use Rattle.std.specs.Prelude.{◌≡◌, ◌≤◌, ◌∷◌, [], ℕ, false, None, List, All, OnOk, length};
 ghost use Rattle.std.specs.Option.{ForSome, option_copied};
 ghost use Rattle.sip_standard.specs.Key.{KeyParts};
@@ -13,14 +13,14 @@ ghost use Rattle.sip_verdict.specs.inner.TablesTracking.{hearers, is_among, AreH
 ghost use Rattle.sip_verdict.specs.inner.Surveying.{AreConcerned, ArePassing, AreWatched, HearsNumbers, any};
 
 use crate::concerned::Concerned;
-use crate::passing::{Fate, Hearing, hear};
+use crate::passing::{Hearing, Outcome, hear};
 use crate::troubled::Troubled;
 use sip_machine::{Book, Event};
 use sip_states::Tables;
 use std::alloc::AllocError;
 use std::hash::BuildHasher;
 
-/// Lets the transaction with this number hear the event, unless it is in trouble. If it comes into trouble by it, it starts anew.
+/// Lets the transaction with this number hear the event, unless it is in trouble. If the event brings it into trouble, its set starts anew.
 fn hear_or_release<H: BuildHasher>(
     tables: &mut Tables<H>,
     troubled: &mut Troubled,
@@ -44,20 +44,20 @@ fn hear_or_release<H: BuildHasher>(
     if troubled.has(number) {
         return Ok(());
     }
-    match hear(tables.set_mut(number), book, event)? {
-        Fate::Runs => tables.settle(number),
-        Fate::NoRun => {
+    match hear(tables.set_mut(number), number, book, event)? {
+        Outcome::Fine => tables.settle(number),
+        Outcome::NoRun(_) => {
             tables.restart_key(number)?;
             troubled.add_broken(number)
         }
-        Fate::TooWide => {
+        Outcome::TooWide(_) => {
             tables.restart_key(number)?;
             troubled.add_wide(number)
         }
     }
 }
 
-/// Lets the transactions with these numbers hear the event, but those in trouble.
+/// Lets the transactions with these numbers hear the event, except those in trouble.
 fn hear_numbers<H: BuildHasher>(
     tables: &mut Tables<H>,
     troubled: &mut Troubled,
@@ -81,7 +81,7 @@ fn hear_numbers<H: BuildHasher>(
     Ok(())
 }
 
-/// Lets every transaction but those in trouble pass a restart of the element. Those that are quiet do not change, and are not visited.
+/// Lets every transaction that is not in trouble pass a restart of the element. Quiet transactions do not change, and are not visited.
 fn restart<H: BuildHasher>(
     tables: &mut Tables<H>,
     troubled: &mut Troubled,
@@ -104,7 +104,7 @@ fn restart<H: BuildHasher>(
     Ok(())
 }
 
-/// Lets each transaction that the event concerns hear it, but those in trouble.
+/// Lets each transaction that the event concerns hear it, except those in trouble.
 fn hear_each<H: BuildHasher>(
     tables: &mut Tables<H>,
     troubled: &mut Troubled,
@@ -133,7 +133,7 @@ fn hear_each<H: BuildHasher>(
     }
 }
 
-/// Those that have waited longer than they can break, and start anew.
+/// Each transaction that has waited longer than it can breaks, and its set starts anew.
 fn release_overdue<H: BuildHasher>(
     tables: &mut Tables<H>,
     troubled: &mut Troubled,
@@ -156,7 +156,7 @@ fn release_overdue<H: BuildHasher>(
     Ok(())
 }
 
-/// Lets every transaction but those in trouble pass the entry: those that it concerns hear the event, and the others wait.
+/// Lets every transaction that is not in trouble pass the entry: the transactions that it concerns hear the event, and the others wait.
 pub(crate) fn pass_each<H: BuildHasher>(
     tables: &mut Tables<H>,
     troubled: &mut Troubled,

@@ -10,12 +10,11 @@ ghost use Rattle.sip_verdict.specs.declared.survey_error.SurveyError.TheVariants
 ghost use Rattle.sip_verdict.specs.ForgettingText.{IsLeftOf, IsToldForgetting};
 ghost use Rattle.sip_verdict.specs.SurveyText.{SumsUp};
 ghost use Rattle.sip_verdict.specs.Surveys.{SurveysFor};
-ghost use Rattle.sip_verdict.specs.inner.ForgettingLogs.{IsHorizonOf, IsWrittenForgetting, RemembersRead};
-ghost use Rattle.sip_verdict.specs.inner.SurveyingLogs.{IsSurveyAt};
+ghost use Rattle.sip_verdict.specs.inner.ForgettingLogs.{IsHorizonOf, IsStreamAt, IsWrittenForgetting, RemembersRead};
 
 use crate::following::Survey;
 use crate::horizon::Horizon;
-use crate::reading::{Next, read_header, read_next};
+use crate::reading::{Next, read_header, read_on};
 use crate::step_error::StepError;
 use crate::summary::Summary;
 use crate::survey_end::SurveyEnd;
@@ -27,10 +26,10 @@ use sip_standard::LogReason;
 use std::alloc::Global;
 use std::hash::BuildHasher;
 
-/// What is wrong in the log of the reader's bytes, or in a part, in the words of `survey` and of `survey_part`, by a survey that forgets,
-/// so that a long log takes little memory. From time to time it forgets the transactions that are over, or in trouble, and whose last
-/// entry came at least `age` milliseconds before the newest one. A message that comes later begins a new transaction: what is found then of
-/// a client that ended, or was in trouble, can be something else. A finding has the number of its transaction among those that are not
+/// Writes what is wrong in the log of the reader's bytes, or in a part of it, in the words of `survey` and `survey_part`, and forgets
+/// transactions as it goes, so that a long log takes little memory. From time to time it forgets those that are over, or in trouble, and
+/// whose last entry came at least `age` milliseconds before the newest one. A message that comes later begins a new transaction: for a client
+/// that ended, or was in trouble, the findings can be others then. A finding has the number of its transaction among those that are not
 /// forgotten, and the last line counts those that are left.
 pub fn survey_forgetting<R: Source, W: Sink, H: BuildHasher + Drop>(
     alloc: Global,
@@ -60,7 +59,7 @@ pub fn survey_forgetting<R: Source, W: Sink, H: BuildHasher + Drop>(
     }
 }
 
-/// Reads on after the header to the end of the log, writes what is found, and forgets.
+/// Reads on after the header to the end of the log, writes what is found, and forgets transactions that are over.
 fn write_on<R: Source, W: Sink, H: BuildHasher + Drop>(
     alloc: Global,
     survey: &mut Survey<H>,
@@ -70,7 +69,7 @@ fn write_on<R: Source, W: Sink, H: BuildHasher + Drop>(
     part: Option<&Part>,
     age: u64,
 ) -> Result<Summary, SurveyError>
-    requires at { IsSurveyAt survey.old progress.old }
+    requires at { IsStreamAt survey.old progress.old }
     requires first { survey.old.number ≡ 0 }
     ensures surveyed { IfOk result (λ summary. (start : Option (List ℕ))
         → RemembersRead age (option_copied part.entry) survey.old.tables.times survey.old [] [] start (beside_source progress.old (R.left reader.old) (R.has_failed reader.old))
@@ -85,12 +84,19 @@ fn write_on<R: Source, W: Sink, H: BuildHasher + Drop>(
     let mut horizon = Horizon::new(age);
     let mut count = 0;
     loop {
-        match read_next(progress, buffer, reader)? {
+        match read_on(progress, buffer, reader, count)? {
             Next::Entry(mut entry) => {
-                count = entry.number;
                 found.clear();
                 cut_to(alloc, part, &mut entry)?;
                 forget_due(survey, &mut horizon)?;
+                if !survey.has_room() {
+                    let end = SurveyEnd::LogFault {
+                        entry: entry.number,
+                        reason: LogReason::Limit,
+                    };
+                    return finish(alloc, writer, end, counts);
+                }
+                count = entry.number;
                 survey.entry(&entry, &mut found)?;
                 counts = put_findings(alloc, writer, survey, found.as_slice(), counts)?;
                 horizon.note(entry.number, entry.moment);
@@ -106,7 +112,7 @@ fn write_on<R: Source, W: Sink, H: BuildHasher + Drop>(
     }
 }
 
-/// Forgets what came to its end long ago, where that is due.
+/// Forgets the transactions that came to their end long ago, where the horizon says that it is time to.
 fn forget_due<H: BuildHasher + Drop>(
     survey: &mut Survey<H>,
     horizon: &mut Horizon,

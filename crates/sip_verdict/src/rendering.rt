@@ -58,8 +58,8 @@ pub(crate) fn last_line(alloc: Global, shown: &Shown) -> Result<String, AllocErr
     }
 }
 
-/// The line of what is found at an entry, with its end: the text of the verdict of the same words, and after it the words ROLE METHOD
-/// BRANCH FIRST LAST of the transaction, where it is known.
+/// The line of a finding, with its end: the text of the verdict with the same words, and after it the words ROLE METHOD BRANCH FIRST LAST of
+/// the transaction, where it is known.
 pub fn finding_line(
     alloc: Global,
     finding: &Finding,
@@ -88,7 +88,7 @@ fn push_transaction(line: &mut Vec<u8>, transaction: &Transaction<'_>) -> Result
     push_word(line, Buffer::new().format(transaction.last).as_bytes())
 }
 
-/// The side of a transaction in a word.
+/// The role of a transaction as a word.
 fn role_text(role: Role) -> &'static str
     ensures { result.now ≡ role_text role }
 {
@@ -106,8 +106,8 @@ fn push_word(line: &mut Vec<u8>, word: &[u8]) -> Result<(), AllocError>
     line.extend_from_slice(word)
 }
 
-/// The last line of a survey in which so much was found, with its end: `end entries E transactions T findings F`, or the text of the
-/// verdict on a log that cannot be read.
+/// The last line of a survey with this many findings, with its end: `end entries E transactions T findings F`, or the text of the verdict on a
+/// log that cannot be read.
 pub fn end_line(alloc: Global, end: &SurveyEnd, findings: u64) -> Result<String, AllocError>
     ensures { IfOk result (λ text. string_bytes text ≡ end_text end.now findings) }
 {
@@ -122,7 +122,7 @@ pub fn end_line(alloc: Global, end: &SurveyEnd, findings: u64) -> Result<String,
     Ok(text)
 }
 
-/// That the log of a survey was read to its end, with three numbers.
+/// The line that says that the log of a survey was read to its end, with the numbers of entries, transactions and findings.
 fn clean_end(
     alloc: Global,
     entries: u32,
@@ -143,7 +143,7 @@ fn clean_end(
     Ok(text)
 }
 
-/// Two words, each with a number after it.
+/// The text of two words, each with a number after it.
 fn two_numbers(
     alloc: Global,
     first_word: &str,
@@ -180,7 +180,7 @@ fn log_fault(alloc: Global, entry: u32, reason: LogReason) -> Result<String, All
     Ok(text)
 }
 
-/// Appends where a message has its fault.
+/// Appends the place of a message's fault: `head`, `line N` or `body`.
 fn push_unit(text: &mut String, unit: Unit) -> Result<(), AllocError>
     ensures { OnOk result (string_bytes text.new ≡ string_bytes text.old ++ rendered_unit unit) }
 {

@@ -21,8 +21,8 @@ use std::alloc::Global;
 /// `end N`, or the verdict on the first entry that cannot be read or whose message has a fault. It judges no transaction.
 ///
 /// `ShowError::Read` is answered only if the reader has failed, and `ShowError::Write` only if the writer has. After an
-/// error it is not said what was written, nor how far was read. It writes as it reads, and holds no more than one entry at a
-/// time: no contract says so.
+/// error it is not said what was written, nor how far the log was read. It writes as it reads, and holds no more than one entry
+/// at a time: no contract says so.
 pub fn show<R: Source, W: Sink>(
     alloc: Global,
     reader: &mut R,
@@ -60,7 +60,7 @@ pub fn show<R: Source, W: Sink>(
     }
 }
 
-/// Writes an entry with its number, or answers the fault of its message.
+/// Writes an entry with its number, or answers the fault of its message and writes nothing.
 fn show_entry<W: Sink>(
     alloc: Global,
     writer: &mut W,
@@ -79,7 +79,7 @@ fn show_entry<W: Sink>(
     Ok(None)
 }
 
-/// What stands for an entry's message: its canonical form, and nothing where it has none.
+/// The canonical form of an entry's message, and no bytes where the entry has no message.
 fn form_of(alloc: Global, action: Action, bytes: &[u8]) -> Result<Vec<u8>, ReadError>
     ensures form { IfOk result (λ form. IsCanonOf action bytes.now form.items) }
     ensures fault { IfErr result (HasNoForm action bytes.now) }
@@ -104,7 +104,7 @@ fn canonical(alloc: Global, bytes: &[u8]) -> Result<Vec<u8>, ReadError>
     Ok(form)
 }
 
-/// Writes the last line.
+/// Writes the last line of a log that is shown.
 fn finish<W: Sink>(alloc: Global, writer: &mut W, shown: Shown) -> Result<Shown, ShowError>
     ensures same { IfOk result (λ answer. answer ≡ shown) }
     ensures text { OnOk result (Appends (W.written writer.old) (W.written writer.new) (last_text shown ++ line_feed ∷ [])) }

@@ -6,7 +6,8 @@ use sip_standard::{JudgeError, Judges, Listing, ShowError, Shown, Sink, Source, 
 use std::alloc::Global;
 use std::hash::BuildHasher;
 
-/// Judges logs, shows them and lists states by the functions `judge`, `judge_bytes`, `show` and `states_at`: so each has the contract that stands in `sip_standard`.
+/// Judges logs, shows them and lists states by the functions `judge`, `judge_bytes`, `show` and `states_at`, so that each has the contract of
+/// `sip_standard`.
 #[derive(Clone, Copy, Debug)]
 pub struct Siptrace;
 

@@ -1,4 +1,4 @@
-//! What is kept of the entries of a log that were judged.
+//! What a judge holds of the entries that it has judged: the messages, and the transactions with their sets.
 ghost use Rattle.std.specs.Prelude.{◌≡◌, ◌≢◌, ◌≤◌, ◌<◌, ◌+◌, ◌++◌, ◌∷◌, [], ℕ, Bool, false, None, List, All, AllPairs, Contains, IfOk, IfNone, OnOk, length, string_bytes, ◌↔◌, IfSome, MatchOption};
 ghost use Rattle.std.specs.Option.{ForSome, option_copied};
 ghost use Rattle.sip_standard.specs.Key.{KeyParts};
@@ -36,8 +36,8 @@ use sip_states::Tables;
 use std::alloc::{AllocError, Global};
 use std::hash::BuildHasher;
 
-/// The messages of a log so far that concern a transaction, and the transactions in the order of their first messages. An
-/// entry touches those that it concerns; until when each can wait is on record.
+/// The messages of a log so far that concern a transaction, and the transactions in the order of their first messages. An entry
+/// touches only the transactions that it concerns, since it is on record until when each can wait.
 #[derive(Drop)]
 pub(crate) struct Standing<H: BuildHasher> {
     pub(crate) book: Book,
@@ -51,7 +51,7 @@ struct Taken {
     concerned: Concerned<u32>,
 }
 
-/// The number of each key's transaction, which starts if the key is new.
+/// The number of the transaction of each key, which starts where the key is new.
 pub(crate) fn touch_each<H: BuildHasher>(
     tables: &mut Tables<H>,
     keys: Concerned<Key>,
@@ -87,7 +87,7 @@ fn may_name<H: BuildHasher>(tables: &Tables<H>, number: u32, concerned: Concerne
 }
 
 impl<H: BuildHasher> Standing<H> {
-    /// Nothing was judged yet. It takes no memory.
+    /// What a judge holds before the first entry. It takes no memory.
     pub(crate) fn new(alloc: Global, params: Params, hasher: H) -> Standing<H>
         ensures book { result.book ≡ [] }
         ensures tables { result.tables ≡ record { times = params; keys = []; sets = []; records = [] } }
@@ -105,7 +105,7 @@ impl<H: BuildHasher> Standing<H> {
         self.tables.len()
     }
 
-    /// How many messages are kept.
+    /// How many messages the book keeps.
     pub(crate) fn kept(&self) -> usize
         ensures kept { result ≡ length self.now.book }
         ensures few { (number : ℕ) → ((n : ℕ) → Keeps self.now.book n → n < number) → result ≤ number }
@@ -114,7 +114,7 @@ impl<H: BuildHasher> Standing<H> {
         self.book.len()
     }
 
-    /// Lets every transaction wait until the moment. Where one is over, its set is quiet then.
+    /// Lets every transaction wait until the moment. The set of a transaction that is over is quiet after it.
     pub(crate) fn wait(&mut self, moment: u64) -> Result<(), AllocError>
         requires may { MayPass self.old.book self.old.tables moment }
         requires recorded { AllAreOnRecord self.old.tables }
@@ -132,7 +132,7 @@ impl<H: BuildHasher> Standing<H> {
         Ok(())
     }
 
-    /// Lets the transactions wait until the moment, and drops the messages that none of their states names then.
+    /// Lets the transactions wait until the moment, and drops the messages that no state of theirs names after it.
     pub(crate) fn sweep(&mut self, alloc: Global, moment: u64) -> Result<(), AllocError>
         requires may { MayPass self.old.book self.old.tables moment }
         requires recorded { AllAreOnRecord self.old.tables }
@@ -157,7 +157,8 @@ impl<H: BuildHasher> Standing<H> {
         Ok(())
     }
 
-    /// Lets every transaction pass the entry, with the verdict if one is in trouble.
+    /// Lets every transaction pass the entry, and answers the verdict if one of them comes into trouble.
+    #[inline(always)]
     fn pass(
         &mut self,
         number: u32,
@@ -192,7 +193,7 @@ impl<H: BuildHasher> Standing<H> {
         })
     }
 
-    /// Judges the entry that comes next, with the verdict if it is in trouble.
+    /// Judges the entry that comes next, and answers the verdict if it is in trouble.
     pub(crate) fn entry(
         &mut self,
         alloc: Global,
@@ -213,7 +214,7 @@ impl<H: BuildHasher> Standing<H> {
         Ok(self.take(alloc, entry)?.verdict)
     }
 
-    /// Judges the entry that comes next, with the verdict if it is in trouble. Its message is not kept if no transaction names it.
+    /// Judges the entry that comes next, and answers the verdict if it is in trouble. Its message is not kept if no transaction names it.
     pub(crate) fn judge(
         &mut self,
         alloc: Global,
@@ -238,7 +239,7 @@ impl<H: BuildHasher> Standing<H> {
         Ok(None)
     }
 
-    /// Drops the message with this number, if it is the newest and none of these transactions names it. No other transaction names it.
+    /// Drops the message with this number, if it is the newest one and none of these transactions names it. No other transaction names it.
     fn drop_unnamed(&mut self, number: u32, concerned: Concerned<u32>)
         requires given { All (IsGiven self.old.tables) (each concerned) }
         requires others { OthersAre (λ set. ¬ Contains (numbers_of set) number) concerned self.old.tables }
@@ -268,7 +269,7 @@ impl<H: BuildHasher> Standing<H> {
         }
     }
 
-    /// Judges the entry that comes next.
+    /// Judges the entry that comes next, and answers the numbers of the transactions that it concerns too.
     fn take(&mut self, alloc: Global, entry: &Entry) -> Result<Taken, AllocError>
         requires limit { entry.now.moment ≤ last_moment }
         requires count { entry.now.number ≤ most_entries }
@@ -320,7 +321,7 @@ impl<H: BuildHasher> Standing<H> {
         }
     }
 
-    /// The transactions with these numbers, or that there is none.
+    /// The listing of the transactions with these numbers, or the text that says that there is none.
     fn text(&self, alloc: Global, numbers: Concerned<u32>) -> Result<String, AllocError>
         requires { All (IsGiven self.now.tables) (each numbers) }
         ensures text { IfOk result (λ text. IsTextOf self.now.tables (listed (length self.now.tables.keys) numbers) (string_bytes text)) }
@@ -340,7 +341,7 @@ impl<H: BuildHasher> Standing<H> {
         Ok(text)
     }
 
-    /// All transactions in the order of their numbers, or that there is none.
+    /// The listing of all transactions in the order of their numbers, or the text that says that there is none.
     fn text_of_all(&self, alloc: Global) -> Result<String, AllocError>
         ensures { IfOk result (λ text. IsTextOf self.now.tables (up_to (length self.now.tables.keys)) (string_bytes text)) }
     {
@@ -356,7 +357,7 @@ impl<H: BuildHasher> Standing<H> {
         Ok(text)
     }
 
-    /// Appends the transaction with this number.
+    /// Appends the listing of the transaction with this number.
     fn push_one(&self, alloc: Global, text: &mut String, number: u32) -> Result<(), AllocError>
         requires { IsGiven self.now.tables number }
         ensures { OnOk result (Appends self.now.tables number (string_bytes text.old) (string_bytes text.new)) }
@@ -375,7 +376,7 @@ impl<H: BuildHasher> Standing<H> {
         Some(self.tables.key(number))
     }
 
-    /// The earliest moment up to which a transaction can wait, in milliseconds, if it is on record of one.
+    /// The earliest moment up to which some transaction can wait, in milliseconds, and None where each can wait for ever.
     pub(crate) fn earliest(&self) -> Option<u64>
         ensures { (moment : ℕ) → (due_of self.now.tables moment ≡ None) ↔ IfSome result (λ last. moment ≤ last) }
     {

@@ -23,7 +23,7 @@ use std::alloc::{AllocError, Global};
 use std::hash::BuildHasher;
 use std::marker::Model;
 
-/// Judges the entries of a log as they come, and drops the messages that it does not need any more.
+/// Judges the entries of a log as they come, and drops the messages that it needs no more.
 #[derive(Drop)]
 pub struct Judge<H: BuildHasher> {
     alloc: Global,
@@ -52,9 +52,9 @@ impl<H: BuildHasher> Model for Judge<H> {
 const MOST_ENTRIES: u32 = 1_000_000;
 
 /// The last moment of a log.
-const LAST_MOMENT: u64 = 9_999_999_999_999;
+pub(crate) const LAST_MOMENT: u64 = 9_999_999_999_999;
 
-/// Whether the entry may come after one of this number and moment.
+/// Whether the entry may come after an entry with this number and moment.
 pub(crate) fn may_come_next(number: u32, moment: u64, entry: &Entry) -> bool
     ensures { IsTrue result ↔ MayComeNext number moment entry.now.number entry.now.moment }
 {
@@ -65,7 +65,7 @@ pub(crate) fn may_come_next(number: u32, moment: u64, entry: &Entry) -> bool
 }
 
 impl<H: BuildHasher + Drop> Judge<H> {
-    /// No entry was judged yet. It takes no memory.
+    /// A judge that has judged no entry yet. It takes no memory.
     pub fn new(alloc: Global, params: Params, hasher: H) -> Judge<H>
         ensures stands { StandsFor result [] }
         ensures times { result.tables.times ≡ params }
@@ -91,7 +91,7 @@ impl<H: BuildHasher + Drop> Judge<H> {
         }
     }
 
-    /// Judges the next entry, with the verdict if it is in trouble. Later calls answer that verdict again. After an error every
+    /// Judges the next entry, and answers the verdict if the entry is in trouble. Later calls answer that verdict again. After an error every
     /// call answers `StepError::Failed`.
     pub fn entry(&mut self, entry: &Entry) -> Result<Option<Verdict>, StepError>
         requires { self.old.stage ≡ Open → MayComeNext self.old.number self.old.moment entry.now.number entry.now.moment }
@@ -124,7 +124,7 @@ impl<H: BuildHasher + Drop> Judge<H> {
         }
     }
 
-    /// The verdict on the entries: that of the first in trouble, or that they are legal. None after an error.
+    /// The verdict on the entries: the verdict of the first entry in trouble, or that they are legal. None after an error.
     pub fn end(self) -> Option<Verdict>
         ensures last { result ≡ last_verdict self.number (length self.tables.keys) self.stage }
         ensures legal { (es : List (Observation KeyParts)) → StandsFor self es
@@ -140,7 +140,7 @@ impl<H: BuildHasher + Drop> Judge<H> {
         }
     }
 
-    /// How many messages it keeps.
+    /// How many messages the judge keeps.
     pub fn kept(&self) -> usize
         ensures kept { result ≡ length self.now.texts }
         ensures few { (es : List (Observation KeyParts)) → StandsFor self.now es → AreFew self.now.tables.times es result }
@@ -148,7 +148,7 @@ impl<H: BuildHasher + Drop> Judge<H> {
         self.standing.kept()
     }
 
-    /// The key of the transaction with this number, by which a verdict names it; None where no transaction has it.
+    /// The key of the transaction with this number, by which a verdict names it, and None where no transaction has the number.
     pub fn key(&self, transaction: u32) -> Option<&Key>
         ensures none { MatchOption result (¬ (IsGiven self.now.tables transaction)) (λ key. IsGiven self.now.tables transaction × HasNumber self.now.tables key.now transaction) }
         ensures named { (es : List (Observation KeyParts)) → StandsFor self.now es
@@ -157,8 +157,8 @@ impl<H: BuildHasher + Drop> Judge<H> {
         self.standing.key(transaction)
     }
 
-    /// The last moment, in milliseconds, up to which each transaction can wait; None where each can for ever, and after a verdict or an error.
-    /// Where the next entry is later, a step that was due by then is missing.
+    /// The earliest moment, in milliseconds, that is the last one up to which some transaction can wait; None where each can wait for ever, and
+    /// after a verdict or an error. Where the next entry has a later moment, a step that was due by then is missing.
     pub fn next_due(&self) -> Option<u64>
         ensures due { self.now.stage ≡ Open → (moment : ℕ) → (due_of self.now.tables moment ≡ None) ↔ IfSome result (λ last. moment ≤ last) }
         ensures waits { (es : List (Observation KeyParts)) → StandsFor self.now es → (moment : ℕ) → self.now.moment ≤ moment

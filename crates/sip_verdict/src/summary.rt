@@ -1,7 +1,7 @@
-//! What a survey came to.
+//! The sums of a survey.
 use crate::survey_end::SurveyEnd;
 
-/// What a survey of a whole log came to: how the log ends, how much was found in it, and how much of this is that a transaction is
+/// The sums of the survey of a whole log: how the log ends, how many findings there are, and how many of them are of a transaction that is
 /// followed no further.
 #[derive(Clone, Copy, Debug, PartialEq, Eq)]
 pub struct Summary {

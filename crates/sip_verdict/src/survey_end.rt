@@ -4,8 +4,8 @@ use sip_standard::LogReason;
 /// How the log of a survey ends. Entries are numbered from 1; a fault of the header is at entry 0.
 #[derive(Clone, Copy, Debug, PartialEq, Eq)]
 pub enum SurveyEnd {
-    /// It was read to its end, and has so many entries and transactions.
+    /// The log was read to its end, and has so many entries and transactions.
     Clean { entries: u32, transactions: u32 },
-    /// The entry cannot be read.
+    /// This entry of the log cannot be read.
     LogFault { entry: u32, reason: LogReason },
 }

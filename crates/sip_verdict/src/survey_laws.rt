@@ -27,7 +27,7 @@ pub fn a_survey_is_one()
     ensures { (input : List ℕ) (found others : List FindingValue) (end fin : EndValue) → IsSurveyOf input found end → IsSurveyOf input others fin → (found ≡ others) × (end ≡ fin) }
 {}
 
-/// And it has one: none is without.
+/// Each input has a survey.
 pub fn an_input_has_a_survey()
     ensures { (input : List ℕ) → ¬ ((found : List FindingValue) (end : EndValue) → ¬ IsSurveyOf input found end) }
 {}
@@ -37,63 +37,63 @@ pub fn the_verdict_is_in_the_survey()
     ensures { (input : List ℕ) (verdict : VerdictValue) (found : List FindingValue) (end : EndValue) → IsVerdictOf input verdict → IsSurveyOf input found end → verdict ≡ verdict_in found end }
 {}
 
-/// A transaction that is followed no further at an entry has a run over it: it does not break there.
+/// A transaction that is followed no further at an entry has a run over the entry: it does not break there.
 pub fn what_is_wide_does_not_break()
     ensures { (p : Times) (es : List (Observation KeyParts)) (e : Observation KeyParts) (key : KeyParts) → IsWideAt p es e key → RunsOver p (es ++ e ∷ []) key }
 {}
 
-/// A breach stays: a transaction that has a run over entries, in the order of their moments, has one over the first of them.
+/// A breach stays: a transaction that has a run over entries in the order of their moments has one over the first of them too.
 pub fn a_breach_stays()
     ensures { (p : Times) (key : KeyParts) (front more : List (Observation KeyParts)) → AllPairs (λ a b. a.event.moment ≤ b.event.moment) (front ++ more)
         → RunsOver p (front ++ more) key → RunsOver p front key }
 {}
 
-/// A transaction has at most one finding: after it, there is no other.
+/// A transaction has at most one finding: after the entry of a finding there is no other one. The entries are in the order of their moments.
 pub fn a_transaction_has_one_finding()
     ensures { (p : Times) (key : KeyParts) (front : List (Observation KeyParts)) (e : Observation KeyParts) (more : List (Observation KeyParts)) (last : Observation KeyParts)
         → AllPairs (λ a b. a.event.moment ≤ b.event.moment) (front ++ e ∷ more) → Breaks p front e key ⊎ Widens p front e key
         → ¬ (Breaks p (front ++ e ∷ more) last key ⊎ Widens p (front ++ e ∷ more) last key) }
 {}
 
-/// And at least one, where it is in trouble.
+/// A transaction that is in trouble has a finding.
 pub fn a_transaction_in_trouble_has_a_finding()
     ensures { (p : Times) (key : KeyParts) (es : List (Observation KeyParts)) → ¬ IsSound p es key
         → ¬ ((front : List (Observation KeyParts)) (e : Observation KeyParts) (more : List (Observation KeyParts)) → es ≡ front ++ e ∷ more → ¬ (Breaks p front e key ⊎ Widens p front e key)) }
 {}
 
-/// Each transaction that is in trouble over the entries of a log is named by a finding of its survey.
+/// Each transaction that is in trouble over the entries of a log is named by a finding of the log's survey.
 pub fn each_trouble_is_named()
     ensures { (p : Times) (items : List Item) (close : LogEnd) (es : List (Observation KeyParts)) (found : List FindingValue) (end : EndValue) → AreSeen [] items es
         → IsSurveyAfter p [] items close found end → (key : KeyParts) → ¬ IsSound p es key → ¬ (¬ AreAbout es found key) }
 {}
 
-/// And it names no transaction twice: two findings of one transaction are the same.
+/// A survey names no transaction twice: two findings of one transaction are the same.
 pub fn a_survey_names_a_transaction_once()
     ensures { (input : List ℕ) (found : List FindingValue) (end : EndValue) → IsSurveyOf input found end → (transaction : ℕ) (f g : FindingValue)
         → Contains found f → Contains found g → IsOf transaction f → IsOf transaction g → f ≡ g }
 {}
 
-/// A log may be cut by its transactions. Where all that an entry concerns is chosen, or none of it, take the log in which each entry that
-/// concerns none of the chosen is a mark: it has the chosen transactions in their order, and each breaks, or is followed no further, at
-/// the same entry.
+/// A log may be cut by its transactions, where all keys that an entry concerns are chosen, or none of them. The cut log has a mark in place of
+/// each entry that concerns no chosen key. It has the chosen transactions in their order, and each of them breaks, or is followed no further,
+/// at the same entry as in the whole log.
 pub fn a_log_may_be_cut()
     ensures { (p : Times) (chosen : KeyParts → Bool) (items : List Item) (es : List (Observation KeyParts)) (cuts : List Item) → AreSeen [] items es
         → IsCutLog chosen items es cuts → Keeps p chosen es cuts }
 {}
 
-/// It can be cut by branch, whichever branches are chosen, since all that a message concerns has the branch of its top Via.
+/// A log can be cut by branch, whichever branches are chosen, since all keys that a message concerns have the branch of its top Via.
 pub fn a_log_can_be_cut_by_branch()
     ensures { (chosen : List ℕ → Bool) (items : List Item) (es : List (Observation KeyParts)) → AreSeen [] items es
         → (cuts : List Item) × IsCutLog (λ key. chosen key.branch) items es cuts }
 {}
 
-/// The log of a part is cut so, by the branches that fall into the part.
+/// The log of a part is cut by branch: the chosen branches are those that fall into the part.
 pub fn the_log_of_a_part_is_cut_by_branch()
     ensures { (part : PartOf) (items cuts : List Item) (es : List (Observation KeyParts)) → AreSeen [] items es → IsPartLog part items cuts
         → IsCutLog (λ key. falls_into part key.branch) items es cuts }
 {}
 
-/// And a part finds what the whole finds: the survey of a log, and that of one that is cut from it so, name a chosen transaction at the same
+/// A part finds what the whole finds: the survey of a log, and the survey of a log that is cut from it, name a chosen transaction at the same
 /// entries, however the two logs end. The part counts the chosen transactions alone.
 pub fn a_part_finds_what_the_whole_finds()
     ensures { (p : Times) (chosen : KeyParts → Bool) (items cuts : List Item) (es : List (Observation KeyParts)) (close shut : LogEnd) (found part : List FindingValue) (end fin : EndValue)
@@ -103,28 +103,28 @@ pub fn a_part_finds_what_the_whole_finds()
         × (Names (λ n t. Undecided n t) keys_in es found key entry ↔ Names (λ n t. Undecided n t) (chosen_in chosen) es part key entry) }
 {}
 
-/// A fault is found in a part exactly where it is found in the whole and its message stays.
+/// A fault is found in a part exactly where the survey of the whole finds it and its message stays in the part.
 pub fn a_fault_is_found_where_its_message_stays()
     ensures { (p : Times) (chosen : KeyParts → Bool) (items cuts : List Item) (es : List (Observation KeyParts)) (close shut : LogEnd) (found part : List FindingValue) (end fin : EndValue)
         → AreSeen [] items es → IsCutLog chosen items es cuts → IsSurveyAfter p [] items close found end → IsSurveyAfter p [] cuts shut part fin
         → (entry : ℕ) (fault : FaultValue) → Contains part (Malformed entry fault) ↔ (Contains found (Malformed entry fault) × StaysAt items cuts entry) }
 {}
 
-/// What stands lasts: a run of one of the six machines stands in no state after its last moment.
+/// A run of one of the six machines stands in no state after the last moment of that state.
 pub fn what_stands_lasts()
     ensures { (kind : MachineKind) (p : Times) (events : List MachineEvent) (m : ℕ) (x : Owing (transaction_of kind).Phase) → Stands (transaction_of kind).figure p events m x
         → Lasts (transaction_of kind).figure p x m }
 {}
 
-/// A transaction that is surely idle again is as new: over later events it has just the runs that a new one has.
+/// A transaction that is surely idle again is as new: over later events it stands just where a new one stands.
 pub fn a_transaction_that_is_idle_again_is_as_new()
     ensures { (kind : MachineKind) (p : Times) (old more : List MachineEvent) (m k : ℕ) (y : Owing (transaction_of kind).Phase) → IsIdleAgain kind p old m
         → All (λ e. e.moment ≤ m) old → All (λ e. m ≤ e.moment) more → m ≤ k
         → Stands (transaction_of kind).figure p (old ++ more) k y ↔ Stands (transaction_of kind).figure p more k y }
 {}
 
-/// So a transaction that is idle again can be forgotten: at a later entry it breaks, or is followed no further, exactly where it does over the
-/// entries since then alone.
+/// A transaction that is idle again can be forgotten: at a later entry it breaks, or is followed no further, exactly where it does over the
+/// entries since then alone. The entries are in the order of their moments.
 pub fn what_is_idle_again_can_be_forgotten()
     ensures { (p : Times) (key : KeyParts) (old front : List (Observation KeyParts)) (e : Observation KeyParts) → AllPairs (λ a b. a.event.moment ≤ b.event.moment) (old ++ (front ++ e ∷ []))
         → IsIdleAgain (machine_of_key p.rules key) p (events_for key old) (newest_moment old) → IsSound p old key

@@ -5,9 +5,9 @@ ghost use Rattle.sip_log.specs.Reading.{beside_source};
 ghost use Rattle.sip_verdict.specs.declared.finding.Finding.{Finding};
 ghost use Rattle.sip_verdict.specs.declared.survey_error.SurveyError.TheVariants.{Read, Write};
 ghost use Rattle.sip_log.specs.Told.{item};
-ghost use Rattle.sip_verdict.specs.SurveyParts.{IsPartToldOf};
+ghost use Rattle.sip_verdict.specs.SurveyParts.{IsPartToldOf, IsTaken};
 ghost use Rattle.sip_verdict.specs.SurveyText.{IsToldOf, SumsUp, end_text};
-ghost use Rattle.sip_verdict.specs.inner.SurveyingLogs.{AreCounted, AreLinesBy, IsLineBy, IsSurveyAt, IsTaken, IsToldIn, IsWritten, SurveysRead, TellsOf};
+ghost use Rattle.sip_verdict.specs.inner.SurveyingLogs.{AreCounted, AreLinesBy, IsLineBy, IsSurveyAt, IsToldIn, IsWritten, SurveysRead, TellsOf};
 
 use crate::finding::Finding;
 use crate::following::Survey;
@@ -25,14 +25,14 @@ use sip_standard::LogReason;
 use std::alloc::{AllocError, Global};
 use std::hash::BuildHasher;
 
-/// All that is wrong in the log of the reader's bytes. What is found at an entry is written when the entry was read, a line for each
-/// finding: the words of a verdict, and after them, where it is found of a transaction, `ROLE METHOD BRANCH FIRST LAST`: its role
-/// (`client` or `server`), the method of its request, its branch as its first message spells it, and the numbers of its first entry and
-/// of its last one so far. The last line is `end entries E transactions T findings F`, or the fault of the log.
+/// Writes all that is wrong in the log of the reader's bytes. The findings of an entry are written when the entry was read, a line for each:
+/// the words of a verdict, and after them, where the finding is of a transaction, `ROLE METHOD BRANCH FIRST LAST`: its role (`client` or
+/// `server`), the method of its request, its branch as its first message spells it, and the numbers of its first entry and of its last one
+/// so far. The last line is `end entries E transactions T findings F`, or the fault of the log.
 ///
-/// `SurveyError::Read` is answered only if the reader has failed, and `SurveyError::Write` only if the writer has. After an error the
-/// lines of what was found so far may have been written, but for the last in part. The hasher is for the keys of the transactions; any
-/// hasher gives the same survey.
+/// `SurveyError::Read` is answered only if the reader has failed, and `SurveyError::Write` only if the writer has. After an error the lines of
+/// the findings so far may have been written, the last of them in part. The hasher is for the keys of the transactions; any hasher gives
+/// the same survey.
 pub fn survey<R: Source, W: Sink, H: BuildHasher + Drop>(
     alloc: Global,
     reader: &mut R,
@@ -49,9 +49,9 @@ pub fn survey<R: Source, W: Sink, H: BuildHasher + Drop>(
     survey_in(alloc, reader, writer, hasher, None)
 }
 
-/// All that is wrong in a part of the log of the reader's bytes, in the same words: what `survey` writes of the log in which each message
-/// that does not fall into the part is a mark of its moment. Entries have the numbers of the whole log. Transactions are those of the
-/// part, counted among themselves.
+/// Writes all that is wrong in a part of the log of the reader's bytes, in the same words: what `survey` writes of the log in which each
+/// message that does not fall into the part is a mark of its moment. Entries have the numbers of the whole log. Transactions are those of
+/// the part, counted among themselves.
 pub fn survey_part<R: Source, W: Sink, H: BuildHasher + Drop>(
     alloc: Global,
     reader: &mut R,
@@ -69,7 +69,7 @@ pub fn survey_part<R: Source, W: Sink, H: BuildHasher + Drop>(
     survey_in(alloc, reader, writer, hasher, Some(part))
 }
 
-/// Surveys the whole log, or a part.
+/// Surveys the whole log, or a part of it.
 fn survey_in<R: Source, W: Sink, H: BuildHasher + Drop>(
     alloc: Global,
     reader: &mut R,
@@ -97,7 +97,8 @@ fn survey_in<R: Source, W: Sink, H: BuildHasher + Drop>(
     }
 }
 
-/// Leaves of an entry its moment alone, where it has a message that does not fall into the part.
+/// Makes the entry a mark of its moment, where it has a message that does not fall into the part.
+#[inline(always)]
 pub(crate) fn cut_to(
     alloc: Global,
     part: Option<&Part>,
@@ -163,6 +164,7 @@ fn write_entries<R: Source, W: Sink, H: BuildHasher + Drop>(
 }
 
 /// Writes a line for each of the findings of the newest entry, and counts them.
+#[inline(always)]
 pub(crate) fn put_findings<W: Sink, H: BuildHasher + Drop>(
     alloc: Global,
     writer: &mut W,
@@ -184,7 +186,7 @@ pub(crate) fn put_findings<W: Sink, H: BuildHasher + Drop>(
     Ok(counts)
 }
 
-/// The transaction of which something is found.
+/// The transaction of a finding, and None for the fault of a message.
 fn transaction_of<'a, H: BuildHasher + Drop>(
     survey: &'a Survey<H>,
     finding: &Finding,
@@ -198,7 +200,7 @@ fn transaction_of<'a, H: BuildHasher + Drop>(
     }
 }
 
-/// Writes the line of a finding of the newest entry.
+/// Writes the line of one finding of the newest entry.
 fn put_finding<W: Sink, H: BuildHasher + Drop>(
     alloc: Global,
     writer: &mut W,
@@ -216,7 +218,7 @@ fn put_finding<W: Sink, H: BuildHasher + Drop>(
     Ok(())
 }
 
-/// Writes the last line.
+/// Writes the last line of a survey, and answers its sums.
 pub(crate) fn finish<W: Sink>(
     alloc: Global,
     writer: &mut W,
@@ -238,7 +240,7 @@ pub(crate) fn finish<W: Sink>(
     })
 }
 
-/// How much was found, and how much of it is that a transaction is followed no further.
+/// How many findings there are so far, and how many of them are of a transaction that is followed no further.
 #[derive(Clone, Copy)]
 pub(crate) struct Counts {
     findings: u64,
@@ -246,7 +248,7 @@ pub(crate) struct Counts {
 }
 
 impl Counts {
-    /// Nothing was found.
+    /// The counts before the first finding.
     pub(crate) fn none() -> Counts
         ensures { (result.findings ≡ 0) × (result.undecided ≡ 0) }
     {
@@ -256,7 +258,7 @@ impl Counts {
         }
     }
 
-    /// This was found too. None beyond the last number, which no log reaches.
+    /// The counts with this finding, and None where a number would be too large, which no log reaches.
     fn with(&self, finding: &Finding) -> Option<Counts>
         ensures { IfSome result (AreCounted (finding.now ∷ []) self.now) }
     {

@@ -1,4 +1,4 @@
-//! Judges entries, and drops the messages that no transaction needs any more.
+//! Judges entries, and drops messages that no transaction needs any more.
 ghost use Rattle.std.specs.Prelude.{◌≡◌, ◌≤◌, ◌+◌, List, All, Contains, IfOk, IfNone, OnOk, length};
 ghost use Rattle.sip_standard.specs.Key.{KeyParts};
 ghost use Rattle.sip_standard.specs.Times.{last_moment};
@@ -17,11 +17,11 @@ use sip_standard::Verdict;
 use std::alloc::{AllocError, Global};
 use std::hash::BuildHasher;
 
-/// How many messages more than twice those that the last sweep left are kept without a sweep.
+/// How many messages may be kept without a sweep above twice those that the last sweep left.
 pub(crate) const SPARE: usize = 64;
 
-/// Judges the entry that comes next, with the verdict if it is in trouble. Where many more messages are kept than the last
-/// sweep left, those go that no transaction needs.
+/// Judges the entry that comes next, and answers the verdict if it is in trouble. Where many more messages are kept than the last sweep left,
+/// it drops those that no transaction needs.
 pub(crate) fn judge_next<H: BuildHasher>(
     alloc: Global,
     standing: &mut Standing<H>,

@@ -1,5 +1,5 @@
 //! Which transactions are in trouble.
-ghost use Rattle.std.specs.Prelude.{◌≡◌, ◌<◌, ◌≤◌, ◌-◌, ◌++◌, ◌∷◌, [], Bool, List, Some, true, false, All, OnOk, length, map, slice_get, slice_set};
+ghost use Rattle.std.specs.Prelude.{◌≡◌, ◌↔◌, ◌<◌, ◌≤◌, ◌-◌, ◌++◌, ◌∷◌, [], Bool, List, Some, true, false, All, IsTrue, OnOk, length, map, slice_get, slice_set};
 ghost use Rattle.sip_states.specs.Kept.{kept_of};
 ghost use Rattle.sip_verdict.specs.declared.finding.Finding.{Finding};
 ghost use Rattle.sip_verdict.specs.declared.finding.Finding.TheVariants.{Breach, Undecided};
@@ -9,19 +9,19 @@ use crate::finding::Finding;
 use sip_states::{keep_ascending, keep_each};
 use std::alloc::{AllocError, Global};
 
-/// The transactions in trouble, those among them that came into it at the entry in hand being told apart.
+/// The transactions in trouble, and which of them came into it at the entry in hand.
 #[derive(Drop)]
 pub(crate) struct Troubled {
-    /// Whether each transaction is in trouble, by its number from 1: it hears nothing more.
+    /// Whether each transaction is in trouble, by its number from 1. A transaction in trouble hears nothing more.
     deaf: Vec<bool>,
-    /// The numbers of those that broke at this entry.
+    /// The numbers of the transactions that broke at the entry in hand.
     broken: Vec<u32>,
-    /// The numbers of those that are followed no further from this entry on.
+    /// The numbers of the transactions that are followed no further from the entry in hand on.
     wide: Vec<u32>,
 }
 
 impl Troubled {
-    /// There is no transaction yet. It takes no memory.
+    /// The record before the first transaction. It takes no memory.
     pub(crate) fn new(alloc: Global) -> Troubled
         ensures deaf { result.deaf.items ≡ [] }
         ensures fresh { IsFresh result }
@@ -33,7 +33,7 @@ impl Troubled {
         }
     }
 
-    /// There are so many transactions now; the new ones are in no trouble.
+    /// Makes room for this many transactions. The new ones are in no trouble.
     pub(crate) fn grow(&mut self, count: u32) -> Result<(), AllocError>
         requires { length self.old.deaf.items ≤ count }
         ensures long { OnOk result (length self.new.deaf.items ≡ count) }
@@ -47,7 +47,7 @@ impl Troubled {
         Ok(())
     }
 
-    /// Those transactions alone are left at which the flag is true, numbered anew.
+    /// Keeps those transactions alone whose flag is true, and numbers them anew.
     pub(crate) fn keep(&mut self, flags: &[bool])
         requires { length flags.now ≡ length self.old.deaf.items }
         ensures deaf { self.new.deaf.items ≡ kept_of flags.now self.old.deaf.items }
@@ -66,7 +66,7 @@ impl Troubled {
         self.deaf[number as usize - 1]
     }
 
-    /// The transaction with this number breaks at this entry.
+    /// Adds that the transaction with this number breaks at the entry in hand.
     pub(crate) fn add_broken(&mut self, number: u32) -> Result<(), AllocError>
         requires low { 0 < number }
         requires high { number ≤ length self.old.deaf.items }
@@ -77,7 +77,7 @@ impl Troubled {
         Ok(())
     }
 
-    /// The transaction with this number is followed no further from this entry on.
+    /// Adds that the transaction with this number is followed no further from the entry in hand on.
     pub(crate) fn add_wide(&mut self, number: u32) -> Result<(), AllocError>
         requires low { 0 < number }
         requires high { number ≤ length self.old.deaf.items }
@@ -88,14 +88,24 @@ impl Troubled {
         Ok(())
     }
 
-    /// Appends what came into trouble at the entry, the breaches by number and then what is followed no further by number. The next
-    /// entry is in hand then.
+    /// Whether nothing came into trouble yet at the entry in hand.
+    fn is_fresh(&self) -> bool
+        ensures { IsTrue result ↔ IsFresh self.now }
+    {
+        self.broken.is_empty() && self.wide.is_empty()
+    }
+
+    /// Appends what came into trouble at the entry to the findings: the transactions that break by number, and then those that are followed no
+    /// further by number. After it nothing has come into trouble at the next entry.
     pub(crate) fn tell(&mut self, entry: u32, found: &mut Vec<Finding>) -> Result<(), AllocError>
         ensures told { OnOk result (AppendsTroubled entry self.old found.old.items found.new.items) }
         ensures deaf { self.new.deaf.items ≡ self.old.deaf.items }
         ensures fresh { OnOk result (IsFresh self.new) }
         ensures front { (more : List Finding) × (found.new.items ≡ found.old.items ++ more) }
     {
+        if self.is_fresh() {
+            return Ok(());
+        }
         keep_ascending(&mut self.broken);
         keep_ascending(&mut self.wide);
         push_breaches(entry, self.broken.as_slice(), found)?;
@@ -106,7 +116,7 @@ impl Troubled {
     }
 }
 
-/// Appends that these transactions break at the entry.
+/// Appends a finding for each of these transactions: it breaks at the entry.
 fn push_breaches(entry: u32, numbers: &[u32], found: &mut Vec<Finding>) -> Result<(), AllocError>
     ensures pushed { OnOk result (found.new.items ≡ found.old.items ++ map (λ transaction. Breach entry transaction) numbers.now) }
     ensures front { (more : List Finding) × (found.new.items ≡ found.old.items ++ more) }
@@ -118,7 +128,7 @@ fn push_breaches(entry: u32, numbers: &[u32], found: &mut Vec<Finding>) -> Resul
     Ok(())
 }
 
-/// Appends that these transactions are followed no further from the entry on.
+/// Appends a finding for each of these transactions: it is followed no further from the entry on.
 fn push_undecided(entry: u32, numbers: &[u32], found: &mut Vec<Finding>) -> Result<(), AllocError>
     ensures pushed { OnOk result (found.new.items ≡ found.old.items ++ map (λ transaction. Undecided entry transaction) numbers.now) }
     ensures front { (more : List Finding) × (found.new.items ≡ found.old.items ++ more) }

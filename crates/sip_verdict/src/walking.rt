@@ -13,17 +13,17 @@ use sip_standard::{JudgeError, Listing, Verdict};
 use std::alloc::{AllocError, Global};
 use std::hash::BuildHasher;
 
-/// Where a walk ends, by which it is known what it keeps.
+/// Where a walk ends. It also says which messages the walk keeps.
 #[derive(Clone, Copy)]
 pub(crate) enum Aim {
-    /// The end of the log. A message that no state names is not kept.
+    /// The walk ends at the end of the log. It keeps no message that no state names.
     End,
-    /// The entry with this number. Every message is kept, since it is told by the number of its first entry.
+    /// The walk ends at the entry with this number. It keeps every message, since a message is told by the number of its first entry.
     Entry(u32),
 }
 
 impl Aim {
-    /// Whether it is the entry with this number.
+    /// Whether the aim is the entry with this number.
     fn is_entry(self, number: u32) -> bool
         ensures is { result ≡ true → self ≡ Aim.Entry number }
         ensures is_not { result ≡ false → self ≢ Aim.Entry number }
@@ -35,7 +35,7 @@ impl Aim {
     }
 }
 
-/// Judges the entry that comes next, with the verdict if it is in trouble.
+/// Judges the entry that comes next, and answers the verdict if it is in trouble.
 fn judge_on<H: BuildHasher>(
     alloc: Global,
     standing: &mut Standing<H>,
@@ -58,8 +58,8 @@ fn judge_on<H: BuildHasher>(
     }
 }
 
-/// Reads a log and judges it, entry by entry: what is listed of the entry that is the aim, or the verdict if the walk ends before it. Every
-/// entry is read into the same buffer.
+/// Reads a log and judges it, entry by entry. It answers what is listed of the entry that is the aim, or the verdict if the walk ends before
+/// it. Every entry is read into the same buffer.
 pub(crate) fn walk<R: Source, H: BuildHasher + Drop>(
     alloc: Global,
     reader: &mut R,

@@ -1,7 +1,7 @@
-//! `sipsurvey`: reads the log on its standard input or in a file and writes a line for each trouble as its entry passes, of each
-//! transaction the first one, and a last line that counts them. `--part K/N` before the file has it judge the transactions alone whose
-//! branch falls into part K of N. `--forget MILLISECONDS` before both has it forget, so long after its last entry, a transaction that is
-//! over or in trouble.
+//! `sipsurvey`: reads the log on its standard input or in a file and writes a line for each trouble as its entry passes, of each transaction
+//! only the first one, and a last line that counts them. With `--part K/N` before the file it judges only the transactions whose branch
+//! falls into part K of N. With `--forget MILLISECONDS` before both it forgets a transaction that is over or in trouble so many milliseconds
+//! after its last entry.
 //!
 //! It ends with 0 where nothing is found, 1 where a message is malformed or a transaction breaks, 2 where the log cannot be read to its
 //! end, 3 where all that is found are transactions that are followed no further, 4 where it cannot read, write or get memory, and 5

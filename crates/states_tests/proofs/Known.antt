@@ -1,14 +1,15 @@
 -- What is true of a set after `take` and `advance`, whatever they answer: the book has what its states name, and the set's moment.
-use Rattle.std.proofs.Common.{◌≡◌, ◌≤◌, ℕ, List, Result, Ok, Err, OnOk, OnErr, All, inl, inr, sym, subst, get_or, arith}
+use Rattle.std.proofs.Common.{◌≡◌, ◌≤◌, ℕ, List, Result, Ok, Err, OnOk, OnErr, All, inl, inr, sym, ap, ◌∙◌, subst, get_or, arith}
 use Rattle.std.proofs.lemmas.Option.{slice_get-get_or}
 use Rattle.sip_machine.specs.Texts.{Texts}
 use Rattle.sip_machine.specs.Rules.{Knows, StandFor}
 use Rattle.sip_states.specs.Held.{Held}
+use Rattle.sip_states.specs.Meaning.{HasWaited}
 use Rattle.sip_states.specs.AnySet.{SetWaits, moment_of}
+use Rattle.sip_states.proofs.keyed.ByMachine.{some_machine, of_sets, moment_is}
 use Rattle.sip_states.specs.Sweep.{AdvancesSome}
 use Rattle.sip_states.specs.Tables.{Tabled}
 use Rattle.sip_states.specs.declared.any_set.AnySet.{AnySet}
-use Rattle.sip_states.specs.declared.any_set.AnySet.TheVariants.{InviteClient, PlainClient, InviteServer, PlainServer, InviteClient3261, InviteServer3261}
 
 module _ {X M S T E : Type 0} (names : S → List ℕ) (InRange : S → Type 0) (seen : Texts → S → X) (texts : Texts) (P : X → Type 0) (old new : Held M S) where
   -- whatever `StateSet::take` answers, the book has all that the set's states name
@@ -17,21 +18,18 @@ module _ {X M S T E : Type 0} (names : S → List ℕ) (InRange : S → Type 0) 
   known-after (Ok x) stands stays known = stands.known
   known-after (Err e) stands stays known = subst (λ (h : Held M S). All (Knows names texts) h.states) (sym stays) known
 
--- whatever `StateSet::take` answers, the set is then no later than the moment of what it was to take
+-- whatever `StateSet::take` answers, the moment of the set is then at most the moment of the event
 pub moment-after : {M S T E : Type 0} (moment : ℕ) (old new : Held M S) (r : Result T E) → OnOk r ((new.machine ≡ old.machine) × (new.moment ≡ moment)) → OnErr r (new ≡ old)
     → old.moment ≤ moment → new.moment ≤ moment
 moment-after moment old new (Ok x) at stays early = (let is = at.1 in omega arith)
 moment-after moment old new (Err e) at stays early = subst (λ h. h.moment ≤ moment) (sym stays) early
 
--- a set that has waited until the moment is there
+-- a set that has waited until a moment has that moment
 waits_moment : (moment : ℕ) (a b : AnySet) → SetWaits moment a b → moment_of b ≡ moment
-waits_moment moment (InviteClient s) (InviteClient t) waits = waits.at
-waits_moment moment (PlainClient s) (PlainClient t) waits = waits.at
-waits_moment moment (InviteServer s) (InviteServer t) waits = waits.at
-waits_moment moment (PlainServer s) (PlainServer t) waits = waits.at
-waits_moment moment (InviteClient3261 s) (InviteClient3261 t) waits = waits.at
-waits_moment moment (InviteServer3261 s) (InviteServer3261 t) waits = waits.at
-waits_moment moment a b waits = absurd waits
+waits_moment moment a b waits =
+    let (machine, s, is) = some_machine a in
+    let (t, new, waited) = of_sets (λ X M S m x y. HasWaited m moment x y) machine s b (subst (λ set. SetWaits moment set b) is waits) in
+    ap moment_of new ∙ moment_is machine t ∙ waited.at
 
 -- where some sets have waited until the moment none is past it
 pub some_early : (moment : ℕ) (old new : Tabled) → AdvancesSome moment old new → All (λ set. moment_of set ≤ moment) old.sets → All (λ set. moment_of set ≤ moment) new.sets

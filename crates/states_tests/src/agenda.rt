@@ -1,6 +1,5 @@
-//! Which key is due, worked out by hand for T1 500, T2 4000, T4 5000 and a tolerance of 50. An INVITE at m
-//! waits for its first response until m + 250, and a 486 at m is sent again by m + 550. After a 180 or a
-//! 200 there is no last moment.
+//! Which key is due, worked out by hand for T1 500, T2 4000, T4 5000 and a tolerance of 50. An INVITE at m waits for its first
+//! response until m + 250, and a 486 at m is sent again by m + 550. After a 180 or a 200 there is no last moment.
 ghost use Rattle.std.specs.Prelude.{◌≡◌, [], IfOk};
 
 use crate::keys::touch;
@@ -13,7 +12,7 @@ use std::hash::{BuildHasherDefault, FoldHasher};
 use std::process::Abort;
 use std::test::Fail;
 
-/// Tables at the hasher of std.
+/// Tables that use the hasher of std.
 pub(crate) type Folded = Tables<BuildHasherDefault<FoldHasher>>;
 
 /// Empty tables.
@@ -24,7 +23,7 @@ pub(crate) fn empty(alloc: Global) -> Result<Folded, Fail>
     Ok(Tables::new(alloc, params, BuildHasherDefault::<FoldHasher>::new()))
 }
 
-/// Gives the key with this number a set that took the entries.
+/// Gives the key with this number a set that has taken the entries.
 pub(crate) fn put(
     alloc: Global,
     tables: &mut Folded,
@@ -40,7 +39,7 @@ pub(crate) fn put(
     Ok(())
 }
 
-/// What the tables answer as the key with this number is settled; an error where its set has no state.
+/// Settles the key with this number, and returns what the tables answer. It fails where the set of the key has no state.
 pub(crate) fn settle(tables: &mut Folded, number: u32) -> Result<Result<(), AllocError>, Fail> {
     if number == 0 || number > tables.len() {
         return Err("not given".into());
@@ -51,10 +50,10 @@ pub(crate) fn settle(tables: &mut Folded, number: u32) -> Result<Result<(), Allo
     Ok(tables.settle(number))
 }
 
-/// Keys of INVITE servers.
+/// The numbers of transactions whose machine is the INVITE server.
 const SERVERS: [u32; 4] = [2, 6, 10, 14];
 
-/// Touches the keys, which get the numbers from 1 on.
+/// Touches the keys of the servers, which get the numbers from 1 on.
 fn touch_servers(rt: &(impl Abort + AllocGlobal), tables: &mut Folded) -> Result<(), Fail> {
     for server in SERVERS {
         let number = touch(rt.alloc(), tables, server)??;
@@ -63,7 +62,7 @@ fn touch_servers(rt: &(impl Abort + AllocGlobal), tables: &mut Folded) -> Result
     Ok(())
 }
 
-/// The entries of a set that is settled, and then who is due at each of some moments.
+/// A row: the number of a key, the entries of its set, which is settled, and which key is then due at each moment.
 type Row = (u32, &'static [Entry], &'static [(u64, Option<u32>)]);
 
 static ROWS: &[Row] = &[
@@ -72,7 +71,7 @@ static ROWS: &[Row] = &[
         &[(0, Action::Received, INVITE)],
         &[(250, None), (251, Some(3)), (u64::MAX, Some(3))],
     ),
-    // The least number is due, whoever's last moment is the earliest.
+    // The key with the least number is due, even where another key has the earliest last moment.
     (
         2,
         &[(100, Action::Received, INVITE)],
@@ -99,7 +98,7 @@ static ROWS: &[Row] = &[
         &[(0, Action::Received, INVITE), (100, Action::Sent, OK)],
         &[(650, None), (651, Some(3)), (u64::MAX, Some(3))],
     ),
-    // The same one stays.
+    // A key that is settled with the same last moment stays as it is.
     (
         3,
         &[(0, Action::Received, INVITE), (100, Action::Sent, BUSY)],
@@ -127,7 +126,7 @@ static ROWS: &[Row] = &[
     ),
 ];
 
-/// Gives a key the set of the row with this number, settles it, and asks who is due.
+/// Gives a key the set of the row with this number, settles it, and asserts which key is due at each moment of the row.
 fn answers_as_settled(
     rt: &(impl Abort + AllocGlobal),
     tables: &mut Folded,
@@ -143,7 +142,7 @@ fn answers_as_settled(
     Ok(())
 }
 
-/// Touches the keys, and settles them as the rows say.
+/// Touches the keys of the servers, and settles them as the rows say, one row after another.
 fn answers_in_turn(rt: &(impl Abort + AllocGlobal), tables: &mut Folded) -> Result<(), Fail> {
     touch_servers(rt, tables)?;
     let book = book(rt.alloc())?;
@@ -154,7 +153,7 @@ fn answers_in_turn(rt: &(impl Abort + AllocGlobal), tables: &mut Folded) -> Resu
     Ok(())
 }
 
-/// Of four keys the fourth is never settled.
+/// The rows settle three keys of four, so that the fourth is never due.
 #[test]
 fn the_least_number_is_due(rt: HostRuntime) -> Result<(), Fail> {
     let mut tables = empty(rt.alloc())?;

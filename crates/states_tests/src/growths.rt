@@ -1,5 +1,5 @@
-//! A refused growth. `tests/growths` refuses each in turn: the test then fails with want of memory, once it
-//! has seen that the call left all as it was, and that the same call succeeds with memory.
+//! Sets and tables go on after a refused growth. `tests/growths` refuses each growth in turn. The test then fails for want of memory, once
+//! it has seen that the call left everything as it was, and that the same call succeeds with memory.
 ghost use Rattle.std.specs.Prelude.{◌≡◌, ◌<◌, ◌≤◌, All, IfOk, OnOk, length};
 ghost use Rattle.sip_machine.specs.Rules.{Knows};
 ghost use Rattle.sip_machine.specs.Owing.{owing_names};
@@ -15,7 +15,7 @@ use std::alloc::{AllocError, Global};
 use std::process::Abort;
 use std::test::Fail;
 
-/// Whether the states at the index are the same.
+/// Whether the two pools have the same state at the index.
 fn is_same(
     alloc: Global,
     states: &Pool<InviteServerPhase>,
@@ -30,7 +30,7 @@ fn is_same(
     Ok(states.phase(at) == others.phase(at) && owed.as_slice() == owes.as_slice())
 }
 
-/// Whether the sets have the same states, one by one.
+/// Whether both sets have the same states, one by one.
 fn are_same(
     alloc: Global,
     set: &StateSet<InviteServer>,
@@ -49,7 +49,8 @@ fn are_same(
     Ok(true)
 }
 
-/// Takes the entry, and a second time where memory was refused. The twin has the same states.
+/// Lets the set and its twin take the entry. Where memory was refused, it asserts that the set is as before, takes the entry again, and
+/// asserts that both have the same states.
 fn take_again(
     rt: &(impl Abort + AllocGlobal),
     set: &mut StateSet<InviteServer>,
@@ -79,7 +80,7 @@ fn take_again(
     Ok(())
 }
 
-/// Takes each of the entries so, and gives the moment of the last one.
+/// Lets the set and its twin take each of the entries, with `take_again`. Returns the moment of the last one.
 fn take_each_again(
     rt: &(impl Abort + AllocGlobal),
     set: &mut StateSet<InviteServer>,
@@ -105,7 +106,8 @@ fn take_each_again(
     Ok(last)
 }
 
-/// Lets the set wait until the moment, and a second time where memory was refused. The twin has the same states, and so many after it.
+/// Lets the set and its twin wait until the moment, the set a second time where memory was refused. It asserts that both have the same
+/// states, and how many they are.
 fn advance_again(
     rt: &(impl Abort + AllocGlobal),
     set: &mut StateSet<InviteServer>,
@@ -134,7 +136,7 @@ fn advance_again(
     Ok(waited?)
 }
 
-/// Lets the set wait so until each of the moments, after which it has so many states.
+/// Lets the set and its twin wait until each of the moments, with `advance_again`, after each of which they have `count` states.
 fn advance_each_again(
     rt: &(impl Abort + AllocGlobal),
     set: &mut StateSet<InviteServer>,
@@ -156,7 +158,7 @@ fn advance_each_again(
     Ok(())
 }
 
-/// A set and its twin take the entries so, and wait so.
+/// Lets a set and its twin take the entries and wait until each of the moments, again where memory is refused.
 fn play_both_again(
     rt: &(impl Abort + AllocGlobal),
     set: &mut StateSet<InviteServer>,
@@ -174,7 +176,7 @@ fn play_both_again(
     advance_each_again(rt, set, twin, last, waits)
 }
 
-/// Two new sets do.
+/// Lets two new sets take the entries and wait until each of the moments, again where memory is refused.
 fn play_again(
     rt: &(impl Abort + AllocGlobal),
     book: &Book,
@@ -187,7 +189,7 @@ fn play_again(
     play_both_again(rt, &mut set, &mut twin, book, entries, waits)
 }
 
-/// An INVITE, a 180, two repeats, sends of the 180, and a 486.
+/// The server receives an INVITE, sends a 180, receives the INVITE twice more, sends the 180 again, and sends a 486.
 static SENDS: &[Entry] = &[
     (0, Action::Received, INVITE),
     (1, Action::Sent, RINGING),
@@ -213,7 +215,7 @@ static REPEAT: &[Entry] = &[
     (490, Action::Sent, BUSY),
 ];
 
-/// A 486 that answers a repeat, or is itself repeated: timer G fires at 540 or at 1490, and the set has a state for each.
+/// A 486 answers a repeat of the INVITE, or is sent again by timer G, which fires by 540 or by 1490: the set has a state for each.
 #[test]
 fn a_repeat_goes_on_after_a_refused_growth(rt: HostRuntime) -> Result<(), Fail> {
     play_again(
@@ -237,7 +239,7 @@ fn a_wait_goes_on_after_a_refused_growth(rt: HostRuntime) -> Result<(), Fail> {
     )
 }
 
-/// Touches the key, and a second time where memory was refused.
+/// Touches the key, and again where memory was refused. It asserts that a refused call leaves the tables as they were.
 fn touch_again(
     rt: &(impl Abort + AllocGlobal),
     tables: &mut Folded,
@@ -260,7 +262,7 @@ fn touch_again(
     Ok(())
 }
 
-/// Touches five keys so.
+/// Touches five keys, each again where memory was refused.
 fn touch_five_again(rt: &(impl Abort + AllocGlobal), tables: &mut Folded) -> Result<(), Fail> {
     for number in 1..6 {
         touch_again(rt, tables, number)?;
@@ -274,8 +276,8 @@ fn tables_go_on_after_a_refused_growth(rt: HostRuntime) -> Result<(), Fail> {
     touch_five_again(&rt, &mut tables)
 }
 
-/// Settles the key, and a second time where memory was refused. No key is due at the moment before, and then
-/// this one is.
+/// Settles the key, and again where memory was refused. It asserts that no key is due at the moment before the key is settled, and that
+/// this one is due then.
 fn settle_again(
     rt: &impl Abort,
     tables: &mut Folded,
@@ -292,10 +294,10 @@ fn settle_again(
     Ok(settled?)
 }
 
-/// Numbers of keys, and the moments of their INVITEs: each comes 100 ms before that of the key before it.
+/// The numbers of the keys, and the moments of their INVITEs, each of which comes 100 ms before that of the key before it.
 static INVITES: &[(u32, u64)] = &[(1, 300), (2, 200), (3, 100), (1, 0)];
 
-/// Each key has its INVITE, which waits 250 ms for its first response, and is settled.
+/// Gives each key its INVITE, which waits 250 ms for its first response, and settles the key.
 fn settle_each_again(rt: &(impl Abort + AllocGlobal), tables: &mut Folded) -> Result<(), Fail> {
     let book = book(rt.alloc())?;
     for &(number, moment) in INVITES {

@@ -9,7 +9,7 @@ use std::alloc::{AllocError, Global};
 use std::hash::BuildHasher;
 use std::test::Fail;
 
-/// The request that begins the transaction of this number.
+/// The request that begins the transaction with this number.
 fn request(alloc: Global, method: &str, number: u32) -> Result<String, AllocError> {
     let number = format!(in alloc; "{number}")?;
     [
@@ -23,13 +23,13 @@ fn request(alloc: Global, method: &str, number: u32) -> Result<String, AllocErro
     .concat(alloc)
 }
 
-/// The key of the message with this text.
+/// The key of the message with this text and direction.
 fn key_in(alloc: Global, text: &str, direction: Direction) -> Result<Key, Fail> {
     let message = Message::read(alloc, text.as_bytes())?;
     Ok(key_of(alloc, &message, direction)?.ok_or("no key")?)
 }
 
-/// The key of a transaction of its own number. By fours the numbers go through the four machines.
+/// The key of the transaction with this number. The four machines take turns: numbers that differ by four have one machine.
 pub(crate) fn key(alloc: Global, number: u32) -> Result<Key, Fail> {
     let (direction, method) = match number % 4 {
         0 => (Direction::Sent, "INVITE"),
@@ -41,7 +41,7 @@ pub(crate) fn key(alloc: Global, number: u32) -> Result<Key, Fail> {
     key_in(alloc, text.as_str(), direction)
 }
 
-/// What the tables answer as they touch the key of a transaction of its own number; an error where they are full.
+/// Touches the key of the transaction with this number, and returns what the tables answer. It fails where the tables are full.
 pub(crate) fn touch<H: BuildHasher + Drop>(
     alloc: Global,
     tables: &mut Tables<H>,

@@ -1,4 +1,4 @@
-//! Entries that a set of the INVITE server takes.
+//! Entries of tests, which a set of the INVITE server takes.
 ghost use Rattle.std.specs.Prelude.{◌≡◌, ◌≤◌, [], ℕ, All, IfOk, OnOk};
 ghost use Rattle.sip_machine.specs.Rules.{Knows};
 ghost use Rattle.sip_machine.specs.Texts.{Keeps};
@@ -43,7 +43,7 @@ static TEXTS: [&str; 5] = [
     CSeq: 1 INVITE\r\nContent-Length: 0\r\n\r\n",
 ];
 
-/// Adds all messages of the entries.
+/// Adds the messages of the entries to an empty book.
 fn add_all(book: &mut Book) -> Result<(), AllocError>
     requires { book.old ≡ [] }
 {
@@ -55,7 +55,7 @@ fn add_all(book: &mut Book) -> Result<(), AllocError>
     Ok(())
 }
 
-/// The book with all messages of the entries.
+/// A book with the messages of the entries.
 pub(crate) fn book(alloc: Global) -> Result<Book, AllocError> {
     let mut book = Book::new(alloc);
     add_all(&mut book)?;
@@ -98,7 +98,7 @@ pub(crate) fn ok(moment: u64) -> Entry
     sent(moment, OK)
 }
 
-/// What the set answers to the entry; an error where the entry does not fit the book.
+/// Lets the set take the entry, and returns what the set answers. It fails where the entry has no message in the book.
 pub(crate) fn take(
     alloc: Global,
     set: &mut StateSet<InviteServer>,
@@ -122,7 +122,7 @@ pub(crate) fn take(
     Ok(set.take(book, &event))
 }
 
-/// Lets the set take the entries, and gives the moment of the last one.
+/// Lets the set take the entries, and returns the moment of the last one.
 pub(crate) fn play(
     alloc: Global,
     set: &mut StateSet<InviteServer>,
@@ -145,7 +145,7 @@ pub(crate) fn play(
     Ok(last)
 }
 
-/// The set of an INVITE server that took the entries, and the moment of the last one.
+/// A set of the INVITE server that has taken the entries, and the moment of the last one.
 pub(crate) fn served(
     alloc: Global,
     book: &Book,

@@ -1,5 +1,4 @@
-//! The states of INVITE servers after waits, worked out by hand for T1 500, T2 4000, T4 5000 and a
-//! tolerance of 50.
+//! The states of INVITE servers after waits, worked out by hand for T1 500, T2 4000, T4 5000 and a tolerance of 50.
 ghost use Rattle.std.specs.Prelude.{◌≤◌};
 
 use crate::played::{BUSY, Entry, INVITE, OK, book, served};
@@ -10,7 +9,7 @@ use std::mem::size_of;
 use std::process::Abort;
 use std::test::Fail;
 
-/// After a wait until each of the moments the set has so many states. Gives the last moment.
+/// Lets the set wait until each of the moments, and asserts how many states it has then. Returns the last moment.
 fn are_left(
     rt: &impl Abort,
     set: &mut StateSet<InviteServer>,
@@ -32,10 +31,10 @@ fn are_left(
     Ok(last)
 }
 
-/// When a transaction began, later than 32 bits can count.
+/// The moment at which a transaction begins, which is later than 32 bits can count.
 const LATE: u64 = 9_000_000_000_000;
 
-/// Entries, the last moment to which one can then wait, and how many states there are after waits.
+/// A row: its entries, the last moment to which one can wait after them, and how many states there are after each wait.
 type Row = (&'static [Entry], Option<u64>, &'static [(u64, usize)]);
 
 static ROWS: &[Row] = &[
@@ -71,13 +70,13 @@ static ROWS: &[Row] = &[
     ),
 ];
 
-/// Whether the set has no state but the idle one.
+/// Whether the set has no state, or the idle one alone.
 fn has_idle_alone(set: &StateSet<InviteServer>) -> bool {
     let states = set.states();
     states.is_empty() || (states.len() == 1 && states.phase(0) == InviteServerPhase::Idle)
 }
 
-/// The set waits as the row with this number says, from the last of its entries on, and has none but idle states at last.
+/// Asserts that the set, after the entries of the row with this number, waits as the row says, and ends with no state or the idle one.
 fn waits_from(
     rt: &impl Abort,
     set: &mut StateSet<InviteServer>,
@@ -96,7 +95,7 @@ fn waits_from(
     Ok(())
 }
 
-/// A set that took the row's entries does so.
+/// Asserts that a new set takes the entries of the row and waits as the row says.
 fn waits_so(
     rt: &(impl Abort + AllocGlobal),
     book: &Book,

@@ -24,7 +24,7 @@ const OPTIONS: &[u8] = b"OPTIONS sip:bob@example.com SIP/2.0\r\n\
     Content-Length: 0\r\n\
     \r\n";
 
-/// The request, under its number in a book, as it is sent at a moment.
+/// The event of the request with this number in a book, sent at this moment.
 fn sent(alloc: Global, number: u32, moment: u64) -> Result<Event, Fail>
     requires { moment ≤ last_moment }
     ensures { IfOk result (λ event. (event.moment ≡ moment) × (event.number ≡ number)) }
@@ -33,7 +33,7 @@ fn sent(alloc: Global, number: u32, moment: u64) -> Result<Event, Fail>
     Ok(Event::of(moment, Action::Sent, number, &message))
 }
 
-/// What the set answers to the event.
+/// Lets the set take the event, and returns what the set answers.
 fn take(set: &mut StateSet<PlainClient>, book: &Book, event: &Event) -> Result<(), TakeError>
     requires order { set.old.moment ≤ event.now.moment }
     requires fits { FitsBook book.now event.now }
@@ -44,7 +44,7 @@ fn take(set: &mut StateSet<PlainClient>, book: &Book, event: &Event) -> Result<(
     set.take(book, event)
 }
 
-/// The set takes the request with this number, as it is sent at the moment.
+/// Asserts that the set takes the request with this number, sent at this moment.
 fn takes(
     rt: &(impl Abort + AllocGlobal),
     set: &mut StateSet<PlainClient>,
@@ -69,7 +69,7 @@ fn takes(
     Ok(())
 }
 
-/// The set takes the request with this number at 0 and at 500, and then waits for it until 1,550.
+/// Asserts that the set takes the request with this number at 0 and at 500, and then can wait until 1,550 and no longer.
 fn waits(
     rt: &(impl Abort + AllocGlobal),
     set: &mut StateSet<PlainClient>,
@@ -89,7 +89,8 @@ fn waits(
     Ok(())
 }
 
-/// A new set does so, for T1 500, T2 4000, T4 5000 and a tolerance of 50.
+/// Asserts that a new set takes the request at 0 and at 500, and then can wait until 1,550, for T1 500, T2 4000, T4 5000 and a
+/// tolerance of 50.
 fn starts_and_waits(rt: &(impl Abort + AllocGlobal), book: &Book, number: u32) -> Result<(), Fail>
     requires { Keeps book.now number }
 {
@@ -98,7 +99,7 @@ fn starts_and_waits(rt: &(impl Abort + AllocGlobal), book: &Book, number: u32) -
     waits(rt, &mut set, book, number)
 }
 
-/// A request at 0 is repeated at 500, and then again by 1,550.
+/// A request that is sent at 0, and again at 500, must be sent again by 1,550.
 #[test]
 fn waits_for_the_repeat(rt: HostRuntime) -> Result<(), Fail> {
     let mut book = Book::new(rt.alloc());

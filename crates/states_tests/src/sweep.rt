@@ -32,7 +32,7 @@ static SERVED: &[(u32, &[Entry])] = &[
     ),
 ];
 
-/// Adds an INVITE server that took the entries.
+/// Touches the key of an INVITE server, and gives it a set that has taken the entries.
 fn serve(
     alloc: Global,
     tables: &mut Folded,
@@ -44,7 +44,7 @@ fn serve(
     put(alloc, tables, book, number, entries)
 }
 
-/// Adds four INVITE servers: two sent a 180 last, one a 486, and one has sent nothing.
+/// Touches the keys of four INVITE servers. Two of them have sent a 180 last, one a 486, and one has sent nothing.
 fn serve_all(alloc: Global, tables: &mut Folded) -> Result<(), Fail> {
     let book = book(alloc)?;
     for &(server, entries) in SERVED {
@@ -53,7 +53,8 @@ fn serve_all(alloc: Global, tables: &mut Folded) -> Result<(), Fail> {
     Ok(())
 }
 
-/// Appends the names of the four servers to a 9, at a second call where memory was refused, and gives the first answer.
+/// Appends the numbers that the tables name to a 9, again where memory was refused. It asserts that a refused call appends none, and
+/// returns its answer.
 fn append_again(
     rt: &impl Abort,
     tables: &Folded,
@@ -74,22 +75,22 @@ fn append_again(
     named
 }
 
-/// Names the four servers so.
+/// Asserts that the tables of the four servers name the messages 2 and 4.
 fn name_again(rt: &(impl Abort + AllocGlobal), tables: &mut Folded) -> Result<(), Fail> {
     serve_all(rt.alloc(), tables)?;
     let mut numbers = Vec::new(rt.alloc());
     Ok(append_again(rt, tables, &mut numbers)?)
 }
 
-/// The 180 has the number 2 and the 486 the number 4. They are appended, ascending and each once; a second
-/// time where memory was refused.
+/// The servers name the 180, which has the number 2, and the 486, which has 4. Their numbers are appended, ascending and each once, and
+/// at a second call where memory was refused.
 #[test]
 fn names_go_on_after_a_refused_growth(rt: HostRuntime) -> Result<(), Fail> {
     let mut tables = empty(rt.alloc())?;
     name_again(&rt, &mut tables)
 }
 
-/// Adds an INVITE server that took the entries to empty tables, and gives the moment of the last one.
+/// Adds an INVITE server that has taken the entries to empty tables, and returns the moment of the last one.
 fn serve_alone(
     alloc: Global,
     tables: &mut Folded,
@@ -107,7 +108,7 @@ fn serve_alone(
     Ok(last)
 }
 
-/// Lets the sets wait until the moment, and a second time where memory was refused.
+/// Lets the sets wait until the moment, and again where memory was refused. Returns the first answer.
 fn wait_again(tables: &mut Folded, moment: u64) -> Result<Result<(), AllocError>, AllocError>
     requires { All (λ set. moment_of set ≤ moment) tables.old.sets }
 {
@@ -120,7 +121,7 @@ fn wait_again(tables: &mut Folded, moment: u64) -> Result<Result<(), AllocError>
     }
 }
 
-/// Entries, the moment until which the set waits then, and the numbers of the messages that it names there.
+/// A row: the entries of the set, the moment until which it waits then, and the numbers of the messages that it names there.
 type Row = (&'static [Entry], u64, &'static [u32]);
 
 static ROWS: &[Row] = &[
@@ -147,7 +148,7 @@ static ROWS: &[Row] = &[
     (&[(0, Action::Received, INVITE)], 250, &[]),
 ];
 
-/// The tables name the messages of the row with this number, and no other.
+/// Asserts that the tables name the messages of the row with this number, and no other.
 fn are_named(
     rt: &(impl Abort + AllocGlobal),
     tables: &Folded,
@@ -160,7 +161,7 @@ fn are_named(
     Ok(())
 }
 
-/// Lets the set of the row with this number wait, and gives the first answer.
+/// Lets the set of the row with this number wait, asserts which messages it names then, and returns the first answer.
 fn waits_again(
     rt: &(impl Abort + AllocGlobal),
     tables: &mut Folded,
@@ -180,7 +181,7 @@ fn waits_again(
     Ok(waited?)
 }
 
-/// So it does in new tables.
+/// Does the same as `waits_again`, with new tables.
 fn waits_in_new(
     rt: &(impl Abort + AllocGlobal),
     book: &Book,
@@ -191,7 +192,7 @@ fn waits_in_new(
     waits_again(rt, &mut tables, book, number, row)
 }
 
-/// A 486 at 100 that is not sent again by 650 is no run's any more. A 180 has no last moment, and a 200 is not named.
+/// After a 486 at 100 that was not sent again by 650 no run is left. A 180 has no last moment, and a 200 is not named.
 #[test]
 fn sets_wait_after_a_refused_growth(rt: HostRuntime) -> Result<(), Fail> {
     let book = book(rt.alloc())?;
@@ -201,7 +202,7 @@ fn sets_wait_after_a_refused_growth(rt: HostRuntime) -> Result<(), Fail> {
     Ok(())
 }
 
-/// All four take the next restart too, and what they name is still named.
+/// Asserts that all four servers take the next restart too, and that the messages that they name are still named.
 fn stay_marked(rt: &(impl Abort + AllocGlobal), tables: &Folded) -> Result<(), Fail> {
     let mut numbers = Vec::new(rt.alloc());
     tables.named(&mut numbers)?;
@@ -215,7 +216,7 @@ fn stay_marked(rt: &(impl Abort + AllocGlobal), tables: &Folded) -> Result<(), F
     Ok(())
 }
 
-/// Servers that have begun and not ended are not quiet, whether or not they can stand so for ever.
+/// Servers that have begun and not ended are not quiet, even where they can stay as they are for ever.
 #[test]
 fn busy_sets_take_the_next_restart(rt: HostRuntime) -> Result<(), Fail> {
     let mut tables = empty(rt.alloc())?;

@@ -1,4 +1,4 @@
-//! Tables at two hashers, one of which finds all keys alike.
+//! Tables with two hashers, one of which gives all keys the same hash.
 ghost use Rattle.std.specs.Prelude.{◌≡◌, ◌<◌, ◌+◌, length};
 ghost use Rattle.sip_states.specs.Tables.{IsGiven};
 
@@ -40,7 +40,7 @@ impl BuildHasher for AllZero {
     }
 }
 
-/// The number of the key, and whether its set is of its machine, by the rules of RFC 3261 if those are asked for.
+/// Touches the key of the transaction with this number. Returns the number that it got, and whether its set is of its machine by these rules.
 fn number_of<H: BuildHasher + Drop>(
     alloc: Global,
     tables: &mut Tables<H>,
@@ -59,7 +59,7 @@ fn number_of<H: BuildHasher + Drop>(
     Ok((given, is_own))
 }
 
-/// The key has its own number, its set is of its machine, and there are so many keys.
+/// Asserts that the key of the transaction with this number gets that number and a set of its machine, and that there are `count` keys.
 fn is_numbered<H: BuildHasher + Drop>(
     rt: &(impl Abort + AllocGlobal),
     tables: &mut Tables<H>,
@@ -77,7 +77,7 @@ fn is_numbered<H: BuildHasher + Drop>(
     Ok(())
 }
 
-/// 200 keys have numbers from 1 on, and each has its own when it comes again.
+/// Asserts that 200 keys get the numbers from 1 on, and that each keeps its own when it comes again.
 fn numbers_200_keys<H: BuildHasher + Drop>(
     rt: &(impl Abort + AllocGlobal),
     tables: &mut Tables<H>,
@@ -92,7 +92,7 @@ fn numbers_200_keys<H: BuildHasher + Drop>(
     Ok(())
 }
 
-/// Empty tables with a hasher.
+/// Empty tables with this hasher.
 fn tables_with<H: BuildHasher + Drop>(
     alloc: Global,
     rules: Rules,

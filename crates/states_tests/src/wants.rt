@@ -1,14 +1,14 @@
-//! Assertions that name their row, each written out once.
+//! Assertions that tell their row. They are functions, so that each is written out once.
 
 use std::fmt::Debug;
 use std::process::Abort;
 
-/// What was read at the row is what was wanted.
+/// Asserts that what was read is what the row wants.
 pub(crate) fn is<T: PartialEq + Debug + Drop>(rt: &impl Abort, read: T, want: T, row: &str) {
     assert_eq!(rt; read, want, "{row}");
 }
 
-/// What was read in the row with this number, at the moment, is what was wanted.
+/// Asserts that what was read in the row with this number, at this moment, is what the row wants.
 pub(crate) fn is_at<T: PartialEq + Debug + Drop>(
     rt: &impl Abort,
     read: T,
@@ -19,7 +19,7 @@ pub(crate) fn is_at<T: PartialEq + Debug + Drop>(
     assert_eq!(rt; read, want, "row {row} at {moment}");
 }
 
-/// So it is at the row.
+/// Asserts that what the row wants is so.
 pub(crate) fn holds(rt: &impl Abort, is_so: bool, row: &str) {
     assert!(rt; is_so, "{row}");
 }

@@ -12,8 +12,8 @@ use std::alloc::Global;
 use std::process::Abort;
 use std::test::Fail;
 
-/// The entry with this number, which is one more than its moment: an INVITE, a 180, so many repeats, a
-/// 183, 40 repeats, as many times the 180 as it is owed, and then the 183.
+/// The entry at this moment, one at each from 0 on: an INVITE, a 180, `repeats` repeats, a 183, 40 repeats, the 180 as often as it is
+/// owed, and then the 183 at every moment.
 fn entry_at(repeats: u64, moment: u64) -> Entry
     requires { repeats ≤ 40 }
     ensures { result.0 ≡ moment }
@@ -28,7 +28,7 @@ fn entry_at(repeats: u64, moment: u64) -> Entry
     }
 }
 
-/// Lets the set take the entries before the sends of the 183.
+/// Lets the set take the entries that come before the 183 is sent again.
 fn take_before_sends(
     alloc: Global,
     set: &mut StateSet<InviteServer>,
@@ -47,7 +47,7 @@ fn take_before_sends(
     Ok(())
 }
 
-/// Lets the set take so many sends of the 183, and tells whether each gives as many states more as there were before the first.
+/// Lets the set take the 183 `count` times, and returns whether each adds as many states as there were before the first one.
 fn widens(
     alloc: Global,
     set: &mut StateSet<InviteServer>,
@@ -72,7 +72,7 @@ fn widens(
     Ok(true)
 }
 
-/// After so many repeats and then so many sends of the 183 the set has the most states, and takes no further send.
+/// Asserts that the set has `most` states after this many repeats and sends of the 183, and refuses one send more.
 fn is_widest(
     rt: &(impl Abort + AllocGlobal),
     set: &mut StateSet<InviteServer>,
@@ -112,7 +112,7 @@ fn is_widest(
     Ok(())
 }
 
-/// So it is with a new set.
+/// Asserts that a new set with a tolerance of ten seconds has `most` states after these repeats and sends, and refuses one more.
 fn follows(
     rt: &(impl Abort + AllocGlobal),
     book: &Book,

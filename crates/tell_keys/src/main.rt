@@ -1,5 +1,5 @@
-//! An example of a caller: reads one message from its standard input, and tells by which key it is looked up where it is sent, and by which
-//! where it is received.
+//! An example of a caller: it reads one message from its standard input, and tells the key of the transaction that it concerns where it is
+//! sent, and where it is received.
 #![tactic(auto)]
 
 use anyhow::Result;
@@ -8,7 +8,7 @@ use sip_message::Message;
 use std::io;
 use std::io::{Read, Write};
 
-/// The side, the branch, the sent-by where it is a server's, and the method.
+/// Writes the parts of a key: its role, its branch, the sent-by where it is a server's, and its method.
 fn put_key<W: Write>(out: &mut W, key: &Key) -> io::Result<()> {
     out.write_all(match key.role() {
         Role::Client => b" client",

@@ -1,4 +1,4 @@
-//! Tests of `sip_text`: what each text is read as, row by row.
+//! Tests of `sip_text`: tables of texts, each with what it is read as.
 #![tactic(auto)]
 
 #[cfg(test)]

@@ -17,6 +17,7 @@ static FRONTS: &[(&[u8], usize, usize)] = &[
     (b"-.!%*_+`'~09azAZ@", 16, 0),
 ];
 
+// A text, and the length of the quoted string at its front, if there is one.
 static QUOTED: &[(&[u8], Option<usize>)] = &[
     (b" \"a\\\"b\"c", Some(7)),
     (b"\"\"", Some(2)),
@@ -26,6 +27,7 @@ static QUOTED: &[(&[u8], Option<usize>)] = &[
     (b"\"a\r\nb\"", None),
 ];
 
+// A text, and what kind of host it is.
 static HOSTS: &[(&[u8], &str)] = &[
     (b"a.example.com.", "name"),
     (b"x--y", "name"),
@@ -47,7 +49,7 @@ static HOSTS: &[(&[u8], &str)] = &[
     (b"", "none"),
 ];
 
-// A text, and whether it is an IPv6 address, and a port.
+// A text, whether it is an IPv6 address, and whether it is a port.
 static ADDRESSES: &[(&[u8], bool, bool)] = &[
     (b"2001:db8::9:1", true, false),
     (b"::ffff:192.0.2.10", true, false),
@@ -57,6 +59,7 @@ static ADDRESSES: &[(&[u8], bool, bool)] = &[
     (b"", false, false),
 ];
 
+// Two texts, and whether they are the same without case.
 static PAIRS: &[(&[u8], &[u8], bool)] = &[
     (b"z9hG4bK", b"Z9HG4BK", true),
     (b"a[", b"a{", false),
@@ -64,6 +67,7 @@ static PAIRS: &[(&[u8], &[u8], bool)] = &[
     (b"\xc0", b"\xe0", false),
 ];
 
+/// The word for the kind of a host, or `none` where there is no host.
 fn kind(host: Option<Host<'_>>) -> &'static str {
     match host {
         Some(Host::Name(_)) => "name",

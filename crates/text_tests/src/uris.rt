@@ -57,6 +57,8 @@ fn spelled(host: Host<'_>) -> &[u8] {
     }
 }
 
+/// The parts of a URI as its row tells them: scheme, user, password, host, port, parameters and headers, or scheme and the rest.
+/// A part that is not there is `-`.
 fn parts(uri: Option<Uri<'_>>) -> [&[u8]; 7] {
     let none: &[u8] = b"-";
     match uri {

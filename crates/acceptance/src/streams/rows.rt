@@ -1,4 +1,4 @@
-//! A judge that takes the entries of a log has its verdict: a log of each kind, of those in `tests/worked/verdicts`.
+//! A judge that takes the entries of a log one by one has the log's verdict: logs of each kind from `tests/worked/verdicts`.
 use crate::notation::log_of;
 use crate::streams::verdict_by_entries;
 use crate::verdicts::Row;
@@ -6,7 +6,7 @@ use crate::wants::reads;
 use std::process::Abort;
 use std::test::Fail;
 
-/// A judge takes the entries of a log.
+/// Checks the verdict of a judge that takes the entries of a log.
 fn takes(rt: &(impl Abort + AllocGlobal), words: &str, want: &str) -> Result<(), Fail> {
     let log = log_of(rt.alloc(), words)?;
     let text = verdict_by_entries(rt, log.as_str())?;
@@ -14,7 +14,7 @@ fn takes(rt: &(impl Abort + AllocGlobal), words: &str, want: &str) -> Result<(),
     Ok(())
 }
 
-/// Takes logs, row by row.
+/// Checks the verdict of a judge on each row.
 fn takes_rows(rt: &(impl Abort + AllocGlobal), rows: &[Row]) -> Result<(), Fail> {
     for &(words, want) in rows {
         takes(rt, words, want)?;

@@ -1,7 +1,7 @@
 //! Logs with the lines of their surveys.
 use super::Row;
 
-/// Each worked by hand: T1 is 500, so that a request that is sent over UDP has to be sent again after 450 to 550 milliseconds.
+/// Each row is worked by hand: T1 is 500, so that a request that is sent over UDP has to be sent again after 450 to 550 milliseconds.
 pub(crate) const FOUND: [Row; 13] = [
     ("tolerance 10001; M 0", "log fault 0 20 Header\n"),
     ("", "end entries 0 transactions 0 findings 0\n"),

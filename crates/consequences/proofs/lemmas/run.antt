@@ -1,4 +1,3 @@
 pub mod Running
 pub mod Lists
-pub mod Lasting
 pub mod MustSend

@@ -9,6 +9,7 @@ use Rattle.sip_standard.specs.declared.role.Role.TheVariants.{Client, Server}
 use Rattle.sip_standard.specs.contracts.role.RolePartialEq.TheImpl as role_eq
 use Rattle.sip_standard.specs.Key.{KeyParts, same_key}
 
+-- equal roles are the same role
 same_role-so : (r s : Role) → role_eq.ghosts.eq r s ≡ true → r ≡ s
 same_role-so Client Client h = refl
 same_role-so Server Server h = refl
@@ -22,7 +23,7 @@ same_role-itself Server = refl
 bytes_eq-itself : (xs : List ℕ) → bytes_eq xs xs ≡ true
 bytes_eq-itself xs = (bytes_decides xs xs).1 refl
 
--- equal keys are the same
+-- keys that the test finds equal are the same
 same_key-exact : (a b : KeyParts) → same_key a b ≡ true → a ≡ b
 same_key-exact a b h =
     let rest = second_so _ _ h in

@@ -8,19 +8,19 @@ abbrev pub parts_at : Role → List ℕ → (branch_start branch_end sent_by_end
 parts_at role text branch_start branch_end sent_by_end =
     record { role = role; branch = slice_range text branch_start branch_end; sent_by = slice_range text branch_end sent_by_end; method = drop sent_by_end text }
 
--- a length in bytes: 64 as often as it goes, and what is left, which ends it
+-- a length in bytes: a byte 64 for each 64 in it, and then what is left, which is below 64 and ends it
 unfoldable pub length_bytes : ℕ → List ℕ
 length_bytes count = replicate (count / 64) 64 ++ count % 64 ∷ []
 
--- the side as a byte
+-- the role as a byte
 abbrev pub role_byte : Role → ℕ
 role_byte Client = 0
 role_byte Server = 1
 
--- what stands before the texts of a key: its side, and how long its branch and its method are
+-- what stands before the texts of a key: its role, and how long its branch and its method are
 abbrev pub key_head : Role → (branch method : ℕ) → List ℕ
 key_head role branch method = role_byte role ∷ (length_bytes branch ++ length_bytes method)
 
--- a key as one text
+-- the text of a key: its head, its branch, its sent-by and its method
 abbrev pub key_text : KeyParts → List ℕ
 key_text k = key_head k.role (length k.branch) (length k.method) ++ ((k.branch ++ k.sent_by) ++ k.method)

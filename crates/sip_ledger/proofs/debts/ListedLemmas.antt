@@ -12,7 +12,7 @@ use Rattle.sip_ledger.specs.Rows.{debt_of, debts_from, IsGap}
 abbrev pub no_entry : Entry
 no_entry = record { message = 0; deadline = 0 }
 
--- a debt more or none, before other debts
+-- where all debts are xs and ys, all with d before them or not are xs, with d before them or not, and ys
 cond-append : (b : Bool) (d : Debt) (all xs ys : List Debt) → all ≡ xs ++ ys → cond b (d ∷ all) all ≡ cond b (d ∷ xs) xs ++ ys
 cond-append true d all xs ys e = ap (λ l. d ∷ l) e
 cond-append false d all xs ys e = e
@@ -33,7 +33,7 @@ cond-All : (P : Debt → Type 0) (b : Bool) (d : Debt) (xs : List Debt) → (b �
 cond-All P true d xs here rest = All-cons P d xs (here refl) rest
 cond-All P false d xs here rest = rest
 
--- those of two parts
+-- the debts at the bits of two lists of entries are those of the first list and those of the second, whose bits follow
 pub listed-append : (o m : ℕ → Bool) (i : ℕ) (xs ys : List Entry) → debts_from o m i (xs ++ ys) ≡ debts_from o m i xs ++ debts_from o m (i + length xs) ys
 listed-append o m i [] ys = let none : i ≡ i + 0 = omega arith in ap (λ n. debts_from o m n ys) none
 listed-append o m i (x ∷ xs) ys =
@@ -41,7 +41,7 @@ listed-append o m i (x ∷ xs) ys =
     cond-append (o i) (debt_of x (m i)) (debts_from o m (i + 1) (xs ++ ys)) (debts_from o m (i + 1) xs) (debts_from o m (i + suc (length xs)) ys)
     (listed-append o m (i + 1) xs ys ∙ ap (λ n. debts_from o m (i + 1) xs ++ debts_from o m n ys) next)
 
--- where the bits agree they are the same
+-- where the bits of two rows agree at the entries, the debts at them are the same
 pub listed-same : (o m o' m' : ℕ → Bool) (i : ℕ) (xs : List Entry) → ((k : ℕ) → i ≤ k → k < i + length xs → (o k ≡ o' k) × (m k ≡ m' k)) →
     debts_from o m i xs ≡ debts_from o' m' i xs
 listed-same o m o' m' i [] agree = refl
@@ -50,14 +50,14 @@ listed-same o m o' m' i (x ∷ xs) agree =
     cond-same (o i) (o' i) (debt_of x (m i)) (debt_of x (m' i)) (debts_from o m (i + 1) xs) (debts_from o' m' (i + 1) xs) here.0
     (ap (debt_of x) here.1) (listed-same o m o' m' (i + 1) xs (λ k from below. agree k (omega (arith, from)) (omega (arith, below))))
 
--- without bits there are none
+-- where no bit is set at the entries, there are no debts
 pub listed-none : (o m : ℕ → Bool) (i : ℕ) (xs : List Entry) → ((k : ℕ) → i ≤ k → k < i + length xs → o k ≡ false) → debts_from o m i xs ≡ []
 listed-none o m i [] none = refl
 listed-none o m i (x ∷ xs) none =
     ap (λ b. cond b (debt_of x (m i) ∷ debts_from o m (i + 1) xs) (debts_from o m (i + 1) xs)) (none i (omega arith) (omega arith))
     ∙ listed-none o m (i + 1) xs (λ k from below. none k (omega (arith, from)) (omega (arith, below)))
 
--- what each debt at a bit is, all are
+-- where P holds of each debt at a bit that is set, it holds of all debts at the bits
 pub listed-All : (P : Debt → Type 0) (o m : ℕ → Bool) (i : ℕ) (xs : List Entry) →
     ((j : ℕ) (e : Entry) → j < length xs → o (i + j) ≡ true → P (debt_of (get_or xs j e) (m (i + j)))) → All P (debts_from o m i xs)
 listed-All P o m i [] each = All-nil P
@@ -69,39 +69,42 @@ listed-All P o m i (x ∷ xs) each =
     let next : i + 1 + j ≡ i + suc j = omega arith in
     subst (λ n. P (debt_of (get_or xs j e) (m n))) (sym next) (each (suc j) e (omega (arith, below)) (ap o (sym next) ∙ is))))
 
--- the debts at the bits before k, and those from k on
+-- the debts at the bits before k
 abbrev pub front : (ℕ → Bool) → (ℕ → Bool) → List Entry → ℕ → List Debt
 front o m entries k = debts_from o m 0 (take k entries)
 
 abbrev pub back : (ℕ → Bool) → (ℕ → Bool) → List Entry → ℕ → List Debt
 back o m entries k = debts_from o m k (drop k entries)
 
+-- the debts at the bits are those before k and those from k on
 pub parts : (o m : ℕ → Bool) (entries : List Entry) (k : ℕ) → k ≤ length entries → debts_from o m 0 entries ≡ front o m entries k ++ back o m entries k
 parts o m entries k within =
     let long : 0 + length (take k entries) ≡ k = omega (arith, length-take-le k entries within) in
     ap (debts_from o m 0) (sym (take-append-drop k entries)) ∙ listed-append o m 0 (take k entries) (drop k entries)
     ∙ ap (λ n. front o m entries k ++ debts_from o m n (drop k entries)) long
 
--- the debt at k, if its bit is set, is the first of those from k on
+-- where the bit k is set, the debts from k on are its debt and those from k + 1 on, and else those from k + 1 on
 pub back-at : (o m : ℕ → Bool) (entries : List Entry) (k : ℕ) (e : Entry) → k < length entries →
     back o m entries k ≡ cond (o k) (debt_of (get_or entries k e) (m k) ∷ back o m entries (k + 1)) (back o m entries (k + 1))
 back-at o m entries k e within = ap (debts_from o m k) (drop_more entries k e within)
 
+-- where the bit k is set, the debts from k on are its debt and those from k + 1 on
 pub back-set : (o m : ℕ → Bool) (entries : List Entry) (k : ℕ) (e : Entry) → k < length entries → o k ≡ true →
     back o m entries k ≡ debt_of (get_or entries k e) (m k) ∷ back o m entries (k + 1)
 back-set o m entries k e within is =
     back-at o m entries k e within ∙ ap (λ b. cond b (debt_of (get_or entries k e) (m k) ∷ back o m entries (k + 1)) (back o m entries (k + 1))) is
 
+-- where the bit k is not set, the debts from k on are those from k + 1 on
 pub back-unset : (o m : ℕ → Bool) (entries : List Entry) (k : ℕ) → k < length entries → o k ≡ false → back o m entries k ≡ back o m entries (k + 1)
 back-unset o m entries k within is =
     back-at o m entries k no_entry within
     ∙ ap (λ b. cond b (debt_of (get_or entries k no_entry) (m k) ∷ back o m entries (k + 1)) (back o m entries (k + 1))) is
 
--- past the last bit there are none
+-- where no bit is set from k on, there are no debts from k on
 pub back-none : (o m : ℕ → Bool) (entries : List Entry) (k : ℕ) → ((j : ℕ) → k ≤ j → o j ≡ false) → back o m entries k ≡ []
 back-none o m entries k none = listed-none o m k (drop k entries) (λ j from below. none j from)
 
--- those before k by the bits before k alone, and those from k on by the others
+-- where the bits before k of two rows agree, the debts before k are the same
 pub front-same : (o m o' m' : ℕ → Bool) (entries : List Entry) (k : ℕ) → k ≤ length entries → ((j : ℕ) → j < k → (o j ≡ o' j) × (m j ≡ m' j)) →
     front o m entries k ≡ front o' m' entries k
 front-same o m o' m' entries k within agree =
@@ -111,7 +114,7 @@ pub back-same : (o m o' m' : ℕ → Bool) (entries : List Entry) (k : ℕ) → 
     back o m entries k ≡ back o' m' entries k
 back-same o m o' m' entries k agree = listed-same o m o' m' k (drop k entries) (λ j from below. agree j from)
 
--- a gap has none
+-- where no bit from i up to i + n is set, the debts from i on are those from i + n on
 pub back-gap : (o m : ℕ → Bool) (entries : List Entry) (i n : ℕ) → i + n ≤ length entries → IsGap o i (i + n) → back o m entries i ≡ back o m entries (i + n)
 back-gap o m entries i zero within gap = let none : i ≡ i + 0 = omega arith in ap (back o m entries) none
 back-gap o m entries i (suc n) within gap =
@@ -120,12 +123,13 @@ back-gap o m entries i (suc n) within gap =
     ∙ back-gap o m entries (i + 1) n (omega (arith, within)) (λ j from below. gap j (omega (arith, from)) (omega (arith, below)))
     ∙ ap (back o m entries) next
 
+-- where no bit from i up to k is set, the debts from i on are those from k on
 pub back-over : (o m : ℕ → Bool) (entries : List Entry) (i k : ℕ) → i ≤ k → k ≤ length entries → IsGap o i k → back o m entries i ≡ back o m entries k
 back-over o m entries i k order within gap =
     let is : i + (k - i) ≡ k = omega (arith, order) in
     back-gap o m entries i (k - i) (omega (arith, within, is)) (λ j from below. gap j from (omega (arith, below, is))) ∙ ap (back o m entries) is
 
--- what counts still at t
+-- where the bits that stay are those of debts that count still at t, the debts at them are those that count still
 pub listed-counting : (t : ℕ) (o m o' : ℕ → Bool) (i : ℕ) (xs : List Entry) →
     ((j : ℕ) (e : Entry) → j < length xs → o' (i + j) ≡ (o (i + j) && (m (i + j) || nat_le t (get_or xs j e).deadline))) →
     debts_from o' m i xs ≡ filter (counts_at t) (debts_from o m i xs)
@@ -141,7 +145,7 @@ listed-counting t o m o' i (x ∷ xs) each =
     (filter (counts_at t) (debts_from o m (i + 1) xs)) here refl rest
     ∙ sym (cond-filter (counts_at t) (o i) (debt_of x (m i)) (debts_from o m (i + 1) xs))
 
--- debts that have not to be paid any more
+-- where no bit of `must` is set any more, the debts are the same, and none must be sent
 pub listed-softened : (o m m' : ℕ → Bool) (i : ℕ) (xs : List Entry) → ((k : ℕ) → m' k ≡ false) →
     debts_from o m' i xs ≡ map softened_debt (debts_from o m i xs)
 listed-softened o m m' i [] none = refl
@@ -150,7 +154,7 @@ listed-softened o m m' i (x ∷ xs) none =
     (map softened_debt (debts_from o m (i + 1) xs)) refl (ap (debt_of x) (none i)) (listed-softened o m m' (i + 1) xs none)
     ∙ sym (cond-map softened_debt (o i) (debt_of x (m i)) (debts_from o m (i + 1) xs))
 
--- the bits before k with the next one after them
+-- where no bit from `from` up to `at` is set, the debts before `at` are those before `from`
 pub front-gap : (o m : ℕ → Bool) (entries : List Entry) (from at : ℕ) → from ≤ at → at ≤ length entries → IsGap o from at →
     front o m entries at ≡ front o m entries from
 front-gap o m entries from at order within gap =
@@ -158,6 +162,7 @@ front-gap o m entries from at order within gap =
     (sym (parts o m entries at within) ∙ parts o m entries from (omega (arith, order, within))
     ∙ ap (λ l. front o m entries from ++ l) (back-over o m entries from at order within gap))
 
+-- where the next bit from `from` on is at `at`, the debts before `at + 1` are those before `from` and its own
 pub front-next : (o m : ℕ → Bool) (entries : List Entry) (from at : ℕ) (e : Entry) → from ≤ at → at < length entries → IsGap o from at → o at ≡ true →
     front o m entries (at + 1) ≡ front o m entries from ++ debt_of (get_or entries at e) (m at) ∷ []
 front-next o m entries from at e order within gap set =
@@ -171,12 +176,13 @@ front-next o m entries from at e order within gap set =
     ∙ ap (λ b. front o m entries at ++ cond b (debt ∷ []) []) set
     ∙ ap (λ l. l ++ debt ∷ []) (front-gap o m entries from at order less gap)
 
--- what must be sent is what is at the bits of must
+-- where what must be sent is owed, an entry is owed and must be sent exactly if it must be sent
 must-of : (b c : Bool) → (c ≡ true → b ≡ true) → (b && c) ≡ c
 must-of true c among = refl
 must-of false true among = among refl
 must-of false false among = refl
 
+-- where what must be sent is owed, the deadlines of the debts that must be sent are those of the debts at the bits of `must`
 pub listed-must : (o m : ℕ → Bool) (i : ℕ) (xs : List Entry) → ((k : ℕ) → m k ≡ true → o k ≡ true) →
     debt_deadlines (debts_from o m i xs) ≡ map (λ d. d.deadline) (debts_from m m i xs)
 listed-must o m i [] among = refl
@@ -189,7 +195,7 @@ listed-must o m i (x ∷ xs) among =
     ∙ ap (λ l. cond (m i) (x.deadline ∷ l) l) (listed-must o m (i + 1) xs among)
     ∙ sym (cond-map (λ d. d.deadline) (m i) debt (debts_from m m (i + 1) xs))
 
--- the least of moments and one more
+-- the least of some moments and a further one is the lesser of their least and of that one
 fold-push : (a m : ℕ) (ms : List ℕ) → fold min a (ms ++ m ∷ []) ≡ min (fold min a ms) m
 fold-push a m [] = refl
 fold-push a m (x ∷ xs) = fold-push (min a x) m xs
@@ -198,7 +204,7 @@ pub earliest-push : (ms : List ℕ) (m : ℕ) → earliest (ms ++ m ∷ []) ≡ 
 earliest-push [] m = refl
 earliest-push (x ∷ xs) m = let turned : min (fold min x xs) m ≡ min m (fold min x xs) = omega arith in ap Some (fold-push x m xs ∙ turned)
 
--- the messages of debts, whatever has to be paid
+-- the messages of the debts at bits do not rest on which of the debts must be sent
 pub listed-messages : (o m m' : ℕ → Bool) (i : ℕ) (xs : List Entry) → map (λ (d : Debt). d.message) (debts_from o m i xs) ≡ map (λ (d : Debt). d.message) (debts_from o m' i xs)
 listed-messages o m m' i [] = refl
 listed-messages o m m' i (x ∷ xs) =
@@ -206,7 +212,7 @@ listed-messages o m m' i (x ∷ xs) =
     ∙ ap (λ l. cond (o i) (x.message ∷ l) l) (listed-messages o m m' (i + 1) xs)
     ∙ sym (cond-map (λ (d : Debt). d.message) (o i) (debt_of x (m' i)) (debts_from o m' (i + 1) xs))
 
--- a place further on
+-- the debts at bits that stand n places later are those of entries whose bits begin n places later
 pub listed-shift : (o m : ℕ → Bool) (n i : ℕ) (xs : List Entry) → debts_from (λ k. o (n + k)) (λ k. m (n + k)) i xs ≡ debts_from o m (n + i) xs
 listed-shift o m n i [] = refl
 listed-shift o m n i (x ∷ xs) =
@@ -214,7 +220,7 @@ listed-shift o m n i (x ∷ xs) =
     cond-same (o (n + i)) (o (n + i)) (debt_of x (m (n + i))) (debt_of x (m (n + i))) (debts_from (λ k. o (n + k)) (λ k. m (n + k)) (i + 1) xs) (debts_from o m (n + i + 1) xs) refl refl
     (listed-shift o m n (i + 1) xs ∙ ap (λ j. debts_from o m j xs) next)
 
--- the least of rising moments is the first one
+-- the least of moments of which none is below the first is the first
 fold-first : (x : ℕ) (xs : List ℕ) → All (λ y. x ≤ y) xs → fold min x xs ≡ x
 fold-first x [] above = refl
 fold-first x (y ∷ ys) above =

@@ -1,4 +1,4 @@
--- What a payment leaves of debts.
+-- What debts a payment leaves.
 use Rattle.std.proofs.Common.{◌≡◌, ◌∙◌, ℕ, Bool, true, false, List, [], ◌∷◌, ◌++◌, All, refl, sym, ap, cond}
 use Rattle.std.specs.Prelude.{IsTrue}
 use Rattle.std.specs.Bool.{OnTrue, OnFalse}
@@ -11,7 +11,7 @@ module _ (message t : ℕ) where
   abbrev Unpaid : Debt → Type 0
   Unpaid debt = ¬ (IsTrue (is_payable message t debt))
 
-  -- after debts that it does not pay, a send pays the first that it does
+  -- a send pays the first debt that it can pay: those before it and after it stay
   paid-behind : (before : List Debt) (first : Debt) (after : List Debt) → All Unpaid before → IsTrue (is_payable message t first) →
       paid_by message t (before ++ first ∷ after) ≡ before ++ after
   paid-behind [] first after none pays = ap (λ b. cond b after (first ∷ paid_by message t after)) pays
@@ -23,7 +23,7 @@ module _ (message t : ℕ) where
   pub paid-is : (debts left : List Debt) → IsWithoutFirst (λ debt. IsTrue (is_payable message t debt)) debts left → left ≡ paid_by message t debts
   paid-is debts left a = a.rest ∙ sym (paid-behind a.before a.first a.after a.none_before a.holds) ∙ ap (paid_by message t) (sym a.whole)
 
-  -- where it pays none, all stay
+  -- where a send can pay none of the debts, all stay
   pub unpaid-is : (debts : List Debt) → All Unpaid debts → paid_by message t debts ≡ debts
   unpaid-is [] none = refl
   unpaid-is (debt ∷ debts) none =
@@ -31,7 +31,7 @@ module _ (message t : ℕ) where
       ap (λ b. cond b debts (debt ∷ paid_by message t debts)) unpaid
       ∙ ap (λ ds. debt ∷ ds) (unpaid-is debts (All-tail Unpaid debt debts none))
 
-  -- a row after a payment
+  -- a row from which the first payable debt was taken, or which is as before since it has none, owes what is left after the payment
   pub paid-row : (is : Bool) (old new : List Debt) (rows more : List (List Debt)) → OnTrue is (IsWithoutFirst (λ debt. IsTrue (is_payable message t debt)) old new) →
       OnFalse is ((more ≡ rows) × All Unpaid old) → (more ≡ rows → new ≡ old) → new ≡ paid_by message t old
   paid-row true old new rows more paid unpaid same = paid-is old new paid

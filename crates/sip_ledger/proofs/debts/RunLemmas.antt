@@ -1,4 +1,4 @@
--- Runs of equal debts with one debt more.
+-- Runs of equal debts, and what they are with one debt more.
 use Rattle.std.proofs.Common.{◌≡◌, ℕ, ◌+◌, ◌-◌, ◌<◌, List, [], ◌∷◌, ◌++◌, length, take, get_or, set, replicate, suc, sym, ap, ◌∙◌, inl, inr, arith}
 use Rattle.std.proofs.lemmas.Bool.{cases_lt, cases_eq}
 use Rattle.std.proofs.lemmas.Grind.{flat_map-append}
@@ -12,11 +12,11 @@ use Rattle.sip_ledger.specs.inner.Ends.{EndsWith}
 abbrev each : Run → List Debt
 each run = replicate run.count run.debt
 
--- runs and one after them
+-- the debts of some runs and one after them are those of the runs and then those of the one
 debts-push : (runs : List Run) (run : Run) → debts_in (runs ++ run ∷ []) ≡ debts_in runs ++ each run
 debts-push runs run = flat_map-append each runs (run ∷ []) ∙ ap (λ l. debts_in runs ++ l) (append-nil (each run))
 
--- the last run by itself
+-- some runs are those before the last one and the last one
 last-apart : (runs : List Run) (n : ℕ) (d : Run) → length runs ≡ n + 1 → runs ≡ take n runs ++ get_or runs n d ∷ []
 last-apart runs n d long =
     sym (take-append-drop n runs)
@@ -27,6 +27,7 @@ last-set : (runs : List Run) (n : ℕ) (run : Run) → length runs ≡ n + 1 →
 last-set runs n run long =
     set_split runs n run (omega (arith, long)) ∙ ap (λ l. take n runs ++ run ∷ l) (drop_all (suc n) runs (omega (arith, long)))
 
+-- where the last run is one longer, its debts are those of the runs before and one more of its own
 more-debts : (xs : List Run) (run : Run) → debts_in (xs ++ (record { debt = run.debt; count = run.count + 1 }) ∷ []) ≡ debts_in (xs ++ run ∷ []) ++ run.debt ∷ []
 more-debts xs run =
     debts-push xs (record { debt = run.debt; count = run.count + 1 })
@@ -34,7 +35,7 @@ more-debts xs run =
     ∙ sym (append_assoc (debts_in xs) (each run) (run.debt ∷ []))
     ∙ ap (λ l. l ++ run.debt ∷ []) (sym (debts-push xs run))
 
--- one debt more in the last run
+-- where debts stand in runs, and the last run is of a debt, the debts and one more of it stand in runs of which the last is one longer
 pub widened-run : (debts : List Debt) (runs : List Run) (a : Run) (debt : Debt) → AreRuns debts runs → EndsWith runs debt → a ≡ get_or runs (length runs - 1) a →
     AreRuns (debts ++ debt ∷ []) (set runs (length runs - 1) (record { debt = a.debt; count = a.count + 1 }))
 widened-run debts runs a debt are ends is =
@@ -67,7 +68,7 @@ widened-run debts runs a debt are ends is =
           are.apart at e within (sym (kept at e (omega (arith, within))) ∙ same ∙ kept (at + 1) e within);
     }
 
--- one run more
+-- where debts stand in runs, and the last run is not of a debt, the debts and that one stand in the runs and one more
 pub pushed-run : (debts : List Debt) (runs : List Run) (debt : Debt) → AreRuns debts runs → ¬ (EndsWith runs debt) →
     AreRuns (debts ++ debt ∷ []) (runs ++ (record { debt = debt; count = 1 }) ∷ [])
 pushed-run debts runs debt are other =

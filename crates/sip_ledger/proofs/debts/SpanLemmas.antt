@@ -1,4 +1,4 @@
--- The least and the greatest message of debts.
+-- The least and the greatest message that debts owe.
 use Rattle.std.proofs.Common.{◌≡◌, ◌⊎◌, inl, inr, ℕ, ◌<◌, ◌≤◌, ◌==◌, true, ◌||◌, min, max, List, [], ◌∷◌, ◌++◌, map, refl, sym, ap, ◌∙◌, subst, arith}
 use Rattle.std.specs.Prelude.{All, Option, None, Some, IfSome, IfNone}
 use Rattle.std.specs.List.{list_any}
@@ -11,6 +11,7 @@ use Rattle.sip_ledger.specs.Debts.{IsSpan}
 has-message : (d : Debt) (ds : List Debt) → list_any (λ (x : Debt). x.message == d.message) (d ∷ ds) ≡ true
 has-message d ds = or_left (d.message == d.message) (list_any (λ (x : Debt). x.message == d.message) ds) (eq-eqb d.message d.message refl)
 
+-- the least and the greatest message of one debt are its own
 pub span-one : (d : Debt) → IsSpan (d ∷ []) d.message d.message
 span-one d = record {
   least = has-message d [];
@@ -18,16 +19,19 @@ span-one d = record {
   between = All-cons (λ (x : Debt). (d.message ≤ x.message) × (x.message ≤ d.message)) d [] (omega arith, omega arith) (All-nil (λ (x : Debt). (d.message ≤ x.message) × (x.message ≤ d.message)));
 }
 
+-- where a debt of a message is among debts, one of an equal message is among them and a further one
 more-any : (ds : List Debt) (d : Debt) (m n : ℕ) → list_any (λ (x : Debt). x.message == m) ds ≡ true → m ≡ n → list_any (λ (x : Debt). x.message == n) (ds ++ d ∷ []) ≡ true
 more-any ds d m n is same =
     subst (λ k. list_any (λ (x : Debt). x.message == k) (ds ++ d ∷ []) ≡ true) same
     (list_any-append (λ (x : Debt). x.message == m) ds (d ∷ []) ∙ or_left (list_any (λ (x : Debt). x.message == m) ds) (list_any (λ (x : Debt). x.message == m) (d ∷ [])) is)
 
+-- where the last of debts is of a message, a debt of it is among them
 last-any : (ds : List Debt) (d : Debt) (n : ℕ) → d.message ≡ n → list_any (λ (x : Debt). x.message == n) (ds ++ d ∷ []) ≡ true
 last-any ds d n same =
     subst (λ k. list_any (λ (x : Debt). x.message == k) (ds ++ d ∷ []) ≡ true) same
     (list_any-append (λ (x : Debt). x.message == d.message) ds (d ∷ []) ∙ or_right (list_any (λ (x : Debt). x.message == d.message) ds) (list_any (λ (x : Debt). x.message == d.message) (d ∷ [])) (has-message d []))
 
+-- the least message of debts and a further one is the lesser of theirs and of its own, and the greatest is the greater
 pub span-more : (ds : List Debt) (d : Debt) (low high : ℕ) → IsSpan ds low high → IsSpan (ds ++ d ∷ []) (min low d.message) (max high d.message)
 span-more ds d low high span = record {
   least = least (cases_lt low d.message);
@@ -46,7 +50,7 @@ span-more ds d low high span = record {
     greatest (inl less) = last-any ds d (max high d.message) (omega (arith, less))
     greatest (inr more) = more-any ds d high (max high d.message) span.greatest (omega (arith, more))
 
--- it rests on the messages alone
+-- a debt is of a message exactly if the message is among those of the debts
 any-messages : (n : ℕ) (ds : List Debt) → list_any (λ (x : Debt). x.message == n) ds ≡ list_any (λ m. m == n) (map (λ (x : Debt). x.message) ds)
 any-messages n [] = refl
 any-messages n (d ∷ ds) = ap (λ b. d.message == n || b) (any-messages n ds)
@@ -55,11 +59,13 @@ all-to_messages : (P : ℕ → Type 0) (ds : List Debt) → All (λ (x : Debt). 
 all-to_messages P [] all = All-nil P
 all-to_messages P (d ∷ ds) all = All-cons P d.message (map (λ (x : Debt). x.message) ds) (All-head (λ (x : Debt). P x.message) d ds all) (all-to_messages P ds (All-tail (λ (x : Debt). P x.message) d ds all))
 
+-- what holds of the messages of debts holds of the message of each debt
 all-from_messages : (P : ℕ → Type 0) (ds : List Debt) → All P (map (λ (x : Debt). x.message) ds) → All (λ (x : Debt). P x.message) ds
 all-from_messages P [] all = All-nil (λ (x : Debt). P x.message)
 all-from_messages P (d ∷ ds) all =
     All-cons (λ (x : Debt). P x.message) d ds (All-head P d.message (map (λ (x : Debt). x.message) ds) all) (all-from_messages P ds (All-tail P d.message (map (λ (x : Debt). x.message) ds) all))
 
+-- debts of the same messages have the same least and greatest message
 pub span-messages : (ds es : List Debt) (low high : ℕ) → map (λ (x : Debt). x.message) ds ≡ map (λ (x : Debt). x.message) es → IsSpan ds low high → IsSpan es low high
 span-messages ds es low high same span = record {
   least = any-messages low es ∙ ap (list_any (λ m. m == low)) (sym same) ∙ sym (any-messages low ds) ∙ span.least;
@@ -71,7 +77,7 @@ pub if-none : {X : Type 0} (P : Type 0) (o : Option X) → P → IfNone o P
 if-none P None p = p
 if-none P (Some x) p = tt
 
--- what holds of all words holds of those of a row
+-- what holds of all words holds of the words that f gives
 pub some-at : {X : Type 0} (f : List ℕ → List ℕ) (P : List ℕ → X → Type 0) (o : Option X) → IfSome o (λ x. (words : List ℕ) → P words x) → IfSome o (λ x. (words : List ℕ) → P (f words) x)
 some-at f P None all = tt
 some-at f P (Some x) all = λ words. all (f words)

@@ -1,4 +1,4 @@
--- What many rows owe, when copies of some of them come after.
+-- What many rows owe when copies of some of them come after the others.
 use Prim.Native.Nat.{suc}
 use Rattle.std.proofs.Common.{◌≡◌, ◌<◌, ◌≤◌, ℕ, ◌+◌, ◌-◌, ◌*◌, Bool, true, false, List, [], ◌∷◌, ◌++◌, length, take, drop, get_or, filter, refl, sym, ap, ap₂, ◌∙◌, subst, inl, inr, arith, cond}
 use Rattle.std.specs.Prelude.{None, not, map}
@@ -20,26 +20,28 @@ use Rattle.sip_ledger.proofs.masks.MarkLemmas.{within-past, any-deadline}
 use Rattle.sip_ledger.proofs.grids.GridLemmas.{row_in, rows-length, rows-get, rows-are, rows-inside}
 use Rattle.sip_ledger.proofs.grids.TableLemmas.{part-of_more, part-take, part-drop, fewer-words, split-rows}
 
--- the words of so many rows from one on
+-- the words of `count` rows from the row `from` on
 abbrev pub span_of : ℕ → ℕ → ℕ → List ℕ → List ℕ
 span_of width from count words = take (count * width) (drop (from * width) words)
 
--- with copies of these rows after the others
+-- the grid with copies of `count` rows from the row `from` on after the others
 abbrev pub with_copies : Grid → ℕ → ℕ → Grid
 with_copies t from count = grid_of t.entries t.width (t.rows + count) (t.owed ++ span_of t.width from count t.owed) (t.must ++ span_of t.width from count t.must)
 
+-- `count` rows from the row `from` on lie within the words of all rows
 pub span-inside : (width rows from count : ℕ) (words : List ℕ) → length words ≡ rows * width → from + count ≤ rows → from * width + count * width ≤ length words
 span-inside width rows from count words long le =
     let whole = split-rows from count width (from + count) refl in
     let less = fewer-words width (from + count) rows le in
     omega (arith, long, whole, less)
 
+-- the words of `count` rows are `count` times the words of one
 length-span : (width rows from count : ℕ) (words : List ℕ) → length words ≡ rows * width → from + count ≤ rows → length (span_of width from count words) ≡ count * width
 length-span width rows from count words long le =
     let inside = span-inside width rows from count words long le in
     length-take-le (count * width) (drop (from * width) words) (omega (arith, inside, length-drop (from * width) words))
 
--- a copy has the words of its row
+-- the copy that comes after the rows at place j has the words of the row at place from + j
 copy-part : (width rows from count j : ℕ) (words : List ℕ) → length words ≡ rows * width → j < count →
     part width (rows + j) (words ++ span_of width from count words) ≡ part width (from + j) words
 copy-part width rows from count j words long low =
@@ -49,10 +51,12 @@ copy-part width rows from count j words long low =
     ∙ part-take width count j (drop (from * width) words) low
     ∙ part-drop width from j words
 
+-- the grid with the copies is one, and its rows owe what those of the old one do and what the copied ones do
 pub record IsCopied (t : Grid) (from count : ℕ) : Type 0 where
   pub ledger : IsGrid (with_copies t from count)
   pub rows : grid_rows (with_copies t from count) ≡ grid_rows t ++ from_to from (from + count) (grid_rows t)
 
+-- a grid with copies of some of its rows after the others is one, and the copies owe what the rows do
 pub copied-rows : (t : Grid) (from count : ℕ) → IsGrid t → from + count ≤ t.rows → IsCopied t from count
 copied-rows t from count ledger le =
     let t' = with_copies t from count in
@@ -105,7 +109,7 @@ copied-rows t from count ledger le =
           ]);
     }
 
--- where no entry is past, every row is timely
+-- where the mask of what is past at t has no bit, every row is timely
 timely-row : (t : ℕ) (g : Grid) (k : ℕ) (d : List Debt) → IsGrid g → IsMask (asked_of None t) g.entries (length g.entries) 0 → k < length (grid_rows g) →
     is_timely t (get_or (grid_rows g) k d) ≡ true
 timely-row t g k d ledger mask below =
@@ -119,13 +123,14 @@ timely-row t g k d ledger mask below =
     ∙ ap not (any-deadline t (debts_from m m 0 g.entries)
     ∙ list_any_none asks (debts_from m m 0 g.entries) (listed-All (λ x. asks x ≡ false) m m 0 g.entries (λ j e low _. sym (mask.tells j e low) ∙ test-zero j)))
 
--- all that passes is kept
+-- where each element of a list passes a test, those that pass are all
 passing-all : {X : Type 0} (p : X → Bool) (xs : List X) → ((k : ℕ) (d : X) → k < length xs → p (get_or xs k d) ≡ true) → filter p xs ≡ xs
 passing-all p [] each = refl
 passing-all p (x ∷ xs) each =
     ap (λ b. cond b (x ∷ filter p xs) (filter p xs)) (each 0 x (omega arith))
     ∙ ap (λ l. x ∷ l) (passing-all p xs (λ k d below. each (suc k) d (omega (arith, below))))
 
+-- where the mask of what is past at t has no bit, all rows from one up to another are timely
 pub timely-rows : (t from to : ℕ) (g : Grid) → IsGrid g → IsMask (asked_of None t) g.entries (length g.entries) 0 →
     filter (is_timely t) (from_to from to (grid_rows g)) ≡ from_to from to (grid_rows g)
 timely-rows t from to g ledger mask =
@@ -137,7 +142,7 @@ timely-rows t from to g ledger mask =
     ap (is_timely t) (get_or-drop from (take to rows) k d ∙ get_or-take to rows (from + k) d (omega (arith, here, shorter)))
     ∙ timely-row t g (from + k) d ledger mask (omega (arith, here, shorter)))
 
--- where the deadline of no entry is below the moment, the mask of what is past has no bit
+-- where no entry has a deadline before t, the mask of what is past has no bit
 pub none-late : (t : ℕ) (entries : List Entry) → ((k : ℕ) (e : Entry) → k < length entries → t ≤ (get_or entries k e).deadline) →
     IsMask (asked_of None t) entries (length entries) 0
 none-late t entries late = record {

@@ -1,4 +1,4 @@
--- What many rows owe with a debt more, whose entry is new.
+-- What many rows of one word owe with one debt more.
 use Rattle.std.proofs.Common.{◌≡◌, ◌≢◌, ℕ, ◌+◌, ◌-◌, ◌/◌, ◌^◌, ◌<◌, ◌≤◌, Bool, true, false, List, [], ◌∷◌, ◌++◌, length, take, drop, get_or, map, refl, sym, ap, ◌∙◌, inl, inr, arith}
 use Rattle.std.proofs.lemmas.Bool.{cases_lt, true≢false, false_from_ne_true}
 use Rattle.std.proofs.lemmas.List.{length_push}
@@ -19,13 +19,13 @@ use Rattle.sip_ledger.proofs.masks.WordLemmas.{has-one, part-one}
 use Rattle.sip_ledger.proofs.masks.WordRowLemmas.{row-in_word}
 use Rattle.sip_ledger.proofs.debts.ListedLemmas.{listed-same}
 
--- a word that is 0 from a place on has no bit there or after
+-- a word that is 0 once moved down by `at` bits has no bit there or above
 pub none-behind : (w at i : ℕ) → w / 2 ^ at ≡ 0 → at ≤ i → test w i ≡ false
 none-behind w at i zero past =
     let is : at + (i - at) ≡ i = omega (arith, past) in
     ap (test w) (sym is) ∙ sym (test-shr w at (i - at)) ∙ ap (λ n. test n (i - at)) zero ∙ test-zero (i - at)
 
--- a loop that sets a bit in each word from one on is done
+-- a loop that sets a bit in each word from `from` on up to the end has set it in all words from there on
 pub set-from : (from bit at : ℕ) (old new : List ℕ) → bit < 64 → length new ≡ length old → ((k : ℕ) → k < from → get_or new k 0 ≡ get_or old k 0) →
     ((k : ℕ) → from ≤ k → k < at → get_or new k 0 ≡ with_bit (get_or old k 0) bit) → ((k : ℕ) → at ≤ k → get_or new k 0 ≡ get_or old k 0) →
     length old ≤ at → IsSetFrom from bit old new
@@ -42,7 +42,7 @@ set-from from bit at old new low long before here behind done = record {
   ];
 }
 
--- the bits of a row of one word
+-- in a row of one word, bit i is that of the word of the row
 word-bits : (width k i : ℕ) (words : List ℕ) → width ≡ 1 → k < length words → i < 64 → has (part width k words) i ≡ test (get_or words k 0) i
 word-bits width k i words one inside low = ap (λ ws. has ws i) (ap (λ w. part w k words) one ∙ part-one words k inside) ∙ has-one (get_or words k 0) i low
 
@@ -50,18 +50,20 @@ no-bits : (width k i : ℕ) (words : List ℕ) → width ≡ 1 → k < length wo
 no-bits width k i words one inside high =
     ap (λ ws. has ws i) (ap (λ w. part w k words) one ∙ part-one words k inside) ∙ has-past (get_or words k 0 ∷ []) i (omega (arith, high))
 
--- the bits of a row whose word has a bit more, or is the same
+-- where the word of a row is the same in two lists of words, the row has the same bits in both
 same-bits : (width k : ℕ) (old new : List ℕ) → width ≡ 1 → length new ≡ length old → k < length old → get_or new k 0 ≡ get_or old k 0 →
     (i : ℕ) → has (part width k new) i ≡ has (part width k old) i
 same-bits width k old new one long inside same i =
     ap (λ ws. has ws i) (ap (λ w. part w k new) one ∙ part-one new k (omega (arith, long, inside)) ∙ ap (λ w. w ∷ []) same
     ∙ sym (ap (λ w. part w k old) one ∙ part-one old k inside))
 
+-- a row whose word has the bit set has it
 set-bit : (width from bit k : ℕ) (old new : List ℕ) → width ≡ 1 → bit < 64 → from ≤ k → k < length old → IsSetFrom from bit old new → has (part width k new) bit ≡ true
 set-bit width from bit k old new one low above inside is =
     let long = is.long in
     word-bits width k bit new one (omega (arith, long, inside)) low ∙ is.same k above inside
 
+-- a row whose word has one bit more has its other bits as before
 other-bits : (width from bit k : ℕ) (old new : List ℕ) → width ≡ 1 → k < length old → IsSetFrom from bit old new →
     (i : ℕ) → i ≢ bit → has (part width k new) i ≡ has (part width k old) i
 other-bits width from bit k old new one inside is i other =
@@ -72,12 +74,12 @@ other-bits width from bit k old new one inside is i other =
       | inr high ↦ no-bits width k i new one inside' high ∙ sym (no-bits width k i old one inside high)
     ]
 
--- one of the rows
+-- over these entries the bits are those of a row, and it owes these debts
 pub record IsRowGain (entries : List Entry) (o' m' : ℕ → Bool) (debts : List Debt) : Type 0 where
   pub row : IsRow entries o' m'
   pub owes : debts_from o' m' 0 entries ≡ debts
 
--- the words of all rows, of which those from one on have a bit more, where each gains a debt of the entry, over entries that may be one more
+-- words in which each row from `from` on has the bit `at` besides, where it gains a debt of the entry; the entries may be one more than before
 pub record IsGain (t : Grid) (entries : List Entry) (entry : Entry) (at from : ℕ) (due : Bool) (owed' must' : List ℕ) : Type 0 where
   pub ledger : IsGrid t
   pub one : t.width ≡ 1
@@ -90,7 +92,7 @@ pub record IsGain (t : Grid) (entries : List Entry) (entry : Entry) (at from : �
   pub must_set : due ≡ true → IsSetFrom from at t.must must'
   pub must_same : due ≡ false → must' ≡ t.must
 
--- the entry is put after the others
+-- where the entry is equal to none of the others and is put after them, each row from `from` on gains a debt of it at the bit after the others
 pub new-gain : (t : Grid) (entry : Entry) (from : ℕ) (due : Bool) (owed' must' : List ℕ) → IsGrid t → t.width ≡ 1 → length t.entries < 64 →
     ((k : ℕ) (e : Entry) → k < length t.entries → get_or t.entries k e ≢ entry) → IsSetFrom from (length t.entries) t.owed owed' →
     (due ≡ true → IsSetFrom from (length t.entries) t.must must') → (due ≡ false → must' ≡ t.must) → IsGain t (t.entries ++ entry ∷ []) entry (length t.entries) from due owed' must'
@@ -120,7 +122,7 @@ new-gain t entry from due owed' must' ledger one room absent owed_set must_set m
   must_same = must_same;
 }
 
--- the entry is there, and no row from one on has a bit there or after
+-- where the entry at `at` is equal to this one, and no row from `from` on has a bit there or after, each gains a debt of it at that bit
 pub again-gain : (t : Grid) (entry : Entry) (at from : ℕ) (due : Bool) (owed' must' : List ℕ) → IsGrid t → t.width ≡ 1 → at < length t.entries →
     ((e : Entry) → get_or t.entries at e ≡ entry) → ((i : ℕ) (e : Entry) → i < at → get_or t.entries i e ≢ entry) →
     ((k i : ℕ) → from ≤ k → k < length t.owed → at ≤ i → test (get_or t.owed k 0) i ≡ false) → IsSetFrom from at t.owed owed' →
@@ -151,7 +153,7 @@ again-gain t entry at from due owed' must' ledger one inside is apart free owed_
       must_same = must_same;
     }
 
--- what must be sent by such a row
+-- a row from `from` on that gains a debt must send it exactly if it is due
 must-bit : (t : Grid) (entries : List Entry) (entry : Entry) (at from : ℕ) (due : Bool) (owed' must' : List ℕ) (k : ℕ) → IsGain t entries entry at from due owed' must' → from ≤ k → k < t.rows → k < length t.must →
     has (part t.width k must') at ≡ due
 must-bit t entries entry at from true owed' must' k gain above inside there = set-bit t.width from at k t.must must' gain.one gain.low above there (gain.must_set refl)
@@ -160,11 +162,13 @@ must-bit t entries entry at from false owed' must' k gain above inside there =
     ∙ false_from_ne_true (has (part t.width k t.must) at)
     (λ set. true≢false (sym ((gain.ledger.each k inside).among at set) ∙ (gain.gained k above inside).last at (omega arith)))
 
+-- the other debts of a row that gains one must be sent exactly if they had to be before
 must-others : (t : Grid) (entries : List Entry) (entry : Entry) (at from : ℕ) (due : Bool) (owed' must' : List ℕ) (k : ℕ) → IsGain t entries entry at from due owed' must' → k < length t.must →
     (i : ℕ) → i ≢ at → has (part t.width k must') i ≡ has (part t.width k t.must) i
 must-others t entries entry at from true owed' must' k gain there i other = other-bits t.width from at k t.must must' gain.one there (gain.must_set refl) i other
 must-others t entries entry at from false owed' must' k gain there i other = ap (λ ws. has (part t.width k ws) i) (gain.must_same refl)
 
+-- what a row before `from` must send is what it had to send before
 must-before : (t : Grid) (entries : List Entry) (entry : Entry) (at from : ℕ) (due : Bool) (owed' must' : List ℕ) (k : ℕ) → IsGain t entries entry at from due owed' must' → k < from → k < length t.must →
     (i : ℕ) → has (part t.width k must') i ≡ has (part t.width k t.must) i
 must-before t entries entry at from true owed' must' k gain early there i =
@@ -176,6 +180,7 @@ must-long : (t : Grid) (entries : List Entry) (entry : Entry) (at from : ℕ) (d
 must-long t entries entry at from true owed' must' gain = (gain.must_set refl).long
 must-long t entries entry at from false owed' must' gain = ap length (gain.must_same refl)
 
+-- a row before `from` is one over the entries, and owes what it did
 row-before : (t : Grid) (entries : List Entry) (entry : Entry) (at from : ℕ) (due : Bool) (owed' must' : List ℕ) (k : ℕ) → IsGain t entries entry at from due owed' must' → k < from → k < t.rows →
     IsRowGain entries (has (part t.width k owed')) (has (part t.width k must')) (row_in t k)
 row-before t entries entry at from due owed' must' k gain early inside =
@@ -190,6 +195,7 @@ row-before t entries entry at from due owed' must' k gain early inside =
       owes = listed-same (has (part t.width k owed')) (has (part t.width k must')) o m 0 entries (λ j _ _. (owed_same j, must_same j)) ∙ same.owes;
     }
 
+-- a row from `from` on is one over the entries, and owes what it did and the debt
 row-behind : (t : Grid) (entries : List Entry) (entry : Entry) (at from : ℕ) (due : Bool) (owed' must' : List ℕ) (k : ℕ) → IsGain t entries entry at from due owed' must' → from ≤ k → k < t.rows →
     IsRowGain entries (has (part t.width k owed')) (has (part t.width k must')) (row_in t k ++ debt_of entry due ∷ [])
 row-behind t entries entry at from due owed' must' k gain above inside =
@@ -202,11 +208,12 @@ row-behind t entries entry at from due owed' must' k gain above inside =
     (must-bit t entries entry at from due owed' must' k gain above inside places.1) (must-others t entries entry at from due owed' must' k gain places.1) in
     record { row = both.0; owes = both.1 ∙ ap (λ l. l ++ debt_of entry due ∷ []) same.owes }
 
--- all rows from one on owe the debt besides
+-- the grid with the new words is one, and each of its rows from `from` on owes the debt after what the row of t owes
 pub record IsGainOfAll (t : Grid) (entries : List Entry) (entry : Entry) (from : ℕ) (due : Bool) (owed' must' : List ℕ) : Type 0 where
   pub ledger : IsGrid (grid_of entries t.width t.rows owed' must')
   pub rows : grid_rows (grid_of entries t.width t.rows owed' must') ≡ take from (grid_rows t) ++ map (λ owes. owes ++ debt_of entry due ∷ []) (drop from (grid_rows t))
 
+-- where each row from `from` on has the bit of an entry besides, each of them owes a debt of the entry besides
 pub gains-all : (t : Grid) (entries : List Entry) (entry : Entry) (at from : ℕ) (due : Bool) (owed' must' : List ℕ) → IsGain t entries entry at from due owed' must' → IsGainOfAll t entries entry from due owed' must'
 gains-all t entries entry at from due owed' must' gain =
     let t' = grid_of entries t.width t.rows owed' must' in

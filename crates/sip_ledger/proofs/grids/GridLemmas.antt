@@ -1,4 +1,4 @@
--- What the rows of a ledger owe, as its words change.
+-- What the rows of a grid owe, as its words change.
 use Rattle.std.proofs.Common.{◌≡◌, ℕ, ◌+◌, ◌-◌, ◌*◌, ◌/◌, ◌%◌, ◌^◌, ◌<◌, ◌≤◌, Bool, true, false, List, [], ◌∷◌, ◌++◌, length, take, drop, get_or, set, min, replicate, refl, sym, ap, ap₂, ◌∙◌, subst, inl, inr, arith}
 use Rattle.std.specs.Prelude.{All, IsTrue, Option, None, Some, is_some, IfSome, IfNone}
 use Rattle.std.specs.List.{fold, list_any}
@@ -23,7 +23,7 @@ use Rattle.sip_ledger.proofs.debts.ListedLemmas.{parts, listed-same, listed-none
 use Rattle.sip_ledger.proofs.grids.RowLemmas.{first-any, grown-row, grown-debts, grown-gained, none-passes, one-spelling}
 use Rattle.sip_ledger.proofs.grids.TableLemmas.{row-inside, length-part, part-of_more, part-of_last, part-take, part-drop, fewer-words, with_words, table-ledger, same-row}
 
--- what a row of a table owes, by its words
+-- what a row of a grid owes, by its words
 abbrev pub row_in : Grid → ℕ → List Debt
 row_in t k = row_at t.entries t.width t.owed t.must k
 
@@ -31,6 +31,7 @@ pub rows-length : (t : Grid) → length (grid_rows t) ≡ t.rows
 unfolding grid_rows
 rows-length t = length-map-range_with_len (row_at t.entries t.width t.owed t.must) 0 t.rows
 
+-- the element at a row's place among what the rows owe is what the row owes
 pub rows-get : (t : Grid) (row : ℕ) (d : List Debt) → row < t.rows → get_or (grid_rows t) row d ≡ row_in t row
 unfolding grid_rows
 rows-get t row d inside =
@@ -40,7 +41,7 @@ rows-get t row d inside =
 pub row-is : (t : Grid) (row : ℕ) → row < t.rows → grid_row t row ≡ row_in t row
 row-is t row inside = rows-get t row [] inside
 
--- a list that has what each row owes is what the rows owe
+-- a list that has at each row's place what the row owes is what the rows owe
 pub rows-are : (t : Grid) (xs : List (List Debt)) → length xs ≡ t.rows → ((k : ℕ) (d : List Debt) → k < t.rows → row_in t k ≡ get_or xs k d) → grid_rows t ≡ xs
 rows-are t xs long each = same_lists (grid_rows t) xs (rows-length t ∙ sym long) (λ k d below.
     let there : k < t.rows = omega (arith, below, rows-length t) in
@@ -52,13 +53,14 @@ rows-none t none = rows-are t [] (sym none) (λ k d below. absurd (omega (arith,
 pub rows-inside : (t : Grid) (row : ℕ) → row < length (grid_rows t) → row < t.rows
 rows-inside t row inside = omega (arith, inside, rows-length t)
 
--- one row changes
+-- with the new words the grid is one, and what its rows owe is as before but for this row
 pub record IsChanged (t : Grid) (row : ℕ) (owed' must' : List ℕ) : Type 0 where
   pub ledger : IsGrid (with_words t owed' must')
   pub rows : grid_rows (with_words t owed' must') ≡ set (grid_rows t) row (row_in (with_words t owed' must') row)
   pub before : grid_row t row ≡ row_in t row
   pub after : grid_row (with_words t owed' must') row ≡ row_in (with_words t owed' must') row
 
+-- where the words of one row were changed, and to those of a row, the grid is one, and what its other rows owe is as before
 pub changed : (t : Grid) (row : ℕ) (owed' must' : List ℕ) → IsGrid t → row < t.rows → ChangesTable t.entries t.width row t.owed t.must owed' must' → IsChanged t row owed' must'
 changed t row owed' must' ledger inside changes =
     let t' = with_words t owed' must' in
@@ -80,7 +82,7 @@ changed t row owed' must' ledger inside changes =
       after = row-is t' row inside;
     }
 
--- a row of no bits
+-- a row of words that are 0 has no bits
 pub has-none : (width k : ℕ) → has (replicate width 0) k ≡ false
 has-none width k =
     elim (cases_lt (k / 64) width) [
@@ -88,6 +90,7 @@ has-none width k =
       | inr past ↦ has-past (replicate width 0) k (omega (arith, past, length-replicate {A = ℕ} width 0))
     ]
 
+-- a row without bits is a row
 pub unset-row : (entries : List Entry) (o m : ℕ → Bool) → ((k : ℕ) → o k ≡ false) → ((k : ℕ) → m k ≡ false) → IsRow entries o m
 unset-row entries o m unset must_unset = record {
   within = λ k set. absurd (true≢false (sym set ∙ unset k));
@@ -98,7 +101,7 @@ unset-row entries o m unset must_unset = record {
 pub unset-debts : (entries : List Entry) (o m : ℕ → Bool) → ((k : ℕ) → o k ≡ false) → debts_from o m 0 entries ≡ []
 unset-debts entries o m unset = listed-none o m 0 entries (λ k _ _. unset k)
 
--- a row that has to send nothing
+-- a row of which nothing must be sent any more is a row
 pub softened-row : (entries : List Entry) (o m m' : ℕ → Bool) → IsRow entries o m → ((k : ℕ) → m' k ≡ false) → IsRow entries o m'
 softened-row entries o m m' row unset = record {
   within = row.within;
@@ -106,7 +109,7 @@ softened-row entries o m m' row unset = record {
   leftmost = row.leftmost;
 }
 
--- a row whose bits are those of another one
+-- bits that are those of a row are a row
 pub row-along : (entries : List Entry) (o m o' m' : ℕ → Bool) → ((k : ℕ) → o' k ≡ o k) → ((k : ℕ) → m' k ≡ m k) → IsRow entries o m → IsRow entries o' m'
 row-along entries o m o' m' owed must row = record {
   within = λ k set. row.within k (sym (owed k) ∙ set);
@@ -114,6 +117,7 @@ row-along entries o m o' m' owed must row = record {
   leftmost = λ i k e before set gap. row.leftmost i k e before (sym (owed k) ∙ set) (λ j above below. sym (owed j) ∙ gap j above below);
 }
 
+-- where a row gains a debt at a place, one with the same bits does
 pub gained-along : (entries : List Entry) (entry : Entry) (o o' : ℕ → Bool) (at : ℕ) → ((k : ℕ) → o' k ≡ o k) → IsGainedAt entries o entry at → IsGainedAt entries o' entry at
 gained-along entries entry o o' at same gained = record {
   within = gained.within;
@@ -122,11 +126,12 @@ gained-along entries entry o o' at same gained = record {
   apart = λ i e before gap. gained.apart i e before (λ j above below. sym (same j) ∙ gap j above below);
 }
 
--- a row more
+-- with one row more the grid is one, and the rows owe what they did and then what the new one does
 pub record IsPushed (t : Grid) (owed' must' : List ℕ) : Type 0 where
   pub ledger : IsGrid (grid_of t.entries t.width (t.rows + 1) (t.owed ++ owed') (t.must ++ must'))
   pub rows : grid_rows (grid_of t.entries t.width (t.rows + 1) (t.owed ++ owed') (t.must ++ must')) ≡ grid_rows t ++ row_debts t.entries owed' must' ∷ []
 
+-- where words that are a row are put after the words of the rows, there is one row more
 pub pushed-row : (t : Grid) (owed' must' : List ℕ) → IsGrid t → length owed' ≡ t.width → length must' ≡ t.width → IsRow t.entries (has owed') (has must') → IsPushed t owed' must'
 pushed-row t owed' must' ledger owed_long must_long row =
     let t' = grid_of t.entries t.width (t.rows + 1) (t.owed ++ owed') (t.must ++ must') in
@@ -165,11 +170,12 @@ pushed-row t owed' must' ledger owed_long must_long row =
           ]);
     }
 
--- the first rows
+-- with the words of the first n rows alone the grid is one, and it is their rows that are left
 pub record IsCut (t : Grid) (n : ℕ) : Type 0 where
   pub ledger : IsGrid (grid_of t.entries t.width n (take (n * t.width) t.owed) (take (n * t.width) t.must))
   pub rows : grid_rows (grid_of t.entries t.width n (take (n * t.width) t.owed) (take (n * t.width) t.must)) ≡ take n (grid_rows t)
 
+-- where the words of the first n rows are kept, these rows are
 pub cut-rows : (t : Grid) (n : ℕ) → IsGrid t → n ≤ t.rows → IsCut t n
 cut-rows t n ledger fewer =
     let t' = grid_of t.entries t.width n (take (n * t.width) t.owed) (take (n * t.width) t.must) in
@@ -193,11 +199,12 @@ cut-rows t n ledger fewer =
           ∙ sym (get_or-take n (grid_rows t) k d below));
     }
 
--- the rows after the first ones
+-- without the words of the first n rows the grid is one, and it is the rows after them that are left
 pub record IsShortened (t : Grid) (n : ℕ) : Type 0 where
   pub ledger : IsGrid (grid_of t.entries t.width (t.rows - n) (drop (n * t.width) t.owed) (drop (n * t.width) t.must))
   pub rows : grid_rows (grid_of t.entries t.width (t.rows - n) (drop (n * t.width) t.owed) (drop (n * t.width) t.must)) ≡ drop n (grid_rows t)
 
+-- where the words of the first n rows are dropped, these rows are
 pub shortened-rows : (t : Grid) (n : ℕ) → IsGrid t → n ≤ t.rows → IsShortened t n
 shortened-rows t n ledger fewer =
     let t' = grid_of t.entries t.width (t.rows - n) (drop (n * t.width) t.owed) (drop (n * t.width) t.must) in
@@ -221,7 +228,7 @@ shortened-rows t n ledger fewer =
           ∙ sym (get_or-drop n (grid_rows t) k d));
     }
 
--- an entry more
+-- where there is one entry more, and the rows have the bits that they had, they owe what they did
 pub grown-ledger : (entry : Entry) (t t' : Grid) → IsGrid t → IsGrown entry t t' → grid_rows t' ≡ grid_rows t
 grown-ledger entry t t' ledger grown =
     rows-are t' (grid_rows t) (rows-length t ∙ sym grown.rows) (λ k d below.
@@ -236,7 +243,7 @@ grown-ledger entry t t' ledger grown =
     ∙ grown-debts t.entries entry o m (ledger.each k inside).within
     ∙ sym (rows-get t k d inside))
 
--- a word of 0 after others has no bit
+-- a word that is 0 after some words changes no word that is read
 get_or-zero : (xs : List ℕ) (n : ℕ) → get_or (xs ++ 0 ∷ []) n 0 ≡ get_or xs n 0
 get_or-zero xs n =
     elim (cases_lt n (length xs)) [
@@ -255,11 +262,12 @@ pub widened-bits : (width rows : ℕ) (old new : List ℕ) → IsWidened width r
     has (part (width + 1) row new) k ≡ has (part width row old) k
 widened-bits width rows old new wide row inside k = ap (λ w. has w k) (wide.each row inside) ∙ has-zero (part width row old) k
 
--- an entry more, for which there is room
+-- with an entry more the grid is one, and the rows have the bits that they had
 pub record IsMore (entry : Entry) (t t' : Grid) : Type 0 where
   pub ledger : IsGrid t'
   pub grown : IsGrown entry t t'
 
+-- where each row has a word more, there is room for an entry more
 pub more-widened : (entry : Entry) (t : Grid) (owed' must' : List ℕ) → IsGrid t → 64 * t.width ≤ length t.entries → IsWidened t.width t.rows t.owed owed' → IsWidened t.width t.rows t.must must' →
     IsMore entry t (grid_of (t.entries ++ entry ∷ []) (t.width + 1) t.rows owed' must')
 more-widened entry t owed' must' ledger full owed_wide must_wide =
@@ -278,7 +286,7 @@ more-widened entry t owed' must' ledger full owed_wide must_wide =
       grown = record { entries = refl; rows = refl; owed = owed; must = must };
     }
 
--- the first entries are dropped, which no row owes
+-- a row whose bits stand n places earlier is a row over the entries without the first n
 pub shifted-row : (entries : List Entry) (o m : ℕ → Bool) (n : ℕ) → IsRow entries o m → IsRow (drop n entries) (λ k. o (n + k)) (λ k. m (n + k))
 shifted-row entries o m n row = record {
   within = λ k set. omega (arith, row.within (n + k) set, length-drop n entries);
@@ -291,6 +299,7 @@ shifted-row entries o m n row = record {
       (sym (get_or-drop n entries i e) ∙ same ∙ get_or-drop n entries k e);
 }
 
+-- where a row has no bit among the first n, its debts are those of the bits n places earlier over the entries without the first n
 pub shifted-debts : (entries : List Entry) (o m : ℕ → Bool) (n : ℕ) → n ≤ length entries → ((k : ℕ) → k < n → o k ≡ false) →
     debts_from (λ k. o (n + k)) (λ k. m (n + k)) 0 (drop n entries) ≡ debts_from o m 0 entries
 shifted-debts entries o m n within unset =
@@ -300,7 +309,7 @@ shifted-debts entries o m n within unset =
     ∙ ap (λ l. l ++ debts_from o m n (drop n entries)) (sym (listed-none o m 0 (take n entries) (λ k _ below. unset k (omega (arith, below, length-take-le n entries within)))))
     ∙ sym (parts o m entries n within)
 
--- the bits of words without the first ones
+-- bit k of words without the first n is bit 64 n + k of the words
 pub has-dropped : (words : List ℕ) (n k : ℕ) → has (drop n words) k ≡ has words (64 * n + k)
 unfolding has
 has-dropped words n k =
@@ -311,7 +320,7 @@ has-dropped words n k =
 pub front-unset : (words : List ℕ) (front k : ℕ) → ((n : ℕ) → n < front → get_or words n 0 ≡ 0) → k < 64 * front → has words k ≡ false
 front-unset words front k zero below = has-zero_word words (k / 64) k (zero (k / 64) (omega (arith, below))) (omega arith) (omega arith)
 
--- the first entries are dropped, as many as there are
+-- dropping the first n entries, or all where there are fewer, is dropping n
 least-dropped : (n : ℕ) (entries : List Entry) → drop (min (length entries) n) entries ≡ drop n entries
 least-dropped n entries =
     elim (cases_lt n (length entries)) [
@@ -321,6 +330,7 @@ least-dropped n entries =
           ap (λ k. drop k entries) is ∙ drop_all (length entries) entries (omega arith) ∙ sym (drop_all n entries more)
     ]
 
+-- where a row has no bit among the first n, its debts are those of the bits n places earlier over the entries without the first n, however few
 dropped-debts : (entries : List Entry) (o m : ℕ → Bool) (n : ℕ) → ((k : ℕ) → k < n → o k ≡ false) →
     debts_from (λ k. o (n + k)) (λ k. m (n + k)) 0 (drop n entries) ≡ debts_from o m 0 entries
 dropped-debts entries o m n unset =
@@ -331,11 +341,12 @@ dropped-debts entries o m n unset =
       | inr within ↦ shifted-debts entries o m n within unset
     ]
 
--- every row is without its first words, which are 0
+-- without the first words of each row and their entries the grid is one, and the rows owe what they did
 pub record IsTidied (t : Grid) (dropped : ℕ) (owed' must' : List ℕ) (entries' : List Entry) : Type 0 where
   pub ledger : IsGrid (grid_of entries' (t.width - dropped) t.rows owed' must')
   pub rows : grid_rows (grid_of entries' (t.width - dropped) t.rows owed' must') ≡ grid_rows t
 
+-- where the first words of each row are 0, they and their entries may be dropped
 pub tidied : (t : Grid) (dropped past : ℕ) (owed' must' : List ℕ) (entries' : List Entry) → IsGrid t → dropped ≤ t.width → past ≡ min (length t.entries) (64 * dropped) →
     IsEmptyFront t.width t.rows dropped t.owed → IsNarrowed t.width t.rows dropped t.owed owed' → IsNarrowed t.width t.rows dropped t.must must' →
     entries' ≡ drop past t.entries → IsTidied t dropped owed' must' entries'
@@ -374,7 +385,7 @@ tidied t dropped past owed' must' entries' ledger few is_past empty owed_narrow 
           ∙ sym (rows-get t k d inside));
     }
 
--- A ledger t whose value is v, in the words of a contract.
+-- In what follows a grid t is one whose value v is what a contract sees.
 
 pub row-within : (t v : Grid) (row : ℕ) → t ≡ v → row < length (grid_rows v) → row < t.rows
 row-within t v row view inside = rows-inside t row (subst (λ x. row < length (grid_rows x)) (sym view) inside)
@@ -382,12 +393,12 @@ row-within t v row view inside = rows-inside t row (subst (λ x. row < length (g
 pub row-before_change : (t v : Grid) (row : ℕ) → t ≡ v → row < t.rows → grid_row v row ≡ row_in t row
 row-before_change t v row view inside = ap (λ x. grid_row x row) (sym view) ∙ row-is t row inside
 
--- the row owes this then
+-- where one row was changed to owe these debts, the rows owe what they did with these debts at its place
 pub changed-to : (t v : Grid) (row : ℕ) (owed' must' : List ℕ) (debts : List Debt) → t ≡ v → IsChanged t row owed' must' → row_in (with_words t owed' must') row ≡ debts →
     grid_rows (with_words t owed' must') ≡ set (grid_rows v) row debts
 changed-to t v row owed' must' debts view is same = is.rows ∙ ap₂ (λ l d. set l row d) (ap grid_rows view) same
 
--- the row owes what it owed but for the first debt of a kind
+-- where one row was changed to owe what it did without the first debt of which P holds, so the grid's row does
 pub changed-first : (P : Debt → Type 0) (t v : Grid) (row : ℕ) (owed' must' : List ℕ) → t ≡ v → row < t.rows → IsChanged t row owed' must' →
     IsWithoutFirst P (row_in t row) (row_in (with_words t owed' must') row) → IsWithoutFirst P (grid_row v row) (grid_row (with_words t owed' must') row)
 changed-first P t v row owed' must' view inside is without =
@@ -401,25 +412,27 @@ changed-others t v row owed' must' view is = changed-to t v row owed' must' (gri
 pub unchanged-others : (v : Grid) (row : ℕ) → grid_rows v ≡ set (grid_rows v) row (grid_row v row)
 unchanged-others v row = sym (set-get_or (grid_rows v) row [])
 
+-- a grid has no rows exactly if the list of what its rows owe is empty
 pub no-rows : (t v : Grid) → t ≡ v → (t.rows ≡ 0 → grid_rows v ≡ []) × (grid_rows v ≡ [] → t.rows ≡ 0)
 no-rows t v view = (
   (λ none. ap grid_rows (sym view) ∙ rows-none t none),
   (λ none. sym (rows-length t) ∙ ap length (ap grid_rows view ∙ none)),
 )
 
--- words enough for numbers of 64 bits
+-- the words of the first n rows are few enough to be numbered by 64 bits where all words are
 pub words-fit : (t : Grid) (n : ℕ) → IsGrid t → n ≤ t.rows → length t.owed < 2 ^ 63 → n * t.width < 2 ^ 63
 words-fit t n ledger few small =
     let words = fewer-words t.width n t.rows few in
     let long = ledger.owed_long in
     omega (arith, words, long, small)
 
--- all rows are kept, or none
+-- where there are at most n rows, the first n are all
 pub kept-all : (v : Grid) (n : ℕ) → length (grid_rows v) ≤ n → grid_rows v ≡ take n (grid_rows v)
 kept-all v n all = sym (take_all n (grid_rows v) all)
 
--- rows that change all at once: by what is known of their words
+-- What follows says of changed words that they change one row, by what its bits are then.
 
+-- words in which one row has no bits any more change that row alone
 pub cleared : (t : Grid) (row : ℕ) (owed' must' : List ℕ) → ChangesRow t.width row t.owed owed' → ChangesRow t.width row t.must must' →
     ((k : ℕ) → has (part t.width row owed') k ≡ false) → ((k : ℕ) → has (part t.width row must') k ≡ false) → ChangesTable t.entries t.width row t.owed t.must owed' must'
 cleared t row owed' must' owed_changes must_changes owed_none must_none = record {
@@ -428,6 +441,7 @@ cleared t row owed' must' owed_changes must_changes owed_none must_none = record
   is = unset-row t.entries (has (part t.width row owed')) (has (part t.width row must')) owed_none must_none;
 }
 
+-- words in which one row must send nothing any more change that row alone
 pub softened : (t : Grid) (row : ℕ) (must' : List ℕ) → IsGrid t → row < t.rows → ChangesRow t.width row t.must must' →
     ((k : ℕ) → has (part t.width row must') k ≡ false) → ChangesTable t.entries t.width row t.owed t.must t.owed must'
 softened t row must' ledger inside must_changes none = record {
@@ -436,6 +450,7 @@ softened t row must' ledger inside must_changes none = record {
   is = softened-row t.entries (has (part t.width row t.owed)) (has (part t.width row t.must)) (has (part t.width row must')) (ledger.each row inside) none;
 }
 
+-- words in which one row has the bits of another one change that row alone
 pub copied : (t : Grid) (from to : ℕ) (owed' must' : List ℕ) → IsGrid t → from < t.rows → ChangesRow t.width to t.owed owed' → ChangesRow t.width to t.must must' →
     part t.width to owed' ≡ part t.width from t.owed → part t.width to must' ≡ part t.width from t.must → ChangesTable t.entries t.width to t.owed t.must owed' must'
 copied t from to owed' must' ledger inside owed_changes must_changes owed_same must_same = record {
@@ -445,7 +460,7 @@ copied t from to owed' must' ledger inside owed_changes must_changes owed_same m
       (subst (λ m. IsRow t.entries (has (part t.width from t.owed)) (has m)) (sym must_same) (ledger.each from inside));
 }
 
--- where an entry is put, a row gains its debt
+-- where an entry is put after the others, a row gains a debt of it there
 pub placed : (entry : Entry) (t t' : Grid) (row at : ℕ) → IsGrid t → IsGrown entry t t' → row < t.rows → at ≡ length t.entries →
     IsGainedAt t.entries (has (part t.width row t.owed)) entry at → IsPlace row entry t t' at
 placed entry t t' row at ledger grown inside here gained = record {
@@ -456,11 +471,11 @@ placed entry t t' row at ledger grown inside here gained = record {
   debts = grown-ledger entry t t' ledger grown;
 }
 
--- the bit of a place is free
+-- the bit of a place at which a debt is gained is not set in `must`
 pub free-at : (entries : List Entry) (o m : ℕ → Bool) (entry : Entry) (at : ℕ) → IsRow entries o m → IsGainedAt entries o entry at → m at ≡ false
 free-at entries o m entry at row gained = false_from_ne_true (m at) (λ set. true≢false (sym (row.among at set) ∙ gained.last at (omega arith)))
 
--- a row of which no debt passes a test
+-- where no debt of a row passes the test of a contract, none of what it owes does
 pub unpaid-row : (test : Debt → Bool) (t v : Grid) (row : ℕ) → t ≡ v → row < t.rows → NonePasses test t.entries (has (part t.width row t.owed)) → AsksNoMust test →
     All (λ debt. ¬ (IsTrue (test debt))) (grid_row v row)
 unpaid-row test t v row view inside none asks =
@@ -469,25 +484,27 @@ unpaid-row test t v row view inside none asks =
     (none-passes test t.entries (has (part t.width row t.owed)) (has (part t.width row t.must)) asks none) in
     subst (All (λ debt. ¬ (IsTrue (test debt)))) (sym (row-before_change t v row view inside)) fails
 
--- whether a row has a debt that passes a test
+-- where a first bit of a row passes a test, one of the debts that it owes does
 pub some-passes : (test : Debt → Bool) (t v : Grid) (row : ℕ) (place : FoundBit) → t ≡ v → IsGrid t → row < t.rows → AsksNoMust test →
     IsFirst test t.entries (has (part t.width row t.owed)) place → true ≡ list_any test (grid_row v row)
 some-passes test t v row place view ledger inside asks first =
     sym (ap (list_any test) (row-before_change t v row view inside)
     ∙ first-any test t.entries (has (part t.width row t.owed)) (has (part t.width row t.must)) place asks (ledger.each row inside).within first)
 
+-- where no bit of a row passes a test, none of the debts that it owes does
 pub none-any : (test : Debt → Bool) (t v : Grid) (row : ℕ) → t ≡ v → row < t.rows → AsksNoMust test →
     NonePasses test t.entries (has (part t.width row t.owed)) → false ≡ list_any test (grid_row v row)
 none-any test t v row view inside asks none =
     sym (ap (list_any test) (row-before_change t v row view inside)
     ∙ list_any_none test (row_in t row) (none-passes test t.entries (has (part t.width row t.owed)) (has (part t.width row t.must)) asks none))
 
--- two rows of the same words, and of the same debts
+-- two rows of the same words owe the same
 pub same-debts : (t v : Grid) (row other : ℕ) → t ≡ v → row < t.rows → other < t.rows → part t.width row t.owed ≡ part t.width other t.owed →
     part t.width row t.must ≡ part t.width other t.must → grid_row v row ≡ grid_row v other
 same-debts t v row other view inside there owed must =
     row-before_change t v row view inside ∙ ap₂ (row_debts t.entries) owed must ∙ sym (row-before_change t v other view there)
 
+-- the words of a row of words of 64 bits are words of 64 bits
 part-words : (width row : ℕ) (words : List ℕ) → AreWords words → AreWords (part width row words)
 part-words width row words small k =
     elim (cases_lt k width) [
@@ -497,7 +514,7 @@ part-words width row words small k =
           omega (arith, none)
     ]
 
--- rows that owe the same have the same bits, and the same words
+-- two rows that owe the same have the same bits
 same-bits : (t v : Grid) (row other : ℕ) → t ≡ v → IsGrid t → row < t.rows → other < t.rows → grid_row v row ≡ grid_row v other →
     (k : ℕ) → (has (part t.width row t.owed) k ≡ has (part t.width other t.owed) k) × (has (part t.width row t.must) k ≡ has (part t.width other t.must) k)
 same-bits t v row other view ledger inside there same =
@@ -508,23 +525,26 @@ parts-long : (width rows row other : ℕ) (words : List ℕ) → length words �
 parts-long width rows row other words long inside there =
     length-part width row words (row-inside rows width row words long inside) ∙ sym (length-part width other words (row-inside rows width other words long there))
 
+-- two rows that owe the same have the same words of what is owed
 pub same-owed : (t v : Grid) (row other : ℕ) → t ≡ v → IsGrid t → row < t.rows → other < t.rows → AreWords t.owed → grid_row v row ≡ grid_row v other →
     part t.width row t.owed ≡ part t.width other t.owed
 same-owed t v row other view ledger inside there small same =
     same-from_bits (part t.width row t.owed) (part t.width other t.owed) (parts-long t.width t.rows row other t.owed ledger.owed_long inside there)
     (part-words t.width row t.owed small) (part-words t.width other t.owed small) (λ k. (same-bits t v row other view ledger inside there same k).0)
 
+-- two rows that owe the same have the same words of what must be sent
 pub same-must : (t v : Grid) (row other : ℕ) → t ≡ v → IsGrid t → row < t.rows → other < t.rows → AreWords t.must → grid_row v row ≡ grid_row v other →
     part t.width row t.must ≡ part t.width other t.must
 same-must t v row other view ledger inside there small same =
     same-from_bits (part t.width row t.must) (part t.width other t.must) (parts-long t.width t.rows row other t.must ledger.must_long inside there)
     (part-words t.width row t.must small) (part-words t.width other t.must small) (λ k. (same-bits t v row other view ledger inside there same k).1)
 
--- rows that owe the same have the same print
+-- the print of a row is made of its words of what is owed and of those of what must be sent
 pub print-is : (t v : Grid) (row : ℕ) → t ≡ v → grid_print v row ≡ fold mixed (fold mixed 0 (part t.width row t.owed)) (part t.width row t.must)
 unfolding grid_print
 print-is t v row view = ap (λ x. grid_print x row) (sym view)
 
+-- two rows that owe the same have the same print
 pub same-prints : (t v : Grid) (row other : ℕ) → t ≡ v → IsGrid t → row < t.rows → other < t.rows → AreWords t.owed → AreWords t.must →
     grid_row v row ≡ grid_row v other → grid_print v row ≡ grid_print v other
 same-prints t v row other view ledger inside there owed_small must_small same =
@@ -532,6 +552,7 @@ same-prints t v row other view ledger inside there owed_small must_small same =
     ∙ ap₂ (λ o m. fold mixed (fold mixed 0 o) m) (same-owed t v row other view ledger inside there owed_small same) (same-must t v row other view ledger inside there must_small same)
     ∙ sym (print-is t v other view)
 
+-- where the first bit that passes was looked for, it was found exactly if one of the debts passes
 pub found-any : (test : Debt → Bool) (t v : Grid) (row : ℕ) (r : Option FoundBit) → t ≡ v → IsGrid t → row < t.rows → AsksNoMust test →
     IfSome r (IsFirst test t.entries (has (part t.width row t.owed))) → IfNone r (NonePasses test t.entries (has (part t.width row t.owed))) →
     is_some r ≡ list_any test (grid_row v row)

@@ -1,4 +1,4 @@
--- Rows whose bits change.
+-- Rows whose bits change, and what they owe then.
 use Rattle.std.proofs.Common.{◌≡◌, ◌≢◌, ℕ, ◌+◌, ◌-◌, ◌<◌, ◌≤◌, max, Bool, true, false, cond, List, [], ◌∷◌, ◌++◌, length, take, get_or, append-nil, suc, refl, sym, ap, ap₂, ◌∙◌, subst, inl, inr, arith}
 use Rattle.std.specs.Prelude.{All, ◌↔◌, ◌&&◌, ◌||◌, nat_le, filter}
 use Rattle.std.specs.List.{list_any}
@@ -43,7 +43,7 @@ moved-debts entries o m o' m' from to order within is gap equal moved =
     (moved.owed_others j not_from not_to, moved.must_others j not_from not_to))) (new ∙ sym old)
     ∙ sym (parts o m entries to (omega (arith, order, within)))
 
--- a gap right before a bit after the first ones begins after them
+-- where low is 0, or the bit before it is set, a gap that ends at a place from low on begins at low or after
 gap-begins : (o : ℕ → Bool) (low i k : ℕ) → (0 < low → o (low - 1) ≡ true) → low ≤ k → IsGap o i k → low ≤ i
 gap-begins o low i k begins order gap =
     elim (cases_lt i low) [
@@ -51,7 +51,7 @@ gap-begins o low i k begins order gap =
       | inr behind ↦ behind
     ]
 
--- a set bit before the next one is one of the first
+-- where the next bit from low on is at `at`, a bit before `at` that is set is below low
 pub before-next : (o : ℕ → Bool) (low at k : ℕ) → IsGap o low at → k < at → o k ≡ true → k < low
 before-next o low at k gap before is =
     elim (cases_lt k low) [
@@ -59,7 +59,7 @@ before-next o low at k gap before is =
       | inr behind ↦ absurd (true≢false (sym is ∙ gap k behind before))
     ]
 
--- the next bit stands where it is
+-- where no entry in the gap before the next bit is equal to its own, the bit stays, and the row is settled up to it
 pub stays-open : (entries : List Entry) (o m : ℕ → Bool) (low hole at : ℕ) → IsOpenRow entries o m low hole → low ≤ at → o at ≡ true → IsGap o low at →
     ((i : ℕ) (e : Entry) → low ≤ i → i < at → get_or entries i e ≢ get_or entries at e) → IsOpenRow entries o m (at + 1) hole
 stays-open entries o m low hole at was order is gap first = record {
@@ -76,7 +76,7 @@ stays-open entries o m low hole at was order is gap first = record {
   behind = was.behind;
 }
 
--- the next bit moves to the first equal entry in the gap before it
+-- where the first entry equal to that of the next bit, in the gap before it, is at `to`, the bit moves there, and the row is settled up to it
 pub moved-open : (entries : List Entry) (o m o' m' : ℕ → Bool) (low hole from to : ℕ) → IsOpenRow entries o m low hole → low ≤ to → to < from →
     o from ≡ true → IsGap o low from → ((e : Entry) → get_or entries to e ≡ get_or entries from e) →
     ((i : ℕ) (e : Entry) → low ≤ i → i < to → get_or entries i e ≢ get_or entries from e) →
@@ -129,7 +129,7 @@ moved-open entries o m o' m' low hole from to was begin order is gap equal first
           (omega (arith, past)) same;
     }
 
--- a row without the first debt of a kind
+-- where the bit at `at` is cleared, and its debt is the first of which P holds, what is left is without the first of which P holds
 pub removed : (P : Debt → Type 0) (entries : List Entry) (o m o' m' : ℕ → Bool) (at : ℕ) (left : List Debt) → at < length entries → o at ≡ true → o' at ≡ false →
     ((k : ℕ) → k ≢ at → o' k ≡ o k) → ((k : ℕ) → k ≢ at → m' k ≡ m k) → P (debt_of (get_or entries at no_entry) (m at)) →
     ((k : ℕ) → k < at → o k ≡ true → ¬ (P (debt_of (get_or entries k no_entry) (m k)))) → left ≡ debts_from o' m' 0 entries →
@@ -153,7 +153,7 @@ removed P entries o m o' m' at left within is gone others must_others holds none
       ∙ back-same o' m' o m entries (at + 1) (λ j above. let not_at : j ≢ at = omega (arith, above) in (others j not_at, must_others j not_at)));
 }
 
--- an entry more
+-- a row is a row with one entry more after the others
 pub grown-row : (entries : List Entry) (entry : Entry) (o m : ℕ → Bool) → IsRow entries o m → IsRow (entries ++ entry ∷ []) o m
 grown-row entries entry o m row = record {
   within = λ k set. omega (arith, row.within k set, length-append entries (entry ∷ []));
@@ -164,6 +164,7 @@ grown-row entries entry o m row = record {
       (sym (get_or_append_left entries (entry ∷ []) e i (omega (arith, before, inside))) ∙ same ∙ get_or_append_left entries (entry ∷ []) e k inside);
 }
 
+-- with one entry more after the others a row owes what it did
 pub grown-debts : (entries : List Entry) (entry : Entry) (o m : ℕ → Bool) → ((k : ℕ) → o k ≡ true → k < length entries) →
     debts_from o m 0 (entries ++ entry ∷ []) ≡ debts_from o m 0 entries
 grown-debts entries entry o m within =
@@ -174,7 +175,7 @@ grown-debts entries entry o m within =
     unset : (k : ℕ) → 0 + length entries ≤ k → o k ≡ false
     unset k from = false_from_ne_true (o k) (λ set. absurd (omega (arith, within k set, from)))
 
--- a debt is gained after the others
+-- where the bit at `at` is set after all others, and no entry in the gap before it is equal to its own, the bits are a row
 pub gained-row : (entries : List Entry) (o m o' m' : ℕ → Bool) (at : ℕ) → IsRow entries o m → at < length entries → IsGap o at (length entries) →
     ((i : ℕ) (e : Entry) → i < at → IsGap o i at → get_or entries i e ≢ get_or entries at e) →
     o' at ≡ true → ((k : ℕ) → k ≢ at → o' k ≡ o k) → ((k : ℕ) → k ≢ at → m' k ≡ m k) → IsRow entries o' m'
@@ -202,6 +203,7 @@ gained-row entries o m o' m' at row inside last apart here others must_others = 
   ];
 }
 
+-- where the bit at `at` is set after all others, the row owes its debt after what it did
 pub gained-debts : (entries : List Entry) (o m o' m' : ℕ → Bool) (at : ℕ) → at < length entries → ((k : ℕ) → at ≤ k → o k ≡ false) →
     o' at ≡ true → ((k : ℕ) → k ≢ at → o' k ≡ o k) → ((k : ℕ) → k ≢ at → m' k ≡ m k) →
     debts_from o' m' 0 entries ≡ debts_from o m 0 entries ++ debt_of (get_or entries at no_entry) (m' at) ∷ []
@@ -221,7 +223,7 @@ entry-same : (a b : Entry) → a.message ≡ b.message → a.deadline ≡ b.dead
 entry-same a b same_message same_deadline =
     ap₂ (λ (m d : ℕ). let e : Entry = record { message = m; deadline = d } in e) same_message same_deadline
 
--- the first bit that is set has this debt
+-- the first bit that is set from i on has this debt
 pub record FirstBit (o m : ℕ → Bool) (i : ℕ) (xs : List Entry) (d : Debt) : Type 0 where
   pub j : ℕ
   pub inside : j < length xs
@@ -229,6 +231,7 @@ pub record FirstBit (o m : ℕ → Bool) (i : ℕ) (xs : List Entry) (d : Debt) 
   pub gap : IsGap o i (i + j)
   pub is : (e : Entry) → debt_of (get_or xs j e) (m (i + j)) ≡ d
 
+-- where the debts from i on begin with d, the first bit that is set from i on has the debt d
 first-cases : (o m : ℕ → Bool) (i : ℕ) (x : Entry) (xs : List Entry) (d : Debt) (ds : List Debt) (b : Bool) → o i ≡ b →
     cond b (debt_of x (m i) ∷ debts_from o m (i + 1) xs) (debts_from o m (i + 1) xs) ≡ d ∷ ds →
     (debts_from o m (i + 1) xs ≡ d ∷ ds → FirstBit o m (i + 1) xs d) → FirstBit o m i (x ∷ xs) d
@@ -260,11 +263,12 @@ first-bit : (o m : ℕ → Bool) (i : ℕ) (xs : List Entry) (d : Debt) (ds : Li
 first-bit o m i [] d ds same = cc
 first-bit o m i (x ∷ xs) d ds same = first-cases o m i x xs d ds (o i) refl same (first-bit o m (i + 1) xs d ds)
 
--- these are the entries from i on
+-- xs are the entries from place i on
 pub record IsRest (entries : List Entry) (i : ℕ) (xs : List Entry) : Type 0 where
   pub long : i + length xs ≡ length entries
   pub each : (j : ℕ) (e : Entry) → get_or xs j e ≡ get_or entries (i + j) e
 
+-- the entries from i on without the first are those from i + 1 on
 rest-tail : (entries : List Entry) (i : ℕ) (x : Entry) (xs : List Entry) → IsRest entries i (x ∷ xs) → IsRest entries (i + 1) xs
 rest-tail entries i x xs rest = record {
   long = let long = rest.long in omega (arith, long);
@@ -292,13 +296,14 @@ clash entries o m o' m' i x xs row rest set unset same =
     ])
     (sym (ap (λ n. get_or entries n no_entry) none) ∙ sym (rest.each 0 no_entry) ∙ sym there ∙ tail.each found.j no_entry)
 
--- two tests of one answer
+-- where P follows in each case of two answers, it holds
 alike : (P : Type 0) (b b' : Bool) → (b ≡ true → b' ≡ false → P) → (b ≡ false → b' ≡ true → P) → (b ≡ true → b' ≡ true → P) → (b ≡ false → b' ≡ false → P) → P
 alike P true true f g h k = h refl refl
 alike P true false f g h k = f refl refl
 alike P false true f g h k = g refl refl
 alike P false false f g h k = k refl refl
 
+-- two rows that owe the same from i on have the same bits from i on, and must send the same
 agree : (entries : List Entry) (o m o' m' : ℕ → Bool) (i : ℕ) (xs : List Entry) → IsRow entries o m → IsRow entries o' m' → IsRest entries i xs →
     debts_from o m i xs ≡ debts_from o' m' i xs → (k : ℕ) → i ≤ k → k < i + length xs → (o k ≡ o' k) × (o k ≡ true → m k ≡ m' k)
 agree entries o m o' m' i [] row row' rest same k above below = absurd (omega (arith, above, below))
@@ -333,7 +338,7 @@ unset-must entries o m k row unset = false_from_ne_true (m k) (λ set. true≢fa
 unset-past : (entries : List Entry) (o m : ℕ → Bool) (k : ℕ) → IsRow entries o m → length entries ≤ k → o k ≡ false
 unset-past entries o m k row past = false_from_ne_true (o k) (λ set. absurd (omega (arith, row.within k set, past)))
 
--- rows of one spelling: where they owe the same they have the same bits
+-- two rows that owe the same have the same bits: equal debts have one spelling
 pub one-spelling : (entries : List Entry) (o m o' m' : ℕ → Bool) → IsRow entries o m → IsRow entries o' m' →
     debts_from o m 0 entries ≡ debts_from o' m' 0 entries → (k : ℕ) → (o k ≡ o' k) × (m k ≡ m' k)
 one-spelling entries o m o' m' row row' same k =
@@ -358,7 +363,7 @@ one-spelling entries o m o' m' row row' same k =
           (unset ∙ sym unset', unset-must entries o m k row unset ∙ sym (unset-must entries o' m' k row' unset'))
     ]
 
--- a row without what has expired
+-- a row that has lost what expired at t is one whose bits may have room before them
 pub expired-open : (entries : List Entry) (o m o' : ℕ → Bool) (t : ℕ) → IsRow entries o m → IsExpired t entries m o o' → IsOpenRow entries o' m 0 (length entries)
 expired-open entries o m o' t row expired = record {
   within = inside;
@@ -377,6 +382,7 @@ expired-open entries o m o' t row expired = record {
       | inr there ↦ row.within k (sym (expired.past k there) ∙ set)
     ]
 
+-- a row that has lost what expired at t owes what counts at t of what it owed
 pub expired-debts : (entries : List Entry) (o m o' : ℕ → Bool) (t : ℕ) → IsExpired t entries m o o' →
     debts_from o' m 0 entries ≡ filter (counts_at t) (debts_from o m 0 entries)
 expired-debts entries o m o' t expired =
@@ -384,7 +390,7 @@ expired-debts entries o m o' t expired =
     let here : j ≡ 0 + j = omega arith in
     subst (λ n. o' n ≡ (o n && (m n || nat_le t (get_or entries j e).deadline))) here (expired.kept j e below))
 
--- where an entry is put after the others, a debt of it is gained there
+-- where a debt is gained after all entries, it is gained at the place of a new entry after them
 pub grown-gained : (entries : List Entry) (entry : Entry) (o : ℕ → Bool) (at : ℕ) → IsGainedAt entries o entry at → at ≡ length entries →
     IsGainedAt (entries ++ entry ∷ []) o entry at
 grown-gained entries entry o at gained here = record {
@@ -395,7 +401,7 @@ grown-gained entries entry o at gained here = record {
       gained.apart i e before gap (sym (get_or_append_left entries (entry ∷ []) e i (omega (arith, before, here))) ∙ same);
 }
 
--- what a row owes with a debt more
+-- where the bit of a place at which a debt is gained is set, the bits are a row, and it owes the debt after what it did
 pub gains : (entries : List Entry) (entry : Entry) (o m o' m' : ℕ → Bool) (at : ℕ) (due : Bool) → IsRow entries o m → IsGainedAt entries o entry at →
     at < length entries → o' at ≡ true → ((k : ℕ) → k ≢ at → o' k ≡ o k) → m' at ≡ due → ((k : ℕ) → k ≢ at → m' k ≡ m k) →
     IsRow entries o' m' × (debts_from o' m' 0 entries ≡ debts_from o m 0 entries ++ debt_of entry due ∷ [])
@@ -406,7 +412,7 @@ gains entries entry o m o' m' at due row gained inside here others must_here mus
       ∙ ap₂ (λ e d. debts_from o m 0 entries ++ debt_of e d ∷ []) (gained.is no_entry inside) must_here,
 )
 
--- a debt that passes a test, or none
+-- where the debt at a bit that is set passes a test, one of the debts that are owed does
 pub listed-any : (test : Debt → Bool) (entries : List Entry) (o m : ℕ → Bool) (at : ℕ) → at < length entries → o at ≡ true →
     test (debt_of (get_or entries at no_entry) (m at)) ≡ true → list_any test (debts_from o m 0 entries) ≡ true
 listed-any test entries o m at within is passes =
@@ -417,11 +423,13 @@ listed-any test entries o m at within is passes =
     ∙ list_any-append test before (debt ∷ behind)
     ∙ or_right (list_any test before) (list_any test (debt ∷ behind)) (or_left (test debt) (list_any test behind) passes)
 
+-- where the first bit that passes a test is found, one of the debts that are owed passes it
 pub first-any : (test : Debt → Bool) (entries : List Entry) (o m : ℕ → Bool) (place : FoundBit) → AsksNoMust test → ((k : ℕ) → o k ≡ true → k < length entries) →
     IsFirst test entries o place → list_any test (debts_from o m 0 entries) ≡ true
 first-any test entries o m place asks within first =
     listed-any test entries o m place.at (within place.at first.bit.is) first.bit.is (asks (get_or entries place.at no_entry) (m place.at) ∙ first.passes no_entry)
 
+-- where no bit of a row passes a test, none of the debts that are owed does
 pub none-passes : (test : Debt → Bool) (entries : List Entry) (o m : ℕ → Bool) → AsksNoMust test → NonePasses test entries o →
     All (λ debt. test debt ≡ false) (debts_from o m 0 entries)
 none-passes test entries o m asks none =
@@ -429,7 +437,7 @@ none-passes test entries o m asks none =
     let here : 0 + j ≡ j = omega arith in
     asks (get_or entries j e) (m (0 + j)) ∙ none j e (ap o (sym here) ∙ set))
 
--- whether anything is owed
+-- where a bit is set, something is owed
 pub some-debt : (entries : List Entry) (o m : ℕ → Bool) (k : ℕ) → k < length entries → o k ≡ true → debts_from o m 0 entries ≢ []
 some-debt entries o m k within is none =
     let debt = debt_of (get_or entries k no_entry) (m k) in
@@ -438,6 +446,7 @@ some-debt entries o m k within is none =
     let whole = sym (parts o m entries k (omega (arith, within)) ∙ ap (λ l. before ++ l) (back-set o m entries k no_entry within is)) ∙ none in
     absurd (omega (arith, ap length whole, length-append before (debt ∷ behind)))
 
+-- a row has no bit exactly if it owes nothing
 pub owes-nothing : (entries : List Entry) (words must : List ℕ) (end : ℕ) → IsRow entries (has words) (has must) → NoneFrom words end →
     (0 < end → has words (end - 1) ≡ true) → (end ≡ 0) ↔ (row_debts entries words must ≡ [])
 owes-nothing entries words must end row none last = (

@@ -1,4 +1,4 @@
--- Rows of words, one after another.
+-- The words of rows, one row after another.
 use Rattle.std.proofs.Common.{◌≡◌, ℕ, ◌+◌, ◌-◌, ◌*◌, ◌^◌, ◌<◌, ◌≤◌, List, [], ◌∷◌, ◌++◌, length, take, drop, refl, sym, ap, ◌∙◌, subst, inl, inr, arith}
 use Rattle.std.proofs.Math.Nat.{mul-le-mul_left}
 use Rattle.std.proofs.lemmas.Bool.{cases_lt, cases_eq}
@@ -11,7 +11,7 @@ use Rattle.sip_ledger.specs.Rows.{IsRow}
 use Rattle.sip_ledger.specs.Grids.{Grid, grid_of, part, IsGrid}
 use Rattle.sip_ledger.specs.inner.Tables.{IsInside, IsTableRow, ChangesRow, ChangesTable, IsWidened}
 
--- a row begins after those before it
+-- the words of a row end before those of a later row begin
 pub row-before : (k row width : ℕ) → k < row → k * width + width ≤ row * width
 row-before k row width before =
     let more : k + 1 ≤ row = omega (arith, before) in
@@ -24,19 +24,20 @@ row-inside rows width row words long inside = omega (arith, long, row-before row
 pub length-part : (width row : ℕ) (words : List ℕ) → IsInside width row words → length (part width row words) ≡ width
 length-part width row words inside = length-take-le width (drop (row * width) words) (omega (arith, length-drop (row * width) words, inside))
 
--- a row in the first words
+-- where row k lies within the first words, it has its words whatever follows these
 part-front : (width k : ℕ) (xs ys : List ℕ) → k * width + width ≤ length xs → part width k (xs ++ ys) ≡ part width k xs
 part-front width k xs ys inside =
     ap (take width) (drop-append-le (k * width) xs ys (omega (arith, inside)))
     ∙ take-append-le width (drop (k * width) xs) ys (omega (arith, length-drop (k * width) xs, inside))
 
--- a row that is written
+-- the words of a row, as the code's slice has them
 abbrev pub span : ℕ → ℕ → List ℕ → List ℕ
 span width row words = take (row * width + width - row * width) (drop (row * width) words)
 
 abbrev pub written : ℕ → ℕ → List ℕ → List ℕ → List ℕ
 written width row words ys = put_mid (row * width) (row * width + width - row * width) words ys
 
+-- the slice of a row is its words
 pub span-is : (width row : ℕ) (words : List ℕ) → span width row words ≡ part width row words
 span-is width row words =
     let size : row * width + width - row * width ≡ width = omega arith in
@@ -45,12 +46,14 @@ span-is width row words =
 pub length-span : (width row : ℕ) (words : List ℕ) → IsInside width row words → length (span width row words) ≡ width
 length-span width row words inside = ap length (span-is width row words) ∙ length-part width row words inside
 
+-- a row that is written over with words has these words
 pub written-part : (width row : ℕ) (words ys : List ℕ) → IsInside width row words → length ys ≡ width → part width row (written width row words ys) ≡ ys
 written-part width row words ys inside long =
     let at : length (take (row * width) words) ≡ row * width = length-take-le (row * width) words (omega (arith, inside)) in
     let rest = post_of (row * width) (row * width + width - row * width) words in
     ap (take width) (drop_at (take (row * width) words) (ys ++ rest) (row * width) at) ∙ take_at ys rest width long
 
+-- a row that is written over with words changes, and no other row does
 pub written-changes : (width row : ℕ) (words ys : List ℕ) → IsInside width row words → length ys ≡ width → ChangesRow width row words (written width row words ys)
 written-changes width row words ys inside long =
     let size : row * width + width - row * width ≡ width = omega arith in
@@ -80,6 +83,7 @@ in-place P width row owed must ys zs owed_inside must_inside y_long z_long p =
     (subst (λ o. P (span width row owed) (span width row must) o (part width row (written width row must zs))) (sym (written-part width row owed ys owed_inside y_long))
     (subst (λ m. P (span width row owed) (span width row must) ys m) (sym (written-part width row must zs must_inside z_long)) p)))
 
+-- where the slices of a row are written over with words that are a row, the table is changed in that row alone
 pub table-changes : (entries : List Entry) (width row : ℕ) (owed must ys zs : List ℕ) → IsTableRow entries width row owed must →
     length ys ≡ length (span width row owed) → length zs ≡ length (span width row must) → IsRow entries (has ys) (has zs) →
     ChangesTable entries width row owed must (written width row owed ys) (written width row must zs)
@@ -95,7 +99,7 @@ table-changes entries width row owed must ys zs given y_same z_same is =
 pub same-row : (width row : ℕ) (words : List ℕ) → ChangesRow width row words words
 same-row width row words = record { long = refl; others = λ k other. refl }
 
--- a row of a ledger is one of its table
+-- a row of a grid is a row of its table
 pub table-row : (t : Grid) (row : ℕ) → length t.entries < 2 ^ 63 → IsGrid t → row < t.rows → IsTableRow t.entries t.width row t.owed t.must
 table-row t row small ledger inside = record {
   owed_inside = row-inside t.rows t.width row t.owed ledger.owed_long inside;
@@ -105,10 +109,11 @@ table-row t row small ledger inside = record {
   is = ledger.each row inside;
 }
 
--- a table of other words
+-- the grid with these words in place of its own
 abbrev pub with_words : Grid → List ℕ → List ℕ → Grid
 with_words t owed must = grid_of t.entries t.width t.rows owed must
 
+-- a grid of which one row was changed to a row is a grid
 pub table-ledger : (t : Grid) (row : ℕ) (owed' must' : List ℕ) → IsGrid t → ChangesTable t.entries t.width row t.owed t.must owed' must' → IsGrid (with_words t owed' must')
 table-ledger t row owed' must' ledger changes = record {
   owed_long = changes.owed_changes.long ∙ ledger.owed_long;
@@ -123,14 +128,14 @@ table-ledger t row owed' must' ledger changes = record {
   ];
 }
 
--- a row that is written over with another one
+-- a row that is written over with another one has its words, and no other row changes
 pub pasted-changes : (width from to : ℕ) (words : List ℕ) → IsInside width from words → IsInside width to words →
     ChangesRow width to words (written width to words (part width from words)) × (part width to (written width to words (part width from words)) ≡ part width from words)
 pasted-changes width from to words from_inside to_inside =
     let long = length-part width from words from_inside in
     (written-changes width to words (part width from words) to_inside long, written-part width to words (part width from words) to_inside long)
 
--- rows after others
+-- where n rows are k and r rows, the words of n rows are those of k and those of r
 pub split-rows : (k r width n : ℕ) → k + r ≡ n → n * width ≡ k * width + r * width
 split-rows k r width n is = omega (arith, ap (λ x. x * width) is)
 
@@ -140,7 +145,7 @@ part-of_more width rows k xs ys long inside = part-front width k xs ys (row-insi
 pub part-of_last : (width rows : ℕ) (xs ys : List ℕ) → length xs ≡ rows * width → length ys ≡ width → part width rows (xs ++ ys) ≡ ys
 part-of_last width rows xs ys long row_long = ap (take width) (drop_at xs ys (rows * width) long) ∙ take_all width ys (omega (arith, row_long))
 
--- rows of the first words, and of those after them
+-- row k of the words of the first n rows is row k of all words, where k is below n
 pub part-take : (width n k : ℕ) (xs : List ℕ) → k < n → part width k (take (n * width) xs) ≡ part width k xs
 part-take width n k xs inside =
     let r = n - k in
@@ -152,11 +157,11 @@ part-take width n k xs inside =
 pub part-drop : (width n k : ℕ) (xs : List ℕ) → part width k (drop (n * width) xs) ≡ part width (n + k) xs
 part-drop width n k xs = ap (take width) (drop-drop (k * width) (n * width) xs) ∙ ap (λ x. take width (drop x xs)) (sym (split-rows n k width (n + k) refl))
 
--- how many words fewer rows have
+-- the words of all rows are those of the first n and those of the others
 pub fewer-words : (width n rows : ℕ) → n ≤ rows → rows * width ≡ n * width + (rows - n) * width
 fewer-words width n rows fewer = let whole : n + (rows - n) ≡ rows = omega (arith, fewer) in split-rows n (rows - n) width rows whole
 
--- a row more gets a word more
+-- where the first rows have a word more each, and then the next row with a word that is 0, one row more has a word more
 pub widened-more : (width rows row : ℕ) (old new : List ℕ) → length old ≡ rows * width → row < rows → IsWidened width row old new →
     IsWidened width (row + 1) old ((new ++ part width row old) ++ 0 ∷ [])
 widened-more width rows row old new long inside was =

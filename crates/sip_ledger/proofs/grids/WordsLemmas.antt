@@ -1,4 +1,4 @@
--- The words of all rows, moved within their list.
+-- The words of all rows, when some are moved within their list.
 use Rattle.std.proofs.Common.{◌≡◌, ℕ, ◌+◌, ◌-◌, ◌*◌, ◌<◌, ◌≤◌, List, ◌++◌, length, take, drop, refl, sym, ap, ◌∙◌, subst, inl, inr, arith}
 use Rattle.std.specs.List.{copy_within}
 use Rattle.std.proofs.Math.Nat.{mul-le-mul_left}
@@ -11,13 +11,13 @@ use Rattle.sip_ledger.specs.Grids.{part}
 use Rattle.sip_ledger.specs.inner.Tables.{IsNarrowed}
 use Rattle.sip_ledger.proofs.grids.TableLemmas.{row-inside, written, part-of_more, part-of_last, part-take}
 
--- words that are written over others, in two ways
+-- words that are written over others by a copy are the words before, the copied ones and those after
 pub pasted : (a n : ℕ) (xs zs : List ℕ) → paste xs a zs n ≡ put_mid a n xs (take n zs)
 pasted a n xs zs =
     ap (λ l. take a xs ++ take n zs ++ l) (sym (drop-drop n a xs))
     ∙ append_assoc (take a xs) (take n zs) (drop n (drop a xs))
 
--- a row is written over with another one
+-- a row that is copied over another one is that one written over with its words
 pub pasted-row : (width from to : ℕ) (words : List ℕ) →
     paste words (to * width) (drop (from * width) words) (from * width + width - from * width) ≡ written width to words (part width from words)
 pasted-row width from to words =
@@ -27,7 +27,7 @@ pasted-row width from to words =
     ∙ pasted (to * width) width words (drop (from * width) words)
     ∙ ap (λ n. put_mid (to * width) n words (part width from words)) other
 
--- the first ones are dropped
+-- where all items are moved to the front by `count` places, and the last ones are left out, the first `count` items are dropped
 pub dropped-first : {X : Type 0} (count len : ℕ) (xs : List X) → len ≡ length xs → count ≤ length xs → take (len - count) (copy_within xs count len 0) ≡ drop count xs
 dropped-first count len xs is few =
     let kept = len - count in
@@ -38,7 +38,7 @@ dropped-first count len xs is few =
     ∙ take_at (take kept (drop count xs)) (drop kept xs) kept (length-take-le kept (drop count xs) (omega (arith, long)))
     ∙ ap (λ n. take n (drop count xs)) all ∙ take_rest xs count
 
--- some rows are without their first words, and the words of the others stand
+-- the rows before `row` are without their first words and stand one after another, and the words from `row` on are as they were
 pub record IsNarrowing (width rows dropped row : ℕ) (old words : List ℕ) : Type 0 where
   pub long : length words ≡ rows * width
   pub done : (k : ℕ) → k < row → part (width - dropped) k words ≡ drop dropped (part width k old)
@@ -47,7 +47,7 @@ pub record IsNarrowing (width rows dropped row : ℕ) (old words : List ℕ) : T
 pub narrowing-none : (width rows dropped : ℕ) (old : List ℕ) → length old ≡ rows * width → IsNarrowing width rows dropped 0 old old
 narrowing-none width rows dropped old long = record { long = long; done = λ k below. absurd (omega (arith, below)); rest = refl }
 
--- one more
+-- where the next row is moved without its first words, one row more is without them
 pub narrowing-more : (width rows dropped row : ℕ) (old words : List ℕ) → dropped ≤ width → row < rows → IsNarrowing width rows dropped row old words →
     IsNarrowing width rows dropped (row + 1) old (paste words (row * (width - dropped)) (drop (row * width + dropped) words) (row * width + width - (row * width + dropped)))
 narrowing-more width rows dropped row old words few inside was =
@@ -96,6 +96,7 @@ narrowing-more width rows dropped row old words few inside was =
     narrow-row : (row dropped kept width : ℕ) → dropped + kept ≡ width → row * width ≡ row * dropped + row * kept
     narrow-row row dropped kept width whole = omega (arith, ap (λ n. row * n) whole)
 
+-- where all rows are without their first words, the words of all rows are those of narrowed rows
 pub narrowed : (width rows dropped : ℕ) (old words : List ℕ) → dropped ≤ width → IsNarrowing width rows dropped rows old words → IsNarrowed width rows dropped old (take (rows * (width - dropped)) words)
 narrowed width rows dropped old words few all =
     let kept = width - dropped in

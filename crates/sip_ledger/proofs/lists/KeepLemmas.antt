@@ -1,4 +1,4 @@
--- The elements of a list at some rising places are kept, and come to its front.
+-- Some elements of a list, at rising places, are kept and come to its front.
 use Rattle.std.proofs.Common.{◌≡◌, ◌≢◌, ℕ, zero, suc, ◌+◌, ◌-◌, ◌*◌, ◌<◌, ◌≤◌, List, [], ◌∷◌, length, take, get_or, set, map, sym, ap, ap₂, ◌∙◌, subst, inl, inr, arith}
 use Rattle.std.specs.Prelude.{All}
 use Rattle.std.proofs.lemmas.Bool.{cases_eq, cases_lt}
@@ -12,18 +12,18 @@ use Rattle.sip_ledger.proofs.grids.GridLemmas.{rows-are, row-within, row-before_
 use Rattle.sip_ledger.proofs.masks.WordLemmas.{part-one}
 use Rattle.sip_ledger.proofs.masks.WordRowLemmas.{row-in_word}
 
--- numbers that rise are no less than their places
+-- each number of a list that rises is at least its place in the list
 pub rise-above : (places : List ℕ) (i : ℕ) → Rise places → i < length places → i ≤ get_or places i 0
 rise-above places zero rise inside = omega arith
 rise-above places (suc i) rise inside = omega (arith, rise-above places i rise (omega (arith, inside)), rise i (suc i) (omega arith) inside)
 
--- up to here the elements at the places have come to the front, and the others are as they were
+-- the elements at the first `to` places stand at the front, and the list is as it was from there on
 pub record IsKeptTo {X : Type 0} (d : X) (places : List ℕ) (to : ℕ) (old new : List X) : Type 0 where
   pub long : length new ≡ length old
   pub front : (k : ℕ) → k < to → get_or new k d ≡ get_or old (get_or places k 0) d
   pub rest : (k : ℕ) → to ≤ k → get_or new k d ≡ get_or old k d
 
--- places that rise within a list are no more than it has
+-- a list that rises, and whose numbers are below n, has at most n numbers
 pub rise-few : (places : List ℕ) (n : ℕ) → Rise places → All (λ place. place < n) places → length places ≤ n
 rise-few places n rise within =
     elim (cases_lt 0 (length places)) [
@@ -33,6 +33,7 @@ rise-few places n rise within =
       | inr none ↦ omega (arith, none)
     ]
 
+-- where the element at the next place is moved to the front as well, one element more stands there
 pub kept-more : {X : Type 0} (d : X) (places : List ℕ) (to : ℕ) (old new : List X) → IsKeptTo d places to old new → Rise places → to < length places →
     All (λ place. place < length old) places → IsKeptTo d places (to + 1) old (set new to (get_or new (get_or places to 0) d))
 kept-more d places to old new was rise inside within =
@@ -55,6 +56,7 @@ kept-more d places to old new was rise inside within =
           get_or-set_other new to k (get_or new from d) d other ∙ was.rest k (omega (arith, past));
     }
 
+-- where the elements at all places stand at the front, the front of as many is the list of them
 pub kept-all : {X : Type 0} (d : X) (places : List ℕ) (to : ℕ) (old new : List X) → IsKeptTo d places to old new → length places ≤ to → length places ≤ length old →
     take (length places) new ≡ map (λ place. get_or old place d) places
 kept-all d places to old new was done few =
@@ -68,11 +70,12 @@ kept-all d places to old new was done few =
     ∙ was.front k (omega (arith, inside, done))
     ∙ sym (get_or-map (λ place. get_or old place d) places k 0 e inside))
 
--- the rows at some places, of one word each
+-- the words are a grid whose rows, of one word each, are the rows of v at these places
 pub record IsKeptGrid (t v : Grid) (rows : List ℕ) (owed' must' : List ℕ) : Type 0 where
   pub ledger : IsGrid (grid_of t.entries t.width (length rows) owed' must')
   pub kept : grid_rows (grid_of t.entries t.width (length rows) owed' must') ≡ map (grid_row v) rows
 
+-- where the words at some places are kept, row k has the word of the row at place k
 moved-part : (width k : ℕ) (places old new : List ℕ) → width ≡ 1 → k < length places → get_or places k 0 < length old → new ≡ map (λ place. get_or old place 0) places →
     part width k new ≡ part width (get_or places k 0) old
 moved-part width k places old new one inside there is =
@@ -82,11 +85,13 @@ moved-part width k places old new one inside there is =
     ∙ ap (λ w. w ∷ []) (ap (λ l. get_or l k 0) is ∙ get_or-map (λ place. get_or old place 0) places k 0 0 inside)
     ∙ sym (ap (λ w. part w (get_or places k 0) old) one ∙ part-one old (get_or places k 0) there)
 
+-- where the words at some places are kept, they are as many as the places
 words-long : (width : ℕ) (places old new : List ℕ) → width ≡ 1 → new ≡ map (λ place. get_or old place 0) places → length new ≡ length places * width
 words-long width places old new one is =
     let once : length places ≡ length places * 1 = omega arith in
     ap length is ∙ length-map places (λ place. get_or old place 0) ∙ once ∙ ap (λ w. length places * w) (sym one)
 
+-- where the words at some places are kept, the rows are those at these places
 pub kept-words : (t v : Grid) (rows : List ℕ) (owed' must' : List ℕ) → t ≡ v → IsGrid t → t.width ≡ 1 → All (λ row. row < length (grid_rows v)) rows →
     owed' ≡ map (λ place. get_or t.owed place 0) rows → must' ≡ map (λ place. get_or t.must place 0) rows → IsKeptGrid t v rows owed' must'
 kept-words t v rows owed' must' view ledger one within owed_is must_is =

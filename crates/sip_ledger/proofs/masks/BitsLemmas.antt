@@ -1,4 +1,4 @@
--- One bit of many words.
+-- One bit of a set of numbers in words of 64 bits, and of one word.
 use Rattle.std.proofs.Common.{◌≡◌, ◌≢◌, ℕ, suc, ◌+◌, ◌-◌, ◌*◌, ◌/◌, ◌%◌, ◌^◌, ◌<◌, ◌≤◌, true, false, ◌==◌, List, length, get_or, set, bit_or, w64, refl, sym, ap, ap₂, ◌∙◌, inl, inr, arith, pow-suc, add-one}
 use Rattle.std.specs.Int.{bit_at, bit_not, trailing_zeros}
 use Rattle.std.proofs.lemmas.Bool.{cases_lt, cases_eq, true≢false}
@@ -11,7 +11,7 @@ use Rattle.sip_masks.specs.Bits.{test}
 use Rattle.sip_masks.proofs.WordLemmas.{test-shr, test-above}
 use Rattle.sip_ledger.specs.Bits.{has, IsNext}
 
--- a bit is told by its word
+-- bit k of words is the bit k % 64 of the word k / 64
 pub has-is : (words : List ℕ) (k : ℕ) → has words k ≡ test (get_or words (k / 64) 0) (k % 64)
 unfolding has
 has-is words k = refl
@@ -20,16 +20,16 @@ pub test-zero : (i : ℕ) → test 0 i ≡ false
 unfolding test
 test-zero i = ap (λ n. n == 1) (bit_at-zero i)
 
--- none is after the words
+-- no bit is set past the last word
 pub has-past : (words : List ℕ) (k : ℕ) → length words ≤ k / 64 → has words k ≡ false
 has-past words k past = has-is words k ∙ ap (λ w. test w (k % 64)) (get_or_past words (k / 64) 0 past) ∙ test-zero (k % 64)
 
--- the code's test of a bit
+-- the code's test of bit i of a word, by moving the word down and masking it, is the test of the bit
 pub test-code : (w i : ℕ) → (bit_and (w / 2 ^ i) 1 == 1) ≡ test w i
 unfolding test
 test-code w i = ap (λ n. n == 1) (shr_and_one w i)
 
--- another word at the bit's place
+-- where the word of a bit is another one, the bits of that word are those of the other one
 pub has-set_here : (words : List ℕ) (bit k w : ℕ) → bit / 64 < length words → k / 64 ≡ bit / 64 → has (set words (bit / 64) w) k ≡ test w (k % 64)
 has-set_here words bit k w within here =
     has-is (set words (bit / 64) w) k
@@ -40,7 +40,7 @@ pub has-set_there : (words : List ℕ) (bit k w : ℕ) → k / 64 ≢ bit / 64 �
 has-set_there words bit k w there =
     has-is (set words (bit / 64) w) k ∙ ap (λ x. test x (k % 64)) (get_or-set_other words (bit / 64) (k / 64) w 0 there) ∙ sym (has-is words k)
 
--- a bit that is set
+-- the word with this bit set
 abbrev pub with_bit : ℕ → ℕ → ℕ
 with_bit w i = bit_or w (1 * 2 ^ i % 2 ^ 64)
 
@@ -52,11 +52,13 @@ pub test-with_other : (w i j : ℕ) → i < 64 → j ≢ i → test (with_bit w 
 unfolding test
 test-with_other w i j low other = ap (λ n. n == 1) (bit_at_set_other w64 w i low j other)
 
+-- where a bit of words is set, it is
 pub has-with_same : (words : List ℕ) (bit : ℕ) → bit / 64 < length words →
     has (set words (bit / 64) (with_bit (get_or words (bit / 64) 0) (bit % 64))) bit ≡ true
 has-with_same words bit within =
     has-set_here words bit bit _ within refl ∙ test-with_same (get_or words (bit / 64) 0) (bit % 64) (omega arith)
 
+-- where a bit of words is set, the others stay
 pub has-with_other : (words : List ℕ) (bit k : ℕ) → bit / 64 < length words → k ≢ bit →
     has (set words (bit / 64) (with_bit (get_or words (bit / 64) 0) (bit % 64))) k ≡ has words k
 has-with_other words bit k within other =
@@ -69,7 +71,7 @@ has-with_other words bit k within other =
       | inr there ↦ has-set_there words bit k _ there
     ]
 
--- a bit that is cleared
+-- the word with this bit cleared
 abbrev pub without_bit : ℕ → ℕ → ℕ
 without_bit w i = bit_and w (bit_not w64 (1 * 2 ^ i % 2 ^ 64))
 
@@ -81,11 +83,13 @@ pub test-without_other : (w i j : ℕ) → i < 64 → j < 64 → j ≢ i → tes
 unfolding test
 test-without_other w i j low also other = ap (λ n. n == 1) (bit_at_clear_other w64 w i low j also other)
 
+-- where a bit of words is cleared, it is
 pub has-without_same : (words : List ℕ) (bit : ℕ) → bit / 64 < length words →
     has (set words (bit / 64) (without_bit (get_or words (bit / 64) 0) (bit % 64))) bit ≡ false
 has-without_same words bit within =
     has-set_here words bit bit _ within refl ∙ test-without_same (get_or words (bit / 64) 0) (bit % 64) (omega arith)
 
+-- where a bit of words is cleared, the others stay
 pub has-without_other : (words : List ℕ) (bit k : ℕ) → bit / 64 < length words → k ≢ bit →
     has (set words (bit / 64) (without_bit (get_or words (bit / 64) 0) (bit % 64))) k ≡ has words k
 has-without_other words bit k within other =
@@ -98,27 +102,28 @@ has-without_other words bit k within other =
       | inr there ↦ has-set_there words bit k _ there
     ]
 
--- the bits from a place on, in its word
+-- bit `at + j` of words is bit j of its word moved down by `at % 64`, as long as it stands in that word
 pub has-rest : (words : List ℕ) (at j : ℕ) → at % 64 + j < 64 → has words (at + j) ≡ test (get_or words (at / 64) 0 / 2 ^ (at % 64)) j
 has-rest words at j low =
     let word : (at + j) / 64 ≡ at / 64 = omega (arith, low) in
     let bit : (at + j) % 64 ≡ at % 64 + j = omega (arith, low) in
     has-is words (at + j) ∙ ap₂ (λ n i. test (get_or words n 0) i) word bit ∙ sym (test-shr (get_or words (at / 64) 0) (at % 64) j)
 
--- no bit is left in the word
+-- where the word of a place, moved down to the place, is 0, no bit from the place up to the end of the word is set
 pub has-rest_none : (words : List ℕ) (at k : ℕ) → get_or words (at / 64) 0 / 2 ^ (at % 64) ≡ 0 → at ≤ k → k < at + (64 - at % 64) → has words k ≡ false
 has-rest_none words at k none from below =
     let j = k - at in
     let is : at + j ≡ k = omega (arith, from) in
     ap (has words) (sym is) ∙ has-rest words at j (omega (arith, is, below)) ∙ ap (λ w. test w j) none ∙ test-zero j
 
+-- of a word that is not 0, the bit at its number of trailing zeros is set, and no lower one is
 pub lowest-set : (word : ℕ) → 0 < word → word < 2 ^ 64 → (trailing_zeros w64 word < 64) × (test word (trailing_zeros w64 word) ≡ true) × ((i : ℕ) → i < trailing_zeros w64 word → test word i ≡ false)
 unfolding test
 lowest-set word some small =
     let found = bit_at-trailing_zeros w64 word some small in
     (found.0, ap (λ n. n == 1) found.1, λ i below. ap (λ n. n == 1) (found.2 i below))
 
--- a set bit of what is left of a word is one of the word
+-- a bit that is set in what is left of a word lies within the word
 rest-fits : (w r j : ℕ) → w < 2 ^ 64 → test (w / 2 ^ r) j ≡ true → r + j < 64
 rest-fits w r j small is =
     elim (cases_lt (r + j) 64) [
@@ -126,7 +131,7 @@ rest-fits w r j small is =
       | inr high ↦ absurd (true≢false (sym is ∙ test-shr w r j ∙ test-above w (r + j) small high))
     ]
 
--- the lowest bit that is left is the next one
+-- where the word of a place, moved down to the place, is not 0, its lowest bit is the next one that is set
 pub next-here : (words : List ℕ) (at : ℕ) → get_or words (at / 64) 0 < 2 ^ 64 → 0 < get_or words (at / 64) 0 / 2 ^ (at % 64) →
     get_or words (at / 64) 0 / 2 ^ (at % 64) < 2 ^ 64 → IsNext words at (at + trailing_zeros w64 (get_or words (at / 64) 0 / 2 ^ (at % 64)))
 next-here words at small some rest_small =
@@ -143,7 +148,7 @@ next-here words at small some rest_small =
           ap (has words) (sym is) ∙ has-rest words at (k - at) (omega (arith, is, below, low)) ∙ found.2 (k - at) (omega (arith, is, below));
     }
 
--- the highest bit of a word
+-- a word from 2 ^ r up to below 2 ^ (r + 1) has bit r set
 pub top-set : (w r : ℕ) → 2 ^ r ≤ w → w < 2 * 2 ^ r → test w r ≡ true
 unfolding test
 top-set w r low high =
@@ -153,6 +158,7 @@ top-set w r low high =
     let one : w / 2 ^ r ≡ 1 = omega (arith, above, below) in
     ap (λ n. n % 2 == 1) one
 
+-- a word below 2 ^ (r + 1) has no bit above r set
 pub top-above : (w r i : ℕ) → w < 2 * 2 ^ r → r < i → test w i ≡ false
 unfolding test
 top-above w r i high above =
@@ -160,28 +166,31 @@ top-above w r i high above =
     let more : 2 * 2 ^ r ≡ 2 ^ (r + 1) = omega (arith, pow-suc 2 r, next) in
     ap (λ n. n == 1) (bit_at_above w (r + 1) i (omega (arith, high, more)) (omega (arith, above)))
 
--- words with the same bits are the same
+-- two bits that are tested alike are the same
 from_test : (a b : ℕ) → a < 2 → b < 2 → (a == 1) ≡ (b == 1) → a ≡ b
 from_test a b a_small b_small e = grind (arith, nat_tests)
 
+-- two words of 64 bits with the same bits are the same
 same_word : (a b : ℕ) → a < 2 ^ 64 → b < 2 ^ 64 → ((i : ℕ) → i < 64 → test a i ≡ test b i) → a ≡ b
 unfolding test
 same_word a b a_small b_small agree =
     same_from_bits_below 64 a b a_small b_small (λ i low. from_test (bit_at a i) (bit_at b i) (bit_at-lt a i) (bit_at-lt b i) (agree i low))
 
+-- bit 64 n + i of words is bit i of word n
 pub test-of : (words : List ℕ) (n i : ℕ) → i < 64 → has words (64 * n + i) ≡ test (get_or words n 0) i
 test-of words n i low =
     let word : (64 * n + i) / 64 ≡ n = omega (arith, low) in
     let bit : (64 * n + i) % 64 ≡ i = omega (arith, low) in
     has-is words (64 * n + i) ∙ ap₂ (λ m j. test (get_or words m 0) j) word bit
 
+-- two lists of as many words of 64 bits that have the same bits are the same
 pub same-from_bits : (xs ys : List ℕ) → length xs ≡ length ys → ((k : ℕ) → get_or xs k 0 < 2 ^ 64) → ((k : ℕ) → get_or ys k 0 < 2 ^ 64) →
     ((k : ℕ) → has xs k ≡ has ys k) → xs ≡ ys
 same-from_bits xs ys long x_small y_small agree =
     ext_get_or 0 xs ys long (λ n below. same_word (get_or xs n 0) (get_or ys n 0) (x_small n) (y_small n)
     (λ i low. sym (test-of xs n i low) ∙ agree (64 * n + i) ∙ test-of ys n i low))
 
--- a word of 0 has no bit
+-- a word that is 0 has no bit set
 pub has-zero_word : (words : List ℕ) (n k : ℕ) → get_or words n 0 ≡ 0 → 64 * n ≤ k → k < 64 * n + 64 → has words k ≡ false
 has-zero_word words n k none from below =
     let is : 64 * n + (k - 64 * n) ≡ k = omega (arith, from) in

@@ -24,7 +24,7 @@ use Rattle.sip_ledger.proofs.grids.RowLemmas.{expired-debts}
 use Rattle.sip_ledger.proofs.masks.WordLemmas.{has-one, one-low, word-part}
 use Rattle.sip_ledger.proofs.masks.WordRowLemmas.{row-in_word, word-row}
 
--- a bit of a word that is turned
+-- a bit that is subtracted from 1 is turned
 turned : (n : ℕ) → n < 2 → (1 - n == 1) ≡ not (n == 1)
 turned n small = grind (arith, nat_tests)
 
@@ -40,6 +40,7 @@ module _ (t : ℕ) (entries : List Entry) (bits owed must : ℕ) (small : bits <
   abbrev left : ℕ
   left = bit_and owed (bit_or must (bit_not w64 bits))
 
+  -- a bit stays where it is owed, and where it must be sent or is not past
   left-low : (k : ℕ) → k < 64 → has (left ∷ []) k ≡ (test owed k && (test must k || not (test bits k)))
   left-low k low =
       has-one left k low ∙ test-and owed (bit_or must (bit_not w64 bits)) k
@@ -49,12 +50,13 @@ module _ (t : ℕ) (entries : List Entry) (bits owed must : ℕ) (small : bits <
   left-of true b is = refl
   left-of false b is = is
 
-  -- what is left was there
+  -- each bit that is left was set before
   left-was : (k : ℕ) → has (left ∷ []) k ≡ true → has (owed ∷ []) k ≡ true
   left-was k set =
       let low = one-low left k set in
       has-one owed k low ∙ left-of (test owed k) (test must k || not (test bits k)) (sym (left-low k low) ∙ set)
 
+  -- the bits that are left are the row once what is past was dropped from it
   left-expired : IsExpired t entries (has (must ∷ [])) (has (owed ∷ [])) (has (left ∷ []))
   left-expired = record {
     kept = λ k e inside. elim (cases_lt k 64) [
@@ -71,6 +73,7 @@ module _ (t : ℕ) (entries : List Entry) (bits owed must : ℕ) (small : bits <
         ∙ sym (false_from_ne_true (has (owed ∷ []) k) (λ set. absurd (omega (arith, row.within k set, over))));
   }
 
+  -- where no two entries are equal, what is left of a row is a row
   left-row : AreDistinct entries → IsRow entries (has (left ∷ [])) (has (must ∷ []))
   left-row distinct = record {
     within = λ k set. row.within k (left-was k set);
@@ -82,12 +85,12 @@ module _ (t : ℕ) (entries : List Entry) (bits owed must : ℕ) (small : bits <
     leftmost = λ i k e before set gap. distinct i k e before (row.within k (left-was k set));
   }
 
--- the words of all rows, of which those from one on have lost what expired
+-- the grid with the new words is one, and each of its rows from `from` on owes what counts at t of what it owed
 pub record AreExpired (t : ℕ) (g : Grid) (from : ℕ) (owed' : List ℕ) : Type 0 where
   pub ledger : IsGrid (grid_of g.entries g.width g.rows owed' g.must)
   pub rows : grid_rows (grid_of g.entries g.width g.rows owed' g.must) ≡ take from (grid_rows g) ++ map (filter (counts_at t)) (drop from (grid_rows g))
 
--- one of them
+-- over these entries the words are those of a row, and it owes these debts
 record IsRowExpired (entries : List Entry) (owed must : List ℕ) (owes : List Debt) : Type 0 where
   row : IsRow entries (has owed) (has must)
   debts : row_debts entries owed must ≡ owes
@@ -95,6 +98,7 @@ record IsRowExpired (entries : List Entry) (owed must : List ℕ) (owes : List D
 word-of : (width k : ℕ) (words : List ℕ) → width ≡ 1 → k < length words → part width k words ≡ get_or words k 0 ∷ []
 word-of width k words one inside = word-part width k 0 (get_or words k 0) words one inside refl
 
+-- a row before `from` owes what it did
 row-kept : (g : Grid) (from kept : ℕ) (owed' : List ℕ) (k : ℕ) → IsGrid g → g.width ≡ 1 → AreKept from kept g.owed g.must owed' → k < from → k < g.rows →
     IsRowExpired g.entries (part g.width k owed') (part g.width k g.must) (row_in g k)
 row-kept g from kept owed' k ledger one taken early inside =
@@ -107,6 +111,7 @@ row-kept g from kept owed' k ledger one taken early inside =
       debts = ap (λ o. row_debts g.entries o (part g.width k g.must)) own;
     }
 
+-- a row from `from` on owes what counts at t of what it owed
 row-expired : (t : ℕ) (g : Grid) (from bits : ℕ) (owed' : List ℕ) (k : ℕ) → IsGrid g → g.width ≡ 1 → AreDistinct g.entries →
     IsMask (asked_of None t) g.entries (length g.entries) bits → bits < 2 ^ 64 → AreKept from (bit_not w64 bits) g.owed g.must owed' → from ≤ k → k < g.rows →
     IsRowExpired g.entries (part g.width k owed') (part g.width k g.must) (filter (counts_at t) (row_in g k))
@@ -130,6 +135,7 @@ row-expired t g from bits owed' k ledger one distinct mask small taken above ins
           ∙ ap (filter (counts_at t)) (ap₂ (row_debts g.entries) (sym was) (sym was_must));
     }
 
+-- where each word from `from` on has lost the bits that are past and need not be sent, each row from there on has lost what expired
 pub expires-all : (t : ℕ) (g : Grid) (from bits : ℕ) (owed' : List ℕ) → IsGrid g → g.width ≡ 1 → AreDistinct g.entries →
     IsMask (asked_of None t) g.entries (length g.entries) bits → bits < 2 ^ 64 → AreKept from (bit_not w64 bits) g.owed g.must owed' → AreExpired t g from owed'
 expires-all t g from bits owed' ledger one distinct mask small taken =

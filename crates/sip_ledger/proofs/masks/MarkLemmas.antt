@@ -1,4 +1,4 @@
--- What masks tell of rows of one word.
+-- What masks over the entries tell of rows of one word.
 use Rattle.std.proofs.Common.{◌≡◌, ℕ, ◌+◌, ◌*◌, ◌^◌, ◌<◌, ◌≤◌, Bool, true, false, ◌&&◌, ◌||◌, ◌==◌, List, [], ◌∷◌, ◌++◌, ◌⊎◌, length, get_or, map, filter, min, cond, append-nil, append_assoc, w64, refl, sym, ap, ap₂, ◌∙◌, subst, inl, inr, arith}
 use Rattle.std.specs.Prelude.{Option, None, Some, not, nat_le, nat_lt}
 use Rattle.std.specs.List.{fold, list_any}
@@ -33,7 +33,7 @@ use Rattle.sip_ledger.proofs.lists.EachLemmas.{from_to-end, passing-more, passin
 pub some-bits : (n : ℕ) → (n == 0) ≡ false → 0 < n
 some-bits n e = grind (arith, nat_tests)
 
--- one of the debts at a word's bits passes the test that a mask tells, if they share a bit
+-- one of the debts at a word's bits passes the test that a mask tells exactly if the word and the mask share a bit
 pub any-word : (asks : Debt → Bool) (entries : List Entry) (bits w : ℕ) (m : ℕ → Bool) → w < 2 ^ 64 → AsksNoMust asks → IsMask asks entries (length entries) bits →
     ((k : ℕ) → has (w ∷ []) k ≡ true → k < length entries) → list_any asks (debts_from (has (w ∷ [])) m 0 entries) ≡ not (bit_and w bits == 0)
 any-word asks entries bits w m small free mask within =
@@ -54,14 +54,14 @@ any-word asks entries bits w m small free mask within =
           ∙ ap not (sym some)
     ]
 
--- the least of two moments is past where one of them is
+-- the least of two moments is before t exactly if one of them is
 min-past : (x y t : ℕ) (a : Bool) → (nat_lt (min x y) t || a) ≡ (nat_lt x t || (nat_lt y t || a))
 min-past x y t a = grind (arith, nat_tests)
 
 within-none : (x t : ℕ) → nat_le t x ≡ not (nat_lt x t || false)
 within-none x t = grind (arith, nat_tests)
 
--- the least of moments is not past where none of them is
+-- the least of moments is not before t exactly if none of them is
 pub none-past : (t x : ℕ) (xs : List ℕ) → nat_le t (fold min x xs) ≡ not (list_any (λ d. nat_lt d t) (x ∷ xs))
 none-past t x [] = within-none x t
 none-past t x (y ∷ ys) = none-past t (min x y) ys ∙ ap not (min-past x y t (list_any (λ d. nat_lt d t) ys))
@@ -78,7 +78,7 @@ not-not : (b : Bool) → not (not b) ≡ b
 not-not true = refl
 not-not false = refl
 
--- a mask of what is past tells which rows are timely
+-- the mask of what is past at t tells which rows are timely
 pub timely-told : (t : ℕ) (entries : List Entry) (bits : ℕ) → IsMask (asked_of None t) entries (length entries) bits → IsTold entries (is_timely t) None bits
 timely-told t entries bits mask = record {
   tells = λ owed must _ small row.
@@ -89,7 +89,7 @@ timely-told t entries bits mask = record {
       ∙ not-not (bit_and must bits == 0);
 }
 
--- a mask of the entries that a message pays tells of each row whether it has such a debt
+-- the mask of the entries that a message pays tells which rows have such a debt, and that of what is past which are timely
 pub payable-told : (message t : ℕ) (entries : List Entry) (bits past : ℕ) → IsMask (is_payable message t) entries (length entries) bits →
     IsMask (asked_of None t) entries (length entries) past → IsTold entries (λ owes. list_any (is_payable message t) owes && is_timely t owes) (Some bits) past
 payable-told message t entries bits past mask past_mask = record {
@@ -98,7 +98,7 @@ payable-told message t entries bits past mask past_mask = record {
       ((timely-told t entries past past_mask).tells owed must owed_small must_small row);
 }
 
--- a copy of one of the rows is put
+-- where a copy of the words of one of the rows is put after the words, the grid is one
 pub put-ledger : (entries : List Entry) (k : ℕ) (owed must : List ℕ) (word due : ℕ) → IsGrid (grid_of entries 1 (length owed) owed must) → k < length owed →
     word ≡ get_or owed k 0 → due ≡ get_or must k 0 → IsGrid (grid_of entries 1 (length (owed ++ word ∷ [])) (owed ++ word ∷ []) (must ++ due ∷ []))
 put-ledger entries k owed must word due ledger inside word_is due_is =
@@ -109,18 +109,19 @@ put-ledger entries k owed must word due ledger inside word_is due_is =
     let row = word-row entries 1 k word due owed must own own_must (ledger.each k inside) in
     subst (λ n. IsGrid (grid_of entries 1 n (owed ++ word ∷ []) (must ++ due ∷ []))) (sym (length_push owed word)) (pushed-row t (word ∷ []) (due ∷ []) ledger refl refl row).ledger
 
--- a ledger of which one word has all entries
+-- a grid of which one word has all entries has one word for each row
 pub word-grid : (t : Grid) → t.width ≡ 1 → IsGrid t → t ≡ grid_of t.entries 1 (length t.owed) t.owed t.must
 word-grid t one ledger =
     let rows : t.rows ≡ length t.owed = sym (ledger.owed_long ∙ ap (λ w. t.rows * w) one ∙ (let once : t.rows * 1 ≡ t.rows = omega arith in once)) in
     ap₂ (λ w r. grid_of t.entries w r t.owed t.must) one rows
 
--- the next of the rows
+-- the words of row k are these two, which are a row, and whether it passes is told by the masks
 record IsNextRow (entries : List Entry) (goes : List Debt → Bool) (wanted : Option ℕ) (barred k : ℕ) (owed must : List ℕ) (word due : ℕ) : Type 0 where
   row : IsRow entries (has (word ∷ [])) (has (due ∷ []))
   is : get_or (word_rows entries owed must) k [] ≡ row_debts entries (word ∷ []) (due ∷ [])
   passes : goes (row_debts entries (word ∷ []) (due ∷ [])) ≡ is_marked wanted barred word due
 
+-- while rows are put, the words at k are those of row k of the old grid
 next-row : (entries : List Entry) (goes : List Debt → Bool) (wanted : Option ℕ) (barred from k : ℕ) (owed must owed' must' : List ℕ) (word due : ℕ) →
     IsTold entries goes wanted barred → ArePut entries goes from k owed must owed' must' → IsGrid (grid_of entries 1 (length owed) owed must) →
     k < length owed → word < 2 ^ 64 → due < 2 ^ 64 → word ≡ get_or owed' k 0 → due ≡ get_or must' k 0 → IsNextRow entries goes wanted barred k owed must word due
@@ -145,7 +146,7 @@ next-row entries goes wanted barred from k owed must owed' must' word due told w
       passes = told.tells word due word_small due_small row;
     }
 
--- the next row is put
+-- where the masks mark row k, and its copy is put, those of the rows up to k + 1 that pass are put
 pub put-with : (entries : List Entry) (goes : List Debt → Bool) (wanted : Option ℕ) (barred from k : ℕ) (owed must owed' must' : List ℕ) (word due : ℕ) →
     IsTold entries goes wanted barred → ArePut entries goes from k owed must owed' must' → IsGrid (grid_of entries 1 (length owed) owed must) →
     from ≤ k → k < length owed → word < 2 ^ 64 → due < 2 ^ 64 → word ≡ get_or owed' k 0 → due ≡ get_or must' k 0 → is_marked wanted barred word due ≡ true →
@@ -171,7 +172,7 @@ put-with entries goes wanted barred from k owed must owed' must' word due told w
           ∙ ap (λ l. rows ++ l) (sym passing);
     }
 
--- the next row is left out
+-- where the masks do not mark row k, and nothing is put, those of the rows up to k + 1 that pass are put
 pub put-without : (entries : List Entry) (goes : List Debt → Bool) (wanted : Option ℕ) (barred from k : ℕ) (owed must owed' must' : List ℕ) (word due : ℕ) →
     IsTold entries goes wanted barred → ArePut entries goes from k owed must owed' must' → IsGrid (grid_of entries 1 (length owed) owed must) →
     from ≤ k → k < length owed → word < 2 ^ 64 → due < 2 ^ 64 → word ≡ get_or owed' k 0 → due ≡ get_or must' k 0 → is_marked wanted barred word due ≡ false →
@@ -187,14 +188,14 @@ put-without entries goes wanted barred from k owed must owed' must' word due tol
     ∙ append-nil (filter goes (from_to from k rows)) in
     record { ledger = was.ledger; rows = was.rows ∙ ap (λ l. rows ++ l) (sym passing) }
 
--- up to the same place
+-- where the loop ended at k, which is `to`, or `from` where that is after `to`, those of the rows up to `to` that pass are put
 pub put-end : (entries : List Entry) (goes : List Debt → Bool) (from to k : ℕ) (owed must owed' must' : List ℕ) → ArePut entries goes from k owed must owed' must' →
     from ≤ k → to ≤ k → k ≤ to ⊎ k ≤ from → ArePut entries goes from to owed must owed' must'
 put-end entries goes from to k owed must owed' must' was order past end =
     let rows = word_rows entries owed must in
     record { ledger = was.ledger; rows = was.rows ∙ ap (λ l. rows ++ filter goes l) (from_to-end from to k rows order past end) }
 
--- the print of a row of one word
+-- the print of a row of one word is made of its two words
 pub word-print : (t v : Grid) (row : ℕ) → t ≡ v → t.width ≡ 1 → IsGrid t → row < t.rows → mixed (mixed 0 (get_or t.owed row 0)) (get_or t.must row 0) ≡ grid_print v row
 word-print t v row view one ledger inside =
     let places = row-in_word t row ledger one inside in

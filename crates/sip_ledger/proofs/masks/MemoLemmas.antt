@@ -1,4 +1,4 @@
--- What is kept of entries, with an entry more or some fewer.
+-- What is kept of a question to the entries, with an entry more or some fewer.
 use Rattle.std.proofs.Common.{◌≡◌, ◌≢◌, ℕ, ◌+◌, ◌-◌, ◌<◌, ◌≤◌, Bool, true, false, List, [], ◌∷◌, ◌++◌, length, drop, get_or, sym, ap, ◌∙◌, inl, inr, arith}
 use Rattle.std.proofs.lemmas.Bool.{cases_lt, cases_eq}
 use Rattle.std.proofs.lemmas.List.{get_or_append_left, get_or_push, get_or-drop, get_or_default, length-drop, length_push}
@@ -14,7 +14,7 @@ use Rattle.sip_ledger.proofs.debts.ListedLemmas.{no_entry}
 pub mask-none : (asks : Debt → Bool) (entries : List Entry) → IsMask asks entries 0 0
 mask-none asks entries = record { within = omega arith; tells = λ k e below. absurd (omega (arith, below)); clear = λ k _. test-zero k }
 
--- an entry more is looked at
+-- where the next entry passes the test, the mask with its bit set has looked at it as well
 pub mask-with : (asks : Debt → Bool) (entries : List Entry) (at bits : ℕ) → IsMask asks entries at bits → at < length entries → at < 64 →
     asks (debt_of (get_or entries at no_entry) true) ≡ true → IsMask asks entries (at + 1) (with_bit bits at)
 mask-with asks entries at bits mask inside low passes = record {
@@ -30,6 +30,7 @@ mask-with asks entries at bits mask inside low passes = record {
       test-with_other bits at k low other ∙ mask.clear k (omega (arith, above));
 }
 
+-- where the next entry does not pass the test, the mask as it is has looked at it as well
 pub mask-without : (asks : Debt → Bool) (entries : List Entry) (at bits : ℕ) → IsMask asks entries at bits → at < length entries →
     asks (debt_of (get_or entries at no_entry) true) ≡ false → IsMask asks entries (at + 1) bits
 mask-without asks entries at bits mask inside fails = record {
@@ -43,7 +44,7 @@ mask-without asks entries at bits mask inside fails = record {
   clear = λ k above. mask.clear k (omega (arith, above));
 }
 
--- an entry more is there
+-- a mask of some entries is one of them and a further entry, at which it has not looked
 pub mask-grown : (asks : Debt → Bool) (entries : List Entry) (entry : Entry) (looked bits : ℕ) → IsMask asks entries looked bits → IsMask asks (entries ++ entry ∷ []) looked bits
 mask-grown asks entries entry looked bits mask =
     let within = mask.within in
@@ -53,6 +54,7 @@ mask-grown asks entries entry looked bits mask =
       clear = mask.clear;
     }
 
+-- where deadlines never fall, and that of a further entry is not before the last, those with it never fall
 pub rising-push : (entries : List Entry) (entry : Entry) → AreRising entries → ((e : Entry) → 0 < length entries → (get_or entries (length entries - 1) e).deadline ≤ entry.deadline) →
     AreRising (entries ++ entry ∷ [])
 rising-push entries entry rises last i k e order below =
@@ -77,6 +79,7 @@ rising-push entries entry rises last i k e order below =
           ]
     ]
 
+-- where deadlines never fall, those without the first ones never do
 pub rising-drop : (entries : List Entry) (n : ℕ) → AreRising entries → AreRising (drop n entries)
 rising-drop entries n rises i k e order below =
     let one = ap (λ (x : Entry). x.deadline) (get_or-drop n entries i e) in

@@ -26,10 +26,11 @@ use Rattle.sip_ledger.proofs.grids.RowLemmas.{removed, none-passes}
 use Rattle.sip_ledger.proofs.masks.WordLemmas.{has-one, none-in, none-of_word, word-part}
 use Rattle.sip_ledger.proofs.masks.WordRowLemmas.{row-in_word, word-row}
 
--- a word without one of its bits
+-- the word without a bit does not have it
 gone : (w at : ℕ) → at < 64 → has (without_bit w at ∷ []) at ≡ false
 gone w at low = has-one (without_bit w at) at low ∙ test-without_same w at low
 
+-- the word without a bit has its other bits
 kept : (w at k : ℕ) → at < 64 → k ≢ at → has (without_bit w at ∷ []) k ≡ has (w ∷ []) k
 kept w at k low other =
     elim (cases_lt k 64) [
@@ -37,14 +38,14 @@ kept w at k low other =
       | inr past ↦ has-past (without_bit w at ∷ []) k (omega (arith, past)) ∙ sym (has-past (w ∷ []) k (omega (arith, past)))
     ]
 
--- a pair of words that has paid
+-- the new words are those of a row, and it owes what is left of the old one after a send of the message at t
 pub record IsWordPaid (message t : ℕ) (entries : List Entry) (owed must owed' must' : ℕ) : Type 0 where
   pub row : IsRow entries (has (owed' ∷ [])) (has (must' ∷ []))
   pub debts : row_debts entries (owed' ∷ []) (must' ∷ []) ≡ paid_by message t (row_debts entries (owed ∷ []) (must ∷ []))
 
 module _ (message t : ℕ) (entries : List Entry) (bits owed must : ℕ) (mask : IsMask (is_payable message t) entries (length entries) bits)
     (row : IsRow entries (has (owed ∷ [])) (has (must ∷ []))) where
-  -- no bit is shared
+  -- where a word and the mask of the payable entries share no bit, a send changes nothing
   paid-none : bit_and owed bits ≡ 0 → IsWordPaid message t entries owed must owed must
   paid-none zero =
       let none = none-passes (is_payable message t) entries (has (owed ∷ [])) (has (must ∷ [])) (λ e b. refl)
@@ -53,7 +54,7 @@ module _ (message t : ℕ) (entries : List Entry) (bits owed must : ℕ) (mask :
       All-weaker (λ d. is_payable message t d ≡ false) (λ d. ¬ (IsTrue (is_payable message t d))) (λ d off on. true≢false (sym on ∙ off)) (row_debts entries (owed ∷ []) (must ∷ [])) none in
       record { row = row; debts = sym (unpaid-is message t (row_debts entries (owed ∷ []) (must ∷ [])) unpaid) }
 
-  -- the first of the shared bits goes
+  -- where a word and the mask of the payable entries share a bit, the first one that they share is cleared
   paid-first : AreDistinct entries → (bit_and owed bits == 0) ≡ false → bit_and owed bits < 2 ^ 64 →
       IsWordPaid message t entries owed must (first_taken (bit_and owed bits) owed) (first_taken (bit_and owed bits) must)
   paid-first distinct some small =
@@ -89,6 +90,7 @@ module _ (message t : ℕ) (entries : List Entry) (bits owed must : ℕ) (mask :
       subst (λ o. IsWordPaid message t entries owed must o (first_taken both must)) (sym (ap (λ b. cond b owed (without_bit owed at)) some))
       (subst (λ m. IsWordPaid message t entries owed must (without_bit owed at) m) (sym (ap (λ b. cond b must (without_bit must at)) some)) paid)
 
+  -- in each case the words without the first bit that they share with the mask are those of the row after a send
   paid-word : AreDistinct entries → bits < 2 ^ 64 → IsWordPaid message t entries owed must (first_taken (bit_and owed bits) owed) (first_taken (bit_and owed bits) must)
   paid-word distinct small =
       let both = bit_and owed bits in
@@ -100,12 +102,12 @@ module _ (message t : ℕ) (entries : List Entry) (bits owed must : ℕ) (mask :
         | inr some ↦ paid-first distinct some (omega (arith, small, and_le_r owed bits))
       ]
 
--- the words of all rows, of which those from one on pay
+-- the grid with the new words is one, and each of its rows from `from` on owes what is left after a send of the message at t
 pub record ArePaid (message t : ℕ) (g : Grid) (from : ℕ) (owed' must' : List ℕ) : Type 0 where
   pub ledger : IsGrid (grid_of g.entries g.width g.rows owed' must')
   pub rows : grid_rows (grid_of g.entries g.width g.rows owed' must') ≡ take from (grid_rows g) ++ map (paid_by message t) (drop from (grid_rows g))
 
--- one of them
+-- over these entries the words are those of a row, and it owes these debts
 record IsRowPaid (entries : List Entry) (owed must : List ℕ) (owes : List Debt) : Type 0 where
   row : IsRow entries (has owed) (has must)
   debts : row_debts entries owed must ≡ owes
@@ -113,6 +115,7 @@ record IsRowPaid (entries : List Entry) (owed must : List ℕ) (owes : List Debt
 word-of : (width k : ℕ) (words : List ℕ) → width ≡ 1 → k < length words → part width k words ≡ get_or words k 0 ∷ []
 word-of width k words one inside = word-part width k 0 (get_or words k 0) words one inside refl
 
+-- a row before `from` owes what it did
 row-kept : (g : Grid) (from bits : ℕ) (owed' must' : List ℕ) (k : ℕ) → IsGrid g → g.width ≡ 1 → AreFirstsTaken from bits g.owed g.must owed' must' → k < from → k < g.rows →
     IsRowPaid g.entries (part g.width k owed') (part g.width k must') (row_in g k)
 row-kept g from bits owed' must' k ledger one taken early inside =
@@ -131,6 +134,7 @@ row-kept g from bits owed' must' k ledger one taken early inside =
       debts = ap₂ (row_debts g.entries) own own_must;
     }
 
+-- a row from `from` on owes what is left after a send of the message at t
 row-paid : (message t : ℕ) (g : Grid) (from bits : ℕ) (owed' must' : List ℕ) (k : ℕ) → IsGrid g → g.width ≡ 1 → AreDistinct g.entries →
     IsMask (is_payable message t) g.entries (length g.entries) bits → bits < 2 ^ 64 → AreFirstsTaken from bits g.owed g.must owed' must' → from ≤ k → k < g.rows →
     IsRowPaid g.entries (part g.width k owed') (part g.width k must') (paid_by message t (row_in g k))
@@ -155,6 +159,7 @@ row-paid message t g from bits owed' must' k ledger one distinct mask small take
       debts = ap₂ (row_debts g.entries) own own_must ∙ paid.debts ∙ ap (paid_by message t) (ap₂ (row_debts g.entries) (sym was) (sym was_must));
     }
 
+-- where each pair of words from `from` on is without the first bit that it shares with the mask, each row from there on has paid
 pub pays-all : (message t : ℕ) (g : Grid) (from bits : ℕ) (owed' must' : List ℕ) → IsGrid g → g.width ≡ 1 → AreDistinct g.entries →
     IsMask (is_payable message t) g.entries (length g.entries) bits → bits < 2 ^ 64 → AreFirstsTaken from bits g.owed g.must owed' must' → ArePaid message t g from owed' must'
 pays-all message t g from bits owed' must' ledger one distinct mask small taken =

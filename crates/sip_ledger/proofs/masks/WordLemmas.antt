@@ -1,4 +1,4 @@
--- One word by itself, and masks over it.
+-- A set of bits in one word, and masks over it.
 use Rattle.std.proofs.Common.{◌≡◌, ℕ, ◌+◌, ◌-◌, ◌*◌, ◌/◌, ◌%◌, ◌^◌, ◌<◌, ◌≤◌, Bool, true, false, ◌&&◌, ◌||◌, ◌==◌, List, [], ◌∷◌, length, take, drop, get_or, filter, w64, refl, sym, ap, ap₂, ◌∙◌, subst, inl, inr, arith}
 use Rattle.std.specs.Prelude.{None, nat_le}
 use Rattle.std.specs.Int.{bit_at, bit_not, trailing_zeros}
@@ -23,25 +23,28 @@ use Rattle.sip_ledger.specs.declared.row.FoundBit.{FoundBit}
 use Rattle.sip_ledger.proofs.masks.BitsLemmas.{has-is, has-past, test-zero, lowest-set}
 use Rattle.sip_ledger.proofs.debts.ListedLemmas.{listed-counting}
 
+-- bit k of one word as a set is bit k of the word
 pub has-one : (w k : ℕ) → k < 64 → has (w ∷ []) k ≡ test w k
 has-one w k low =
     let word : k / 64 ≡ 0 = omega (arith, low) in
     let bit : k % 64 ≡ k = omega (arith, low) in
     has-is (w ∷ []) k ∙ ap₂ (λ n i. test (get_or (w ∷ []) n 0) i) word bit
 
+-- a set of one word has bits below 64 alone
 pub one-low : (w k : ℕ) → has (w ∷ []) k ≡ true → k < 64
 one-low w k set = elim (cases_lt k 64) [
   | inl low ↦ low
   | inr high ↦ absurd (true≢false (sym set ∙ has-past (w ∷ []) k (omega (arith, high))))
 ]
 
--- the bits of a word below a place
+-- the word whose bits are those below this place
 abbrev below : ℕ → ℕ
 below at = 1 * 2 ^ at % 2 ^ 64 - 1
 
 below-is : (at : ℕ) → at < 64 → below at ≡ 2 ^ at - 1
 below-is at low = let small : 2 ^ at < 2 ^ 64 = pow_below at 64 low in let same : 1 * 2 ^ at % 2 ^ 64 ≡ 2 ^ at = omega (arith, small) in ap (λ n. n - 1) same
 
+-- a word with its bits below a place alone has those bits
 test-below : (w at k : ℕ) → at < 64 → k < at → test (bit_and w (below at)) k ≡ test w k
 unfolding test
 test-below w at k low under =
@@ -52,13 +55,14 @@ test-below w at k low under =
     and-true true = refl
     and-true false = refl
 
+-- a word with its bits below a place alone has no bit from the place on
 test-not_below : (w at k : ℕ) → at < 64 → at ≤ k → test (bit_and w (below at)) k ≡ false
 unfolding test
 test-not_below w at k low above =
     let mask : test (below at) k ≡ false = ap (λ n. test n k) (below-is at low) ∙ ap (λ n. n == 1) (bit_at_ones_above at k above) in
     test-and w (below at) k ∙ and_right (test w k) (test (below at) k) mask
 
--- the lowest bit that a word and a mask both have
+-- the lowest bit that a word and a mask share is the first bit of the word that the mask has; `low` is 0 or one past the bit before it
 pub first-in : (owed bits low : ℕ) → 0 < bit_and owed bits → bit_and owed bits < 2 ^ 64 →
     NoneFrom (bit_and owed (below (trailing_zeros w64 (bit_and owed bits))) ∷ []) low →
     (0 < low → has (bit_and owed (below (trailing_zeros w64 (bit_and owed bits))) ∷ []) (low - 1) ≡ true) →
@@ -92,13 +96,14 @@ first-in owed bits low some small none last =
           true≢false (sym (and_from (test owed k) (test bits k) (sym (has-one owed k (omega (arith, less, found.0))) ∙ set) marked) ∙ sym (test-and owed bits k) ∙ found.2 k less));
     }
 
+-- where a word and a mask share no bit, the mask has none of the bits of the word
 pub none-in : (owed bits : ℕ) → bit_and owed bits ≡ 0 → (k : ℕ) → has (owed ∷ []) k ≡ true → test bits k ≡ false
 none-in owed bits zero k set =
     let low = one-low owed k set in
     false_from_ne_true (test bits k) (λ marked.
     true≢false (sym (and_from (test owed k) (test bits k) (sym (has-one owed k low) ∙ set) marked) ∙ sym (test-and owed bits k) ∙ ap (λ w. test w k) zero ∙ test-zero k))
 
--- what a mask tells of a row of one word
+-- where a mask tells a test, the first bit of a row of one word that it has is the first one whose debt passes
 pub first-of_word : (asks : Debt → Bool) (entries : List Entry) (bits w : ℕ) (place : FoundBit) → IsMask asks entries (length entries) bits →
     ((k : ℕ) → has (w ∷ []) k ≡ true → k < length entries) → IsFirstIn w bits place → IsFirst asks entries (has (w ∷ [])) place
 first-of_word asks entries bits w place mask within first = record {
@@ -111,13 +116,13 @@ pub none-of_word : (asks : Debt → Bool) (entries : List Entry) (bits w : ℕ) 
     ((k : ℕ) → has (w ∷ []) k ≡ true → k < length entries) → ((k : ℕ) → has (w ∷ []) k ≡ true → test bits k ≡ false) → NonePasses asks entries (has (w ∷ []))
 none-of_word asks entries bits w mask within none k e set = sym (mask.tells k e (within k set)) ∙ none k set
 
--- a row of one word
+-- in a row of one word, the words of a row are its word
 pub part-one : (words : List ℕ) (row : ℕ) → row < length words → part 1 row words ≡ get_or words row 0 ∷ []
 part-one words row inside =
     let one : row * 1 ≡ row = omega arith in
     ap (λ n. take 1 (drop n words)) one ∙ ap (take 1) (drop_more words row 0 inside)
 
--- what is past and owed has to be paid
+-- where each bit that is past and owed must be sent, a bit that is owed and in the mask is in `must`
 fresh-bit : (owed bits must k : ℕ) → must < 2 ^ 64 → bit_and (bit_and owed bits) (bit_not w64 must) ≡ 0 → k < 64 → test owed k ≡ true → test bits k ≡ true → test must k ≡ true
 unfolding test
 fresh-bit owed bits must k small zero low is marked =
@@ -131,6 +136,7 @@ fresh-bit owed bits must k small zero low is marked =
     turned : (n : ℕ) → n < 2 → (n == 1) ≡ false → (1 - n == 1) ≡ true
     turned n small e = grind (arith, nat_tests)
 
+-- where each bit that is past and owed must be sent, all debts of the row count at t
 pub fresh-word : (t : ℕ) (entries : List Entry) (owed bits must : ℕ) → must < 2 ^ 64 → IsMask (asked_of None t) entries (length entries) bits →
     ((k : ℕ) → has (owed ∷ []) k ≡ true → k < length entries) → bit_and (bit_and owed bits) (bit_not w64 must) ≡ 0 →
     filter (counts_at t) (debts_from (has (owed ∷ [])) (has (must ∷ [])) 0 entries) ≡ debts_from (has (owed ∷ [])) (has (must ∷ [])) 0 entries
@@ -155,7 +161,7 @@ fresh-word t entries owed bits must small mask within zero =
     kept true b then = sym (then refl)
     kept false b then = refl
 
--- where no entry is past, every debt counts
+-- where the mask of what is past at t has no bit, all debts of a row count at t
 pub fresh-entries : (t : ℕ) (entries : List Entry) (o m : ℕ → Bool) → IsMask (asked_of None t) entries (length entries) 0 →
     filter (counts_at t) (debts_from o m 0 entries) ≡ debts_from o m 0 entries
 fresh-entries t entries o m mask =
@@ -170,7 +176,7 @@ fresh-entries t entries o m mask =
     kept true b is = sym is
     kept false b is = refl
 
--- where deadlines never fall and the first debt counts, all do
+-- where deadlines never fall, and that of the first debt of a row is not before t, all debts of the row count at t
 pub fresh-first : (t : ℕ) (entries : List Entry) (o m : ℕ → Bool) (at : ℕ) → AreRising entries → ((k : ℕ) → k < at → o k ≡ false) →
     ((e : Entry) → at < length entries → t ≤ (get_or entries at e).deadline) → filter (counts_at t) (debts_from o m 0 entries) ≡ debts_from o m 0 entries
 fresh-first t entries o m at rises none first =
@@ -186,12 +192,12 @@ fresh-first t entries o m at rises none first =
     kept true b then = sym (then refl)
     kept false b then = refl
 
--- a row of one word, which was read
+-- in a row of one word, the words of a row are the word that was read
 pub word-part : (width row n x : ℕ) (words : List ℕ) → width ≡ 1 → row < length words → x ≡ get_or words row n → part width row words ≡ x ∷ []
 word-part width row n x words one inside is =
     ap (λ w. part w row words) one ∙ part-one words row inside ∙ ap (λ y. y ∷ []) (get_or_default words row 0 n inside ∙ sym is)
 
--- the words of a row that lies inside, where a row has one
+-- in a row of one word, the words of a row that lies within are its word
 pub own-word : (width row : ℕ) (words : List ℕ) → width ≡ 1 → IsInside width row words → part width row words ≡ get_or words row 0 ∷ []
 own-word width row words one inside =
     let end = subst (λ n. row * n + n ≤ length words) one inside in

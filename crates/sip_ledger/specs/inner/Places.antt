@@ -8,14 +8,14 @@ use Rattle.sip_ledger.specs.Rows.{debt_of, IsGap}
 
 -- Places of bits in a row.
 
--- a bit at the place, which begins after the bit before it
+-- a bit is set at the place, and the gap before it begins after the bit before it
 pub record IsBit (owed : ℕ → Bool) (place : FoundBit) : Type 0 where
   pub is : owed place.at ≡ true
   pub after : place.low ≤ place.at
   pub gap : IsGap owed place.low place.at
   pub begins : 0 < place.low → owed (place.low - 1) ≡ true
 
--- the first bit whose debt passes the test
+-- the place is that of the first bit that is set and whose debt passes the test
 pub record IsFirst (test : Debt → Bool) (entries : List Entry) (owed : ℕ → Bool) (place : FoundBit) : Type 0 where
   pub bit : IsBit owed place
   pub passes : (e : Entry) → IsTrue (test (debt_of (get_or entries place.at e) true))
@@ -25,17 +25,17 @@ pub record IsFirst (test : Debt → Bool) (entries : List Entry) (owed : ℕ →
 abbrev pub NonePasses : (Debt → Bool) → List Entry → (ℕ → Bool) → Type 0
 NonePasses test entries owed = (k : ℕ) (e : Entry) → owed k ≡ true → test (debt_of (get_or entries k e) true) ≡ false
 
--- the first bit of one word that a mask has too
+-- the place is that of the first bit of a word that a mask has as well
 pub record IsFirstIn (owed bits : ℕ) (place : FoundBit) : Type 0 where
   pub bit : IsBit (has (owed ∷ [])) place
   pub marked : test bits place.at ≡ true
   pub before : (k : ℕ) → k < place.at → has (owed ∷ []) k ≡ true → test bits k ≡ false
 
--- the test asks not whether a debt has to be paid
+-- the test does not ask whether a debt must be sent
 abbrev pub AsksNoMust : (Debt → Bool) → Type 0
 AsksNoMust test = (entry : Entry) (must : Bool) → test (debt_of entry must) ≡ test (debt_of entry true)
 
--- a row whose bits may have room before them: those below low stand, and so do those whose gap begins after the hole
+-- the bits are those of a row in which a bit may have room before it: none of those below `low` has, and none whose gap begins after `hole`
 pub record IsOpenRow (entries : List Entry) (owed must : ℕ → Bool) (low hole : ℕ) : Type 0 where
   pub within : (k : ℕ) → owed k ≡ true → k < length entries
   pub among : (k : ℕ) → must k ≡ true → owed k ≡ true
@@ -43,7 +43,7 @@ pub record IsOpenRow (entries : List Entry) (owed must : ℕ → Bool) (low hole
   pub below : (i k : ℕ) (e : Entry) → i < k → owed k ≡ true → IsGap owed i k → k < low → get_or entries i e ≢ get_or entries k e
   pub behind : (i k : ℕ) (e : Entry) → i < k → owed k ≡ true → IsGap owed i k → hole < i → get_or entries i e ≢ get_or entries k e
 
--- one bit of a row moved to a place that was free
+-- one bit of a row has moved to a place that was free, and no other bit has changed
 pub record IsMoved (from to : ℕ) (owed must owed' must' : ℕ → Bool) : Type 0 where
   pub owed_to : owed' to ≡ true
   pub owed_from : owed' from ≡ false
@@ -52,18 +52,18 @@ pub record IsMoved (from to : ℕ) (owed must owed' must' : ℕ → Bool) : Type
   pub must_from : must' from ≡ false
   pub must_others : (k : ℕ) → k ≢ from → k ≢ to → must' k ≡ must k
 
--- where a debt is gained: at the first entry that is equal to it after the last bit, or else at the end of the entries
+-- a debt of the entry is gained at `at`: at the first equal entry after the last bit, or else at the end of the entries
 pub record IsGainedAt (entries : List Entry) (owed : ℕ → Bool) (entry : Entry) (at : ℕ) : Type 0 where
   pub within : at ≤ length entries
   pub is : (e : Entry) → at < length entries → get_or entries at e ≡ entry
   pub last : (k : ℕ) → at ≤ k → owed k ≡ false
   pub apart : (i : ℕ) (e : Entry) → i < at → IsGap owed i at → get_or entries i e ≢ entry
 
--- of what was owed, what counts still at t
+-- the bits of `owed'` are those of `owed` whose debts count still at t
 pub record IsExpired (t : ℕ) (entries : List Entry) (must owed owed' : ℕ → Bool) : Type 0 where
   pub kept : (k : ℕ) (e : Entry) → k < length entries → owed' k ≡ (owed k && (must k || nat_le t (get_or entries k e).deadline))
   pub past : (k : ℕ) → length entries ≤ k → owed' k ≡ owed k
 
--- deadlines never fall
+-- the deadlines of the entries never fall
 abbrev pub AreRising : List Entry → Type 0
 AreRising entries = (i k : ℕ) (e : Entry) → i ≤ k → k < length entries → (get_or entries i e).deadline ≤ (get_or entries k e).deadline

@@ -1,4 +1,4 @@
-//! What is done to many rows at once.
+//! What is done to many rows of a ledger at once.
 ghost use Rattle.std.specs.Prelude.{◌≡◌, ◌≤◌, ◌<◌, ◌&&◌, ◌++◌, ◌∷◌, ◌+◌, ◌-◌, [], ℕ, List, All, IfOk, OnOk, OnErr, get_or, drop, filter, length, map, take};
 ghost use Rattle.std.specs.List.{list_any};
 ghost use Rattle.sip_ledger.specs.declared.debt.Debt.{Debt};
@@ -22,8 +22,8 @@ impl Ledger {
         }
     }
 
-    /// Puts a copy of each row from one up to another after the others, but of those that must send something that is past at the
-    /// moment. On an error all is as before.
+    /// Puts a copy of each row from `from` up to `to` after the others, except for rows that must send something that is past at
+    /// the moment. On an error all is as before.
     #[tactic(auto, unfolding(crate::specs::Ledgers::rows_of))]
     pub fn push_timely(&mut self, from: usize, to: usize, moment: u64) -> Result<(), AllocError>
         requires { to ≤ length (rows_of self.old) }
@@ -36,7 +36,7 @@ impl Ledger {
         self.push_timely_of_long(from, to, moment)
     }
 
-    /// The same where there may be a long row.
+    /// Puts copies of the timely rows from `from` up to `to` after the others, where one of them may be a long row.
     #[inline(never)]
     fn push_timely_of_long(&mut self, from: usize, to: usize, moment: u64) -> Result<(), AllocError>
         requires { to ≤ length (rows_of self.old) }
@@ -53,7 +53,7 @@ impl Ledger {
         Ok(())
     }
 
-    /// The same, but of those alone that have a debt that a send of the message at the moment pays.
+    /// Puts a copy of each row from `from` up to `to` after the others that is timely and has a debt that a send of the message at the moment pays.
     #[tactic(auto, unfolding(crate::specs::Ledgers::rows_of))]
     pub fn push_payable(
         &mut self,
@@ -73,7 +73,7 @@ impl Ledger {
         self.push_payable_of_long(from, to, message, moment)
     }
 
-    /// The same where there may be a long row.
+    /// Puts copies of the timely rows that have a debt of the message, where one of them may be a long row.
     #[inline(never)]
     fn push_payable_of_long(
         &mut self,
@@ -100,7 +100,7 @@ impl Ledger {
         Ok(())
     }
 
-    /// Lets each row from one on owe one more debt, after its others. On an error they are gone, and the rows before them are left.
+    /// Lets each row from `from` on owe one more debt, after its others. On an error these rows are gone, and those before them are as they were.
     pub fn gain_each(&mut self, from: usize, debt: Debt) -> Result<(), AllocError>
         ensures ok { OnOk result (rows_of self.new ≡ take from (rows_of self.old) ++ map (λ owes. owes ++ debt ∷ []) (drop from (rows_of self.old))) }
         ensures err { OnErr result (rows_of self.new ≡ take from (rows_of self.old)) }
@@ -112,7 +112,7 @@ impl Ledger {
         Ok(())
     }
 
-    /// The same, but on an error they are there, and some of them may owe it.
+    /// Lets each row from `from` on owe one more debt. On an error the rows are still there, and some of these may owe the debt already.
     #[tactic(auto, unfolding(crate::specs::Ledgers::rows_of))]
     fn gain_or_some(&mut self, from: usize, debt: Debt) -> Result<(), AllocError>
         ensures ok { OnOk result (rows_of self.new ≡ take from (rows_of self.old) ++ map (λ owes. owes ++ debt ∷ []) (drop from (rows_of self.old))) }
@@ -124,7 +124,7 @@ impl Ledger {
         self.gain_each_of_long(from, debt)
     }
 
-    /// The same where there may be a long row, or a row may become one.
+    /// Lets each row from `from` on owe one more debt, where one of them may be a long row, or become one.
     #[inline(never)]
     fn gain_each_of_long(&mut self, from: usize, debt: Debt) -> Result<(), AllocError>
         ensures ok { OnOk result (rows_of self.new ≡ take from (rows_of self.old) ++ map (λ owes. owes ++ debt ∷ []) (drop from (rows_of self.old))) }
@@ -136,7 +136,7 @@ impl Ledger {
         Ok(())
     }
 
-    /// Takes out of each row from one on the first debt that a send of the message at the moment pays, if there is one.
+    /// Takes out of each row from `from` on the first debt that a send of the message at the moment pays, if there is one.
     #[tactic(auto, unfolding(crate::specs::Ledgers::rows_of))]
     pub fn pay_each(&mut self, from: usize, message: u32, moment: u64)
         ensures { rows_of self.new ≡ take from (rows_of self.old) ++ map (paid_by message moment) (drop from (rows_of self.old)) }
@@ -147,7 +147,7 @@ impl Ledger {
         }
     }
 
-    /// The same where there may be a long row.
+    /// Takes the first debt that the send pays out of each row from `from` on, where one of them may be a long row.
     #[inline(never)]
     fn pay_each_of_long(&mut self, from: usize, message: u32, moment: u64)
         ensures { rows_of self.new ≡ take from (rows_of self.old) ++ map (paid_by message moment) (drop from (rows_of self.old)) }
@@ -157,7 +157,7 @@ impl Ledger {
         }
     }
 
-    /// Drops what each row from one on may send and whose deadline is below the moment.
+    /// Drops those debts of each row from `from` on that may be sent, and whose deadline is below the moment.
     #[tactic(auto, unfolding(crate::specs::Ledgers::rows_of))]
     pub fn expire_each(&mut self, from: usize, moment: u64)
         ensures { rows_of self.new ≡ take from (rows_of self.old) ++ map (filter (counts_at moment)) (drop from (rows_of self.old)) }
@@ -168,7 +168,7 @@ impl Ledger {
         }
     }
 
-    /// The same where there may be a long row.
+    /// Drops what expired from each row from `from` on, where one of them may be a long row.
     #[inline(never)]
     fn expire_each_of_long(&mut self, from: usize, moment: u64)
         ensures { rows_of self.new ≡ take from (rows_of self.old) ++ map (filter (counts_at moment)) (drop from (rows_of self.old)) }
@@ -178,7 +178,7 @@ impl Ledger {
         }
     }
 
-    /// A number for what each row from one on owes, in their order: rows that owe the same have the same, and others hardly ever.
+    /// A number for what each row from `from` on owes, in their order. Rows that owe the same have the same number, and others hardly ever.
     #[tactic(auto, unfolding(crate::specs::Ledgers::rows_of, crate::specs::Prints::print_of))]
     pub fn prints(&self, alloc: Global, from: usize) -> Result<Vec<u64>, AllocError>
         ensures long { IfOk result (λ prints. length prints.items ≡ length (rows_of self.now) - from) }
@@ -192,7 +192,7 @@ impl Ledger {
         }
     }
 
-    /// The same where there may be a long row.
+    /// A number for what each row from `from` on owes, where one of them may be a long row.
     #[inline(never)]
     fn prints_of_long(&self, alloc: Global, from: usize) -> Result<Vec<u64>, AllocError>
         ensures long { IfOk result (λ prints. length prints.items ≡ length (rows_of self.now) - from) }
@@ -207,7 +207,7 @@ impl Ledger {
         Ok(prints)
     }
 
-    /// Keeps the rows of these numbers, which rise.
+    /// Keeps the rows of these numbers, which rise, and drops the others.
     #[tactic(auto, unfolding(crate::specs::Ledgers::rows_of))]
     pub fn keep(&mut self, rows: &[usize])
         requires rising { Rise rows.now }
@@ -220,7 +220,7 @@ impl Ledger {
         }
     }
 
-    /// The same where there may be a long row.
+    /// Keeps the rows of these numbers, where one of the rows may be a long one.
     #[inline(never)]
     fn keep_of_long(&mut self, rows: &[usize])
         requires rising { Rise rows.now }

@@ -1,4 +1,4 @@
-//! What is done to many rows over one list of entries at once. Where one word has all entries, what is asked of them is asked once
+//! What is done to many rows over one list of entries at once. Where one word has all entries, a question to the entries is asked once
 //! for all rows.
 ghost use Rattle.std.specs.Prelude.{◌≡◌, ◌≢◌, ◌≤◌, ◌<◌, ◌+◌, ◌-◌, ◌++◌, ◌∷◌, [], ◌&&◌, ℕ, List, None, All, Bool, true, false, get_or, IfOk, OnOk, OnErr, length, filter, map, take, drop};
 ghost use Rattle.std.specs.List.{list_any};
@@ -20,7 +20,7 @@ use crate::{row, words};
 use std::alloc::{AllocError, Global};
 
 impl Rows {
-    /// Drops what each row from one on may send and whose deadline is below the moment.
+    /// Drops those debts of each row from `from` on that may be sent, and whose deadline is below the moment.
     pub(crate) fn expire_each(&mut self, from: usize, moment: u64)
         ensures { grid_rows self.new ≡ take from (grid_rows self.old) ++ map (filter (counts_at moment)) (drop from (grid_rows self.old)) }
     {
@@ -42,7 +42,7 @@ impl Rows {
         }
     }
 
-    /// The same row by row.
+    /// Drops what expired from each row from `from` on, row by row.
     fn expire_rows(&mut self, from: usize, moment: u64)
         ensures { grid_rows self.new ≡ take from (grid_rows self.old) ++ map (filter (counts_at moment)) (drop from (grid_rows self.old)) }
     {
@@ -51,7 +51,7 @@ impl Rows {
         }
     }
 
-    /// The same where one word has all entries: rows of which nothing is past are left out.
+    /// Drops what expired from each row from `from` on, where one word has all entries. Rows of which nothing is past are left out.
     fn expire_words(&mut self, from: usize, moment: u64)
         requires { self.old.width ≡ 1 }
         ensures { grid_rows self.new ≡ take from (grid_rows self.old) ++ map (filter (counts_at moment)) (drop from (grid_rows self.old)) }
@@ -64,7 +64,7 @@ impl Rows {
         }
     }
 
-    /// The same where besides no two entries are equal: then no bit moves.
+    /// Drops what expired from each row from `from` on, where one word has all entries and no two are equal, so that no bit moves.
     fn expire_distinct(&mut self, from: usize, moment: u64)
         requires one { self.old.width ≡ 1 }
         requires distinct { AreDistinct self.old.entries }
@@ -74,8 +74,8 @@ impl Rows {
         keep_bits(&mut self.owed, &self.must, from, !past);
     }
 
-    /// Lets each row from one on owe one more debt, after its others. On an error the rows before them are as they were, and there
-    /// are as many.
+    /// Lets each row from `from` on owe one more debt, after its others. On an error the rows before them owe what they did, and there are
+    /// as many rows as before.
     pub(crate) fn gain_each(&mut self, from: usize, debt: Debt) -> Result<(), AllocError>
         ensures ok { OnOk result (grid_rows self.new ≡ take from (grid_rows self.old) ++ map (λ owes. owes ++ debt ∷ []) (drop from (grid_rows self.old))) }
         ensures err { OnErr result ((length (grid_rows self.new) ≡ length (grid_rows self.old)) × (take from (grid_rows self.new) ≡ take from (grid_rows self.old))) }
@@ -99,7 +99,7 @@ impl Rows {
         self.gain_rows(from, debt)
     }
 
-    /// The same row by row.
+    /// Lets each row from `from` on owe one more debt, row by row.
     fn gain_rows(&mut self, from: usize, debt: Debt) -> Result<(), AllocError>
         ensures ok { OnOk result (grid_rows self.new ≡ take from (grid_rows self.old) ++ map (λ owes. owes ++ debt ∷ []) (drop from (grid_rows self.old))) }
         ensures err { OnErr result ((length (grid_rows self.new) ≡ length (grid_rows self.old)) × (take from (grid_rows self.new) ≡ take from (grid_rows self.old))) }
@@ -110,8 +110,8 @@ impl Rows {
         Ok(())
     }
 
-    /// Lets each row from one on owe a debt of an entry that is not there yet, while one word has all of them. On an error all is as
-    /// before.
+    /// Lets each row from `from` on owe a debt of an entry that is not there yet, where one word has all entries and has room for it.
+    /// On an error all is as before.
     fn gain_new(&mut self, from: usize, entry: Entry, due: bool) -> Result<(), AllocError>
         requires one { self.old.width ≡ 1 }
         requires room { length self.old.entries < 64 }
@@ -130,8 +130,8 @@ impl Rows {
         Ok(())
     }
 
-    /// Lets each row from one on owe a debt of the entry at the index, where none of them has a bit there or after, and one word has
-    /// all entries.
+    /// Lets each row from `from` on owe a debt of the entry at the index, where one word has all entries and none of these rows has a bit
+    /// at the index or after it.
     fn gain_at(&mut self, from: usize, at: usize, entry: Entry, due: bool)
         requires one { self.old.width ≡ 1 }
         requires inside { at < length self.old.entries }
@@ -146,7 +146,7 @@ impl Rows {
         }
     }
 
-    /// Takes out of each row from one on the first debt that a send of the message at the moment pays, if there is one.
+    /// Takes out of each row from `from` on the first debt that a send of the message at the moment pays, if there is one.
     pub(crate) fn pay_each(&mut self, from: usize, message: u32, moment: u64)
         ensures { grid_rows self.new ≡ take from (grid_rows self.old) ++ map (paid_by message moment) (drop from (grid_rows self.old)) }
     {
@@ -158,7 +158,7 @@ impl Rows {
         }
     }
 
-    /// The same row by row.
+    /// Takes the first debt that the send pays out of each row from `from` on, row by row.
     fn pay_rows(&mut self, from: usize, message: u32, moment: u64)
         ensures { grid_rows self.new ≡ take from (grid_rows self.old) ++ map (paid_by message moment) (drop from (grid_rows self.old)) }
     {
@@ -167,7 +167,7 @@ impl Rows {
         }
     }
 
-    /// Whether no two entries are equal, as far as it takes few steps for each of so many rows to tell.
+    /// Whether no two entries are equal, as far as a few steps for each of this many rows can tell.
     fn has_distinct(&self, rows: usize) -> bool
         ensures { result ≡ true → AreDistinct self.now.entries }
     {
@@ -176,8 +176,8 @@ impl Rows {
         some <= rows && are_distinct(&self.entries, self.rises)
     }
 
-    /// Puts a copy of each row from one up to another after the others, but of those that must send something that is past at the
-    /// moment. On an error all is as before.
+    /// Puts a copy of each row from `from` up to `to` after the others, except for rows that must send something that is past at
+    /// the moment. On an error all is as before.
     pub(crate) fn push_timely(
         &mut self,
         from: usize,
@@ -199,7 +199,7 @@ impl Rows {
         }
     }
 
-    /// Puts a copy of each row from one up to another after the others. On an error all is as before.
+    /// Puts a copy of each row from `from` up to `to` after the others. On an error all is as before.
     fn push_copies(&mut self, from: usize, to: usize) -> Result<(), AllocError>
         requires { to ≤ length (grid_rows self.old) }
         ensures ok { OnOk result (grid_rows self.new ≡ grid_rows self.old ++ from_to from to (grid_rows self.old)) }
@@ -219,7 +219,7 @@ impl Rows {
         Ok(())
     }
 
-    /// The same row by row.
+    /// Puts copies of the timely rows from `from` up to `to` after the others, row by row.
     fn push_timely_rows(&mut self, from: usize, to: usize, moment: u64) -> Result<(), AllocError>
         requires { to ≤ length (grid_rows self.old) }
         ensures ok { OnOk result (grid_rows self.new ≡ grid_rows self.old ++ filter (is_timely moment) (from_to from to (grid_rows self.old))) }
@@ -235,7 +235,7 @@ impl Rows {
         Ok(())
     }
 
-    /// The same, but of those alone that have a debt that a send of the message at the moment pays.
+    /// Puts a copy of each row from `from` up to `to` after the others that is timely and has a debt that a send of the message at the moment pays.
     pub(crate) fn push_payable(
         &mut self,
         from: usize,
@@ -260,7 +260,7 @@ impl Rows {
         }
     }
 
-    /// The same row by row.
+    /// Puts copies of the timely rows that have a debt of the message after the others, row by row.
     fn push_payable_rows(
         &mut self,
         from: usize,
@@ -297,8 +297,8 @@ impl Rows {
         }
     }
 
-    /// Puts a copy of each row from one up to another after the others, but of those alone that the masks mark, where one word has
-    /// all entries. On an error all is as before.
+    /// Puts a copy of each row from `from` up to `to` that the masks mark after the others, where one word has all entries. On an
+    /// error all is as before.
     fn push_marked(
         &mut self,
         from: usize,
@@ -320,7 +320,7 @@ impl Rows {
         Ok(())
     }
 
-    /// A number for what each row from one on owes, in their order: rows that owe the same have the same, and others hardly ever.
+    /// A number for what each row from `from` on owes, in their order. Rows that owe the same have the same number, and others hardly ever.
     pub(crate) fn prints(&self, alloc: Global, from: usize) -> Result<Vec<u64>, AllocError>
         ensures long { IfOk result (λ prints. length prints.items ≡ length (grid_rows self.now) - from) }
         ensures each { IfOk result (λ prints. (k : ℕ) → from + k < length (grid_rows self.now) → get_or prints.items k 0 ≡ grid_print self.now (from + k)) }
@@ -333,7 +333,7 @@ impl Rows {
         self.print_rows(alloc, from)
     }
 
-    /// The same row by row.
+    /// A number for what each row from `from` on owes, found row by row.
     fn print_rows(&self, alloc: Global, from: usize) -> Result<Vec<u64>, AllocError>
         ensures long { IfOk result (λ prints. length prints.items ≡ length (grid_rows self.now) - from) }
         ensures each { IfOk result (λ prints. (k : ℕ) → from + k < length (grid_rows self.now) → get_or prints.items k 0 ≡ grid_print self.now (from + k)) }
@@ -347,7 +347,7 @@ impl Rows {
         Ok(prints)
     }
 
-    /// Keeps the rows of these numbers, which rise.
+    /// Keeps the rows of these numbers, which rise, and drops the others.
     pub(crate) fn keep(&mut self, rows: &[usize])
         requires rising { Rise rows.now }
         requires within { All (λ row. row < length (grid_rows self.old)) rows.now }
@@ -362,7 +362,7 @@ impl Rows {
         }
     }
 
-    /// The same row by row.
+    /// Keeps the rows of these numbers, which rise, row by row.
     fn keep_rows(&mut self, rows: &[usize])
         requires rising { Rise rows.now }
         requires within { All (λ row. row < length (grid_rows self.old)) rows.now }
@@ -375,7 +375,7 @@ impl Rows {
     }
 }
 
-/// Whether it is plain that no entry is past at the moment: deadlines never fall, and the first is not.
+/// Whether it is plain that no entry is past at the moment: deadlines never fall, and the first one is not below the moment.
 fn starts_late(entries: &[Entry], rises: bool, moment: u64) -> bool
     requires { rises ≡ true → AreRising entries.now }
     ensures { result ≡ true → IsMask (asked_of None moment) entries.now (length entries.now) 0 }
@@ -394,8 +394,8 @@ fn is_marked(owed: u64, must: u64, wanted: Option<u64>, barred: u64) -> bool
     }
 }
 
-/// Puts a copy of each row from one up to another after the others, but of those alone that the masks mark, where there is room
-/// for all of them.
+/// Puts a copy of each row from `from` up to `to` that the masks mark after the others, where there is room for copies of all
+/// of these rows.
 fn put_marked(
     owed: &mut Vec<u64>,
     must: &mut Vec<u64>,
@@ -424,7 +424,7 @@ fn put_marked(
     }
 }
 
-/// Whether no word from one on has a bit at the place or after it.
+/// Whether no word from `from` on has a bit at the place or after it.
 fn is_free(words: &[u64], from: usize, at: usize) -> bool
     requires { at < 64 }
     ensures { result ≡ true → IsFreeFrom from at words.now }
@@ -437,7 +437,7 @@ fn is_free(words: &[u64], from: usize, at: usize) -> bool
     true
 }
 
-/// Sets a bit in each word from one on.
+/// Sets the bit in each word from `from` on.
 fn set_from(words: &mut [u64], from: usize, bit: usize)
     requires { bit < 64 }
     ensures { IsSetFrom from bit words.old words.new }
@@ -447,7 +447,7 @@ fn set_from(words: &mut [u64], from: usize, bit: usize)
     }
 }
 
-/// Keeps the words at these places, which rise.
+/// Keeps the words at these places, which rise, and drops the others.
 fn keep_words(words: &mut Vec<u64>, places: &[usize])
     requires rising { Rise places.now }
     requires within { All (λ place. place < length words.old.items) places.now }
@@ -475,7 +475,7 @@ fn are_distinct(entries: &[Entry], rises: bool) -> bool
     true
 }
 
-/// Whether each deadline is above the one before it.
+/// Whether each deadline is above the one before it. Then no two entries are equal.
 fn climb(entries: &[Entry]) -> bool
     ensures { result ≡ true → AreDistinct entries.now }
 {
@@ -487,7 +487,7 @@ fn climb(entries: &[Entry]) -> bool
     true
 }
 
-/// Takes out of each pair of words from one on the first bit that the former shares with a mask.
+/// Takes out of each pair of words from `from` on the first bit that the word of what is owed shares with the mask.
 fn take_firsts(owed: &mut [u64], must: &mut [u64], from: usize, bits: u64)
     requires { length owed.old ≤ length must.old }
     ensures { AreFirstsTaken from bits owed.old must.old owed.new must.new }
@@ -499,7 +499,7 @@ fn take_firsts(owed: &mut [u64], must: &mut [u64], from: usize, bits: u64)
     }
 }
 
-/// The word without the first bit of another one, if that has one.
+/// The word without the lowest bit of `both`, if that has a bit.
 fn first_taken(both: u64, word: u64) -> u64
     ensures { result ≡ first_taken both word }
 {
@@ -509,7 +509,7 @@ fn first_taken(both: u64, word: u64) -> u64
     word & !(1 << both.trailing_zeros())
 }
 
-/// Leaves each word from one on no other bits than those that the other word has and those of a mask.
+/// Leaves each word from `from` on the bits alone that the word of what must be sent has, or the mask.
 fn keep_bits(owed: &mut [u64], must: &[u64], from: usize, kept: u64)
     requires { length owed.old ≤ length must.now }
     ensures { AreKept from kept owed.old must.now owed.new }

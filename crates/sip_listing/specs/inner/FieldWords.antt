@@ -4,6 +4,6 @@ use Rattle.std.specs.List.{flat_map}
 use Rattle.sip_ledger.specs.declared.debt.Debt.{Debt}
 use Rattle.sip_standard.specs.StateText.{owed_field}
 
--- the debts of the code, one after another
+-- the text of debts that the code holds, one after another
 abbrev pub debts_fields : List Debt → List ℕ
 debts_fields debts = flat_map (λ debt. owed_field debt.message debt.deadline debt.must) debts

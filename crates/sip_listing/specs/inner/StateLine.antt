@@ -5,6 +5,6 @@ use Rattle.sip_states.specs.declared.told.ToldState.{ToldState}
 use Rattle.sip_standard.specs.StateText.{phase_text}
 use Rattle.sip_listing.specs.inner.FieldWords.{debts_fields}
 
--- the text of a state in words of the code, by its numbers
+-- the text of a told state, whose messages are told by the code's numbers
 abbrev pub state_line : ToldState → List ℕ
 state_line state = phase_text (told_of state.phase) ++ debts_fields (debts_in state.owes.items)

@@ -1,4 +1,4 @@
--- What a caller of `next` knows of the whole input, call after call.
+-- What the caller of `next` knows of the whole input, call after call.
 use Rattle.std.proofs.Common.{◌≡◌, ◌⊎◌, inl, inr, ◌<◌, ◌≤◌, ◌+◌, ℕ, Bool, List, [], ◌∷◌, ◌++◌, length, Option, Some, None, IfSome, IsSome, Result, Ok, Err, refl, subst, sym, ap, ◌∙◌, arith, append_assoc}
 use Rattle.std.specs.Prelude.{flat_map, ⊤}
 use Rattle.std.specs.Io.KnownBytes.{prepend_known}
@@ -19,18 +19,18 @@ use Rattle.sip_log.proofs.answers.ReadingLemmas.{FailsAs-map}
 use Rattle.sip_log.proofs.logs.LogExists.{Follow-some}
 use Rattle.sip_log.proofs.logs.Logs.{follow-spelled}
 
--- a header and the spelling of these entries stand at the front of an input, and this rest after them
+-- the input begins with a header and the spelling of these entries, and has this rest after them
 pub record Begins (input : List ℕ) (format : Format) (p : Times) (items : List Item) (rest : List ℕ) : Type 0 where
   pub header : Header format p input (flat_map entry_says items ++ rest)
   pub few : length items ≤ most_entries
   pub order : InOrder format 0 items
 
--- these times and entries were read of an input, where its bytes are known, and so much is left
+-- where the bytes of the input are known: it begins with a header with these times and with these entries, and this much is left to read
 abbrev pub HasRead : Option (List ℕ) → Format → Option Times → List Item → Option (List ℕ) → Type 0
 HasRead start format None items left = ⊥
 HasRead start format (Some p) items left = IfSome start (λ input. (rest : List ℕ) × (left ≡ Some rest) × Begins input format p items rest)
 
--- what is known of a reader that was made for an input: nothing was read yet, or these entries were
+-- what is known of a reader that was made for an input: it is fresh, or it has read these entries; after the end or an error nothing is
 abbrev pub StandsAt : Stage → Option (List ℕ) → List Item → ReaderState → Type 0
 StandsAt fresh start items now = (items ≡ []) × (now.left ≡ start) × (now.times ≡ None) × (now.count ≡ 0) × (now.last ≡ 0)
 StandsAt entries start items now = HasRead start now.format now.times items now.left × (now.count ≡ length items) × (now.last ≡ last_of 0 items)
@@ -40,23 +40,24 @@ StandsAt failed start items now = ⊤
 abbrev pub Stands : Option (List ℕ) → List Item → ReaderState → Type 0
 Stands start items now = StandsAt now.stage start items now
 
-InOrder-push : (format : Format) (last : ℕ) (items : List Item) (e : Item) → InOrder format last items → last_of last items ≤ e.moment → IsEntry format e → InOrder format last (items ++ e ∷ [])
+pub InOrder-push : (format : Format) (last : ℕ) (items : List Item) (e : Item) → InOrder format last items → last_of last items ≤ e.moment → IsEntry format e → InOrder format last (items ++ e ∷ [])
 InOrder-push format last [] e order late entry = (late, entry, tt)
 InOrder-push format last (x ∷ xs) e order late entry = (order.0, order.1, InOrder-push format x.moment xs e order.2 late entry)
 
-last_of-push : (last : ℕ) (items : List Item) (e : Item) → last_of last (items ++ e ∷ []) ≡ e.moment
+pub last_of-push : (last : ℕ) (items : List Item) (e : Item) → last_of last (items ++ e ∷ []) ≡ e.moment
 last_of-push last [] e = refl
 last_of-push last (x ∷ xs) e = last_of-push x.moment xs e
 
-texts-push : (items : List Item) (e : Item) (behind : List ℕ) → flat_map entry_says items ++ (entry_says e ++ behind) ≡ flat_map entry_says (items ++ e ∷ []) ++ behind
+pub texts-push : (items : List Item) (e : Item) (behind : List ℕ) → flat_map entry_says items ++ (entry_says e ++ behind) ≡ flat_map entry_says (items ++ e ∷ []) ++ behind
 texts-push [] e behind = ap (λ (t : List ℕ). t ++ behind) (sym (append-nil (entry_says e)))
 texts-push (x ∷ xs) e behind =
     append_assoc (entry_says x) (flat_map entry_says xs) (entry_says e ++ behind)
     ∙ ap (λ (t : List ℕ). entry_says x ++ t) (texts-push xs e behind)
     ∙ sym (append_assoc (entry_says x) (flat_map entry_says (xs ++ e ∷ [])) behind)
 
+-- What follows is of an input that begins with a header and these entries.
 module _ (input : List ℕ) (format : Format) (p : Times) (items : List Item) (rest : List ℕ) (is : Begins input format p items rest) where
-  -- one more entry
+  -- where an entry comes next in the rest, the input begins with the entries and that one
   pub Begins-push : (e : Item) (behind : List ℕ) → ComesNext format (length items) (last_of 0 items) rest (gives e behind) → Begins input format p (items ++ e ∷ []) behind
   Begins-push e behind next = record {
     header = subst (Header format p input) (ap (λ (t : List ℕ). flat_map entry_says items ++ t) next.0 ∙ texts-push items e behind) is.header;
@@ -64,27 +65,27 @@ module _ (input : List ℕ) (format : Format) (p : Times) (items : List Item) (r
     order = InOrder-push format 0 items e is.order next.2 next.3;
   }
 
-  -- where the rest ends so after these entries, they are the log of the input
+  -- where the rest ends in this way after the entries, the log of the input has them and this end
   pub Begins-ends : (end : LogEnd) → EndsWith format (length items) (last_of 0 items) rest end → LogSays input p items end
   Begins-ends end next = record { format = format; rest = rest; header = is.header; few = is.few; order = is.order; next = next }
 
--- a header, and nothing after it yet
+-- an input that begins with a header begins with the header and no entries
 pub Begins-header : (input : List ℕ) (format : Format) (p : Times) (behind : List ℕ) → Header format p input behind → Begins input format p [] behind
 Begins-header input format p behind is = record { header = is; few = omega arith; order = tt }
 
-flat_map-append : (xs ys : List Item) → flat_map entry_says (xs ++ ys) ≡ flat_map entry_says xs ++ flat_map entry_says ys
+pub flat_map-append : (xs ys : List Item) → flat_map entry_says (xs ++ ys) ≡ flat_map entry_says xs ++ flat_map entry_says ys
 flat_map-append [] ys = refl
 flat_map-append (x ∷ xs) ys = ap (λ (t : List ℕ). entry_says x ++ t) (flat_map-append xs ys) ∙ sym (append_assoc (entry_says x) (flat_map entry_says xs) (flat_map entry_says ys))
 
-InOrder-append : (format : Format) (last : ℕ) (xs ys : List Item) → InOrder format last xs → InOrder format (last_of last xs) ys → InOrder format last (xs ++ ys)
+pub InOrder-append : (format : Format) (last : ℕ) (xs ys : List Item) → InOrder format last xs → InOrder format (last_of last xs) ys → InOrder format last (xs ++ ys)
 InOrder-append format last [] ys order more = more
 InOrder-append format last (x ∷ xs) ys order more = (order.0, order.1, InOrder-append format x.moment xs ys order.2 more)
 
-last_of-append : (last : ℕ) (xs ys : List Item) → last_of last (xs ++ ys) ≡ last_of (last_of last xs) ys
+pub last_of-append : (last : ℕ) (xs ys : List Item) → last_of last (xs ++ ys) ≡ last_of (last_of last xs) ys
 last_of-append last [] ys = refl
 last_of-append last (x ∷ xs) ys = last_of-append x.moment xs ys
 
--- the entries that were read are at the front of a log of the input
+-- the entries with which an input begins are the first entries of a log of it
 Begins-log : (input : List ℕ) (format : Format) (p : Times) (items : List Item) (rest : List ℕ) → Begins input format p items rest → (more : List Item) × (end : LogEnd) × LogSays input p (items ++ more) end
 Begins-log input format p items rest is =
     let (more, end, follow) = Follow-some format (length items) (last_of 0 items) rest in
@@ -106,7 +107,7 @@ Begins-log input format p items rest is =
       },
     )
 
--- the entries that a reader has given stand at the front of the log of its input
+-- the entries that a reader has given are the first entries of the log of its input, where it reads entries still
 pub Stands-log : (start : Option (List ℕ)) (items : List Item) (now : ReaderState) → now.stage ≡ entries → Stands start items now
     → IfSome start (λ input. IfSome now.times (λ p. (more : List Item) × (end : LogEnd) × LogSays input p (items ++ more) end))
 Stands-log start items now on stands = go now.times start (subst (λ s. StandsAt s start items now) on stands).0
@@ -116,10 +117,10 @@ Stands-log start items now on stands = go now.times start (subst (λ s. StandsAt
     go (Some p) None has = tt
     go (Some p) (Some input) (rest, left, begins) = Begins-log input now.format p items rest begins
 
--- A header that was read by itself.
+-- What follows is of a header that was read by itself.
 
 module _ (start left : Option (List ℕ)) (before after : Bool) where
-  -- where the reader stands after it
+  -- where the reader stands once the header was read
   pub record Opened (p : Times) (place : ProgressState) : Type 0 where
     pub on : place.stage ≡ entries
     pub times : place.times ≡ Some p
@@ -128,6 +129,7 @@ module _ (start left : Option (List ℕ)) (before after : Bool) where
     pub fine : after ≡ before
     pub stands : Stands start [] (beside_source place left after)
 
+  -- an answer with the times of a header tells where the reader stands then
   pub Opens-stands : (p : Times) (place : ProgressState) → Opens start left before after (Ok (p, place)) → Opened p place
   Opens-stands p place (is, says) =
       let on = ap (λ (x : ProgressState). x.stage) is in
@@ -146,36 +148,38 @@ module _ (start left : Option (List ℕ)) (before after : Bool) where
       has None says = tt
       has (Some xs) (ys, left_is, header) = (ys, left_is, Begins-header xs place.format p ys header)
 
--- neither the end was told nor an error
+-- the reader has told neither the end nor an error
 abbrev pub GoesOn : ReaderState → Type 0
 GoesOn now = (now.stage ≡ fresh) ⊎ (now.stage ≡ entries)
 
--- What each answer of `next` adds.
+-- What follows is what each answer of `next` adds to what is known.
 
 module _ (start : Option (List ℕ)) (items : List Item) (old new : ReaderState) where
-  -- the times of the header stay
+  -- the times of the header stay as they are from entry to entry
   same-times : (t : Option Times) → HasRead start old.format t items old.left → IfSome t (λ p. (new.times ≡ Some p) × (new.format ≡ old.format)) → new.times ≡ t
   same-times None has kept = absurd has
   same-times (Some p) has kept = kept.0
 
-  -- the format of the log stays the same from entry to entry
+  -- the format of the log stays as it is from entry to entry
   same-format : (t : Option Times) → HasRead start old.format t items old.left → IfSome t (λ p. (new.times ≡ Some p) × (new.format ≡ old.format)) → new.format ≡ old.format
   same-format None has kept = absurd has
   same-format (Some p) has kept = kept.1
 
-  -- an entry was given
+  -- What follows is of an answer with an entry.
   module _ (e : Entry) where
     closed : Moves old.count old.last new (Ok (Some e)) → HasRead start new.format new.times (items ++ item e ∷ []) new.left → old.count ≡ length items → Stands start (items ++ item e ∷ []) new
     closed moves has counts =
         subst (λ s. StandsAt s start (items ++ item e ∷ []) new) (sym moves.0)
         (has, moves.2 ∙ moves.1.number_is ∙ ap (λ n. n + 1) counts ∙ sym (length_push items (item e)), moves.3 ∙ sym (last_of-push 0 items (item e)))
 
+    -- where an entry comes first after the header, it has been read after the header
     gave-first : (t : Option Times) (s : Option (List ℕ)) → items ≡ [] → IsSome t → IfSome s (λ xs. (ys : List ℕ) × (new.left ≡ Some ys) × ComesFirst new.format t xs (gives (item e) ys)) → HasRead s new.format t (items ++ item e ∷ []) new.left
     gave-first None s none some says = cc
     gave-first (Some p) None none some says = tt
     gave-first (Some p) (Some xs) none some (ys, left, (behind, header, next)) =
         (ys, left, subst (λ is. Begins xs new.format p (is ++ item e ∷ []) ys) (sym none) (Begins-push xs new.format p [] behind (Begins-header xs new.format p behind header) (item e) ys next))
 
+    -- where an entry comes after the entries that were read, it has been read after them
     gave-next : (t : Option Times) (s : Option (List ℕ)) → old.count ≡ length items → old.last ≡ last_of 0 items → HasRead s old.format t items old.left
         → IfSome old.left (λ xs. (ys : List ℕ) × (new.left ≡ Some ys) × ComesNext old.format old.count old.last xs (gives (item e) ys)) → HasRead s old.format t (items ++ item e ∷ []) new.left
     gave-next None s counts moment has says = absurd has
@@ -185,6 +189,7 @@ module _ (start : Option (List ℕ)) (items : List Item) (old new : ReaderState)
         let next = subst (λ c. ComesNext old.format c (last_of 0 items) rest (gives (item e) n.0)) counts (subst (λ m. ComesNext old.format old.count m rest (gives (item e) n.0)) moment n.2) in
         (n.0, n.1, Begins-push input old.format p items rest begins (item e) n.0 next)
 
+    -- an answer with an entry says that it was read after the entries before it, at whatever stage
     gave-at : (s : Stage) → old.stage ≡ s → StandsAt s start items old → NextsAt s old new (Ok (Some e)) → Stands start (items ++ item e ∷ []) new
     gave-at fresh at h steps =
         let says = subst (λ s. IfSome old.left (λ xs. (ys : List ℕ) × (new.left ≡ Some ys) × Comes s old new xs (gives (item e) ys))) at steps.says.1 in
@@ -203,13 +208,14 @@ module _ (start : Option (List ℕ)) (items : List Item) (old new : ReaderState)
     pub Stands-gives : Stands start items old → Nexts old new (Ok (Some e)) → Stands start (items ++ item e ∷ []) new
     Stands-gives stands nexts = gave-at old.stage refl stands nexts
 
-  -- the end: these are all entries of the log
+  -- where the end comes first after the header, the log has no entries
   ended-first : (t : Option Times) (s : Option (List ℕ)) → items ≡ [] → IsSome t → IfSome s (λ xs. (ys : List ℕ) × (new.left ≡ Some ys) × ComesFirst new.format t xs ends) → IfSome s (λ input. IfSome t (λ p. LogSays input p items Clean))
   ended-first None s none some says = cc
   ended-first (Some p) None none some says = tt
   ended-first (Some p) (Some xs) none some (ys, left, (behind, header, next)) =
       subst (λ is. LogSays xs p is Clean) (sym none) (Begins-ends xs new.format p [] behind (Begins-header xs new.format p behind header) Clean next)
 
+  -- where the end comes after entries, the log has exactly them
   ended-next : (t : Option Times) (s : Option (List ℕ)) → HasRead s old.format t items old.left → IfSome old.left (λ xs. (ys : List ℕ) × (new.left ≡ Some ys) × (xs ≡ [])) → IfSome s (λ input. IfSome t (λ p. LogSays input p items Clean))
   ended-next None s has says = absurd has
   ended-next (Some p) None has says = tt
@@ -217,6 +223,7 @@ module _ (start : Option (List ℕ)) (items : List Item) (old new : ReaderState)
       let n = subst (λ o. IfSome o (λ xs. (ys : List ℕ) × (new.left ≡ Some ys) × (xs ≡ []))) left says in
       Begins-ends input old.format p items rest begins Clean n.2
 
+  -- an answer that tells the end says that the log has exactly the entries that were given, at whatever stage
   ended-at : (s : Stage) → old.stage ≡ s → GoesOn old → StandsAt s start items old → NextsAt s old new (Ok None) → IfSome start (λ input. IfSome new.times (λ p. LogSays input p items Clean))
   ended-at fresh at on h steps =
       let says = subst (λ s. IfSome old.left (λ xs. (ys : List ℕ) × (new.left ≡ Some ys) × Comes s old new xs ends)) at steps.says.1 in
@@ -231,11 +238,12 @@ module _ (start : Option (List ℕ)) (items : List Item) (old new : ReaderState)
   pub Stands-ends : GoesOn old → Stands start items old → Nexts old new (Ok None) → IfSome start (λ input. IfSome new.times (λ p. LogSays input p items Clean))
   Stands-ends on stands nexts = ended-at old.stage refl on stands nexts
 
-  -- where the log cannot be read on: at its header, or after these entries
+  -- the log cannot be read on: it lacks a header where no times were read, and else it stops after these entries
   abbrev pub StopsAt : List ℕ → Option Times → LogReason → Type 0
   StopsAt input None fault = LacksHeader input × (fault ≡ faults.Header)
   StopsAt input (Some p) fault = LogSays input p items (Stops fault)
 
+  -- a fault that comes first in an input is one of its header, or of the first entry
   stops-first : (t : Option Times) (s : Option (List ℕ)) (fault : LogReason) → items ≡ [] → IfSome s (λ xs. ComesFirst new.format t xs (stops fault)) → IfSome s (λ input. StopsAt input t fault)
   stops-first t None fault none says = tt
   stops-first None (Some xs) fault none (no_header, same) = (no_header, ap of same)
@@ -247,6 +255,7 @@ module _ (start : Option (List ℕ)) (items : List Item) (old new : ReaderState)
   stops-first (Some p) (Some xs) fault none (behind, header, next) =
       subst (λ is. LogSays xs p is (Stops fault)) (sym none) (Begins-ends xs new.format p [] behind (Begins-header xs new.format p behind header) (Stops fault) next)
 
+  -- a fault that comes after entries is one at which the log stops after them
   stops-next : (t : Option Times) (s : Option (List ℕ)) (fault : LogReason) → old.count ≡ length items → old.last ≡ last_of 0 items → HasRead s old.format t items old.left → IfSome old.left (λ xs. ComesNext old.format old.count old.last xs (stops fault)) → IfSome s (λ input. StopsAt input t fault)
   stops-next None s fault counts moment has says = absurd has
   stops-next (Some p) None fault counts moment has says = tt
@@ -254,6 +263,7 @@ module _ (start : Option (List ℕ)) (items : List Item) (old new : ReaderState)
       let n = subst (λ o. IfSome o (λ xs. ComesNext old.format old.count old.last xs (stops fault))) left says in
       Begins-ends input old.format p items rest begins (Stops fault) (subst (λ c. ComesNext old.format c (last_of 0 items) rest (stops fault)) counts (subst (λ m. ComesNext old.format old.count m rest (stops fault)) moment n))
 
+  -- an answer with an error tells the fault at which the log stops, at whatever stage
   stops-at : (s : Stage) (e : LogError) → old.stage ≡ s → GoesOn old → StandsAt s start items old → NextsAt s old new (Err e)
       → FailsAs old.has_failed new.has_failed (λ fault. IfSome start (λ input. StopsAt input new.times fault)) e
   stops-at fresh e at on h steps =
@@ -269,6 +279,7 @@ module _ (start : Option (List ℕ)) (items : List Item) (old new : ReaderState)
   pub Stands-stops : (e : LogError) → GoesOn old → Stands start items old → Nexts old new (Err e) → FailsAs old.has_failed new.has_failed (λ fault. IfSome start (λ input. StopsAt input new.times fault)) e
   Stands-stops e on stands nexts = stops-at old.stage e refl on stands nexts
 
+  -- the fault at which a log stops is a fault for which the input cannot be read to its end
   fault-of : (t : Option Times) (s : Option (List ℕ)) (fault : LogReason) → IfSome s (λ input. StopsAt input t fault) → IfSome s (λ input. IsFaultOf input fault)
   fault-of t None fault at = tt
   fault-of None (Some input) fault at = inl at
@@ -277,7 +288,7 @@ module _ (start : Option (List ℕ)) (items : List Item) (old new : ReaderState)
   pub Stands-fault : (e : LogError) → GoesOn old → Stands start items old → Nexts old new (Err e) → FailsAs old.has_failed new.has_failed (λ fault. IfSome start (λ input. IsFaultOf input fault)) e
   Stands-fault e on stands nexts = FailsAs-map old.has_failed new.has_failed _ _ e (λ fault at. fault-of new.times start fault at) (Stands-stops e on stands nexts)
 
-  -- no read failed where an answer was given
+  -- no read of the source has failed in a call that answers no error
   fine-at : (s : Stage) (r : Option Entry) → NextsAt s old new (Ok r) → new.has_failed ≡ old.has_failed
   fine-at fresh r steps = steps.says.0
   fine-at entries r steps = steps.says.0
@@ -287,7 +298,7 @@ module _ (start : Option (List ℕ)) (items : List Item) (old new : ReaderState)
   pub Nexts-fine : (r : Option Entry) → Nexts old new (Ok r) → new.has_failed ≡ old.has_failed
   Nexts-fine r nexts = fine-at old.stage r nexts
 
-  -- after an entry the reader reads on, and counts
+  -- after an entry the reader reads on, has counted it, and has its moment as the last
   pub record Counted (e : Entry) : Type 0 where
     pub on : new.stage ≡ entries
     pub up : new.count ≡ old.count + 1
@@ -298,6 +309,7 @@ module _ (start : Option (List ℕ)) (items : List Item) (old new : ReaderState)
   counted : (e : Entry) → Moves old.count old.last new (Ok (Some e)) → Counted e
   counted e moves = record { on = moves.0; up = moves.2 ∙ moves.1.number_is; few = moves.4; last = moves.3; continues = moves.1 }
 
+  -- an answer with an entry counts it, at whatever stage
   counted-at : (s : Stage) (e : Entry) → NextsAt s old new (Ok (Some e)) → Counted e
   counted-at fresh e steps = counted e steps.moves
   counted-at entries e steps = counted e steps.moves
@@ -307,7 +319,7 @@ module _ (start : Option (List ℕ)) (items : List Item) (old new : ReaderState)
   pub Nexts-counted : (e : Entry) → Nexts old new (Ok (Some e)) → Counted e
   Nexts-counted e nexts = counted-at old.stage e nexts
 
--- the times of the header stay while entries are read
+-- the times of the header stay as they are in a call at the stage of entries
 pub Nexts-times : (old new : ReaderState) (r : Result (Option Entry) LogError) (p : Times) → old.stage ≡ entries → old.times ≡ Some p → Nexts old new r → new.times ≡ Some p
 Nexts-times old new r p on times nexts =
     (subst (λ t. IfSome t (λ q. (new.times ≡ Some q) × (new.format ≡ old.format))) times (subst (λ s. NextsAt s old new r) on nexts).kept).0

@@ -1,4 +1,4 @@
--- What comes next by the spelling, and by the relations by which it is read.
+-- What comes next by the spelling comes next by the relations by which the code reads, from the latter to the former.
 use Rattle.std.proofs.Common.{◌≡◌, ◌≢◌, ◌⊎◌, inl, inr, ◌<◌, ◌≤◌, ℕ, List, [], ◌∷◌, ◌++◌, length, get_or, refl, subst, sym, ap, ◌∙◌, arith, append_assoc}
 use Rattle.std.specs.Prelude.{slice_index}
 use Rattle.std.proofs.lemmas.Bool.{cases_lt}
@@ -17,35 +17,35 @@ use Rattle.sip_log.specs.inner.Entry as read
 use Rattle.sip_log.proofs.spelling.SpellingLemmas.{message-or-not, body-message, body-plain, message-spelled, message-read, plain-spelled, plain-read}
 use Rattle.sip_log.proofs.lines.LineLemmas.{message-of}
 
--- The pieces of how entries end, one in the other.
+-- What follows are the cases of `EndsWith`, each with those that come after it.
 
--- cases 6 and 7: the message
+-- a message cannot be read: case 6, it is not whole with its LF, or case 7, the byte after it is not LF
 abbrev pub AtBody : Action → ℕ → List ℕ → LogReason → Type 0
 AtBody action len behind fault =
     HasMessage action × First (length behind ≤ len) Truncated fault ((slice_index behind len ≢ line_feed) × (fault ≡ EntryLine))
 
--- cases 4 and 5: the numbers of the line
+-- an entry cannot be read by its numbers or its message: case 4, they are outside the limits, case 5, they are out of order, or cases 6 and 7
 abbrev pub AtNumbers : ℕ → Action → ℕ → ℕ → List ℕ → LogReason → Type 0
 AtNumbers last action moment len behind fault =
     First (¬ IsWithinLimits action moment len) Limit fault (First (moment < last) Order fault (AtBody action len behind fault))
 
--- case 2: the front, and what is after its line
+-- the rest cannot be read by its front: case 2, it has no line, or a later case of the line that it has
 abbrev pub AtFront : Format → ℕ → List ℕ → LogReason → Type 0
 AtFront format last rest fault =
     (((line behind : List ℕ) → ¬ (FrontLine rest line behind)) × First (length rest < 32) Truncated fault (fault ≡ EntryLine))
     ⊎ ((line : List ℕ) × (behind : List ℕ) × FrontLine rest line behind × LineFault format last line behind fault)
 
--- what comes next at an end is how it ends
+-- an end that comes next in the rest is the end of the log there
 pub comes-end : (format : Format) (count last : ℕ) (rest : List ℕ) (end : LogEnd) → ComesNext format count last rest (next_at end) → EndsWith format count last rest end
 comes-end format count last rest Clean next = next
 comes-end format count last rest (Stops fault) next = next
 
--- how the log ends is what comes next in the rest
+-- the end of the log in the rest comes next there
 pub end-comes : (format : Format) (count last : ℕ) (rest : List ℕ) (end : LogEnd) → EndsWith format count last rest end → ComesNext format count last rest (next_at end)
 end-comes format count last rest Clean next = next
 end-comes format count last rest (Stops fault) next = next
 
--- what comes next is a fault, or an entry with what is after it
+-- what comes next is a fault of P, or an entry and what is after it of G
 abbrev Told : (LogReason → Type 0) → (Item → List ℕ → Type 0) → Next Item → Type 0
 Told P G next = ((fault : LogReason) × (next ≡ stops fault) × P fault) ⊎ ((e : Item) × (after : List ℕ) × (next ≡ gives e after) × G e after)
 
@@ -55,9 +55,9 @@ not_below a b other = elim (cases_lt a b) as (λ _. b ≤ a) [ inl lt ↦ absurd
 pub not_above : (a b : ℕ) → ¬ (a ≤ b) → b < a
 not_above a b other = elim (cases_lt b a) as (λ _. b < a) [ inl lt ↦ lt | inr le ↦ absurd (other le) ]
 
--- From reading to spelling.
+-- What follows leads from what the code reads to the spelling.
 
--- a message
+-- where a message comes, it cannot be read for case 6 or 7, or it stands there with its LF
 message-told : (action : Action) (moment len : ℕ) (behind : List ℕ) (next : Next Item) → HasMessage action → read.MessageComes action moment len behind next
     → Told (AtBody action len behind) (λ e after. (text : List ℕ) × (e ≡ record { action = action; moment = moment; text = text }) × (length text ≡ len) × (behind ≡ text ++ line_feed ∷ after)) next
 message-told action moment len behind next other (inl (short, same)) = inl (faults.Truncated, same, (other, inl (not_below len (length behind) short, refl)))
@@ -67,7 +67,7 @@ message-told action moment len behind next other (inr (long, (text, b, after, wh
 message-told action moment len behind next other (inr (long, (text, b, after, whole, size, inr (closed, same)))) =
     inr (record { action = action; moment = moment; text = text }, after, same, (text, refl, size, whole ∙ ap (λ (c : ℕ). text ++ c ∷ after) closed))
 
--- an entry whose line was read
+-- the line and what is after it are the spelling of the entry and what is after that, and the entry keeps the order and is of the format
 abbrev Entered : Format → ℕ → List ℕ → List ℕ → Item → List ℕ → Type 0
 Entered format last line behind e after = (line ++ line_feed ∷ behind ≡ entry_says e ++ after) × (last ≤ e.moment) × IsEntry format e
 
@@ -77,7 +77,7 @@ message-within action moment len is = (is.0, λ other. (is.1, is.2))
 pub within-message : (action : Action) (moment len : ℕ) → HasMessage action → IsWithinLimits action moment len → KeepsLimits (message action moment len)
 within-message action moment len other is = (is.0, (is.1 other).0, (is.1 other).1)
 
--- a message with its line
+-- the line of a message, the message and its LF are the spelling of an entry with that message
 message-whole : (line : List ℕ) (action : Action) (moment len : ℕ) (text behind after : List ℕ) → HasMessage action → line ≡ line_says action moment len → length text ≡ len → behind ≡ text ++ line_feed ∷ after
     → line ++ line_feed ∷ behind ≡ entry_says (record { action = action; moment = moment; text = text }) ++ after
 message-whole line action moment len text behind after other is size whole =
@@ -87,7 +87,7 @@ message-whole line action moment len text behind after other is size whole =
     ∙ ap (λ (t : List ℕ). line_says action moment (length text) ++ line_feed ∷ t) (sym body)
     ∙ sym (append_assoc (line_says action moment (length text)) (line_feed ∷ body_says action text) after)
 
--- a message's line, and what is after it
+-- where a line of a message stands with what comes after it, the spelling says the same
 message-line-told : (format : Format) (last : ℕ) (line : List ℕ) (action : Action) (moment len : ℕ) (behind : List ℕ) (next : Next Item) → HasMessage action → line ≡ line_says action moment len
     → read.HeadComes last (message action moment len) behind next → Told (LineFault format last line behind) (Entered format last line behind) next
 message-line-told format last line action moment len behind next other is (inl (outside, same)) =
@@ -112,7 +112,7 @@ message-line-told format last line action moment len behind next other is (inr (
           (message-whole line action moment len text behind after other is size whole, order, (message-of format action other, subst (IsWithinLimits action moment) (sym size) w, (λ none. absurd (none other)))),
         )
 
--- the line of an entry without a message, and what is after it
+-- the line of an entry without a message is the spelling of that entry
 plain-whole : (line : List ℕ) (action : Action) (moment : ℕ) (behind : List ℕ) → ¬ (HasMessage action) → line ≡ line_says action moment 0
     → line ++ line_feed ∷ behind ≡ entry_says (record { action = action; moment = moment; text = [] }) ++ behind
 plain-whole line action moment behind none is =
@@ -120,6 +120,7 @@ plain-whole line action moment behind none is =
     ∙ ap (λ (t : List ℕ). line_says action moment 0 ++ line_feed ∷ (t ++ behind)) (sym (body-plain action [] none))
     ∙ sym (append_assoc (line_says action moment 0) (line_feed ∷ body_says action []) behind)
 
+-- where a line of an entry without a message stands with what comes after it, the spelling says the same
 plain-line-told : (format : Format) (last : ℕ) (line : List ℕ) (action : Action) (moment : ℕ) (behind : List ℕ) (next : Next Item) → ¬ (HasMessage action) → IsOf format action → line ≡ line_says action moment 0
     → read.HeadComes last (plain action moment) behind next → Told (LineFault format last line behind) (Entered format last line behind) next
 plain-line-told format last line action moment behind next none of is (inl (outside, same)) =
@@ -134,7 +135,7 @@ plain-line-told format last line action moment behind next none of is (inr (insi
       (plain-whole line action moment behind none is, order, (of, (inside, (λ has. absurd (none has))), (λ m. refl))),
     )
 
--- a line, and what is after it
+-- where a line of an entry stands with what comes after it, the spelling says the same
 line-told : (format : Format) (last : ℕ) (line : List ℕ) (head : Head) (behind : List ℕ) (next : Next Item) → length line < 32 → HeadLine format line head
     → read.HeadComes last head behind next → Told (LineFault format last line behind) (Entered format last line behind) next
 line-told format last line (message action moment len) behind next short is at =
@@ -142,14 +143,14 @@ line-told format last line (message action moment len) behind next short is at =
 line-told format last line (plain action moment) behind next short is at =
     plain-line-told format last line action moment behind next is.1 is.2 (plain-spelled format line action moment 0 short is) at
 
--- a line that is spelled can be read
+-- a line that spells an entry of the format, of fewer than 32 bytes, can be read
 line-read : (format : Format) (line : List ℕ) (action : Action) (moment len : ℕ) → length line < 32 → IsOf format action → line ≡ line_says action moment len → (head : Head) × HeadLine format line head
 line-read format line action moment len short of is = elim (message-or-not action) [
   | inr none ↦ (plain action moment, plain-read format line action moment len short none of is)
   | inl has ↦ (message action moment len, message-read format line action moment len short has is)
 ]
 
--- the front of what is left
+-- where the front of the rest is read as a line or a fault, the spelling says the same
 front-told : (format : Format) (last : ℕ) (rest : List ℕ) (next : Next Item) → read.LineComes format last rest next
     → Told (AtFront format last rest) (λ e after. (rest ≡ entry_says e ++ after) × (last ≤ e.moment) × IsEntry format e) next
 front-told format last rest next (inl (none, inl (few, same))) = inl (faults.Truncated, same, inl (none, inl (not_above 32 (length rest) few, refl)))
@@ -162,7 +163,7 @@ front-told format last rest next (inr (line, behind, front, inr (head, is, at)))
     go (inl (fault, same, at)) = inl (fault, same, inr (line, behind, front, at))
     go (inr (e, after, same, (whole, order, entry))) = inr (e, after, same, (front.whole ∙ whole, order, entry))
 
--- what is read next is what comes next
+-- what the code reads next is what comes next by the spelling
 pub next-told : (format : Format) (count last : ℕ) (rest : List ℕ) (next : Next Item) → read.EntryComes format count last rest next → ComesNext format count last rest next
 next-told format count last rest next (inl (none, same)) = subst (ComesNext format count last rest) (sym same) none
 next-told format count last rest next (inr (some, inl (many, same))) = subst (ComesNext format count last rest) (sym same) (some, inl (not_below count most_entries many, refl))

@@ -1,4 +1,4 @@
--- What comes next by the spelling is read so.
+-- What comes next by the spelling is what the code reads next.
 use Rattle.std.proofs.Common.{◌≡◌, ◌≢◌, inl, inr, ◌<◌, ◌≤◌, ◌+◌, ℕ, List, [], ◌∷◌, ◌++◌, length, take, drop, get_or, refl, subst, sym, ap, ◌∙◌, arith, append_assoc}
 use Rattle.std.specs.Prelude.{decimal}
 use Rattle.std.proofs.lemmas.List.{length-append, length-take-le}
@@ -23,15 +23,16 @@ use Rattle.sip_log.proofs.numbers.DecimalLemmas.{number-decimal, powers}
 use Rattle.sip_log.proofs.answers.NextLemmas.{AtBody, AtNumbers, AtFront, not_below, not_above, message-within, within-message}
 use Rattle.sip_log.proofs.logs.LogExists.{limits-or-not}
 
--- A fault.
+-- What follows is of faults.
 
+-- a message that cannot be read for case 6 or 7 is read as that fault
 message-stops : (action : Action) (moment len : ℕ) (behind : List ℕ) (fault : LogReason) → AtBody action len behind fault → read.MessageComes action moment len behind (stops fault)
 message-stops action moment len behind fault (other, inl (short, same)) = inl ((λ more. omega arith), ap stops same)
 message-stops action moment len behind fault (other, inr (long, (unclosed, same))) =
     let inside : len < length behind = not_above (length behind) len long in
     inr (inside, (take len behind, get_or behind len 0, drop (len + 1) behind, cut-at behind len inside, length-take-le len behind (omega arith), inl (unclosed, ap stops same)))
 
--- a message's numbers
+-- a message's line whose numbers or message are at fault is read as that fault
 message-numbers : (last : ℕ) (action : Action) (moment len : ℕ) (behind : List ℕ) (fault : LogReason) → HasMessage action → AtNumbers last action moment len behind fault
     → read.HeadComes last (message action moment len) behind (stops fault)
 message-numbers last action moment len behind fault other (inl (outside, same)) = inl ((λ k. outside (message-within action moment len k)), ap stops same)
@@ -44,7 +45,7 @@ message-numbers last action moment len behind fault other (inr (inside, rest)) =
     order (inl (early, same)) = inl ((λ le. omega arith), ap stops same)
     order (inr (late, body)) = inr (not_below moment last late, message-stops action moment len behind fault body)
 
--- those of an entry without a message
+-- the line of an entry without a message, whose moment is at fault, is read as that fault
 plain-numbers : (last : ℕ) (action : Action) (moment len : ℕ) (behind : List ℕ) (fault : LogReason) → ¬ (HasMessage action) → AtNumbers last action moment len behind fault → read.HeadComes last (plain action moment) behind (stops fault)
 plain-numbers last action moment len behind fault none (inl (outside, same)) = inl ((λ k. outside (k, (λ has. absurd (none has)))), ap stops same)
 plain-numbers last action moment len behind fault none (inr (inside, rest)) = elim (limits-or-not (plain action moment)) [
@@ -56,6 +57,7 @@ plain-numbers last action moment len behind fault none (inr (inside, rest)) = el
     order (inl (early, same)) = inl ((λ le. omega arith), ap stops same)
     order (inr (late, body)) = absurd (none body.0)
 
+-- a line at fault is read as that fault
 line-stops : (format : Format) (last : ℕ) (line behind : List ℕ) (fault : LogReason) → length line < 32 → LineFault format last line behind fault → read.FormComes format last line behind (stops fault)
 line-stops format last line behind fault short (inl (none, same)) = inl (unread, ap stops same)
   where
@@ -67,16 +69,18 @@ line-stops format last line behind fault short (inr (action, moment, len, of, is
   | inl has ↦ inr (message action moment len, message-read format line action moment len short has is, message-numbers last action moment len behind fault has numbers)
 ]
 
+-- a rest whose front is at fault is read as that fault
 front-stops : (format : Format) (last : ℕ) (rest : List ℕ) (fault : LogReason) → AtFront format last rest fault → read.LineComes format last rest (stops fault)
 front-stops format last rest fault (inl (none, inl (few, same))) = inl (none, inl ((λ many. omega arith), ap stops same))
 front-stops format last rest fault (inl (none, inr (many, same))) = inl (none, inr (not_below (length rest) 32 many, ap stops same))
 front-stops format last rest fault (inr (line, behind, front, at)) = inr (line, behind, front, line-stops format last line behind fault front.short at)
 
--- An entry.
+-- What follows is of entries.
 
 lacks-decimal : (n : ℕ) → n ≤ last_moment → Lacks line_feed (decimal n)
 lacks-decimal n low = IsNumber-no_line_feed (decimal n) n (number-decimal n (omega (arith, low, powers 13 64 (omega arith))))
 
+-- no letter of an entry is a line feed
 letter-lacks : (a : Action) → letter a ≢ line_feed
 letter-lacks Sent same = absurd (omega arith)
 letter-lacks Received same = absurd (omega arith)
@@ -84,7 +88,7 @@ letter-lacks Failed same = absurd (omega arith)
 letter-lacks Mark same = absurd (omega arith)
 letter-lacks Restart same = absurd (omega arith)
 
--- a line within the limits has no LF and is short
+-- the line of an entry within the limits has no LF, and fewer than 32 bytes
 line-lacks : (action : Action) (moment len : ℕ) → moment ≤ last_moment → (HasMessage action → len ≤ 65535) → Lacks line_feed (line_text action moment len) × (length (line_text action moment len) < 32)
 line-lacks action moment len low small = elim (message-or-not action) as (λ _. Lacks line_feed (line_text action moment len) × (length (line_text action moment len) < 32)) [
   | inr none ↦
@@ -106,11 +110,11 @@ line-lacks action moment len low small = elim (message-or-not action) as (λ _. 
     size : length (decimal moment) ≤ 13
     size = length-decimal-le 13 moment (omega arith) (omega arith) (omega arith)
 
--- the line of an entry within the limits has no LF and fits into the first 32 bytes
+-- the line that spells an entry within the limits has no LF, and fewer than 32 bytes
 line-fits : (action : Action) (moment len : ℕ) → moment ≤ last_moment → (HasMessage action → len ≤ 65535) → Lacks line_feed (line_says action moment len) × (length (line_says action moment len) < 32)
 line-fits action moment len low small = subst (λ (t : List ℕ). Lacks line_feed t × (length t < 32)) (line-same action moment len) (line-lacks action moment len low small)
 
--- an entry at the front is read
+-- where an entry of the format that keeps the order is spelled at the front of the rest, it is read
 entry-read : (format : Format) (last : ℕ) (rest : List ℕ) (e : Item) (behind : List ℕ) → rest ≡ entry_says e ++ behind → last ≤ e.moment → IsEntry format e → read.LineComes format last rest (gives e behind)
 entry-read format last rest e behind whole order entry =
     let line = line_says e.action e.moment (length e.text) in
@@ -142,7 +146,7 @@ entry-read format last rest e behind whole order entry =
         let body : body_says e.action e.text ++ behind ≡ e.text ++ line_feed ∷ behind = ap (λ (t : List ℕ). t ++ behind) (body-message e.action e.text has) ∙ append_assoc e.text (line_feed ∷ []) behind in
         inr (omega (arith, ap length body, length-append e.text (line_feed ∷ behind)), (e.text, line_feed, behind, body, refl, inr (refl, refl)))
 
--- an entry has bytes
+-- the spelling of an entry has a byte
 entry-some : (e : Item) → 1 ≤ length (entry_says e)
 entry-some e = omega (
   arith,
@@ -150,7 +154,7 @@ entry-some e = omega (
   ap length (line-same e.action e.moment (length e.text)),
 )
 
--- what comes next is read next
+-- what comes next by the spelling is what the code reads next
 pub next-read : (format : Format) (count last : ℕ) (rest : List ℕ) (next : Next Item) → ComesNext format count last rest next → read.EntryComes format count last rest next
 next-read format count last rest ends is = inl (is, refl)
 next-read format count last rest (gives e behind) (whole, few, order, entry) =

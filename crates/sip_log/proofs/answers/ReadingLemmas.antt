@@ -1,4 +1,4 @@
--- What an answer says, by what it says in other words.
+-- Lemmas of what an answer says: it says the same in other words, and a call says what its parts say.
 use Rattle.std.proofs.Common.{◌≡◌, inl, inr, ℕ, Bool, List, Option, Some, None, IfSome, Result, Ok, Err, IsSome, OnOk, refl, subst, sym, ap, ◌∙◌}
 use Rattle.std.specs.Io.KnownBytes.{prepend_known}
 use Rattle.sip_standard.specs.Times.{Times}
@@ -25,7 +25,7 @@ pub IfSome-map : {A : Type 0} (o : Option A) (P Q : A → Type 0) → ((x : A) �
 IfSome-map None P Q f h = tt
 IfSome-map (Some x) P Q f h = f x h
 
--- an error says the same in other words
+-- an error that is told of P is told of Q, where a fault of P is one of Q
 pub FailsAs-map : (before after : Bool) (P Q : LogReason → Type 0) (e : LogError) → ((fault : LogReason) → P fault → Q fault) → FailsAs before after P e → FailsAs before after Q e
 FailsAs-map before after P Q errors.Header f h = (h.0, f faults.Header h.1)
 FailsAs-map before after P Q errors.EntryLine f h = (h.0, f faults.EntryLine h.1)
@@ -36,7 +36,7 @@ FailsAs-map before after P Q errors.Io f h = h
 FailsAs-map before after P Q errors.Memory f h = tt
 FailsAs-map before after P Q errors.Failed f h = h
 
--- an answer says the same of what it is mapped to
+-- an answer that tells what comes by P tells it by Q, where what comes by P comes by Q
 pub Says-map : {A B : Type 0} (old new : Option (List ℕ)) (before after : Bool) (P Q : List ℕ → Next B → Type 0) (seen : A → List ℕ → Next B) (r : Result A LogError)
     → ((xs : List ℕ) (n : Next B) → P xs n → Q xs n) → TellsWhatComes old new before after P seen r → TellsWhatComes old new before after Q seen r
 Says-map old new before after P Q seen (Ok a) f h =
@@ -45,12 +45,13 @@ Says-map old new before after P Q seen (Err e) f h =
     FailsAs-map before after (λ fault. IfSome old (λ xs. P xs (stops fault))) (λ fault. IfSome old (λ xs. Q xs (stops fault))) e
     (λ fault. IfSome-map old (λ xs. P xs (stops fault)) (λ xs. Q xs (stops fault)) (λ xs. f xs (stops fault))) h
 
--- the fault of a header
+-- the fault that comes next, and `Header` where none does
 fault_of : {A : Type 0} → Next A → LogReason
 fault_of (stops fault) = fault
 fault_of (gives a behind) = faults.Header
 fault_of ends = faults.Header
 
+-- where a fault comes first in an input, the input lacks a header, and the fault is `Header`
 pub fault-first : (input : List ℕ) (fault : LogReason) → read.HeaderComes input (stops fault) → LacksHeader input × (fault ≡ faults.Header)
 unfolding fault_of
 fault-first input fault is = (no-header input fault is, header-is is)
@@ -60,18 +61,18 @@ fault-first input fault is = (no-header input fault is, header-is is)
     header-is (inl (format, rest, title, inr (none, same))) = ap fault_of same
     header-is (inr (none, same)) = ap fault_of same
 
--- the header's fault comes first
+-- where the code reads a fault as the header, that fault comes first in the input
 pub header-fault : (format : Format) (input : List ℕ) (fault : LogReason) → read.HeaderComes input (stops fault) → ComesFirst format None input (stops fault)
 header-fault format input fault is =
     let first = fault-first input fault is in
     (first.0, ap (λ f. stops f) first.1)
 
--- the header, and what comes after it
+-- where the code reads a header, and something comes next after it, both come first in the input
 pub header-gives : (format : Format) (input : List ℕ) (p : Times) (behind : List ℕ) (next : Next Item) → read.HeaderComes input (gives (format, p) behind)
     → ComesNext format 0 0 behind next → ComesFirst format (Some p) input next
 header-gives format input p behind next is comes = (behind, header-spelled format input p behind is, comes)
 
--- a header was read, and an answer on what is after it
+-- where a header was read, an answer of what comes next after it is an answer of what comes first
 Says-headed : (old mid new : Option (List ℕ)) (before between after : Bool) (format : Format) (p : Times) (r : Result (Option Entry) LogError)
     → (between ≡ before) × IfSome old (λ xs. (ys : List ℕ) × (mid ≡ Some ys) × read.HeaderComes xs (gives (format, p) ys))
     → TellsWhatComes mid new between after (entry.EntryComes format 0 0) next_of r → TellsWhatComes old new before after (ComesFirst format (Some p)) next_of r
@@ -93,9 +94,9 @@ Says-headed old mid new before between after format p (Err e) first says =
     value (Some xs) fault is behind =
         header-gives format xs p is.0 (stops fault) is.2 (next-told format 0 0 is.0 (stops fault) (subst (λ o. IfSome o (λ xs. entry.EntryComes format 0 0 xs (stops fault))) is.1 behind))
 
--- A header that is read by itself.
+-- What follows is of a header that is read by itself.
 
--- a header says the same with its format beside it
+-- where a header was read, the answer with its times tells what stands first in the input
 pub headed : (old new : Option (List ℕ)) (before after : Bool) (format : Format) (p : Times)
     → (after ≡ before) × IfSome old (λ xs. (ys : List ℕ) × (new ≡ Some ys) × read.HeaderComes xs (gives (format, p) ys))
     → TellsWhatComes {A = Times} old new before after (Heads format) gives (Ok p)
@@ -105,7 +106,7 @@ headed old new before after format p says = (
       (λ xs w. (w.0, w.1, header-spelled format xs p w.0 w.2)) says.1,
 )
 
--- a fault of a header says what comes in the input
+-- where the header is at fault, the answer with the error tells what stands first in the input
 pub unheaded : (old new : Option (List ℕ)) (before after : Bool) (format : Format) (e : LogError) → FailsAs before after (λ fault. IfSome old (λ xs. read.HeaderComes xs (stops fault))) e
     → TellsWhatComes {A = Times} old new before after (Heads format) gives (Err e)
 unheaded old new before after format e fails =
@@ -119,10 +120,10 @@ keeps : (old new : Option Times) (format format2 : Format) → new ≡ old → f
 keeps None new format format2 same same2 = tt
 keeps (Some p) new format format2 same same2 = (same, same2)
 
--- One call, by what it was made of.
+-- What follows is one call of `next`, put together from the clauses of its parts.
 
 module _ (old new : ProgressState) (left left2 : Option (List ℕ)) (before after : Bool) (window : Window) (held : old.held ≡ items window) where
-  -- an entry is read
+  -- where entries are read, an answer of the entry that comes next is an answer of `next`
   pub entries-step : (r : Result (Option Entry) LogError) → old.stage ≡ entries → IsSome old.times → Moves old.count old.last (beside_source new left2 after) r → new.format ≡ old.format → new.times ≡ old.times
       → TellsWhatComes (unread window left) (prepend_known new.held left2) before after (entry.EntryComes old.format old.count old.last) next_of r
       → Nexts (beside_source old left before) (beside_source new left2 after) r
@@ -136,7 +137,7 @@ module _ (old new : ProgressState) (left left2 : Option (List ℕ)) (before afte
             (Says-map (unread window left) (prepend_known new.held left2) before after (entry.EntryComes old.format old.count old.last) (ComesNext old.format old.count old.last) next_of r (next-told old.format old.count old.last) says));
       })
 
-  -- a header is read, and then an entry
+  -- where nothing was read, a header and then an answer of the entry that comes next are an answer of `next`
   pub fresh-step : (mid : Option (List ℕ)) (between : Bool) (format : Format) (p : Times) (r : Result (Option Entry) LogError) → old.stage ≡ fresh → old.times ≡ None → old.count ≡ 0 → old.last ≡ 0
       → Moves old.count old.last (beside_source new left2 after) r → new.format ≡ format → new.times ≡ Some p
       → (between ≡ before) × IfSome (unread window left) (λ xs. (ys : List ℕ) × (mid ≡ Some ys) × read.HeaderComes xs (gives (format, p) ys))
@@ -156,7 +157,7 @@ module _ (old new : ProgressState) (left left2 : Option (List ℕ)) (before afte
             (subst (λ m. TellsWhatComes mid (prepend_known new.held left2) between after (entry.EntryComes format old.count m) next_of r) no_last says))))));
       })
 
-  -- a header that cannot be read
+  -- where nothing was read, a header that cannot be read makes `next` answer the fault
   pub fault-step : (e : LogError) → old.stage ≡ fresh → old.times ≡ None → new.stage ≡ failed → new.count ≡ old.count → new.last ≡ old.last → new.times ≡ None
       → FailsAs before after (λ fault. IfSome (unread window left) (λ xs. read.HeaderComes xs (stops fault))) e
       → Nexts (beside_source old left before) (beside_source new left2 after) (Err e)

@@ -1,4 +1,4 @@
--- What an answer says of the input, by what it says of the bytes that are held and left.
+-- Lemmas of what an answer says of the whole input, by what it says of the bytes that are held and those that are left.
 use Rattle.std.proofs.Common.{◌≡◌, ℕ, Bool, List, ◌++◌, Option, Some, Result, Ok, Err, ◌∙◌, ap}
 use Rattle.std.specs.Option.{IfSome}
 use Rattle.std.specs.Io.KnownBytes.{prepend_known}
@@ -13,7 +13,7 @@ use Rattle.sip_log.proofs.answers.ToldLemmas.{told, known}
 
 module _ {B : Type 0} {held held2 : List ℕ} {left left2 : Option (List ℕ)} {before mid : Bool} (reads : Reads held held2 left left2 before mid)
     (P : List ℕ → Next B → Type 0) where
-  -- a value, with the rest of what was held and what is left after it
+  -- where P holds of the held bytes and those left, an answer with a value tells what comes in the input by P
   pub Says-value : (rest : List ℕ) (next : List ℕ → Next B) → ((ys : List ℕ) → left2 ≡ Some ys → P (held2 ++ ys) (next (rest ++ ys)))
       → (mid ≡ before) × IfSome (prepend_known held left) (λ xs. (ys : List ℕ) × (prepend_known rest left2 ≡ Some ys) × P xs (next ys))
   Says-value rest next fact = (
@@ -22,12 +22,12 @@ module _ {B : Type 0} {held held2 : List ℕ} {left left2 : Option (List ℕ)} {
         (λ ys is. (rest ++ ys, ap (prepend_known rest) is, fact ys is)),
   )
 
-  -- a fault of the log
+  -- where P holds of the held bytes and those left, with a fault, an answer with that fault tells what comes in the input by P
   pub Says-fault : (reason : LogReason) → ((ys : List ℕ) → left2 ≡ Some ys → P (held2 ++ ys) (stops reason))
       → (mid ≡ before) × IfSome (prepend_known held left) (λ xs. P xs (stops reason))
   Says-fault reason fact = (reads.fine, told reads (λ xs. P xs (stops reason)) fact)
 
-  -- a fault after is one in front
+  -- a fault that is told by Q of the bytes after a part of the input is told by P of the input, where Q after it makes P
   Says-behind : (rest : List ℕ) (after : Bool) (Q : List ℕ → Next B → Type 0) (fault : LogReason) → ((ys : List ℕ) (n : Next B) → left2 ≡ Some ys → Q (rest ++ ys) n → P (held2 ++ ys) n)
       → (after ≡ mid) × IfSome (prepend_known rest left2) (λ xs. Q xs (stops fault)) → (after ≡ before) × IfSome (prepend_known held left) (λ xs. P xs (stops fault))
   Says-behind rest after Q fault step says = (
@@ -35,7 +35,7 @@ module _ {B : Type 0} {held held2 : List ℕ} {left left2 : Option (List ℕ)} {
     told reads (λ xs. P xs (stops fault)) (λ ys is. step ys (stops fault) is (known rest left2 ys (λ xs. Q xs (stops fault)) is says.1)),
   )
 
-  -- what the rest of a call says of the bytes after, it says of those in front
+  -- an answer that tells what comes after a part of the input by Q tells what comes in the input by P, where Q after it makes P
   pub Says-step : {A : Type 0} (rest : List ℕ) (new : Option (List ℕ)) (after : Bool) (Q : List ℕ → Next B → Type 0) (seen : A → List ℕ → Next B)
       (r : Result A LogError) → ((ys : List ℕ) (n : Next B) → left2 ≡ Some ys → Q (rest ++ ys) n → P (held2 ++ ys) n)
       → TellsWhatComes (prepend_known rest left2) new mid after Q seen r → TellsWhatComes (prepend_known held left) new before after P seen r

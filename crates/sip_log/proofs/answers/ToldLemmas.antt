@@ -1,4 +1,4 @@
--- What is known of the bytes that are held and of those left in a source is known of the input.
+-- What is known of the bytes that are held and of those left in the source is known of the input.
 use Rattle.std.proofs.Common.{◌≡◌, ℕ, Bool, List, ◌++◌, Option, Some, None, [], refl, subst, sym, ap, ◌∙◌, append_assoc}
 use Rattle.std.specs.Option.{IfSome}
 use Rattle.std.specs.Io.KnownBytes.{Consumes, IsAtEnd, prepend_known}
@@ -6,7 +6,7 @@ use Rattle.sip_log.specs.declared.window.Window.{Window}
 use Rattle.sip_log.specs.inner.Reads.{Reads}
 use Rattle.sip_log.specs.inner.Window.{items, unread}
 
--- a fact on what is held and whatever is left is a fact on the input
+-- a fact of the bytes that are held and those left is a fact of the input, once bytes came from the source
 pub told : {held held2 : List ℕ} {left left2 : Option (List ℕ)} {failed failed2 : Bool} → Reads held held2 left left2 failed failed2
     → (P : List ℕ → Type 0) → ((ys : List ℕ) → left2 ≡ Some ys → P (held2 ++ ys)) → IfSome (prepend_known held left) P
 told {left = None} reads P fact = tt
@@ -16,6 +16,7 @@ told {held = held} {held2 = held2} {left = Some xs} {left2 = Some ys} reads P fa
     ap (λ (t : List ℕ). t ++ ys) reads.held_is ∙ append_assoc held reads.came ys ∙ ap (λ (t : List ℕ). held ++ t) (sym reads.left_is) in
     subst P same (fact ys refl)
 
+-- bytes that came from a source, and then more, are bytes that came from it one after the other
 Consumes-then : (left left2 left3 : Option (List ℕ)) (came more : List ℕ) → Consumes left left2 came → Consumes left2 left3 more → Consumes left left3 (came ++ more)
 Consumes-then None left2 left3 came more first second = tt
 Consumes-then (Some xs) None left3 came more first second = absurd first
@@ -23,7 +24,7 @@ Consumes-then (Some xs) (Some ys) None came more first second = absurd second
 Consumes-then (Some xs) (Some ys) (Some zs) came more first second =
     first ∙ ap (λ (t : List ℕ). came ++ t) second ∙ sym (append_assoc came more zs)
 
--- bytes came, and then more
+-- where bytes came from a source and then more came, both came, and no read failed
 pub Reads-then : {held held2 held3 : List ℕ} {left left2 left3 : Option (List ℕ)} {failed failed2 failed3 : Bool} → Reads held held2 left left2 failed failed2
     → Reads held2 held3 left2 left3 failed2 failed3 → Reads held held3 left left3 failed failed3
 Reads-then {held = held} {left = left} {left2 = left2} {left3 = left3} first second = record {
@@ -33,11 +34,11 @@ Reads-then {held = held} {left = left} {left2 = left2} {left3 = left3} first sec
   fine = second.fine ∙ first.fine;
 }
 
--- the other way: a fact on the input where the bytes left are known
+-- a fact of the input, where the bytes left are known, is a fact of the bytes that are held and those left
 pub known : (held : List ℕ) (left : Option (List ℕ)) (ys : List ℕ) (P : List ℕ → Type 0) → left ≡ Some ys → IfSome (prepend_known held left) P → P (held ++ ys)
 known held left ys P is fact = subst (λ l. IfSome (prepend_known held l) P) is fact
 
--- nothing is left at the end
+-- where the source is at its end, no bytes are left
 pub none_left : (left : Option (List ℕ)) (ys : List ℕ) → left ≡ Some ys → IsAtEnd left → ys ≡ []
 none_left left ys is end = subst IsAtEnd is end
 
@@ -45,6 +46,6 @@ prepend_known-nil : (left : Option (List ℕ)) → prepend_known [] left ≡ lef
 prepend_known-nil None = refl
 prepend_known-nil (Some xs) = refl
 
--- a window that holds nothing leaves what is left in the source
+-- where a window holds nothing, what is not read yet is what the source has left
 pub unread-fresh : (w : Window) (left : Option (List ℕ)) → items w ≡ [] → unread w left ≡ left
 unread-fresh w left none = ap (λ (bs : List ℕ). prepend_known bs left) none ∙ prepend_known-nil left

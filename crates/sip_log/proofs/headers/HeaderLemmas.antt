@@ -1,4 +1,4 @@
--- The lines of a header, word by word.
+-- Lemmas of the lines of a header, word by word.
 use Rattle.std.proofs.Common.{◌≡◌, ◌⊎◌, inl, inr, Option, None, Some, MatchOption, ◌<◌, ◌≤◌, ◌+◌, ℕ, List, [], ◌++◌, length, get_or, take, drop, refl, subst, sym, ap, ◌∙◌, arith, append_assoc}
 use Rattle.std.specs.Prelude.{codes}
 use Rattle.std.proofs.lemmas.List.{append_cancel_left, take-append-drop, take-append-le, length-append}
@@ -22,8 +22,9 @@ use Rattle.sip_log.proofs.lines.SplitLemmas.{Lacks, Lacks-append, Lacks-word, cu
 use Rattle.sip_log.proofs.lines.FrontLemmas.{line-held, line-none}
 use Rattle.sip_log.proofs.numbers.NumberLemmas.{IsNumber-no_space, IsNumber-no_line_feed, IsNumber-one, IsNumber-short}
 
+-- What follows is of a word and the number that stands after it.
 module _ (word text : List ℕ) where
-  -- the number after a word and what is after it are only one
+  -- a text has only one number after the word, and one rest after that
   pub NumberAfter-one : (n n2 : ℕ) (behind behind2 : List ℕ) → NumberAfter word text n behind → NumberAfter word text n2 behind2
       → (n ≡ n2) × (behind ≡ behind2)
   NumberAfter-one n n2 behind behind2 is is2 =
@@ -32,30 +33,31 @@ module _ (word text : List ℕ) where
       (IsNumber-one is.number is2.number n n2 parts.0 is.number_is is2.number_is, parts.1)
 
   module _ (front back : List ℕ) (after : text ≡ word ++ (front ++ back)) (lacks : Lacks space front) (parted : Parted back) where
-    -- the number up to the first blank
+    -- the number after the word is what stands before the first blank
     pub NumberAfter-part : (n : ℕ) (behind : List ℕ) → NumberAfter word text n behind → IsNumber front n
     NumberAfter-part n behind is =
         let same = append_cancel_left word _ _ (sym is.whole ∙ after) in
         let parts = part-one space is.number behind front back (IsNumber-no_space _ n is.number_is) lacks is.parted parted same in
         subst (λ t. IsNumber t n) parts.0 is.number_is
 
-    -- a number at the front is one that comes after the word
+    -- a number before the first blank stands after the word
     pub NumberAfter-of : (n : ℕ) → IsNumber front n → NumberAfter word text n back
     NumberAfter-of n is = record { number = front; number_is = is; parted = parted; whole = after }
 
--- what a word, a number and the rest lack, their text lacks
+-- where neither the word nor the rest has a line feed, the text has none
 NumberAfter-lacks : (word text : List ℕ) (n : ℕ) (behind : List ℕ) → Lacks line_feed word → Lacks line_feed behind → NumberAfter word text n behind → Lacks line_feed text
 NumberAfter-lacks word text n behind front back is =
     subst (Lacks line_feed) (sym is.whole) (Lacks-append line_feed word (is.number ++ behind) front (Lacks-append line_feed is.number behind (IsNumber-no_line_feed is.number n is.number_is) back))
 
--- a number within the limits has at most five digits
+-- a number below 100,000 after the word takes at most five bytes
 NumberAfter-length : (word text : List ℕ) (n : ℕ) (behind : List ℕ) → n < 100000 → NumberAfter word text n behind → length text ≤ length word + 5 + length behind
 NumberAfter-length word text n behind low is =
     let digits : length is.number ≤ 5 = IsNumber-short is.number n 5 (omega arith) (omega arith) is.number_is in
     omega (arith, ap length is.whole, length-append word (is.number ++ behind), length-append is.number behind)
 
--- The end of line 2.
+-- What follows is of the tolerances, with which line 2 ends.
 
+-- a text tells only one pair of tolerances
 pub Tolerances-one : (format : Format) (text : List ℕ) (early late early2 late2 : ℕ) → Tolerances format text early late → Tolerances format text early2 late2
     → (early ≡ early2) × (late ≡ late2)
 Tolerances-one One text early late early2 late2 is is2 =
@@ -69,18 +71,20 @@ Tolerances-one Two text early late early2 late2 is is2 =
 nothing-lacks : Lacks line_feed []
 nothing-lacks = Lacks-word line_feed [] refl
 
+-- the text of tolerances has no line feed
 Tolerances-lacks : (format : Format) (text : List ℕ) (early late : ℕ) → Tolerances format text early late → Lacks line_feed text
 Tolerances-lacks One text early late is = NumberAfter-lacks (codes " tolerance ") text late [] (Lacks-word line_feed (codes " tolerance ") refl) nothing-lacks is.0
 Tolerances-lacks Two text early late is =
     NumberAfter-lacks (codes " early ") text early is.0 (Lacks-word line_feed (codes " early ") refl)
     (NumberAfter-lacks (codes " late ") is.0 late [] (Lacks-word line_feed (codes " late ") refl) nothing-lacks is.2) is.1
 
+-- the text of tolerances below 100,000 has at most 23 bytes
 Tolerances-length : (format : Format) (text : List ℕ) (early late : ℕ) → early < 100000 → late < 100000 → Tolerances format text early late → length text ≤ 23
 Tolerances-length One text early late low low2 is = omega (arith, NumberAfter-length (codes " tolerance ") text late [] low2 is.0)
 Tolerances-length Two text early late low low2 is =
     omega (arith, NumberAfter-length (codes " early ") text early is.0 low is.1, NumberAfter-length (codes " late ") is.0 late [] low2 is.2)
 
--- what was read of line 2, step by step, is what stands there
+-- What was read of line 2, word by word, is what stands there.
 module _ (format : Format) (line : List ℕ) (p : Times) (is : TimesLine format line p) (n1 : ℕ) (rest1 : List ℕ) (first : NumberAfter (codes "t1 ") line n1 rest1) where
   same1 : (p.t1 ≡ n1) × (is.rest1 ≡ rest1)
   same1 = NumberAfter-one (codes "t1 ") line p.t1 n1 is.rest1 rest1 is.t1_is first
@@ -108,13 +112,13 @@ module _ (format : Format) (line : List ℕ) (p : Times) (is : TimesLine format 
             let same4 = Tolerances-one format rest3 p.early p.late early late tolerances-after fourth in
             λ i. record { t1 = same1.0 i; t2 = same2.0 i; t4 = same3.0 i; early = same4.0 i; late = same4.1 i; rules = is.rules i }
 
--- line 2 is of one time
+-- a line 2 tells only one set of times
 pub TimesLine-one : (format : Format) (line : List ℕ) (p p2 : Times) → TimesLine format line p → TimesLine format line p2 → p ≡ p2
 TimesLine-one format line p p2 is is2 =
     times-after format line p is p2.t1 is2.rest1 is2.t1_is p2.t2 is2.rest2 is2.t2_is p2.t4 is2.rest3 is2.t4_is p2.early p2.late is2.tolerances
     ∙ (λ i. record { t1 = p2.t1; t2 = p2.t2; t4 = p2.t4; early = p2.early; late = p2.late; rules = sym is2.rules i })
 
--- times as the code keeps their numbers
+-- the times with their numbers as the code keeps them
 abbrev pub cut_times : Times → Times
 cut_times p = record { t1 = cut p.t1; t2 = cut p.t2; t4 = cut p.t4; early = cut p.early; late = cut p.late; rules = p.rules }
 
@@ -128,7 +132,7 @@ cut_times-within p is =
     let late : cut p.late ≡ p.late = omega (arith, is.late_high) in
     λ i. record { t1 = t1 i; t2 = t2 i; t4 = t4 i; early = early i; late = late i; rules = p.rules }
 
--- times that keep their limits once they are cut to what the code holds keep them
+-- where times are within their limits as the code keeps them, they are within them
 within-cut_times : (p : Times) → AreTimes (cut_times p) → AreTimes p
 within-cut_times p is = record {
   t1_low = omega (arith, is.t1_low);
@@ -141,7 +145,7 @@ within-cut_times p is = record {
   late_high = omega (arith, is.late_high);
 }
 
--- the times of a line, as `Params` takes them
+-- `Params` takes the times of line 2 exactly where they are within their limits
 pub times-read : (format : Format) (line : List ℕ) (n kept : Times) (r : Option Times) → TimesLine format line n → ((p : Times) → TimesLine format line p → p ≡ n) → kept ≡ cut_times n
     → MatchOption r (¬ (AreTimes kept)) (λ p. AreTimes p × (p ≡ kept))
     → MatchOption r ((p : Times) → TimesLine format line p → ¬ (AreTimes p)) (λ p. TimesLine format line p × AreTimes p)
@@ -153,7 +157,7 @@ times-read format line n kept (Some q) is only as_kept new =
     let same : q ≡ n = new.1 ∙ as_kept ∙ cut_times-within n within in
     (subst (TimesLine format line) (sym same) is, new.0)
 
--- line 2 has no line feed
+-- a line 2 has no line feed
 pub TimesLine-lacks : (format : Format) (line : List ℕ) (p : Times) → TimesLine format line p → Lacks line_feed line
 TimesLine-lacks format line p is =
     NumberAfter-lacks (codes "t1 ") line p.t1 is.rest1 (Lacks-word line_feed (codes "t1 ") refl)
@@ -165,7 +169,7 @@ TimesLine-lacks format line p is =
 abbrev pub longest_times : ℕ
 longest_times = 50
 
--- line 2 is short, where its numbers are within their limits
+-- a line 2 whose numbers are within their limits is shorter than `longest_times`
 pub TimesLine-short : (format : Format) (line : List ℕ) (p : Times) → TimesLine format line p → AreTimes p → length line < longest_times
 TimesLine-short format line p is within =
     let t1 = NumberAfter-length (codes "t1 ") line p.t1 is.rest1 (omega (arith, within.t1_high)) is.t1_is in
@@ -174,15 +178,16 @@ TimesLine-short format line p is within =
     let end = Tolerances-length format is.rest3 p.early p.late (omega (arith, within.early_high)) (omega (arith, within.late_high)) is.tolerances in
     omega (arith, t1, t2, t4, end)
 
+-- What follows is of the bytes that are held, and those left after them, once line 1 was read.
 module _ (format : Format) (held ys : List ℕ) where
-  -- no line feed where line 2 has one
+  -- where no line feed is among the first bytes, as many as line 2 can have, no line 2 is there and the header is at fault
   pub ComesSecond-none : IsFirstByte (is_byte line_feed) (take longest_times held) None → (longest_times ≤ length held) ⊎ (ys ≡ [])
       → ComesSecond format (held ++ ys) (stops faults.Header)
   ComesSecond-none none enough =
       inr ((λ p behind is. line-none longest_times held ys none enough is.line behind is.whole (TimesLine-short format is.line p is.times is.within)), refl)
 
   module _ (k : ℕ) (found : IsFirstByte (is_byte line_feed) (take longest_times held) (Some k)) where
-    -- a line that is not line 2
+    -- where the first line is no line 2 with times within their limits, the header is at fault
     pub ComesSecond-other : ((p : Times) → TimesLine format (take k held) p → ¬ (AreTimes p)) → ComesSecond format (held ++ ys) (stops faults.Header)
     ComesSecond-other other = inr (
       (λ p behind is.
@@ -192,18 +197,18 @@ module _ (format : Format) (held ys : List ℕ) where
       refl,
     )
 
-    -- line 2, and what comes after it
+    -- where the first line is line 2, what comes after it comes after line 1
     pub ComesSecond-times : (p : Times) (next : Next (Format × Times)) → TimesLine format (take k held) p → AreTimes p → ComesThird format p (drop (k + 1) held ++ ys) next
         → ComesSecond format (held ++ ys) next
     ComesSecond-times p next is within third =
         inl (p, drop (k + 1) held ++ ys, record { line = take k held; times = is; within = within; whole = (line-held longest_times held ys k found).whole }, third)
 
--- line 1 has twelve bytes
+-- line 1 has twelve bytes with its line feed
 title-length : (format : Format) → length (title_text format) ≡ 12
 title-length One = refl
 title-length Two = refl
 
--- the bytes of line 1 are not held
+-- where the first twelve bytes are no line 1, the header is at fault
 pub ComesFirst-other : (held ys : List ℕ) → 12 ≤ length held → ((format : Format) → ¬ (take 12 held ≡ title_text format)) → HeaderComes (held ++ ys) (stops faults.Header)
 ComesFirst-other held ys long other = inr (
   (λ format rest is.
@@ -212,7 +217,7 @@ ComesFirst-other held ys long other = inr (
   refl,
 )
 
--- what comes after line 1 comes first in the input
+-- where the first twelve bytes are line 1, what comes after them comes first in the input
 pub ComesFirst-second : (held ys : List ℕ) (format : Format) (next : Next (Format × Times)) → take 12 held ≡ title_text format
     → ComesSecond format (drop 12 held ++ ys) next → HeaderComes (held ++ ys) next
 ComesFirst-second held ys format next is second =
@@ -220,38 +225,38 @@ ComesFirst-second held ys format next is second =
     ap (λ (t : List ℕ). t ++ ys) (sym (take-append-drop 12 held)) ∙ append_assoc (take 12 held) (drop 12 held) ys ∙ ap (λ (t : List ℕ). t ++ (drop 12 held ++ ys)) is in
     inl (format, drop 12 held ++ ys, whole, second)
 
--- The rules.
+-- What follows is of the line of rules.
 
--- the line of rules has eleven bytes
+-- the line of rules has eleven bytes with its line feed
 rules-length : (rules : Rules) → length (rules_text rules) ≡ 11
 rules-length R3261 = refl
 rules-length R6026 = refl
 
--- the line of rules begins with r
+-- the line of rules begins with the letter r
 pub rules-first : (rules : Rules) (rest : List ℕ) → get_or (rules_text rules ++ rest) 0 0 ≡ 114
 rules-first R3261 rest = refl
 rules-first R6026 rest = refl
 
--- times under the rules that they have
+-- times with the rules of RFC 6026 are the same under these rules
 under-same : (p : Times) → p.rules ≡ R6026 → p ≡ under R6026 p
 under-same p is = λ i. record { t1 = p.t1; t2 = p.t2; t4 = p.t4; early = p.early; late = p.late; rules = is i }
 
 module _ (format : Format) (p : Times) (is : p.rules ≡ R6026) where
-  -- no line of rules stands there
+  -- where no line of rules stands in the rest, the header ends before it
   pub ComesThird-none : (rest : List ℕ) → ((rules : Rules) (more : List ℕ) → ¬ (rest ≡ rules_text rules ++ more)) → ComesThird format p rest (gives (format, p) rest)
   ComesThird-none rest none = (R6026, rest, inr (refl, refl, none), ap (λ (q : Times). gives (format, q) rest) (under-same p is))
 
-  -- nothing is left
+  -- where fewer than eleven bytes are left, no line of rules is there, and the header ends before them
   pub ComesThird-end : (rest : List ℕ) → length rest < 11 → ComesThird format p rest (gives (format, p) rest)
   ComesThird-end rest short = ComesThird-none rest (λ rules more same. omega (arith, ap length same, length-append (rules_text rules) more, rules-length rules))
 
-  -- another byte than r is held
+  -- where the first byte that is held is not r, no line of rules is there, and the header ends before it
   pub ComesThird-other : (held ys : List ℕ) → 1 ≤ length held → ¬ (get_or held 0 0 ≡ 114) → ComesThird format p (held ++ ys) (gives (format, p) (held ++ ys))
   ComesThird-other held ys some other =
       ComesThird-none (held ++ ys)
       (λ rules more same. other (sym (get_or-append held ys 0 0 some) ∙ ap (λ (t : List ℕ). get_or t 0 0) same ∙ rules-first rules more))
 
-  -- other bytes than those of the line are held
+  -- where the first eleven bytes that are held are no line of rules, the header ends before them
   pub ComesThird-unruled : (held ys : List ℕ) → 11 ≤ length held → ((rules : Rules) → ¬ (take 11 held ≡ rules_text rules)) → ComesThird format p (held ++ ys) (gives (format, p) (held ++ ys))
   ComesThird-unruled held ys long other =
       ComesThird-none (held ++ ys)
@@ -259,7 +264,7 @@ module _ (format : Format) (p : Times) (is : p.rules ≡ R6026) where
       other rules
       (sym (take-append-le 11 held ys long) ∙ ap (take 11) same ∙ ap (λ n. take n (rules_text rules ++ more)) (sym (rules-length rules)) ∙ take-append_seam (rules_text rules) more))
 
--- the line of rules
+-- where the first eleven bytes that are held are a line of rules, the header has these rules and ends after it
 pub ComesThird-rules : (format : Format) (p : Times) (held ys : List ℕ) (rules : Rules) → take 11 held ≡ rules_text rules
     → ComesThird format p (held ++ ys) (gives (format, under rules p) (drop 11 held ++ ys))
 ComesThird-rules format p held ys rules is =

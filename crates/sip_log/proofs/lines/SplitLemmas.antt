@@ -1,4 +1,4 @@
--- A list at the first place where a byte stands.
+-- Lemmas of a list that is cut at the first place where a byte stands.
 use Rattle.std.proofs.Common.{◌≡◌, ◌≢◌, ◌⊎◌, inl, inr, Option, unwrap_or, subst, ℕ, zero, suc, ◌+◌, ◌<◌, ◌≤◌, List, [], ◌∷◌, ◌++◌, length, take, drop, get_or, Some, None, true, not, ◌==◌, refl, sym, ap, ◌∙◌, arith, drop-cons, add-one, append_assoc}
 use Rattle.std.proofs.lemmas.List.{take-append-drop, get_or-take, length-take, length-append, append-nil, append_cancel_left}
 use Rattle.std.proofs.Math.Seq.{get_or-append_seam, take-length, drop-length}
@@ -8,15 +8,15 @@ use Rattle.std.proofs.lemmas.Bool.{and_parts}
 use mathlib.Core.Bool.{true≢false}
 use Rattle.memchr.specs.Find.{IsFirstByte, is_byte}
 
--- m is nowhere in xs
+-- the byte m is nowhere in xs
 pub record Lacks (m : ℕ) (xs : List ℕ) : Type 0 where
   pub nowhere : (k : ℕ) → k < length xs → get_or xs k 0 ≢ m
 
--- nothing, or m and more
+-- the list is empty, or begins with m
 abbrev pub Begins : ℕ → List ℕ → Type 0
 Begins m xs = (xs ≡ []) ⊎ ((more : List ℕ) × (xs ≡ m ∷ more))
 
--- xs is front, the first m, and then back
+-- xs is front, then the first m of it, and then back
 pub record Cut (m : ℕ) (xs front back : List ℕ) : Type 0 where
   pub whole : xs ≡ front ++ m ∷ back
   pub first : Lacks m front
@@ -24,6 +24,7 @@ pub record Cut (m : ℕ) (xs front back : List ℕ) : Type 0 where
 Lacks-tail : (m x : ℕ) (xs : List ℕ) → Lacks m (x ∷ xs) → Lacks m xs
 Lacks-tail m x xs lacks = record { nowhere = λ k inside. lacks.nowhere (suc k) (omega arith) }
 
+-- where m is neither an element nor in the list after it, it is not in both together
 pub Lacks-cons : (m x : ℕ) (xs : List ℕ) → x ≢ m → Lacks m xs → Lacks m (x ∷ xs)
 Lacks-cons m x xs other lacks = record { nowhere = at }
   where
@@ -31,20 +32,20 @@ Lacks-cons m x xs other lacks = record { nowhere = at }
     at zero inside = other
     at (suc k) inside = lacks.nowhere k (omega arith)
 
--- m is nowhere in two lists, one after the other
+-- where m is in neither of two lists, it is not in the one list that they make
 pub Lacks-append : (m : ℕ) (xs ys : List ℕ) → Lacks m xs → Lacks m ys → Lacks m (xs ++ ys)
 Lacks-append m [] ys first second = second
 Lacks-append m (x ∷ xs) ys first second =
     Lacks-cons m x (xs ++ ys) (first.nowhere 0 (omega arith)) (Lacks-append m xs ys (Lacks-tail m x xs first) second)
 
--- by a test, which computes for a word
+-- where a test that computes for a word finds no m, m is nowhere in it
 pub Lacks-word : (m : ℕ) (xs : List ℕ) → list_all (λ x. not (x == m)) xs ≡ true → Lacks m xs
 Lacks-word m [] pass = record { nowhere = λ k inside. absurd (omega arith) }
 Lacks-word m (x ∷ xs) pass =
     let parts = and_parts (not (x == m)) _ pass in
     Lacks-cons m x xs (λ same. true≢false (sym parts.0 ∙ ap not (eq-eqb x m same))) (Lacks-word m xs parts.1)
 
--- what stands before and after the first m is only one
+-- a list is cut at its first m in one way only
 pub cut-one : (m : ℕ) (front back front2 back2 : List ℕ) → Lacks m front → Lacks m front2
     → front ++ m ∷ back ≡ front2 ++ m ∷ back2 → (front ≡ front2) × (back ≡ back2)
 cut-one m [] back [] back2 lacks lacks2 same = (refl, cc)
@@ -56,7 +57,7 @@ cut-one m (x ∷ xs) back (y ∷ ys) back2 lacks lacks2 same =
     let rest = cut-one m xs back ys back2 (Lacks-tail m x xs lacks) (Lacks-tail m y ys lacks2) tail in
     (cc, rest.1)
 
--- what a search for the first m found
+-- where a search finds the first m at the place k, the list is cut there
 pub first-cut : (m : ℕ) (xs : List ℕ) (k : ℕ) → IsFirstByte (is_byte m) xs (Some k) → Cut m xs (take k xs) (drop (k + 1) xs)
 first-cut m xs k (before, here) =
     let inside : k < length xs = before.high in
@@ -71,32 +72,32 @@ first-cut m xs k (before, here) =
       };
     }
 
--- no m was found
+-- where a search finds no m, m is nowhere in the list
 pub first-none : (m : ℕ) (xs : List ℕ) → IsFirstByte (is_byte m) xs None → Lacks m xs
 first-none m xs none = record { nowhere = λ j inside e. none j (omega arith) inside (eq-eqb _ m e) }
 
--- where m is nowhere, the list is not cut at m
+-- a list in which m is nowhere is not made of a front, m and a back
 pub Lacks-cut : (m : ℕ) (xs front back : List ℕ) → Lacks m xs → xs ≢ front ++ m ∷ back
 Lacks-cut m xs front back lacks whole =
     let len = ap length whole ∙ length-append front (m ∷ back) in
     lacks.nowhere (length front) (omega (arith, len)) (ap (λ (t : List ℕ). get_or t (length front) 0) whole ∙ get_or-append_seam front m back 0)
 
--- the first two of a list, and what is after them
+-- a list of at least two elements is its first two and the rest
 pub two-front : (xs : List ℕ) → 2 ≤ length xs → xs ≡ get_or xs 0 0 ∷ get_or xs 1 0 ∷ drop 2 xs
 two-front [] long = absurd (omega arith)
 two-front (x ∷ []) long = absurd (omega arith)
 two-front (x ∷ y ∷ xs) long = refl
 
--- a list at one of its places
+-- a list is the part before a place, the element there, and the part after it
 pub cut-at : (xs : List ℕ) (k : ℕ) → k < length xs → xs ≡ take k xs ++ get_or xs k 0 ∷ drop (k + 1) xs
 cut-at xs k inside =
     sym (take-append-drop k xs) ∙ ap (λ (t : List ℕ). take k xs ++ t) (drop-cons xs k 0 inside ∙ ap (λ (n : ℕ). get_or xs k 0 ∷ drop n xs) (sym (add-one k)))
 
--- a cut of the front is one of the whole
+-- where a list is front, m and back, the list with more after it is front, m, and back with more after it
 pub cut-more : (front back : List ℕ) (m : ℕ) (xs ys : List ℕ) → xs ≡ front ++ m ∷ back → xs ++ ys ≡ front ++ m ∷ (back ++ ys)
 cut-more front back m xs ys whole = ap (λ (t : List ℕ). t ++ ys) whole ∙ append_assoc front (m ∷ back) ys
 
--- the first of some bytes at the front of a list is the first of the list
+-- the first m among the first bytes of a list is the first one of the list
 pub first-of-front : (m most : ℕ) (xs : List ℕ) (k : ℕ) → IsFirstByte (is_byte m) (take most xs) (Some k) → IsFirstByte (is_byte m) xs (Some k)
 first-of-front m most xs k (before, here) =
     let inside : k < length (take most xs) = before.high in
@@ -110,7 +111,7 @@ first-of-front m most xs k (before, here) =
       ap (is_byte m) (sym (at k (omega arith))) ∙ here,
     )
 
--- the part before the first m, and what is after it: nothing, or m and more
+-- a list has only one part before its first m, or its end, and only one rest from there on
 pub part-one : (m : ℕ) (front back front2 back2 : List ℕ) → Lacks m front → Lacks m front2 → Begins m back → Begins m back2
     → front ++ back ≡ front2 ++ back2 → (front ≡ front2) × (back ≡ back2)
 part-one m front back front2 back2 lacks lacks2 (inl none) (inl none2) same =
@@ -126,7 +127,7 @@ part-one m front back front2 back2 lacks lacks2 (inr more) (inr more2) same =
     (ap (λ (t : List ℕ). front ++ t) (sym more.1) ∙ same ∙ ap (λ (t : List ℕ). front2 ++ t) more2.1) in
     (cut.0, more.1 ∙ ap (λ (t : List ℕ). m ∷ t) cut.1 ∙ sym more2.1)
 
--- the part up to the first m that a search found, or the whole
+-- the part before the first m that a search finds, or the whole list where it finds none, has no m
 pub part-found : (m : ℕ) (xs : List ℕ) (r : Option ℕ) → IsFirstByte (is_byte m) xs r
     → Lacks m (take (unwrap_or r (length xs)) xs) × Begins m (drop (unwrap_or r (length xs)) xs)
 part-found m xs None none =

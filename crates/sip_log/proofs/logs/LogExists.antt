@@ -1,4 +1,4 @@
--- Something is read of each input.
+-- Something is read of every input, since each case of the reading holds or does not.
 use Rattle.std.proofs.Common.{◌≡◌, ◌≢◌, ◌⊎◌, inl, inr, ℕ, zero, suc, ◌+◌, ◌<◌, ◌≤◌, List, [], ◌∷◌, ◌++◌, length, take, drop, get_or, refl, subst, sym, ap, ◌∙◌, arith}
 use Rattle.std.specs.Prelude.{codes}
 use Rattle.std.specs.Char.{digit_value}
@@ -32,10 +32,11 @@ use Rattle.sip_log.proofs.logs.LogLaws.{ComesFirst-one}
 use Rattle.sip_log.proofs.spelling.SpellingLemmas.{message-or-not, header-spelled, header-read}
 use Rattle.sip_log.proofs.headers.HeaderLemmas.{NumberAfter-one, NumberAfter-part, NumberAfter-of, TimesLine-lacks, TimesLine-one, t2-after, t4-after, tolerances-after}
 
--- it holds or not
+-- P holds, or it does not
 abbrev pub Settled : Type 0 → Type 0
 Settled P = P ⊎ ¬ P
 
+-- where each of two facts holds or not, both together hold or not
 both : (P Q : Type 0) → Settled P → Settled Q → Settled (P × Q)
 both P Q (inl p) (inl q) = inl (p, q)
 both P Q (inl p) (inr q) = inr (λ x. q x.1)
@@ -47,7 +48,7 @@ at_most a b = elim (cases_lt b a) as (λ _. Settled (a ≤ b)) [ inl more ↦ in
 within : (a n b : ℕ) → Settled ((a ≤ n) × (n ≤ b))
 within a n b = both (a ≤ n) (n ≤ b) (at_most a n) (at_most n b)
 
--- a list is cut at its first m, or has none
+-- a list is cut at its first m, or has no m
 cut-or-lacks : (m : ℕ) (xs : List ℕ) → ((front : List ℕ) × (back : List ℕ) × Cut m xs front back) ⊎ Lacks m xs
 cut-or-lacks m [] = inr (record { nowhere = λ k inside. absurd (omega arith) })
 cut-or-lacks m (x ∷ xs) = elim (cases_eq x m) as (λ _. ((front : List ℕ) × (back : List ℕ) × Cut m (x ∷ xs) front back) ⊎ Lacks m (x ∷ xs)) [
@@ -58,7 +59,7 @@ cut-or-lacks m (x ∷ xs) = elim (cases_eq x m) as (λ _. ((front : List ℕ) ×
   ]
 ]
 
--- a list begins with a word or not
+-- a list begins with a word, or does not
 begins-or-not : (word xs : List ℕ) → ((rest : List ℕ) × (xs ≡ word ++ rest)) ⊎ ((rest : List ℕ) → xs ≢ word ++ rest)
 begins-or-not [] xs = inl (xs, refl)
 begins-or-not (w ∷ word) [] = inr (λ rest same. cc)
@@ -70,12 +71,13 @@ begins-or-not (w ∷ word) (x ∷ xs) = elim (cases_eq x w) as (λ _. ((rest : L
   ]
 ]
 
--- Numbers and entry lines.
+-- What follows is of numbers and the lines of entries.
 
 digits-or-not : (text : List ℕ) → Settled (AllDigits 10 text)
 digits-or-not [] = inl tt
 digits-or-not (c ∷ cs) = both (digit_value c < 10) (AllDigits 10 cs) (at_most (suc (digit_value c)) 10) (digits-or-not cs)
 
+-- a text begins with 0 only where that is all of it, or not
 plain-or-not : (text : List ℕ) → Settled (get_or text 0 0 ≡ digit_zero → length text ≡ 1)
 plain-or-not text = elim (cases_eq (length text) 1) as (λ _. Settled (get_or text 0 0 ≡ digit_zero → length text ≡ 1)) [
   | inl one ↦ inl (λ none. one)
@@ -85,12 +87,14 @@ plain-or-not text = elim (cases_eq (length text) 1) as (λ _. Settled (get_or te
   ]
 ]
 
+-- a text is a number, or is none
 number-or-not : (text : List ℕ) → ((n : ℕ) × IsNumber text n) ⊎ ((n : ℕ) → ¬ (IsNumber text n))
 number-or-not text = elim (both _ _ (both _ _ (at_most 1 (length text)) (digits-or-not text)) (plain-or-not text)) as (λ _. ((n : ℕ) × IsNumber text n) ⊎ ((n : ℕ) → ¬ (IsNumber text n))) [
   | inl is ↦ inl (digits_value 10 text, record { digits = is.0; plain = is.1; value = refl })
   | inr other ↦ inr (λ n is. other (is.digits, is.plain))
 ]
 
+-- a text has a moment and a length, or has not
 numbers-or-not : (text : List ℕ) → ((moment : ℕ) × (len : ℕ) × Numbers text moment len) ⊎ ((moment len : ℕ) → ¬ (Numbers text moment len))
 numbers-or-not text = elim (cut-or-lacks space text) [
   | inr lacks ↦ inr (λ moment len is. Lacks-cut space text is.moment_text is.len_text lacks is.whole)
@@ -103,17 +107,18 @@ numbers-or-not text = elim (cut-or-lacks space text) [
   ]
 ]
 
--- a restart is of format 2 alone
+-- a restart is not an action of format 1
 one-has-none : IsOf One Restart → ⊥
 one-has-none of = absurd (other (of refl))
   where
     other : One ≢ Two
     other same = cc
 
--- the action of a letter
+-- the byte is the letter of an action of the format, or of none
 abbrev ActionOrNot : Format → ℕ → Type 0
 ActionOrNot format b = ((a : Action) × IsOf format a × (b ≡ letter a)) ⊎ ((a : Action) → IsOf format a → b ≢ letter a)
 
+-- the letter of a restart is a letter of format 2 and none of format 1
 restart-or-not : (format : Format) (b : ℕ) → b ≢ letter Sent → b ≢ letter Received → b ≢ letter Failed → b ≢ letter Mark → b ≡ letter Restart → ActionOrNot format b
 restart-or-not One b sent received failed mark is =
     inr (λ a. elim a as (λ a. IsOf One a → b ≢ letter a) [
@@ -125,6 +130,7 @@ restart-or-not One b sent received failed mark is =
     ])
 restart-or-not Two b sent received failed mark is = inl (Restart, (λ same. refl), is)
 
+-- a byte is the letter of an action of the format, or of none
 action-or-not : (format : Format) (b : ℕ) → ActionOrNot format b
 action-or-not format b = elim (cases_eq b (letter Sent)) [
   | inl is ↦ inl (Sent, (λ same. cc), is)
@@ -152,12 +158,12 @@ action-or-not format b = elim (cases_eq b (letter Sent)) [
 abbrev HeadOrNot : Format → List ℕ → Type 0
 HeadOrNot format line = ((h : Head) × HeadLine format line h) ⊎ ((h : Head) → ¬ (HeadLine format line h))
 
--- a line without a blank after its letter
+-- a line that is not a byte, a blank and more is no entry's line
 no-head : (format : Format) (line : List ℕ) → ((b : ℕ) (text : List ℕ) → line ≢ b ∷ space ∷ text) → (h : Head) → ¬ (HeadLine format line h)
 no-head format line other (message action moment len) is = other (letter action) is.0 is.3
 no-head format line other (plain action moment) is = other (letter action) is.0 is.4
 
--- a line with the letter of its format
+-- a line with a letter of the format and a blank is an entry's line, or is none
 lettered-or-not : (format : Format) (action : Action) (text : List ℕ) → IsOf format action → HeadOrNot format (letter action ∷ space ∷ text)
 lettered-or-not format action text of = elim (message-or-not action) as (λ _. HeadOrNot format (letter action ∷ space ∷ text)) [
   | inl has ↦ elim (numbers-or-not text) as (λ _. HeadOrNot format (letter action ∷ space ∷ text)) [
@@ -170,12 +176,14 @@ lettered-or-not format action text of = elim (message-or-not action) as (λ _. H
   ]
 ]
 
+-- a line with a byte and a blank is an entry's line, or is none
 letter-or-not : (format : Format) (b : ℕ) (text : List ℕ) → HeadOrNot format (b ∷ space ∷ text)
 letter-or-not format b text = elim (action-or-not format b) as (λ _. HeadOrNot format (b ∷ space ∷ text)) [
   | inr none ↦ inr (HeadLine-unlettered format (b ∷ space ∷ text) none)
   | inl by ↦ subst (λ c. HeadOrNot format (c ∷ space ∷ text)) (sym by.2) (lettered-or-not format by.0 text by.1)
 ]
 
+-- a line is an entry's line of the format, or is none
 head-or-not : (format : Format) (line : List ℕ) → HeadOrNot format line
 head-or-not format [] = inr (no-head format [] (λ b text same. cc))
 head-or-not format (b ∷ []) = inr (no-head format (b ∷ []) (λ c text same. cc))
@@ -184,6 +192,7 @@ head-or-not format (b ∷ s ∷ text) = elim (cases_eq s space) as (λ _. HeadOr
   | inl blank ↦ subst (λ s. HeadOrNot format (b ∷ s ∷ text)) (sym blank) (letter-or-not format b text)
 ]
 
+-- the rest has a front line, or has none
 front-or-not : (rest : List ℕ) → ((line : List ℕ) × (behind : List ℕ) × FrontLine rest line behind) ⊎ ((line behind : List ℕ) → ¬ (FrontLine rest line behind))
 front-or-not rest = elim (cut-or-lacks line_feed rest) [
   | inr lacks ↦ inr (λ line behind is. Lacks-cut line_feed rest line behind lacks is.whole)
@@ -195,17 +204,19 @@ front-or-not rest = elim (cut-or-lacks line_feed rest) [
   ]
 ]
 
--- What comes next.
+-- What follows is that something comes next.
 
--- something comes next
+-- P holds of something that comes next
 abbrev Comes : {A : Type 0} → (Next A → Type 0) → Type 0
 Comes {A} P = (next : Next A) × P next
 
+-- where a demand holds or not, and something follows where it holds, something comes by the case of the demand
 Unless-some : {A : Type 0} (Demand : Type 0) (reason : LogReason) (Follows : Next A → Type 0) → Settled Demand → (Demand → Comes Follows)
     → Comes (λ next. Unless Demand reason next (Follows next))
 Unless-some Demand reason Follows (inl holds) follows = let f = follows holds in (f.0, inr (holds, f.1))
 Unless-some Demand reason Follows (inr fails) follows = (stops reason, inl (fails, refl))
 
+-- something comes by a message: it is an entry, or a fault
 message-some : (action : Action) (moment len : ℕ) (behind : List ℕ) → Comes (MessageComes action moment len behind)
 message-some action moment len behind = Unless-some (len < length behind) faults.Truncated _ (at_most (suc len) (length behind))
     (λ inside.
@@ -220,6 +231,7 @@ body-some : (head : Head) (behind : List ℕ) → Comes (BodyComes head behind)
 body-some (message action moment len) behind = message-some action moment len behind
 body-some (plain action moment) behind = (gives (record { action = action; moment = moment; text = [] }) behind, refl)
 
+-- the numbers of an entry's line are within the limits, or are not
 pub limits-or-not : (head : Head) → Settled (KeepsLimits head)
 limits-or-not (message action moment len) = elim (both _ _ (at_most moment last_moment) (within 1 len 65535)) as (λ _. Settled (KeepsLimits (message action moment len))) [
   | inl is ↦ inl (is.0, is.1.0, is.1.1)
@@ -227,6 +239,7 @@ limits-or-not (message action moment len) = elim (both _ _ (at_most moment last_
 ]
 limits-or-not (plain action moment) = at_most moment last_moment
 
+-- something comes by the front line of the rest: it is an entry, or a fault
 line-some : (format : Format) (last : ℕ) (rest : List ℕ) → Comes (LineComes format last rest)
 line-some format last rest = elim (front-or-not rest) [
   | inr none ↦
@@ -241,17 +254,19 @@ line-some format last rest = elim (front-or-not rest) [
   ]
 ]
 
-next-some : (format : Format) (count last : ℕ) (rest : List ℕ) → Comes (EntryComes format count last rest)
+-- something comes next in the rest: it is its end, an entry, or a fault
+pub next-some : (format : Format) (count last : ℕ) (rest : List ℕ) → Comes (EntryComes format count last rest)
 next-some format count last [] = (ends, inl (refl, refl))
 next-some format count last (x ∷ xs) =
     let next = Unless-some (count < most_entries) faults.Limit _ (at_most (suc count) most_entries) (λ few. line-some format last (x ∷ xs)) in
     (next.0, inr ((λ same. cc), next.1))
 
--- an entry leaves fewer bytes
+-- where an entry comes by a case of a demand, the demand holds, and the entry is what follows
 Unless-gives : {A : Type 0} (Demand : Type 0) (reason : LogReason) (a : A) (behind : List ℕ) (Follows : Type 0) → Unless Demand reason (gives a behind) Follows → Follows
 Unless-gives Demand reason a behind Follows (inl (fails, same)) = cc
 Unless-gives Demand reason a behind Follows (inr (holds, follows)) = follows
 
+-- what is left after the message of an entry is no longer than what was left before it
 body-shorter : (head : Head) (rest : List ℕ) (e : Item) (behind : List ℕ) → BodyComes head rest (gives e behind) → length behind ≤ length rest
 body-shorter (message action moment len) rest e behind is =
     let (text, b, after, whole, size, close) = Unless-gives _ _ e behind _ is in
@@ -262,6 +277,7 @@ body-shorter (plain action moment) rest e behind is =
     let same : behind ≡ rest = cc in
     omega (arith, ap length same)
 
+-- what is left after an entry is shorter than what was left before it
 line-shorter : (format : Format) (last : ℕ) (rest : List ℕ) (e : Item) (behind : List ℕ) → LineComes format last rest (gives e behind) → length behind < length rest
 line-shorter format last rest e behind (inl (none, next)) = absurd (no-entry (Unless-gives _ _ e behind _ next))
   where
@@ -272,14 +288,15 @@ line-shorter format last rest e behind (inr (line, after, front, inr (head, is, 
     let body = Unless-gives _ _ e behind _ (Unless-gives _ _ e behind _ next) in
     omega (arith, body-shorter head after e behind body, ap length front.whole, length-append line (line_feed ∷ after))
 
-next-shorter : (format : Format) (count last : ℕ) (rest : List ℕ) (e : Item) (behind : List ℕ) → EntryComes format count last rest (gives e behind) → length behind < length rest
+pub next-shorter : (format : Format) (count last : ℕ) (rest : List ℕ) (e : Item) (behind : List ℕ) → EntryComes format count last rest (gives e behind) → length behind < length rest
 next-shorter format count last rest e behind (inl (none, same)) = cc
 next-shorter format count last rest e behind (inr (some, next)) = line-shorter format last rest e behind (Unless-gives _ _ e behind _ next)
 
--- entries and an end
+-- the rest has some entries in a row, and an end
 abbrev Follows : Format → ℕ → ℕ → List ℕ → Type 0
 Follows format count last rest = (es : List Item) × (end : LogEnd) × Follow format count last rest es end
 
+-- the rest has entries and an end where what is left after its first entry, if there is one, has
 follows-from : (format : Format) (count last : ℕ) (rest : List ℕ) (next : Next Item) → EntryComes format count last rest next
     → ((e : Item) (behind : List ℕ) → length behind < length rest → Follows format (count + 1) e.moment behind) → Follows format count last rest
 follows-from format count last rest ends next more = ([], Clean, next)
@@ -288,27 +305,30 @@ follows-from format count last rest (gives e behind) next more =
     let (es, end, follow) = more e behind (next-shorter format count last rest e behind next) in
     (e ∷ es, end, (behind, next, follow))
 
+-- a rest of fewer than `most` bytes has entries and an end
 follows-some : (format : Format) (most count last : ℕ) (rest : List ℕ) → length rest < most → Follows format count last rest
 follows-some format zero count last rest short = absurd (omega arith)
 follows-some format (suc most) count last rest short =
     let next = next-some format count last rest in
     follows-from format count last rest next.0 next.1 (λ e behind shorter. follows-some format most (count + 1) e.moment behind (omega arith))
 
--- the rest of an input has entries in a row, and an end
+-- each rest of an input has some entries in a row, and an end
 pub Follow-some : (format : Format) (count last : ℕ) (rest : List ℕ) → (es : List Item) × (end : LogEnd) × Follow format count last rest es end
 Follow-some format count last rest = follows-some format (suc (length rest)) count last rest (omega arith)
 
--- The header.
+-- What follows is of the header.
 
 abbrev NumberOrNot : List ℕ → List ℕ → Type 0
 NumberOrNot word text = ((n : ℕ) × (behind : List ℕ) × NumberAfter word text n behind) ⊎ ((n : ℕ) (behind : List ℕ) → ¬ (NumberAfter word text n behind))
 
+-- a text with the word has a number before its first blank, or has none
 part-or-not : (word text front back : List ℕ) → text ≡ word ++ (front ++ back) → Lacks space front → Parted back → NumberOrNot word text
 part-or-not word text front back after lacks parted = elim (number-or-not front) [
   | inl is ↦ inl (is.0, back, NumberAfter-of word text front back after lacks parted is.0 is.1)
   | inr none ↦ inr (λ n behind is. none n (NumberAfter-part word text front back after lacks parted n behind is))
 ]
 
+-- a text has a number after the word, or has none
 number_after-or-not : (word text : List ℕ) → NumberOrNot word text
 number_after-or-not word text = elim (begins-or-not word text) [
   | inr none ↦ inr (λ n behind is. none _ is.whole)
@@ -321,6 +341,7 @@ number_after-or-not word text = elim (begins-or-not word text) [
 abbrev LastOrNot : List ℕ → List ℕ → Type 0
 LastOrNot word text = ((n : ℕ) × NumberAfter word text n []) ⊎ ((n : ℕ) → ¬ (NumberAfter word text n []))
 
+-- a text ends with a number after the word, or does not
 last-or-not : (word text : List ℕ) → LastOrNot word text
 last-or-not word text = elim (number_after-or-not word text) as (λ _. LastOrNot word text) [
   | inr none ↦ inr (λ n is. none n [] is)
@@ -337,6 +358,7 @@ last-or-not word text = elim (number_after-or-not word text) as (λ _. LastOrNot
 abbrev TolerancesOrNot : Format → List ℕ → Type 0
 TolerancesOrNot format text = ((early : ℕ) × (late : ℕ) × Tolerances format text early late) ⊎ ((early late : ℕ) → ¬ (Tolerances format text early late))
 
+-- a text has tolerances of the format, or has none
 tolerances-or-not : (format : Format) (text : List ℕ) → TolerancesOrNot format text
 tolerances-or-not One text = elim (last-or-not (codes " tolerance ") text) as (λ _. TolerancesOrNot One text) [
   | inl is ↦ inl (is.0, is.0, (is.1, refl))
@@ -354,6 +376,7 @@ tolerances-or-not Two text = elim (number_after-or-not (codes " early ") text) a
 abbrev TimesOrNot : Format → List ℕ → Type 0
 TimesOrNot format line = ((p : Times) × TimesLine format line p) ⊎ ((p : Times) → ¬ (TimesLine format line p))
 
+-- a line is a line 2 of the format, or is none
 times-or-not : (format : Format) (line : List ℕ) → TimesOrNot format line
 times-or-not format line = elim (number_after-or-not (codes "t1 ") line) as (λ _. TimesOrNot format line) [
   | inr none ↦ inr (λ p is. none _ _ is.t1_is)
@@ -381,6 +404,7 @@ times-or-not format line = elim (number_after-or-not (codes "t1 ") line) as (λ 
   ]
 ]
 
+-- times are within their limits, or are not
 are-times-or-not : (p : Times) → Settled (AreTimes p)
 are-times-or-not p =
     elim (both _ _ (both _ _ (within 1 p.t1 10000) (within 1 p.t2 60000)) (both _ _ (within 1 p.t4 60000) (both _ _ (at_most p.early 10000) (at_most p.late 10000)))) as (λ _. Settled (AreTimes p)) [
@@ -400,6 +424,7 @@ are-times-or-not p =
 abbrev SecondOrNot : Format → List ℕ → Type 0
 SecondOrNot format rest = ((p : Times) × (behind : List ℕ) × TimesFront format rest p behind) ⊎ ((p : Times) (behind : List ℕ) → ¬ (TimesFront format rest p behind))
 
+-- the rest begins with a line 2 whose times are within their limits, or does not
 second-or-not : (format : Format) (rest : List ℕ) → SecondOrNot format rest
 second-or-not format rest = elim (cut-or-lacks line_feed rest) as (λ _. SecondOrNot format rest) [
   | inr lacks ↦ inr (λ p behind is. Lacks-cut line_feed rest is.line behind lacks is.whole)
@@ -417,7 +442,7 @@ second-or-not format rest = elim (cut-or-lacks line_feed rest) as (λ _. SecondO
         let parts = cut-one line_feed is.line behind front back (TimesLine-lacks format is.line p is.times) at.first (sym is.whole ∙ at.whole) in
         subst (λ t. TimesLine format t p) parts.0 is.times
 
--- some rules stand after line 2, or none, which are those of RFC 6026
+-- the rest after line 2 has a line of rules, or has none and the rules are those of RFC 6026
 rules-some : (rest : List ℕ) → (rules : Rules) × (behind : List ℕ) × RulesLine rules rest behind
 rules-some rest = elim (begins-or-not (rules_text R3261) rest) as (λ _. (rules : Rules) × (behind : List ℕ) × RulesLine rules rest behind) [
   | inl is ↦ (R3261, is.0, inl is.1)
@@ -427,6 +452,7 @@ rules-some rest = elim (begins-or-not (rules_text R3261) rest) as (λ _. (rules 
   ]
 ]
 
+-- something comes after line 1: it is a header, or a fault
 second-some : (format : Format) (rest : List ℕ) → Comes (ComesSecond format rest)
 second-some format rest = elim (second-or-not format rest) as (λ _. Comes (ComesSecond format rest)) [
   | inr none ↦ (stops faults.Header, inr (none, refl))
@@ -435,7 +461,7 @@ second-some format rest = elim (second-or-not format rest) as (λ _. Comes (Come
       (gives (format, under line.0 front.0) line.1, inl (front.0, front.1, front.2, (line.0, line.1, line.2, refl)))
 ]
 
--- something comes first
+-- something comes first in an input: it is a header, or a fault
 first-some : (input : List ℕ) → Comes (HeaderComes input)
 first-some input = elim (begins-or-not (title_text One) input) as (λ _. Comes (HeaderComes input)) [
   | inl is ↦ let next = second-some One is.0 in (next.0, inl (One, is.0, is.1, next.1))
@@ -445,14 +471,14 @@ first-some input = elim (begins-or-not (title_text One) input) as (λ _. Comes (
   ]
 ]
 
--- where no header is read, there is none
+-- where the code reads a fault as the header, the input lacks a header
 pub no-header : (input : List ℕ) (fault : LogReason) → HeaderComes input (stops fault) → LacksHeader input
 no-header input fault is format p behind header = absurd (other (ComesFirst-one input _ _ (header-read format input p behind header) is))
   where
     other : ◌≢◌ {A = Next (Format × Times)} (gives (format, p) behind) (stops fault)
     other same = cc
 
--- something does
+-- what comes first in an input is not its end
 first-not-ends : (input : List ℕ) → ¬ (HeaderComes input ends)
 first-not-ends input (inl (format, rest, title, inl (p, behind, front, (rules, more, line, same)))) = cc
 first-not-ends input (inl (format, rest, title, inr (none, same))) = cc
@@ -461,11 +487,13 @@ first-not-ends input (inr (none, same)) = cc
 abbrev pub HeaderOrNot : List ℕ → Type 0
 HeaderOrNot input = ((format : Format) × (p : Times) × (behind : List ℕ) × Header format p input behind) ⊎ LacksHeader input
 
+-- an input has a header where one comes first, and lacks one where a fault does
 header-from : (input : List ℕ) (next : Next (Format × Times)) → HeaderComes input next → HeaderOrNot input
 header-from input ends is = absurd (first-not-ends input is)
 header-from input (gives (format, p) behind) is = inl (format, p, behind, header-spelled format input p behind is)
 header-from input (stops fault) is = inr (no-header input fault is)
 
+-- an input has a header, or lacks one
 pub header-or-not : (input : List ℕ) → HeaderOrNot input
 header-or-not input =
     let first = first-some input in

@@ -1,4 +1,4 @@
--- The log of an input: there is one, and only one.
+-- Lemmas of the log of an input: there is one, and only one.
 use Rattle.std.proofs.Common.{◌≡◌, ◌≢◌, ◌⊎◌, inl, inr, ◌≤◌, ◌+◌, ℕ, suc, List, [], ◌∷◌, ◌++◌, length, get_or, refl, subst, sym, ap, ◌∙◌, arith, append_assoc}
 use Rattle.std.specs.Prelude.{flat_map, All, codes}
 use Rattle.std.proofs.lemmas.List.{append-nil, append_cancel_left, length-append}
@@ -23,11 +23,11 @@ use Rattle.sip_log.proofs.answers.NextRead.{next-read}
 use Rattle.sip_log.proofs.logs.LogLaws.{Header-one, ComesNext-one, next_at-not_gives, Follow-one}
 use Rattle.sip_log.proofs.logs.LogExists.{header-or-not, Follow-some}
 
--- one thing comes next
+-- only one thing comes next by the spelling
 pub next-one : (format : Format) (count last : ℕ) (rest : List ℕ) (n n2 : Next Item) → ComesNext format count last rest n → ComesNext format count last rest n2 → n ≡ n2
 next-one format count last rest n n2 is is2 = ComesNext-one format count last rest n n2 (next-read format count last rest n is) (next-read format count last rest n2 is2)
 
--- spelled entries and an end are read one after another
+-- entries that are spelled in a row, and then an end, follow there, where they are not too many and in order
 pub follow-read : (format : Format) (count last : ℕ) (items : List Item) (rest : List ℕ) (end : LogEnd) → count + length items ≤ most_entries → InOrder format last items
     → EndsWith format (count + length items) (last_of last items) rest end → Follow format count last (flat_map entry_says items ++ rest) items end
 follow-read format count last [] rest end few order next =
@@ -41,7 +41,7 @@ follow-read format count last (e ∷ es) rest end few order next =
       follow-read format (count + 1) e.moment es rest end (omega arith) order.2 (subst (λ n. EndsWith format n (last_of e.moment es) rest end) sum next),
     )
 
--- what follows a place of an input, spelled
+-- the rest is spelled: it has these entries in a row, in order and not too many, and ends in this way after them
 pub record Spelled (format : Format) (count last : ℕ) (rest : List ℕ) (items : List Item) (end : LogEnd) : Type 0 where
   pub left : List ℕ
   pub whole : rest ≡ flat_map entry_says items ++ left
@@ -49,6 +49,7 @@ pub record Spelled (format : Format) (count last : ℕ) (rest : List ℕ) (items
   pub order : InOrder format last items
   pub next : EndsWith format (count + length items) (last_of last items) left end
 
+-- entries that follow in the rest are spelled there
 pub follow-spelled : (format : Format) (count last : ℕ) (rest : List ℕ) (items : List Item) (end : LogEnd) → count ≤ most_entries → Follow format count last rest items end → Spelled format count last rest items end
 follow-spelled format count last rest [] end few next =
     let none : count ≡ count + 0 = omega arith in
@@ -68,7 +69,7 @@ follow-spelled format count last rest (e ∷ es) end few (behind, next, follow) 
 from_zero : (n : ℕ) → n ≡ 0 + n
 from_zero n = omega arith
 
--- a log after its header
+-- the entries of a log follow after its header
 log-follows : (input : List ℕ) (p : Times) (items : List Item) (end : LogEnd) → LogSays input p items end
     → (format : Format) × (behind : List ℕ) × Header format p input behind × Follow format 0 0 behind items end
 log-follows input p items end is = (
@@ -78,7 +79,7 @@ log-follows input p items end is = (
   follow-read is.format 0 0 items is.rest end (omega (arith, is.few)) is.order (subst (λ n. EndsWith is.format n (last_of 0 items) is.rest end) (from_zero (length items)) is.next),
 )
 
--- entries that follow a header in the input, one after another, are its log
+-- entries that follow after a header, with their end, are the log of the input
 pub log-spelled : (format : Format) (input : List ℕ) (p : Times) (behind : List ℕ) (items : List Item) (end : LogEnd) → Header format p input behind → Follow format 0 0 behind items end → LogSays input p items end
 log-spelled format input p behind items end header follow =
     let rest = follow-spelled format 0 0 behind items end (omega arith) follow in
@@ -91,7 +92,7 @@ log-spelled format input p behind items end header follow =
       next = subst (λ n. EndsWith format n (last_of 0 items) rest.left end) (sym (from_zero (length items))) rest.next;
     }
 
--- each input has a log
+-- each input lacks a header, or has a log
 pub log_is_some : (input : List ℕ) → LacksHeader input ⊎ ((p : Times) × (items : List Item) × (end : LogEnd) × LogSays input p items end)
 log_is_some input = elim (header-or-not input) [
   | inr none ↦ inl none
@@ -100,7 +101,7 @@ log_is_some input = elim (header-or-not input) [
       inr (is.1, follow.0, follow.1, log-spelled is.0 input is.1 is.2 follow.0 follow.1 is.3 follow.2)
 ]
 
--- an input has one log
+-- an input has only one log
 pub log_is_one : (input : List ℕ) (p p2 : Times) (es es2 : List Item) (end end2 : LogEnd) → LogSays input p es end → LogSays input p2 es2 end2 → (p ≡ p2) × (es ≡ es2) × (end ≡ end2)
 log_is_one input p p2 es es2 end end2 is is2 =
     let a = log-follows input p es end is in
@@ -109,13 +110,13 @@ log_is_one input p p2 es es2 end end2 is is2 =
     let same = Follow-one b.0 0 0 b.1 es es2 end end2 (coe 0 1 (i. Follow (header.0 i) 0 0 (header.2 i) es end) a.3) b.3 in
     (header.1, same.0, same.1)
 
--- an input that lacks a header has no log with entries
+-- an input that lacks a header has no log
 pub log_has_header : (input : List ℕ) (p : Times) (es : List Item) (end : LogEnd) → LacksHeader input → LogSays input p es end → ⊥
 log_has_header input p es end none is = none is.format p _ is.header
 
--- what was written is the log of its bytes
+-- What follows is of a log that was written.
 
--- no entry begins as a line of rules does
+-- the spelling of an entry does not begin with the letter r, as a line of rules does
 entry-first : (e : Item) (rest : List ℕ) → get_or (entry_says e ++ rest) 0 0 ≢ 114
 entry-first e rest = letter-other e.action
   where
@@ -134,6 +135,7 @@ rules-written : (rules : Rules) (items : List Item) → RulesLine rules (written
 rules-written R3261 items = inl refl
 rules-written R6026 items = inr (refl, refl, (λ rules more same. entries-first items (ap (λ (t : List ℕ). get_or t 0 0) same ∙ rules-first rules more)))
 
+-- a header that is written, and entries after it, begin with that header
 pub header-written : (format : Format) (p : Times) (items : List Item) → AreTimes p → (format ≡ One → p.early ≡ p.late)
     → Header format p (header_text format p ++ flat_map entry_says items) (flat_map entry_says items)
 header-written format p items times one = record {
@@ -144,6 +146,7 @@ header-written format p items times one = record {
   rules = rules-written p.rules items;
 }
 
+-- where entries in order, not too many, stand after a header, the log of the input has exactly them
 pub clean-log : (format : Format) (input : List ℕ) (p : Times) (items : List Item) → Header format p input (flat_map entry_says items) → length items ≤ most_entries → InOrder format 0 items
     → LogSays input p items Clean
 clean-log format input p items header few order = record {
@@ -159,12 +162,12 @@ pub log-written : (format : Format) (p : Times) (items : List Item) → AreTimes
     → LogSays (header_text format p ++ flat_map entry_says items) p items Clean
 log-written format p items times one few order = clean-log format _ p items (header-written format p items times one) few order
 
--- what is of format 1 is of format 2
+-- entries in the order of format 1 are in the order of format 2
 two-order : (last : ℕ) (items : List Item) → InOrder One last items → InOrder Two last items
 two-order last [] order = tt
 two-order last (e ∷ es) order = (order.0, ((λ same. refl), order.1.1, order.1.2), two-order e.moment es order.2)
 
--- a log of format 1 after a header of format 2
+-- a log of format 1 that is read to its end is the log after a header of format 2 with the same times
 pub log-of-two : (input other : List ℕ) (p : Times) (behind : List ℕ) (items : List Item) → Header One p input behind → Header Two p other behind
     → LogSays input p items Clean → LogSays other p items Clean
 log-of-two input other p behind items one two is =
@@ -173,9 +176,9 @@ log-of-two input other p behind items one two is =
     let whole : behind ≡ flat_map entry_says items = sym same.2 ∙ ap (λ (t : List ℕ). flat_map entry_says items ++ t) none ∙ append-nil (flat_map entry_says items) in
     clean-log Two other p items (subst (Header Two p other) whole two) is.few (two-order 0 items (subst (λ f. InOrder f 0 items) same.0 is.order))
 
--- a header of format 1 without a line of rules
+-- What follows is of a header of format 1.
 
--- after a line of rules something less is left
+-- where nothing was taken as a line of rules, the rules are those of RFC 6026
 no-rules : (rules : Rules) (text behind : List ℕ) → text ≡ behind → RulesLine rules text behind → rules ≡ R6026
 no-rules rules text behind same (inr is) = is.0
 no-rules R6026 text behind same (inl is) = refl
@@ -187,7 +190,7 @@ pub rules-of-one : (input : List ℕ) (p : Times) (behind : List ℕ) → Header
 rules-of-one input p behind is whole =
     no-rules p.rules is.rest behind (append_cancel_left (lines_text One p) is.rest behind (sym is.lines ∙ whole)) is.rules
 
--- entries of format 1
+-- entries in the order of format 1 have no restart
 one-order : (last : ℕ) (items : List Item) → InOrder One last items → All (λ e. e.action ≢ Restart) items
 one-order last [] order = All-nil (λ e. e.action ≢ Restart)
 one-order last (e ∷ es) order = All-cons (λ x. x.action ≢ Restart) e es (λ restart. other (order.1.0 restart)) (one-order e.moment es order.2)
@@ -195,6 +198,7 @@ one-order last (e ∷ es) order = All-cons (λ x. x.action ≢ Restart) e es (λ
     other : One ≢ Two
     other same = cc
 
+-- a log of format 1 has no restart
 pub restarts-of-one : (input : List ℕ) (p q : Times) (behind : List ℕ) (items : List Item) (end : LogEnd) → Header One p input behind → LogSays input q items end
     → All (λ e. e.action ≢ Restart) items
 restarts-of-one input p q behind items end one is =
@@ -214,7 +218,7 @@ turn-front format count last rest (e2 ∷ items) end (e ∷ es) left follow (beh
     let more = turn-front format (count + 1) e.moment behind items end es left (coe 0 1 (i. Follow format (count + 1) ((first i).moment) (at i) items end) follow.2) turn in
     (more.0, λ i. first i ∷ more.1 i)
 
--- the entries of a log stand at the front of its input
+-- entries that come in turn after a header are the first of the log
 pub log-front : (input : List ℕ) (p : Times) (items : List Item) (end : LogEnd) → LogSays input p items end →
     (format : Format) (q : Times) (behind left : List ℕ) (read : List Item) → Header format q input behind → ComeInTurn format 0 0 behind read left →
     (more : List Item) × (items ≡ read ++ more)

@@ -1,4 +1,4 @@
--- The number of a log and std's decimal text of it.
+-- A number of a log is the decimal text of std, and that text is a number of a log.
 use Rattle.std.proofs.Common.{◌≡◌, ◌<◌, ◌≤◌, ◌+◌, ◌*◌, ◌/◌, ◌%◌, ◌^◌, inl, inr, ℕ, zero, suc, Bool, false, if◌then◌else◌, List, [], ◌∷◌, ◌++◌, length, get_or, subst, refl, sym, ap, ◌∙◌, arith, append_assoc}
 use Rattle.std.proofs.lemmas.Bool.{cases_lt}
 use Rattle.std.proofs.lemmas.List.{append-nil, length-append}
@@ -22,8 +22,9 @@ le_value_after : (n : ℕ) (ds : List ℕ) → n ≤ digits_value_after 10 n ds
 le_value_after n [] = omega arith
 le_value_after n (c ∷ cs) = omega (arith, le_value_after (n * 10 + digit_value c) cs)
 
+-- What follows is of numbers below `most`, whose decimal text is that of all digits but the last, and the last digit.
 module _ (most : ℕ) (wide : (n : ℕ) → 10 ≤ n → n < most → decimal n ≡ decimal (n / 10) ++ ((48 + n % 10) ∷ [])) where
-  -- digits after a number
+  -- the decimal text of a number with more digits after it is its decimal text and these digits
   decimal_after : (n : ℕ) (ds : List ℕ) → 0 < n → AllDigits 10 ds → digits_value_after 10 n ds < most → decimal (digits_value_after 10 n ds) ≡ decimal n ++ ds
   decimal_after n [] some d small = sym (append-nil (decimal n))
   decimal_after n (c ∷ cs) some d small =
@@ -35,7 +36,7 @@ module _ (most : ℕ) (wide : (n : ℕ) → 10 ≤ n → n < most → decimal n 
       ∙ ap (λ x. x ++ cs) (wide m (omega arith) (omega (arith, le_value_after m cs)) ∙ (λ i. decimal (front i) ++ (end i ∷ [])))
       ∙ append_assoc (decimal n) (c ∷ []) cs
 
-  -- digits with no zero before another digit are the decimal text of their value
+  -- digits that do not begin with a 0, but for 0 itself, are the decimal text of their value
   decimal_digits : (ds : List ℕ) → AllDigits 10 ds → 0 < length ds → (get_or ds 0 0 ≡ 48 → length ds ≡ 1) → digits_value 10 ds < most → decimal (digits_value 10 ds) ≡ ds
   decimal_digits [] d some lead small = absurd (omega arith)
   decimal_digits (c ∷ []) d some lead small =
@@ -48,7 +49,7 @@ module _ (most : ℕ) (wide : (n : ℕ) → 10 ≤ n → n < most → decimal n 
       decimal_after (0 * 10 + digit_value c) (e ∷ cs) (omega arith) d.1 small
       ∙ ap (λ x. x ++ (e ∷ cs)) (decimal_digit (0 * 10 + digit_value c) (omega (arith, d.0)) ∙ ap (λ x. x ∷ []) is)
 
--- a number of so few digits is its decimal text
+-- a number of at most 63 digits is the decimal text of its value
 pub decimal-number : (text : List ℕ) (n : ℕ) → length text ≤ 63 → IsNumber text n → text ≡ decimal n
 decimal-number text n short is =
     let low : digits_value 10 text < 10 ^ length text = digits_value-lt 10 text is.digits.1 in
@@ -56,11 +57,12 @@ decimal-number text n short is =
     let top : 10 ^ 63 ≤ 10 ^ 64 = powers 63 64 (omega arith) in
     sym (ap decimal is.value ∙ decimal_digits (10 ^ 64) decimal_step_wide text is.digits.1 is.digits.0 is.plain (omega (arith, low, power, top)))
 
--- the first digit of a number above 0 is not 0
+-- the text ds has a digit, and its first one is not 0 where n is above 0
 record Leads (n : ℕ) (ds : List ℕ) : Type 0 where
   some : 1 ≤ length ds
   first : 1 ≤ n → 49 ≤ get_or ds 0 0
 
+-- the first digit of the decimal text of a number above 0 is not 0
 leads : (n : ℕ) → n < 10 ^ 64 → Leads n (decimal n)
 leads = decimal_by_steps_wide Leads one more
   where
@@ -73,7 +75,7 @@ leads = decimal_by_steps_wide Leads one more
       first = λ above. omega (arith, get_or-append ds ((48 + n % 10) ∷ []) 0 0 is.some, is.first (omega arith));
     }
 
--- a decimal text is a number
+-- the decimal text of a number below 10^64 is a number of a log
 pub number-decimal : (n : ℕ) → n < 10 ^ 64 → IsNumber (decimal n) n
 number-decimal n low =
     let is = decimal_is_IsNumeral_wide n low in
@@ -85,7 +87,7 @@ number-decimal n low =
       | inr none ↦ let z : n ≡ 0 = omega arith in ap (λ m. length (decimal m)) z ∙ ap length (decimal_digit 0 (omega arith))
     ]
 
--- a number of at least so many digits has as many in its text
+-- a number of at least 10^k adds k digits or more to those after it
 long : (k n : ℕ) (acc : List ℕ) → 10 ^ k ≤ n → k + length acc ≤ length (digits_onto k 10 false n acc)
 long zero n acc high = omega arith
 long (suc k) n acc high =
@@ -97,12 +99,12 @@ long (suc k) n acc high =
     ap (λ (b : Bool). if b then digit_glyph false (n % 10) ∷ acc else digits_onto k 10 false (n / 10) (digit_glyph false (n % 10) ∷ acc)) (ne_eqb _ 0 some) in
     subst (λ (t : List ℕ). suc k + length acc ≤ length t) (sym step) (omega (arith, rest))
 
--- the text begins with nothing after it
+-- the decimal text of a number is made by adding its digits to an empty text
 from_nil : (n : ℕ) → digits_onto 64 10 false n [] ≡ decimal n
 unfolding digits
 from_nil n = refl
 
--- a text of so few digits is of a number below 10^64
+-- a number whose decimal text has at most 63 digits is below 10^64
 pub decimal-short : (n : ℕ) → length (decimal n) ≤ 63 → n < 10 ^ 64
 decimal-short n short = elim (cases_lt n (10 ^ 64)) as (λ _. n < 10 ^ 64) [
   | inl low ↦ low

@@ -1,4 +1,4 @@
--- Numbers of a log: their bytes, and how many.
+-- Lemmas of the numbers of a log: which bytes they have, and how many.
 use Rattle.std.proofs.Common.{◌≡◌, ◌<◌, ◌≤◌, ◌+◌, ◌*◌, ◌^◌, inl, inr, ℕ, List, [], ◌∷◌, length, subst, sym, ap, ◌∙◌, arith}
 use Rattle.std.proofs.lemmas.Bool.{cases_lt}
 use Rattle.std.specs.Int.{IsInRange}
@@ -13,30 +13,30 @@ use Rattle.sip_log.specs.inner.Spelling.{space}
 use Rattle.sip_log.specs.inner.Number.{IsNumber, digit_zero}
 use Rattle.sip_log.proofs.lines.SplitLemmas.{Lacks}
 
--- a number has digits alone
+-- a byte that is no digit is not in the text of a number
 pub IsNumber-lacks : (m : ℕ) (text : List ℕ) (n : ℕ) → ¬ (IsInRange 48 57 m) → IsNumber text n → Lacks m text
 IsNumber-lacks m text n other is = record { nowhere = λ k inside same. other (subst (IsInRange 48 57) same (digit_at text k is.digits.1 inside)) }
 
--- a number has no blank
+-- the text of a number has no blank
 pub IsNumber-no_space : (text : List ℕ) (n : ℕ) → IsNumber text n → Lacks space text
 IsNumber-no_space text n is = IsNumber-lacks space text n (λ within. omega arith) is
 
--- a number has no line feed
+-- the text of a number has no line feed
 pub IsNumber-no_line_feed : (text : List ℕ) (n : ℕ) → IsNumber text n → Lacks line_feed text
 IsNumber-no_line_feed text n is = IsNumber-lacks line_feed text n (λ within. omega arith) is
 
--- equal numerals are of one number
+-- equal texts are the text of one number
 pub IsNumber-one : (text text2 : List ℕ) (n n2 : ℕ) → text ≡ text2 → IsNumber text n → IsNumber text2 n2 → n ≡ n2
 IsNumber-one text text2 n n2 same is is2 = is.value ∙ ap (digits_value 10) same ∙ sym is2.value
 
--- digits after a number give it their places
+-- k digits after a number make a value of at least that number times 10^k
 after-ge : (n : ℕ) (ds : List ℕ) → 10 ^ length ds * n ≤ digits_value_after 10 n ds
 after-ge n [] = omega (arith, ap (λ x. x * n) (pow-zero 10))
 after-ge n (c ∷ cs) =
     let more = after-ge (n * 10 + digit_value c) cs in
     omega (arith, ap (λ x. x * n) (pow-succ' 10 (length cs)), more)
 
--- a number below 10^k has at most k digits
+-- the text of a number below 10^k has at most k bytes
 pub IsNumber-short : (text : List ℕ) (n k : ℕ) → 1 ≤ k → n < 10 ^ k → IsNumber text n → length text ≤ k
 IsNumber-short [] n k some low is = omega arith
 IsNumber-short (c ∷ cs) n k some low is = elim (cases_lt 0 (digit_value c)) as (λ _. length (c ∷ cs) ≤ k) [

@@ -1,4 +1,4 @@
--- What was written piece by piece.
+-- Lemmas of what was written piece by piece.
 use Rattle.std.proofs.Common.{◌≡◌, ℕ, Bool, List, [], ◌∷◌, ◌++◌, Option, Result, Ok, Err, subst, ◌∙◌, append_assoc}
 use Rattle.std.specs.Prelude.{codes, decimal, ⊤}
 use Rattle.std.specs.Io.KnownBytes.{Appends}
@@ -9,15 +9,15 @@ use Rattle.sip_log.specs.Writing.{Puts, written_rules, header_text}
 use Rattle.sip_standard.specs.LogSays.{line_feed}
 use Rattle.sip_standard.specs.LogHeader.{timers_text}
 
--- a piece was appended, and no put failed
+-- the piece was appended where what was written is known, and no put failed
 abbrev pub Put : Option (List ℕ) → Option (List ℕ) → Bool → Bool → List ℕ → Type 0
 Put old new before after text = Appends old new text × (after ≡ before)
 
--- one piece, and then more
+-- one piece and then another, each appended, are both appended as one
 then : (a b c : Option (List ℕ)) (f g h : Bool) (x y : List ℕ) → Put a b f g x → Put b c g h y → Put a c f h (x ++ y)
 then a b c f g h x y first second = (Appends-trans a b c x y first.0 second.0, second.1 ∙ first.1)
 
--- two texts that were put one after the other were put as one
+-- a text that was put, and then a call that puts another text, put both as one text
 puts-then : {E : Type 0} (a b c : Option (List ℕ)) (f g h : Bool) (x y : List ℕ) (r : Result (⊤) E) → Put a b f g x → Puts b c g h y r → Puts a c f h (x ++ y) r
 puts-then a b c f g h x y (Ok done) first second = then a b c f g h x y first second
 puts-then a b c f g h x y (Err e) first second = second
@@ -25,7 +25,7 @@ puts-then a b c f g h x y (Err e) first second = second
 regroup : (n1 d1 n2 d2 n3 d3 : List ℕ) → ((n1 ++ d1) ++ (n2 ++ d2)) ++ (n3 ++ d3) ≡ n1 ++ d1 ++ n2 ++ d2 ++ n3 ++ d3
 regroup n1 d1 n2 d2 n3 d3 = simp append_assoc
 
--- the timers of line 2
+-- the three timers with their names, each appended, are the timers of line 2
 pub timers-put : {E : Type 0} (w0 w1 w2 w3 : Option (List ℕ)) (f0 f1 f2 f3 : Bool) (p : Times) (r : Result (⊤) E)
     → Put w0 w1 f0 f1 (codes "t1 " ++ decimal p.t1) → Put w1 w2 f1 f2 (codes " t2 " ++ decimal p.t2) → Puts w2 w3 f2 f3 (codes " t4 " ++ decimal p.t4) r
     → Puts w0 w3 f0 f3 (timers_text p) r
@@ -36,7 +36,7 @@ timers-put w0 w1 w2 w3 f0 f1 f2 f3 p r t1 t2 t4 =
 one-group : (t p w d e r : List ℕ) → (((t ++ p) ++ (w ++ d)) ++ e) ++ r ≡ (t ++ p ++ w ++ d ++ e) ++ r
 one-group t p w d e r = simp append_assoc
 
--- the pieces of a header of format 1
+-- the pieces of a header of format 1, each appended, are that header
 pub one-put : {E : Type 0} (w0 w1 w2 w3 w4 w5 : Option (List ℕ)) (f0 f1 f2 f3 f4 f5 : Bool) (p : Times) (r : Result (⊤) E)
     → Put w0 w1 f0 f1 (codes "sip-trace 1\n") → Put w1 w2 f1 f2 (timers_text p) → Put w2 w3 f2 f3 (codes " tolerance " ++ decimal p.late)
     → Put w3 w4 f3 f4 (line_feed ∷ []) → Puts w4 w5 f4 f5 (written_rules p.rules) r → Puts w0 w5 f0 f5 (header_text One p) r
@@ -47,7 +47,7 @@ one-put w0 w1 w2 w3 w4 w5 f0 f1 f2 f3 f4 f5 p r title timers tolerance end rules
 two-group : (t p v d w l e r : List ℕ) → ((((t ++ p) ++ (v ++ d)) ++ (w ++ l)) ++ e) ++ r ≡ (t ++ p ++ v ++ d ++ w ++ l ++ e) ++ r
 two-group t p v d w l e r = simp append_assoc
 
--- those of a header of format 2
+-- the pieces of a header of format 2, each appended, are that header
 pub two-put : (w0 w1 w2 w3 w4 w5 w6 : Option (List ℕ)) (f0 f1 f2 f3 f4 f5 f6 : Bool) (p : Times)
     → Put w0 w1 f0 f1 (codes "sip-trace 2\n") → Put w1 w2 f1 f2 (timers_text p) → Put w2 w3 f2 f3 (codes " early " ++ decimal p.early)
     → Put w3 w4 f3 f4 (codes " late " ++ decimal p.late) → Put w4 w5 f4 f5 (line_feed ∷ []) → Put w5 w6 f5 f6 (written_rules p.rules) → Put w0 w6 f0 f6 (header_text Two p)

@@ -1,4 +1,4 @@
--- The spelling of a header and of an entry's line, and the relations by which they are read.
+-- Lemmas of the spelling of a header and of an entry's line, beside the relations by which the code reads them.
 use Rattle.std.proofs.Common.{◌≡◌, ◌⊎◌, inl, inr, ◌<◌, ℕ, List, [], ◌∷◌, ◌++◌, length, refl, sym, ap, ◌∙◌, arith, append_assoc}
 use Rattle.std.specs.Prelude.{codes, decimal}
 use Rattle.std.proofs.lemmas.List.{append-nil, length-append}
@@ -21,30 +21,32 @@ use Rattle.sip_log.specs.inner.Header.{Parted, NumberAfter, Tolerances, TimesLin
 use Rattle.sip_log.proofs.numbers.NumberLemmas.{IsNumber-short}
 use Rattle.sip_log.proofs.numbers.DecimalLemmas.{decimal-number, number-decimal, decimal-short, powers}
 
--- The header.
+-- What follows is of the header.
 
--- a number of at most five digits is its decimal text
+-- a number below 100,000 is spelled as its decimal text
 five : (text : List ℕ) (n : ℕ) → n < 100000 → IsNumber text n → text ≡ decimal n
 five text n low is = decimal-number text n (omega (arith, IsNumber-short text n 5 (omega arith) low is)) is
 
--- the decimal text of a number below 100,000 is a number as a log has them
+-- the decimal text of a number below 100,000 is a number of a log
 five-decimal : (n : ℕ) → n < 100000 → IsNumber (decimal n) n
 five-decimal n low = number-decimal n (omega (arith, low, powers 5 64 (omega arith)))
 
+-- What follows is of a word and a number below 100,000 after it.
 module _ (word text : List ℕ) (n : ℕ) (behind : List ℕ) (low : n < 100000) where
-  -- a word, a number and what is after it are spelled
+  -- a text that is read as the word, the number and a rest is the word, its decimal text and the rest
   after-spelled : NumberAfter word text n behind → text ≡ word ++ (decimal n ++ behind)
   after-spelled is = is.whole ∙ ap (λ (t : List ℕ). word ++ (t ++ behind)) (five is.number n low is.number_is)
 
--- a word and a decimal text after it are read as that number
+-- the word, the decimal text of the number and a rest that is empty or begins with a blank are read as that
 after-read : (word : List ℕ) (n : ℕ) (behind : List ℕ) → n < 100000 → Parted behind → NumberAfter word (word ++ (decimal n ++ behind)) n behind
 after-read word n behind low parted = record { number = decimal n; number_is = five-decimal n low; parted = parted; whole = refl }
 
--- the end of line 2
+-- the spelling of the tolerances, with which line 2 ends
 end_text : Format → Times → List ℕ
 end_text One p = codes " tolerance " ++ (decimal p.late ++ [])
 end_text Two p = codes " early " ++ (decimal p.early ++ (codes " late " ++ (decimal p.late ++ [])))
 
+-- a text that is read as tolerances is their spelling
 end-spelled : (format : Format) (text : List ℕ) (p : Times) → AreTimes p → Tolerances format text p.early p.late → text ≡ end_text format p
 unfolding end_text
 end-spelled One text p within (late, same) = after-spelled (codes " tolerance ") text p.late [] (omega (arith, within.late_high)) late
@@ -52,6 +54,7 @@ end-spelled Two text p within (rest, early, late) =
     after-spelled (codes " early ") text p.early rest (omega (arith, within.early_high)) early
     ∙ ap (λ (t : List ℕ). codes " early " ++ (decimal p.early ++ t)) (after-spelled (codes " late ") rest p.late [] (omega (arith, within.late_high)) late)
 
+-- the spelling of tolerances is read as them, where format 1 has one tolerance
 end-read : (format : Format) (p : Times) → AreTimes p → (format ≡ One → p.early ≡ p.late) → Tolerances format (end_text format p) p.early p.late
 unfolding end_text
 end-read One p within one = (after-read (codes " tolerance ") p.late [] (omega (arith, within.late_high)) (inl refl), one refl)
@@ -61,15 +64,17 @@ end-read Two p within one = (
   after-read (codes " late ") p.late [] (omega (arith, within.late_high)) (inl refl),
 )
 
+-- the spelling of tolerances begins with a blank
 end-parted : (format : Format) (p : Times) → Parted (end_text format p)
 unfolding end_text
 end-parted One p = inr (_, refl)
 end-parted Two p = inr (_, refl)
 
--- line 2
+-- the spelling of line 2, without its line feed
 second_text : Format → Times → List ℕ
 second_text format p = codes "t1 " ++ (decimal p.t1 ++ (codes " t2 " ++ (decimal p.t2 ++ (codes " t4 " ++ (decimal p.t4 ++ end_text format p)))))
 
+-- a line that is read as line 2 is its spelling
 second-spelled : (format : Format) (line : List ℕ) (p : Times) → AreTimes p → TimesLine format line p → line ≡ second_text format p
 unfolding second_text
 second-spelled format line p within is =
@@ -78,6 +83,7 @@ second-spelled format line p within is =
     ∙ ap (λ (t : List ℕ). codes "t1 " ++ (decimal p.t1 ++ (codes " t2 " ++ (decimal p.t2 ++ t)))) (after-spelled (codes " t4 ") is.rest2 p.t4 is.rest3 (omega (arith, within.t4_high)) is.t4_is)
     ∙ ap (λ (t : List ℕ). codes "t1 " ++ (decimal p.t1 ++ (codes " t2 " ++ (decimal p.t2 ++ (codes " t4 " ++ (decimal p.t4 ++ t)))))) (end-spelled format is.rest3 p within is.tolerances)
 
+-- the spelling of line 2 is read as its times, with the rules of RFC 6026
 second-read : (format : Format) (p : Times) → AreTimes p → (format ≡ One → p.early ≡ p.late) → TimesLine format (second_text format p) (under R6026 p)
 unfolding second_text
 second-read format p within one = record {
@@ -99,7 +105,7 @@ two-line : (t w1 d1 w2 d2 w4 d4 v e w d end rest : List ℕ)
     → t ++ ((w1 ++ (d1 ++ (w2 ++ (d2 ++ (w4 ++ (d4 ++ (v ++ (e ++ (w ++ (d ++ [])))))))))) ++ (end ++ rest)) ≡ (t ++ (w1 ++ d1 ++ w2 ++ d2 ++ w4 ++ d4) ++ v ++ e ++ w ++ d ++ end) ++ rest
 two-line t w1 d1 w2 d2 w4 d4 v e w d end rest = simp (append_assoc, append-nil)
 
--- line 1, line 2 with its line feed, and what is after them
+-- line 1, and line 2 with its line feed, are the spelling of both lines
 lines-parts : (format : Format) (p : Times) (rest : List ℕ) → title_text format ++ (second_text format p ++ line_feed ∷ rest) ≡ lines_text format p ++ rest
 unfolding second_text end_text
 lines-parts One p rest =
@@ -107,7 +113,7 @@ lines-parts One p rest =
 lines-parts Two p rest =
     two-line (title_text Two) (codes "t1 ") (decimal p.t1) (codes " t2 ") (decimal p.t2) (codes " t4 ") (decimal p.t4) (codes " early ") (decimal p.early) (codes " late ") (decimal p.late) (line_feed ∷ []) rest
 
--- times are within their limits whatever the rules are
+-- times within their limits are within them under any rules
 pub within-under : (rules : Rules) (p : Times) → AreTimes p → AreTimes (under rules p)
 within-under rules p is = record {
   t1_low = is.t1_low;
@@ -120,17 +126,17 @@ within-under rules p is = record {
   late_high = is.late_high;
 }
 
--- lines 1 and 2 of a header do not tell the rules
+-- lines 1 and 2 of a header are the same under any rules
 lines-under : (format : Format) (rules : Rules) (p : Times) → lines_text format (under rules p) ≡ lines_text format p
 lines-under One rules p = refl
 lines-under Two rules p = refl
 
--- format 1 has one tolerance
+-- in format 1 the early and the late tolerance are the same
 one-tolerance : (format : Format) (text : List ℕ) (early late : ℕ) → Tolerances format text early late → format ≡ One → early ≡ late
 one-tolerance One text early late is same = is.1
 one-tolerance Two text early late is same = cc
 
--- a header that was read is spelled
+-- a header that is read is spelled
 pub header-spelled : (format : Format) (input : List ℕ) (p : Times) (behind : List ℕ) → HeaderComes input (gives (format, p) behind) → Header format p input behind
 header-spelled format input p behind (inr (none, same)) = cc
 header-spelled format input p behind (inl (f, rest, title, inr (none, same))) = cc
@@ -148,7 +154,7 @@ header-spelled format input p behind (inl (f, rest, title, inl (q, rest2, front,
     } in
     coe 1 0 (i. Header ((first i).0) ((first i).1) input (second i)) is
 
--- a header that is spelled so is read
+-- a header that is spelled is read
 pub header-read : (format : Format) (input : List ℕ) (p : Times) (behind : List ℕ) → Header format p input behind → HeaderComes input (gives (format, p) behind)
 header-read format input p behind is =
     inl (
@@ -163,9 +169,9 @@ header-read format input p behind is =
       ),
     )
 
--- Entry lines.
+-- What follows is of the lines of entries.
 
--- an entry's line is its bytes
+-- the text of an entry's line that the code writes is its spelling
 pub line-same : (action : Action) (moment len : ℕ) → line_text action moment len ≡ line_says action moment len
 line-same Sent moment len = refl
 line-same Received moment len = refl
@@ -173,7 +179,7 @@ line-same Failed moment len = refl
 line-same Mark moment len = append-nil (line_says Mark moment len)
 line-same Restart moment len = append-nil (line_says Restart moment len)
 
--- an entry has a message or not
+-- an entry with this action has a message, or has none
 pub message-or-not : (action : Action) → HasMessage action ⊎ ¬ (HasMessage action)
 message-or-not Sent = inl ((λ same. cc), (λ same. cc))
 message-or-not Received = inl ((λ same. cc), (λ same. cc))
@@ -190,7 +196,7 @@ has-received = ((λ same. cc), (λ same. cc))
 has-failed : HasMessage Failed
 has-failed = ((λ same. cc), (λ same. cc))
 
--- a message has a length
+-- the line of an entry with a message has a blank and the length after the moment
 pub length-message : (action : Action) (len : ℕ) → HasMessage action → length_text action len ≡ space ∷ decimal len
 length-message Sent len has = refl
 length-message Received len has = refl
@@ -198,7 +204,7 @@ length-message Failed len has = refl
 length-message Mark len has = absurd (has.0 refl)
 length-message Restart len has = absurd (has.1 refl)
 
--- an entry with a message has it and a LF after its line
+-- an entry with a message has the message and a LF after its line
 pub body-message : (action : Action) (text : List ℕ) → HasMessage action → body_says action text ≡ text ++ line_feed ∷ []
 body-message Sent text has = refl
 body-message Received text has = refl
@@ -206,7 +212,7 @@ body-message Failed text has = refl
 body-message Mark text has = absurd (has.0 refl)
 body-message Restart text has = absurd (has.1 refl)
 
--- where there is none, there is no length
+-- the line of an entry without a message has nothing after the moment
 pub length-plain : (action : Action) (len : ℕ) → ¬ (HasMessage action) → length_text action len ≡ []
 length-plain Sent len none = absurd (none has-sent)
 length-plain Received len none = absurd (none has-received)
@@ -222,7 +228,7 @@ body-plain Failed text none = absurd (none has-failed)
 body-plain Mark text none = refl
 body-plain Restart text none = refl
 
--- the line of a message is spelled
+-- a line that is read as the line of a message, of fewer than 32 bytes, is its spelling
 pub message-spelled : (format : Format) (line : List ℕ) (action : Action) (moment len : ℕ) → length line < 32 → HeadLine format line (message action moment len) → line ≡ line_says action moment len
 message-spelled format line action moment len short is =
     let parts = is.2 in
@@ -234,7 +240,7 @@ message-spelled format line action moment len short is =
     ∙ ap (λ (t : List ℕ). letter action ∷ space ∷ decimal moment ++ t) (sym (length-message action len is.1))
     ∙ line-same action moment len
 
--- the line of an entry with a message is read as that
+-- a line that spells the line of a message, of fewer than 32 bytes, is read as that
 pub message-read : (format : Format) (line : List ℕ) (action : Action) (moment len : ℕ) → length line < 32 → HasMessage action → line ≡ line_says action moment len → HeadLine format line (message action moment len)
 message-read format line action moment len short has is =
     let whole : line ≡ letter action ∷ space ∷ decimal moment ++ space ∷ decimal len = is ∙ sym (line-same action moment len) ∙ ap (λ (t : List ℕ). letter action ∷ space ∷ decimal moment ++ t) (length-message action len has) in
@@ -251,18 +257,18 @@ message-read format line action moment len short has is =
       whole,
     )
 
--- the line of an entry without a message has no length, whatever is written of it
+-- the text of the line of an entry without a message is its letter, a blank and its moment
 plain-text : (action : Action) (moment len : ℕ) → ¬ (HasMessage action) → line_text action moment len ≡ letter action ∷ space ∷ decimal moment
 plain-text action moment len none = ap (λ (t : List ℕ). letter action ∷ space ∷ decimal moment ++ t) (length-plain action len none) ∙ ap (λ (t : List ℕ). letter action ∷ space ∷ t) (append-nil (decimal moment))
 
--- it is spelled
+-- a line that is read as the line of an entry without a message, of fewer than 32 bytes, is its spelling
 pub plain-spelled : (format : Format) (line : List ℕ) (action : Action) (moment len : ℕ) → length line < 32 → HeadLine format line (plain action moment) → line ≡ line_says action moment len
 plain-spelled format line action moment len short is =
     let size = ap length is.4 in
     let text = decimal-number is.0 moment (omega (arith, size)) is.3 in
     is.4 ∙ ap (λ (t : List ℕ). letter action ∷ space ∷ t) text ∙ sym (plain-text action moment len is.1) ∙ line-same action moment len
 
--- the line of an entry without a message is read as that
+-- a line that spells the line of an entry without a message, of fewer than 32 bytes, is read as that
 pub plain-read : (format : Format) (line : List ℕ) (action : Action) (moment len : ℕ) → length line < 32 → ¬ (HasMessage action) → IsOf format action → line ≡ line_says action moment len
     → HeadLine format line (plain action moment)
 plain-read format line action moment len short none of is =

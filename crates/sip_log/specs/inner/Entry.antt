@@ -10,44 +10,44 @@ use Rattle.sip_log.specs.inner.Unless.{Unless}
 
 -- What comes next after the entries that were read: an entry, the end, or the first of seven cases in which it cannot be read.
 
--- case 7, EntryLine: the byte after the message is not LF
+-- what comes by the byte after a message: case 7, `EntryLine`, where it is not LF, and else the entry
 abbrev pub CloseComes : Action → ℕ → List ℕ → ℕ → List ℕ → Next Item → Type 0
 CloseComes action moment text b after next =
     Unless (b ≡ line_feed) faults.EntryLine next (next ≡ gives (record { action = action; moment = moment; text = text }) after)
 
--- case 6, Truncated: the input ends before the message and its LF are whole
+-- what comes by a message: case 6, `Truncated`, where the input ends before it and its LF are whole, and else what comes by that byte
 abbrev pub MessageComes : Action → ℕ → ℕ → List ℕ → Next Item → Type 0
 MessageComes action moment len behind next =
     Unless (len < length behind) faults.Truncated next
     ((text : List ℕ) × (b : ℕ) × (after : List ℕ) × (behind ≡ text ++ b ∷ after) × (length text ≡ len) × CloseComes action moment text b after next)
 
--- an entry without a message ends with its line, and a message stands after it
+-- what comes after an entry's line: a message, or the entry itself where it has none
 abbrev pub BodyComes : Head → List ℕ → Next Item → Type 0
 BodyComes (message action moment len) behind next = MessageComes action moment len behind next
 BodyComes (plain action moment) behind next = next ≡ gives (record { action = action; moment = moment; text = [] }) behind
 
--- case 5, Order: the moment is below that of the entry before
+-- what comes by the moment: case 5, `Order`, where it is below that of the entry before, and else what comes after the line
 abbrev pub MomentComes : ℕ → Head → List ℕ → Next Item → Type 0
 MomentComes last head behind next = Unless (last ≤ moment_of head) faults.Order next (BodyComes head behind next)
 
--- case 4, Limit: the moment or the length is outside the limits
+-- what comes by the numbers: case 4, `Limit`, where the moment or the length is outside the limits, and else what comes by the moment
 abbrev pub HeadComes : ℕ → Head → List ℕ → Next Item → Type 0
 HeadComes last head behind next = Unless (KeepsLimits head) faults.Limit next (MomentComes last head behind next)
 
--- case 3, EntryLine: the line is not of the form
+-- what comes by the form of the line: case 3, `EntryLine`, where it has none of an entry's line, and else what comes by its numbers
 abbrev pub FormComes : Format → ℕ → List ℕ → List ℕ → Next Item → Type 0
 FormComes format last line behind next =
     (((head : Head) → ¬ (HeadLine format line head)) × (next ≡ stops faults.EntryLine))
     ⊎ ((head : Head) × HeadLine format line head × HeadComes last head behind next)
 
--- case 2: no LF is among the first 32 bytes, which is Truncated with fewer than 32 bytes left, and else EntryLine
+-- what comes by the front line: where none is among the first 32 bytes, case 2, `Truncated` with fewer bytes left and else `EntryLine`
 abbrev pub LineComes : Format → ℕ → List ℕ → Next Item → Type 0
 LineComes format last rest next =
     (((line : List ℕ) (behind : List ℕ) → ¬ (FrontLine rest line behind))
     × Unless (longest_line ≤ length rest) faults.Truncated next (next ≡ stops faults.EntryLine))
     ⊎ ((line : List ℕ) × (behind : List ℕ) × FrontLine rest line behind × FormComes format last line behind next)
 
--- after this many entries, the last one at this moment: the end of the input; case 1, Limit: one entry more than the most; or an entry
+-- what comes next after `count` entries with the last moment `last`: the end, case 1, `Limit`, where an entry is one too many, or what comes by its line
 abbrev pub EntryComes : Format → ℕ → ℕ → List ℕ → Next Item → Type 0
 EntryComes format count last rest next =
     ((rest ≡ []) × (next ≡ ends)) ⊎ ((rest ≢ []) × Unless (count < most_entries) faults.Limit next (LineComes format last rest next))

@@ -12,25 +12,25 @@ use Rattle.sip_standard.specs.LogHeader.{RulesLine}
 use Rattle.sip_log.specs.Next.{Next, gives, stops}
 use Rattle.sip_log.specs.inner.Number.{IsNumber}
 
--- The lines of a header, one after another.
+-- What follows are the lines of a header, one after another.
 
--- nothing, or a blank and more
+-- the text is empty, or begins with a blank
 abbrev pub Parted : List ℕ → Type 0
 Parted behind = (behind ≡ []) ⊎ ((more : List ℕ) × (behind ≡ space ∷ more))
 
--- a word, a number, and what is after it: nothing, or a blank and more
+-- the text is a word, a number, and a rest that is empty or begins with a blank
 pub record NumberAfter (word text : List ℕ) (n : ℕ) (behind : List ℕ) : Type 0 where
   pub number : List ℕ
   pub number_is : IsNumber number n
   pub parted : Parted behind
   pub whole : text ≡ word ++ (number ++ behind)
 
--- the end of line 2: tolerance N, or in format 2 early N late N
+-- the text is the end of line 2: `tolerance N`, or in format 2 `early N late N`
 abbrev pub Tolerances : Format → List ℕ → ℕ → ℕ → Type 0
 Tolerances One text early late = NumberAfter (codes " tolerance ") text late [] × (early ≡ late)
 Tolerances Two text early late = (rest : List ℕ) × NumberAfter (codes " early ") text early rest × NumberAfter (codes " late ") rest late []
 
--- line 2: t1 N t2 N t4 N, and the tolerances; the rules are those of RFC 6026 until a line says others
+-- the line is line 2: `t1 N t2 N t4 N` and the tolerances; the rules are those of RFC 6026, which a third line may change
 pub record TimesLine (format : Format) (line : List ℕ) (p : Times) : Type 0 where
   pub rest1 : List ℕ
   pub rest2 : List ℕ
@@ -41,14 +41,14 @@ pub record TimesLine (format : Format) (line : List ℕ) (p : Times) : Type 0 wh
   pub tolerances : Tolerances format rest3 p.early p.late
   pub rules : p.rules ≡ R6026
 
--- line 2 at the front, with times within their limits
+-- the rest begins with line 2, whose times are within their limits
 pub record TimesFront (format : Format) (rest : List ℕ) (p : Times) (behind : List ℕ) : Type 0 where
   pub line : List ℕ
   pub times : TimesLine format line p
   pub within : AreTimes p
   pub whole : rest ≡ line ++ line_feed ∷ behind
 
--- line 1
+-- line 1 of this format, with its line feed
 abbrev pub title_text : Format → List ℕ
 title_text One = codes "sip-trace 1\n"
 title_text Two = codes "sip-trace 2\n"
@@ -57,13 +57,13 @@ title_text Two = codes "sip-trace 2\n"
 abbrev pub ComesThird : Format → Times → List ℕ → Next (Format × Times) → Type 0
 ComesThird format p rest next = (rules : Rules) × (behind : List ℕ) × RulesLine rules rest behind × (next ≡ gives (format, under rules p) behind)
 
--- what comes after line 1: line 2, and else the reason is Header
+-- what comes after line 1: line 2 and what comes after it, or the fault `Header` where there is none
 abbrev pub ComesSecond : Format → List ℕ → Next (Format × Times) → Type 0
 ComesSecond format rest next =
     ((p : Times) × (behind : List ℕ) × TimesFront format rest p behind × ComesThird format p behind next)
     ⊎ (((p : Times) (behind : List ℕ) → ¬ (TimesFront format rest p behind)) × (next ≡ stops faults.Header))
 
--- what comes first in an input: line 1, and else the reason is Header
+-- what comes first in an input: line 1 and what comes after it, or the fault `Header` where there is none
 abbrev pub HeaderComes : List ℕ → Next (Format × Times) → Type 0
 HeaderComes input next =
     ((format : Format) × (rest : List ℕ) × (input ≡ title_text format ++ rest) × ComesSecond format rest next)

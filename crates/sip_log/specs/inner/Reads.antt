@@ -1,7 +1,7 @@
 use Rattle.std.specs.Prelude.{◌≡◌, ◌++◌, ℕ, Bool, List, Option}
 use Rattle.std.specs.Io.KnownBytes.{Consumes}
 
--- bytes came from a source, and stand after those that were held; no read failed
+-- bytes came from the source and stand after those that were held, and no read failed
 pub record Reads (held held2 : List ℕ) (left left2 : Option (List ℕ)) (failed failed2 : Bool) : Type 0 where
   pub came : List ℕ
   pub held_is : held2 ≡ held ++ came

@@ -6,10 +6,10 @@ use Rattle.sip_log.specs.declared.window.Window.{Window}
 abbrev pub items : Window → List ℕ
 items w = slice_range w.bytes.items w.start w.end
 
--- what is not read yet: the bytes that a window holds, and then those left in the source
+-- what is not read yet: the bytes that the window holds, and then those left in the source
 abbrev pub unread : Window → Option (List ℕ) → Option (List ℕ)
 unread w left = prepend_known (items w) left
 
--- the bytes that a window has room for
+-- the number of bytes for which a window has room
 abbrev pub window_size : ℕ
 window_size = 131072

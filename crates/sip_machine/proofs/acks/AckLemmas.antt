@@ -17,7 +17,7 @@ use Rattle.sip_machine.specs.inner.Tos.{IsToOf}
 pub Reads-fault : (bytes : List ℕ) (f : Fault) → Says bytes (stops f) → (r : Reading) → Reads bytes r → ⊥
 Reads-fault bytes f fault r reads = says-no_fault bytes (said_of r) f reads.says fault
 
--- the response of an ACK is read as one
+-- where an ACK belongs to the response to an INVITE, the bytes of the response are read as a message, and what the three say is so related
 AckOf-read : (ack invite response : List ℕ) (a i : Reading) → Reads ack a → Reads invite i → AckOf ack invite response
     → (r : Reading) × Reads response r × IsAckOf (said_of a) (said_of i) (said_of r)
 AckOf-read ack invite response a i reads_a reads_i of =
@@ -26,7 +26,7 @@ AckOf-read ack invite response a i reads_a reads_i of =
 
 module _ (ack invite response : List ℕ) (a i : Reading) (is : Bool) (reads_a : Reads ack a) (reads_i : Reads invite i)
     (tells : (r : Said) → SameSolid (said_of a).to r.to → IsTrue is ↔ IsAckOf (said_of a) (said_of i) r) where
-  -- an ACK that is one for the INVITE whatever the response is one for each that has its To
+  -- where an ACK is one for the INVITE whatever the response is, it belongs to each response that has the To of the ACK
   pub AckOf-by_to : IsTrue is → (to : List ℕ) → to ≡ solid a.parts.to.0 → IsToOf response to ↔ AckOf ack invite response
   AckOf-by_to true to to_is = (
     λ its. (ack-of_says ack invite response (said_of a) (said_of i) (said_of its.message) reads_a.says reads_i.says its.reads.says).1 ((tells (said_of its.message) (sym to_is ∙ its.is)).0 true),

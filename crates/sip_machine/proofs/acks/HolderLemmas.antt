@@ -15,7 +15,7 @@ use Rattle.sip_machine.specs.inner.Paying.{FindsFirst}
 use Rattle.sip_machine.specs.inner.Dues.{AreBetween}
 use Rattle.sip_machine.specs.inner.Tos.{HoldsBetween}
 
--- the first of which P holds is the first of which Q holds, where they hold of the same ones
+-- where P and Q hold of the same debts, the first debt of which P holds is the first of which Q holds
 pub FindsFirst-same : (P Q : Debt → Type 0) (t : ℕ) (debts : List Debt) (message : Option ℕ) → All (λ d. P d ↔ Q d) debts → FindsFirst P t debts message → FindsFirst Q t debts message
 FindsFirst-same P Q t debts None same none = λ k d low holds. none k d low ((same k d low).1 holds)
 FindsFirst-same P Q t debts (Some message) same first = IsWithoutFirst-alike P Q debts (paid_by message t debts) same first
@@ -39,12 +39,12 @@ module _ (texts : Texts) (to : List ℕ) (low high t : ℕ) (rows : List (List D
       let pays = pays-it n t debt in
       (λ is. (held.1 (pays.0 is).0, (pays.0 is).1), λ has. pays.1 (held.0 has.0, has.1))
 
-  -- where none has it, no debt does
+  -- where no message has this To, no debt is of one that has it
   pub none-held : HoldsBetween texts to low high Nobody → All (λ d. ¬ (HasTo texts to t d)) debts
   none-held none = λ k d within has.
       none (get_or debts k d).message (All-names (Keeps texts) debts kept k d within) (between k d within).0 (between k d within).1 has.0
 
-  -- where all that is owed is one message, and something is, the book has it
+  -- where all that is owed is one message, and something is owed, the book keeps that message
   pub only-kept : debts ≢ [] → low ≡ high → Keeps texts low
   only-kept some same = kept-one debts some (subst (λ last. AreBetween low last debts) (sym same) between) kept
     where

@@ -1,4 +1,4 @@
--- What stands beside kept messages stays what it is, and tells which of them has a To.
+-- The To that stands beside a kept message stays what it is, and tells which of the messages has a To.
 use Prim.Native.Nat.{suc}
 use Rattle.std.specs.Prelude.{◌≡◌, ◌≢◌, ◌<◌, ◌≤◌, ◌↔◌, ◌-◌, ℕ, Bool, true, false, IfSome, IsTrue, IsSomeAnd, Option, Some, None, bytes_eq, List, [], ◌∷◌, ◌++◌, All, AllPairs, Contains, length, map, slice_get, take, nat_eq}
 use Rattle.std.specs.List.{items_where_true}
@@ -25,7 +25,7 @@ use Rattle.sip_machine.proofs.texts.BesideLemmas.{among-all, count_between-is, m
 use Rattle.sip_machine.proofs.texts.TextLaws.{Keeps-grow, text_of-grow}
 use Rattle.sip_machine.proofs.texts.RetainLemmas.{only-Keeps, text_of-only}
 
--- bytes have one To
+-- bytes are the message of one To alone
 pub IsToOf-same : (bytes to text : List ℕ) → IsToOf bytes text → IsTrue (bytes_eq text to) ↔ IsToOf bytes to
 IsToOf-same bytes to text is = (
   λ same. subst (IsToOf bytes) ((bytes_decides text to).0 same) is,
@@ -35,9 +35,9 @@ IsToOf-same bytes to text is = (
 pub IsToOf-one : (bytes to text : List ℕ) → IsToOf bytes text → IsToOf bytes to → text ≡ to
 IsToOf-one bytes to text is its = (bytes_decides text to).0 ((IsToOf-same bytes to text is).1 its)
 
--- Of kept messages.
+-- What follows is of the Tos of kept messages, as messages come and go.
 
--- one more
+-- where the To of a kept message is put after the others, all are Tos of kept messages
 pub AreTos-push : (texts : Texts) (tos new : List To) (to : To) → IsTo texts to → AreTos texts tos → new ≡ tos ++ to ∷ [] → AreTos texts new
 AreTos-push texts tos new to is all e = record { each = rw e (All-push (IsTo texts) tos to all.each is) }
 
@@ -45,14 +45,14 @@ AreTos-push texts tos new to is all e = record { each = rw e (All-push (IsTo tex
 moved_to : (texts more : Texts) (to : To) → Keeps more to.number → text_of more to.number ≡ text_of texts to.number → IsTo texts to → IsTo more to
 moved_to texts more to kept same is = record { kept = kept; text = subst (λ bytes. IsToOf bytes to.text) (sym same) is.text }
 
--- the book has grown
+-- where a message is added to the book, the Tos stay those of kept messages
 pub AreTos-grow : (texts : Texts) (entry : ℕ) (bytes : List ℕ) (tos : List To) → AreTos texts tos → AreTos (texts ++ (entry, bytes) ∷ []) tos
 AreTos-grow texts entry bytes tos all = record {
   each = All-weaker (IsTo texts) (IsTo (texts ++ (entry, bytes) ∷ [])) (λ to is.
       moved_to texts (texts ++ (entry, bytes) ∷ []) to (Keeps-grow texts entry bytes to.number is.kept) (text_of-grow texts entry bytes to.number is.kept) is) tos all.each;
 }
 
--- the book has forgotten all but some
+-- where the book keeps the messages of some numbers alone, the Tos of these stay those of kept messages
 pub AreTos-only : (texts : Texts) (numbers : List ℕ) → IsBook texts → AllPairs (λ a b. a < b) numbers → All (Keeps texts) numbers → (tos new : List To)
     → AreTos texts tos → All (λ to. Contains tos to × Contains numbers to.number) new → AreTos (only numbers texts) new
 AreTos-only texts numbers book up kept tos new all left = record {
@@ -61,25 +61,25 @@ AreTos-only texts numbers book up kept tos new all left = record {
       (All-contains (IsTo texts) tos to all.each has.0)) new left;
 }
 
--- the To of a message
+-- where the list has a text as the To of a number, it is the To of the message with that number
 pub to_of : (texts : Texts) (tos : List To) (number : ℕ) (text : List ℕ) → AreTos texts tos → Contains tos (record { number = number; text = text }) → IsToOf (text_of texts number) text
 to_of texts tos number text all has =
     let to : To = record { number = number; text = text } in
     let is : IsTo texts to = All-contains (IsTo texts) tos to all.each has in
     is.text
 
--- In their list.
+-- What follows is of the Tos in their list.
 
 abbrev pub nobody : To
 nobody = record { number = 0; text = [] }
 
--- the one at a place, whose number is this one
+-- the To at a place of the list, whose number is this one, is in the list under this number
 pub has_to : (tos : List To) (i : ℕ) (to : To) (number : ℕ) → i < length tos → to ≡ get_or tos i to → to.number ≡ number → Contains tos (record { number = number; text = to.text })
 has_to tos i to number low at same =
     let has : Contains tos to = (i, low, sym at) in
     subst (λ n. Contains tos (record { number = n; text = to.text })) same has
 
--- no two have one number
+-- two Tos of the list with one number are the same text
 pub one_number : (tos : List To) (a b : To) → AllPairs (λ a b. a.number < b.number) tos → Contains tos a → Contains tos b → a.number ≡ b.number → a.text ≡ b.text
 one_number tos a b up (i, i_low, at_a) (j, j_low, at_b) same =
     let first : get_or tos i b ≡ a = get_or_default tos i b a i_low ∙ at_a in
@@ -98,7 +98,7 @@ one_number tos a b up (i, i_low, at_a) (j, j_low, at_b) same =
           ]
     ]
 
--- all are below a number where the last one is
+-- where the last To of the list has a number below this one, all have
 pub all_below : (tos : List To) (number : ℕ) (last : To) → AllPairs (λ a b. a.number < b.number) tos → 0 < length tos → last ≡ get_or tos (length tos - 1) last → last.number < number →
     All (λ to. to.number < number) tos
 all_below tos number last up some at low = λ k d within.
@@ -112,6 +112,7 @@ all_below tos number last up some at low = λ k d within.
           omega (arith, here, low)
     ]
 
+-- where the last To of the list, if there is one, has a number below this one, all have
 pub below_last : (tos : List To) (number : ℕ) (last : Option To) → AllPairs (λ a b. a.number < b.number) tos → last ≡ slice_get tos (length tos - 1) →
     IfSome last (λ to. to.number < number) → All (λ to. to.number < number) tos
 below_last [] number last up is low = λ k d within. absurd (omega arith)
@@ -119,12 +120,13 @@ below_last (t ∷ ts) number None up is low = absurd (let e = is ∙ slice_get-g
 below_last (t ∷ ts) number (Some last) up is low =
     all_below (t ∷ ts) number last up (omega arith) (sym (get_or_from_slice_get (t ∷ ts) (length (t ∷ ts) - 1) last last (sym is))) low
 
--- some of them in their order
+-- what holds of all elements of a list holds of those that are picked
 pub All-picked : {X : Type 0} (P : X → Type 0) (bs : List Bool) (xs : List X) → All P xs → All P (items_where_true bs xs)
 All-picked P bs xs all = λ k d low.
     let (j, j_low, at) = (get_or_picked bs xs k d low).1 in
     subst P (sym at) (all j d j_low)
 
+-- what relates each pair of a list, in order, relates each pair of those that are picked
 pub AllPairs-picked : {X : Type 0} (R : X → X → Type 0) (bs : List Bool) (xs : List X) → AllPairs R xs → AllPairs R (items_where_true bs xs)
 AllPairs-picked R [] xs up = λ i j d lt low. absurd (omega arith)
 AllPairs-picked R (b ∷ bs) [] up = λ i j d lt low. absurd (omega arith)
@@ -134,6 +136,7 @@ AllPairs-picked R (true ∷ bs) (x ∷ xs) up =
     AllPairs-cons R x (items_where_true bs xs) (All-picked (R x) bs xs first) rest
 AllPairs-picked R (false ∷ bs) (x ∷ xs) up = AllPairs-picked R bs xs (λ i j d lt low. up (suc i) (suc j) d (omega (arith, lt)) (omega (arith, low)))
 
+-- where the Tos that are left are picked, and have these numbers, each was in the list and has one of the numbers
 pub left_over : (bs : List Bool) (tos left : List To) (numbers : List ℕ) → left ≡ items_where_true bs tos → All (λ to. Contains numbers to.number) left →
     All (λ to. Contains tos to × Contains numbers to.number) left
 left_over bs tos left numbers is among = λ k d low.
@@ -141,6 +144,7 @@ left_over bs tos left numbers is among = λ k d low.
     let same : get_or left k d ≡ get_or tos j d = ap (λ xs. get_or xs k d) is ∙ at in
     (subst (Contains tos) (sym same) (Contains-get_or tos j d j_low), among k d low)
 
+-- what relates each pair of a list, in order, relates each pair of its first elements
 pub AllPairs-take : {X : Type 0} (R : X → X → Type 0) (n : ℕ) (xs : List X) → AllPairs R xs → AllPairs R (take n xs)
 AllPairs-take R n xs up = λ i j d lt low. elim (cases_lt (length xs) n) [
   | inl over ↦ rw (take_all n xs (omega (arith, over))) (up i j d lt (rw (take_all n xs (omega (arith, over))) at low))
@@ -150,24 +154,25 @@ AllPairs-take R n xs up = λ i j d lt low. elim (cases_lt (length xs) n) [
       rw (get_or-take n xs i d (omega (arith, lt, below)), get_or-take n xs j d below) (up i j d lt (omega (arith, below, within)))
 ]
 
--- Whose they are.
+-- What follows is of whose Tos the hashes are.
 
 pub on_ok : {T E : Type 0} (r : Result T E) (P : Type 0) → is_err r ≡ false → OnOk r P → P
 on_ok (Ok x) P is_not ok = ok
 on_ok (Err e) P is_not ok = absurd (true≢false is_not)
 
--- whose a To is that is one of the list
+-- where the owners say that the Tos of the hash of a text are those of the message n alone, no other message of the list has that To
 pub owned_by : (owners : Owners) (tos : List To) (text : List ℕ) (n : ℕ) → AreOwned owners tos → get nat_eq owners (hash_of text) ≡ Some (Only n) → All (λ to. to.text ≡ text → to.number ≡ n) tos
 owned_by owners tos text n owned is =
     All-weaker (λ to. MayOwn owners (hash_of to.text) to.number) (λ to. to.text ≡ text → to.number ≡ n)
     (λ to may same. subst (λ o. IsSomeAnd o (IsOwner to.number)) (ap (λ t. get nat_eq owners (hash_of t)) same ∙ is) may) tos owned
 
+-- where the owners say nothing of the hash of a text, no message of the list has that To
 pub owned_none : (owners : Owners) (tos : List To) (text : List ℕ) → AreOwned owners tos → get nat_eq owners (hash_of text) ≡ None → All (λ to. to.text ≢ text) tos
 owned_none owners tos text owned is =
     All-weaker (λ to. MayOwn owners (hash_of to.text) to.number) (λ to. to.text ≢ text)
     (λ to may same. subst (λ o. IsSomeAnd o (IsOwner to.number)) (ap (λ t. get nat_eq owners (hash_of t)) same ∙ is) may) tos owned
 
--- where the one whose it can be has another one
+-- where no message but n can have a To, and n has another one, no message of the list has it
 pub held_by_none : (tos : List To) (text its : List ℕ) (n : ℕ) → AllPairs (λ a b. a.number < b.number) tos → All (λ to. to.text ≡ text → to.number ≡ n) tos →
     Contains tos (record { number = n; text = its }) → its ≢ text → All (λ to. to.text ≢ text) tos
 held_by_none tos text its n up only has other = λ k d low same.
@@ -175,15 +180,16 @@ held_by_none tos text its n up only has other = λ k d low same.
     let number : to.number ≡ n = only k d low same in
     other (sym (one_number tos to (record { number = n; text = its }) up (Contains-get_or tos k d low) has number) ∙ same)
 
--- Which kept message has a To.
+-- What follows is of which kept message has a To.
 
+-- where the values that f gives rise along a list, the list of these values rises
 pub AllPairs-map : {X : Type 0} (f : X → ℕ) (xs : List X) → AllPairs (λ a b. f a < f b) xs → AllPairs (λ a b. a < b) (map f xs)
 AllPairs-map f [] up = λ i j d lt low. absurd (omega arith)
 AllPairs-map f (x ∷ xs) up = λ i j d lt low.
     let high : j < length (x ∷ xs) = rw length-map at low in
     rw (get_or-map f (x ∷ xs) i x d (omega (arith, lt, high)), get_or-map f (x ∷ xs) j x d high) (up i j x lt high)
 
--- a message that has its To in the list is kept
+-- a message whose To is in the list is kept
 numbers_kept : (texts : Texts) (tos : List To) → AreTos texts tos → (n : ℕ) → Contains (map (λ to. to.number) tos) n → Keeps texts n
 numbers_kept texts tos are n (i, within, at) =
     let low : i < length tos = rw length-map at within in
@@ -192,7 +198,7 @@ numbers_kept texts tos are n (i, within, at) =
 
 module _ (texts : Texts) (tos : List To) (text : List ℕ) (low high : ℕ) (book : IsBook texts) (are : AreTos texts tos) (up : AllPairs (λ a b. a.number < b.number) tos)
     (as_many : count_between low high (map (λ k. k.0) texts) ≡ count_between low high (map (λ to. to.number) tos)) where
-  -- each message between the two has its To in the list
+  -- each kept message with a number from low up to high has its To in the list
   beside : (number : ℕ) → Keeps texts number → low ≤ number → number ≤ high → (i : ℕ) × (i < length tos) × ((get_or tos i nobody).number ≡ number)
   beside number kept from to =
       let le : low ≤ high = omega (arith, from, to) in
@@ -202,7 +208,7 @@ module _ (texts : Texts) (tos : List To) (text : List ℕ) (low high : ℕ) (boo
       (numbers_kept texts tos are) as_few number kept from to in
       (i, rw length-map at within, sym (get_or-map (λ to. to.number) tos i nobody number (rw length-map at within)) ∙ at)
 
-  -- a message with this To is one of those in the list that have it
+  -- a kept message with this To, whose number is from low up to high, has it in the list
   owner : (number : ℕ) → Keeps texts number → low ≤ number → number ≤ high → IsToOf (text_of texts number) text →
       (i : ℕ) × (i < length tos) × ((get_or tos i nobody).number ≡ number) × ((get_or tos i nobody).text ≡ text)
   owner number kept from to is =
@@ -211,6 +217,7 @@ module _ (texts : Texts) (tos : List To) (text : List ℕ) (low high : ℕ) (boo
       let same = IsToOf-one (text_of texts number) text (get_or tos i nobody).text (subst (λ n. IsToOf (text_of texts n) (get_or tos i nobody).text) at its.text) is in
       (i, within, at, same)
 
+  -- which message of the list has the To is which of the kept messages with numbers from low up to high has it
   pub holds_between : (holder : Holder) → IsHolder tos text holder → HoldsBetween texts text low high holder
   holds_between (One n) is = λ number kept from to. (
     λ its. (let (i, within, at, same) = owner number kept from to its in sym at ∙ All-get_or (λ to. to.text ≡ text → to.number ≡ n) tos i nobody within is.0 same),

@@ -17,13 +17,13 @@ is_false : (b : Bool) → ¬ (b ≡ true) → b ≡ false
 is_false true never = absurd (never refl)
 is_false false never = refl
 
--- Of the payment of a debt.
+-- What follows is of the payment of a debt.
 
--- a debt that is not paid stays
+-- a send leaves a debt that it cannot pay, and pays what it can of those after it
 pub unpaid-front : (message t : ℕ) (debt : Debt) (debts : List Debt) → ¬ (IsTrue (is_payable message t debt)) → paid_by message t (debt ∷ debts) ≡ debt ∷ paid_by message t debts
 unpaid-front message t debt debts unpaid = ap (λ b. cond b debts (debt ∷ paid_by message t debts)) (is_false (is_payable message t debt) unpaid)
 
--- after debts that it does not pay, a send pays the first that it does
+-- a send pays the first debt that it can pay: those before it and after it stay
 paid-behind : (message t : ℕ) (before : List Debt) (first : Debt) (after : List Debt) → All (λ debt. ¬ (IsTrue (is_payable message t debt))) before →
     IsTrue (is_payable message t first) → paid_by message t (before ++ first ∷ after) ≡ before ++ after
 paid-behind message t [] first after none pays = ap (λ b. cond b after (first ∷ paid_by message t after)) pays
@@ -32,12 +32,12 @@ paid-behind message t (debt ∷ before) first after none pays =
     ap (λ b. cond b (before ++ first ∷ after) (debt ∷ paid_by message t (before ++ first ∷ after))) unpaid
     ∙ ap (λ debts. debt ∷ debts) (paid-behind message t before first after (All-tail (λ debt. ¬ (IsTrue (is_payable message t debt))) debt before none) pays)
 
--- what a ledger takes out is what is paid
+-- what is left where a ledger took out the first payable debt is what is left after the payment
 pub paid-is : (message t : ℕ) (debts left : List Debt) → LedgerWithoutFirst (λ debt. IsTrue (is_payable message t debt)) debts left → left ≡ paid_by message t debts
 paid-is message t debts left a =
     a.rest ∙ sym (paid-behind message t a.before a.first a.after a.none_before a.holds) ∙ ap (paid_by message t) (sym a.whole)
 
--- where it pays none, all stay
+-- where a send can pay none of the debts, all stay
 pub unpaid-is : (message t : ℕ) (debts : List Debt) → All (λ debt. ¬ (IsTrue (is_payable message t debt))) debts → paid_by message t debts ≡ debts
 unpaid-is message t [] none = refl
 unpaid-is message t (debt ∷ debts) none =
@@ -45,7 +45,7 @@ unpaid-is message t (debt ∷ debts) none =
     ap (λ b. cond b debts (debt ∷ paid_by message t debts)) unpaid
     ∙ ap (λ ds. debt ∷ ds) (unpaid-is message t debts (All-tail (λ debt. ¬ (IsTrue (is_payable message t debt))) debt debts none))
 
--- a row after a payment
+-- a row from which the first payable debt was taken, or which is as before since it has none, owes what is left after the payment
 pub paid-row : (message t : ℕ) (is : Bool) (old new : List Debt) (rows more : List (List Debt)) (row : ℕ) → old ≡ owed_in rows row → new ≡ owed_in more row →
     OnTrue is (LedgerWithoutFirst (λ debt. IsTrue (is_payable message t debt)) old new) →
     OnFalse is ((more ≡ rows) × All (λ debt. ¬ (IsTrue (is_payable message t debt))) old) → new ≡ paid_by message t old
@@ -53,7 +53,7 @@ paid-row message t true old new rows more row is_old is_new paid unpaid = paid-i
 paid-row message t false old new rows more row is_old is_new paid unpaid =
     is_new ∙ ap (λ rs. owed_in rs row) unpaid.0 ∙ sym is_old ∙ sym (unpaid-is message t old unpaid.1)
 
--- without debts before it of which P does not hold, and with them
+-- where P does not hold of a debt, it and a list without the first debt of which P holds are the debt and the list without that one
 pub without-behind : (P : Debt → Type 0) (debt : Debt) (debts left : List Debt) → ¬ (P debt) → IsWithoutFirst P debts left → IsWithoutFirst P (debt ∷ debts) (debt ∷ left)
 without-behind P debt debts left fails a = record {
   before = debt ∷ a.before;
@@ -65,11 +65,12 @@ without-behind P debt debts left fails a = record {
   rest = ap (λ ds. debt ∷ ds) a.rest;
 }
 
--- a send pays the first debt that it can, if there is one
+-- What follows is of debts of which a send can pay one, or none.
 module _ (message t : ℕ) where
   abbrev Pays : Debt → Type 0
   Pays debt = IsTrue (is_payable message t debt)
 
+  -- where a send pays a debt or can pay one of those after it, it takes the first that it can pay out of all
   some-step : (debt : Debt) (debts : List Debt) (b : Bool) → is_payable message t debt ≡ b → (b || list_any (is_payable message t) debts) ≡ true →
       (list_any (is_payable message t) debts ≡ true → IsWithoutFirst Pays debts (paid_by message t debts)) → IsWithoutFirst Pays (debt ∷ debts) (paid_by message t (debt ∷ debts))
   some-step debt debts true is any more =
@@ -78,11 +79,13 @@ module _ (message t : ℕ) where
       let fails : ¬ (Pays debt) = λ pays. true≢false (sym pays ∙ is) in
       subst (IsWithoutFirst Pays (debt ∷ debts)) (sym (unpaid-front message t debt debts fails)) (without-behind Pays debt debts (paid_by message t debts) fails (more any))
 
+  -- where a send can pay one of the debts, it takes the first that it can pay out of them
   pub pays-some : (debts : List Debt) → list_any (is_payable message t) debts ≡ true → IsWithoutFirst Pays debts (paid_by message t debts)
   pays-some [] any = absurd (true≢false (sym any))
   pays-some (debt ∷ debts) any =
       some-step debt debts (is_payable message t debt) refl any (pays-some debts)
 
+  -- where a send can pay neither a debt nor one of those after it, it can pay none of all
   none-step : (debt : Debt) (debts : List Debt) (b : Bool) → is_payable message t debt ≡ b → (b || list_any (is_payable message t) debts) ≡ false →
       (list_any (is_payable message t) debts ≡ false → All (λ x. ¬ (Pays x)) debts) → All (λ x. ¬ (Pays x)) (debt ∷ debts)
   none-step debt debts true is any more = absurd (true≢false any)
@@ -92,7 +95,7 @@ module _ (message t : ℕ) where
   pays-none [] any = All-nil (λ x. ¬ (Pays x))
   pays-none (debt ∷ debts) any = none-step debt debts (is_payable message t debt) refl any (pays-none debts)
 
--- Of rows.
+-- What follows is of what each of many states owes, by rows.
 
 -- rows without a ledger owe nothing
 pub owed-none : (count row : ℕ) → owed_in (rows_in count None) row ≡ []
@@ -100,38 +103,39 @@ owed-none zero row = refl
 owed-none (suc count) zero = refl
 owed-none (suc count) (suc row) = owed-none count row
 
--- rows that owe nothing
+-- rows that each owe nothing are the rows that there are without a ledger
 pub blank-rows : (rows : List (List Debt)) → ((k : ℕ) → k < length rows → owed_in rows k ≡ []) → rows ≡ rows_in (length rows) None
 blank-rows [] none = refl
 blank-rows (row ∷ rows) none = ap₂ (λ r rs. r ∷ rs) (none 0 (omega arith)) (blank-rows rows (λ k low. none (suc k) (omega (arith, low))))
 
--- rows without a ledger stay so where a row becomes what no debts become
+-- where a row that owes nothing becomes what owes nothing, rows without a ledger stay as they are
 pub set-none : (count row : ℕ) (debts : List Debt) → debts ≡ [] → rows_in count None ≡ set (rows_in count None) row debts
 set-none count row debts is =
     sym (set-get_or (rows_in count None) row []) ∙ ap (set (rows_in count None) row) (owed-none count row ∙ sym is)
 
--- one row changes
+-- where a row comes to owe debts whose messages lie between the two numbers, the messages of all rows still do
 pub AreDues-set : (rows : List (List Debt)) (count low high row : ℕ) (debts : List Debt) → AreDues rows count low high → AreBetween low high debts → AreDues (set rows row debts) count low high
 AreDues-set rows count low high row debts dues here =
     record { long = length-set rows row debts ∙ dues.long; between = All-set (AreBetween low high) rows row debts here dues.between }
 
--- what a row owes is between the numbers
+-- the messages that a row owes lie between the numbers of all rows
 pub between-row : (rows : List (List Debt)) (count low high row : ℕ) → row < length rows → AreDues rows count low high → AreBetween low high (owed_in rows row)
 between-row rows count low high row low_row dues = All-get_or (AreBetween low high) rows row [] low_row dues.between
 
--- the messages of what is left after a payment lie between the same numbers
+-- the messages of what is left of a debt and others lie between the numbers between which theirs do
 paid-step : (low high : ℕ) (debt : Debt) (debts left : List Debt) (b : Bool) → AreBetween low high (debt ∷ debts) → AreBetween low high left → AreBetween low high (cond b debts (debt ∷ left))
 paid-step low high debt debts left true all more = All-tail (λ d. (low ≤ d.message) × (d.message ≤ high)) debt debts all
 paid-step low high debt debts left false all more =
     All-cons (λ d. (low ≤ d.message) × (d.message ≤ high)) debt left (All-head (λ d. (low ≤ d.message) × (d.message ≤ high)) debt debts all) more
 
+-- the messages of what is left after a payment lie between the numbers between which those before it do
 pub between-paid : (message t low high : ℕ) (debts : List Debt) → AreBetween low high debts → AreBetween low high (paid_by message t debts)
 between-paid message t low high [] all = all
 between-paid message t low high (debt ∷ debts) all =
     paid-step low high debt debts (paid_by message t debts) (is_payable message t debt) all
     (between-paid message t low high debts (All-tail (λ d. (low ≤ d.message) × (d.message ≤ high)) debt debts all))
 
--- the first rows
+-- without a ledger, the first n rows owe nothing
 pub take-none : (count n : ℕ) → rows_in (min count n) None ≡ take n (rows_in count None)
 take-none zero zero = let e : min 0 0 ≡ 0 = omega arith in ap (λ k. rows_in k None) e
 take-none zero (suc n) = let e : min 0 (suc n) ≡ 0 = omega arith in ap (λ k. rows_in k None) e
@@ -139,20 +143,20 @@ take-none (suc count) zero = let e : min (suc count) 0 ≡ 0 = omega arith in ap
 take-none (suc count) (suc n) =
     let e : min (suc count) (suc n) ≡ suc (min count n) = omega arith in ap (λ k. rows_in k None) e ∙ ap (λ rows. [] ∷ rows) (take-none count n)
 
--- rows that owe nothing, without the first
+-- without a ledger, the rows after the first n owe nothing
 pub drop-none : (count n : ℕ) → n ≤ count → rows_in (count - n) None ≡ drop n (rows_in count None)
 drop-none count zero le = let e : count - 0 ≡ count = omega arith in ap (λ k. rows_in k None) e
 drop-none zero (suc n) le = absurd (omega (arith, le))
 drop-none (suc count) (suc n) le = let e : suc count - suc n ≡ count - n = omega arith in ap (λ k. rows_in k None) e ∙ drop-none count n (omega (arith, le))
 
--- wider numbers
+-- messages that lie between two numbers lie between wider ones
 pub between-wider : (low high message : ℕ) (rows : List (List Debt)) → All (AreBetween low high) rows → All (AreBetween (min low message) (max high message)) rows
 between-wider low high message rows all =
     All-weaker (AreBetween low high) (AreBetween (min low message) (max high message))
     (λ debts between. All-weaker (λ (d : Debt). (low ≤ d.message) × (d.message ≤ high)) (λ (d : Debt). (min low message ≤ d.message) × (d.message ≤ max high message))
     (λ d is. let a = is.0 in let b = is.1 in (omega (arith, a), omega (arith, b))) debts between) rows all
 
--- one debt more
+-- where a row gains a debt, the messages of all rows lie between the numbers widened by that of the debt
 pub AreDues-gain : (rows : List (List Debt)) (count low high row : ℕ) (debt : Debt) → row < length rows → AreDues rows count low high →
     AreDues (set rows row (owed_in rows row ++ debt ∷ [])) count (min low debt.message) (max high debt.message)
 AreDues-gain rows count low high row debt low_row dues =
@@ -162,7 +166,7 @@ AreDues-gain rows count low high row debt low_row dues =
     (All-push (λ (d : Debt). (min low m ≤ d.message) × (d.message ≤ max high m)) (owed_in rows row) debt
     (All-get_or (AreBetween (min low m) (max high m)) rows row [] low_row wider) (omega arith, omega arith))
 
--- a row that changes twice
+-- a row that is changed and then changed again is as if it was changed once, to what the second change makes of the first
 pub set-again : (rows : List (List Debt)) (row : ℕ) (debts : List Debt) (f : List Debt → List Debt) → row < length rows →
     set (set rows row debts) row (f (owed_in (set rows row debts) row)) ≡ set rows row (f debts)
 set-again rows row debts f low = ap (λ x. set (set rows row debts) row (f x)) (get_or-set_same rows row debts [] low) ∙ set-twice rows row debts (f debts)
@@ -172,7 +176,7 @@ set-again rows row debts f low = ap (λ x. set (set rows row debts) row (f x)) (
     set-twice (r ∷ rows) zero x y = refl
     set-twice (r ∷ rows) (suc row) x y = ap (λ rs. r ∷ rs) (set-twice rows row x y)
 
--- what is new counts at its own moment
+-- a debt that is gained counts at its own moment, so that dropping what has expired before or after comes to the same
 pub counted-gain : (t : ℕ) (owes : List Debt) (debt : Debt) → t ≤ debt.deadline → filter (counts_at t) (owes ++ debt ∷ []) ≡ filter (counts_at t) owes ++ debt ∷ []
 counted-gain t owes debt now =
     let counts : counts_at t debt ≡ true = grind (arith, nat_tests) in

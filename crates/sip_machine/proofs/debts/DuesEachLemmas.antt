@@ -12,7 +12,7 @@ use Rattle.sip_machine.specs.inner.Dues.{rows_in, AreBetween, AreDues}
 use Rattle.sip_machine.specs.Owes.{owed_in}
 use Rattle.sip_machine.proofs.debts.DueLemmas.{between-wider, owed-none}
 
--- each row from one on changes
+-- where each row from one on is changed so that its messages stay between two numbers, those of all rows do
 pub AreDues-mapped : (f : List Debt → List Debt) (rows : List (List Debt)) (count low high from : ℕ) →
     ((debts : List Debt) → AreBetween low high debts → AreBetween low high (f debts)) → AreDues rows count low high →
     AreDues (take from rows ++ map f (drop from rows)) count low high
@@ -29,7 +29,7 @@ AreDues-mapped f rows count low high from keeps dues =
           (All-weaker (AreBetween low high) (λ debts. AreBetween low high (f debts)) keeps (drop from rows) (All-drop (AreBetween low high) from rows dues.between)));
     }
 
--- each gains a debt
+-- where each row from one on gains a debt, the messages of all rows lie between the numbers widened by that of the debt
 pub AreDues-gained : (rows : List (List Debt)) (count low high from : ℕ) (debt : Debt) → AreDues rows count low high →
     AreDues (take from rows ++ map (λ (owes : List Debt). owes ++ debt ∷ []) (drop from rows)) count (min low debt.message) (max high debt.message)
 AreDues-gained rows count low high from debt dues =
@@ -38,7 +38,7 @@ AreDues-gained rows count low high from debt dues =
     (λ debts between. All-push (λ (d : Debt). (min low m ≤ d.message) × (d.message ≤ max high m)) debts debt between (omega arith, omega arith))
     (record { long = dues.long; between = between-wider low high m rows dues.between })
 
--- some come once more
+-- where copies of some rows come after the others, the messages of all rows lie between the same numbers
 pub AreDues-again : (p : List Debt → Bool) (rows more : List (List Debt)) (count again low high from to : ℕ) → AreDues rows count low high →
     more ≡ rows ++ filter p (from_to from to rows) → again ≡ length more → AreDues more again low high
 AreDues-again p rows more count again low high from to dues is size =
@@ -46,7 +46,7 @@ AreDues-again p rows more count again low high from to dues is size =
     = All-filter p (AreBetween low high) (from_to from to rows) (All-drop (AreBetween low high) from (take to rows) (All-take (AreBetween low high) to rows dues.between)) in
     record { long = sym size; between = rw is (All-append (AreBetween low high) rows (filter p (from_to from to rows)) dues.between some) }
 
--- each row from one on changes twice
+-- where each row from one on is changed by f and then by g, and both together change as h does, it is changed as by h
 pub mapped-twice : (f g h : List Debt → List Debt) → ((owes : List Debt) → g (f owes) ≡ h owes) → (from : ℕ) (rows : List (List Debt)) →
     take from (take from rows ++ map f (drop from rows)) ++ map g (drop from (take from rows ++ map f (drop from rows))) ≡ take from rows ++ map h (drop from rows)
 mapped-twice f g h is zero [] = refl
@@ -54,7 +54,7 @@ mapped-twice f g h is zero (owes ∷ rows) = ap₂ (λ row more. row ∷ more) (
 mapped-twice f g h is (suc from) [] = refl
 mapped-twice f g h is (suc from) (owes ∷ rows) = ap (λ more. owes ∷ more) (mapped-twice f g h is from rows)
 
--- rows at indices
+-- where the rows at some indices alone are kept, the messages of these lie between the same numbers
 pub AreDues-kept : (rows : List (List Debt)) (count low high : ℕ) (kept : List ℕ) → AreDues rows count low high → All (λ row. row < length rows) kept →
     AreDues (map (owed_in rows) kept) (length kept) low high
 AreDues-kept rows count low high kept dues within = record {
@@ -63,16 +63,16 @@ AreDues-kept rows count low high kept dues within = record {
       (All-weaker (λ row. row < length rows) (λ row. AreBetween low high (owed_in rows row)) (λ row low_row. All-get_or (AreBetween low high) rows row [] low_row dues.between) kept within);
 }
 
--- Of rows that owe nothing.
+-- What follows is of rows that owe nothing.
 
--- they stay so where no debts become none
+-- where a change leaves no debts of none, rows that owe nothing stay as they are
 pub mapped-none : (f : List Debt → List Debt) (count from : ℕ) → f [] ≡ [] → rows_in count None ≡ take from (rows_in count None) ++ map f (drop from (rows_in count None))
 mapped-none f zero zero is = refl
 mapped-none f (suc count) zero is = ap₂ (λ row rows. row ∷ rows) (sym is) (mapped-none f count zero is)
 mapped-none f zero (suc from) is = refl
 mapped-none f (suc count) (suc from) is = ap (λ rows. [] ∷ rows) (mapped-none f count from is)
 
--- some of them
+-- of rows that owe nothing, those from one index up to another owe nothing
 some-none : (count from to : ℕ) → to ≤ count → from_to from to (rows_in count None) ≡ rows_in (to - from) None
 some-none count zero zero le = let e : 0 ≡ 0 - 0 = omega arith in ap (λ n. rows_in n None) e
 some-none zero zero (suc to) le = absurd (omega (arith, le))
@@ -92,14 +92,14 @@ passing-no : (p : List Debt → Bool) (n : ℕ) → p [] ≡ false → filter p 
 passing-no p zero is = refl
 passing-no p (suc n) is = ap (λ b. cond b ([] ∷ filter p (rows_in n None)) (filter p (rows_in n None))) is ∙ passing-no p n is
 
--- all of them are timely
+-- of rows that owe nothing, copies of all from one index up to another come after the others: all are timely
 pub timely-none : (t count from to : ℕ) → to ≤ count →
     rows_in (count + (to - from)) None ≡ rows_in count None ++ filter (is_timely t) (from_to from to (rows_in count None))
 timely-none t count from to le =
     sym (replicate-append-replicate count (to - from) [])
     ∙ ap (λ more. rows_in count None ++ more) (sym (passing-all (is_timely t) (to - from) refl) ∙ ap (filter (is_timely t)) (sym (some-none count from to le)))
 
--- rows that owe nothing can pay nothing
+-- of rows that owe nothing, no copies come after the others of those that can pay: none can
 pub payable-none : (message t count from to : ℕ) → to ≤ count →
     rows_in count None ≡ rows_in count None ++ filter (λ owes. list_any (is_payable message t) owes && is_timely t owes) (from_to from to (rows_in count None))
 payable-none message t count from to le =
@@ -108,7 +108,7 @@ payable-none message t count from to le =
     (sym (passing-no (λ owes. list_any (is_payable message t) owes && is_timely t owes) (to - from) refl)
     ∙ ap (filter (λ owes. list_any (is_payable message t) owes && is_timely t owes)) (sym (some-none count from to le)))
 
--- rows at indices owe nothing either
+-- of rows that owe nothing, those at some indices owe nothing
 pub kept-none : (count : ℕ) (kept : List ℕ) → rows_in (length kept) None ≡ map (owed_in (rows_in count None)) kept
 kept-none count [] = refl
 kept-none count (row ∷ kept) = ap₂ (λ owes rows. owes ∷ rows) (sym (owed-none count row)) (kept-none count kept)

@@ -30,6 +30,7 @@ first-of : (P : Debt → Type 0) (n : ℕ) (d : Debt) → 0 < n → All P (repli
 first-of P zero d some all = absurd (omega (arith, some))
 first-of P (suc n) d some all = All-head P d (replicate n d) all
 
+-- where runs are not empty, what holds of each debt holds of the debt of each run
 pub each-All : (P : Debt → Type 0) (runs : List Run) → All (λ run. 0 < run.count) runs → All P (debts_in runs) → All (λ run. P run.debt) runs
 each-All P [] filled all = All-nil (λ run. P run.debt)
 each-All P (run ∷ runs) filled all =
@@ -45,7 +46,7 @@ pub payable-now : (message t : ℕ) (debt : Debt) → debt.message ≡ message �
 payable-now message t debt same now = grind (arith, nat_tests)
 
 module _ (P : Debt → Type 0) (message t : ℕ) (only : (debt : Debt) → IsTrue (is_payable message t debt) → P debt) where
-  -- after equal debts that it does not pay
+  -- the first debt of which P holds is not among equal debts of which it does not hold: it is the first of the rest
   skipped : (n : ℕ) (debt : Debt) (rest : List Debt) → ¬ (P debt) → IsWithoutFirst P rest (paid_by message t rest) →
       IsWithoutFirst P (replicate n debt ++ rest) (paid_by message t (replicate n debt ++ rest))
   skipped zero debt rest fails first = first
@@ -53,6 +54,7 @@ module _ (P : Debt → Type 0) (message t : ℕ) (only : (debt : Debt) → IsTru
       subst (IsWithoutFirst P (debt ∷ (replicate n debt ++ rest))) (sym (unpaid-front message t debt (replicate n debt ++ rest) (λ pays. fails (only debt pays))))
       (without-behind P debt (replicate n debt ++ rest) (paid_by message t (replicate n debt ++ rest)) fails (skipped n debt rest fails first))
 
+  -- where P holds of equal debts, at least one, a send that pays them pays the first of them
   here : (n : ℕ) (debt : Debt) (rest : List Debt) → 0 < n → P debt → IsTrue (is_payable message t debt) →
       IsWithoutFirst P (replicate n debt ++ rest) (paid_by message t (replicate n debt ++ rest))
   here zero debt rest some holds pays = absurd (omega (arith, some))
@@ -66,7 +68,7 @@ module _ (P : Debt → Type 0) (message t : ℕ) (only : (debt : Debt) → IsTru
     rest = ap (λ b. cond b (replicate n debt ++ rest) (debt ∷ paid_by message t (replicate n debt ++ rest))) pays;
   }
 
-  -- the first run of which P holds, where a send of its message pays nothing else
+  -- where P holds of the debt of a run and of none before it, and a send of its message pays nothing else, the send pays the first of which P holds
   pub first-run : (runs : List Run) (at : ℕ) (d : Run) → at < length runs → All (λ run. 0 < run.count) runs → All (λ run. ¬ (P run.debt)) (take at runs) →
       P (get_or runs at d).debt → IsTrue (is_payable message t (get_or runs at d).debt) → IsWithoutFirst P (debts_in runs) (paid_by message t (debts_in runs))
   first-run [] at d low filled none holds pays = absurd (omega (arith, low))
@@ -76,7 +78,7 @@ module _ (P : Debt → Type 0) (message t : ℕ) (only : (debt : Debt) → IsTru
       skipped run.count run.debt (debts_in runs) (All-head (λ run. ¬ (P run.debt)) run (take at runs) none)
       (first-run runs at d (omega (arith, low)) (All-tail (λ run. 0 < run.count) run runs filled) (All-tail (λ run. ¬ (P run.debt)) run (take at runs) none) holds pays)
 
--- a send of a message with this To pays what has it
+-- a send of a message with this To pays only debts of messages that have it
 pub pays-to : (texts : Texts) (to : List ℕ) (t message : ℕ) → IsToOf (text_of texts message) to → (debt : Debt) → IsTrue (is_payable message t debt) → HasTo texts to t debt
 pays-to texts to t message its debt pays =
     let parts = payable-parts message t debt pays in

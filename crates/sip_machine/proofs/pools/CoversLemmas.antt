@@ -1,4 +1,4 @@
--- States that cover a set, some perhaps more than once.
+-- Lists of states that cover what holds of some states, where one may be covered more than once.
 use Prim.Native.Nat.{suc, zero}
 use Rattle.std.specs.Prelude.{◌≡◌, ◌≤◌, ◌<◌, ◌+◌, ◌-◌, ◌↔◌, ◌⊎◌, ℕ, Bool, true, false, Option, Some, None, List, [], ◌∷◌, ◌++◌, All, drop, filter, get_or, length, map, option_to_list, take}
 use Rattle.std.proofs.Common.{Result, Ok, Err, OnOk, OnErr, inl, inr, refl, sym, ◌∙◌, ap, subst, cond, arith, append-nil, append_assoc, length-append}
@@ -12,10 +12,10 @@ use Rattle.sip_machine.specs.inner.Single.{AnswersOne}
 use Rattle.sip_machine.proofs.texts.TextLaws.{Contains-nil}
 use Rattle.sip_machine.proofs.steps.SingleLemmas.{StandFor-one}
 
--- Of what leads from some states.
+-- What follows is of the states to which some states lead.
 
 module _ {X S : Type 0} where
-  -- from two lists, what leads from either
+  -- what leads from one of two lists leads from both together
   pub FromSome-append : (P : S → X → Type 0) (xs ys : List S) (y : X) → (FromSome P xs y ⊎ FromSome P ys y) ↔ FromSome P (xs ++ ys) y
   FromSome-append P [] ys y = (λ h. elim h [ inl none ↦ absurd none | inr later ↦ later ], inr)
   FromSome-append P (x ∷ xs) ys y =
@@ -30,7 +30,7 @@ module _ {X S : Type 0} where
         ],
       )
 
-  -- what leads in one way or in another
+  -- what leads in one way from one of the states, or in another way from one, leads from one of them in one of the two ways
   pub FromSome-either : (P Q : S → X → Type 0) (xs : List S) (y : X) → (FromSome P xs y ⊎ FromSome Q xs y) ↔ FromSome (λ x y. P x y ⊎ Q x y) xs y
   FromSome-either P Q [] y = (λ h. elim h [ inl none ↦ none | inr none ↦ none ], λ none. inl none)
   FromSome-either P Q (x ∷ xs) y =
@@ -45,7 +45,7 @@ module _ {X S : Type 0} where
         ],
       )
 
-  -- states from some of a list by two relations that are the same are the same
+  -- where two relations are the same, the states to which they lead from some states are the same
   pub FromSome-same : (P Q : S → X → Type 0) → ((x : S) (y : X) → P x y ↔ Q x y) → (xs : List S) (y : X) → FromSome P xs y ↔ FromSome Q xs y
   FromSome-same P Q same [] y = (λ none. none, λ none. none)
   FromSome-same P Q same (x ∷ xs) y =
@@ -55,7 +55,7 @@ module _ {X S : Type 0} where
         λ h. elim h [ inl q ↦ inl (here.1 q) | inr rest ↦ inr (more.1 rest) ],
       )
 
-  -- nothing leads from states from which nothing does
+  -- where nothing leads from each of some states to y, nothing leads from one of them to y
   pub FromSome-none : (P : S → X → Type 0) (xs : List S) (y : X) → All (λ x. ¬ (P x y)) xs → FromSome P xs y → ⊥
   FromSome-none P [] y none h = h
   FromSome-none P (x ∷ xs) y none h =
@@ -68,7 +68,7 @@ module _ {X S : Type 0} (names : S → List ℕ) (InRange : S → Type 0) (seen 
   abbrev pub Cover : (X → Type 0) → List S → Type 0
   Cover P xs = Covers names InRange seen texts P xs
 
-  -- no states cover what holds of none
+  -- where P holds of nothing, no states cover it
   pub Covers-none : (P : X → Type 0) → ((y : X) → ¬ (P y)) → Cover P []
   Covers-none P none = record {
     members = λ y. (λ has. absurd (Contains-nil y has), λ p. absurd (none y p));
@@ -76,7 +76,7 @@ module _ {X S : Type 0} (names : S → List ℕ) (InRange : S → Type 0) (seen 
     in_range = All-nil InRange;
   }
 
-  -- a set told otherwise
+  -- where P and Q hold of the same, states that cover P cover Q
   pub Covers-same : (P Q : X → Type 0) → ((y : X) → P y ↔ Q y) → (xs : List S) → Cover P xs → Cover Q xs
   Covers-same P Q same xs c = record {
     members = λ y. (λ has. (same y).0 ((c.members y).0 has), λ q. (c.members y).1 ((same y).1 q));
@@ -98,16 +98,16 @@ module _ {X S : Type 0} (names : S → List ℕ) (InRange : S → Type 0) (seen 
     in_range = All-append InRange xs ys c.in_range d.in_range;
   }
 
-  -- states that stand for a set cover it
+  -- states that stand for those of which P holds cover them
   pub Covers-stood : (P : X → Type 0) (xs : List S) → StandFor names InRange seen texts P xs → Cover P xs
   Covers-stood P xs stands = record { members = stands.members; known = stands.known; in_range = stands.in_range }
 
-  -- an answer covers what it answers
+  -- an answer that stands for the only state of which P holds covers it
   pub Covers-one : (P : X → Type 0) (a : Option S) → AnswersOne names InRange seen texts P a → Cover P (option_to_list a)
   Covers-one P None none = Covers-none P none
   Covers-one P (Some s) one = Covers-stood P (s ∷ []) (StandFor-one names InRange seen texts P s one)
 
-  -- the answers of the states that pass a test
+  -- the answer of a state and the others are the answer, if the state passes the test, and the others
   answers-front : (b : Bool) (s : S) (ys : List S) → cond b (s ∷ ys) ys ≡ option_to_list (cond b (Some s) None) ++ ys
   answers-front true s ys = refl
   answers-front false s ys = refl
@@ -116,6 +116,7 @@ module _ {X S : Type 0} (names : S → List ℕ) (InRange : S → Type 0) (seen 
   map-passing true g x xs = refl
   map-passing false g x xs = refl
 
+  -- where each state that passes the test, changed by g, answers what leads from it, those that pass, changed by g, cover what leads from all
   pub answers-cover : (P : S → X → Type 0) (test : S → Bool) (g : S → S) (xs : List S) →
       All (λ x. AnswersOne names InRange seen texts (P x) (cond (test x) (Some (g x)) None)) xs → Cover (FromSome P xs) (map g (filter test xs))
   answers-cover P test g [] all = Covers-none (FromSome P []) (λ y none. none)
@@ -125,18 +126,18 @@ module _ {X S : Type 0} (names : S → List ℕ) (InRange : S → Type 0) (seen 
       subst (Cover (FromSome P (x ∷ xs))) (sym (map-passing (test x) g x (filter test xs) ∙ answers-front (test x) (g x) (map g (filter test xs))))
       (Covers-both (P x) (FromSome P xs) (option_to_list (cond (test x) (Some (g x)) None)) (map g (filter test xs)) (Covers-one (P x) (cond (test x) (Some (g x)) None) here) more)
 
--- The states of a pool, after which others were found.
+-- What follows is of the states of a pool, after which others were found.
 
--- what leads from some of them was found after all
+-- the new states are the old ones and, after these, states that cover what leads from `some`
 abbrev pub HasFound : {X S : Type 0} → (S → List ℕ) → (S → Type 0) → (Texts → S → X) → Texts → (S → X → Type 0) → List S → List S → List S → Type 0
 HasFound {X} {S} names InRange seen texts P some old new = (added : List S) × (new ≡ old ++ added) × Covers names InRange seen texts (FromSome P some) added
 
 module _ {X S : Type 0} (names : S → List ℕ) (InRange : S → Type 0) (seen : Texts → S → X) (texts : Texts) (P : S → X → Type 0) where
-  -- no states lead anywhere
+  -- where no states are asked, none were found
   pub found-none : (old : List S) → HasFound names InRange seen texts P [] old old
   found-none old = ([], sym (append-nil old), Covers-none names InRange seen texts (FromSome P []) (λ y none. none))
 
-  -- what leads from more of them comes to what was found
+  -- where what leads from more states is found after the others, what leads from all of them was found
   pub found-more : (some more all old mid new added : List S) → all ≡ some ++ more → HasFound names InRange seen texts P some old mid → new ≡ mid ++ added →
       Covers names InRange seen texts (FromSome P more) added → HasFound names InRange seen texts P all old new
   found-more some more all old mid new added is (found, mid_is, covers) new_is covers_more = (
@@ -147,46 +148,47 @@ module _ {X S : Type 0} (names : S → List ℕ) (InRange : S → Type 0) (seen 
         (Covers-both names InRange seen texts (FromSome P some) (FromSome P more) found added covers covers_more)),
   )
 
-  -- what leads from one state alone
+  -- states that cover what leads from x cover what leads from the list of x alone
   pub Covers-alone : (x : S) (xs : List S) → Covers names InRange seen texts (P x) xs → Covers names InRange seen texts (FromSome P (x ∷ [])) xs
   Covers-alone x xs c =
       Covers-same names InRange seen texts (P x) (FromSome P (x ∷ [])) (λ y. (λ here. inl here, λ h. elim h [ inl here ↦ here | inr none ↦ absurd none ])) xs c
 
 module _ {S : Type 0} where
+  -- the first n of the first m elements are the first n, where n is not above m
   take-shorter : (n m : ℕ) (xs : List S) → n ≤ m → take n (take m xs) ≡ take n xs
   take-shorter zero m xs le = refl
   take-shorter (suc n) zero xs le = absurd (omega (arith, le))
   take-shorter (suc n) (suc m) [] le = refl
   take-shorter (suc n) (suc m) (x ∷ xs) le = ap (λ ys. x ∷ ys) (take-shorter n m xs (omega (arith, le)))
 
-  -- some of the first states
+  -- what holds of the first `count` states holds of those from one index up to another, if the latter is not above `count`
   pub slice-all : (P : S → Type 0) (from to count : ℕ) (xs : List S) → to ≤ count → All P (take count xs) → All P (from_to from to xs)
   slice-all P from to count xs le all = All-drop P from (take to xs) (subst (All P) (take-shorter to count xs le) (All-take P to (take count xs) all))
 
-  -- they stand where they did when others are put after
+  -- where others are put after the states, those from one index up to another are the same
   pub slice-old : (from to : ℕ) (old found new : List S) → new ≡ old ++ found → to ≤ length old → from_to from to new ≡ from_to from to old
   slice-old from to old found new is le = ap (from_to from to) is ∙ ap (drop from) (take-append-le to old found le)
 
-  -- one of them
+  -- the state at index k of a list is the one at k - from of those from `from` on
   pub slice-get : (from to k : ℕ) (xs : List S) (d : S) → from ≤ k → k < to → get_or (from_to from to xs) (k - from) d ≡ get_or xs k d
   slice-get from to k xs d le low =
       let here : from + (k - from) ≡ k = omega (arith, le) in
       get_or-drop from (take to xs) (k - from) d ∙ ap (λ n. get_or (take to xs) n d) here ∙ get_or-take to xs k d low
 
-  -- the first ones, with those after them up to another place
+  -- the states up to `to` are those up to `at` and those from there up to `to`
   pub take-slice : (at to : ℕ) (xs : List S) → at ≤ to → take to xs ≡ take at xs ++ from_to at to xs
   take-slice zero to xs le = refl
   take-slice (suc at) zero xs le = absurd (omega (arith, le))
   take-slice (suc at) (suc to) [] le = refl
   take-slice (suc at) (suc to) (x ∷ xs) le = ap (λ ys. x ∷ ys) (take-slice at to xs (omega (arith, le)))
 
-  -- after the states and more that stand as before, the states do too
+  -- where states were put after the old ones, and later ones left all these as they were, the old ones are as they were
   pub before-more : (old mid new added : List S) → mid ≡ old ++ added → take (length mid) new ≡ mid → take (length old) new ≡ old
   before-more old mid new added is stands =
       let size : length mid ≡ length old + length added = ap length is ∙ length-append old added in
       sym (take-shorter (length old) (length mid) new (omega (arith, size))) ∙ ap (take (length old)) (stands ∙ is) ∙ take-append_seam old added
 
-  -- what holds of some of the states holds of one of them, where it stands when others are put after
+  -- what holds of the old states from one index up to another holds of the state at an index between, when others are put after the old ones
   pub slice-at : (P : S → Type 0) (from to k : ℕ) (old found new : List S) (d : S) → new ≡ old ++ found → from ≤ k → k < to → to ≤ length old →
       All P (from_to from to old) → P (get_or new k d)
   slice-at P from to k old found new d is after low le all =
@@ -195,7 +197,7 @@ module _ {S : Type 0} where
       let size : length (from_to from to old) ≡ to - from = length-drop from (take to old) ∙ ap (λ n. n - from) (length-take-le to old le) in
       subst P (sym here) (All-get_or P (from_to from to old) (k - from) d (omega (arith, size, after, low)) all)
 
-  -- what is put after the states, or is not, leaves them as they were
+  -- whether states were put after the old ones or, on an error, none were, the old ones are as they were
   pub before-either : {T E : Type 0} (r : Result T E) (old added new : List S) → OnOk r (new ≡ old ++ added) → OnErr r (new ≡ old) → take (length old) new ≡ old
   before-either (Ok t) old added new ok err = ap (take (length old)) ok ∙ take-append_seam old added
   before-either (Err e) old added new ok err = ap (take (length old)) err ∙ take_all (length old) old (omega arith)

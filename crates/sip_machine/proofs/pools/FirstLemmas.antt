@@ -1,4 +1,4 @@
--- The first of each kind among the elements of a list, how these are brought to its front, and the prints by which they are found.
+-- The first of each kind among the elements of a list: how these are brought to its front, and the prints by which they are found.
 use Prim.Native.Nat.{suc, zero}
 use Rattle.std.specs.Prelude.{◌≡◌, ◌≢◌, ◌<◌, ◌≤◌, ◌+◌, ◌-◌, ℕ, List, [], ◌∷◌, ◌++◌, All, AllPairs, bit_xor, drop, get_or, length, map, take}
 use Rattle.std.specs.List.{Any}
@@ -16,17 +16,18 @@ use Rattle.sip_machine.specs.inner.Pools.{AreMixedWith, IsRun, beside, hash_by}
 use Rattle.sip_machine.proofs.pools.PoolLemmas.{beside-length, state-at}
 
 module _ {X : Type 0} (xs : List X) where
-  -- one of the rows has what row k has
+  -- one of the rows has the element that row k has
   abbrev pub IsAmong : List ℕ → ℕ → Type 0
   IsAmong rows k = (x : X) → Any (λ row. get_or xs row x ≡ get_or xs k x) rows
 
-  -- none has
+  -- none of the rows has the element that row k has
   abbrev pub IsNew : List ℕ → ℕ → Type 0
   IsNew rows k = (x : X) → All (λ row. get_or xs row x ≢ get_or xs k x) rows
 
   pub Any-here : (rows : List ℕ) (i d k : ℕ) (x : X) → i < length rows → get_or xs (get_or rows i d) x ≡ get_or xs k x → Any (λ row. get_or xs row x ≡ get_or xs k x) rows
   Any-here rows i d k x low same = (i, get_or rows i d, low, get_or_default rows i (get_or rows i d) d low, same)
 
+  -- what holds of one of some rows holds of one of them and a further one
   Any-more : (P : ℕ → Type 0) (rows : List ℕ) (row : ℕ) → Any P rows → Any P (rows ++ row ∷ [])
   Any-more P rows row (i, r, low, is, holds) = (i, r, low-more rows row i low, get_or_append_left rows (row ∷ []) r i low ∙ is, holds)
     where
@@ -35,7 +36,7 @@ module _ {X : Type 0} (xs : List X) where
       low-more (r ∷ rows) row zero low = omega arith
       low-more (r ∷ rows) row (suc i) low = let more = low-more rows row i (omega (arith, low)) in omega (arith, more)
 
-  -- one more, which no other is
+  -- where none of the first ones is the same as the element at `at`, that is a further first one
   pub first-more : (from at : ℕ) (rows : List ℕ) → from ≤ at → AreFirstOnes xs from at rows → IsNew rows at → AreFirstOnes xs from (at + 1) (rows ++ at ∷ [])
   first-more from at rows low first new = record {
     within = All-push (λ row. (from ≤ row) × (row < at + 1)) rows at
@@ -51,7 +52,7 @@ module _ {X : Type 0} (xs : List X) where
     apart = λ x. all_pairs_push (λ a b. get_or xs a x ≢ get_or xs b x) rows at (first.apart x) (λ k d low. new x k d low);
   }
 
-  -- one more that is the same as one before it
+  -- where one of the first ones is the same as the element at `at`, that is no further first one
   pub first-again : (from at : ℕ) (rows : List ℕ) → AreFirstOnes xs from at rows → IsAmong rows at → AreFirstOnes xs from (at + 1) rows
   first-again from at rows first among = record {
     within = All-weaker (λ row. (from ≤ row) × (row < at)) (λ row. (from ≤ row) × (row < at + 1)) (λ row is. let b = is.1 in (is.0, omega (arith, b))) rows first.within;
@@ -63,7 +64,7 @@ module _ {X : Type 0} (xs : List X) where
     apart = first.apart;
   }
 
--- rows that rise are not before their place
+-- each row of a list of rows that rise is at least its place in the list
 pub rising-above : (rows : List ℕ) (k : ℕ) → AllPairs (λ a b. a < b) rows → k < length rows → k ≤ get_or rows k 0
 rising-above rows zero rising low = omega arith
 rising-above rows (suc k) rising low =
@@ -71,7 +72,7 @@ rising-above rows (suc k) rising low =
     let next = rising k (suc k) 0 (omega arith) low in
     omega (arith, before, next)
 
--- they rise by one at least
+-- each row of a list of rows that rise is above an earlier one by at least the difference of their places
 pub rising-apart : (rows : List ℕ) (i k : ℕ) → AllPairs (λ a b. a < b) rows → i + k < length rows → get_or rows i 0 + k ≤ get_or rows (i + k) 0
 rising-apart rows i zero rising low = let here : i + 0 ≡ i = omega arith in rw here (omega arith)
 rising-apart rows i (suc k) rising low =
@@ -114,16 +115,16 @@ run-picked xs rows first x run within =
     get_or-take (length rows) (drop first xs) k d inside ∙ get_or-drop first xs k d ∙ ap (λ n. get_or xs n d) (sym is)
     ∙ get_or_default xs (get_or rows k 0) d x row_low ∙ sym (get_or-map (λ row. get_or xs row x) rows k 0 d inside))
 
--- Elements that are brought to the front.
+-- What follows is of elements that are brought to the front of their list.
 
--- those at the first of the rows stand in front, and the others where they stood
+-- in ys the elements of xs at the first `to` rows stand in front, and the others where they stood
 pub record IsPicking {X : Type 0} (xs ys : List X) (rows : List ℕ) (to : ℕ) : Type 0 where
   pub long : length ys ≡ length xs
   pub front : (x : X) → take to ys ≡ picked xs x (take to rows)
   pub rest : (k : ℕ) (x : X) → to ≤ k → get_or ys k x ≡ get_or xs k x
 
 module _ {X : Type 0} (xs : List X) (rows : List ℕ) where
-  -- one more
+  -- where the element at the next row is put after those in front, one more stands there
   pub picking-more : (ys zs : List X) (to row : ℕ) → IsPicking xs ys rows to → to < length rows → to < length xs → row ≡ get_or rows to 0 → to ≤ row →
       length zs ≡ length ys → take to zs ≡ take to ys → ((d : X) → get_or zs to d ≡ get_or ys row d) → ((k : ℕ) (d : X) → to < k → get_or zs k d ≡ get_or ys k d) →
       IsPicking xs zs rows (to + 1)
@@ -136,16 +137,16 @@ module _ {X : Type 0} (xs : List X) (rows : List ℕ) where
     rest = λ k d le_k. rest k d (omega (arith, le_k)) ∙ picking.rest k d (omega (arith, le_k));
   }
 
--- Of prints.
+-- What follows is of prints.
 
--- each print so far is mixed with the hash of its phase
+-- the prints of the phases before `at` are mixed with the hashes of the phases
 pub record AreMixed {S : Type 0} (input : S → List (List ℕ)) (phases : List S) (from : ℕ) (old new : List ℕ) (at : ℕ) : Type 0 where
   pub long : length new ≡ length old
   pub mixed : (k : ℕ) (p : S) → k < at → from + k < length phases → get_or new k 0 ≡ bit_xor (get_or old k 0) (hash_by (input (get_or phases (from + k) p)))
   pub rest : (k : ℕ) → at ≤ k → get_or new k 0 ≡ get_or old k 0
 
 module _ {S : Type 0} (input : S → List (List ℕ)) (phases : List S) (from : ℕ) (old : List ℕ) where
-  -- those of one phase more
+  -- where the prints of neighbours of one phase are mixed with its hash as well, those before `to` are mixed
   pub mixed-run : (new after : List ℕ) (at to hash : ℕ) (p : S) → AreMixed input phases from old new at → AreMixedWith hash at to new after → hash ≡ hash_by (input p) → at ≤ to →
       ((k : ℕ) (q : S) → at ≤ k → k < to → from + k < length phases → get_or phases (from + k) q ≡ p) → AreMixed input phases from old after to
   mixed-run new after at to hash p mixing run is order alike = record {
@@ -159,7 +160,7 @@ module _ {S : Type 0} (input : S → List (List ℕ)) (phases : List S) (from : 
     rest = λ k le. run.behind k le ∙ mixing.rest k (omega (arith, le, order));
   }
 
-  -- all of them
+  -- where the prints of all states are mixed with the hashes of their phases, they are prints of the states
   pub mixed-all : (rows : List (List Debt)) (xs : List (CodeOwing S)) (new : List ℕ) (at : ℕ) → beside phases rows ≡ xs → length rows ≡ length phases → ArePrints rows from old →
       AreMixed input phases from old new at → length phases ≤ from + at → ArePrints xs from new
   mixed-all rows xs new at is long prints mixing all =

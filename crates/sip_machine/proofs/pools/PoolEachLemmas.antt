@@ -1,4 +1,4 @@
--- The states of a pool, of which many take the same step.
+-- The states of a pool, many of which take the same step.
 use Prim.Native.Nat.{suc, zero}
 use Rattle.std.specs.Prelude.{◌≡◌, ◌<◌, ◌≤◌, ◌+◌, ◌-◌, ℕ, Bool, List, [], ◌∷◌, ◌++◌, All, drop, filter, get_or, length, map, replicate, take}
 use Rattle.std.proofs.Common.{refl, sym, ◌∙◌, ap, ap₂, subst, arith, length-append}
@@ -16,7 +16,7 @@ use Rattle.sip_machine.specs.inner.Pools.{beside}
 use Rattle.sip_machine.proofs.pools.PoolLemmas.{beside-at}
 
 module _ {X : Type 0} where
-  -- one more of the elements from one on
+  -- the elements from `from` up to the next index are those up to k and the element at k
   from_to-next : (from k : ℕ) (xs : List X) (d : X) → from ≤ k → k < length xs → from_to from (suc k) xs ≡ from_to from k xs ++ get_or xs k d ∷ []
   from_to-next zero k xs d le low = let next : suc k ≡ k + 1 = omega arith in ap (λ n. take n xs) next ∙ take_more xs k d low
   from_to-next (suc from) zero xs d le low = absurd (omega (arith, le))
@@ -26,7 +26,7 @@ module _ {X : Type 0} where
   pub from_to-more : (from k : ℕ) (xs : List X) (d : X) → from ≤ k → k < length xs → from_to from (k + 1) xs ≡ from_to from k xs ++ get_or xs k d ∷ []
   from_to-more from k xs d le low = let next : k + 1 ≡ suc k = omega arith in ap (λ n. from_to from n xs) next ∙ from_to-next from k xs d le low
 
-  -- what holds of one
+  -- what holds of the element at `at` holds of all elements from `at` up to the next index
   pub some-first : (P : X → Type 0) (at : ℕ) (xs : List X) (d : X) → at < length xs → P (get_or xs at d) → All P (from_to at (at + 1) xs)
   some-first P at xs d low p =
       rw (from_to-more at at xs d (omega arith) low, from_to-none at at xs (omega arith)) (All-push P [] (get_or xs at d) (All-nil P) p)
@@ -34,6 +34,7 @@ module _ {X : Type 0} where
   pub some-more : (P : X → Type 0) (at k : ℕ) (xs : List X) (d : X) → at ≤ k → k < length xs → All P (from_to at k xs) → P (get_or xs k d) → All P (from_to at (k + 1) xs)
   some-more P at k xs d le low all p = rw (from_to-more at k xs d le low) (All-push P (from_to at k xs) (get_or xs k d) all p)
 
+  -- what holds of all elements from one index up to another holds of the element at an index between
   pub some-at : (P : X → Type 0) (from to k : ℕ) (xs : List X) (d : X) → to ≤ length xs → from ≤ k → k < to → All P (from_to from to xs) → P (get_or xs k d)
   some-at P from to k xs d within low high all =
       let size : length (from_to from to xs) ≡ to - from = length-drop from (take to xs) ∙ ap (λ n. n - from) (length-take-le to xs within) in
@@ -41,7 +42,7 @@ module _ {X : Type 0} where
       subst P (get_or-drop from (take to xs) (k - from) d ∙ ap (λ n. get_or (take to xs) n d) there ∙ get_or-take to xs k d high)
       (all (k - from) d (omega (arith, size, low, high)))
 
--- a map, of the elements from one index up to another
+-- what f gives of the elements from one index up to another is what it gives of all, from the one up to the other
 from_to-map : {X Y : Type 0} (f : X → Y) (from to : ℕ) (xs : List X) → from_to from to (map f xs) ≡ map f (from_to from to xs)
 from_to-map f zero zero xs = refl
 from_to-map f zero (suc to) [] = refl
@@ -54,13 +55,13 @@ pub map-again : {X Y Z : Type 0} (f : X → Y) (g : Y → Z) (xs : List X) → m
 map-again f g [] = refl
 map-again f g (x ∷ xs) = ap (λ ys. g (f x) ∷ ys) (map-again f g xs)
 
--- functions that do the same to each
+-- where f and g give the same of each element, they give the same list
 pub map-same : {X Y : Type 0} (f g : X → Y) (xs : List X) → All (λ x. f x ≡ g x) xs → map f xs ≡ map g xs
 map-same f g [] same = refl
 map-same f g (x ∷ xs) same = ap₂ (λ y ys. y ∷ ys) (All-head (λ x. f x ≡ g x) x xs same) (map-same f g xs (All-tail (λ x. f x ≡ g x) x xs same))
 
 module _ {S : Type 0} where
-  -- phases with what is owed, after others
+  -- phases and further ones beside their rows are the states of the phases and then those of the further ones
   beside-append : (phases more : List S) (rows again : List (List Debt)) → length rows ≡ length phases →
       beside (phases ++ more) (rows ++ again) ≡ beside phases rows ++ beside more again
   beside-append [] more [] again long = refl
@@ -69,19 +70,19 @@ module _ {S : Type 0} where
   beside-append (phase ∷ phases) more (row ∷ rows) again long =
       ap (λ xs. record { phase = phase; owes = row } ∷ xs) (beside-append phases more rows again (omega (arith, long)))
 
-  -- one phase for all
+  -- one phase for each row, beside the rows, is the states of that phase that owe what the rows have
   beside-each : (phase : S) (rows : List (List Debt)) → beside (replicate (length rows) phase) rows ≡ map (λ (owes : List Debt). record { phase = phase; owes = owes }) rows
   beside-each phase [] = refl
   beside-each phase (row ∷ rows) = ap (λ xs. record { phase = phase; owes = row } ∷ xs) (beside-each phase rows)
 
-  -- what all of them owe
+  -- what the states of phases beside rows owe is the rows
   owes-beside : (phases : List S) (rows : List (List Debt)) → length rows ≡ length phases → rows ≡ map (λ (x : CodeOwing S). x.owes) (beside phases rows)
   owes-beside [] [] long = refl
   owes-beside [] (row ∷ rows) long = absurd (omega (arith, long))
   owes-beside (phase ∷ phases) [] long = absurd (omega (arith, long))
   owes-beside (phase ∷ phases) (row ∷ rows) long = ap (λ rs. row ∷ rs) (owes-beside phases rows (omega (arith, long)))
 
-  -- copies of some, in one phase, where each owes what its own debts become
+  -- where copies of some rows come after the others, each changed by g, and one phase for each, the states are the old ones and those of that phase
   pub pushed-is : (q : S) (g : List Debt → List Debt) (p : List Debt → Bool) (phases : List S) (rows : List (List Debt)) (from to n : ℕ) →
       length rows ≡ length phases → n ≡ length (map g (filter p (from_to from to rows))) →
       beside (phases ++ replicate n q) (rows ++ map g (filter p (from_to from to rows)))
@@ -98,7 +99,7 @@ module _ {S : Type 0} where
       ∙ ap (map (λ (owes : List Debt). record { phase = q; owes = owes })) same
       ∙ map-again (λ (x : CodeOwing S). g x.owes) (λ (owes : List Debt). record { phase = q; owes = owes }) (filter (λ x. p x.owes) xs))
 
-  -- those at indices
+  -- the phases at some indices beside the rows there are the states there
   pub beside-picked : (phases : List S) (rows : List (List Debt)) (kept : List ℕ) (x : CodeOwing S) → All (λ row. row < length phases) kept →
       beside (picked phases x.phase kept) (map (owed_in rows) kept) ≡ picked (beside phases rows) x kept
   beside-picked phases rows [] x within = refl
@@ -106,14 +107,14 @@ module _ {S : Type 0} where
       ap₂ (λ y ys. y ∷ ys) (sym (beside-at phases rows row x.phase x (All-head (λ row. row < length phases) row kept within)))
       (beside-picked phases rows kept x (All-tail (λ row. row < length phases) row kept within))
 
--- what stands after the rows changes
+-- where g changes each row after the first n of the new ones, the rows after the old ones are changed
 pub mapped-behind : (g : List Debt → List Debt) (rows more new after : List (List Debt)) (n : ℕ) → new ≡ rows ++ more → n ≡ length rows →
     after ≡ take n new ++ map g (drop n new) → after ≡ rows ++ map g more
 mapped-behind g rows more new after n is at changed =
     changed ∙ ap₂ (λ (xs : List (List Debt)) k. take k xs ++ map g (drop k xs)) is at
     ∙ ap₂ (λ xs ys. xs ++ map g ys) (take-append_seam rows more) (drop-append_seam rows more)
 
--- how many stand there
+-- how many rows stand after the old ones is how many were put there
 pub behind-size : (rows more new : List (List Debt)) (n : ℕ) → new ≡ rows ++ more → n ≡ length new → n - length rows ≡ length more
 behind-size rows more new n is size =
     let long : n ≡ length rows + length more = size ∙ ap length is ∙ length-append rows more in omega (arith, long)

@@ -13,13 +13,13 @@ use Rattle.sip_machine.specs.inner.Effects.{rested_debts, rests_at}
 use Rattle.sip_machine.specs.inner.Pools.{beside}
 
 module _ {S : Type 0} where
-  -- as many as there are phases
+  -- phases beside rows are as many states as there are phases
   pub beside-length : (phases : List S) (rows : List (List Debt)) → length (beside phases rows) ≡ length phases
   beside-length [] rows = refl
   beside-length (phase ∷ phases) [] = ap suc (beside-length phases [])
   beside-length (phase ∷ phases) (row ∷ rows) = ap suc (beside-length phases rows)
 
-  -- one of them
+  -- the state at k of phases beside rows is the phase at k with what row k has
   pub beside-at : (phases : List S) (rows : List (List Debt)) (k : ℕ) (p : S) (x : CodeOwing S) → k < length phases → get_or (beside phases rows) k x ≡ state_in (get_or phases k p) rows k
   beside-at [] rows k p x low = absurd (omega (arith, low))
   beside-at (phase ∷ phases) [] zero p x low = refl
@@ -31,7 +31,7 @@ module _ {S : Type 0} where
   beside-at (phase ∷ phases) (row ∷ rows) zero p x low = refl
   beside-at (phase ∷ phases) (row ∷ rows) (suc k) p x low = beside-at phases rows k p x (omega (arith, low))
 
-  -- one more
+  -- where a phase and a row are put after the others, the state of these comes after the others
   pub beside-push : (phases : List S) (rows : List (List Debt)) (phase : S) (row : List Debt) → length rows ≡ length phases →
       beside (phases ++ phase ∷ []) (rows ++ row ∷ []) ≡ beside phases rows ++ record { phase = phase; owes = row } ∷ []
   beside-push [] [] phase row long = refl
@@ -39,7 +39,7 @@ module _ {S : Type 0} where
   beside-push (p ∷ phases) [] phase row long = absurd (omega (arith, long))
   beside-push (p ∷ phases) (r ∷ rows) phase row long = ap (λ xs. record { phase = p; owes = r } ∷ xs) (beside-push phases rows phase row (omega (arith, long)))
 
-  -- the first ones
+  -- the first n phases beside the first n rows are the first n states
   pub beside-take : (phases : List S) (rows : List (List Debt)) (n : ℕ) → length rows ≡ length phases → beside (take n phases) (take n rows) ≡ take n (beside phases rows)
   beside-take [] rows zero long = refl
   beside-take [] rows (suc n) long = refl
@@ -47,7 +47,7 @@ module _ {S : Type 0} where
   beside-take (p ∷ phases) (r ∷ rows) zero long = refl
   beside-take (p ∷ phases) (r ∷ rows) (suc n) long = ap (λ xs. record { phase = p; owes = r } ∷ xs) (beside-take phases rows n (omega (arith, long)))
 
-  -- without the first ones
+  -- the phases without the first n beside the rows without the first n are the states without the first n
   pub beside-drop : (phases : List S) (rows : List (List Debt)) (n : ℕ) → length rows ≡ length phases → beside (drop n phases) (drop n rows) ≡ drop n (beside phases rows)
   beside-drop [] [] zero long = refl
   beside-drop [] [] (suc n) long = refl
@@ -56,7 +56,7 @@ module _ {S : Type 0} where
   beside-drop (p ∷ phases) (r ∷ rows) zero long = refl
   beside-drop (p ∷ phases) (r ∷ rows) (suc n) long = beside-drop phases rows n (omega (arith, long))
 
-  -- one of them changes
+  -- where the phase and the row at k are changed, the state at k is
   pub beside-set : (phases : List S) (rows : List (List Debt)) (k : ℕ) (phase : S) (row : List Debt) → length rows ≡ length phases →
       beside (set phases k phase) (set rows k row) ≡ set (beside phases rows) k (record { phase = phase; owes = row })
   beside-set [] [] k phase row long = refl
@@ -65,7 +65,7 @@ module _ {S : Type 0} where
   beside-set (p ∷ phases) (r ∷ rows) zero phase row long = refl
   beside-set (p ∷ phases) (r ∷ rows) (suc k) phase row long = ap (λ xs. record { phase = p; owes = r } ∷ xs) (beside-set phases rows k phase row (omega (arith, long)))
 
-  -- what is owed by one of them alone
+  -- where the row at k is changed, the state at k keeps its phase and owes the row
   pub beside-owes : (phases : List S) (rows : List (List Debt)) (k : ℕ) (p : S) (row : List Debt) → length rows ≡ length phases → k < length phases →
       beside phases (set rows k row) ≡ set (beside phases rows) k (record { phase = get_or phases k p; owes = row })
   beside-owes [] rows k p row long low = absurd (omega (arith, low))
@@ -81,7 +81,7 @@ module _ {S : Type 0} where
   pub in-rows : (phases : List S) (rows : List (List Debt)) (xs : List (CodeOwing S)) (k : ℕ) → beside phases rows ≡ xs → length rows ≡ length phases → k < length xs → k < length rows
   in-rows phases rows xs k is long low = subst (λ n. k < n) (sym long) (in-phases phases rows xs k is low)
 
-  -- the state there
+  -- the state at k is the phase at k with what row k has
   pub state-at : (phases : List S) (rows : List (List Debt)) (xs : List (CodeOwing S)) (k : ℕ) (p : S) (x : CodeOwing S) → beside phases rows ≡ xs → k < length xs →
       get_or xs k x ≡ state_in (get_or phases k p) rows k
   state-at phases rows xs k p x is low = ap (λ ys. get_or ys k x) (sym is) ∙ beside-at phases rows k p x (in-phases phases rows xs k is low)
@@ -94,25 +94,25 @@ module _ {S : Type 0} where
   pub same-state : (x y : CodeOwing S) → x.phase ≡ y.phase → x.owes ≡ y.owes → x ≡ y
   same-state x y phase owes = let e : record { phase = x.phase; owes = x.owes } ≡ y = rw (phase, owes) in e
 
--- what is owed at rest
+-- the phase of a state with what is owed where the phase stays is the state where the phase stays
 pub rests-owes : {S : Type 0} (t : ℕ) (rest : Rest) (x : CodeOwing S) → record { phase = x.phase; owes = rested_debts t rest x.owes } ≡ rests_at t rest x
 rests-owes t Stays x = refl
 rests-owes t (Pays message) x = refl
 
--- what holds on an error
+-- what holds on an error holds where the result is one
 pub on_err : {T E : Type 0} (r : Result T E) (P : Type 0) → is_err r ≡ true → OnErr r P → P
 on_err (Ok x) P is err = absurd (true≢false (sym is))
 on_err (Err e) P is err = err
 
--- whether there are none
+-- a list has no elements exactly if their number is 0
 pub empty-length : {X : Type 0} (xs : List X) (n : ℕ) → n ≡ length xs → IsTrue (n == 0) ↔ (xs ≡ [])
 empty-length [] n is = (λ _. refl, λ _. grind (arith, nat_tests))
 empty-length (x ∷ xs) n is = (λ none. let low : n ≡ 0 = grind (arith, nat_tests) in absurd (omega (arith, low, is)), λ none. cc)
 
--- Lists that grow at their end.
+-- What follows is of lists that grow at their end.
 
 module _ {X : Type 0} where
-  -- an element
+  -- the element at k of a list that has one
   pub some-at : (xs : List X) (k : ℕ) → k < length xs → X
   some-at [] k low = absurd (omega (arith, low))
   some-at (x ∷ xs) zero low = x
@@ -125,7 +125,7 @@ module _ {X : Type 0} where
   pub last-in : (old new : List X) (x : X) (last : ℕ) → new ≡ old ++ x ∷ [] → last ≡ length old → last < length new
   last-in old new x last is at = let long : length new ≡ length old + 1 = ap length is ∙ length-append old (x ∷ []) in omega (arith, long, at)
 
-  -- the only element
+  -- a list of one element that is set to x is the list of x
   pub alone-set : (xs : List X) (x : X) → length xs ≡ 1 → set xs 0 x ≡ x ∷ []
   alone-set [] x one = absurd (omega (arith, one))
   alone-set (y ∷ []) x one = refl
@@ -135,12 +135,12 @@ module _ {X : Type 0} where
   set-end [] x y = refl
   set-end (z ∷ old) x y = ap (λ xs. z ∷ xs) (set-end old x y)
 
-  -- a copy at the end changes
+  -- where x was put after the old elements, and the last one is then changed by f, the list is the old elements and f x
   pub set-last : (old more new : List X) (x d : X) (last : ℕ) (f : X → X) → more ≡ old ++ x ∷ [] → last ≡ length old → new ≡ set more last (f (get_or more last d)) → new ≡ old ++ f x ∷ []
   set-last old more new x d last f is at changed =
       let here : get_or more last d ≡ x = ap₂ (λ xs k. get_or xs k d) is at ∙ get_or-append_seam old x [] d in
       changed ∙ ap (λ y. set more last (f y)) here ∙ ap₂ (λ xs k. set xs k (f x)) is at ∙ set-end old x (f x)
 
-  -- what was put at the end of a list goes again
+  -- where elements were put after the old ones, the first as many as there were are the old ones
   pub take-old : (old added new : List X) (n : ℕ) → new ≡ old ++ added → n ≡ length old → take n new ≡ old
   take-old old added new n is at = ap₂ take at is ∙ take-append_seam old added

@@ -5,11 +5,11 @@ use Rattle.std.proofs.lemmas.Bool.{cases_eq, cases_lt}
 use Rattle.sip_machine.specs.declared.slots.SlotPrint.{SlotPrint}
 use Rattle.sip_machine.specs.inner.Slots.{Slotted, AreSlots, IsNewest, IsReached, slot_of, slotted}
 
--- as many as there are pairs
+-- the prints of the pairs that the code keeps are as many as the pairs
 pub pairs-count : (newest : List ℕ) (kept : List SlotPrint) (s : Slotted) → slotted newest kept ≡ s → length s.prints ≡ length kept
 pairs-count newest kept s is = ap (λ (s : Slotted). length s.prints) (sym is) ∙ length-map kept (λ x. x.print)
 
--- what is in one of them
+-- the print at a place is that of the pair there
 pub pair-print : (newest : List ℕ) (kept : List SlotPrint) (s : Slotted) (at : ℕ) (x : SlotPrint) → slotted newest kept ≡ s → at < length s.prints → x ≡ get_or kept at x → get_or s.prints at 0 ≡ x.print
 pair-print newest kept s at x is low here =
     ap (λ (s : Slotted). get_or s.prints at 0) (sym is) ∙ get_or-map (λ x. x.print) kept at x 0 (subst (λ n. at < n) (pairs-count newest kept s is) low) ∙ ap (λ (x : SlotPrint). x.print) (sym here)
@@ -18,9 +18,9 @@ pub pair-older : (newest : List ℕ) (kept : List SlotPrint) (s : Slotted) (at :
 pair-older newest kept s at x is low here =
     ap (λ (s : Slotted). get_or s.olders at 0) (sym is) ∙ get_or-map (λ x. x.older) kept at x 0 (subst (λ n. at < n) (pairs-count newest kept s is) low) ∙ ap (λ (x : SlotPrint). x.older) (sym here)
 
--- A print more among those of its slot.
+-- What follows is of a print that is put under its slot.
 
--- after the limit nothing matters
+-- a print after the limit does not change which print before the limit is the newest of its slot
 newest-before : (slots : ℕ) (prints : List ℕ) (slot limit newest print : ℕ) → limit ≤ length prints → IsNewest slots prints slot limit newest →
     IsNewest slots (prints ++ print ∷ []) slot limit newest
 newest-before slots prints slot limit newest print low is =
@@ -58,7 +58,7 @@ newest-other slots prints slot newest print other is =
       ];
     }
 
--- one print more, put under its slot
+-- where a print is put after the others, and its slot leads to it and it to the one before it in the slot, each leads rightly
 slots-grow : (s : Slotted) (print slot newest : ℕ) → AreSlots s → slot ≡ slot_of (length s.newest) print → slot < length s.newest → newest ≡ length s.prints + 1 →
     AreSlots (record { newest = set s.newest slot newest; prints = s.prints ++ print ∷ []; olders = s.olders ++ get_or s.newest slot 0 ∷ [] })
 slots-grow s print slot newest are is low count =
@@ -94,18 +94,18 @@ slots-grow s print slot newest are is low count =
       ]);
     }
 
--- one print more is put under its slot, in the pairs that the code keeps
+-- where a pair for a print is put after the others, and its slot leads to it, the pairs lead rightly
 pub slots-more : (newest : List ℕ) (kept : List SlotPrint) (x : SlotPrint) (slot last : ℕ) → AreSlots (slotted newest kept) → slot ≡ slot_of (length newest) x.print → slot < length newest →
     x.older ≡ get_or newest slot 0 → last ≡ length kept + 1 → AreSlots (slotted (set newest slot last) (kept ++ x ∷ []))
 slots-more newest kept x slot last are is low older count =
     rw (map-append (λ y. y.print) kept (x ∷ []), map-append (λ y. y.older) kept (x ∷ []), older)
     (slots-grow (slotted newest kept) x.print slot last are is low (count ∙ ap (λ n. n + 1) (sym (length-map kept (λ y. y.print)))))
 
--- where one past the newest print of the slot is, there is none of the print after it
+-- where the newest print of the slot is reached, no later one before the limit is equal to the print
 pub reached-start : (slots : ℕ) (prints : List ℕ) (print limit newest : ℕ) → IsNewest slots prints (slot_of slots print) limit newest → IsReached slots prints print limit newest
 reached-start slots prints print limit newest is = record { within = is.within; of_slot = is.of_slot; none = λ k high low same. is.last k high low (ap (slot_of slots) same) }
 
--- another print of the slot is passed
+-- where the print that is reached is another one, the one before it in the slot is reached
 pub reached-more : (s : Slotted) (print limit next at : ℕ) → AreSlots s → limit ≤ length s.prints → IsReached (length s.newest) s.prints print limit next → next ≡ at + 1 →
     get_or s.prints at 0 ≢ print → IsReached (length s.newest) s.prints print limit (get_or s.olders at 0)
 reached-more s print limit next at are low reached is apart =

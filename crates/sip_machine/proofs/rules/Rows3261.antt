@@ -1,4 +1,4 @@
--- The rows of the machines of RFC 3261, by those of RFC 6026.
+-- The rows of the machines of RFC 3261, as those of RFC 6026 give them.
 use Rattle.std.specs.Prelude.{◌≡◌, ◌↔◌, ◌++◌, ℕ, Bool, Option, Some, None, List, [], ◌∷◌, map}
 use Rattle.std.specs.List.{filter_map, cons_option}
 use Rattle.std.specs.Option.{option_map}
@@ -31,7 +31,7 @@ use Rattle.sip_machine.specs.inner.Single.{AnswersOne}
 use Rattle.sip_machine.specs.inner.InviteClient3261.Laws.{IsEndedBy}
 use Rattle.sip_machine.specs.inner.InviteServer3261.Laws.{turn_within}
 
--- a 2xx ends a client
+-- a 2xx ends a client of RFC 3261 that waits for a final response, and nothing is owed any more
 pub ended_row : (p : Times) (x : InviteClientPhase) (k : Kind) (e : MachineEvent) (y : After InviteClientPhase) → IsEndedBy x k → client_3261.Receives p x k e y ↔ (y ≡ (Ended, drops))
 ended_row p (Calling w) (Response code) e y success = (
   λ h. elim h [
@@ -46,7 +46,7 @@ ended_row p (Proceeding reliable request cancel) (Response code) e y success = (
 )
 ended_row p x k e y success = absurd success
 
--- any other message does what it does by RFC 6026
+-- any other message has the rows of RFC 6026 in a client of RFC 3261
 pub other_row : (p : Times) (x : InviteClientPhase) (k : Kind) (e : MachineEvent) (y : After InviteClientPhase) → ¬ (IsEndedBy x k) → client.Receives p x k e y ↔ client_3261.Receives p x k e y
 other_row p (Calling w) (Response code) e y other = (
   λ h. elim h [ inl row ↦ inl row | inr final ↦ elim final [ inl success ↦ absurd (other success.0) | inr row ↦ inr (inr row) ] ],
@@ -59,7 +59,7 @@ other_row p (Proceeding reliable request cancel) (Response code) e y other = (
 other_row p (Calling w) (Request method) e y other = (λ h. h, λ h. h)
 other_row p x k e y other = (λ h. h, λ h. h)
 
--- the answer to what is the same
+-- where P and Q hold of the same, an answer for P is one for Q
 pub AnswersOne-same : {X S : Type 0} (names : S → List ℕ) (InRange : S → Type 0) (seen : Texts → S → X) (texts : Texts) (P Q : X → Type 0) → ((x : X) → P x ↔ Q x) → (answer : Option S) →
     AnswersOne names InRange seen texts P answer → AnswersOne names InRange seen texts Q answer
 AnswersOne-same names InRange seen texts P Q same None none = λ x q. none x ((same x).1 q)
@@ -106,7 +106,7 @@ sent-within p texts x again code k e answer is other one =
     (server_3261.Sends p (In (invite_server_seen texts x) again) (Response code) e) (λ y. response_row p (invite_server_seen texts x) again code e y other)
     (option_map (turn_within again) answer) (within-one texts Row again answer here))
 
--- a field that names no message, after others
+-- a field that names no message, put after others, leaves the messages of the fields as they are
 pub messages-behind : (fields : List CodeField) (field : CodeField) → field_message (field_of_code field) ≡ None →
     filter_map field_message (map field_of_code (fields ++ field ∷ [])) ≡ filter_map field_message (map field_of_code fields)
 messages-behind fields field silent =

@@ -6,11 +6,11 @@ use Rattle.sip_machine.specs.Texts.{Texts, Keeps, text_of}
 use Rattle.sip_machine.proofs.texts.TextLaws.{Keeps-grow, text_of-grow}
 use Rattle.sip_machine.specs.Rules.{Knows, StandFor}
 
--- b keeps what x names, and agrees on it with a
+-- for each number that x names, the books a and b have the same bytes
 abbrev pub AgreeOn : {S : Type 0} → (S → List ℕ) → Texts → Texts → S → Type 0
 AgreeOn names a b x = (n : ℕ) → Contains (names x) n → Keeps b n × (text_of a n ≡ text_of b n)
 
--- states stand for the same beside books that agree on what they name
+-- states stand for the same beside two books that have the same bytes for what the states name
 pub map-seen : {X S : Type 0} (names : S → List ℕ) (seen : Texts → S → X) →
     ((a b : Texts) (x : S) → ((n : ℕ) → Contains (names x) n → text_of a n ≡ text_of b n) → seen a x ≡ seen b x) →
     (a b : Texts) (xs : List S) → All (AgreeOn names a b) xs → map (seen a) xs ≡ map (seen b) xs
@@ -19,7 +19,7 @@ map-seen names seen by_names a b (x ∷ xs) agree =
     let here = All-head (AgreeOn names a b) x xs agree in
     rw (by_names a b x (λ n has. (here n has).1), map-seen names seen by_names a b xs (All-tail (AgreeOn names a b) x xs agree))
 
--- lists of states stand for the same beside books that agree on what they name
+-- states that stand for those of which P holds beside one book do so beside another that has the same bytes for what they name
 pub StandFor-book : {X S : Type 0} (names : S → List ℕ) (InRange : S → Type 0) (seen : Texts → S → X) →
     ((a b : Texts) (x : S) → ((n : ℕ) → Contains (names x) n → text_of a n ≡ text_of b n) → seen a x ≡ seen b x) →
     (a b : Texts) (P : X → Type 0) (xs : List S) → All (AgreeOn names a b) xs →
@@ -33,14 +33,14 @@ StandFor-book names InRange seen by_names a b P xs agree stand =
       in_range = stand.in_range;
     }
 
--- a book that has grown agrees on what was known
+-- a book that has grown has the same bytes as before for what a state names that knew its messages
 pub AgreeOn-grow : {S : Type 0} (names : S → List ℕ) (texts : Texts) (number : ℕ) (bytes : List ℕ) (x : S) →
     Knows names texts x → AgreeOn names texts (texts ++ (number, bytes) ∷ []) x
 AgreeOn-grow names texts number bytes x known n has =
     let keeps : Keeps texts n = All-contains (Keeps texts) (names x) n known has in
     (Keeps-grow texts number bytes n keeps, sym (text_of-grow texts number bytes n keeps))
 
--- states stand for the same when the book grows
+-- states that stand for those of which P holds do so beside the book that has grown
 pub StandFor-grow : {X S : Type 0} (names : S → List ℕ) (InRange : S → Type 0) (seen : Texts → S → X) →
     ((a b : Texts) (x : S) → ((n : ℕ) → Contains (names x) n → text_of a n ≡ text_of b n) → seen a x ≡ seen b x) →
     (texts : Texts) (number : ℕ) (bytes : List ℕ) (P : X → Type 0) (xs : List S) →

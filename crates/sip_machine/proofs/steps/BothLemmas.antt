@@ -1,4 +1,4 @@
--- When at most two states of the code stand for all to which an event leads.
+-- At most two states of the code stand for all to which an event leads.
 use Rattle.std.specs.Prelude.{◌≡◌, ◌≢◌, ◌↔◌, ◌⊎◌, ℕ, Option, Some, None, List, [], ◌∷◌}
 use Rattle.std.proofs.Common.{inl, inr, refl, sym, arith}
 use Rattle.std.proofs.lemmas.List.Elements.{All-nil, All-cons, Contains-push, Contains-push_cases}
@@ -11,7 +11,7 @@ use Rattle.sip_machine.proofs.texts.TextLaws.{Contains-nil}
 use Rattle.sip_machine.proofs.steps.SingleLemmas.{StandFor-none, StandFor-one}
 
 module _ {X S : Type 0} (names : S → List ℕ) (InRange : S → Type 0) (seen : Texts → S → X) (texts : Texts) where
-  -- what stands for P stands for what holds of the same
+  -- where P and Q hold of the same, states that stand for P stand for Q
   pub StandFor-same : (P Q : X → Type 0) → ((x : X) → P x ↔ Q x) → (xs : List S) → StandFor names InRange seen texts P xs →
       StandFor names InRange seen texts Q xs
   StandFor-same P Q same xs stand =
@@ -22,12 +22,12 @@ module _ {X S : Type 0} (names : S → List ℕ) (InRange : S → Type 0) (seen 
         in_range = stand.in_range;
       }
 
-  -- one answer alone
+  -- an answer for P, and no second one, stand for P
   pub AnswersBoth-one : (P : X → Type 0) (a : Option S) → AnswersOne names InRange seen texts P a → AnswersBoth names InRange seen texts P (a, None)
   AnswersBoth-one P None none = StandFor-none names InRange seen texts P none
   AnswersBoth-one P (Some s) one = StandFor-one names InRange seen texts P s one
 
-  -- two that exclude each other
+  -- where P and Q exclude each other, an answer for P and one for Q stand for P or Q
   pub AnswersBoth-two : (P Q : X → Type 0) → ((x : X) → P x → Q x → ⊥) → (a b : Option S) → AnswersOne names InRange seen texts P a →
       AnswersOne names InRange seen texts Q b → AnswersBoth names InRange seen texts (λ x. P x ⊎ Q x) (a, b)
   AnswersBoth-two P Q apart None None none none' =
@@ -70,7 +70,7 @@ module _ {X S : Type 0} (names : S → List ℕ) (InRange : S → Type 0) (seen 
         in_range = All-cons InRange s (t ∷ []) one.in_range (All-cons InRange t [] other.in_range (All-nil InRange));
       }
 
--- where P holds of one, a message that leads where P says leads there alone
+-- where P holds of z alone, a received message that leads where P says leads to z alone
 pub OrStays-one : {X : Type 0} (P : X → Type 0) (x z : X) → ((y : X) → P y ↔ (y ≡ z)) → (y : X) → OrStays P x y ↔ (y ≡ z)
 OrStays-one P x z only y = (
   λ h. elim h [ inl p ↦ (only y).0 p | inr stays ↦ absurd (stays.0 z ((only z).1 refl)) ],

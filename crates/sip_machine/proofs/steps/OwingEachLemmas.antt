@@ -1,4 +1,4 @@
--- The step of the machine of a figure from many states of the code.
+-- The step of the machine of a figure from many states of the code at once.
 use Prim.Native.Nat.{suc, zero}
 use Rattle.std.specs.Prelude.{◌≡◌, ◌≤◌, ◌<◌, ◌^◌, ◌↔◌, ◌⊎◌, ◌&&◌, ◌++◌, ℕ, IsTrue, Bool, true, false, Option, Some, None, List, [], ◌∷◌, All, filter, get_or, length, map, take, unwrap_or}
 use Rattle.std.specs.Option.{option_map}
@@ -35,7 +35,7 @@ use Rattle.sip_machine.proofs.debts.DueLemmas.{pays-some, pays-none}
 use Rattle.sip_machine.proofs.acks.HolderLemmas.{FindsFirst-same}
 use Rattle.sip_machine.proofs.steps.OwingSteps.{heard-one, led-at, rested-pays}
 
--- a moment within a limit
+-- where the test of a limit passes at a moment, the moment is within the limit
 within-tells : (t : ℕ) (last : Option ℕ) → is_within t last ≡ true → IsWithin t last
 within-tells t None is = tt
 within-tells t (Some last) is = grind (arith, nat_tests)
@@ -45,7 +45,7 @@ within-told t None is = λ _. true≢false is
 within-told t (Some last) is = λ within. grind (arith, nat_tests)
 
 module _ {S X : Type 0} (f : Figure X) (p : Times) (seen : Texts → S → X) (names : S → List ℕ) (InRange : S → Type 0) (texts : Texts) where
-  -- a state lasts until a moment if its timers and what it must send let it
+  -- a state lasts until t where its timers and the deadlines of what it must send do
   timely-lasts : (t : ℕ) (x : CodeOwing S) → IsWithin t (earliest (closes_at f p (seen texts x.phase))) → is_timely t x.owes ≡ true →
       IsWithin t (until_of f p (owing_seen seen texts x))
   timely-lasts t x timers timely =
@@ -54,6 +54,7 @@ module _ {S X : Type 0} (f : Figure X) (p : Times) (seen : Texts → S → X) (n
       (IsWithin-earliest t (closes ++ must_deadlines (owes_seen texts x.owes))).1
       (All-append (λ m. t ≤ m) closes (must_deadlines (owes_seen texts x.owes)) ((IsWithin-earliest t closes).0 timers) ((IsWithin-earliest t (must_deadlines (owes_seen texts x.owes))).0 due))
 
+  -- a state does not last until t where it must send something that is past at t
   late-ends : (t : ℕ) (x : CodeOwing S) → is_timely t x.owes ≡ false → ¬ (IsWithin t (until_of f p (owing_seen seen texts x)))
   late-ends t x late = λ within.
       let closes = closes_at f p (seen texts x.phase) in
@@ -61,13 +62,14 @@ module _ {S X : Type 0} (f : Figure X) (p : Times) (seen : Texts → S → X) (n
       let due : IsWithin t (earliest musts) = (IsWithin-earliest t musts).1 (All-back (λ m. t ≤ m) closes musts ((IsWithin-earliest t (closes ++ musts)).0 within)) in
       within-told t (earliest (debt_deadlines x.owes)) late (rw (must_deadlines-seen texts x.owes) at due)
 
+  -- a state does not last until t where its timers do not
   pub closed-ends : (t : ℕ) (x : CodeOwing S) → ¬ (IsWithin t (earliest (closes_at f p (seen texts x.phase)))) → ¬ (IsWithin t (until_of f p (owing_seen seen texts x)))
   closed-ends t x closed = λ within.
       let closes = closes_at f p (seen texts x.phase) in
       let musts = must_deadlines (owes_seen texts x.owes) in
       closed ((IsWithin-earliest t closes).1 (All-front (λ m. t ≤ m) closes musts ((IsWithin-earliest t (closes ++ musts)).0 within)))
 
-  -- where the row of a received message leads,
+  -- where a turn answers the row of a received message, the state that it gives answers where the message leads
   pub leads-received : (a : Action) (e : MachineEvent) (x : CodeOwing S) (turn : Option (Turn S)) → Received ≡ a →
       AnswersOne (turn_names names) (TurnInRange InRange) (turn_seen seen) texts (f.Receives p (seen texts x.phase) e.kind e) turn →
       Knows (owing_names names) texts x → OwingInRange InRange x → close_at p e.moment 0 < 2 ^ 50 →
@@ -75,7 +77,7 @@ module _ {S X : Type 0} (f : Figure X) (p : Times) (seen : Texts → S → X) (n
       (Some (led_by p e.moment (unwrap_or turn (record { phase = x.phase; change = code.Keeps })) x))
   leads-received a e x turn is one known fits small = rw (← is) (heard-one f p seen names InRange texts e x turn one known fits small)
 
-  -- where the row of a sent message leads
+  -- where a turn answers the row of a sent message, the state that it gives answers where the message leads
   pub leads-sent : (a : Action) (e : MachineEvent) (x : CodeOwing S) (turn : Option (Turn S)) → Sent ≡ a →
       AnswersOne (turn_names names) (TurnInRange InRange) (turn_seen seen) texts (f.Sends p (seen texts x.phase) e.kind e) turn →
       Knows (owing_names names) texts x → OwingInRange InRange x → close_at p e.moment 0 < 2 ^ 50 →
@@ -83,38 +85,40 @@ module _ {S X : Type 0} (f : Figure X) (p : Times) (seen : Texts → S → X) (n
       (option_map (λ turn. led_by p e.moment turn x) turn)
   leads-sent a e x turn is one known fits small = rw (← is) (led-at f p seen names InRange texts e x turn one known fits small)
 
-  -- an answer for a state that lasts
+  -- the answer stands for the only state of which P holds
   abbrev Owings : (Owing X → Type 0) → Option (CodeOwing S) → Type 0
   Owings P answer = AnswersOne (owing_names names) (OwingInRange InRange) (owing_seen seen) texts P answer
 
   abbrev pub Lasting : ℕ → CodeOwing S → (Owing X → Type 0) → Owing X → Type 0
   Lasting t x P y = IsWithin t (until_of f p (owing_seen seen texts x)) × P y
 
+  -- where a state lasts until t, an answer for P is one for P of a state that lasts
   pub lasting-answers : (t : ℕ) (x : CodeOwing S) (P : Owing X → Type 0) (answer : Option (CodeOwing S)) → IsWithin t (until_of f p (owing_seen seen texts x)) → Owings P answer →
       Owings (Lasting t x P) answer
   lasting-answers t x P None within none = λ y h. none y h.1
   lasting-answers t x P (Some s) within one =
       record { only = λ y. (λ h. (one.only y).0 h.1, λ same. (within, (one.only y).1 same)); known = one.known; in_range = one.in_range }
 
+  -- where the timers of a state last until t, an answer for P, given only where the state is timely, is one for P of a state that lasts
   timely-answers : (t : ℕ) (x : CodeOwing S) (P : Owing X → Type 0) (answer : Option (CodeOwing S)) (b : Bool) → is_timely t x.owes ≡ b →
       IsWithin t (earliest (closes_at f p (seen texts x.phase))) → Owings P answer → Owings (Lasting t x P) (cond b answer None)
   timely-answers t x P answer true is timers answers = lasting-answers t x P answer (timely-lasts t x timers is) answers
   timely-answers t x P answer false is timers answers = λ y h. late-ends t x is h.0
 
-  -- states of one phase
+  -- What follows is of states of one phase, and of one event.
   module _ (e : MachineEvent) (phase : S) (xs : List (CodeOwing S)) (same : All (λ x. x.phase ≡ phase) xs) (known : All (Knows (owing_names names) texts) xs)
       (fits : All (OwingInRange InRange) xs) where
     abbrev pub InPhase : List Debt → CodeOwing S
     InPhase owes = record { phase = phase; owes = owes }
 
-    -- what answers each debts beside the phase answers each of the states
+    -- what holds of the phase with any debts that the book knows holds of each of the states
     each-state : (P : CodeOwing S → Type 0) → ((owes : List Debt) → Knows (owing_names names) texts (InPhase owes) → OwingInRange InRange (InPhase owes) → P (InPhase owes)) → All P xs
     each-state P answers = λ k d low.
         let x = get_or xs k d in
         let is : InPhase x.owes ≡ x = ap (λ q. record { phase = q; owes = x.owes }) (sym (same k d low)) in
         subst P is (answers x.owes (subst (Knows (owing_names names) texts) (sym is) (known k d low)) (subst (OwingInRange InRange) (sym is) (fits k d low)))
 
-    -- none lasts whose timers do not let it
+    -- where the timers of the phase do not last until the event, no state leads anywhere
     pub closed-none : (P : CodeOwing S → Owing X → Type 0) → ¬ (IsWithin e.moment (earliest (closes_at f p (seen texts phase)))) →
         Covers (owing_names names) (OwingInRange InRange) (owing_seen seen) texts (FromSome (λ x. Lasting e.moment x (P x)) xs) []
     closed-none P closed =
@@ -122,7 +126,7 @@ module _ {S X : Type 0} (f : Figure X) (p : Times) (seen : Texts → S → X) (n
         (λ y. FromSome-none (λ x. Lasting e.moment x (P x)) xs y
         (each-state (λ x. ¬ (Lasting e.moment x (P x) y)) (λ owes knows fit h. closed-ends e.moment (InPhase owes) closed h.0)))
 
-    -- where no row leads
+    -- where no row of the event leads from the phase, whatever is owed, no state leads anywhere
     pub leads-none : ((owes : List Debt) → Knows (owing_names names) texts (InPhase owes) → OwingInRange InRange (InPhase owes) →
         Owings (Leads f p e.action e (owing_seen seen texts (unexpired_at e.moment (InPhase owes)))) None) →
         Covers (owing_names names) (OwingInRange InRange) (owing_seen seen) texts (FromSome (LeadsFrom f p seen texts e) xs) []
@@ -131,7 +135,7 @@ module _ {S X : Type 0} (f : Figure X) (p : Times) (seen : Texts → S → X) (n
         (λ y. FromSome-none (LeadsFrom f p seen texts e) xs y
         (each-state (λ x. ¬ (LeadsFrom f p seen texts e x y)) (λ owes knows fit h. none owes knows fit y h.1)))
 
-    -- where one does
+    -- where a row of the event leads from the phase, whatever is owed, the timely states, led by it, cover what leads from all
     pub leads-some : (turn : Turn S) → IsWithin e.moment (earliest (closes_at f p (seen texts phase))) →
         ((owes : List Debt) → Knows (owing_names names) texts (InPhase owes) → OwingInRange InRange (InPhase owes) →
         Owings (Leads f p e.action e (owing_seen seen texts (unexpired_at e.moment (InPhase owes)))) (Some (led_by p e.moment turn (InPhase owes)))) →
@@ -143,7 +147,7 @@ module _ {S X : Type 0} (f : Figure X) (p : Times) (seen : Texts → S → X) (n
         (λ owes knows fit. timely-answers e.moment (InPhase owes) (Leads f p e.action e (owing_seen seen texts (unexpired_at e.moment (InPhase owes))))
         (Some (led_by p e.moment turn (InPhase owes))) (is_timely e.moment owes) refl timers (one owes knows fit)))
 
-    -- where a send pays one message, whatever is owed
+    -- where a send can pay one message alone, the answer is the state that has paid it where it can, and none where it cannot
     paid-answers : (message : ℕ) (owes : List Debt) → ¬ (f.Stays (seen texts phase) e.kind) →
         All (λ debt. IsTrue (is_payable message e.moment debt) ↔ PaysFor (f.Satisfies (seen texts phase) e.kind e) texts e.moment debt) owes →
         Knows (owing_names names) texts (InPhase owes) → OwingInRange InRange (InPhase owes) → (b : Bool) → list_any (is_payable message e.moment) owes ≡ b →
@@ -157,12 +161,14 @@ module _ {S X : Type 0} (f : Figure X) (p : Times) (seen : Texts → S → X) (n
         (FindsFirst-same (λ debt. IsTrue (is_payable message e.moment debt)) (PaysFor (f.Satisfies (seen texts phase) e.kind e) texts e.moment) e.moment owes None tells
         (pays-none message e.moment owes is)) knows fit
 
+    -- where two tests are asked one in the other, both must pass
     timely-paid : (a b : Bool) (s : CodeOwing S) → cond b (cond a (Some s) None) None ≡ cond (a && b) (Some s) None
     timely-paid true true s = refl
     timely-paid true false s = refl
     timely-paid false true s = refl
     timely-paid false false s = refl
 
+    -- the states that a message can pay and that are timely, each without what it pays, cover the states that rest after the event
     pub rests-paid : (message : ℕ) → IsWithin e.moment (earliest (closes_at f p (seen texts phase))) → ¬ (f.Stays (seen texts phase) e.kind) →
         ((debt : Debt) → Keeps texts debt.message →
         PaysFor (f.Satisfies (seen texts phase) e.kind e) texts e.moment debt ↔ IsTrue (is_payable message e.moment debt)) →
@@ -185,7 +191,7 @@ module _ {S X : Type 0} (f : Figure X) (p : Times) (seen : Texts → S → X) (n
         (timely-answers e.moment x P (cond can (Some (repaid_at e.moment message x)) None) (is_timely e.moment owes) refl timers one)))
 
 module _ {S X : Type 0} (f : Figure X) (p : Times) (seen : Texts → S → X) (texts : Texts) where
-  -- the step of the state of the code that has lasted until the event
+  -- the step of a state of the code that has lasted until the event, without what has expired, is the take of its state of the rules
   steps-same : (a : Action) (e : MachineEvent) (x : CodeOwing S) (y : Owing X) → e.action ≡ a →
       (IsWithin e.moment (until_of f p (owing_seen seen texts x)) × Steps f p a e (owing_seen seen texts (unexpired_at e.moment x)) y) ↔ TakeOf f p (owing_seen seen texts x) e y
   steps-same a e x y is =
@@ -196,6 +202,7 @@ module _ {S X : Type 0} (f : Figure X) (p : Times) (seen : Texts → S → X) (t
         λ h. (h.0, subst (λ z. Steps f p a e z y) (sym here) (subst (λ b. Steps f p b e at y) is h.1)),
       )
 
+  -- what leads from a state of the code is a step by a row of a state that has lasted until the event
   leads-is : (a : Action) (e : MachineEvent) (x : CodeOwing S) (y : Owing X) → e.action ≡ a →
       LeadsFrom f p seen texts e x y ↔ (IsWithin e.moment (until_of f p (owing_seen seen texts x)) × Leads f p a e (owing_seen seen texts (unexpired_at e.moment x)) y)
   leads-is a e x y is = (
@@ -203,14 +210,14 @@ module _ {S X : Type 0} (f : Figure X) (p : Times) (seen : Texts → S → X) (t
     λ h. (h.0, subst (λ b. Leads f p b e (owing_seen seen texts (unexpired_at e.moment x)) y) (sym is) h.1),
   )
 
-  -- a received message leads where its row does, or stays,
+  -- where an event is a received message, what leads from a state is its take: where its row leads, or where it stays
   pub takes-received : (e : MachineEvent) → e.action ≡ Received → (x : CodeOwing S) (y : Owing X) → LeadsFrom f p seen texts e x y ↔ TakeOf f p (owing_seen seen texts x) e y
   takes-received e is x y =
       let leads = leads-is Received e x y is in
       let steps = steps-same Received e x y is in
       (λ h. steps.0 (leads.0 h), λ h. leads.1 (steps.1 h))
 
-  -- a sent message is taken where its row leads, and where the phase stays
+  -- where an event is a sent message, what leads from a state or rests is its take
   pub takes-sent : (e : MachineEvent) → e.action ≡ Sent → (x : CodeOwing S) (y : Owing X) →
       (LeadsFrom f p seen texts e x y ⊎ RestsFrom f p seen texts e x y) ↔ TakeOf f p (owing_seen seen texts x) e y
   takes-sent e is x y =
@@ -220,7 +227,7 @@ module _ {S X : Type 0} (f : Figure X) (p : Times) (seen : Texts → S → X) (t
         λ h. let s = steps.1 h in elim s.1 [ inl row ↦ inl (leads.1 (s.0, row)) | inr rest ↦ inr (s.0, rest) ],
       )
 
--- what holds of some of the states holds of the first of them
+-- what holds of all states from one index up to another, at least one, holds of the first of them
 pub slice-first : {S : Type 0} (P : S → Type 0) (from to : ℕ) (xs : List S) (d : S) → from < to → to ≤ length xs → All P (from_to from to xs) → P (get_or xs from d)
 slice-first P from zero xs d order le all = absurd (omega (arith, order))
 slice-first P from (suc to) [] d order le all = absurd (omega (arith, le))

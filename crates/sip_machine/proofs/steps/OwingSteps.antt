@@ -1,4 +1,4 @@
--- The steps of the machine of a figure, over the states of the code.
+-- The steps of the machine of a figure, from the states of the code.
 use Rattle.std.specs.Prelude.{◌≡◌, ◌⊎◌, ◌≤◌, ◌<◌, ◌^◌, ℕ, IsTrue, Bool, true, false, Option, Some, None, List, [], ◌∷◌, ◌++◌, All, filter, length, option_to_list, unwrap_or}
 use Rattle.std.specs.Option.{option_map}
 use Rattle.std.proofs.Common.{inl, inr, refl, sym, ◌∙◌, ap, ap₂, subst, arith, cond, length-append}
@@ -37,11 +37,11 @@ use Rattle.sip_machine.proofs.texts.TextLaws.{Contains-nil}
 use Rattle.sip_machine.proofs.steps.SingleLemmas.{StandFor-none, StandFor-one}
 use Rattle.sip_machine.proofs.steps.BothLemmas.{StandFor-same, AnswersBoth-one, AnswersBoth-two, OrStays-one}
 
--- the names of kept debts
+-- where the book keeps the message of each debt, it keeps what the debts name
 names-kept : (texts : Texts) (ds : List Debt) → All (λ d. Keeps texts d.message) ds → All (Keeps texts) (owes_names ds)
 names-kept texts ds kept = All-map (Keeps texts) (λ d. d.message) ds kept
 
--- the debts after a row stand for what it leaves
+-- the debts of the code after a row stand for the debts that the row leaves of what they stood for
 changed-seen : (p : Times) (texts : Texts) (t : ℕ) (c : CodeChange) (owes : List Debt) →
     changed p t (change_seen texts c) (owes_seen texts owes) ≡ owes_seen texts (changed_debts p t c owes)
 changed-seen p texts t code.Keeps owes = refl
@@ -50,7 +50,7 @@ changed-seen p texts t code.Drops owes = refl
 changed-seen p texts t (code.Gains must message) owes =
     sym (map-append (owed_seen texts) owes (record { message = message; deadline = close_at p t 0; must = must } ∷ []))
 
--- the book has their messages
+-- where the book keeps the messages of debts, and those that a row names, it keeps those of the debts after the row
 changed-known : (p : Times) (texts : Texts) (t : ℕ) (c : CodeChange) (owes : List Debt) → All (Keeps texts) (change_names c) →
     All (Keeps texts) (owes_names owes) → All (λ d. Keeps texts d.message) (changed_debts p t c owes)
 changed-known p texts t code.Keeps owes here known = All-names (Keeps texts) owes known
@@ -69,7 +69,7 @@ changed-in_range p t code.Drops owes small fits = All-nil (λ d. d.deadline < 2 
 changed-in_range p t (code.Gains must message) owes small fits =
     All-push (λ d. d.deadline < 2 ^ 50) owes (record { message = message; deadline = close_at p t 0; must = must }) fits small
 
--- a row drops the debts, or leaves no fewer,
+-- a row drops the debts, or leaves at least as many
 changed-length : (p : Times) (t : ℕ) (c : Change) (owes : List Owed) → (c ≡ drops) ⊎ (length owes ≤ length (changed p t c owes))
 changed-length p t keeps owes = inr (omega arith)
 changed-length p t softens owes = inr (softened-length owes)
@@ -81,7 +81,7 @@ changed-length p t drops owes = inl refl
 changed-length p t (gains must message) owes =
     let longer = length-append owes (record { message = message; deadline = close_at p t 0; must = must } ∷ []) in inr (omega (arith, longer))
 
--- a list without its first element of a kind is shorter
+-- a list without the first element of which P holds is shorter than the list
 without-length : {X : Type 0} (P : X → Type 0) (xs ys : List X) → IsWithoutFirst P xs ys → length ys < length xs
 without-length P xs ys a =
     let long : length xs ≡ length (a.before ++ a.first ∷ a.after) = ap length a.whole in
@@ -90,7 +90,7 @@ without-length P xs ys a =
     let fewer = length-append a.before a.after in
     omega (arith, long, short, more, fewer)
 
--- a message in its turn and one that is owed lead to different states
+-- a sent message that has a row and one that pays what is owed lead to different states
 Follows-Repays : {X : Type 0} (f : Figure X) (is : IsFigure f) (p : Times) (e : MachineEvent) (x y : Owing X) → Follows (f.Sends p x.phase e.kind e) p e x y → Repays f e x y → ⊥
 Follows-Repays f is p e x y row pays = by_length (changed-length p e.moment (row.0).1 x.owes)
   where
@@ -102,13 +102,13 @@ Follows-Repays f is p e x y row pays = by_length (changed-length p e.moment (row
         let size = ap length same in
         absurd (omega (arith, more, fewer, size))
 
--- a message in its turn and one that changes nothing lead to different states
+-- a sent message that has a row and one that changes nothing lead to different states
 Follows-Stays : {X : Type 0} (f : Figure X) (is : IsFigure f) (p : Times) (e : MachineEvent) (x y : Owing X) → Follows (f.Sends p x.phase e.kind e) p e x y →
     f.Stays x.phase e.kind × (y ≡ x) → ⊥
 Follows-Stays f is p e x y row stays =
     is.sent_leaves p x.phase e.kind e row.0 row.1 (inr stays.0) (ap (λ z. z.phase) (sym row.2 ∙ stays.1))
 
--- an end, where there is a step,
+-- where something holds of P, the end is the only state to which the end of P leads
 ends-some : {X S : Type 0} (names : S → List ℕ) (InRange : S → Type 0) (seen : Texts → S → X) (texts : Texts) (P : X → Type 0) (end : S) →
     Knows names texts end → InRange end → (z : X) × P z →
     AnswersBoth names InRange seen texts (λ y. ((z : X) × P z) × (y ≡ seen texts end)) (Some end, None)
@@ -116,18 +116,18 @@ ends-some {X} names InRange seen texts P end known fits some =
     StandFor-one names InRange seen texts (λ y. ((z : X) × P z) × (y ≡ seen texts end)) end
     (record { only = λ y. (λ h. h.1, λ e. (some, e)); known = known; in_range = fits })
 
--- where there is no step, no end is given
+-- where P holds of nothing, the end of P leads nowhere
 ends-none : {X S : Type 0} (names : S → List ℕ) (InRange : S → Type 0) (seen : Texts → S → X) (texts : Texts) (P Q : X → Type 0) →
     AnswersBoth {S = S} names InRange seen texts P (None, None) →
     AnswersBoth {S = S} names InRange seen texts (λ y. ((z : X) × P z) × Q y) (None, None)
 ends-none {X} names InRange seen texts P Q both =
     StandFor-none names InRange seen texts (λ y. ((z : X) × P z) × Q y) (λ y h. Contains-nil (h.0).0 ((both.members (h.0).0).1 (h.0).1))
 
--- what may be sent counts until its deadline
+-- a debt whose deadline is not before t counts at t
 counts-may : (t : ℕ) (d : Debt) → t ≤ d.deadline → IsTrue (counts_at t d)
 counts-may t d low = grind (arith, nat_tests)
 
--- a debt that is paid counts still, so that it may be paid before what has expired is dropped
+-- a list without the first element of which P holds, where those pass a test, is such a list when both are filtered by the test
 IsWithoutFirst-filter : {X : Type 0} (p : X → Bool) (P : X → Type 0) (xs ys : List X) → ((x : X) → P x → p x ≡ true) → IsWithoutFirst P xs ys →
     IsWithoutFirst P (filter p xs) (filter p ys)
 IsWithoutFirst-filter p P xs ys passes a =
@@ -143,7 +143,7 @@ IsWithoutFirst-filter p P xs ys passes a =
     }
 
 module _ {S X : Type 0} (f : Figure X) (p : Times) (seen : Texts → S → X) (names : S → List ℕ) (InRange : S → Type 0) (texts : Texts) where
-  -- where a row of the code leads
+  -- where a row of the code leads to a turn alone, the state that the turn gives is the only one to which the row leads
   led-one : (Row : After X → Type 0) (e : MachineEvent) (x : CodeOwing S) (turn : Turn S) →
       IsTheOne (turn_names names) (TurnInRange InRange) (turn_seen seen) texts Row turn → Knows (owing_names names) texts x → OwingInRange InRange x →
       close_at p e.moment 0 < 2 ^ 50 →
@@ -167,7 +167,7 @@ module _ {S X : Type 0} (f : Figure X) (p : Times) (seen : Texts → S → X) (n
         in_range = (one.in_range, changed-in_range p e.moment turn.change x.owes small fits.1);
       }
 
-  -- a received message without a row
+  -- where a received message has no row, the state itself is the only one to which it leads
   stays-one : (Row : After X → Type 0) (e : MachineEvent) (x : CodeOwing S) → ((y : After X) → Row y → ⊥) → Knows (owing_names names) texts x →
       OwingInRange InRange x →
       IsTheOne (owing_names names) (OwingInRange InRange) (owing_seen seen) texts (OrStays (Follows Row p e (owing_seen seen texts x)) (owing_seen seen texts x)) x
@@ -178,7 +178,7 @@ module _ {S X : Type 0} (f : Figure X) (p : Times) (seen : Texts → S → X) (n
         in_range = fits;
       }
 
-  -- a debt that is paid
+  -- where the first debt that a message pays is taken out, the state that is left is the only one to which the payment leads
   repaid-one : (e : MachineEvent) (x : CodeOwing S) (left : List Debt) → Knows (owing_names names) texts x → OwingInRange InRange x →
       IsWithoutFirst (PaysFor (f.Satisfies (seen texts x.phase) e.kind e) texts e.moment) x.owes left →
       IsTheOne (owing_names names) (OwingInRange InRange) (owing_seen seen) texts (Repays f e (owing_seen seen texts x)) (record x { owes = left })
@@ -205,7 +205,7 @@ module _ {S X : Type 0} (f : Figure X) (p : Times) (seen : Texts → S → X) (n
       let P = λ (owed : Owed). f.Satisfies (seen texts x.phase) e.kind e owed.message × (e.moment ≤ owed.deadline) in
       IsWithoutFirst-none P (owes_seen texts x.owes) h.0 (All-map (λ owed. ¬ (P owed)) (owed_seen texts) x.owes unpaid) h.1
 
-  -- the states after a message that is sent
+  -- the states that a sent message gives are the one to which its row leads and the one that rests, where they are
   emitted-both : (is : IsFigure f) (e : MachineEvent) (x : CodeOwing S) (sent rested : Option (CodeOwing S)) →
       AnswersOne (owing_names names) (OwingInRange InRange) (owing_seen seen) texts
       (Follows (f.Sends p (seen texts x.phase) e.kind e) p e (owing_seen seen texts x)) sent →
@@ -218,7 +218,7 @@ module _ {S X : Type 0} (f : Figure X) (p : Times) (seen : Texts → S → X) (n
       (λ y row rest. elim rest [ inl pays ↦ Follows-Repays f is p e here y row pays | inr stays ↦ Follows-Stays f is p e here y row stays ])
       sent rested one other
 
-  -- a message that changes nothing pays nothing
+  -- a message that may leave the state as it is pays nothing, so that the state is the only one at rest
   rests-stays : (is : IsFigure f) (e : MachineEvent) (x : CodeOwing S) → f.Stays (seen texts x.phase) e.kind →
       Knows (owing_names names) texts x → OwingInRange InRange x →
       IsTheOne (owing_names names) (OwingInRange InRange) (owing_seen seen) texts (Rests f e (owing_seen seen texts x)) x
@@ -234,7 +234,7 @@ module _ {S X : Type 0} (f : Figure X) (p : Times) (seen : Texts → S → X) (n
     in_range = fits;
   }
 
-  -- where a message changes something, the phase stays if it pays
+  -- where a message may not leave the state as it is, it rests only where it pays, so that an answer for the payment is one for the rest
   rests-repaid : (e : MachineEvent) (x : CodeOwing S) → ¬ (f.Stays (seen texts x.phase) e.kind) → (repaid : Option (CodeOwing S)) →
       AnswersOne (owing_names names) (OwingInRange InRange) (owing_seen seen) texts (Repays f e (owing_seen seen texts x)) repaid →
       AnswersOne (owing_names names) (OwingInRange InRange) (owing_seen seen) texts (Rests f e (owing_seen seen texts x)) repaid
@@ -248,7 +248,7 @@ module _ {S X : Type 0} (f : Figure X) (p : Times) (seen : Texts → S → X) (n
     in_range = one.in_range;
   }
 
-  -- a state knows its messages without what has expired, and stays in range
+  -- where the book keeps the messages of a state, it keeps those of the state without what has expired
   known-at : (t : ℕ) (x : CodeOwing S) → Knows (owing_names names) texts x → Knows (owing_names names) texts (unexpired_at t x)
   known-at t x known =
       All-append (Keeps texts) (names x.phase) (owes_names (filter (counts_at t) x.owes)) (All-front (Keeps texts) (names x.phase) (owes_names x.owes) known)
@@ -258,7 +258,7 @@ module _ {S X : Type 0} (f : Figure X) (p : Times) (seen : Texts → S → X) (n
   in_range-at : (t : ℕ) (x : CodeOwing S) → OwingInRange InRange x → OwingInRange InRange (unexpired_at t x)
   in_range-at t x fits = (fits.0, All-filter (counts_at t) (λ d. d.deadline < 2 ^ 50) x.owes fits.1)
 
-  -- where the row of a sent message leads, if it has one
+  -- where a turn answers the row of a sent message, the state that it gives answers where the row leads without what has expired
   pub led-at : (e : MachineEvent) (x : CodeOwing S) (turn : Option (Turn S)) →
       AnswersOne (turn_names names) (TurnInRange InRange) (turn_seen seen) texts (f.Sends p (seen texts x.phase) e.kind e) turn →
       Knows (owing_names names) texts x → OwingInRange InRange x → close_at p e.moment 0 < 2 ^ 50 →
@@ -269,7 +269,7 @@ module _ {S X : Type 0} (f : Figure X) (p : Times) (seen : Texts → S → X) (n
   led-at e x (Some turn) one known fits small =
       led-one (f.Sends p (seen texts x.phase) e.kind e) e (unexpired_at e.moment x) turn one (known-at e.moment x known) (in_range-at e.moment x fits) small
 
-  -- the state whose debt is paid, if one is
+  -- where the first debt that a message pays is found, the state that has paid it, without what has expired, answers the payment
   repaid-at : (e : MachineEvent) (x : CodeOwing S) (paid : Option ℕ) →
       FindsFirst (PaysFor (f.Satisfies (seen texts x.phase) e.kind e) texts e.moment) e.moment x.owes paid →
       Knows (owing_names names) texts x → OwingInRange InRange x →
@@ -283,14 +283,14 @@ module _ {S X : Type 0} (f : Figure X) (p : Times) (seen : Texts → S → X) (n
       repaid-one e (unexpired_at e.moment x) (filter (counts_at e.moment) (paid_by message e.moment x.owes)) (known-at e.moment x known) (in_range-at e.moment x fits)
       (IsWithoutFirst-filter (counts_at e.moment) P x.owes (paid_by message e.moment x.owes) (λ debt pays. counts-may e.moment debt pays.1) finds)
 
-  -- the state whose phase a sent message leaves as it is, which changes nothing,
+  -- a message that may leave the state as it is leaves it at rest, without what has expired
   pub rested-stays : (is : IsFigure f) (e : MachineEvent) (x : CodeOwing S) → f.Stays (seen texts x.phase) e.kind →
       Knows (owing_names names) texts x → OwingInRange InRange x →
       AnswersOne (owing_names names) (OwingInRange InRange) (owing_seen seen) texts (Rests f e (owing_seen seen texts (unexpired_at e.moment x)))
       (Some (rests_at e.moment resting.Stays x))
   rested-stays is e x stays known fits = rests-stays is e (unexpired_at e.moment x) stays (known-at e.moment x known) (in_range-at e.moment x fits)
 
-  -- a sent message that leaves the phase pays the debt that is found
+  -- a message that may not leave the state as it is leaves at rest the state that has paid the debt that is found
   pub rested-pays : (e : MachineEvent) (x : CodeOwing S) → ¬ (f.Stays (seen texts x.phase) e.kind) → (paid : Option ℕ) →
       FindsFirst (PaysFor (f.Satisfies (seen texts x.phase) e.kind e) texts e.moment) e.moment x.owes paid →
       Knows (owing_names names) texts x → OwingInRange InRange x →
@@ -300,11 +300,11 @@ module _ {S X : Type 0} (f : Figure X) (p : Times) (seen : Texts → S → X) (n
   rested-pays e x moves (Some message) finds known fits =
       rests-repaid e (unexpired_at e.moment x) moves (Some (repaid_at e.moment message x)) (repaid-at e x (Some message) finds known fits)
 
-  -- what an effect gives is just what leads where P says
+  -- the states that an effect gives stand for exactly those of which P holds
   abbrev pub Gives : (Owing X → Type 0) → ℕ → CodeOwing S → Effect S → Type 0
   Gives P t x effect = AnswersBoth (owing_names names) (OwingInRange InRange) (owing_seen seen) texts P (given_by p t x effect)
 
-  -- a received message leads where its row does, or stays
+  -- the state to which a received message leads by its row, or else the state itself, is the only one to which it leads
   pub heard-one : (e : MachineEvent) (x : CodeOwing S) (turn : Option (Turn S)) →
       AnswersOne (turn_names names) (TurnInRange InRange) (turn_seen seen) texts (f.Receives p (seen texts x.phase) e.kind e) turn →
       Knows (owing_names names) texts x → OwingInRange InRange x → close_at p e.moment 0 < 2 ^ 50 →
@@ -324,6 +324,7 @@ module _ {S X : Type 0} (f : Figure X) (p : Times) (seen : Texts → S → X) (n
         in_range = led.in_range;
       }
 
+  -- the effect of a received message gives the one state to which it leads
   pub heard : (e : MachineEvent) (x : CodeOwing S) (turn : Option (Turn S)) →
       AnswersOne (turn_names names) (TurnInRange InRange) (turn_seen seen) texts (f.Receives p (seen texts x.phase) e.kind e) turn →
       Knows (owing_names names) texts x → OwingInRange InRange x → close_at p e.moment 0 < 2 ^ 50 →
@@ -333,7 +334,7 @@ module _ {S X : Type 0} (f : Figure X) (p : Times) (seen : Texts → S → X) (n
       AnswersBoth-one (owing_names names) (OwingInRange InRange) (owing_seen seen) texts (Hears f p e (owing_seen seen texts (unexpired_at e.moment x)))
       (Some (led_by p e.moment (unwrap_or turn (record { phase = x.phase; change = code.Keeps })) x)) (heard-one e x turn one known fits small)
 
-  -- one that is sent leads where its row does, and where the phase stays
+  -- the effect of a sent message gives the state to which its row leads, and the one that rests
   pub emitted : (is : IsFigure f) (e : MachineEvent) (x : CodeOwing S) (turn : Option (Turn S)) (rest : Option Rest) →
       AnswersOne (turn_names names) (TurnInRange InRange) (turn_seen seen) texts (f.Sends p (seen texts x.phase) e.kind e) turn →
       AnswersOne (owing_names names) (OwingInRange InRange) (owing_seen seen) texts (Rests f e (owing_seen seen texts (unexpired_at e.moment x)))
@@ -344,13 +345,13 @@ module _ {S X : Type 0} (f : Figure X) (p : Times) (seen : Texts → S → X) (n
       emitted-both is e (unexpired_at e.moment x) (option_map (λ turn. led_by p e.moment turn x) turn) (option_map (λ rest. rests_at e.moment rest x) rest)
       (led-at e x turn one known fits small) other
 
-  -- one that was refused counts as sent,
+  -- where a refusal does not end the transaction, a refused message has the effect of a sent one
   pub refused-emits : (e : MachineEvent) (x : CodeOwing S) (effect : Effect S) → f.ends_refused (seen texts x.phase) e.kind ≡ false →
       Gives (Emits f p e (owing_seen seen texts (unexpired_at e.moment x))) e.moment x effect →
       Gives (Fails (f.ends_refused (seen texts x.phase) e.kind) f p e (owing_seen seen texts (unexpired_at e.moment x))) e.moment x effect
   refused-emits e x effect is gives = rw is gives
 
-  -- a refused message ends the transaction, where it could have been sent
+  -- where a refusal ends the transaction, and a sent message would have a step, the effect of a refused one is the end
   pub refused-ends : (e : MachineEvent) (x : CodeOwing S) (end : S) → f.ends_refused (seen texts x.phase) e.kind ≡ true → seen texts end ≡ f.ended →
       (names end ≡ []) × InRange end → (z : Owing X) × Emits f p e (owing_seen seen texts (unexpired_at e.moment x)) z →
       Gives (Fails (f.ends_refused (seen texts x.phase) e.kind) f p e (owing_seen seen texts (unexpired_at e.moment x))) e.moment x (quiets end)
@@ -363,7 +364,7 @@ module _ {S X : Type 0} (f : Figure X) (p : Times) (seen : Texts → S → X) (n
       (λ y. ((z : Owing X) × Emits f p e here z) × (y ≡ q)) (Some over, None)) (quiet_stands seen texts end f.ended stands)
       (ends-some (owing_names names) (OwingInRange InRange) (owing_seen seen) texts (Emits f p e here) over (rw quiet_over.0 (All-nil (Keeps texts))) quiet_over.1 some))
 
-  -- a refused message has no step, where it could not have been sent
+  -- where a refusal ends the transaction, and a sent message would have no step, a refused one has none
   pub refused-none : (e : MachineEvent) (x : CodeOwing S) (effect : Effect S) → f.ends_refused (seen texts x.phase) e.kind ≡ true →
       (effect.turn ≡ None) × (effect.rest ≡ None) → Gives (Emits f p e (owing_seen seen texts (unexpired_at e.moment x))) e.moment x effect →
       Gives (Fails (f.ends_refused (seen texts x.phase) e.kind) f p e (owing_seen seen texts (unexpired_at e.moment x))) e.moment x effect
@@ -375,7 +376,7 @@ module _ {S X : Type 0} (f : Figure X) (p : Times) (seen : Texts → S → X) (n
       (subst (Gives (Emits f p e here) e.moment x) none gives) in
       rw is (subst (Gives (Fails true f p e here) e.moment x) (sym none) left)
 
-  -- where an effect gives something, there is a step
+  -- where an effect that gives the states of P is not empty, P holds of some state
   pub has_step : (P : Owing X → Type 0) (t : ℕ) (x : CodeOwing S) (turn : Option (Turn S)) (rest : Option Rest) →
       ((turn ≡ None) × (rest ≡ None) → ⊥) → Gives P t x (record { turn = turn; rest = rest }) → (z : Owing X) × P z
   has_step P t x None None some gives = absurd (some (refl, refl))
@@ -384,7 +385,7 @@ module _ {S X : Type 0} (f : Figure X) (p : Times) (seen : Texts → S → X) (n
   has_step P t x (Some turn) rest some gives =
       let z = owing_seen seen texts (led_by p t turn x) in (z, (gives.members z).0 (0, omega arith, refl))
 
-  -- a restart leaves an idle transaction idle,
+  -- a restart leaves a transaction in idle, with nothing owed
   pub restarted-idle : (t : ℕ) (x : CodeOwing S) (idle : S) → seen texts x.phase ≡ f.idle → seen texts idle ≡ f.idle → (names idle ≡ []) × InRange idle →
       Gives (Restarts f (owing_seen seen texts (unexpired_at t x))) t x (quiets idle)
   restarted-idle t x idle is stands fits =
@@ -402,7 +403,7 @@ module _ {S X : Type 0} (f : Figure X) (p : Times) (seen : Texts → S → X) (n
         in_range = quiet_over.1;
       })
 
-  -- a restart ends a transaction that has begun
+  -- a restart ends a transaction that has begun, with nothing owed
   pub restarted-ended : (t : ℕ) (x : CodeOwing S) (end : S) → ¬ (seen texts x.phase ≡ f.idle) → seen texts end ≡ f.ended → (names end ≡ []) × InRange end →
       Gives (Restarts f (owing_seen seen texts (unexpired_at t x))) t x (quiets end)
   restarted-ended t x end other stands fits =
@@ -420,7 +421,7 @@ module _ {S X : Type 0} (f : Figure X) (p : Times) (seen : Texts → S → X) (n
         in_range = quiet_over.1;
       })
 
-  -- the steps of the state at the moment are those of the state that has lasted until then
+  -- where a state lasts until the event, an effect that gives the steps of the state without what has expired gives its takes
   pub taken : (a : Action) (e : MachineEvent) (x : CodeOwing S) (effect : Effect S) → e.action ≡ a →
       IsWithin e.moment (until_of f p (owing_seen seen texts x)) → Gives (Steps f p a e (owing_seen seen texts (unexpired_at e.moment x))) e.moment x effect →
       Gives (TakeOf f p (owing_seen seen texts x) e) e.moment x effect

@@ -1,4 +1,4 @@
--- What the test of two numbers says of them.
+-- What the test whether two numbers are equal says of them.
 use Rattle.std.specs.Prelude.{◌≡◌, ◌<◌, ℕ, true, nat_lt}
 use Rattle.std.proofs.Common.{arith}
 use Rattle.std.proofs.lemmas.Bool.Decides.{nat_tests}

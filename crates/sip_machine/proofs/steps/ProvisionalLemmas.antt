@@ -1,4 +1,4 @@
--- Which bytes are a 100: by what they are read as, and by three digits at one place.
+-- Which bytes are a response 100: by what they are read as, and by the three digits after the version and a blank.
 use Rattle.std.specs.Prelude.{◌≡◌, ◌↔◌, ◌==◌, ◌+◌, IsTrue, ℕ, List, ◌∷◌, ◌++◌, codes, drop, flat_map, length, take}
 use Rattle.std.proofs.Common.{sym, ap, ◌∙◌, append_assoc, arith, eq-eqb, subst}
 use Rattle.std.specs.Fmt.{digits}
@@ -39,7 +39,7 @@ Is100-read bytes r reads = (
   λ is. (is.reason, ap (λ s. s.start) (sym (said-is bytes r is.said reads is.says)) ∙ is.start),
 )
 
--- three digits that write 100
+-- three digits that are the code 100 are "100"
 digits-100 : (text : List ℕ) → CodeText text 100 → text ≡ codes "100"
 unfolding digits
 digits-100 text is = sym (code-decimal text 100 is)
@@ -72,6 +72,6 @@ Is100-code bytes is =
     let read = says-reads bytes is.said is.says in
     code-100 bytes read.0.message is.reason (tells-text bytes read.0.message read.1.tells) (ap (λ s. s.start) (sym read.2) ∙ is.start)
 
--- bytes that have a fault spell none
+-- bytes that have a fault are no response 100
 pub Is100-fault : (bytes : List ℕ) (f : Fault) → Says bytes (stops f) → Is100 bytes → ⊥
 Is100-fault bytes f fault is = says-no_fault bytes is.said f is.says fault

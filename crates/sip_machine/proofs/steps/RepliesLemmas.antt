@@ -1,4 +1,4 @@
--- What a row adds to the debts of a state, and which send pays a server's.
+-- What a row of a server adds to the debts, and which send pays them.
 use Rattle.std.specs.Prelude.{◌≡◌, ◌↔◌, ℕ, Bool, true, false, not, IsTrue, Option, List, [], ◌∷◌, All}
 use Rattle.std.proofs.Common.{refl, sym, inl, inr, true≢false}
 use Rattle.std.proofs.lemmas.List.Elements.{All-nil, All-cons, All-append}
@@ -30,13 +30,14 @@ Gains-one names InRange seen texts P x must message only known kept fits =
       in_range = fits;
     }
 
--- the last response, again
+-- the answer again to a request that comes again is the last response, which must be sent unless it is a 100
 replies-only : {X : Type 0} (x : X) (last : List ℕ) (is : Bool) → IsTrue is ↔ Is100 last → (y : After X) → Replies x last y ↔ (y ≡ (x, gains (not is) last))
 replies-only x last true tells y =
     (λ h. elim h [ inl must ↦ absurd (must.0 (tells.0 refl)) | inr may ↦ may.1 ], λ e. inr (tells.0 refl, e))
 replies-only x last false tells y =
     (λ h. elim h [ inl must ↦ must.1 | inr may ↦ absurd (true≢false (sym (tells.1 may.0))) ], λ e. inl ((λ is. true≢false (sym (tells.1 is))), e))
 
+-- where a request comes again, the turn that gains its last response anew is the only one
 pub Replies-one : {S X : Type 0} (names : S → List ℕ) (InRange : S → Type 0) (seen : Texts → S → X) (texts : Texts) (x : S) (last : ℕ) (is : Bool) →
     IsTrue is ↔ Is100 (text_of texts last) → Knows names texts x → Keeps texts last → InRange x →
     IsTheOne (turn_names names) (TurnInRange InRange) (turn_seen seen) texts (Replies (seen texts x) (text_of texts last))
@@ -45,7 +46,7 @@ Replies-one names InRange seen texts x last is tells known kept fits =
     Gains-one names InRange seen texts (Replies (seen texts x) (text_of texts last)) x (not is) last (replies-only (seen texts x) (text_of texts last) is tells)
     known kept fits
 
--- the first debt that a send pays, by its number
+-- where the first debt that a send of the message n pays is found, it is the first whose message has the same bytes
 pub FindsFirst-equal : (texts : Texts) (n t : ℕ) (debts : List Debt) (message : Option ℕ) → IsBook texts → Keeps texts n → All (Keeps texts) (owes_names debts) →
     FindsFirst (λ debt. IsTrue (is_payable n t debt)) t debts message → FindsFirst (PaysFor (λ message. message ≡ text_of texts n) texts t) t debts message
 FindsFirst-equal texts n t debts message book kept known finds =

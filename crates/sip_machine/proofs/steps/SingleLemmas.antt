@@ -1,4 +1,4 @@
--- When no state of the code, or one alone, stands for all to which an event leads.
+-- No state of the code, or one alone, stands for all to which an event leads.
 use Rattle.std.proofs.Common.{◌≡◌, inl, inr, ℕ, List, [], ◌∷◌, refl, arith}
 use Rattle.std.proofs.lemmas.List.Elements.{All-nil, All-cons, Contains-push, Contains-push_cases}
 use Rattle.sip_machine.specs.Texts.{Texts}
@@ -18,7 +18,7 @@ StandFor-none {X} {S} names InRange seen texts P none =
       in_range = All-nil InRange;
     }
 
--- the only state stands for itself
+-- a state of the code that stands for the only one of which P holds stands for P by itself
 pub StandFor-one : {X S : Type 0} (names : S → List ℕ) (InRange : S → Type 0) (seen : Texts → S → X)
     (texts : Texts) (P : X → Type 0) (s : S) →
     IsTheOne names InRange seen texts P s → StandFor names InRange seen texts P (s ∷ [])

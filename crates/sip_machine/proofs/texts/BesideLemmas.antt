@@ -1,4 +1,4 @@
--- Rising numbers of which others are a part: where both have as many between two bounds, they are the same there.
+-- Rising numbers and a part of them: where both have as many between two bounds, they are the same there.
 use Prim.Native.Nat.{zero, suc}
 use Rattle.std.specs.Prelude.{◌≡◌, ◌≢◌, ◌<◌, ◌≤◌, ◌+◌, ◌-◌, ◌&&◌, ℕ, Bool, true, false, List, [], ◌∷◌, AllPairs, Contains, length, map, nat_le, nat_lt}
 use Rattle.std.specs.List.{count_by}
@@ -12,7 +12,7 @@ use Rattle.std.proofs.lemmas.List.Sums.{sum_by-cons, get_or-le-sum_by}
 use Rattle.sip_machine.specs.inner.Tos.{count_between}
 use Rattle.sip_machine.proofs.texts.TextLaws.{Contains-nil, Contains-cons_cases}
 
--- what rises does not fall
+-- where the values that f gives rise along a list, they never fall
 pub rises_weakly : {X : Type 0} (f : X → ℕ) (xs : List X) → AllPairs (λ a b. f a < f b) xs → IsNonDecreasingBy f xs
 rises_weakly f xs up = λ i j d le low. elim (cases_lt i j) [
   | inl less ↦ (let lt = up i j d less low in omega (arith, lt))
@@ -21,7 +21,7 @@ rises_weakly f xs up = λ i j d le low. elim (cases_lt i j) [
       subst (λ k. f (get_or xs i d) ≤ f (get_or xs k d)) same (omega arith)
 ]
 
--- what rises after a map rises before it
+-- where the values of a mapped list rise, those of the list rise
 pub AllPairs-of_map : {X Y : Type 0} (f : X → Y) (g : Y → ℕ) (xs : List X) → AllPairs (λ a b. g a < g b) (map f xs) → AllPairs (λ a b. g (f a) < g (f b)) xs
 AllPairs-of_map f g xs up = λ i j d lt low.
     let high : j < length (map f xs) = rw length-map low in
@@ -32,11 +32,11 @@ pub map-map : {X Y : Type 0} (f : X → Y) (g : Y → ℕ) (xs : List X) → map
 map-map f g [] = refl
 map-map f g (x ∷ xs) = ap (λ ns. g (f x) ∷ ns) (map-map f g xs)
 
--- how many pass among one more
+-- of x and others, those that pass are one more where x passes, and else as many as of the others
 count-cons : {X : Type 0} (p : X → Bool) (x : X) (xs : List X) → count_by p (x ∷ xs) ≡ cond (p x) 1 0 + count_by p xs
 count-cons p x xs = sum_by-cons (λ x. cond (p x) 1 0) x xs
 
--- as many pass as stand before the point
+-- as many elements pass as stand before the point at which they stop to pass
 pub count-parted : {X : Type 0} (p : X → Bool) (xs : List X) (i : ℕ) → i ≤ length xs → IsPartitionPoint (λ x. p x ≡ true) (λ x. p x ≡ false) xs i → count_by p xs ≡ i
 count-parted p [] i low parts = omega (arith, low)
 count-parted p (x ∷ xs) zero low parts =
@@ -49,12 +49,12 @@ count-parted p (x ∷ xs) (suc i) low parts =
     let next : 1 + i ≡ suc i = omega arith in
     count-cons p x xs ∙ ap₂ (λ b n. cond b 1 0 + n) here rest ∙ next
 
--- as many things pass as their numbers do
+-- as many elements pass by their numbers as numbers pass
 count-map : {X : Type 0} (f : X → ℕ) (p : ℕ → Bool) (xs : List X) → count_by p (map f xs) ≡ count_by (λ x. p (f x)) xs
 count-map f p [] = refl
 count-map f p (x ∷ xs) = count-cons p (f x) (map f xs) ∙ ap (λ n. cond (p (f x)) 1 0 + n) (count-map f p xs) ∙ sym (count-cons (λ x. p (f x)) x xs)
 
--- between two points
+-- as many elements as stand between the point of low and that of high have numbers between the two
 pub count_between-parted : {X : Type 0} (f : X → ℕ) (xs : List X) (low high from to : ℕ) → from ≤ length xs → to ≤ length xs →
     IsPartitionPoint (λ x. nat_lt (f x) low ≡ true) (λ x. nat_lt (f x) low ≡ false) xs from → IsPartitionPoint (λ x. nat_le (f x) high ≡ true) (λ x. nat_le (f x) high ≡ false) xs to →
     to - from ≡ count_between low high (map f xs)
@@ -63,7 +63,7 @@ count_between-parted f xs low high from to within within' parts parts' =
     (count-map f (λ n. nat_le n high) xs ∙ count-parted (λ x. nat_le (f x) high) xs to within' parts')
     (count-map f (λ n. nat_lt n low) xs ∙ count-parted (λ x. nat_lt (f x) low) xs from within parts))
 
--- those between, one by one
+-- the number is from low up to high
 abbrev pub between : ℕ → ℕ → ℕ → Bool
 between low high n = nat_le low n && nat_le n high
 
@@ -76,6 +76,7 @@ many low high ns = count_by (between low high) ns
 one-is : (low high n : ℕ) → low ≤ high → cond (between low high n) 1 0 + cond (nat_lt n low) 1 0 ≡ cond (nat_le n high) 1 0
 one-is low high n le = grind (arith, nat_tests)
 
+-- the numbers from low up to high, and those below low, are those up to high
 many-is : (low high : ℕ) (ns : List ℕ) → low ≤ high → many low high ns + count_by (λ n. nat_lt n low) ns ≡ count_by (λ n. nat_le n high) ns
 many-is low high [] le = refl
 many-is low high (n ∷ ns) le =
@@ -86,12 +87,13 @@ many-is low high (n ∷ ns) le =
     let e = count-cons (λ n. nat_le n high) n ns in
     omega (arith, one, rest, a, b, e)
 
+-- those up to high without those below low are the numbers from low up to high
 pub count_between-is : (low high : ℕ) (ns : List ℕ) → low ≤ high → count_between low high ns ≡ many low high ns
 count_between-is low high ns le =
     let all = many-is low high ns le in
     omega (arith, all)
 
--- one of them counts
+-- where one of the numbers is from low up to high, there are some
 many-some : (low high : ℕ) (ns : List ℕ) (n : ℕ) → Contains ns n → low ≤ n → n ≤ high → 0 < many low high ns
 many-some low high ns n (k, within, at) le le' =
     let some = get_or-le-sum_by (λ n. cond (between low high n) 1 0) ns k n within in
@@ -99,14 +101,14 @@ many-some low high ns n (k, within, at) le le' =
     let one : one_of (between low high (get_or ns k n)) ≡ 1 = ap (λ m. one_of (between low high m)) at ∙ ap one_of here in
     omega (arith, some, one)
 
--- what rises from a number on is above it
+-- a number after n in a list that rises is above n
 above : (n : ℕ) (ns : List ℕ) (m : ℕ) → AllPairs (λ a b. a < b) (n ∷ ns) → Contains ns m → n < m
 above n ns m up (k, within, at) = subst (λ x. n < x) at (up 0 (suc k) m (omega arith) (omega (arith, within)))
 
 rest_rises : (n : ℕ) (ns : List ℕ) → AllPairs (λ a b. a < b) (n ∷ ns) → AllPairs (λ a b. a < b) ns
 rest_rises n ns up = λ i j d lt low. up (suc i) (suc j) d (omega (arith, lt)) (omega (arith, low))
 
--- each number is among others after their first one, where that is below it
+-- where each number of ms is n or one of ns, and none is n, each is one of ns
 among_rest : (n : ℕ) (ns ms : List ℕ) → ((m : ℕ) → Contains ms m → Contains (n ∷ ns) m) → ((m : ℕ) → Contains ms m → n ≢ m) → (m : ℕ) → Contains ms m → Contains ns m
 among_rest n ns ms all other m has =
     elim (Contains-cons_cases n ns m (all m has)) [
@@ -120,7 +122,7 @@ tail_in m ms x has = Contains-append_right (m ∷ []) ms x has
 head_in : (m : ℕ) (ms : List ℕ) → Contains (m ∷ ms) m
 head_in m ms = (0, omega arith, refl)
 
--- where the first of the others is none of these, all are after it
+-- where ms rises, and each of it is one of n and ns, which rise, and its first is not n, each of it is one of ns
 all_behind : (n m : ℕ) (ns ms : List ℕ) → AllPairs (λ a b. a < b) (n ∷ ns) → AllPairs (λ a b. a < b) (m ∷ ms) → ((x : ℕ) → Contains (m ∷ ms) x → Contains (n ∷ ns) x) → n ≢ m →
     (x : ℕ) → Contains (m ∷ ms) x → Contains ns x
 all_behind n m ns ms up up' all other =
@@ -131,7 +133,7 @@ all_behind n m ns ms up up' all other =
       | inr rest ↦ (let lt = above m ms x up' rest in omega (arith, low, same, lt))
     ])
 
--- fewer numbers are no more between two
+-- where each number of ms is one of ns, and both rise, no more of ms than of ns are from low up to high
 many-among : (low high : ℕ) (ns ms : List ℕ) → AllPairs (λ a b. a < b) ns → AllPairs (λ a b. a < b) ms → ((x : ℕ) → Contains ms x → Contains ns x) → many low high ms ≤ many low high ns
 many-among low high [] [] up up' all = omega arith
 many-among low high [] (m ∷ ms) up up' all = absurd (Contains-nil m (all m (head_in m ms)))
@@ -150,7 +152,7 @@ many-among low high (n ∷ ns) (m ∷ ms) up up' all =
           omega (arith, a, rest)
     ]
 
--- where they are as many, they are the same between the two
+-- where ms are a part of ns, both rise, and as many of both are from low up to high, each of ns that is so is one of ms
 pub among-all : (low high : ℕ) (ns ms : List ℕ) → AllPairs (λ a b. a < b) ns → AllPairs (λ a b. a < b) ms → ((x : ℕ) → Contains ms x → Contains ns x) →
     many low high ns ≤ many low high ms → (x : ℕ) → Contains ns x → low ≤ x → x ≤ high → Contains ms x
 among-all low high [] ms up up' all few x has le le' = absurd (Contains-nil x has)

@@ -1,4 +1,4 @@
--- The newest message of a book: its place is put into the order later than it comes, or it is forgotten before.
+-- The newest message of a book, which has no place in the order until the next one comes, or is forgotten before that.
 use Rattle.std.specs.Prelude.{◌≡◌, ◌≢◌, ◌<◌, ◌+◌, ◌-◌, ◌⊎◌, ℕ, Bool, true, false, Option, Some, None, is_some, List, [], ◌∷◌, ◌++◌, All, AllPairs, map, length, take}
 use Rattle.std.specs.List.{insert, filter_map}
 use Rattle.std.proofs.Common.{inl, inr, refl, sym, ◌∙◌, ap, subst, arith, get_or}
@@ -28,13 +28,13 @@ module _ (texts : Texts) (number : ℕ) (bytes : List ℕ) (book : IsBook (texts
   long : length grown ≡ length texts + 1
   long = length-append texts ((number, bytes) ∷ [])
 
-  -- the newest message comes last
+  -- the newest message is the last of the book
   last_is : get_or grown (length texts) (0, []) ≡ (number, bytes)
   last_is =
       let here : length texts ≡ length texts + 0 = omega arith in
       ap (λ n. get_or grown n (0, [])) here ∙ get_or-append-add texts ((number, bytes) ∷ []) 0 (0, [])
 
-  -- its number is above those of the others
+  -- the number of the newest message is above those of all others
   pub newest_above : (n : ℕ) → Keeps texts n → n < number
   newest_above n keeps =
       let (k, low, is) = kept_place texts n keeps in
@@ -44,7 +44,7 @@ module _ (texts : Texts) (number : ℕ) (bytes : List ℕ) (book : IsBook (texts
       let other = ap first last_is in
       omega (arith, less, one, other, is)
 
-  -- no kept message before the newest has its bytes
+  -- no other message that is kept has the bytes of the newest
   pub newest_other : (n : ℕ) → Keeps texts n → text_of texts n ≢ bytes
   newest_other n keeps same =
       let less = newest_above n keeps in
@@ -52,7 +52,7 @@ module _ (texts : Texts) (number : ℕ) (bytes : List ℕ) (book : IsBook (texts
       (text_of-grow texts number bytes n keeps ∙ same ∙ sym (text_of-added texts number bytes newest_above)) in
       omega (arith, less, equal)
 
-  -- the others are a book
+  -- the messages without the newest are a book
   pub IsBook-front : IsBook texts
   IsBook-front = record {
     rising = λ i j d lt low.
@@ -66,13 +66,13 @@ module _ (texts : Texts) (number : ℕ) (bytes : List ℕ) (book : IsBook (texts
         (text_of-grow texts number bytes a keeps_a ∙ same ∙ sym (text_of-grow texts number bytes b keeps_b));
   }
 
-  -- no message before the newest is found by the bytes of the newest
+  -- no message before the newest has its bytes
   pub none_found : (position : ℕ) → position < length texts → bytes_at texts position ≢ bytes
   none_found position low same =
       let x = get_or texts position (0, []) in
       newest_other x.0 (Keeps-at texts position x low (get_or_default texts position (0, []) x low)) (text_of-at texts position x IsBook-front.rising low (get_or_default texts position (0, []) x low) ∙ same)
 
-  -- Tos of older messages stay
+  -- the Tos of messages before the newest are those of the book without it
   pub AreTos-front : (tos : List To) → All (λ to. to.number < number) tos → AreTos grown tos → AreTos texts tos
   AreTos-front tos below all = record {
     each = λ k d low.
@@ -86,43 +86,38 @@ module _ (texts : Texts) (number : ℕ) (bytes : List ℕ) (book : IsBook (texts
       go to under is (inl keeps) = record { kept = keeps; text = subst (λ b. IsToOf b to.text) (text_of-grow texts number bytes to.number keeps) is.text }
       go to under is (inr same) = absurd (omega (arith, under, same))
 
--- Its place among those of the others.
+-- What follows is of the place of the newest message among those of the others.
 
--- those whose places stand in the order while its does not
+-- of a list and one element after it, the placed ones are the list
 pub placed_front : (front : Texts) (x : ℕ × List ℕ) → placed true (front ++ x ∷ []) ≡ front
 placed_front front x =
     let size : length (front ++ x ∷ []) - 1 ≡ length front = (let long = length-append front (x ∷ []) in omega (arith, long)) in
     ap (λ n. take n (front ++ x ∷ [])) size ∙ take-append_seam front (x ∷ [])
 
--- where no message is kept, none has a place
-pub placed_none : (texts : Texts) → length texts ≡ 0 → placed true texts ≡ texts
-placed_none [] none = refl
-placed_none (x ∷ texts) none = absurd (omega (arith, none))
-
--- the messages of the code, with the newest one last
+-- the messages that the code keeps are the others and the newest one after them
 pub texts_split : (kept others : List KeptMessage) (newest : KeptMessage) → kept ≡ others ++ newest ∷ [] → texts_of kept ≡ texts_of others ++ (newest.number, newest.bytes.items) ∷ []
 texts_split kept others newest is = ap texts_of is ∙ map-append (λ k. (k.number, k.bytes.items)) others (newest ∷ [])
 
 module _ (kept others : List KeptMessage) (newest : KeptMessage) (is : kept ≡ others ++ newest ∷ []) where
-  -- the others are those that have a place
+  -- the messages that have a place are all but the newest
   pub placed_others : placed true (texts_of kept) ≡ texts_of others
   placed_others = ap (placed true) (texts_split kept others newest is) ∙ placed_front (texts_of others) (newest.number, newest.bytes.items)
 
-  -- none of them is found by the bytes of the newest
+  -- no message that has a place has the bytes of the newest
   pub never_found : IsBook (texts_of kept) → (position : ℕ) → position < length others → bytes_at (texts_of others) position ≡ newest.bytes.items → ⊥
   never_found book position low same =
       none_found (texts_of others) newest.number newest.bytes.items (subst IsBook (texts_split kept others newest is) book) position (rw length-map low) same
 
-  -- the others stand in the runs
+  -- where all messages but the newest stand in the runs, the others do
   pub others_stand : (loose : Bool) (runs : List PlaceRun) → loose ≡ true → IsInRuns (placed loose (texts_of kept)) runs → IsInRuns (texts_of others) runs
   others_stand loose runs true_is order = subst (λ ts. IsInRuns ts runs) (ap (λ b. placed b (texts_of kept)) true_is ∙ placed_others) order
 
--- where the newest stands in no run yet, the others do
+-- where the newest stands in no run yet, all that have a place do
 pub stand_placed : (texts : Texts) (runs : List PlaceRun) (loose : Option Loose) → StandInRuns texts runs loose → IsInRuns (placed (is_some loose) texts) runs
 stand_placed texts runs None stand = stand
 stand_placed texts runs (Some newest) is = subst (λ ts. IsInRuns ts runs) (sym (ap (placed true) is.last ∙ placed_front is.others (is.number, is.bytes))) is.order
 
--- its place in its gap is among theirs
+-- where the newest is put into its gap, all messages stand in the runs
 pub newest_placed : (texts : Texts) (runs now : List PlaceRun) (newest : Loose) (position : ℕ) → IsLoose texts runs newest → position ≡ length texts - 1
     → places_of now ≡ insert (places_of runs) (index_of runs newest.gap) (record { hash = newest.hash; position = position }) → IsOrder texts (places_of now)
 newest_placed texts runs now newest position is at put =
@@ -137,12 +132,12 @@ newest_placed texts runs now newest position is at put =
     subst (λ ts. IsOrder ts (places_of now)) (sym is.last)
     (subst (IsOrder (front ++ (is.number, bytes) ∷ [])) (ap (λ h. insert places i (place h (length front))) (sym is.hash) ∙ ap (λ p. insert places i (place newest.hash p)) here ∙ sym put) grown)
 
--- What a book keeps, and how it stands in order.
+-- What follows is of what a book keeps, and of the order in which it stands.
 
 abbrev pub IsKept : Texts → List PlaceRun → Option Loose → List To → Type 0
 IsKept texts runs loose tos = IsBook texts × StandInRuns texts runs loose × AreTos texts tos
 
--- a book keeps bytes that it did not have as its newest message
+-- where a book keeps bytes that it did not have, as its newest message that stands in no run yet, it keeps all that it must
 pub kept_newest : (old new : Texts) (runs : List PlaceRun) (tos : List To) (number : ℕ) (bytes : List ℕ) (newest : Loose) → IsBook old → IsInRuns old runs → AreTos old tos
     → ((n : ℕ) → Keeps old n → n < number) → newest.hash ≡ hash_of bytes → IsGap old (newest.hash, bytes) (places_of runs) (index_of runs newest.gap)
     → (0 < length runs → IsInside runs newest.gap) → new ≡ old ++ (number, bytes) ∷ [] → IsKept new runs (Some newest) tos
@@ -154,7 +149,7 @@ kept_newest old new runs tos number bytes newest book order beside above hashed 
       subst (λ ts. AreTos ts tos) (sym is) (AreTos-grow old number bytes tos beside),
     )
 
--- a book keeps what is left of it where the newest message went again
+-- where the newest message goes, which stands in no run yet, the book keeps all that it must without it
 pub kept_front : (old new : Texts) (runs : List PlaceRun) (tos : List To) (number : ℕ) (bytes : List ℕ) (loose : Option Loose) → is_some loose ≡ true → IsKept old runs loose tos
     → All (λ to. to.number < number) tos → old ≡ new ++ (number, bytes) ∷ [] → IsKept new runs None tos
 kept_front old new runs tos number bytes None some kept below is = absurd (false≢true some)
@@ -164,21 +159,22 @@ kept_front old new runs tos number bytes (Some newest) some kept below is =
     let same : stands.others ≡ new = sym (placed_front stands.others (stands.number, stands.bytes)) ∙ ap (placed true) (sym stands.last ∙ is) ∙ placed_front new (number, bytes) in
     (IsBook-front new number bytes book, subst (λ ts. IsInRuns ts runs) same stands.order, AreTos-front new number bytes book tos below (subst (λ ts. AreTos ts tos) is beside))
 
--- What is left in order where the newest of the messages that stay gets its place later.
+-- What follows is of what is left in order where the newest of the messages that stay has no place yet.
 
 module _ (texts : Texts) (number : ℕ) (bytes : List ℕ) (book : IsBook (texts ++ (number, bytes) ∷ [])) (numbers : List ℕ) (up : AllPairs (λ a b. a < b) numbers)
     (kept : All (Keeps (texts ++ (number, bytes) ∷ [])) numbers) where
-  -- all of them but the last
+  -- the numbers that stay, without the last
   abbrev earlier : List ℕ
   earlier = placed true numbers
 
+  -- the number at a place among those without the last is the one there, and one stands after it
   at_earlier : (k d : ℕ) → k < length earlier → (k + 1 < length numbers) × (get_or earlier k d ≡ get_or numbers k d)
   at_earlier k d low =
       let size : length earlier ≡ length numbers - 1 = length-take-le (length numbers - 1) numbers (omega arith) in
       let under : k < length numbers - 1 = omega (arith, low, size) in
       (omega (arith, under), get_or-take (length numbers - 1) numbers k d under)
 
-  -- each is of a message before the newest
+  -- each number that stays, without the last, is of a message before the newest
   earlier_kept : All (Keeps texts) earlier
   earlier_kept k d low =
       let (under, is) = at_earlier k d low in
@@ -189,6 +185,7 @@ module _ (texts : Texts) (number : ℕ) (bytes : List ℕ) (book : IsBook (texts
       go (inr same) (inl keeps) less = absurd (let above = newest_above texts number bytes book (get_or numbers (k + 1) d) keeps in omega (arith, above, same, less))
       go (inr same) (inr next) less = absurd (omega (arith, same, next, less))
 
+  -- the numbers without the last rise
   earlier_up : AllPairs (λ a b. a < b) earlier
   earlier_up i j d lt low =
       let (under, is) = at_earlier j d low in
@@ -196,7 +193,7 @@ module _ (texts : Texts) (number : ℕ) (bytes : List ℕ) (book : IsBook (texts
       let less = up i j d lt (omega (arith, under)) in
       omega (arith, is, was, less)
 
-  -- with the same bytes
+  -- the messages with numbers before the newest are the same with it and without it
   only_grown : (ns : List ℕ) → All (Keeps texts) ns → only ns (texts ++ (number, bytes) ∷ []) ≡ only ns texts
   only_grown [] all = refl
   only_grown (n ∷ ns) all =
@@ -209,18 +206,19 @@ module _ (texts : Texts) (number : ℕ) (bytes : List ℕ) (book : IsBook (texts
       let f : ℕ → ℕ × List ℕ = λ n. (n, text_of (texts ++ (number, bytes) ∷ []) n) in
       sym (only_grown earlier earlier_kept) ∙ sym (take-map f (length numbers - 1) numbers) ∙ ap (λ n. take (n - 1) (map f numbers)) (sym (length-map numbers f))
 
+  -- the places that are moved for the messages before the last that stays are in order
   newest_order : (places : List Place) → IsOrder texts places → IsOrder (placed true (only numbers (texts ++ (number, bytes) ∷ []))) (filter_map (moved texts earlier) places)
   newest_order places order =
       subst (λ ts. IsOrder ts (filter_map (moved texts earlier) places)) only_earlier
       (IsOrder-only texts earlier (IsBook-front texts number bytes book) earlier_up earlier_kept places order)
 
--- a book that has messages has a newest one
+-- a book that has messages is those without the newest, and the newest
 split_last : (texts : Texts) (last : ℕ) → length texts ≡ last + 1 → texts ≡ placed true texts ++ get_or texts last (0, []) ∷ []
 split_last texts last size =
     let before : last ≡ length texts - 1 = omega (arith, size) in
     sym (take_all (last + 1) texts (omega (arith, size))) ∙ take_more texts last (0, []) (omega (arith, size)) ∙ ap (λ n. take n texts ++ get_or texts last (0, []) ∷ []) before
 
--- their numbers rise as all do
+-- numbers that rise do so without the last
 pub placed_up : (loose : Bool) (numbers : List ℕ) → AllPairs (λ a b. a < b) numbers → AllPairs (λ a b. a < b) (placed loose numbers)
 placed_up false numbers up = up
 placed_up true numbers up = AllPairs-take (λ a b. a < b) (length numbers - 1) numbers up
@@ -232,7 +230,7 @@ placed_texts true kept =
     let text : KeptMessage → ℕ × List ℕ = λ k. (k.number, k.bytes.items) in
     sym (take-map text (length kept - 1) kept) ∙ ap (λ n. take (n - 1) (map text kept)) (sym (length-map kept text))
 
--- the places of the messages that stay are in order
+-- where some messages stay, the places of those that have one are in order
 pub retained_order : (loose : Bool) (texts : Texts) (numbers : List ℕ) → IsBook texts → AllPairs (λ a b. a < b) numbers → All (Keeps texts) numbers → (places : List Place)
     → IsOrder (placed loose texts) places → IsOrder (placed loose (only numbers texts)) (filter_map (moved (placed loose texts) (placed loose numbers)) places)
 retained_order false texts numbers book up kept places order = IsOrder-only texts numbers book up kept places order

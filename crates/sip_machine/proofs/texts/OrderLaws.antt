@@ -1,4 +1,4 @@
--- Laws of the order in which a book finds equal bytes.
+-- Laws of the order of hashes and bytes in which a book finds equal bytes.
 use Rattle.std.specs.Prelude.{◌≡◌, ◌≢◌, ◌<◌, ◌≤◌, ◌+◌, ◌-◌, ◌⊎◌, ℕ, List, [], ◌∷◌, ◌++◌, All, AllPairs, Contains, map, length}
 use Rattle.std.specs.List.{insert, drop-map, AllWithin}
 use Rattle.std.specs.List.Sorted.{IsNonDecreasingBy, IsPartitionPoint}
@@ -17,17 +17,16 @@ use Rattle.std.proofs.lemmas.List.{map-append, get_or_append_left, get_or-append
 use Rattle.std.proofs.lemmas.List.Edits.{length-insert, get_or-insert_below, get_or-insert_at, get_or-insert_above}
 use Rattle.std.proofs.lemmas.List.Elements.{All-get_or, All-from_get_or, All-append, All-cons, All-take, All-drop, All-weaker, All-from_all_within, Contains-append_left, Contains-append_right, Contains-append_cases, Contains-get_or}
 use Rattle.std.proofs.lemmas.List.Sorted.{searchable_from_sorted}
-use Rattle.sip_machine.specs.Texts.{Texts, IsBook, Keeps}
+use Rattle.sip_machine.specs.Texts.{Texts}
 use Rattle.sip_machine.specs.declared.book.KeptMessage.{KeptMessage}
 use Rattle.sip_machine.specs.declared.book.Place.{Place}
 use Rattle.sip_machine.specs.inner.Order.{texts_of, hash_of, bytes_at, key_of, compare, IsPlace, IsOrder, IsGap}
-use Rattle.sip_machine.proofs.texts.TextLaws.{text_of-none, IsBook-grow}
 
--- hashes and bytes are ordered
+-- hash and bytes are ordered totally
 pub compare-total : IsTotalOrder compare
 compare-total = then_total (on_total (λ key. key.0) nat_cmp_total) (on_total (λ key. key.1) nat_list_cmp_total)
 
--- each pair of an insert stood there, or has the new element in it
+-- where R relates each pair of a list, each element before place i to y, and y to each from there on, it relates each pair with y inserted at i
 pub AllPairs-insert : {X : Type 0} (R : X → X → Type 0) (xs : List X) (i : ℕ) (y : X) → i ≤ length xs → AllPairs R xs →
     AllWithin (λ x. R x y) xs 0 i → AllWithin (λ x. R y x) xs i (length xs) → AllPairs R (insert xs i y)
 AllPairs-insert R xs i y within pairs before after a b d lt end =
@@ -53,7 +52,7 @@ AllPairs-insert R xs i y within pairs before after a b d lt end =
       ]
     ]
 
--- a search by halves goes right among places in order
+-- places in order never fall in how they compare with a key, so that a search by halves finds the key among them
 pub searchable : (texts : Texts) (places : List Place) (key : ℕ × List ℕ) →
     AllPairs (λ a b. compare (key_of texts a) (key_of texts b) ≡ Less) places →
     IsNonDecreasingBy (λ place. ordering_index (compare (key_of texts place) key)) places
@@ -63,20 +62,20 @@ searchable texts places key rising =
     let less = rising k (k + 1) d (omega arith) high in
     ap is_lt (compare-total.antisymm (key_of texts (get_or places (k + 1) d)) (key_of texts (get_or places k d)) ∙ ap ordering_reverse less))
 
--- nothing comes before or after itself
+-- an answer that two things are equal is neither that the one is less nor that it is greater
 never-equal : (o : Ordering) → o ≡ Equal → (o ≡ Less) ⊎ (o ≡ Greater) → ⊥
 never-equal Less equal other = absurd (omega (arith, ap ordering_index equal))
 never-equal Equal equal (inl less) = absurd (omega (arith, ap ordering_index less))
 never-equal Equal equal (inr greater) = absurd (omega (arith, ap ordering_index greater))
 never-equal Greater equal other = absurd (omega (arith, ap ordering_index equal))
 
--- the second of two answers, where both say that nothing differs
+-- where two comparisons in turn say that nothing differs, the second one does
 then-equal : (a b : Ordering) → ordering_then a b ≡ Equal → b ≡ Equal
 then-equal Less b e = absurd (omega (arith, ap ordering_index e))
 then-equal Equal b e = e
 then-equal Greater b e = absurd (omega (arith, ap ordering_index e))
 
--- places that tie have the same bytes
+-- two messages that compare as equal have the same bytes
 pub same_bytes : (a b : ℕ × List ℕ) → compare a b ≡ Equal → a.1 ≡ b.1
 same_bytes a b e =
     (bytes_eq-Decides a.1 b.1).0 (sym (is_eq-slice_cmp a.1 b.1) ∙ ap is_eq (then-equal (nat_cmp a.0 b.0) (slice_cmp nat_cmp a.1 b.1) e))
@@ -86,14 +85,14 @@ bytes_at-grow : (texts : Texts) (text : ℕ × List ℕ) (position : ℕ) → po
     bytes_at (texts ++ text ∷ []) position ≡ bytes_at texts position
 bytes_at-grow texts text position low = ap (λ t. t.1) (get_or_append_left texts (text ∷ []) (0, []) position low)
 
--- the bytes of the added message
+-- the bytes at the place after all messages are those of the message that is added
 bytes_at-added : (texts : Texts) (number : ℕ) (bytes : List ℕ) → bytes_at (texts ++ (number, bytes) ∷ []) (length texts) ≡ bytes
 bytes_at-added texts number bytes =
     let grown : Texts = texts ++ (number, bytes) ∷ [] in
     let last : length texts ≡ length texts + 0 = omega arith in
     ap (λ t. t.1) (ap (λ n. get_or grown n (0, [])) last ∙ get_or-append-add texts ((number, bytes) ∷ []) 0 (0, []))
 
--- a place that ties with a message has its bytes
+-- a place that compares as equal to a key is that of a message with the key's bytes
 pub found : (texts : Texts) (places : List Place) (key : ℕ × List ℕ) (at : ℕ) (d : Place) → IsOrder texts places → at < length places →
     compare (key_of texts (get_or places at d)) key ≡ Equal →
     ((get_or places at d).position < length texts) × (bytes_at texts (get_or places at d).position ≡ key.1)
@@ -102,7 +101,7 @@ found texts places key at d order low equal = (
   same_bytes (key_of texts (get_or places at d)) key equal,
 )
 
--- where there is a gap, no message has the bytes
+-- where the places have a gap for some bytes, no message has them
 pub none_in_gap : (texts : Texts) (places : List Place) (bytes : List ℕ) (i : ℕ) → IsOrder texts places →
     IsGap texts (hash_of bytes, bytes) places i → All (λ kept. kept.1 ≢ bytes) texts
 none_in_gap texts places bytes i order gap =
@@ -123,7 +122,7 @@ none_in_gap texts places bytes i order gap =
       | inr from ↦ inr (gap.after j none from within)
     ]))
 
--- an element of a list is one of the list with another one inserted
+-- an element of a list is in the list with another one inserted
 Contains-insert : {X : Type 0} (xs : List X) (i : ℕ) (y x : X) → Contains xs x → Contains (insert xs i y) x
 Contains-insert xs i y x has =
     elim (Contains-append_cases (take i xs) (drop i xs) x (rw take-append-drop has)) [
@@ -135,11 +134,11 @@ Contains-insert xs i y x has =
 Contains-inserted : {X : Type 0} (xs : List X) (i : ℕ) (y : X) → Contains (insert xs i y) y
 Contains-inserted xs i y = Contains-append_right (take i xs) (y ∷ drop i xs) y (Contains-get_or (y ∷ drop i xs) 0 y (omega arith))
 
--- what a map gives of a list with an element inserted
+-- a map of a list with y inserted is the map of the list with the map of y inserted
 map-insert : {X Y : Type 0} (f : X → Y) (xs : List X) (i : ℕ) (y : X) → map f (insert xs i y) ≡ insert (map f xs) i (f y)
 map-insert f xs i y = rw (map-append, take-map, drop-map) refl
 
--- the order of a book that has gained a message in the gap of its bytes
+-- where the place of a message is inserted in the gap of its bytes, the places are the order of the book with the message
 pub IsOrder-grow : (texts : Texts) (places : List Place) (number : ℕ) (bytes : List ℕ) (i : ℕ) → IsOrder texts places →
     IsGap texts (hash_of bytes, bytes) places i →
     IsOrder (texts ++ (number, bytes) ∷ []) (insert places i (record { hash = hash_of bytes; position = length texts }))
@@ -170,7 +169,7 @@ IsOrder-grow texts places number bytes i order gap =
       ];
     }
 
--- a search by halves goes right among messages in the order of their numbers
+-- messages in the order of their numbers never fall in how they compare with a number, so that a search by halves finds it among them
 pub numbers_searchable : (kept : List KeptMessage) (number : ℕ) → AllPairs (λ a b. a.0 < b.0) (texts_of kept) →
     IsNonDecreasingBy (λ k. ordering_index (nat_cmp k.number number)) kept
 numbers_searchable kept number rising =
@@ -182,7 +181,7 @@ numbers_searchable kept number rising =
     let less = rw (first, second) at (rising k (k + 1) (text d) (omega arith) (rw length-map high)) in
     grind (arith, nat_tests))
 
--- a number that no message before or after a gap has is none
+-- where all messages before a point have a lower number, and all from there on a higher one, none has the number
 pub no_number : (kept : List KeptMessage) (number i : ℕ) →
     IsPartitionPoint (λ k. nat_cmp k.number number ≡ Less) (λ k. nat_cmp k.number number ≡ Greater) kept i → All (λ k. k.number ≢ number) kept
 no_number kept number i parted =
@@ -193,32 +192,13 @@ no_number kept number i parted =
       | inr from ↦ inr (parted.1 k d from high)
     ]))
 
--- the bytes at a kept message's position
+-- the bytes at a position of the code's messages are those of the message there
 pub bytes_at-kept : (kept : List KeptMessage) (position : ℕ) (k : KeptMessage) → position < length kept → k ≡ get_or kept position k →
     bytes_at (texts_of kept) position ≡ k.bytes.items
 bytes_at-kept kept position k low is =
     ap (λ (t : ℕ × List ℕ). t.1) (get_or-map (λ k. (k.number, k.bytes.items)) kept position k (0, []) low) ∙ sym (ap (λ k. k.bytes.items) is)
 
--- what a book keeps, after a message was put into the gap of its bytes
-pub IsKept-grow : (kept grown : List KeptMessage) (places placed : List Place) (entry hash : ℕ) (bytes : List ℕ) (i : ℕ) → hash ≡ hash_of bytes →
-    IsBook (texts_of kept) × IsOrder (texts_of kept) places → ((n : ℕ) → Keeps (texts_of kept) n → n < entry) →
-    IsGap (texts_of kept) (hash, bytes) places i →
-    (texts_of grown ≡ texts_of kept ++ (entry, bytes) ∷ []) × (placed ≡ insert places i (record { hash = hash; position = length kept })) →
-    IsBook (texts_of grown) × IsOrder (texts_of grown) placed
-IsKept-grow kept grown places placed entry hash bytes i hashed book above gap grows =
-    let texts : Texts = texts_of kept in
-    let next : Texts = texts ++ (entry, bytes) ∷ [] in
-    let size : length texts ≡ length kept = rw length-map refl in
-    let gap' : IsGap texts (hash_of bytes, bytes) places i = subst (λ h. IsGap texts (h, bytes) places i) hashed gap in
-    let other = text_of-none texts bytes (none_in_gap texts places bytes i book.1 gap') in
-    let order = IsOrder-grow texts places entry bytes i book.1 gap' in
-    let hashes : IsOrder next (insert places i (record { hash = hash; position = length texts })) =
-    subst (λ h. IsOrder next (insert places i (record { hash = h; position = length texts }))) (sym hashed) order in
-    let positions : IsOrder next (insert places i (record { hash = hash; position = length kept })) =
-    subst (λ n. IsOrder next (insert places i (record { hash = hash; position = n }))) size hashes in
-    rw (grows.0, grows.1) (IsBook-grow texts entry bytes book.0 above other, positions)
-
--- what follows of an answer follows of its value and of its error
+-- what follows of a result's value and follows of its error follows
 pub by_result : {T E G : Type 0} (r : Result T E) {P Q : Type 0} → OnOk r P → OnErr r Q → (P → G) → (Q → G) → G
 by_result (Ok x) ok err from_ok from_err = from_ok ok
 by_result (Err e) ok err from_ok from_err = from_err err

@@ -1,4 +1,4 @@
--- What a book holds once some of its messages alone are kept.
+-- What a book holds once the messages of some numbers alone are kept.
 use Rattle.std.specs.Prelude.{◌≡◌, ◌≢◌, ◌<◌, ◌≤◌, ◌+◌, ◌⊎◌, ℕ, zero, suc, Bool, true, nat_eq, Option, Some, None, List, [], ◌∷◌, ◌++◌, All, AllPairs, Contains, map, length, take, drop}
 use Rattle.std.specs.List.{filter, filter_map, cons_option, SwappedAt}
 use Rattle.std.specs.Option.{option_map}
@@ -10,6 +10,7 @@ use Rattle.std.proofs.lemmas.List.Elements.{All-same, All-push, All-set, All-fil
 use Rattle.std.proofs.lemmas.List.Kept.{AllPairs-cons}
 use Rattle.std.proofs.lemmas.List.Concat.{flat_map-append}
 use Rattle.std.specs.declared.cmp.Ordering.TheVariants.{Less}
+use Rattle.sip_standard.proofs.Few.{AllPairs-head, AllPairs-tail}
 use Rattle.sip_machine.specs.Texts.{Texts, IsBook, Keeps, text_of}
 use Rattle.sip_machine.specs.Retained.{only}
 use Rattle.sip_machine.specs.declared.book.Place.{Place}
@@ -18,35 +19,28 @@ use Rattle.sip_machine.specs.inner.Order.{bytes_at, key_of, compare, hash_of, pl
 use Rattle.sip_machine.specs.inner.Retain.{number_at, place_among, moved, merged}
 use Rattle.sip_machine.proofs.texts.TextLaws.{Contains-nil, Contains-cons_cases, text_of-same, text_of-other, text_of-at, Keeps-at}
 
--- Lists that rise.
+-- What follows is of lists that rise.
 
--- the first of a rising list is below each of the rest
-pub first_below : {X : Type 0} (R : X → X → Type 0) (x : X) (xs : List X) → AllPairs R (x ∷ xs) → All (R x) xs
-first_below R x xs pairs k d low = pairs 0 (suc k) d (omega arith) (omega arith)
-
-pub rest_pairs : {X : Type 0} (R : X → X → Type 0) (x : X) (xs : List X) → AllPairs R (x ∷ xs) → AllPairs R xs
-rest_pairs R x xs pairs i j d lt low = pairs (suc i) (suc j) d (omega arith) (omega arith)
-
--- numbers that rise never fall
+-- numbers that rise never fall from one place to a later one
 pub never_falls : (numbers : List ℕ) → AllPairs (λ a b. a < b) numbers → (i j : ℕ) → i ≤ j → j < length numbers → get_or numbers i 0 ≤ get_or numbers j 0
 never_falls numbers up i j le low =
     elim (cases_lt i j) [ inl lt ↦ (let less = up i j 0 lt low in omega arith) | inr from ↦ (let same : i ≡ j = omega arith in let at = ap (λ k. get_or numbers k 0) same in omega arith) ]
 
--- a book's first number is below those of the rest
+-- the number of the first message of a book is below those of the rest
 pub below_rest : (t : ℕ × List ℕ) (ts : Texts) → AllPairs (λ a b. a.0 < b.0) (t ∷ ts) → (n : ℕ) → Keeps ts n → t.0 < n
 below_rest t ts rising n keeps =
     let low : keeps.0 < length ts = rw length-map at keeps.1 in
     let at : get_or (map (λ k. k.0) ts) keeps.0 n ≡ (get_or ts keeps.0 t).0 = get_or-map (λ k. k.0) ts keeps.0 t n low in
-    let here = first_below (λ a b. a.0 < b.0) t ts rising keeps.0 t low in
+    let here = AllPairs-head (λ a b. a.0 < b.0) t ts rising keeps.0 t low in
     omega (arith, here, at, keeps.2)
 
--- an element is mapped
+-- where x is in a list, f x is in the list that f maps it to
 pub Contains-mapped : {X Y : Type 0} (f : X → Y) (xs : List X) (x : X) → Contains xs x → Contains (map f xs) (f x)
 Contains-mapped f xs x (k, low, at) = (k, rw length-map low, get_or-map f xs k x (f x) low ∙ ap f at)
 
--- What stays.
+-- What follows is of which messages stay.
 
--- numbers that are not the first message's have the same bytes without it
+-- where no number is that of the first message, the messages of the numbers are the same without it
 only_rest : (t : ℕ × List ℕ) (ts : Texts) (ns : List ℕ) → All (λ n. t.0 ≢ n) ns → only ns (t ∷ ts) ≡ only ns ts
 only_rest t ts [] others = refl
 only_rest t ts (n ∷ ns) others =
@@ -54,12 +48,12 @@ only_rest t ts (n ∷ ns) others =
     let rest = only_rest t ts ns (All-tail (λ n. t.0 ≢ n) n ns others) in
     (λ i. (n, first i) ∷ rest i)
 
--- what is kept of a book is in its rest, where it is not the first message
+-- a number that a book keeps, and that is not that of its first message, is kept by the rest
 keeps_rest : (t : ℕ × List ℕ) (ts : Texts) (n : ℕ) → t.0 ≢ n → Keeps (t ∷ ts) n → Keeps ts n
 keeps_rest t ts n other keeps =
     elim (Contains-cons_cases t.0 (map (λ k. k.0) ts) n keeps) [ inl same ↦ absurd (other same) | inr rest ↦ rest ]
 
--- where numbers rise and are kept, going through both gives just the messages with these numbers
+-- where numbers rise and are kept, going through numbers and messages together gives the messages with these numbers
 pub merged_is : (numbers : List ℕ) (texts : Texts) → AllPairs (λ a b. a < b) numbers → AllPairs (λ a b. a.0 < b.0) texts → All (Keeps texts) numbers →
     merged numbers texts ≡ only numbers texts
 merged_is [] [] up rising kept = refl
@@ -68,35 +62,35 @@ merged_is [] (t ∷ ts) up rising kept = refl
 merged_is (n ∷ ns) (t ∷ ts) up rising kept =
     elim (eqb_tells t.0 n) [
       | inl same ↦
-          let apart : All (λ m. t.0 ≢ m) ns = All-weaker (λ m. n < m) (λ m. t.0 ≢ m) (λ m low e. absurd (omega (arith, low, e, same.1))) ns (first_below (λ a b. a < b) n ns up) in
+          let apart : All (λ m. t.0 ≢ m) ns = All-weaker (λ m. n < m) (λ m. t.0 ≢ m) (λ m low e. absurd (omega (arith, low, e, same.1))) ns (AllPairs-head (λ a b. a < b) n ns up) in
           let later : All (Keeps ts) ns = λ k d low. keeps_rest t ts (get_or ns k d) (apart k d low) (All-tail (Keeps (t ∷ ts)) n ns kept k d low) in
-          let rest = merged_is ns ts (rest_pairs (λ a b. a < b) n ns up) (rest_pairs (λ a b. a.0 < b.0) t ts rising) later ∙ sym (only_rest t ts ns apart) in
+          let rest = merged_is ns ts (AllPairs-tail (λ a b. a < b) n ns up) (AllPairs-tail (λ a b. a.0 < b.0) t ts rising) later ∙ sym (only_rest t ts ns apart) in
           let first : t ≡ (n, text_of (t ∷ ts) n) = (λ i. (same.1 i, sym (text_of-same t.0 t.1 ts n same.1) i)) in
           cond-true (nat_eq t.0 n) (t ∷ merged ns ts) (merged (n ∷ ns) ts) same.0 ∙ (λ i. first i ∷ rest i)
       | inr other ↦
           let here : Keeps ts n = keeps_rest t ts n other.1 (All-head (Keeps (t ∷ ts)) n ns kept) in
           let under : t.0 < n = below_rest t ts rising n here in
           let apart : All (λ m. t.0 ≢ m) (n ∷ ns) =
-          All-cons (λ m. t.0 ≢ m) n ns other.1 (All-weaker (λ m. n < m) (λ m. t.0 ≢ m) (λ m low e. absurd (omega (arith, low, e, under))) ns (first_below (λ a b. a < b) n ns up)) in
+          All-cons (λ m. t.0 ≢ m) n ns other.1 (All-weaker (λ m. n < m) (λ m. t.0 ≢ m) (λ m low e. absurd (omega (arith, low, e, under))) ns (AllPairs-head (λ a b. a < b) n ns up)) in
           let later : All (Keeps ts) (n ∷ ns) = λ k d low. keeps_rest t ts (get_or (n ∷ ns) k d) (apart k d low) (kept k d low) in
           cond-false (nat_eq t.0 n) (t ∷ merged ns ts) (merged (n ∷ ns) ts) other.0
-          ∙ merged_is (n ∷ ns) ts up (rest_pairs (λ a b. a.0 < b.0) t ts rising) later ∙ sym (only_rest t ts (n ∷ ns) apart)
+          ∙ merged_is (n ∷ ns) ts up (AllPairs-tail (λ a b. a.0 < b.0) t ts rising) later ∙ sym (only_rest t ts (n ∷ ns) apart)
     ]
 
--- Where a number stands among numbers.
+-- What follows is of where a number stands among numbers.
 
--- each of rising numbers stands where it stands
+-- the number at place i of numbers that rise is found at place i
 pub place_at : (numbers : List ℕ) (i d : ℕ) → AllPairs (λ a b. a < b) numbers → i < length numbers → place_among numbers (get_or numbers i d) ≡ Some i
 place_at [] i d up low = absurd (omega arith)
 place_at (m ∷ ms) zero d up low = cond-true (nat_eq m m) (Some 0) (option_map suc (place_among ms m)) (grind (arith, nat_tests))
 place_at (m ∷ ms) (suc i) d up low =
     let within : i < length ms = omega arith in
     let n = get_or ms i d in
-    let under : m < n = first_below (λ a b. a < b) m ms up i d within in
+    let under : m < n = AllPairs-head (λ a b. a < b) m ms up i d within in
     cond-false (nat_eq m n) (Some 0) (option_map suc (place_among ms n)) (grind (arith, nat_tests))
-    ∙ ap (option_map suc) (place_at ms i d (rest_pairs (λ a b. a < b) m ms up) within)
+    ∙ ap (option_map suc) (place_at ms i d (AllPairs-tail (λ a b. a < b) m ms up) within)
 
--- what is none of them stands nowhere
+-- a number that is none of some numbers is found at no place
 pub place_none : (numbers : List ℕ) (n : ℕ) → All (λ m. m ≢ n) numbers → place_among numbers n ≡ None
 place_none [] n none = refl
 place_none (m ∷ ms) n none =
@@ -105,7 +99,7 @@ place_none (m ∷ ms) n none =
       | inr other ↦ cond-false (nat_eq m n) (Some 0) (option_map suc (place_among ms n)) other.0 ∙ ap (option_map suc) (place_none ms n (All-tail (λ m. m ≢ n) m ms none))
     ]
 
--- the place of a number that is not the first
+-- where a number is found among the numbers after the first, it stands at the place after
 found_later : (m : ℕ) (ms : List ℕ) (n i d : ℕ) (o : Option ℕ) → ((j : ℕ) → place_among ms n ≡ Some j → (j < length ms) × (get_or ms j d ≡ n))
     → place_among ms n ≡ o → option_map suc (place_among ms n) ≡ Some i → (i < suc (length ms)) × (get_or (m ∷ ms) i d ≡ n)
 found_later m ms n i d None found is next = absurd (let none : None ≡ Some i = sym (ap (option_map suc) is) ∙ next in cc)
@@ -127,9 +121,10 @@ place_found (m ∷ ms) n i d at =
       | inr other ↦ found_later m ms n i d (place_among ms n) (λ j is. place_found ms n j d is) refl (sym (cond-false (nat_eq m n) (Some 0) (option_map suc (place_among ms n)) other.0) ∙ at)
     ]
 
--- What some elements give, of those that give something.
+-- What follows is of what f gives of the elements of a list, where it gives something.
 
 module _ {X Y : Type 0} (f : X → Option Y) where
+  -- where f gives y of x, and what holds of x gives what holds of y, this holds of all that f gives of a list
   all_step : (P : X → Type 0) (Q : Y → Type 0) → ((x : X) (y : Y) → f x ≡ Some y → P x → Q y) → (x : X) (xs : List X) → P x → All Q (filter_map f xs)
       → (o : Option Y) → f x ≡ o → All Q (cons_option o (filter_map f xs))
   all_step P Q so x xs p rest None is = rest
@@ -139,19 +134,22 @@ module _ {X Y : Type 0} (f : X → Option Y) where
   All-filter_map P Q so [] all = All-nil Q
   All-filter_map P Q so (x ∷ xs) all = all_step P Q so x xs (All-head P x xs all) (All-filter_map P Q so xs (All-tail P x xs all)) (f x) refl
 
+  -- where what R relates of two elements gives what S relates of what f gives of them, S relates the first to all that f gives of the rest
   pairs_step : (P : X → Type 0) (R : X → X → Type 0) (S : Y → Y → Type 0) → ((x u : X) (y v : Y) → f x ≡ Some y → f u ≡ Some v → P x → P u → R x u → S y v)
       → (x : X) (xs : List X) → P x → All (λ u. P u × R x u) xs → AllPairs S (filter_map f xs) → (o : Option Y) → f x ≡ o → AllPairs S (cons_option o (filter_map f xs))
   pairs_step P R S so x xs p both rest None is = rest
   pairs_step P R S so x xs p both rest (Some y) is =
       AllPairs-cons S y (filter_map f xs) (All-filter_map (λ u. P u × R x u) (S y) (λ u v gives h. so x u y v is gives p h.0 h.1) xs both) rest
 
+  -- where what R relates of two elements gives what S relates of what f gives of them, S relates each pair that f gives of a list
   pub AllPairs-filter_map : (P : X → Type 0) (R : X → X → Type 0) (S : Y → Y → Type 0)
       → ((x u : X) (y v : Y) → f x ≡ Some y → f u ≡ Some v → P x → P u → R x u → S y v) → (xs : List X) → All P xs → AllPairs R xs → AllPairs S (filter_map f xs)
   AllPairs-filter_map P R S so [] all pairs = λ i j d lt low. absurd (omega arith)
   AllPairs-filter_map P R S so (x ∷ xs) all pairs =
-      pairs_step P R S so x xs (All-head P x xs all) (λ k d low. (All-tail P x xs all k d low, first_below R x xs pairs k d low))
-      (AllPairs-filter_map P R S so xs (All-tail P x xs all) (rest_pairs R x xs pairs)) (f x) refl
+      pairs_step P R S so x xs (All-head P x xs all) (λ k d low. (All-tail P x xs all k d low, AllPairs-head R x xs pairs k d low))
+      (AllPairs-filter_map P R S so xs (All-tail P x xs all) (AllPairs-tail R x xs pairs)) (f x) refl
 
+  -- where f gives y of x, and x is in a list, y is in what f gives of the list
   contains_step : (u x : X) (xs : List X) (y : Y) → f x ≡ Some y → (Contains xs x → Contains (filter_map f xs) y) → (o : Option Y) → f u ≡ o → (u ≡ x) ⊎ Contains xs x
       → Contains (cons_option o (filter_map f xs)) y
   contains_step u x xs y gives rest None is (inl same) = absurd (let never : None ≡ Some y = sym is ∙ ap f same ∙ gives in cc)
@@ -166,9 +164,9 @@ module _ {X Y : Type 0} (f : X → Option Y) where
   Contains-filter_map [] x y gives has = absurd (Contains-nil x has)
   Contains-filter_map (u ∷ xs) x y gives has = contains_step u x xs y gives (λ there. Contains-filter_map xs x y gives there) (f u) refl (Contains-cons_cases u xs x has)
 
--- A loop that reads at i and writes what it keeps after what it kept.
+-- What follows is of a loop that reads at i, and writes what it keeps after what it has kept.
 
--- the first so many of `now` are what the first i of `old` give, and from i on nothing was changed
+-- the first `left` elements of `now` are what f gives of the first i of `old`, and from i on nothing was changed
 pub record MovesInPlace {X : Type 0} (f : X → Option X) (old now : List X) (left i : ℕ) : Type 0 where
   pub front : take left now ≡ filter_map f (take i old)
   pub rest : drop i now ≡ drop i old
@@ -176,7 +174,7 @@ pub record MovesInPlace {X : Type 0} (f : X → Option X) (old now : List X) (le
   pub within : i ≤ length old
   pub long : length now ≡ length old
 
--- what stands at i was not changed yet
+-- the element at i is as it was
 still : {X : Type 0} (old now : List X) (i : ℕ) (d : X) → drop i now ≡ drop i old → get_or now i d ≡ get_or old i d
 still old now i d rest =
     let zero_more : i + 0 ≡ i = omega arith in
@@ -195,6 +193,7 @@ module _ {X : Type 0} (f : X → Option X) (old now : List X) (left i : ℕ) (mo
   one_more : filter_map f (take (i + 1) old) ≡ filter_map f (take i old) ++ cons_option (f x) []
   one_more = ap (filter_map f) (take_more old i x inside) ∙ filter_map-append f (take i old) (get_or old i x ∷ []) ∙ ap (λ y. filter_map f (take i old) ++ cons_option (f y) []) here
 
+  -- where f gives y of the element at i, and y is written after what was kept, one element more was read
   pub moves_some : (y : X) → f x ≡ Some y → MovesInPlace f old (set now left y) (left + 1) (i + 1)
   moves_some y gives = record {
     front = take_more_set now left y (let behind = moves.behind in omega arith) ∙ ap (λ xs. xs ++ y ∷ []) moves.front
@@ -205,6 +204,7 @@ module _ {X : Type 0} (f : X → Option X) (old now : List X) (left i : ℕ) (mo
     long = length-set now left y ∙ moves.long;
   }
 
+  -- where f gives nothing of the element at i, one element more was read
   pub moves_none : f x ≡ None → MovesInPlace f old now left (i + 1)
   moves_none gives = record {
     front = moves.front ∙ sym (one_more ∙ ap (λ o. filter_map f (take i old) ++ cons_option o []) gives ∙ append-nil (filter_map f (take i old)));
@@ -217,14 +217,14 @@ module _ {X : Type 0} (f : X → Option X) (old now : List X) (left i : ℕ) (mo
 pub moves_all : {X : Type 0} (f : X → Option X) (old now : List X) (left i : ℕ) → MovesInPlace f old now left i → length old ≤ i → take left now ≡ filter_map f old
 moves_all f old now left i moves end = moves.front ∙ ap (filter_map f) (take_all i old end)
 
--- A loop that keeps messages with numbers that rise.
+-- What follows is of a loop that keeps the messages with numbers that rise.
 
--- nothing is taken for no number
+-- for no numbers no messages are kept
 merged_none : (texts : Texts) → merged [] texts ≡ []
 merged_none [] = refl
 merged_none (t ∷ ts) = refl
 
--- the first so many of `now` and what comes of the rest are what comes of all, and from i on nothing was changed
+-- the first `left` messages of `now`, and those of the rest with the numbers after, are all with these numbers; from i on nothing was changed
 pub record KeepsInPlace {K : Type 0} (text : K → ℕ × List ℕ) (numbers : List ℕ) (old now : List K) (left i : ℕ) : Type 0 where
   pub front : map text (take left now) ++ merged (drop left numbers) (map text (drop i old)) ≡ merged numbers (map text old)
   pub rest : drop i now ≡ drop i old
@@ -232,7 +232,7 @@ pub record KeepsInPlace {K : Type 0} (text : K → ℕ × List ℕ) (numbers : L
   pub within : i ≤ length old
   pub long : length now ≡ length old
 
--- no number is left
+-- where no number is left, a message more is read, and goes
 pub keeps_end : {K : Type 0} (text : K → ℕ × List ℕ) (numbers : List ℕ) (old now : List K) (left i : ℕ) → KeepsInPlace text numbers old now left i → i < length now → length numbers ≤ left
     → KeepsInPlace text numbers old now left (i + 1)
 keeps_end text numbers old now left i keeps low end =
@@ -255,6 +255,7 @@ module _ {K : Type 0} (text : K → ℕ × List ℕ) (numbers : List ℕ) (old n
   rest_is : map text (drop i old) ≡ text x ∷ map text (drop (i + 1) old)
   rest_is = ap (map text) (drop_more old i x behind_it) ∙ ap (λ y. text y ∷ map text (drop (i + 1) old)) there
 
+  -- where the message at i is not the next that is kept, a message more is read, and goes
   pub keeps_other : merged (drop left numbers) (text x ∷ map text (drop (i + 1) old)) ≡ merged (drop left numbers) (map text (drop (i + 1) old)) → KeepsInPlace text numbers old now left (i + 1)
   keeps_other skips = record {
     front = ap (λ ts. map text (take left now) ++ ts) (sym skips ∙ ap (merged (drop left numbers)) (sym rest_is)) ∙ keeps.front;
@@ -264,7 +265,7 @@ module _ {K : Type 0} (text : K → ℕ × List ℕ) (numbers : List ℕ) (old n
     long = keeps.long;
   }
 
-  -- the next number is another one
+  -- where the next number is not that of the message at i, a message more is read, and goes
   pub keeps_less : left < length numbers → (text x).0 ≢ get_or numbers left 0 → KeepsInPlace text numbers old now left (i + 1)
   keeps_less some differs =
       let n = get_or numbers left 0 in
@@ -273,7 +274,7 @@ module _ {K : Type 0} (text : K → ℕ × List ℕ) (numbers : List ℕ) (old n
       ∙ cond-false (nat_eq (text x).0 n) (text x ∷ merged (drop (left + 1) numbers) (map text (drop (i + 1) old))) (merged (n ∷ drop (left + 1) numbers) (map text (drop (i + 1) old))) (grind (arith, nat_tests))
       ∙ ap (λ ns. merged ns (map text (drop (i + 1) old))) (sym next))
 
-  -- what stood at `left` and at i changed places
+  -- where the messages at `left` and at i changed places, the first `left + 1` are those that were kept and the one at i
   swapped_front : (new : List K) → SwappedAt now new left i → take (left + 1) new ≡ take left now ++ x ∷ []
   swapped_front new swapped =
       elim (cases_lt left i) [
@@ -287,12 +288,13 @@ module _ {K : Type 0} (text : K → ℕ × List ℕ) (numbers : List ℕ) (old n
             ∙ take_more_set now left x (omega (arith, same))
       ]
 
+  -- where the messages at `left` and at i changed places, those after i are as they were
   swapped_rest : (new : List K) → SwappedAt now new left i → drop (i + 1) new ≡ drop (i + 1) now
   swapped_rest new swapped =
       ap (drop (i + 1)) (swapped.3 x) ∙ drop-set-lt (i + 1) (set now left (get_or now i x)) i (get_or now left x) (omega arith)
       ∙ drop-set-lt (i + 1) now left (get_or now i x) (let behind = keeps.behind in omega arith)
 
-  -- the next number is the message's
+  -- where the next number is that of the message at i, and it is swapped after those that were kept, one message more was read and kept
   pub keeps_more : left < length numbers → (text x).0 ≡ get_or numbers left 0 → (new : List K) → SwappedAt now new left i
       → KeepsInPlace text numbers old new (left + 1) (i + 1)
   keeps_more some same new swapped =
@@ -316,17 +318,18 @@ merged_end : (numbers : List ℕ) → merged numbers [] ≡ []
 merged_end [] = refl
 merged_end (n ∷ ns) = refl
 
+-- where all messages were read, the first `left` are those with these numbers
 pub keeps_all : {K : Type 0} (text : K → ℕ × List ℕ) (numbers : List ℕ) (old now : List K) (left i : ℕ) → KeepsInPlace text numbers old now left i → length old ≤ i
     → map text (take left now) ≡ merged numbers (map text old)
 keeps_all text numbers old now left i keeps end =
     sym (append-nil (map text (take left now))) ∙ ap (λ ts. map text (take left now) ++ ts) (sym (ap (λ xs. merged (drop left numbers) (map text xs)) (drop_all i old end) ∙ merged_end (drop left numbers))) ∙ keeps.front
 
--- The runs, one after another.
+-- What follows is of the runs, one after another.
 
 abbrev items : PlaceRun → List Place
 items run = run.places.items
 
--- what is left of the first i runs, and the others, which were not changed yet
+-- the places of the first i runs are what f gives of theirs, and the other runs were not changed yet
 pub record MovesRuns (f : Place → Option Place) (most : ℕ) (old now : List PlaceRun) (i : ℕ) : Type 0 where
   pub places : places_of (take i now) ≡ filter_map f (places_of (take i old))
   pub rest : drop i now ≡ drop i old
@@ -338,12 +341,12 @@ pub record MovesRuns (f : Place → Option Place) (most : ℕ) (old now : List P
 pub moves_start : (f : Place → Option Place) (most : ℕ) (old : List PlaceRun) → All (λ run. length run.places.items ≤ most) old → MovesRuns f most old old 0
 moves_start f most old short = record { places = refl; rest = refl; led = All-nil (λ run. 0 < length run.places.items → IsLed run); short = short; within = omega arith; long = refl }
 
--- the places up to a run and in it
+-- the places of the first i + 1 runs are those of the first i and those of run i
 places_more : (runs : List PlaceRun) (i : ℕ) (d : PlaceRun) → i < length runs → places_of (take (i + 1) runs) ≡ places_of (take i runs) ++ items (get_or runs i d)
 places_more runs i d low =
     ap places_of (take_more runs i d low) ∙ flat_map-append items (take i runs) (get_or runs i d ∷ []) ∙ ap (λ ps. places_of (take i runs) ++ ps) (append-nil (items (get_or runs i d)))
 
--- one run more
+-- where run i holds what f gives of its places, one run more is done
 pub moves_run : (f : Place → Option Place) (most : ℕ) (old now : List PlaceRun) (i : ℕ) (d run : PlaceRun) → MovesRuns f most old now i → i < length now → d ≡ get_or now i d
     → items run ≡ filter_map f (items d) → length (items run) ≤ length (items d) → (0 < length (items run) → IsLed run) → MovesRuns f most old (set now i run) (i + 1)
 moves_run f most old now i d run moves low read is fewer led =
@@ -366,7 +369,7 @@ moves_run f most old now i d run moves low read is fewer led =
 abbrev pub has_places : PlaceRun → Bool
 has_places run = nat_lt 0 (length run.places.items)
 
--- runs with no place go
+-- without the runs that have no place, the places of the runs are the same
 places_filled : (runs : List PlaceRun) → places_of (filter has_places runs) ≡ places_of runs
 places_filled [] = refl
 places_filled (run ∷ runs) =
@@ -377,7 +380,7 @@ places_filled (run ∷ runs) =
           ap places_of (cond-false (has_places run) (run ∷ filter has_places runs) (filter has_places runs) (le-ltb 0 (length run.places.items) none)) ∙ places_filled runs ∙ ap (λ ps. ps ++ places_of runs) (sym empty)
     ]
 
--- all of them
+-- where all runs are done, and those without a place are left out, the places are what f gives of all
 pub moves_runs : (f : Place → Option Place) (most : ℕ) (old now new : List PlaceRun) (i : ℕ) → MovesRuns f most old now i → length old ≤ i → new ≡ filter has_places now
     → (places_of new ≡ filter_map f (places_of old)) × All IsLed new × All (λ run. length run.places.items ≤ most) new
 moves_runs f most old now new i moves end is =
@@ -390,19 +393,19 @@ moves_runs f most old now new i moves end is =
       All-same (λ run. length run.places.items ≤ most) new (filter has_places now) is (All-filter has_places (λ run. length run.places.items ≤ most) now moves.short),
     )
 
--- The order of a book that keeps some of its messages.
+-- What follows is of the order of a book that keeps some of its messages.
 
--- as many as there are numbers
+-- the messages with some numbers are as many as the numbers
 pub length-only : (numbers : List ℕ) (texts : Texts) → length (only numbers texts) ≡ length numbers
 length-only numbers texts = length-map numbers (λ n. (n, text_of texts n))
 
--- what a map gives it gives of something
+-- an element of the list that f maps another to is f of the element there at the same place
 pub mapped_place : {X Y : Type 0} (f : X → Y) (xs : List X) (d : X) (y : Y) → Contains (map f xs) y → (k : ℕ) × (k < length xs) × (f (get_or xs k d) ≡ y)
 mapped_place f xs d y (k, low, is) =
     let within : k < length xs = rw length-map at low in
     (k, within, sym (get_or-map f xs k d y within) ∙ is)
 
--- what is kept stands somewhere
+-- a number that a book keeps is that of the message at some place
 pub kept_place : (texts : Texts) (n : ℕ) → Keeps texts n → (k : ℕ) × (k < length texts) × (number_at texts k ≡ n)
 kept_place texts n (k, low, is) =
     let within : k < length texts = rw length-map at low in
@@ -410,11 +413,11 @@ kept_place texts n (k, low, is) =
     (k, within, sym (get_or-map first texts k (0, []) n within) ∙ is)
 
 module _ (texts : Texts) (numbers : List ℕ) (book : IsBook texts) (up : AllPairs (λ a b. a < b) numbers) (kept : All (Keeps texts) numbers) where
-  -- what is kept at a place
+  -- the message at place i of those that are kept has the number at place i of the numbers, and its bytes
   at_number : (i d : ℕ) → i < length numbers → get_or (only numbers texts) i (0, []) ≡ (get_or numbers i d, text_of texts (get_or numbers i d))
   at_number i d low = get_or-map (λ n. (n, text_of texts n)) numbers i d (0, []) low
 
-  -- a place that is moved has the same bytes
+  -- a place that is moved keeps its hash, and its position is that of the number of its message among those that stay
   moved_is : (p q : Place) → moved texts numbers p ≡ Some q → (q.hash ≡ p.hash) × (q.position < length numbers) × (get_or numbers q.position 0 ≡ number_at texts p.position)
   moved_is p q gives = go (place_among numbers (number_at texts p.position)) refl gives
     where
@@ -428,6 +431,7 @@ module _ (texts : Texts) (numbers : List ℕ) (book : IsBook texts) (up : AllPai
           let found = place_found numbers (number_at texts p.position) i 0 is in
           subst (λ r. (r.hash ≡ p.hash) × (r.position < length numbers) × (get_or numbers r.position 0 ≡ number_at texts p.position)) same (refl, found.0, found.1)
 
+  -- a place that is moved is that of the same bytes as before
   moved_bytes : (p q : Place) → moved texts numbers p ≡ Some q → p.position < length texts → bytes_at (only numbers texts) q.position ≡ bytes_at texts p.position
   moved_bytes p q gives low =
       let (hash, within, number) = moved_is p q gives in
@@ -436,13 +440,14 @@ module _ (texts : Texts) (numbers : List ℕ) (book : IsBook texts) (up : AllPai
   moved_key : (p q : Place) → moved texts numbers p ≡ Some q → IsPlace texts p → key_of (only numbers texts) q ≡ key_of texts p
   moved_key p q gives is = (λ i. ((moved_is p q gives).0 i, moved_bytes p q gives is.0 i))
 
+  -- a place of a message that is moved is one of the message among those that stay
   moved_place : (p q : Place) → moved texts numbers p ≡ Some q → IsPlace texts p → IsPlace (only numbers texts) q
   moved_place p q gives is = (
     (let within = (moved_is p q gives).1 in let long = length-only numbers texts in omega arith),
     (moved_is p q gives).0 ∙ is.1 ∙ ap hash_of (sym (moved_bytes p q gives is.0)),
   )
 
-  -- each message that is kept has a place
+  -- each message that stays has a place among those that are moved
   moved_whole : (places : List Place) → IsOrder texts places → (i : ℕ) → i < length (only numbers texts) → Contains (map (λ p. p.position) (filter_map (moved texts numbers) places)) i
   moved_whole places order i low =
       let within : i < length numbers = (let long = length-only numbers texts in omega arith) in
@@ -457,6 +462,7 @@ module _ (texts : Texts) (numbers : List ℕ) (book : IsBook texts) (up : AllPai
       ∙ ap (option_map (λ i. record { hash = p.hash; position = i })) (place_at numbers i 0 up within) in
       Contains-mapped (λ p. p.position) (filter_map (moved texts numbers) places) q (Contains-filter_map (moved texts numbers) places p q gives (Contains-get_or places j none j_low))
 
+  -- the places that are moved are the order of the messages that stay
   pub IsOrder-only : (places : List Place) → IsOrder texts places → IsOrder (only numbers texts) (filter_map (moved texts numbers) places)
   IsOrder-only places order = record {
     rising = AllPairs-filter_map (moved texts numbers) (IsPlace texts) (λ a b. compare (key_of texts a) (key_of texts b) ≡ Less)
@@ -466,7 +472,7 @@ module _ (texts : Texts) (numbers : List ℕ) (book : IsBook texts) (up : AllPai
     whole = moved_whole places order;
   }
 
-  -- its numbers are those that it was to keep
+  -- a number that is kept among the messages that stay is one of the numbers
   pub Keeps-only : (n : ℕ) → Keeps (only numbers texts) n → Contains numbers n
   Keeps-only n keeps =
       let (k, low, is) = kept_place (only numbers texts) n keeps in
@@ -474,14 +480,14 @@ module _ (texts : Texts) (numbers : List ℕ) (book : IsBook texts) (up : AllPai
       let first : ℕ × List ℕ → ℕ = λ t. t.0 in
       (k, within, sym (ap first (at_number k n within)) ∙ is)
 
-  -- each of them
+  -- each of the numbers is kept among the messages that stay
   pub only-Keeps : (n : ℕ) → Contains numbers n → Keeps (only numbers texts) n
   only-Keeps n (k, low, is) =
       let within : k < length (only numbers texts) = (let size = length-only numbers texts in omega arith) in
       let first : ℕ × List ℕ → ℕ = λ t. t.0 in
       subst (Keeps (only numbers texts)) is (Keeps-at (only numbers texts) k (get_or numbers k n, text_of texts (get_or numbers k n)) within (sym (at_number k n low) ∙ get_or_default (only numbers texts) k (0, []) (get_or numbers k n, text_of texts (get_or numbers k n)) within))
 
-  -- which rise
+  -- the numbers of the messages that stay rise
   rising-only : AllPairs (λ a b. a.0 < b.0) (only numbers texts)
   rising-only i j d lt low =
       let within : j < length numbers = (let size = length-only numbers texts in omega arith) in
@@ -490,7 +496,7 @@ module _ (texts : Texts) (numbers : List ℕ) (book : IsBook texts) (up : AllPai
       let at_j : (get_or (only numbers texts) j d).0 ≡ get_or numbers j 0 = ap first (get_or_default (only numbers texts) j d (0, []) low ∙ at_number j 0 within) in
       (let less = up i j 0 lt within in omega arith)
 
-  -- with the same bytes
+  -- the messages that stay have the bytes that they had
   pub text_of-only : (n : ℕ) → Contains numbers n → text_of (only numbers texts) n ≡ text_of texts n
   text_of-only n (k, low, is) =
       let within : k < length (only numbers texts) = (let size = length-only numbers texts in omega arith) in
@@ -498,7 +504,7 @@ module _ (texts : Texts) (numbers : List ℕ) (book : IsBook texts) (up : AllPai
       let at = text_of-at (only numbers texts) k x rising-only within (sym (at_number k n low) ∙ get_or_default (only numbers texts) k (0, []) x within) in
       ap (text_of (only numbers texts)) (sym is) ∙ at ∙ ap (text_of texts) is
 
-  -- some messages of a book are a book
+  -- the messages of a book that stay are a book
   pub IsBook-only : IsBook (only numbers texts)
   IsBook-only = record {
     rising = rising-only;

@@ -24,21 +24,21 @@ use Rattle.sip_machine.proofs.texts.OrderLaws.{searchable, found}
 abbrev items : PlaceRun → List Place
 items run = run.places.items
 
--- an insert into the middle of three lists
+-- an insert at place i of the second of three lists is an insert into all three, i places after the first
 insert-within : {X : Type 0} (a b c : List X) (i : ℕ) (y : X) → i ≤ length b →
     insert (a ++ (b ++ c)) (length a + i) y ≡ a ++ (insert b i y ++ c)
 insert-within a b c i y low =
     rw (take-append-add a (b ++ c) i, drop-append-add a (b ++ c) i, take-append-le i b c low, drop-append-le i b c low)
     (append_assoc a (take i b) (y ∷ (drop i b ++ c)) ∙ ap (λ rest. a ++ rest) (sym (append_assoc (take i b) (y ∷ drop i b) c)))
 
--- the places before a run, in it and after it
+-- all places are those of the runs before run r, those of run r, and those of the runs after it
 places-around : (runs : List PlaceRun) (r : ℕ) (d : PlaceRun) → r < length runs →
     places_of runs ≡ places_of (take r runs) ++ (items (get_or runs r d) ++ places_of (drop (r + 1) runs))
 places-around runs r d low =
     ap places_of (sym (take-append-drop r runs)) ∙ flat_map-append items (take r runs) (drop r runs)
     ∙ ap (λ rest. places_of (take r runs) ++ places_of rest) (drop_more runs r d low)
 
--- the places after a run was replaced
+-- where run r is replaced, all places are those of the runs before it, those of the new run, and those of the runs after it
 places-set : (runs : List PlaceRun) (r : ℕ) (run : PlaceRun) → r < length runs →
     places_of (set runs r run) ≡ places_of (take r runs) ++ (items run ++ places_of (drop (r + 1) runs))
 places-set runs r run low =
@@ -46,13 +46,13 @@ places-set runs r run low =
     ap places_of (set_split runs r run low) ∙ flat_map-append items (take r runs) (run ∷ drop (suc r) runs)
     ∙ ap (λ n. places_of (take r runs) ++ (items run ++ places_of (drop n runs))) next
 
--- a run with the same places
+-- where run r is replaced by one with the same places, all places stay
 pub places-kept : (runs : List PlaceRun) (r : ℕ) (d run : PlaceRun) → r < length runs → items run ≡ items (get_or runs r d) →
     places_of (set runs r run) ≡ places_of runs
 places-kept runs r d run low same =
     places-set runs r run low ∙ ap (λ run. places_of (take r runs) ++ (run ++ places_of (drop (r + 1) runs))) same ∙ sym (places-around runs r d low)
 
--- a run with one place more
+-- where a run gets one place more in the gap, the place is inserted into all places at the index of the gap
 pub places-inserted : (runs : List PlaceRun) (gap : Gap) (place : Place) (d run : PlaceRun) → gap.run < length runs →
     gap.place ≤ length (items (get_or runs gap.run d)) → items run ≡ insert (items (get_or runs gap.run d)) gap.place place →
     places_of (set runs gap.run run) ≡ insert (places_of runs) (index_of runs gap) place
@@ -63,7 +63,7 @@ places-inserted runs gap place d run low within is =
     ∙ sym (insert-within before (items (get_or runs gap.run d)) after gap.place place within)
     ∙ ap (λ all. insert all (index_of runs gap) place) (sym (places-around runs gap.run d low))
 
--- a run in two halves
+-- where a run is replaced by its two halves, all places stay
 pub places-halved : (runs : List PlaceRun) (r n : ℕ) (d first second : PlaceRun) → r < length runs →
     items first ≡ take n (items (get_or runs r d)) → items second ≡ drop n (items (get_or runs r d)) →
     places_of (insert (set runs r first) (r + 1) second) ≡ places_of runs
@@ -80,14 +80,14 @@ places-halved runs r n d first second low head tail =
     ∙ ap (λ all. before ++ all) (sym (append_assoc (take n run) (drop n run) after) ∙ ap (λ run. run ++ after) (take-append-drop n run))
     ∙ sym (places-around runs r d low)
 
--- a run ends where a later one begins
+-- the places up to run i and in it are no more than those before a later run
 run_ends : (runs : List PlaceRun) (i j : ℕ) (d : PlaceRun) → i < j → j ≤ length runs →
     length (places_of (take i runs)) + length (items (get_or runs i d)) ≤ length (places_of (take j runs))
 run_ends runs i j d lt low =
     rw (take-take i j runs (omega arith), get_or-take j runs i d lt) at
     (length-flat_map-take items (take j runs) i d (rw (length-take-le j runs low) lt))
 
--- where the next run begins
+-- the places up to the next run are those before run r and those in it
 run_size : (runs : List PlaceRun) (r : ℕ) (d : PlaceRun) → r < length runs →
     length (places_of (take (r + 1) runs)) ≡ length (places_of (take r runs)) + length (items (get_or runs r d))
 run_size runs r d low =
@@ -101,38 +101,43 @@ first = record { hash = 0; position = 0 }
 abbrev rank : Texts → ℕ × List ℕ → Place → ℕ
 rank texts key place = ordering_index (compare (key_of texts place) key)
 
+-- an ordering whose rank is 0 is `Less`
 less_of_rank : (o : Ordering) → ordering_index o ≤ 0 → o ≡ Less
 less_of_rank Less low = refl
 less_of_rank Equal low = absurd (omega arith)
 less_of_rank Greater low = absurd (omega arith)
 
+-- an ordering whose rank is 2 or more is `Greater`
 greater_of_rank : (o : Ordering) → 2 ≤ ordering_index o → o ≡ Greater
 greater_of_rank Less high = absurd (omega arith)
 greater_of_rank Equal high = absurd (omega arith)
 greater_of_rank Greater high = refl
 
+-- an ordering whose rank is at most 1 is `Less` or `Equal`
 begun_of_rank : (o : Ordering) → ordering_index o ≤ 1 → is_le o ≡ true
 begun_of_rank Less low = refl
 begun_of_rank Equal low = refl
 begun_of_rank Greater low = absurd (omega arith)
 
+-- the rank of `Less` and of `Equal` is at most 1
 rank_of_begun : (o : Ordering) → is_le o ≡ true → ordering_index o ≤ 1
 rank_of_begun Less begun = omega arith
 rank_of_begun Equal begun = omega arith
 rank_of_begun Greater begun = absurd (false≢true begun)
 
+-- the rank of an ordering that is neither `Less` nor `Equal` is 2
 rank_of_later : (o : Ordering) → is_le o ≡ false → 2 ≤ ordering_index o
 rank_of_later Less later = absurd (false≢true (sym later))
 rank_of_later Equal later = absurd (false≢true (sym later))
 rank_of_later Greater later = omega arith
 
--- a run begins with its first place
+-- a run begins by a key exactly if the first of its places does
 begins : (texts : Texts) (key : ℕ × List ℕ) (run : PlaceRun) → IsLed run →
     begins_by texts key run ≡ is_le (compare (key_of texts (get_or (items run) 0 first)) key)
 begins texts key run led =
     ap (λ place. is_le (compare (key_of texts place) key)) (led.first ∙ get_or_default (items run) 0 run.first first led.filled)
 
--- the halves of a run are led where it was
+-- where a run is replaced by its two halves, each with its first place told, all runs tell their first place
 pub led_halved : (runs : List PlaceRun) (r n : ℕ) (d head tail : PlaceRun) → r < length runs → All IsLed runs → 0 < n → n < length (items (get_or runs r d)) →
     head.first ≡ (get_or runs r d).first → items head ≡ take n (items (get_or runs r d)) → items tail ≡ drop n (items (get_or runs r d)) →
     tail.first ≡ get_or (items tail) 0 tail.first → All IsLed (insert (set runs r head) (r + 1) tail)
@@ -151,7 +156,7 @@ led_halved runs r n d head tail low led some more begins front behind begins' =
     All-append IsLed (take (r + 1) (set runs r head)) (tail ∷ drop (r + 1) (set runs r head)) (All-take IsLed (r + 1) (set runs r head) all)
     (All-cons IsLed tail (drop (r + 1) (set runs r head)) led_tail (All-drop IsLed (r + 1) (set runs r head) all))
 
--- where a run's place is among all places
+-- the place at j of run r stands at j after the places before the run
 place_at : (runs : List PlaceRun) (r j : ℕ) (d : PlaceRun) (e : Place) → r < length runs → j < length (items (get_or runs r d)) →
     get_or (places_of runs) (length (places_of (take r runs)) + j) e ≡ get_or (items (get_or runs r d)) j e
 place_at runs r j d e low within = get_or-flat_map items runs r j d e low within
@@ -160,7 +165,7 @@ module _ (texts : Texts) (runs : List PlaceRun) (key : ℕ × List ℕ) (held : 
   led_at : (r : ℕ) (d : PlaceRun) → r < length runs → IsLed (get_or runs r d)
   led_at r d low = All-get_or IsLed runs r d low held.led
 
-  -- a run that begins by the key has only such before it
+  -- where a run begins by the key, so do all before it
   pub partitioned : IsPartitionedBy (begins_by texts key) runs
   partitioned i j d le high begun =
       elim (cases_lt i j) [
@@ -179,7 +184,7 @@ module _ (texts : Texts) (runs : List PlaceRun) (key : ℕ × List ℕ) (held : 
         | inr from ↦ let same : i ≡ j = omega arith in rw same begun
       ]
 
-  -- a search by halves goes right in each run
+  -- the places of a run never fall in how they compare with the key, so that a search by halves finds it among them
   pub run_rises : (r : ℕ) (d : PlaceRun) → r < length runs → IsNonDecreasingBy (rank texts key) (items (get_or runs r d))
   run_rises r d low i j e le within =
       let off = length (places_of (take r runs)) in
@@ -187,7 +192,7 @@ module _ (texts : Texts) (runs : List PlaceRun) (key : ℕ × List ℕ) (held : 
       rw (place_at runs r i d e low (omega arith), place_at runs r j d e low within) at
       (searchable texts (places_of runs) key held.order.rising (off + i) (off + j) e (omega arith) (omega arith))
 
-  -- a place of a run that ties with a message has its bytes
+  -- a place of a run that compares as equal to a key is that of a message with the key's bytes
   pub found_in_run : (r at : ℕ) (d : PlaceRun) (e : Place) → r < length runs → at < length (items (get_or runs r d)) →
       compare (key_of texts (get_or (items (get_or runs r d)) at e)) key ≡ Equal →
       ((get_or (items (get_or runs r d)) at e).position < length texts)
@@ -198,7 +203,7 @@ module _ (texts : Texts) (runs : List PlaceRun) (key : ℕ × List ℕ) (held : 
       let here = place_at runs r at d e low within in
       rw here at (found texts (places_of runs) key (off + at) e held.order (omega arith) (ap (λ p. compare (key_of texts p) key) here ∙ equal))
 
-  -- a gap in the last run that begins by the key, or in the first one, is one among all places
+  -- a gap for the key in the last run that begins by it, or in the first run, is a gap among all places
   pub gap_in_runs : (begun r place : ℕ) (d : PlaceRun) → r < length runs → (r ≡ 0) ⊎ (r < begun) → begun ≤ r + 1 →
       IsPartitionPoint (λ run. begins_by texts key run ≡ true) (λ run. begins_by texts key run ≡ false) runs begun →
       place ≤ length (items (get_or runs r d)) →
@@ -258,7 +263,7 @@ module _ (texts : Texts) (runs : List PlaceRun) (key : ℕ × List ℕ) (held : 
         ];
       }
 
--- what holds always holds of an error
+-- what holds always holds where a result is an error
 pub always_err : {A E : Type 0} (r : Result A E) (P : Type 0) → P → OnErr r P
 always_err (Ok x) P p = tt
 always_err (Err e) P p = p

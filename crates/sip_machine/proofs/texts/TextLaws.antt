@@ -9,7 +9,7 @@ use Rattle.std.proofs.lemmas.List.Elements.{All-head, All-tail, Contains-append_
 use Rattle.std.proofs.lemmas.List.Quantifiers.{all_pairs_push}
 use Rattle.sip_machine.specs.Texts.{Texts, IsBook, Keeps, text_of}
 
--- nothing is in the empty list
+-- no element is in the empty list
 pub Contains-nil : {X : Type 0} (x : X) → Contains [] x → ⊥
 Contains-nil x h = omega arith
 
@@ -21,17 +21,17 @@ Contains-cons_cases y xs x h =
       | inr rest ↦ inr rest
     ]
 
--- the first message has the number
+-- where the first message has the number, its bytes are those of the number
 pub text_of-same : (number : ℕ) (bytes : List ℕ) (texts : Texts) (n : ℕ) → number ≡ n →
     text_of ((number, bytes) ∷ texts) n ≡ bytes
 text_of-same number bytes texts n e = rw (eq-eqb number n e)
 
--- the first message has another number
+-- where the first message has another number, the bytes of the number are those in the rest
 pub text_of-other : (number : ℕ) (bytes : List ℕ) (texts : Texts) (n : ℕ) → number ≢ n →
     text_of ((number, bytes) ∷ texts) n ≡ text_of texts n
 text_of-other number bytes texts n e = rw (ne_eqb number n e)
 
--- the message at an index has its number
+-- the bytes of the number of the message at an index are its bytes
 pub text_of-at : (texts : Texts) (i : ℕ) (x : ℕ × List ℕ) → AllPairs (λ a b. a.0 < b.0) texts → i < length texts →
     x ≡ get_or texts i x → text_of texts x.0 ≡ x.1
 text_of-at [] i x rising low e = absurd (omega arith)
@@ -60,26 +60,26 @@ text_of-none (kept ∷ texts) bytes none n keeps e =
           ]
     ]
 
--- the numbers of a book that has grown
+-- the numbers of a book that has grown are those that it had, and the new one
 pub numbers-grow : (texts : Texts) (number : ℕ) (bytes : List ℕ) →
     map (λ k. k.0) (texts ++ (number, bytes) ∷ []) ≡ map (λ k. k.0) texts ++ number ∷ []
 numbers-grow texts number bytes = map-append (λ k. k.0) texts ((number, bytes) ∷ [])
 
--- what was kept is kept
+-- a number that was kept is kept in the book that has grown
 pub Keeps-grow : (texts : Texts) (number : ℕ) (bytes : List ℕ) (n : ℕ) → Keeps texts n →
     Keeps (texts ++ (number, bytes) ∷ []) n
 Keeps-grow texts number bytes n keeps = rw numbers-grow (Contains-append_left (map (λ k. k.0) texts) (number ∷ []) n keeps)
 
--- the added message is kept
+-- the number of the added message is kept
 pub Keeps-added : (texts : Texts) (number : ℕ) (bytes : List ℕ) → Keeps (texts ++ (number, bytes) ∷ []) number
 Keeps-added texts number bytes = rw numbers-grow (Contains-push (map (λ k. k.0) texts) number)
 
--- what is kept was kept or is the added message
+-- a number that is kept in the book that has grown was kept, or is that of the added message
 pub Keeps-grow_cases : (texts : Texts) (number : ℕ) (bytes : List ℕ) (n : ℕ) →
     Keeps (texts ++ (number, bytes) ∷ []) n → Keeps texts n ⊎ (number ≡ n)
 Keeps-grow_cases texts number bytes n keeps = Contains-push_cases (map (λ k. k.0) texts) number n (rw numbers-grow at keeps)
 
--- a kept number stands for the same bytes
+-- a number that was kept has the same bytes in the book that has grown
 pub text_of-grow : (texts : Texts) (number : ℕ) (bytes : List ℕ) (n : ℕ) → Keeps texts n →
     text_of (texts ++ (number, bytes) ∷ []) n ≡ text_of texts n
 text_of-grow [] number bytes n keeps = absurd (Contains-nil n keeps)
@@ -96,7 +96,7 @@ text_of-grow (kept ∷ texts) number bytes n keeps =
           ]
     ]
 
--- a new number stands for the added bytes
+-- where a number is above all that are kept, it has the bytes that are added under it
 pub text_of-added : (texts : Texts) (number : ℕ) (bytes : List ℕ) → ((n : ℕ) → Keeps texts n → n < number) →
     text_of (texts ++ (number, bytes) ∷ []) number ≡ bytes
 text_of-added [] number bytes above = text_of-same number bytes [] number refl
@@ -127,7 +127,7 @@ IsBook-grow texts number bytes book above other =
       ];
     }
 
--- what a book holds beside the code's kept messages
+-- the number of the code's message at an index is kept, and has its bytes
 pub text_of-kept : {K : Type 0} (text : K → ℕ × List ℕ) (kept : List K) (i : ℕ) (k : K) →
     AllPairs (λ a b. a.0 < b.0) (map text kept) → i < length kept → k ≡ get_or kept i k →
     Keeps (map text kept) (text k).0 × (text_of (map text kept) (text k).0 ≡ (text k).1)
@@ -136,6 +136,6 @@ text_of-kept text kept i k rising low e =
     let at : text k ≡ get_or (map text kept) i (text k) = ap text e ∙ sym (get_or-map text kept i k (text k) low) in
     (Keeps-at (map text kept) i (text k) within at, text_of-at (map text kept) i (text k) rising within at)
 
--- where the number is none of the messages', it is not kept
+-- a number that no message has is not kept
 pub Keeps-none : (texts : Texts) (n : ℕ) → All (λ kept. kept.0 ≢ n) texts → Keeps texts n → ⊥
 Keeps-none texts n none keeps = All-contains (λ number. number ≢ n) (map (λ k. k.0) texts) n (All-map (λ number. number ≢ n) (λ k. k.0) texts none) keeps refl

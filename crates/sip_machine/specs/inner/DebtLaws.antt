@@ -7,20 +7,20 @@ use Rattle.sip_machine.specs.Limits.{IsWithin}
 use Rattle.sip_standard.specs.Debts.{IsWithoutFirst}
 use Rattle.sip_machine.specs.Deadlines.{earliest}
 
--- Lists without their first element of a kind, and the least of moments.
+-- Lists without the first element of which something holds, and the least of moments.
 
--- a test after a map
+-- where x passes, f x comes before what f gives of the others, and else it does not
 map-cond : {X Y : Type 0} (f : X → Y) (b : Bool) (x : X) (xs : List X) → cond b (f x ∷ map f xs) (map f xs) ≡ map f (cond b (x ∷ xs) xs)
 map-cond f true x xs = refl
 map-cond f false x xs = refl
 
--- what passes a test among values is what stands for them
+-- of what f gives of a list, what passes p is what f gives of those whose value passes p
 pub filter-map : {X Y : Type 0} (f : X → Y) (p : Y → Bool) (xs : List X) → filter p (map f xs) ≡ map f (filter (λ x. p (f x)) xs)
 filter-map f p [] = refl
 filter-map f p (x ∷ xs) =
     ap (λ ys. cond (p (f x)) (f x ∷ ys) ys) (filter-map f p xs) ∙ map-cond f (p (f x)) x (filter (λ x. p (f x)) xs)
 
--- two lists without their first element of a kind are the same
+-- two lists that are the same are the same without their first element of which P holds
 same_without : {X : Type 0} (P : X → Type 0) (before before' : List X) (first first' : X) (after after' : List X) →
     before ++ first ∷ after ≡ before' ++ first' ∷ after' → P first → P first' →
     All (λ x. ¬ (P x)) before → All (λ x. ¬ (P x)) before' → before ++ after ≡ before' ++ after'
@@ -49,11 +49,11 @@ pub All-back : {X : Type 0} (P : X → Type 0) (xs ys : List X) → All P (xs ++
 All-back P [] ys all = all
 All-back P (x ∷ xs) ys all = All-back P xs ys (All-tail P x (xs ++ ys) all)
 
--- what two facts say of each element
+-- where P and Q hold of each element, R does where it follows from both
 both : {X : Type 0} (P Q R : X → Type 0) → ((x : X) → P x → Q x → R x) → (xs : List X) → All P xs → All Q xs → All R xs
 both P Q R f xs p q = λ k d low. f _ (p k d low) (q k d low)
 
--- a list without its first element of a kind stands for one
+-- where Q of an element is P of what f gives of it, f gives of a list without the first of Q one without the first of P
 pub IsWithoutFirst-map : {X Y : Type 0} (f : X → Y) (Q : X → Type 0) (P : Y → Type 0) (xs ys : List X) →
     All (λ x. Q x ↔ P (f x)) xs → IsWithoutFirst Q xs ys → IsWithoutFirst P (map f xs) (map f ys)
 IsWithoutFirst-map {X} f Q P xs ys same a =
@@ -71,31 +71,32 @@ IsWithoutFirst-map {X} f Q P xs ys same a =
       rest = ap (map f) a.rest ∙ map-append f a.before a.after;
     }
 
--- where no element is of the kind, there is no list without one
+-- where P holds of no element, no list is the list without the first of which P holds
 pub IsWithoutFirst-none : {X : Type 0} (P : X → Type 0) (xs ys : List X) → All (λ x. ¬ (P x)) xs → IsWithoutFirst P xs ys → ⊥
 IsWithoutFirst-none P xs ys none a =
     let halves : All (λ x. ¬ (P x)) (a.before ++ a.first ∷ a.after) = subst (All (λ x. ¬ (P x))) a.whole none in
     All-head (λ x. ¬ (P x)) a.first a.after (All-back (λ x. ¬ (P x)) a.before (a.first ∷ a.after) halves) a.holds
 
--- what all elements have, those of the list without one have
+-- what holds of all elements holds of those that are left without the first of which P holds
 pub All-without : {X : Type 0} (P Q : X → Type 0) (xs ys : List X) → IsWithoutFirst P xs ys → All Q xs → All Q ys
 All-without P Q xs ys a all =
     let halves : All Q (a.before ++ a.first ∷ a.after) = subst (All Q) a.whole all in
     subst (All Q) (sym a.rest) (All-append Q a.before a.after (All-front Q a.before (a.first ∷ a.after) halves)
     (All-tail Q a.first a.after (All-back Q a.before (a.first ∷ a.after) halves)))
 
--- the least of a moment and others is up to each
+-- the least of a moment and others is not after the moment
 fold-min_first : (a : ℕ) (ms : List ℕ) → fold min a ms ≤ a
 fold-min_first a [] = omega arith
 fold-min_first a (m ∷ ms) = let low = fold-min_first (min a m) ms in omega (arith, low)
 
+-- the least of a moment and others is not after any of the others
 fold-min_all : (a : ℕ) (ms : List ℕ) → All (λ m. fold min a ms ≤ m) ms
 fold-min_all a [] = All-nil (λ m. a ≤ m)
 fold-min_all a (m ∷ ms) =
     let low = fold-min_first (min a m) ms in
     All-cons (λ n. fold min (min a m) ms ≤ n) m ms (omega (arith, low)) (fold-min_all (min a m) ms)
 
--- a moment up to all of them is up to the least
+-- where t is not after a moment and not after any of others, it is not after the least of all
 fold-min_above : (t a : ℕ) (ms : List ℕ) → t ≤ a → All (λ m. t ≤ m) ms → t ≤ fold min a ms
 fold-min_above t a [] low all = low
 fold-min_above t a (m ∷ ms) low all =
@@ -113,7 +114,7 @@ IsWithin-earliest t (m ∷ ms) = (
   λ all. fold-min_above t m ms (All-head (λ m. t ≤ m) m ms all) (All-tail (λ m. t ≤ m) m ms all),
 )
 
--- the least of the lesser of two moments and others
+-- the least of the lesser of two moments and of others is the lesser of the one and of the least of the other and these
 fold-min : (a b : ℕ) (ms : List ℕ) → fold min (min a b) ms ≡ min a (fold min b ms)
 fold-min a b [] = refl
 fold-min a b (m ∷ ms) =
@@ -124,12 +125,12 @@ pub earliest-option : (m : ℕ) (ms : List ℕ) → earliest (m ∷ option_to_li
 earliest-option m [] = refl
 earliest-option m (n ∷ ms) = ap Some (sym (fold-min m n ms))
 
--- the least of a moment and two lists
+-- the least of a moment and of two lists is the least of the second list and of the least of the moment and the first
 fold-append : (a : ℕ) (xs ys : List ℕ) → fold min a (xs ++ ys) ≡ fold min (fold min a xs) ys
 fold-append a [] ys = refl
 fold-append a (x ∷ xs) ys = fold-append (min a x) xs ys
 
--- the earliest of two lists is the earlier of theirs
+-- the earliest of two lists is the earlier of the earliest of each
 pub earliest-some : (m : ℕ) (xs ys : List ℕ) → Some m ≡ earliest xs → earliest (m ∷ option_to_list (earliest ys)) ≡ earliest (xs ++ ys)
 earliest-some m [] ys e = cc
 earliest-some m (x ∷ xs) ys e =
@@ -140,7 +141,7 @@ pub earliest-none : (xs ys : List ℕ) → None ≡ earliest xs → earliest ys 
 earliest-none [] ys e = refl
 earliest-none (x ∷ xs) ys e = cc
 
--- a list without its first element of a kind is one without that of a kind alike
+-- where Q and P hold of the same elements, a list without the first of Q is one without the first of P
 pub IsWithoutFirst-alike : {X : Type 0} (Q P : X → Type 0) (xs ys : List X) → All (λ x. Q x ↔ P x) xs → IsWithoutFirst Q xs ys → IsWithoutFirst P xs ys
 IsWithoutFirst-alike Q P xs ys same a =
     let halves : All (λ x. Q x ↔ P x) (a.before ++ a.first ∷ a.after) = subst (All (λ x. Q x ↔ P x)) a.whole same in

@@ -4,16 +4,16 @@ use Rattle.sip_ledger.specs.Ledgers.{GridOrLong, rows_of}
 
 -- What many states owe, with a ledger or without one.
 
--- what each of the rows owes
+-- what each of `count` rows owes: what the ledger has, or nothing where there is no ledger
 abbrev pub rows_in : ℕ → Option GridOrLong → List (List Debt)
 rows_in count None = replicate count []
 rows_in count (Some table) = rows_of table
 
--- the numbers of the debts' messages are between these two
+-- the numbers of the messages of these debts are from low up to high
 abbrev pub AreBetween : ℕ → ℕ → List Debt → Type 0
 AreBetween low high debts = All (λ debt. (low ≤ debt.message) × (debt.message ≤ high)) debts
 
--- there are so many rows, and the numbers of all messages that are owed are between these two
+-- there are `count` rows, and the numbers of all messages that are owed are from low up to high
 pub record AreDues (rows : List (List Debt)) (count low high : ℕ) : Type 0 where
   pub long : length rows ≡ count
   pub between : All (AreBetween low high) rows

@@ -6,12 +6,11 @@ use Rattle.sip_machine.specs.Texts.{Texts, text_of}
 use Rattle.sip_machine.specs.inner.Waiting.{waiting_seen, WaitingInRange}
 use Rattle.sip_machine.specs.inner.Coded.{Coded}
 use Rattle.sip_standard.specs.InviteClient.{InviteClientPhase, Idle, Ended, Calling, Proceeding, Accepted, Completed}
-use Rattle.sip_standard.specs.PhaseWords.{invite_client_told}
 pub mod Laws
 
 -- The phases of the code, whose messages are numbers of a book.
 
--- the phase that a phase of the code stands for
+-- the phase of the figure that a phase of the code stands for beside a book
 abbrev pub invite_client_seen : Texts → CodePhase → InviteClientPhase
 invite_client_seen texts code.Idle = Idle
 invite_client_seen texts (code.Calling w) = Calling (waiting_seen texts w)
@@ -20,14 +19,14 @@ invite_client_seen texts (code.Accepted set) = Accepted set
 invite_client_seen texts (code.Completed reliable request set) = Completed reliable (text_of texts request) set
 invite_client_seen texts code.Ended = Ended
 
--- the numbers of the messages that it names
+-- the numbers of the messages that a phase of the code names
 abbrev pub invite_client_names : CodePhase → List ℕ
 invite_client_names (code.Calling w) = w.request ∷ []
 invite_client_names (code.Proceeding reliable request cancel) = request ∷ []
 invite_client_names (code.Completed reliable request set) = request ∷ []
 invite_client_names x = []
 
--- its moments are within the limits, and its interval is below 2^50, so that no sum wraps
+-- the moments of a phase of the code are within the limits, and its interval is below 2^50, so that no sum wraps
 abbrev pub InviteClientInRange : CodePhase → Type 0
 InviteClientInRange (code.Calling w) = WaitingInRange w
 InviteClientInRange (code.Proceeding reliable request (Some first)) = first ≤ last_moment
@@ -35,7 +34,7 @@ InviteClientInRange (code.Accepted set) = set ≤ last_moment
 InviteClientInRange (code.Completed reliable request set) = set ≤ last_moment
 InviteClientInRange x = ⊤
 
--- how the code has it
+-- how the code has the phases of the INVITE client
 abbrev pub invite_client_coded : Coded InviteClientPhase
 invite_client_coded =
     record {
@@ -45,5 +44,4 @@ invite_client_coded =
       InRange = InviteClientInRange;
       idle = code.Idle;
       ended = code.Ended;
-      told = invite_client_told;
     }

@@ -6,12 +6,11 @@ use Rattle.sip_standard.specs.Times.{last_moment}
 use Rattle.sip_machine.specs.Texts.{Texts, text_of}
 use Rattle.sip_machine.specs.inner.Coded.{Coded}
 use Rattle.sip_standard.specs.InviteServer.{InviteServerPhase, Idle, Proceeding, Accepted, Completed, Confirmed}
-use Rattle.sip_standard.specs.PhaseWords.{invite_server_told}
 pub mod Laws
 
 -- The phases of the code, whose messages are numbers of a book.
 
--- the phase that a phase of the code stands for
+-- the phase of the figure that a phase of the code stands for beside a book
 abbrev pub invite_server_seen : Texts → CodePhase → InviteServerPhase
 invite_server_seen texts code.Idle = Idle
 invite_server_seen texts (code.Proceeding reliable set last) = Proceeding reliable set (option_map (text_of texts) last)
@@ -19,13 +18,13 @@ invite_server_seen texts (code.Accepted set) = Accepted set
 invite_server_seen texts (code.Completed reliable final set repeat interval) = Completed reliable (text_of texts final) set repeat interval
 invite_server_seen texts (code.Confirmed reliable set) = Confirmed reliable set
 
--- the numbers of the messages that it names
+-- the numbers of the messages that a phase of the code names
 abbrev pub invite_server_names : CodePhase → List ℕ
 invite_server_names (code.Proceeding reliable set (Some last)) = last ∷ []
 invite_server_names (code.Completed reliable final set repeat interval) = final ∷ []
 invite_server_names x = []
 
--- its moments are within the limits, and its interval is below 2^50, so that no sum wraps
+-- the moments of a phase of the code are within the limits, and its interval is below 2^50, so that no sum wraps
 abbrev pub InviteServerInRange : CodePhase → Type 0
 InviteServerInRange code.Idle = ⊤
 InviteServerInRange (code.Proceeding reliable set last) = set ≤ last_moment
@@ -33,7 +32,7 @@ InviteServerInRange (code.Accepted set) = set ≤ last_moment
 InviteServerInRange (code.Completed reliable final set repeat interval) = (set ≤ last_moment) × (repeat ≤ last_moment) × (interval < 2 ^ 50)
 InviteServerInRange (code.Confirmed reliable set) = set ≤ last_moment
 
--- how the code has it
+-- how the code has the phases of the INVITE server
 abbrev pub invite_server_coded : Coded InviteServerPhase
 invite_server_coded =
     record {
@@ -43,5 +42,4 @@ invite_server_coded =
       InRange = InviteServerInRange;
       idle = code.Idle;
       ended = code.Idle;
-      told = invite_server_told;
     }

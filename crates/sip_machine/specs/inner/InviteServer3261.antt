@@ -6,27 +6,26 @@ use Rattle.sip_machine.specs.Texts.{Texts}
 use Rattle.sip_machine.specs.inner.InviteServer.{invite_server_seen, invite_server_names, InviteServerInRange}
 use Rattle.sip_machine.specs.inner.Coded.{Coded}
 use Rattle.sip_standard.specs.InviteServer3261.{In, InviteServer3261Phase, Passed}
-use Rattle.sip_standard.specs.PhaseWords.{invite_server_3261_told}
 pub mod Laws
 
 -- The phases of the code, whose messages are numbers of a book.
 
--- the phase that a phase of the code stands for
+-- the phase of the figure that a phase of the code stands for beside a book
 abbrev pub invite_server_3261_seen : Texts → CodePhase → InviteServer3261Phase
 invite_server_3261_seen texts code.Passed = Passed
 invite_server_3261_seen texts (code.In phase again) = In (invite_server_seen texts phase) again
 
--- the numbers of the messages that it names
+-- the numbers of the messages that a phase of the code names
 abbrev pub invite_server_3261_names : CodePhase → List ℕ
 invite_server_3261_names code.Passed = []
 invite_server_3261_names (code.In phase again) = invite_server_names phase
 
--- its moments are within the limits, and its interval is below 2^50, so that no sum wraps
+-- the moments of a phase of the code are within the limits, and its interval is below 2^50, so that no sum wraps
 abbrev pub InviteServer3261InRange : CodePhase → Type 0
 InviteServer3261InRange code.Passed = ⊤
 InviteServer3261InRange (code.In phase again) = InviteServerInRange phase
 
--- how the code has it
+-- how the code has the phases of the INVITE server of RFC 3261
 abbrev pub invite_server_3261_coded : Coded InviteServer3261Phase
 invite_server_3261_coded =
     record {
@@ -36,5 +35,4 @@ invite_server_3261_coded =
       InRange = InviteServer3261InRange;
       idle = code.In code_phase.Idle false;
       ended = code.In code_phase.Idle false;
-      told = invite_server_3261_told;
     }

@@ -5,9 +5,9 @@ use Rattle.std.proofs.lemmas.Bool.Decides.{nat_tests}
 use Rattle.std.proofs.lemmas.List.Elements.{All-head}
 use Rattle.sip_machine.specs.Texts.{Texts, IsBook, Keeps, text_of}
 
--- Laws of what a phase of the code may have: a message, and a number that there may be.
+-- Laws of the data that phases have: messages, and optional numbers.
 
--- equal numbers, if there are any, are the same one
+-- optional numbers that the test finds equal are the same
 pub option_exact : (a b : Option ℕ) → option_eq nat_eq a b ≡ true → a ≡ b
 option_exact None None e = refl
 option_exact (Some x) (Some y) e = ap Some (grind (arith, nat_tests))

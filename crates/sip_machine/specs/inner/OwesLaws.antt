@@ -12,9 +12,9 @@ use Rattle.sip_machine.specs.Owes.{owed_seen, owes_seen, owes_names}
 use Rattle.sip_ledger.specs.Debts.{counts_at, softened_debt, is_payable, debt_deadlines}
 use Rattle.sip_machine.specs.inner.DebtLaws.{filter-map, All-front, All-back, All-without, IsWithin-earliest}
 
--- Laws of what a machine owes: of the debts of the code, of what they stand for, and of moments up to their deadlines.
+-- Laws of debts of the code, of what they stand for, and of moments up to their deadlines.
 
--- where both hold, each does
+-- where two tests pass together, each does
 pub both_true : (a b : Bool) → (a && b) ≡ true → (a ≡ true) × (b ≡ true)
 both_true true b e = (refl, e)
 both_true false b e = absurd (true≢false (sym e))
@@ -48,30 +48,32 @@ owes_seen_by_names a b (x ∷ xs) agree =
     ap₂ (λ z zs. z ∷ zs) (ap (λ (text : List ℕ). record { message = text; deadline = x.deadline; must = x.must }) here)
     (owes_seen_by_names a b xs (λ n has. agree n (Contains-append_right (x.message ∷ []) (owes_names xs) n has)))
 
--- the deadlines of what has to be sent are those of the debts
+-- where a list of messages owed and a list of debts have the same deadlines, they do so with one more of the same deadline before both
 cond-deadlines : (b : Bool) (o : Owed) (d : Debt) (os : List Owed) (ds : List Debt) → o.deadline ≡ d.deadline →
     map (λ o. o.deadline) os ≡ map (λ d. d.deadline) ds →
     map (λ o. o.deadline) (cond b (o ∷ os) os) ≡ map (λ d. d.deadline) (cond b (d ∷ ds) ds)
 cond-deadlines true o d os ds same more = ap₂ (λ m ms. m ∷ ms) same more
 cond-deadlines false o d os ds same more = more
 
+-- the deadlines of what debts stand for that must be sent are those of the debts that must be
 pub must_deadlines-seen : (texts : Texts) (ds : List Debt) → must_deadlines (owes_seen texts ds) ≡ debt_deadlines ds
 must_deadlines-seen texts [] = refl
 must_deadlines-seen texts (d ∷ ds) =
     cond-deadlines d.must (owed_seen texts d) d (filter (λ o. o.must) (owes_seen texts ds)) (filter (λ d. d.must) ds) refl (must_deadlines-seen texts ds)
 
--- something has to be sent exactly if there is an earliest such deadline
+-- where others have an earliest deadline exactly if c, they and a debt that must be sent if b have one exactly if b or c
 is_some-cond : (b c : Bool) (d : Debt) (ds : List Debt) → is_some (earliest (map (λ d. d.deadline) ds)) ≡ c →
     is_some (earliest (map (λ d. d.deadline) (cond b (d ∷ ds) ds))) ≡ (b || c)
 is_some-cond true c d ds e = refl
 is_some-cond false c d ds e = e
 
+-- debts have an earliest deadline that must be met exactly if something of what they stand for must be sent
 pub is_some-deadlines : (texts : Texts) (ds : List Debt) → is_some (earliest (debt_deadlines ds)) ≡ list_any (λ o. o.must) (owes_seen texts ds)
 is_some-deadlines texts [] = refl
 is_some-deadlines texts (d ∷ ds) =
     is_some-cond d.must (list_any (λ o. o.must) (owes_seen texts ds)) d (filter (λ d. d.must) ds) (is_some-deadlines texts ds)
 
--- what is unexpired, and softened, beside the texts of a book
+-- the debts that still count at t are seen as what is still owed at t of all that the debts are seen as
 pub unexpired-seen : (t : ℕ) (texts : Texts) (ds : List Debt) → unexpired t (owes_seen texts ds) ≡ owes_seen texts (filter (counts_at t) ds)
 unexpired-seen t texts ds = filter-map (owed_seen texts) (λ owed. owed.must || nat_le t owed.deadline) ds
 
@@ -79,22 +81,24 @@ pub softened-seen : (texts : Texts) (ds : List Debt) → softened (owes_seen tex
 softened-seen texts [] = refl
 softened-seen texts (d ∷ ds) = ap (λ os. record { message = text_of texts d.message; deadline = d.deadline; must = false } ∷ os) (softened-seen texts ds)
 
--- what has to be sent at t or later
+-- what must be sent has no deadline before t
 abbrev pub AreDue : ℕ → List Owed → Type 0
 AreDue t owes = All (λ owed. owed.must ≡ true → t ≤ owed.deadline) owes
 
+-- where t is not after the deadlines of what is owed, it is not after that of the first, if that must be sent, nor after those of the others
 due-front : (t : ℕ) (b : Bool) (o : Owed) (os : List Owed) → All (λ m. t ≤ m) (map (λ o. o.deadline) (cond b (o ∷ os) os)) →
     (b ≡ true → t ≤ o.deadline) × All (λ m. t ≤ m) (map (λ o. o.deadline) os)
 due-front t true o os all =
     (λ _. All-head (λ m. t ≤ m) o.deadline (map (λ o. o.deadline) os) all, All-tail (λ m. t ≤ m) o.deadline (map (λ o. o.deadline) os) all)
 due-front t false o os all = (λ e. absurd (true≢false (sym e)), all)
 
+-- where t is not after the deadline of what is owed first, if that must be sent, nor after those of the others, it is not after those of all
 due-more : (t : ℕ) (b : Bool) (o : Owed) (os : List Owed) → (b ≡ true → t ≤ o.deadline) → All (λ m. t ≤ m) (map (λ o. o.deadline) os) →
     All (λ m. t ≤ m) (map (λ o. o.deadline) (cond b (o ∷ os) os))
 due-more t true o os here more = All-cons (λ m. t ≤ m) o.deadline (map (λ o. o.deadline) os) (here refl) more
 due-more t false o os here more = more
 
--- a moment is past no deadline of what has to be sent exactly if what has to be sent is due at it or later
+-- t is not after a deadline of what must be sent exactly if what must be sent has no deadline before t
 pub AreDue-deadlines : (t : ℕ) (owes : List Owed) → All (λ m. t ≤ m) (must_deadlines owes) ↔ AreDue t owes
 AreDue-deadlines t [] = (λ _. All-nil (λ owed. owed.must ≡ true → t ≤ owed.deadline), λ _. All-nil (λ m. t ≤ m))
 AreDue-deadlines t (o ∷ os) =
@@ -107,17 +111,17 @@ AreDue-deadlines t (o ∷ os) =
           (more.1 (All-tail (λ owed. owed.must ≡ true → t ≤ owed.deadline) o os due)),
     )
 
--- what is due is still due once the debts that have expired are dropped
+-- where what must be sent has no deadline before t, it has none once what has expired is dropped
 pub AreDue-unexpired : (t : ℕ) (owes : List Owed) → AreDue t owes → AreDue t (unexpired t owes)
 AreDue-unexpired t owes due =
     All-filter (λ owed. owed.must || nat_le t owed.deadline) (λ owed. owed.must ≡ true → t ≤ owed.deadline) owes due
 
--- what is due is still due once a debt is paid
+-- where what must be sent has no deadline before t, it has none once a message was paid
 pub AreDue-paid : (Satisfies : List ℕ → Type 0) (t : ℕ) (owes left : List Owed) → Pays Satisfies t owes left → AreDue t owes → AreDue t left
 AreDue-paid Satisfies t owes left pays due =
     All-without (λ owed. Satisfies owed.message × (t ≤ owed.deadline)) (λ owed. owed.must ≡ true → t ≤ owed.deadline) owes left pays due
 
--- debts that only may be sent are never overdue
+-- what only may be sent has no deadline that must be met
 pub AreDue-softened : (t : ℕ) (owes : List Owed) → AreDue t (softened owes)
 AreDue-softened t owes =
     All-map (λ owed. owed.must ≡ true → t ≤ owed.deadline) (λ owed. record { message = owed.message; deadline = owed.deadline; must = false })
@@ -133,7 +137,7 @@ IsWithin-owed t timers owes =
       λ h. all.1 (All-append (λ m. t ≤ m) timers (must_deadlines owes) h.0 (due.1 h.1)),
     )
 
--- a debt that a number pays stands for one that the bytes pay
+-- a debt can be paid by a send of the number n exactly if its message has the same bytes and its deadline is not before t
 payable-seen : (texts : Texts) (n t : ℕ) → IsBook texts → Keeps texts n → (d : Debt) → Keeps texts d.message →
     IsTrue (is_payable n t d) ↔ ((text_of texts d.message ≡ text_of texts n) × (t ≤ d.deadline))
 payable-seen texts n t book kept d d_kept = (
@@ -147,12 +151,13 @@ payable-seen texts n t book kept d d_kept = (
       grind (arith, nat_tests),
 )
 
--- the messages of debts that are kept
+-- what holds of the numbers that debts name holds of the message of each debt
 pub All-names : (P : ℕ → Type 0) (ds : List Debt) → All P (owes_names ds) → All (λ d. P d.message) ds
 All-names P [] all = All-nil (λ d. P d.message)
 All-names P (d ∷ ds) all =
     All-cons (λ d. P d.message) d ds (All-head P d.message (owes_names ds) all) (All-names P ds (All-tail P d.message (owes_names ds) all))
 
+-- each debt can be paid by a send of the number n exactly if its message has the same bytes and its deadline is not before t
 pub payables-seen : (texts : Texts) (n t : ℕ) (ds : List Debt) → IsBook texts → Keeps texts n → All (Keeps texts) (owes_names ds) →
     All (λ d. IsTrue (is_payable n t d) ↔ ((text_of texts d.message ≡ text_of texts n) × (t ≤ d.deadline))) ds
 payables-seen texts n t ds book kept known =

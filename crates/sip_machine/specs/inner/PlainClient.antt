@@ -6,12 +6,11 @@ use Rattle.sip_machine.specs.Texts.{Texts}
 use Rattle.sip_machine.specs.inner.Waiting.{waiting_seen, WaitingInRange}
 use Rattle.sip_machine.specs.inner.Coded.{Coded}
 use Rattle.sip_standard.specs.PlainClient.{PlainClientPhase, Idle, Ended, Trying, Proceeding, Completed}
-use Rattle.sip_standard.specs.PhaseWords.{plain_client_told}
 pub mod Laws
 
 -- The phases of the code, whose messages are numbers of a book.
 
--- the phase that a phase of the code stands for
+-- the phase of the figure that a phase of the code stands for beside a book
 abbrev pub plain_client_seen : Texts → CodePhase → PlainClientPhase
 plain_client_seen texts code.Idle = Idle
 plain_client_seen texts (code.Trying w) = Trying (waiting_seen texts w)
@@ -19,20 +18,20 @@ plain_client_seen texts (code.Proceeding w) = Proceeding (waiting_seen texts w)
 plain_client_seen texts (code.Completed reliable set) = Completed reliable set
 plain_client_seen texts code.Ended = Ended
 
--- the numbers of the messages that it names
+-- the numbers of the messages that a phase of the code names
 abbrev pub plain_client_names : CodePhase → List ℕ
 plain_client_names (code.Trying w) = w.request ∷ []
 plain_client_names (code.Proceeding w) = w.request ∷ []
 plain_client_names x = []
 
--- its moments are within the limits, and its interval is below 2^50, so that no sum wraps
+-- the moments of a phase of the code are within the limits, and its interval is below 2^50, so that no sum wraps
 abbrev pub PlainClientInRange : CodePhase → Type 0
 PlainClientInRange (code.Trying w) = WaitingInRange w
 PlainClientInRange (code.Proceeding w) = WaitingInRange w
 PlainClientInRange (code.Completed reliable set) = set ≤ last_moment
 PlainClientInRange x = ⊤
 
--- how the code has it
+-- how the code has the phases of the non-INVITE client
 abbrev pub plain_client_coded : Coded PlainClientPhase
 plain_client_coded =
     record {
@@ -42,5 +41,4 @@ plain_client_coded =
       InRange = PlainClientInRange;
       idle = code.Idle;
       ended = code.Ended;
-      told = plain_client_told;
     }

@@ -5,7 +5,7 @@ use Rattle.sip_message.specs.Reads.{Reads}
 use Rattle.sip_standard.specs.Outcome.{stops}
 use Rattle.sip_standard.specs.Says.{Says}
 
--- what bytes of a book are read as, none where they have a fault
+-- what bytes are read as is this message, and nothing where they have a fault
 abbrev pub IsReadAs : List ℕ → Option Reading → Type 0
 IsReadAs bytes (Some r) = Reads bytes r
 IsReadAs bytes None = (f : Fault) × Says bytes (stops f)

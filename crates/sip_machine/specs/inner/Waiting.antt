@@ -5,17 +5,17 @@ use Rattle.sip_standard.specs.Window.{close_at}
 use Rattle.sip_machine.specs.Texts.{Texts, text_of}
 use Rattle.sip_standard.specs.Waiting.{Waiting}
 
--- until when its timers let it wait: timer B or F, which was set for so long, and over an unreliable transport timer A or E
+-- the moments up to which a request may wait: timer B or F, which lasts `patience`, and over an unreliable transport timer A or E
 abbrev pub waiting_closes : Times → Waiting → ℕ → List ℕ
 waiting_closes p w patience = close_at p w.start patience ∷ (if w.reliable then [] else close_at p w.set w.interval ∷ [])
 
 -- The waiting requests of the code, whose messages are numbers of a book.
 
--- what it stands for, beside the texts of a book
+-- the waiting request that one of the code stands for beside a book
 abbrev pub waiting_seen : Texts → CodeWaiting → Waiting
 waiting_seen texts w =
     record { reliable = w.reliable; request = text_of texts w.request; start = w.start; set = w.set; interval = w.interval }
 
--- its moments are within the limits, and its interval is below 2^50
+-- the moments of a waiting request are within the limits, and its interval is below 2^50
 abbrev pub WaitingInRange : CodeWaiting → Type 0
 WaitingInRange w = (w.start ≤ last_moment) × (w.set ≤ last_moment) × (w.interval < 2 ^ 50)

@@ -11,15 +11,15 @@ use Rattle.sip_standard.specs.Waiting.{Waiting}
 use Rattle.sip_machine.specs.inner.Waiting.{waiting_closes, waiting_seen}
 use Rattle.sip_machine.specs.inner.MessageLaws.{message_apart}
 
--- Laws of requests that wait, and of timers that start.
+-- Laws of requests that wait, and of timers as they start.
 
--- waiting requests with the same data are the same one
+-- waiting requests of the code with the same data are the same one
 waiting_same : (v w : CodeWaiting) → v.reliable ≡ w.reliable → v.request ≡ w.request → v.start ≡ w.start →
     v.set ≡ w.set → v.interval ≡ w.interval → v ≡ w
 waiting_same v w reliable request start set interval =
     let e : record { reliable = v.reliable; request = v.request; start = v.start; set = v.set; interval = v.interval } ≡ w = rw (reliable, request, start, set, interval) in e
 
--- equal waiting requests of the code are the same one
+-- waiting requests of the code that the test finds equal are the same one
 pub waiting_exact : (v w : CodeWaiting) → derived.ghosts.eq v w ≡ true → v ≡ w
 waiting_exact v w e =
     waiting_same v w (grind (arith, nat_tests)) (grind (arith, nat_tests)) (grind (arith, nat_tests)) (grind (arith, nat_tests)) (grind (arith, nat_tests))
@@ -37,16 +37,16 @@ pub waiting_by_names : (a b : Texts) (w : CodeWaiting) → ((n : ℕ) → Contai
 waiting_by_names a b w agree =
     ap (λ (text : List ℕ). record { reliable = w.reliable; request = text; start = w.start; set = w.set; interval = w.interval }) (agree w.request (0, omega arith, refl))
 
--- a timer that starts is not past
+-- a timer that starts at t is not past at t
 pub timer_starts : (p : Times) (t duration : ℕ) → All (λ m. t ≤ m) (close_at p t duration ∷ [])
 timer_starts p t duration = All-cons (λ m. t ≤ m) (close_at p t duration) [] (omega arith) (All-nil (λ m. t ≤ m))
 
--- a timer that sends again over an unreliable transport is not past when it starts, beside another that is not
+-- at t, a timer that is not past and one that starts over an unreliable transport are not past
 pub repeat_starts : (p : Times) (t m interval : ℕ) (reliable : Bool) → t ≤ m → All (λ m. t ≤ m) (m ∷ (if reliable then [] else close_at p t interval ∷ []))
 repeat_starts p t m interval true low = All-cons (λ m. t ≤ m) m [] low (All-nil (λ m. t ≤ m))
 repeat_starts p t m interval false low = All-cons (λ m. t ≤ m) m (close_at p t interval ∷ []) low (timer_starts p t interval)
 
--- the timer that gives a waiting request up is not past while its timers are not
+-- where the timers of a waiting request are not past at t, the one that gives it up is not
 pub patience_lasts : (p : Times) (w : Waiting) (t patience : ℕ) → All (λ m. t ≤ m) (waiting_closes p w patience) → t ≤ close_at p w.start patience
 patience_lasts p w t patience running =
     All-head (λ m. t ≤ m) (close_at p w.start patience) (if w.reliable then [] else close_at p w.set w.interval ∷ []) running

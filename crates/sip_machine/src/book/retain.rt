@@ -1,4 +1,4 @@
-//! What forgets messages: places move, and messages go.
+//! How a book forgets messages: places move, and messages go.
 ghost use Rattle.std.specs.Prelude.{◌≡◌, ◌<◌, ◌≤◌, length, take, All, AllPairs};
 ghost use Rattle.std.specs.List.{filter_map};
 ghost use Rattle.sip_machine.specs.inner.Retain.{number_at, moved, merged};
@@ -6,7 +6,7 @@ ghost use Rattle.sip_machine.specs.inner.Order.{texts_of, places_of, most_places
 
 use super::{KeptMessage, Place, PlaceRun};
 
-/// The number of the message at a position, 0 past the last one.
+/// The number of the message at a position, and 0 past the last one.
 fn number_at(kept: &[KeptMessage], position: usize) -> u32
     ensures { result ≡ number_at (texts_of kept.now) position }
 {
@@ -16,7 +16,7 @@ fn number_at(kept: &[KeptMessage], position: usize) -> u32
     }
 }
 
-/// Where the message at a place goes once these numbers alone are kept.
+/// The place of a message once the messages of these numbers alone are kept, if it is one of them.
 fn moved(kept: &[KeptMessage], place: Place, numbers: &[u32]) -> Option<Place>
     requires { AllPairs (λ a b. a < b) numbers.now }
     ensures { result ≡ moved (texts_of kept.now) numbers.now place }
@@ -28,7 +28,7 @@ fn moved(kept: &[KeptMessage], place: Place, numbers: &[u32]) -> Option<Place>
     }
 }
 
-/// Moves the places of the messages with these numbers, and forgets the others.
+/// Moves the places of the messages with these numbers, and drops those of the others.
 fn move_places(places: &mut Vec<Place>, kept: &[KeptMessage], numbers: &[u32])
     requires { AllPairs (λ a b. a < b) numbers.now }
     ensures places { places.new.items ≡ filter_map (moved (texts_of kept.now) numbers.now) places.old.items }
@@ -44,7 +44,7 @@ fn move_places(places: &mut Vec<Place>, kept: &[KeptMessage], numbers: &[u32])
     places.truncate(left);
 }
 
-/// The same in one run, which may be left with no place.
+/// Moves the places of one run, and drops those of messages that go. The run may be left without a place.
 fn move_run(run: &mut PlaceRun, kept: &[KeptMessage], numbers: &[u32])
     requires { AllPairs (λ a b. a < b) numbers.now }
     ensures places { run.new.places.items ≡ filter_map (moved (texts_of kept.now) numbers.now) run.old.places.items }
@@ -57,7 +57,7 @@ fn move_run(run: &mut PlaceRun, kept: &[KeptMessage], numbers: &[u32])
     }
 }
 
-/// The same in all runs, of which those that are left with no place go.
+/// Moves the places of all runs, and drops the runs that are left without a place.
 pub(super) fn move_all(runs: &mut Vec<PlaceRun>, kept: &[KeptMessage], numbers: &[u32])
     requires rising { AllPairs (λ a b. a < b) numbers.now }
     requires short { All (λ run. length run.places.items ≤ most_places) runs.old.items }
@@ -71,7 +71,7 @@ pub(super) fn move_all(runs: &mut Vec<PlaceRun>, kept: &[KeptMessage], numbers: 
     runs.retain(|run| !run.places.is_empty());
 }
 
-/// Forgets the messages but those with these numbers, and sets buffers of the others aside.
+/// Keeps the messages with these numbers alone, and sets buffers of the others aside.
 pub(super) fn keep_only(kept: &mut Vec<KeptMessage>, spare: &mut Vec<Vec<u8>>, numbers: &[u32])
     ensures { texts_of kept.new.items ≡ merged numbers.now (texts_of kept.old.items) }
 {
@@ -89,7 +89,7 @@ pub(super) fn keep_only(kept: &mut Vec<KeptMessage>, spare: &mut Vec<Vec<u8>>, n
 /// How many more buffers are set aside than messages stay.
 const MORE: usize = 64;
 
-/// Sets buffers of the last messages aside until so many messages are left, and no more of them than there are to be and than
+/// Sets the buffers of the last messages aside until `left` messages are left, but only as many as there are to be, and as
 /// there is room for.
 fn set_aside(kept: &mut Vec<KeptMessage>, spare: &mut Vec<Vec<u8>>, left: usize)
     requires { left ≤ length kept.old.items }
@@ -107,7 +107,7 @@ fn set_aside(kept: &mut Vec<KeptMessage>, spare: &mut Vec<Vec<u8>>, left: usize)
     }
 }
 
-/// Sets the buffer of a message aside that was forgotten.
+/// Sets the buffer of a message that was forgotten aside.
 pub(super) fn lay_aside(spare: &mut Vec<Vec<u8>>, bytes: Vec<u8>) {
     if spare.len() < MORE {
         let _ = spare.push(bytes);

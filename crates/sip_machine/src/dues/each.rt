@@ -1,4 +1,4 @@
-//! What many states owe, changed at once.
+//! What many states owe, when many of them change at once.
 ghost use Rattle.std.specs.Prelude.{◌≡◌, ◌<◌, ◌≤◌, ◌&&◌, ◌++◌, ◌∷◌, [], List, None, All, IfOk, OnOk, OnErr, drop, filter, length, map, take};
 ghost use Rattle.std.specs.List.{list_any};
 ghost use Rattle.sip_ledger.specs.declared.debt.Debt.{Debt};
@@ -19,7 +19,7 @@ impl Dues {
         self.rows
     }
 
-    /// Keeps just the rows at the indices, which rise.
+    /// Keeps the rows at the indices, which rise, and drops the others.
     pub(crate) fn keep(&mut self, rows: &[usize])
         requires within { All (λ row. row < length self.old) rows.now }
         requires rising { Rise rows.now }
@@ -31,8 +31,8 @@ impl Dues {
         self.rows = rows.len();
     }
 
-    /// Puts a copy of each row from one up to another after the others, but of those that must send something that is past at the
-    /// moment. On an error all is as before.
+    /// Puts a copy of each row from `from` up to `to` after the others, except for rows that must send something that is past at
+    /// the moment. On an error all is as before.
     pub(crate) fn push_timely(
         &mut self,
         from: usize,
@@ -56,7 +56,7 @@ impl Dues {
         Ok(())
     }
 
-    /// The same, but of those alone that have a debt that a send of the message at the moment pays.
+    /// Puts a copy of each row from `from` up to `to` after the others that is timely and has a debt that a send of the message at the moment pays.
     pub(crate) fn push_payable(
         &mut self,
         from: usize,
@@ -76,7 +76,7 @@ impl Dues {
         Ok(())
     }
 
-    /// Lets each row from one on owe one more debt, after its others. On an error the rows before them are as they were.
+    /// Lets each row from `from` on owe one more debt, after its others. On an error the rows before them are as they were.
     pub(crate) fn gain_each(
         &mut self,
         alloc: Global,
@@ -100,7 +100,7 @@ impl Dues {
         Ok(())
     }
 
-    /// Takes out of each row from one on the first debt that a send of the message at the moment pays, if there is one.
+    /// Takes out of each row from `from` on the first debt that a send of the message at the moment pays, if there is one.
     pub(crate) fn pay_each(&mut self, from: usize, message: u32, moment: u64)
         ensures { self.new ≡ take from self.old ++ map (paid_by message moment) (drop from self.old) }
     {
@@ -109,7 +109,7 @@ impl Dues {
         }
     }
 
-    /// Drops what each row from one on may send and whose deadline is below the moment.
+    /// Drops those debts of each row from `from` on that may be sent, and whose deadline is below the moment.
     pub(crate) fn expire_each(&mut self, from: usize, moment: u64)
         ensures { self.new ≡ take from self.old ++ map (filter (counts_at moment)) (drop from self.old) }
     {
@@ -119,7 +119,7 @@ impl Dues {
     }
 }
 
-/// A ledger of so many rows, of which each from one on owes a debt and no other owes anything.
+/// A ledger of `rows` rows, of which each from `from` on owes this debt, and no other owes anything.
 fn opened_from(
     alloc: Global,
     rows: usize,

@@ -1,5 +1,5 @@
-//! Which response an ACK is for: the INVITE and the ACK of the `Book` are read anew, and tell all but the response,
-//! which is told by its To alone.
+//! The response to which an ACK belongs: the INVITE and the ACK are read anew, and tell all but the response, which is told by
+//! its To alone.
 ghost use Rattle.std.specs.Prelude.{◌≡◌, ◌≢◌, ◌<◌, ◌≤◌, [], IfOk, All, length};
 ghost use Rattle.sip_ledger.specs.Runs.{debts_in};
 ghost use Rattle.sip_machine.specs.Owes.{owed_in, owes_names};
@@ -18,8 +18,8 @@ use sip_key::{is_ack_for, solid_of};
 use sip_ledger::Run;
 use std::alloc::{AllocError, Global};
 
-/// The message of the first debt of the row that is a response to the INVITE that the event's message is the ACK for
-/// (RFC 3261, section 17.1.1.3), and whose deadline has not passed; None if there is none.
+/// The message of the first debt of the row that is a response to the INVITE to which the event's ACK belongs (RFC 3261,
+/// section 17.1.1.3), and whose deadline has not passed; None if there is none.
 pub(crate) fn first_acked(
     alloc: Global,
     book: &Book,
@@ -52,8 +52,8 @@ pub(crate) fn first_acked(
     first_with_to(alloc, book, &to, event.moment(), dues, row)
 }
 
-/// The message of the first debt of the row that has this To, from which the blanks were taken, and whose deadline has not
-/// passed.
+/// The message of the first debt of the row whose message has this To, from which the blanks were taken, and whose deadline has
+/// not passed.
 fn first_with_to(
     alloc: Global,
     book: &Book,
@@ -79,11 +79,11 @@ fn first_with_to(
     }
 }
 
-/// So many messages are looked at one by one, which costs less than to find the one message that has a To.
+/// Where fewer messages than this may be owed, they are looked at one by one, which costs less than to find the one with a To.
 const FEW: u32 = 8;
 
-/// Which of the messages from the number `low` up to `high` has this To, where no other one has it and there is one alone, or
-/// there are many.
+/// Which of the messages with numbers from `low` up to `high` has this To. It is told where there is one message alone, or where
+/// there are many and no two have the To.
 fn holder(
     alloc: Global,
     book: &Book,
@@ -104,7 +104,7 @@ fn holder(
     Ok(book.holder(to, low, high))
 }
 
-/// The same for the debts of these runs, by a look at each in their order, in which their messages mostly came.
+/// The message of the first of these runs whose message has this To, found by a look at each in their order, in which the messages mostly came.
 fn first_of_runs(
     alloc: Global,
     book: &Book,

@@ -1,4 +1,4 @@
-//! The step of the machine of a transaction from many states. Those of one phase that stand side by side take it together.
+//! The step of the machine of a transaction from many states. States of one phase that stand side by side take it together.
 ghost use Rattle.std.specs.Prelude.{◌≡◌, ◌≢◌, ◌<◌, ◌≤◌, ◌^◌, ◌++◌, ℕ, List, All, IfOk, OnOk, length, take};
 ghost use Rattle.std.specs.Option.{option_map};
 ghost use Rattle.std.specs.List.{HoldsAt};
@@ -23,8 +23,8 @@ use crate::pool::Pool;
 use sip_times::Action;
 use std::alloc::{AllocError, Global};
 
-/// Puts after the states those that a received message gives from the first ones, as many. On an error some may have been put
-/// after the others.
+/// Puts the states that a received message gives from the first `count` states after the others. On an error some may have been
+/// put there already.
 pub(crate) fn receives_each<M: Phases>(
     machine: &M,
     book: &Book,
@@ -45,7 +45,7 @@ pub(crate) fn receives_each<M: Phases>(
     leads_each(machine, book, pool, count, event)
 }
 
-/// The same of a message that is sent.
+/// Puts the states that a sent message gives from the first `count` states after the others.
 pub(crate) fn sends_each<M: Phases>(
     machine: &M,
     book: &Book,
@@ -72,7 +72,7 @@ pub(crate) fn sends_each<M: Phases>(
     Ok(())
 }
 
-/// The same from states of one phase.
+/// Puts the states that a sent message gives from those from `from` up to `to`, which are of one phase, after the others.
 fn sends_run<M: Phases>(
     machine: &M,
     book: &Book,
@@ -97,7 +97,7 @@ fn sends_run<M: Phases>(
     rests_run(machine, book, pool, from, to, event)
 }
 
-/// The same of any event, one by one.
+/// Puts the states that any event gives from the first `count` states after the others, asking one state after the other.
 pub(crate) fn steps_each<M: Phases>(
     machine: &M,
     book: &Book,
@@ -120,7 +120,7 @@ pub(crate) fn steps_each<M: Phases>(
     Ok(())
 }
 
-/// Puts after the states those to which the rows of the event lead from the first ones, as many.
+/// Puts the states to which the rows of the event lead from the first `count` states after the others.
 fn leads_each<M: Phases>(
     machine: &M,
     book: &Book,
@@ -146,7 +146,7 @@ fn leads_each<M: Phases>(
     Ok(())
 }
 
-/// The same from states of one phase.
+/// Puts the states to which the row of the event leads from those from `from` up to `to`, which are of one phase, after the others.
 fn leads_run<M: Phases>(
     machine: &M,
     book: &Book,
@@ -177,7 +177,7 @@ fn leads_run<M: Phases>(
     }
 }
 
-/// Where the event leads from the phase: a received message leads to the phase itself where it has no row.
+/// Where the event leads from the phase. A received message leads to the phase itself where it has no row.
 fn turn_of<M: Phases>(
     alloc: Global,
     machine: &M,
@@ -210,7 +210,7 @@ fn turn_of<M: Phases>(
     }
 }
 
-/// Puts after the states those to which a message that is sent leads from states of one phase, and that leaves the phase as it is.
+/// Puts the states that a sent message leaves in their phase, of those from `from` up to `to`, which are of one phase, after the others.
 fn rests_run<M: Phases>(
     machine: &M,
     book: &Book,
@@ -243,7 +243,7 @@ fn rests_run<M: Phases>(
     }
 }
 
-/// The same, one by one.
+/// Puts the states that a sent message leaves in their phase after the others, asking one state after the other.
 fn rests_rows<M: Phases>(
     machine: &M,
     book: &Book,
@@ -268,7 +268,7 @@ fn rests_rows<M: Phases>(
     Ok(())
 }
 
-/// The same from one state.
+/// Puts the state that a sent message leaves in its phase after the others, if it leaves the one at the index.
 fn rests_row<M: Phases>(
     machine: &M,
     book: &Book,

@@ -1,4 +1,4 @@
-//! The states of a pool of which many take the same step.
+//! The states of a pool, many of which take the same step.
 ghost use Rattle.std.specs.Prelude.{◌≡◌, ◌<◌, ◌≤◌, ◌&&◌, ◌++◌, ℕ, All, OnOk, OnErr, filter, get_or, length, map, replicate};
 ghost use Rattle.std.specs.List.{HoldsAt, list_any};
 ghost use Rattle.sip_ledger.specs.Debts.{is_payable, is_timely};
@@ -14,7 +14,7 @@ use sip_times::Params;
 use std::alloc::AllocError;
 
 impl<P: Phase> Pool<P> {
-    /// One past the last state, from this one up to a limit, up to which all are in its phase.
+    /// The end of the states from `at` on that are in the phase of the one at `at`: one past the last of them, `limit` at most.
     pub(crate) fn run_end(&self, at: usize, limit: usize) -> usize
         requires at { at < limit }
         requires limit { limit ≤ length self.now }
@@ -29,7 +29,7 @@ impl<P: Phase> Pool<P> {
         end
     }
 
-    /// Puts a copy of each state from one up to another after the others that goes where the row leads, but of those that must
+    /// Puts a copy of each state from `from` up to `to` after the others that goes where the row leads, except for states that must
     /// send something that is past at the moment. On an error all is as before.
     pub(crate) fn push_led_each(
         &mut self,
@@ -57,8 +57,8 @@ impl<P: Phase> Pool<P> {
         Ok(())
     }
 
-    /// Puts a copy of each state from one up to another, which are in one phase, after the others that has paid the first debt that
-    /// a send of the message at the moment pays, but of those that can pay none, or must send something that is past then. On an
+    /// Puts a copy of each state from `from` up to `to`, which are in one phase, after the others that has paid the first debt that a
+    /// send of the message at the moment pays. States that can pay none, or must send something that is past then, are left out. On an
     /// error all is as before.
     pub(crate) fn push_paid_each(
         &mut self,
@@ -87,7 +87,7 @@ impl<P: Phase> Pool<P> {
     }
 }
 
-/// Puts a phase so many times after the others. On an error they are as before.
+/// Puts the phase after the others `count` times. On an error the phases are as before.
 fn push_phases<P: Phase>(phases: &mut Vec<P>, count: usize, phase: P) -> Result<(), AllocError>
     ensures ok { OnOk result (phases.new.items ≡ phases.old.items ++ replicate count phase) }
     ensures err { OnErr result (phases.new.items ≡ phases.old.items) }

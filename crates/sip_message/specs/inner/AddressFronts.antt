@@ -20,12 +20,12 @@ use Rattle.sip_message.specs.inner.ParamFronts.{QuotedFront}
 abbrev pub Words : List ℕ → Type 0
 Words = Token then Many (Blanks then Token)
 
--- all the words at the front, and what is left: after its blanks no token begins
+-- all the words at the front of the text, and what is left; no token begins after the blanks of what is left
 abbrev pub WordsFront : List ℕ → List ℕ × List ℕ → Type 0
 WordsFront text (words, rest) =
     Words words × ((stop : List ℕ) × Behind rest stop × Stops is_token_byte stop) × (text ≡ words ++ rest)
 
--- a display name, and what is left
+-- a display name at the front of the text, and what is left
 abbrev pub NameFront : List ℕ → List ℕ × List ℕ → Type 0
 NameFront text name = QuotedFront text name ⊎ WordsFront text name
 
@@ -35,23 +35,23 @@ DisplayFront text (None, inner) = text ≡ left_angle ∷ inner
 DisplayFront text (Some name, inner) =
     (rest : List ℕ) × NameFront text (name, rest) × Behind rest (left_angle ∷ inner)
 
--- the text begins with a scheme, if it has one
+-- the text begins with a token and a colon, as a URI does
 abbrev pub HasScheme : List ℕ → Type 0
 HasScheme text =
     (scheme : List ℕ) × (rest : List ℕ) × AllByRecursion (λ byte. is_token_byte byte ≡ true) scheme
     × (text ≡ scheme ++ colon ∷ rest)
 
--- a byte of a URI that stands without "<"
+-- a byte that a URI may hold where it stands without "<"
 abbrev pub is_unmarked_byte : ℕ → Bool
 is_unmarked_byte byte = not (is_lws_byte byte) && not (is_among ",?;" byte)
 
--- the display name, the text of the URI, and what follows them
+-- the parts in which an address is cut: the display name, the text of the URI, and what follows these
 pub record CutParts : Type 0 where
   pub display : Option (List ℕ)
   pub uri : List ℕ
   pub rest : List ℕ
 
--- the URI ends at the first ">"; without "<" where a byte stands that it cannot hold
+-- the text is cut into these parts: a URI in "<" ends at the first ">", and one without "<" where a byte stands that it cannot hold
 pub data AddressCut (text : List ℕ) (c : CutParts) : Type 0 where
   named : (inner : List ℕ) → DisplayFront text (c.display, inner)
       → c.uri ≡ before right_angle inner → behind right_angle inner ≡ Some c.rest → AddressCut text c
@@ -59,12 +59,12 @@ pub data AddressCut (text : List ℕ) (c : CutParts) : Type 0 where
       → AllByRecursion (λ byte. is_unmarked_byte byte ≡ true) c.uri → Stops is_unmarked_byte c.rest
       → text ≡ c.uri ++ c.rest → AddressCut text c
 
--- the whole text is parameters, after their blanks
+-- the whole text is these parameters, with blanks before them
 abbrev pub TailText : List ℕ → List ℕ → Type 0
 TailText text params =
     BehindBlanks params text × ((ps : List (List ℕ × Option (List ℕ))) × ParamsPart params ps)
 
--- an address, step by step
+-- the whole text is an address of these parts, by the steps in which it is read
 abbrev pub AddressSteps : List ℕ → List ℕ × AddressParts → Type 0
 AddressSteps text =
     Seq (AddressCut text) (λ c.

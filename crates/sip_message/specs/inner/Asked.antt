@@ -13,20 +13,21 @@ use Rattle.sip_message.specs.ViaParts.{element}
 use Rattle.sip_message.specs.ValueParts.{cseq_parts}
 use Rattle.sip_message.specs.inner.ElementFronts.{FirstVia}
 
--- what the one field of the name says, or that there is none
+-- what the one field of the name says, or None where there is no field of the name
 abbrev pub OnceSays : {X : Type 0} → (List ℕ → X → Type 0) → Known → List Field → Option X → Type 0
 OnceSays R k fields None = found k fields ≡ []
 OnceSays R k fields (Some x) = (one : ℕ × List ℕ) × (found k fields ≡ one ∷ []) × R (one.1) x
 
--- what the first field of the name says, or that there is none
+-- what the first field of the name says, or None where there is no field of the name
 abbrev pub FirstSays : {X : Type 0} → (List ℕ → X → Type 0) → Known → List Field → Option X → Type 0
 FirstSays R k fields None = found k fields ≡ []
 FirstSays R k fields (Some x) = (one : ℕ × List ℕ) × IsFirstFound k fields one × R (one.1) x
 
--- the value itself
+-- a value says itself
 abbrev pub Itself : List ℕ → List ℕ → Type 0
 Itself value text = text ≡ value
 
+-- what the quick reader keeps is what these fields say: the first Via, and the one field of each other name
 pub record AskedOf (fields : List Field) (a : Asked) : Type 0 where
   pub via : FirstSays FirstVia known_name.Via fields (option_map element a.via)
   pub from : OnceSays Itself known_name.From fields (option_copied a.from)
@@ -35,11 +36,11 @@ pub record AskedOf (fields : List Field) (a : Asked) : Type 0 where
   pub cseq : OnceSays CSeqValue known_name.CSeq fields (option_map cseq_parts a.cseq)
   pub content_length : OnceSays Itself known_name.ContentLength fields (option_copied a.content_length)
 
--- what is kept of fields, and then what is kept of them and a further one
+-- where `old` is kept of some fields, `new` is kept of them and a further field f
 abbrev pub AsksMore : Field → Asked → Asked → Type 0
 AsksMore f old new = (fields : List Field) → AskedOf fields old → AskedOf (fields ++ f ∷ []) new
 
--- whether the text says an element of Via, which is kept if none is kept yet
+-- whether the text says an element of Via; what it says is kept where no element is kept yet
 abbrev pub KeepsVia : List ℕ → Bool → Option Via → Option Via → Type 0
 KeepsVia text is old new =
     (said : Option Via) × IsOnlyValue FirstVia element text said × (is ≡ is_some said) × (new ≡ option_or old said)

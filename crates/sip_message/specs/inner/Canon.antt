@@ -19,11 +19,11 @@ name_text (other text) = text
 abbrev pub field_text : Field → List ℕ
 field_text f = name_text f.name ++ colon ∷ space ∷ f.value
 
--- the canonical form: each line with its end, an empty line, and the body
+-- the canonical form of a message: each line with its end, an empty line, and the body
 abbrev pub canon : Message → List ℕ
 canon m = flat_map with_end (start_text m.start ∷ map field_text m.fields) ++ (crlf ++ m.body)
 
--- the text was appended, or, where memory was refused, some bytes
+-- on success the text was appended to `old`; where memory was refused, some bytes were
 abbrev pub Appends : {A E : Type 0} → List ℕ → List ℕ → List ℕ → Result A E → Type 0
 Appends old new text (Ok _) = new ≡ old ++ text
 Appends old new text (Err _) = (part : List ℕ) × (new ≡ old ++ part)
@@ -33,6 +33,6 @@ abbrev pub HasCode : StartLine → Type 0
 HasCode (request method uri) = ⊤
 HasCode (status code reason) = (100 ≤ code) × (code < 700)
 
--- the fields of the canonical form, each with its line's end
+-- the text of fields in the canonical form, each with its line's end
 abbrev pub fields_text : List Field → List ℕ
 fields_text fields = flat_map with_end (map field_text (map unfolded_field fields))

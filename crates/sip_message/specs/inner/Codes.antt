@@ -1,4 +1,4 @@
--- How the parts of a message are stored as lists and numbers, so that they are sets.
+-- How the parts of a message are written as lists and numbers, so that equality of them is a fact without content.
 use Rattle.std.specs.Prelude.{◌≡◌, ◌⊎◌, refl, ℕ, zero, suc, Bool, List, Option}
 use Rattle.std.proofs.Common.{inl, inr}
 use Rattle.std.specs.Coded.{Coded, code_by, coded_ℕ, coded_bool, coded_list, coded_option, coded×, coded⊎}
@@ -9,17 +9,19 @@ use Rattle.sip_message.specs.Address.{AddressParts}
 use Rattle.sip_message.specs.Elements.{Element}
 use Rattle.sip_message.specs.Reading.{Parts}
 
--- a host is stored as its kind and its text
+-- a host as its kind and its text
 abbrev host_data : HostParts → ℕ × List ℕ
 host_data (name text) = (0, text)
 host_data (v4 text) = (1, text)
 host_data (v6 text) = (2, text)
 
+-- the host of a kind and a text
 abbrev data_host : ℕ × List ℕ → HostParts
 data_host (zero, text) = name text
 data_host (suc zero, text) = v4 text
 data_host (suc (suc _), text) = v6 text
 
+-- the host of the kind and the text of a host is the host
 pub host-data : (h : HostParts) → data_host (host_data h) ≡ h
 host-data (name text) = refl
 host-data (v4 text) = refl
@@ -31,6 +33,7 @@ host_code = code_by (ℕ × List ℕ) (coded× coded_ℕ (coded_list coded_ℕ))
 abbrev text_code : Coded (List ℕ)
 text_code = coded_list coded_ℕ
 
+-- an element of Via as lists and numbers
 abbrev pub element_code : Coded Element
 element_code = coded× text_code via_code
   where
@@ -44,7 +47,7 @@ element_code = coded× text_code via_code
 abbrev pub elements_code : Coded (List Element)
 elements_code = coded_list element_code
 
--- a URI is stored as the one or the other
+-- a URI as the parts of a SIP URI, or as a scheme and a rest
 abbrev uri_data : UriParts → SipParts ⊎ (List ℕ × List ℕ)
 uri_data (sip p) = inl p
 uri_data (other scheme rest) = inr (scheme, rest)
@@ -57,6 +60,7 @@ pub uri-data : (u : UriParts) → data_uri (uri_data u) ≡ u
 uri-data (sip p) = refl
 uri-data (other scheme rest) = refl
 
+-- the parts of a SIP URI as lists and numbers
 abbrev pub sip_code : Coded SipParts
 sip_code = code_by (Bool × (Option (List ℕ) × (Option (List ℕ) × (HostParts × (Option (List ℕ) × (List ℕ × Option (List ℕ)))))))
     (coded× coded_bool (coded× (coded_option text_code) (coded× (coded_option text_code) (coded× host_code (coded× (coded_option text_code) (coded× text_code (coded_option text_code)))))))
@@ -67,6 +71,7 @@ sip_code = code_by (Bool × (Option (List ℕ) × (Option (List ℕ) × (HostPar
 abbrev pub uri_code : Coded UriParts
 uri_code = code_by (SipParts ⊎ (List ℕ × List ℕ)) (coded⊎ sip_code (coded× text_code text_code)) uri_data data_uri uri-data
 
+-- the parts of an address as lists and numbers
 abbrev pub address_code : Coded AddressParts
 address_code = code_by (Option (List ℕ) × (List ℕ × (UriParts × List ℕ)))
     (coded× (coded_option text_code) (coded× text_code (coded× uri_code text_code)))
@@ -74,6 +79,7 @@ address_code = code_by (Option (List ℕ) × (List ℕ × (UriParts × List ℕ)
     (λ d. record { display = d.0; uri_text = d.1.0; uri = d.1.1.0; params = d.1.1.1 })
     (λ _. refl)
 
+-- the parts of the named fields as lists and numbers
 abbrev pub parts_code : Coded Parts
 parts_code = code_by (Element × (List Element × ((List ℕ × AddressParts) × ((List ℕ × AddressParts) × (List ℕ × (ℕ × List ℕ))))))
     (coded× element_code (coded× elements_code (coded× (coded× text_code address_code) (coded× (coded× text_code address_code) (coded× text_code (coded× coded_ℕ text_code))))))

@@ -18,7 +18,7 @@ MoreVias (v ∷ vias) text = (Mark comma then (λ t. ViaText t v) then MoreVias 
 abbrev pub ViasText : List ℕ → ViaParts → List ViaParts → Type 0
 ViasText text v vias = ((λ t. ViaText t v) then MoreVias vias) text
 
--- the elements that are left: those of the rest of a value, and those of the values after it
+-- the elements that are left: those in the rest of a value, each after a comma, and those of the values after it
 pub record AreLeft (rest : List ℕ) (values : List (List ℕ)) (es : List Element) : Type 0 where
   pub now : List Element
   pub more : List Element
@@ -26,7 +26,7 @@ pub record AreLeft (rest : List ℕ) (values : List (List ℕ)) (es : List Eleme
   pub are_more : AreElements values more
   pub whole : es ≡ now ++ more
 
--- the next element that is left begins this text; after the text stand these values
+-- the elements that are left are those of this text and of the values `more`: the next one begins the text
 pub record NextText (rest : List ℕ) (values : List (List ℕ)) (text : List ℕ) (more : List (List ℕ)) : Type 0 where
   pub to : (es : List Element) → AreLeft rest values es → AreElements (text ∷ more) es
   pub from : (es : List Element) → AreElements (text ∷ more) es → AreLeft rest values es
@@ -35,7 +35,7 @@ pub record NextText (rest : List ℕ) (values : List (List ℕ)) (text : List �
 abbrev pub EndsElement : List ℕ → Type 0
 EndsElement rest = (rest ≡ []) ⊎ ((next : List ℕ) × MarkFront comma rest next)
 
--- an element at the front, and what is left
+-- an element of Via at the front of the text, and what is left, where the element ends
 abbrev pub ViaFront : List ℕ → Element × List ℕ → Type 0
 ViaFront text (e, rest) = ViaText e.0 e.1 × (text ≡ e.0 ++ rest) × EndsElement rest
 

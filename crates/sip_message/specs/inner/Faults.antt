@@ -1,5 +1,5 @@
--- What bytes are read as: a message, or the first fault. Each demand stands beside its fault, in the
--- order of the faults.
+-- The reading of bytes as a message or a first fault. Each demand stands beside its fault, in the order of the faults, whose
+-- numbers are those of `docs/standard/MESSAGE.md`.
 use Rattle.std.specs.Prelude.{ℕ, ◌+◌, List, [], ◌∷◌, Option}
 use Rattle.sip_message.specs.declared.name.Known.TheVariants as known_name
 use Rattle.sip_standard.specs.declared.fault.Reason.TheVariants as reason
@@ -17,27 +17,27 @@ use Rattle.sip_standard.specs.Body.{cut_body}
 use Rattle.sip_standard.specs.Faults.{fault_in_head, fault_in_line, fault_in_body}
 use Rattle.sip_standard.specs.Field.{FirstOf, NoSecond, OneOf}
 
--- a name, and what follows its colon
+-- the line begins with this name and a colon, and this follows the colon
 abbrev pub HasName : List ℕ → FieldName × List ℕ → Type 0
 HasName line named = NameText line (named.0) (named.1)
 
--- a value of the name's row
+-- the value of what follows the colon is of the row of the name
 abbrev pub IsValue : FieldName × List ℕ → List ℕ → Type 0
 IsValue named value = ValueText (named.1) value × Row (named.0) value
 
--- 4 and 5: the line is a name and a colon, and after them a value of the name's row
+-- faults 4 and 5: the line is a name and a colon, and after them a value of the row of the name
 abbrev pub FieldOf : ℕ → List ℕ → Outcome Field → Type 0
 FieldOf n line =
     Then (Demand (HasName line) (fault_in_line n reason.FieldLine)) (λ named.
     Then (Demand (IsValue named) (fault_in_line n reason.Value)) (λ value.
     Gives (record { name = named.0; value = value })))
 
--- the lines are fields, the lines being numbered from n
+-- the reading of lines as fields; the lines are numbered from n
 abbrev pub FieldsOf : ℕ → List (List ℕ) → Outcome (List Field) → Type 0
 FieldsOf n [] = Gives []
 FieldsOf n (line ∷ lines) = Then (FieldOf n line) (λ f. Then (FieldsOf (n + 1) lines) (λ fs. Gives (f ∷ fs)))
 
--- 6 and 7: the first Via and the CSeq
+-- faults 6 and 7: which fields must stand, and which at most once; it gives the first Via and the CSeq
 abbrev pub NamesOf : List Field → Outcome ((ℕ × List ℕ) × (ℕ × List ℕ)) → Type 0
 NamesOf fields =
     Then (FirstOf (found known_name.Via fields)) (λ via.
@@ -47,7 +47,7 @@ NamesOf fields =
     Then (OneOf (found known_name.CSeq fields)) (λ cseq.
     Then (NoSecond (found known_name.ContentLength fields)) (λ _. Gives (via, cseq)))))))
 
--- 8 to 11: the method and the body
+-- faults 8 to 11: the demands on the method and the body; it gives the body
 abbrev pub BodyOf : StartLine → ℕ × List ℕ → List ℕ → Option ℕ → List ℕ → Outcome (List ℕ) → Type 0
 BodyOf start cseq via len rest =
     Then (Holds (MethodFits start (cseq.1)) (fault_in_line (cseq.0) reason.MethodMismatch)) (λ _.
@@ -56,7 +56,7 @@ BodyOf start cseq via len rest =
     Then (Holds (IsNoMore via len rest) (fault_in_body reason.LongBody)) (λ _.
     Gives (cut_body len rest)))))
 
--- 3 to 11: the logical lines, and what follows the head
+-- faults 3 to 11: the reading of the lines of a head, and of what follows it
 abbrev pub LinesOf : List ℕ → List ℕ → List (List ℕ) → Outcome Message → Type 0
 LinesOf rest first others =
     Then (Demand (StartText first) (fault_in_line 0 reason.StartLine)) (λ start.
@@ -65,12 +65,12 @@ LinesOf rest first others =
     Then (BodyOf start (names.1) (names.0.1) (content_length fields) rest) (λ body.
     Gives (record { start = start; fields = fields; body = body })))))
 
--- 3 to 11: the head, in its logical lines
+-- faults 3 to 11: the reading of a head by its logical lines, and of what follows it
 abbrev pub HeadOf : List ℕ → List ℕ → Outcome Message → Type 0
 HeadOf head rest out =
     (first : List ℕ) × (others : List (List ℕ)) × LinesSay head first others × LinesOf rest first others out
 
--- 1 to 11: the bytes
+-- faults 1 to 11: the reading of bytes
 abbrev pub ReadOf : List ℕ → Outcome Message → Type 0
 ReadOf bytes =
     Then (Demand (CutSays bytes) (fault_in_head reason.NoHeadEnd)) (λ cut.

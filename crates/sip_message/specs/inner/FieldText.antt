@@ -15,13 +15,13 @@ use Rattle.sip_message.specs.Field.{Field}
 use Rattle.sip_standard.specs.Values.{CallId}
 use Rattle.sip_message.specs.inner.Values.{CSeqText, Digits, OtherText}
 
--- the text ends with no byte of a blank run
+-- the text does not end with a byte of a blank run
 abbrev pub EndsSolid : List ℕ → Type 0
 EndsSolid [] = ⊤
 EndsSolid (byte ∷ []) = is_lws_byte byte ≡ false
 EndsSolid (byte ∷ next ∷ text) = EndsSolid (next ∷ text)
 
--- what a field of the name may hold
+-- the values that a field of the name may have: its row
 abbrev pub Row : FieldName → List ℕ → Type 0
 Row (known known_name.Via) value = (v : ViaParts) × (vias : List ViaParts) × ViasText value v vias
 Row (known known_name.From) value = (a : AddressParts) × AddressText value a
@@ -38,20 +38,20 @@ pub record NameText (line : List ℕ) (name : FieldName) (rest : List ℕ) : Typ
   pub name_is : name ≡ name_of spelled
   pub whole : (Exactly spelled then Many (One is_wsp) then Byte colon then Exactly rest) line
 
--- what follows the colon is the value, without the longest blank runs at its two ends
+-- the value is what follows the colon, without the longest blank runs at its two ends
 pub record ValueText (rest value : List ℕ) : Type 0 where
   pub opens : OpensSolid value
   pub ends : EndsSolid value
   pub whole : (Sws then Exactly value then Sws) rest
 
--- the line is the field
+-- the line is this field: a name, a colon, and a value of the name's row
 pub record FieldText (line : List ℕ) (f : Field) : Type 0 where
   pub rest : List ℕ
   pub named : NameText line f.name rest
   pub valued : ValueText rest f.value
   pub row : Row f.name f.value
 
--- the lines are the fields
+-- the lines are these fields, one by one
 abbrev pub FieldsText : List (List ℕ) → List Field → Type 0
 FieldsText [] fields = fields ≡ []
 FieldsText (line ∷ lines) fields =

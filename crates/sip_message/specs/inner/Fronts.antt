@@ -9,48 +9,48 @@ use Rattle.sip_standard.specs.Lines.{OpensBlank}
 use Rattle.sip_message.specs.inner.Lines.{IsFolded, with_end}
 use Rattle.sip_message.specs.inner.Marks.{slash, Mark}
 
--- the text begins with no byte that passes
+-- the text does not begin with a byte that passes
 abbrev pub Stops : (ℕ → Bool) → List ℕ → Type 0
 Stops test [] = ⊤
 Stops test (b ∷ text) = test b ≡ false
 
--- the text begins with no blank run
+-- the text does not begin with a blank run
 abbrev pub StopsBlank : List ℕ → Type 0
 StopsBlank text = blank_len text ≡ 0
 
--- what is left after the longest run of blanks at the front
+-- the rest is what is left after the longest run of blanks at the front of the text
 abbrev pub Behind : List ℕ → List ℕ → Type 0
 Behind text rest = StopsBlank rest × (Sws then Exactly rest) text
 
--- the only rest after the longest run of blanks at the front
+-- the rest is what is left after the longest run of blanks at the front, and the only such text
 abbrev pub IsOnlyBehind : List ℕ → List ℕ → Type 0
 IsOnlyBehind text rest = Behind text rest × ((other : List ℕ) → Behind text other → other ≡ rest)
 
--- a token, and what is left
+-- a token at the front of the text, and what is left, which begins with no byte of a token
 abbrev pub TokenFront : List ℕ → List ℕ × List ℕ → Type 0
 TokenFront text (token, rest) =
     Token token × Stops is_token_byte rest × (Exactly token then Exactly rest) text
 
--- a mark, and what is left
+-- a mark at the front of the text, and what is left, which begins with no blank
 abbrev pub MarkFront : ℕ → List ℕ → List ℕ → Type 0
 MarkFront mark text rest = StopsBlank rest × (Mark mark then Exactly rest) text
 
--- sent-protocol LWS, and what is left
+-- the parts of sent-protocol LWS at the front of a text, and what is left
 pub record ProtocolParts : Type 0 where
   pub protocol : List ℕ
   pub version : List ℕ
   pub transport : List ℕ
   pub rest : List ℕ
 
--- one reading, and then another of what it gives
+-- R gives some value x, and S after it gives y: two steps of a reader
 pub data Seq {X Y : Type 0} (R : X → Type 0) (S : X → Y → Type 0) (y : Y) : Type 0 where
   both : (x : X) → R x → S x y → Seq R S y
 
--- a blank run, and what is left
+-- a blank run at the front of the text, and what is left, which begins with no blank
 abbrev pub BlanksFront : List ℕ → List ℕ → Type 0
 BlanksFront text rest = StopsBlank rest × (Blanks then Exactly rest) text
 
--- sent-protocol LWS, and what is left
+-- sent-protocol LWS at the front of the text, and what is left, step by step
 abbrev pub ProtocolFront : List ℕ → ProtocolParts → Type 0
 ProtocolFront text =
     Seq (TokenFront text) (λ protocol.
@@ -70,7 +70,7 @@ pair_parts (a, b) = (a.now, b.now)
 abbrev pub protocol_parts : Bor (List ℕ) × Bor (List ℕ) × Bor (List ℕ) × Bor (List ℕ) → ProtocolParts
 protocol_parts (a, b, c, d) = record { protocol = a.now; version = b.now; transport = c.now; rest = d.now }
 
--- a logical line with its end, and what is left
+-- a logical line with its end at the front of the text, and what is left, which begins with no blank
 abbrev pub LineFront : List ℕ → List ℕ × List ℕ → Type 0
 LineFront text (line, rest) = IsFolded line × ¬ (OpensBlank rest) × (text ≡ with_end line ++ rest)
 
@@ -83,7 +83,7 @@ abbrev pub begins_wsp : List ℕ → Bool
 begins_wsp [] = false
 begins_wsp (byte ∷ text) = is_wsp byte
 
--- the LF between the two texts ends a line
+-- the LF between the two texts ends a line: CR stands before it, and no blank after it
 abbrev pub is_line : List ℕ → List ℕ → Bool
 is_line front rest = ends_cr front && not (begins_wsp rest)
 

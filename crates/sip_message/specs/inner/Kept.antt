@@ -15,7 +15,7 @@ use Rattle.sip_message.specs.ViaParts.{element}
 use Rattle.sip_message.specs.ValueParts.{cseq_parts}
 use Rattle.sip_message.specs.inner.ElementFronts.{FirstVia}
 
--- where the named fields stand, and that some bytes spell the message
+-- some bytes are the text of the message, p are the parts of its named fields, and v, f, t, i and c are the first values of their names
 pub record Keeps (m : Message) (p : Parts) (v f t i c : List ℕ) : Type 0 where
   pub parts : IsOnly (HasParts m.fields) p
   pub spelled : (bytes : List ℕ) × MessageText bytes m
@@ -25,22 +25,22 @@ pub record Keeps (m : Message) (p : Parts) (v f t i c : List ℕ) : Type 0 where
   pub call_id : IsFirstOf (values known_name.CallId m.fields) i
   pub cseq : IsFirstOf (values known_name.CSeq m.fields) c
 
--- what the first of these values says, or nothing where there is none
+-- what the first of these values says, or None where there is no value
 abbrev pub SaysFirst : {X : Type 0} → (List ℕ → X → Type 0) → List (List ℕ) → Option X → Type 0
 SaysFirst R [] said = said ≡ None
 SaysFirst {X = X} R (value ∷ more) said = (x : X) × R value x × (said ≡ Some x)
 
--- what the first Via and the first CSeq of the fields say
+-- what is kept is what the first Via and the first CSeq of these fields say
 pub record KeptOf (fields : List Field) (kept : Kept) : Type 0 where
   pub via : SaysFirst FirstVia (values known_name.Via fields) (option_map element kept.via)
   pub cseq : SaysFirst CSeqValue (values known_name.CSeq fields) (option_map cseq_parts kept.cseq)
 
--- what fields say, and then what they say with a further field
+-- where `old` is kept of some fields, `new` is kept of them and a further field f
 abbrev pub KeepsMore : Field → Kept → Kept → Type 0
 KeepsMore f old new = (fields : List Field) → KeptOf fields old → KeptOf (fields ++ f ∷ []) new
 
--- what the top Via and the CSeq say, where the other named fields stand, and that some bytes spell
--- the message
+-- what the top Via and the CSeq say is e and s, the first values of From, To and Call-ID are f, t and i, and some bytes are the
+-- text of the message
 pub record KeepsRead (m : Message) (p : Parts) (e : Element) (f t i : List ℕ) (s : ℕ × List ℕ) : Type 0 where
   pub via_text : List ℕ
   pub cseq_text : List ℕ

@@ -5,23 +5,23 @@ use Rattle.sip_standard.specs.Text.{One, Exactly, ◌or◌, Many}
 use Rattle.sip_text.specs.Bytes.{crlf, carriage_return, line_feed}
 use Rattle.sip_standard.specs.Lines.{OpensBlank}
 
--- neither CR nor LF
+-- the byte is neither CR nor LF
 abbrev pub is_inner_byte : ℕ → Bool
 is_inner_byte byte = not (byte == carriage_return) && not (byte == line_feed)
 
--- no CR without LF, and no LF without CR
+-- the text has no CR without LF after it, and no LF without CR before it
 abbrev pub HasNoBareEnd : List ℕ → Type 0
 HasNoBareEnd = Many (Exactly crlf or One is_inner_byte)
 
--- after every CRLF in the line stands a blank
+-- a blank stands after each CRLF within the line
 abbrev pub IsFolded : List ℕ → Type 0
 IsFolded line = (u v : List ℕ) → line ≡ u ++ (crlf ++ v) → OpensBlank v
 
--- a line with its end
+-- the line with its end, CRLF
 abbrev pub with_end : List ℕ → List ℕ
 with_end line = line ++ crlf
 
--- the text is these lines, none of which begins with a blank
+-- the text is these lines with their ends, and no line begins with a blank
 pub record AreLines (text : List ℕ) (lines : List (List ℕ)) : Type 0 where
   pub whole : text ≡ flat_map with_end lines
   pub folded : AllByRecursion IsFolded lines

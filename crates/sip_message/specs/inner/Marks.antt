@@ -1,4 +1,4 @@
--- The marks of values by their bytes (RFC 3261, section 25.1).
+-- The marks of values by their bytes (RFC 3261, section 25.1): `Mark b` is the byte b with blanks around it.
 use Rattle.std.specs.Prelude.{ℕ, List}
 use Rattle.sip_standard.specs.Text.{◌then◌}
 use Rattle.sip_standard.specs.Profile.{Sws}

@@ -17,34 +17,34 @@ use Rattle.sip_message.specs.inner.FieldText.{FieldsText}
 use Rattle.sip_standard.specs.Canonical.{unfolded}
 use Rattle.sip_standard.specs.Body.{length_in, cut_body}
 
--- the fields of the name, each with the number of its line, the lines being numbered from n
+-- the values of the fields of the name, each with the number of its line, where the lines are numbered from n
 abbrev pub found_from : ℕ → Known → List Field → List (ℕ × List ℕ)
 found_from n name [] = []
 found_from n name (f ∷ fs) =
     if is_name_of name f.name then (n, f.value) ∷ found_from (n + 1) name fs else found_from (n + 1) name fs
 
--- the fields of the name, each with the number of its line
+-- the values of the fields of the name, each with the number of its line, where the first field is line 1
 abbrev pub found : Known → List Field → List (ℕ × List ℕ)
 found name fields = found_from 1 name fields
 
--- the first field of the name, with the number of its line
+-- this is the value of the first field of the name, with the number of its line
 abbrev pub IsFirstFound : Known → List Field → ℕ × List ℕ → Type 0
 IsFirstFound name fields one = (more : List (ℕ × List ℕ)) × (found name fields ≡ one ∷ more)
 
--- the name stands on some line
+-- a field has the name
 abbrev pub HasField : Known → List Field → Type 0
 HasField name fields = (one : ℕ × List ℕ) × IsFirstFound name fields one
 
--- the name stands at most once
+-- at most one field has the name
 abbrev pub IsNotTwice : Known → List Field → Type 0
 IsNotTwice name fields = length (found name fields) ≤ 1
 
--- the top Via's transport: that of the first element
+-- the transport of the first element of this value of Via
 abbrev pub TopTransport : List ℕ → List ℕ → Type 0
 TopTransport value transport =
     (v : ViaParts) × (vias : List ViaParts) × ViasText value v vias × (transport ≡ v.transport)
 
--- TCP and TLS are streams
+-- a transport is a stream where it is TCP or TLS
 abbrev pub is_stream : List ℕ → Bool
 is_stream transport = bytes_eq (folded transport) (codes "tcp") || bytes_eq (folded transport) (codes "tls")
 
@@ -57,15 +57,15 @@ MethodFits (status code reason) cseq = ⊤
 abbrev pub IsStream : List ℕ → Type 0
 IsStream via = (transport : List ℕ) × TopTransport via transport × IsTrue (is_stream transport)
 
--- a stream has a Content-Length (section 18.3)
+-- where the transport is a stream, there is a Content-Length (section 18.3)
 abbrev pub HasLength : List ℕ → Option ℕ → Type 0
 HasLength via len = IsStream via → is_some len ≡ true
 
--- the bytes after the head are as many as Content-Length says
+-- the bytes after the head are at least as many as Content-Length says
 abbrev pub IsEnough : Option ℕ → List ℕ → Type 0
 IsEnough len rest = IfSome len (λ n. n ≤ length rest)
 
--- a stream has no more of them
+-- where the transport is a stream, the bytes after the head are not more than Content-Length says
 abbrev pub IsNoMore : List ℕ → Option ℕ → List ℕ → Type 0
 IsNoMore via len rest = IsStream via → IfSome len (λ n. length rest ≤ n)
 
@@ -73,7 +73,7 @@ IsNoMore via len rest = IsStream via → IfSome len (λ n. length rest ≤ n)
 abbrev pub content_length : List Field → Option ℕ
 content_length fields = length_in (found known_name.ContentLength fields)
 
--- the demands on the fields and the body
+-- what a message demands of its fields and its body, where they follow this start line and `rest` follows the head
 pub record MessageFits (start : StartLine) (fields : List Field) (rest : List ℕ) : Type 0 where
   pub via : HasField known_name.Via fields
   pub from_once : IsNotTwice known_name.From fields
@@ -90,7 +90,7 @@ pub record MessageFits (start : StartLine) (fields : List Field) (rest : List �
   pub enough : IsEnough (content_length fields) rest
   pub no_more : IsNoMore (via.0.1) (content_length fields) rest
 
--- the bytes are the message, its values as they are spelled
+-- the bytes are the text of the message, with its values as they are spelled
 pub record MessageText (bytes : List ℕ) (m : Message) : Type 0 where
   pub head : List ℕ
   pub rest : List ℕ
@@ -112,6 +112,6 @@ unfolded_field f = record { name = f.name; value = unfolded f.value }
 abbrev pub message_of : Message → Message
 message_of m = record { start = m.start; fields = map unfolded_field m.fields; body = m.body }
 
--- the bytes spell the message
+-- the bytes spell the message, whose values are unfolded
 abbrev pub Spells : List ℕ → Message → Type 0
 Spells bytes m = (spelled : Message) × MessageText bytes spelled × (m ≡ message_of spelled)

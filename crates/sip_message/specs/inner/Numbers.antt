@@ -3,11 +3,11 @@ use Rattle.std.specs.Prelude.{ℕ, ◌-◌, List, ◌++◌, map, length, replica
 use Rattle.std.specs.Int.{w64, from_le_bytes}
 use lib.Bits.{bit_or}
 
--- a byte with the bit that a small letter has beside a great one
+-- the byte with the bit set in which a small letter differs from the great one
 abbrev pub small : ℕ → ℕ
 small byte = bit_or byte 32
 
--- 8 bytes that end with these; NUL stands before them
+-- 8 bytes that end with these, with NULs before them
 abbrev pub filled : List ℕ → List ℕ
 filled text = replicate (8 - length text) 0 ++ text
 

@@ -1,14 +1,14 @@
--- The one value of which a fact holds.
+-- The one value of which a fact holds, without a choice of its proof.
 use Rattle.std.specs.Coded.{Coded, Coded-set}
 use Rattle.std.proofs.Math.Logic.{∥∥₁_elim, ∥∥₁_prop}
 use mathlib.Core.HLevel.{Σ_prop_path}
 use Rattle.sip_message.specs.Only.{IsOnly}
 
--- the one value of which R holds
+-- there is a value of which R holds, and R holds of no other
 abbrev pub ExactlyOne : {X : Type 0} → (X → Type 0) → Type 0
 ExactlyOne {X = X} R = (x : X) × ∥ IsOnly R x ∥₁
 
--- the value itself
+-- the value of which R holds
 unfoldable pub the : {X : Type 0} {R : X → Type 0} → ExactlyOne R → X
 the one = one.0
 

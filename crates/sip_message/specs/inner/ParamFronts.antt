@@ -11,56 +11,56 @@ use Rattle.sip_message.specs.inner.Fronts.{Stops, TokenFront, MarkFront, Seq}
 abbrev pub Param : Type 0
 Param = List ℕ × Option (List ℕ)
 
--- a byte of a value that is neither quoted nor in brackets
+-- a byte of a value that is neither quoted nor in brackets: of a token, or a colon
 abbrev pub is_bare_byte : ℕ → Bool
 is_bare_byte byte = is_token_byte byte || byte == colon
 
--- what is left after the longest run of bytes that pass
+-- the rest stands after the longest run at the front of the text of bytes that pass the test
 abbrev pub PastRun : (ℕ → Bool) → List ℕ → List ℕ → Type 0
 PastRun test text rest =
     Stops test rest × ((run : List ℕ) × AllByRecursion (λ byte. test byte ≡ true) run × (text ≡ run ++ rest))
 
--- a token or an IPv6 address without brackets, and what is left
+-- a token or an IPv6 address without brackets at the front of the text, and what is left
 abbrev pub BareFront : List ℕ → List ℕ × List ℕ → Type 0
 BareFront text (value, rest) = (Token or Ipv6) value × Stops is_bare_byte rest × (text ≡ value ++ rest)
 
--- a quoted string, and what is left
+-- a quoted string at the front of the text, and what is left
 abbrev pub QuotedFront : List ℕ → List ℕ × List ℕ → Type 0
 QuotedFront text (value, rest) = Quoted value × (text ≡ value ++ rest)
 
--- what stands from "[" to the first "]", and what is left
+-- what stands at the front of the text from "[" to the first "]", and what is left
 abbrev pub BracketFront : List ℕ → List ℕ × List ℕ → Type 0
 BracketFront text (part, rest) =
     (inner : List ℕ) × AllByRecursion (λ byte. (byte == right_bracket) ≡ false) inner
     × (part ≡ left_bracket ∷ (inner ++ right_bracket ∷ [])) × (text ≡ part ++ rest)
 
--- an IPv6 address in brackets, and what is left
+-- an IPv6 address in brackets at the front of the text, and what is left
 abbrev pub ReferenceFront : List ℕ → List ℕ × List ℕ → Type 0
 ReferenceFront text (value, rest) = Bracketed value × (text ≡ value ++ rest)
 
--- a parameter's value, and what is left
+-- a parameter's value at the front of the text, and what is left
 abbrev pub ValueFront : List ℕ → List ℕ × List ℕ → Type 0
 ValueFront text value = QuotedFront text value ⊎ (ReferenceFront text value ⊎ BareFront text value)
 
--- [ mark part ], and what is left
+-- [ mark part ] at the front of the text, and what is left
 abbrev pub LedFront : ℕ → (List ℕ → List ℕ × List ℕ → Type 0) → List ℕ → Option (List ℕ) × List ℕ → Type 0
 LedFront mark Part text (None, rest) = ((inner : List ℕ) → ¬ (MarkFront mark text inner)) × (rest ≡ text)
 LedFront mark Part text (Some part, rest) = (inner : List ℕ) × MarkFront mark text inner × Part inner (part, rest)
 
--- SEMI generic-param, and what is left
+-- SEMI generic-param at the front of the text, and what is left
 abbrev pub ParamFront : List ℕ → Param × List ℕ → Type 0
 ParamFront text =
     Seq (MarkFront semicolon text) (λ inner.
     Seq (TokenFront inner) (λ name.
     Seq (LedFront equals ValueFront (name.1)) (λ value p. p ≡ ((name.0, value.0), value.1))))
 
--- *( SEMI generic-param ), and what is left
+-- *( SEMI generic-param ) at the front of the text, and what is left
 abbrev pub ParamsFront : List ℕ → List Param → List ℕ → Type 0
 ParamsFront text [] rest = rest ≡ text
 ParamsFront text (param ∷ params) rest =
     (more : List ℕ) × ParamFront text (param, more) × ParamsFront more params rest
 
--- all the parameters at the front, and what is left
+-- all parameters at the front of the text, and what is left, at whose front no parameter stands
 abbrev pub AllParamsFront : List ℕ → List Param × List ℕ → Type 0
 AllParamsFront text (params, rest) =
     ParamsFront text params rest × ((next : Param × List ℕ) → ¬ (ParamFront rest next))

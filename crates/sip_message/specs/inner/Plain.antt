@@ -9,19 +9,19 @@ use Rattle.sip_masks.specs.Marks.{is_plain}
 use Rattle.sip_message.specs.Params.{ParamText, ParamsPart}
 use Rattle.sip_message.specs.Address.{AddressParts, AddressText, DisplayName, BeforeUri}
 
--- what stands from one place up to another
+-- the bytes of the text from place `at` up to place `to`
 abbrev pub segment : ℕ → ℕ → List ℕ → List ℕ
 segment at to text = take (to - at) (drop at text)
 
--- up to a place that is no later than the end stands a text of P
+-- a text of P lies in the text from place `at` up to place `to`, which is not after `end`
 abbrev pub LiesWithin : (List ℕ → Type 0) → List ℕ → ℕ → ℕ → ℕ → Type 0
 LiesWithin P text at end to = (at ≤ to) × (to ≤ end) × P (segment at to text)
 
--- plain bytes
+-- one plain byte or more
 abbrev pub PlainRun : List ℕ → Type 0
 PlainRun = OneOrMore (One is_plain)
 
--- a host, and the port after its colon
+-- a host, and a port after a colon if there is one
 abbrev pub HostPort : List ℕ → Type 0
 HostPort text =
     (host : HostParts) × (port : Option (List ℕ)) × HostText (host_text host) host × IfSome port Port
@@ -30,11 +30,11 @@ HostPort text =
 abbrev pub SomeUri : List ℕ → Type 0
 SomeUri text = (parts : UriParts) × UriText text parts
 
--- [ display-name ] SWS "<"
+-- [ display-name ] SWS "<": what opens a URI in angles
 abbrev pub Opening : List ℕ → Type 0
 Opening text = (display : Option (List ℕ)) × IfSome display DisplayName × BeforeUri display text
 
--- SEMI generic-param
+-- SEMI generic-param without blanks
 abbrev pub PlainParam : List ℕ × Option (List ℕ) → List ℕ → Type 0
 PlainParam param = Byte semicolon then (λ t. ParamText t param)
 

@@ -14,11 +14,11 @@ use Rattle.sip_message.specs.inner.Asked.{AsksMore}
 abbrev pub is_open : ℕ → Bool
 is_open byte = not (is_control byte)
 
--- no control stands in the text, HTAB aside
+-- no control other than HTAB stands in the text
 abbrev pub IsOpen : List ℕ → Type 0
 IsOpen text = AllByRecursion (λ byte. is_open byte ≡ true) text
 
--- the text from one place up to another is lines without controls, and they are these fields
+-- from place `from` up to place `at` the text is lines without controls, which are these fields, and an empty line follows
 pub record AreOrdinary (text : List ℕ) (from at : ℕ) (fields : List Field) : Type 0 where
   pub lines : List (List ℕ)
   pub within : at + 2 ≤ length text
@@ -27,7 +27,7 @@ pub record AreOrdinary (text : List ℕ) (from at : ℕ) (fields : List Field) :
   pub are_open : AllByRecursion IsOpen lines
   pub are : FieldsText lines fields
 
--- the bytes are a head without controls in its lines, and what follows it
+-- the bytes are a head with this start line and these fields, no line of which is folded, and then the rest
 pub record IsOrdinary (bytes : List ℕ) (start : StartLine) (fields : List Field) (rest : List ℕ) : Type 0 where
   pub head : List ℕ
   pub first : List ℕ
@@ -38,7 +38,7 @@ pub record IsOrdinary (bytes : List ℕ) (start : StartLine) (fields : List Fiel
   pub is_start : StartText first start
   pub are_fields : FieldsText others fields
 
--- the line is a field, which is put after the others, and what it says is kept
+-- the line is a field, which is put after the old ones, and what it says is kept if it is asked for
 pub record PushesField (line : List ℕ) (old new : List Field) (before after : Asked) : Type 0 where
   pub field : Field
   pub is : FieldText line field

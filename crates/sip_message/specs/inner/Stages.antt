@@ -1,4 +1,4 @@
--- What the stages of reading find.
+-- What the stages of the reader find.
 use Rattle.std.specs.Prelude.{ℕ, List, Option}
 use Rattle.std.specs.Option.{option_map}
 use Rattle.std.specs.Str.Parse.{digits_value}
@@ -17,11 +17,11 @@ use Rattle.sip_message.specs.ValueParts.{start_parts, cseq_parts}
 use Rattle.sip_message.specs.ViaParts.{element}
 use Rattle.sip_message.specs.inner.ElementFronts.{FirstVia}
 
--- the first Via and the CSeq, with their lines
+-- the first Via and the CSeq that the code found, with the numbers of their lines
 abbrev pub names_parts : Named → (ℕ × List ℕ) × (ℕ × List ℕ)
 names_parts n = ((n.via_line, n.via.now), (n.cseq_line, n.cseq.now))
 
--- the first Via and the CSeq, with their lines, and the other named values
+-- the values of the named fields, those of Via and CSeq with the numbers of their lines
 pub record Names : Type 0 where
   pub via : ℕ × List ℕ
   pub from : List ℕ
@@ -29,6 +29,7 @@ pub record Names : Type 0 where
   pub call_id : List ℕ
   pub cseq : ℕ × List ℕ
 
+-- the values of the named fields that the code found
 abbrev pub names_of : Named → Names
 names_of n = record {
   via = (n.via_line, n.via.now);
@@ -38,7 +39,7 @@ names_of n = record {
   cseq = (n.cseq_line, n.cseq.now);
 }
 
--- where the named fields stand
+-- these are the values of the first fields of the named fields' names
 pub record Stand (fields : List Field) (n : Names) : Type 0 where
   pub via : IsFirstOf (values known_name.Via fields) (n.via.1)
   pub from : IsFirstOf (values known_name.From fields) n.from
@@ -46,7 +47,7 @@ pub record Stand (fields : List Field) (n : Names) : Type 0 where
   pub call_id : IsFirstOf (values known_name.CallId fields) n.call_id
   pub cseq : IsFirstOf (values known_name.CSeq fields) (n.cseq.1)
 
--- the body, wherever the first Via and the CSeq stand
+-- the demands on the method and the body give this body, for each Via value that begins with this element and each value with this CSeq
 abbrev pub HasBody : StartLine → Via → CSeq → Option (List ℕ) → List ℕ → List ℕ → Type 0
 HasBody start via cseq len rest body =
     (v c : ℕ × List ℕ) → FirstVia (v.1) (element via) → CSeqValue (c.1) (cseq_parts cseq)

@@ -36,11 +36,11 @@ is_value_byte byte = is_in_range 0x21 0x7E byte || nat_le 0x80 byte
 abbrev pub OtherText : List ℕ → Type 0
 OtherText = Many (Lws or One is_value_byte)
 
--- a byte of a value that is not looked into, or a blank
+-- a byte of a value that is not looked into, or SP or HTAB
 abbrev pub is_plain_byte : ℕ → Bool
 is_plain_byte byte = is_value_byte byte || is_wsp byte
 
--- the bytes from one place up to another are such bytes
+-- each byte from one place up to another is of a value that is not looked into, or SP or HTAB
 abbrev pub ArePlain : List ℕ → ℕ → ℕ → Type 0
 ArePlain text from to = (k : ℕ) → from ≤ k → k < to → is_plain_byte (slice_index text k) ≡ true
 
@@ -50,11 +50,11 @@ is_solid text =
     nat_lt 0 (length text) && not (is_lws_byte (slice_index text 0))
     && not (is_lws_byte (slice_index text (length text - 1)))
 
--- a byte of a word
+-- a byte that may stand in a word
 abbrev pub is_word_byte : ℕ → Bool
 is_word_byte byte =
     is_ascii_alphanumeric byte || is_among "-.!%*_+`'~()<>:/[]?{}" byte || byte == backslash || byte == dquote
 
--- word
+-- word: one byte or more that may stand in one
 abbrev pub Word : List ℕ → Type 0
 Word = OneOrMore (One is_word_byte)

@@ -11,34 +11,34 @@ use Rattle.sip_message.specs.inner.Fronts.{TokenFront, Behind, Seq, ProtocolFron
 use Rattle.sip_message.specs.inner.ElementFronts.{EndsElement}
 use Rattle.sip_message.specs.inner.ParamFronts.{Param, BracketFront, LedFront, AllParamsFront}
 
--- what may be a host: the text from "[" to the first "]", or the longest token, and what is left
+-- what may be a host at the front of the text, from "[" to the first "]" or else the longest token, and what is left
 abbrev pub HostCut : List ℕ → List ℕ × List ℕ → Type 0
 HostCut text cut = BracketFront text cut ⊎ TokenFront text cut
 
--- a host, and what is left
+-- a host at the front of the text, and what is left
 abbrev pub HostFront : List ℕ → HostParts × List ℕ → Type 0
 HostFront text = Seq (HostCut text) (λ cut host. HostText (cut.0) (host.0) × (host.1 ≡ cut.1))
 
--- a port, and what is left
+-- a port at the front of the text, and what is left
 abbrev pub PortFront : List ℕ → List ℕ × List ℕ → Type 0
 PortFront text port = Port (port.0) × TokenFront text port
 
--- the branch that a parameter is, or none where it has another name
+-- the branch that a parameter gives: its value where it is named branch, and None where it has another name
 abbrev pub BranchOf : Param → Option (List ℕ) → Type 0
 BranchOf (name, value) None = ¬ (SameText name (codes "branch"))
 BranchOf (name, value) (Some branch) = SameText name (codes "branch") × Token branch × (value ≡ Some branch)
 
--- *( SEMI via-params ) with the branch, and what is left
+-- *( SEMI via-params ) at the front of the text with the branch, and what is left
 abbrev pub BranchFront : List ℕ → Option (List ℕ) × List ℕ → Type 0
 BranchFront text (branch, rest) =
     (params : List Param) × AllParamsFront text (params, rest) × IsBranch params branch
 
--- *( SEMI via-params ) with its branch and its text, which begins at the first ";", and what is left
+-- *( SEMI via-params ) at the front of the text, with its branch and with its own text from the first ";" on, and what is left
 abbrev pub TailFront : List ℕ → (List ℕ × Option (List ℕ)) × List ℕ → Type 0
 TailFront text (tail, rest) =
     BranchFront text (tail.1, rest) × ((front : List ℕ) × (text ≡ front ++ rest) × Behind front (tail.0))
 
--- the parts of an element, and what is left
+-- the parts of an element of Via at the front of the text, and what is left, step by step
 abbrev pub ViaSteps : List ℕ → ViaParts × List ℕ → Type 0
 ViaSteps text =
     Seq (ProtocolFront text) (λ sent.

@@ -1,11 +1,11 @@
--- Sets that wait, one after another, and what the marked ones name.
+-- Sets that wait, one after another, and what the marked sets name.
 use Rattle.std.proofs.Common.{cond, zero, suc, Bool, true, false, true≢false, Result, Ok, Err, OnOk, OnErr, AllPairs, Contains, ◌↔◌, ◌++◌, [], ◌∷◌, ◌≡◌, ◌≢◌, ◌≤◌, ◌<◌, ◌⊎◌, inl, inr, ℕ, Option, Some, None, List, ◌+◌, map, take, option_copied, All, length, get_or, slice_get, slice_set, refl, sym, ap, ◌∙◌, subst, arith}
 use Rattle.std.specs.List.{flat_map}
 use Rattle.std.specs.Result.{is_ok}
 use Rattle.std.specs.Slice.{IsItemAt}
 use Rattle.std.specs.Borrow.{Bor}
 use Rattle.std.proofs.lemmas.Bool.{ltb-true}
-use Rattle.std.proofs.lemmas.Option.{slice_get_within, slice_get-get_or}
+use Rattle.std.proofs.lemmas.Option.{same_Some, slice_get_within, slice_get-get_or}
 use Rattle.std.proofs.lemmas.List.{length-set, length-map, get_or-map, length-take-le, get_or-take, get_or_default}
 use Rattle.std.proofs.lemmas.List.Elements.{Contains-push, Contains-push_cases, Contains-append_left, Contains-append_right, Contains-get_or}
 use Rattle.sip_standard.specs.Key.{KeyParts}
@@ -16,6 +16,7 @@ use Rattle.sip_states.specs.AnySet.{SetWaits, moment_of, start_of, IsQuietSet}
 use Rattle.sip_states.specs.Tables.{Tabled, IsGiven}
 use Rattle.sip_states.specs.Restarting.{AreToRestart}
 use Rattle.sip_states.proofs.lists.Listed.{Contains-map}
+use Rattle.sip_states.proofs.lists.Places.{set_place, set_other, set_here, set_still, push_place}
 use Rattle.sip_states.specs.Sweep.{numbers_of, IsAdvanced, AppendsNamed}
 use Rattle.sip_states.specs.inner.Marks.{IsMarked, ElseHolds, AreMarked}
 use Rattle.sip_states.specs.inner.Advance.{AdvancesAt}
@@ -23,27 +24,9 @@ use Rattle.sip_states.specs.declared.any_set.AnySet.{AnySet}
 use Rattle.sip_states.proofs.keyed.NamesLemmas.{Contains-flat_map, Contains-from_flat_map}
 use Rattle.sip_states.proofs.keyed.ByMachine.{start_silent, start_is_quiet}
 
--- the element at a place, where another was put at one
-pub set_place : {A : Type 0} (xs : List A) (i n : ℕ) (a x : A) → slice_get (slice_set xs i a) n ≡ Some x → ((n ≡ i) × (a ≡ x)) ⊎ ((n ≢ i) × (slice_get xs n ≡ Some x))
-set_place [] i n a x at = absurd cc
-set_place (u ∷ xs) zero zero a x at = inl (refl, cc)
-set_place (u ∷ xs) zero (suc n) a x at = inr (λ same. omega (arith, same), at)
-set_place (u ∷ xs) (suc i) zero a x at = inr (λ same. omega (arith, same), at)
-set_place (u ∷ xs) (suc i) (suc n) a x at =
-    elim (set_place xs i n a x at) [ inl h ↦ inl (ap suc h.0, h.1) | inr h ↦ inr (λ same. h.0 (omega (arith, same)), h.1) ]
+-- What follows is of sets that wait.
 
--- an element that stands there already
-set_still : {A : Type 0} (xs : List A) (i : ℕ) (a : A) → slice_get xs i ≡ Some a → slice_set xs i a ≡ xs
-set_still [] i a at = absurd cc
-set_still (u ∷ xs) zero a at = (let same : u ≡ a = cc in (λ k. sym same k ∷ xs))
-set_still (u ∷ xs) (suc i) a at = (λ k. u ∷ set_still xs i a at k)
-
-same_of_some : {A : Type 0} (a b : A) → Some a ≡ Some b → a ≡ b
-same_of_some a b h = cc
-
--- Sets that wait.
-
--- one more has
+-- where the sets at some indices have waited, and then the set at another index waits, the sets at these and at that one have
 pub advances_more : (moment : ℕ) (indices : List ℕ) (old now : List AnySet) (index : ℕ) (set after : AnySet) → AdvancesAt moment indices old now → ¬ Contains indices index
     → slice_get now index ≡ Some set → SetWaits moment set after → AdvancesAt moment (indices ++ index ∷ []) old (slice_set now index after)
 advances_more moment indices old now index set after up fresh at waits = record {
@@ -63,13 +46,13 @@ advances_more moment indices old now index set after up fresh at waits = record 
   ];
 }
 
--- one could not
+-- where a set could not wait and is as before, the sets at the same indices have waited as before
 pub advances_failed : (moment : ℕ) (indices : List ℕ) (old now : List AnySet) (index : ℕ) (set after : AnySet) → AdvancesAt moment indices old now
     → slice_get now index ≡ Some set → after ≡ set → AdvancesAt moment indices old (slice_set now index after)
 advances_failed moment indices old now index set after up at same =
     subst (λ xs. AdvancesAt moment indices old xs) (sym (ap (slice_set now index) same ∙ set_still now index set at)) up
 
--- a set that is not past still is not, where it has not waited
+-- a set that has not waited yet is not past the moment, where no set was past it before
 pub still_early : (moment : ℕ) (indices : List ℕ) (old now : List AnySet) (index : ℕ) (set : AnySet) → AdvancesAt moment indices old now → ¬ Contains indices index
     → All (λ s. moment_of s ≤ moment) old → slice_get now index ≡ Some set → moment_of set ≤ moment
 still_early moment indices old now index set up fresh early at =
@@ -81,14 +64,14 @@ still_early moment indices old now index set up fresh early at =
       | inr same ↦ subst (λ s. moment_of s ≤ moment) (sym same.1) (early index set (omega arith))
     ]
 
--- the next of indices that stand there once is not among those before it
+-- where no index stands twice in a list, the one at a place is not among those before it
 pub fresh_next : (xs : List ℕ) (i d : ℕ) → AllPairs (λ a b. a ≢ b) xs → i < length xs → ¬ Contains (take i xs) (get_or xs i d)
 fresh_next xs i d once low has =
     let short : length (take i xs) ≡ i = length-take-le i xs (omega arith) in
     let before : has.0 < i = omega (arith, has.1) in
     once has.0 i d before low (get_or_default xs has.0 d (get_or xs i d) (omega arith) ∙ sym (get_or-take i xs has.0 (get_or xs i d) before) ∙ has.2)
 
--- the first indices are among them all
+-- each of the first elements of a list is in the list
 pub take_among : (i : ℕ) (xs : List ℕ) (n : ℕ) → Contains (take i xs) n → Contains xs n
 take_among zero xs n has = absurd (Contains-nil n has)
 take_among (suc i) [] n has = has
@@ -98,28 +81,28 @@ take_among (suc i) (x ∷ xs) n has =
       | inr rest ↦ Contains-append_right (x ∷ []) xs n (take_among i xs n rest)
     ]
 
--- what is lent of a list is in it
+-- an element that is lent from a list is in the list
 pub item_among : (xs : List ℕ) (i : ℕ) (r : Option (Bor ℕ)) (o : Option ℕ) (x : ℕ) → IsItemAt xs i r → o ≡ option_copied r → o ≡ Some x → Contains xs x
 item_among xs i None o x item copied is = (let no : Some x ≡ None = sym is ∙ copied in absurd cc)
 item_among xs i (Some b) o x item copied is =
     let low : i < length xs = ltb-true i (length xs) (sym item.0) in
-    let same : b.now ≡ x = same_of_some b.now x (sym copied ∙ is) in
+    let same : b.now ≡ x = same_Some b.now x (sym copied ∙ is) in
     (i, low, get_or_default xs i x b.now low ∙ sym item.1 ∙ same)
 
--- what is at a place is in the list
+-- the element at a place of a list is in the list
 pub place_among : (xs : List ℕ) (i d : ℕ) → i < length xs → Contains xs (get_or xs i d)
 place_among xs i d low = (i, low, get_or_default xs i (get_or xs i d) d low)
 
--- Sets that are marked.
+-- What follows is of marks beside sets.
 
--- a mark that is not there is the other one
+-- an index within the marks that is not marked has the mark `false`
 not_marked : (marks : List Bool) (n : ℕ) → n < length marks → ¬ IsMarked marks n → slice_get marks n ≡ Some false
 not_marked [] n low none = absurd (omega arith)
 not_marked (true ∷ marks) zero low none = absurd (none refl)
 not_marked (false ∷ marks) zero low none = refl
 not_marked (m ∷ marks) (suc n) low none = not_marked marks n (omega arith) none
 
--- all have waited where those that are marked have
+-- where exactly the marked indices were made to wait, every set has waited, or it names nothing and is as before
 pub marked_advance : (moment : ℕ) (marked : List ℕ) (marks : List Bool) (old new : List AnySet) → length marks ≡ length old → AreMarked marks old
     → ((n : ℕ) → Contains marked n ↔ IsMarked marks n) → AdvancesAt moment marked old new
     → (n : ℕ) (a b : AnySet) → slice_get old n ≡ Some a → slice_get new n ≡ Some b → IsAdvanced moment a b
@@ -130,7 +113,7 @@ marked_advance moment marked marks old new long are members up n a b was is =
       | inr same ↦ inr (same.1, are n a was (not_marked marks n (omega arith) (λ mark. same.0 ((members n).1 mark))))
     ]
 
--- all have waited where all are marked
+-- where exactly the marked indices were made to wait, and all are marked, every set has waited
 pub all_advance : (moment : ℕ) (marked : List ℕ) (marks : List Bool) (old new : List AnySet) → length marks ≡ length old → All (λ is_marked. is_marked ≡ true) marks
     → ((n : ℕ) → Contains marked n ↔ IsMarked marks n) → AdvancesAt moment marked old new
     → (n : ℕ) (a b : AnySet) → slice_get old n ≡ Some a → slice_get new n ≡ Some b → SetWaits moment a b
@@ -142,12 +125,12 @@ all_advance moment marked marks old new long all members up n a b was is =
       | inr same ↦ absurd (same.0 ((members n).1 (slice_get-get_or marks n true inside ∙ ap Some (all n true inside))))
     ]
 
--- some have
+-- where the sets at some indices were made to wait, each set has waited or is as before
 pub some_advance : (moment : ℕ) (indices : List ℕ) (old new : List AnySet) → AdvancesAt moment indices old new
     → (n : ℕ) (a b : AnySet) → slice_get old n ≡ Some a → slice_get new n ≡ Some b → IsAdvanced moment a b ⊎ (b ≡ a)
 some_advance moment indices old new up n a b was is = elim (up.each n a b was is) [ inl waited ↦ inl (inl waited.1) | inr same ↦ inr same.1 ]
 
--- what holds of those that are not marked still does
+-- P still holds of the sets that are not marked where only marked ones were made to wait
 pub marked_still : (P : AnySet → Type 0) (moment : ℕ) (indices : List ℕ) (marks : List Bool) (old new : List AnySet) → ElseHolds P marks old → ((n : ℕ) → Contains indices n → IsMarked marks n)
     → AdvancesAt moment indices old new → ElseHolds P marks new
 marked_still P moment indices marks old new are some up n set at mark =
@@ -155,30 +138,23 @@ marked_still P moment indices marks old new are some up n set at mark =
     let long = up.long in
     let was : slice_get old n ≡ Some (get_or old n set) = slice_get-get_or old n set (omega arith) in
     elim (up.each n (get_or old n set) set was at) [
-      | inl waited ↦ absurd (true≢false (same_of_some true false (sym (some n waited.0) ∙ mark)))
+      | inl waited ↦ absurd (true≢false (same_Some true false (sym (some n waited.0) ∙ mark)))
       | inr same ↦ subst P (sym same.1) (are n (get_or old n set) was mark)
     ]
 
--- the element at a place, where one more was put after
-push_place : {A : Type 0} (xs : List A) (n : ℕ) (a x : A) → slice_get (xs ++ a ∷ []) n ≡ Some x → (slice_get xs n ≡ Some x) ⊎ ((n ≡ length xs) × (a ≡ x))
-push_place [] zero a x at = inr (refl, cc)
-push_place [] (suc n) a x at = absurd cc
-push_place (u ∷ xs) zero a x at = inl at
-push_place (u ∷ xs) (suc n) a x at = elim (push_place xs n a x at) [ inl h ↦ inl h | inr h ↦ inr (ap suc h.0, h.1) ]
-
--- one more of which it holds needs no mark
+-- P holds of the sets that are not marked with one more set of which it holds, without a mark
 pub marked_push : (P : AnySet → Type 0) (marks : List Bool) (sets : List AnySet) (set : AnySet) → length marks ≡ length sets → ElseHolds P marks sets → P set
     → ElseHolds P (marks ++ false ∷ []) (sets ++ set ∷ [])
 marked_push P marks sets set long are silent n other at mark =
-    elim (push_place sets n set other at) [
-      | inl old ↦ elim (push_place marks n false false mark) [
+    elim (push_place sets set n other at) [
+      | inl old ↦ elim (push_place marks false n false mark) [
         | inl was ↦ are n other old was
         | inr new ↦ (let low = slice_get_within sets n other old in absurd (omega (arith, long, low, new.0)))
       ]
       | inr new ↦ subst P new.1 silent
     ]
 
--- one that is marked may be any
+-- P holds of the sets that are not marked once any set is put at an index that is marked with it
 pub marked_set : (P : AnySet → Type 0) (marks : List Bool) (sets : List AnySet) (index : ℕ) (set : AnySet) → ElseHolds P marks sets → ElseHolds P (slice_set marks index true) (slice_set sets index set)
 marked_set P marks sets index set are n other at mark =
     elim (set_place marks index n true false mark) [
@@ -186,28 +162,28 @@ marked_set P marks sets index set are n other at mark =
       | inr was ↦ elim (set_place sets index n set other at) [ inl here ↦ absurd (was.0 here.0) | inr old ↦ are n other old.1 was.1 ]
     ]
 
--- one of which it holds needs no mark
+-- P holds of the sets that are not marked once the mark is taken off a set of which it holds
 pub unmarked : (P : AnySet → Type 0) (marks : List Bool) (sets : List AnySet) (index : ℕ) (set : AnySet) → ElseHolds P marks sets → slice_get sets index ≡ Some set → P set
     → ElseHolds P (slice_set marks index false) sets
 unmarked P marks sets index set are at silent n other is mark =
     elim (set_place marks index n false false mark) [
-      | inl here ↦ subst P (same_of_some set other (sym at ∙ ap (slice_get sets) (sym here.0) ∙ is)) silent
+      | inl here ↦ subst P (same_Some set other (sym at ∙ ap (slice_get sets) (sym here.0) ∙ is)) silent
       | inr was ↦ are n other is was.1
     ]
 
--- what is still marked once a mark was taken off was marked before
+-- an index that is marked after a mark was taken off was marked before
 pub not_unmarked : (marks : List Bool) (index n : ℕ) → IsMarked (slice_set marks index false) n → IsMarked marks n
 not_unmarked marks index n mark = elim (set_place marks index n false true mark) [ inl here ↦ absurd (true≢false (sym here.1)) | inr other ↦ other.1 ]
 
--- Marks of two kinds: what is marked by the first is marked by the second.
+-- What follows is of two lists of marks: what the first marks, the second marks too.
 
 abbrev pub AreAmong : List Bool → List Bool → Type 0
 AreAmong marks moved = (index : ℕ) → IsMarked marks index → IsMarked moved index
 
--- one list of marks lies within another with one more index too that neither marks
+-- one list of marks stays within another when each gets one more mark, `false`
 pub within_push : (marks moved : List Bool) → length marks ≡ length moved → AreAmong marks moved → AreAmong (marks ++ false ∷ []) (moved ++ false ∷ [])
 within_push marks moved long within index mark =
-    elim (push_place marks index false true mark) [
+    elim (push_place marks false index true mark) [
       | inl old ↦ slice_get-push moved false index true (within index old)
       | inr new ↦ absurd (true≢false (sym new.1))
     ]
@@ -217,37 +193,26 @@ within_push marks moved long within index mark =
     slice_get-push (u ∷ xs) a zero x at = at
     slice_get-push (u ∷ xs) a (suc n) x at = slice_get-push xs a n x at
 
--- with one that both mark
+-- one list of marks stays within another when the same mark is written at one place of both
 pub within_set : (marks moved : List Bool) (at : ℕ) (b : Bool) → length marks ≡ length moved → AreAmong marks moved → AreAmong (slice_set marks at b) (slice_set moved at b)
 within_set marks moved at b long within index mark =
     elim (set_place marks at index b true mark) [
-      | inl here ↦ subst (λ n. slice_get (slice_set moved at b) n ≡ Some true) (sym here.0) (set_at moved at b true here.1 (let low = slice_get_within (slice_set marks at b) index true mark in let size = length-set marks at b in omega (arith, here.0, low, size, long)))
+      | inl here ↦ subst (λ n. slice_get (slice_set moved at b) n ≡ Some true) (sym here.0)
+          (set_here moved at b (let low = slice_get_within (slice_set marks at b) index true mark in let size = length-set marks at b in omega (arith, here.0, low, size, long)) ∙ ap Some here.1)
       | inr other ↦ set_other moved at index b true other.0 (within index other.1)
     ]
-  where
-    set_at : (xs : List Bool) (n : ℕ) (a x : Bool) → a ≡ x → n < length xs → slice_get (slice_set xs n a) n ≡ Some x
-    set_at [] n a x is low = absurd (omega arith)
-    set_at (u ∷ xs) zero a x is low = ap Some is
-    set_at (u ∷ xs) (suc n) a x is low = set_at xs n a x is (omega arith)
 
-    set_other : (xs : List Bool) (i n : ℕ) (a x : Bool) → n ≢ i → slice_get xs n ≡ Some x → slice_get (slice_set xs i a) n ≡ Some x
-    set_other [] i n a x differ at = absurd cc
-    set_other (u ∷ xs) zero zero a x differ at = absurd (differ refl)
-    set_other (u ∷ xs) zero (suc n) a x differ at = at
-    set_other (u ∷ xs) (suc i) zero a x differ at = at
-    set_other (u ∷ xs) (suc i) (suc n) a x differ at = set_other xs i n a x (λ same. differ (ap suc same)) at
-
--- the set that a key starts with names nothing
+-- the set that a key starts with names no message
 pub start_names : (p : Times) (key : KeyParts) → numbers_of (start_of p key) ≡ []
 start_names p key = start_silent p (machine_of_key p.rules key)
 
--- a set that starts is quiet
+-- the set that a key starts with is quiet
 pub start_quiet : (p : Times) (key : KeyParts) → IsQuietSet (start_of p key)
 start_quiet p key = start_is_quiet p (machine_of_key p.rules key)
 
--- What a restart may change.
+-- What follows is of the sets that a restart may change.
 
--- the numbers of marked sets are those
+-- the numbers of the marked sets, each given once, are those that a restart needs, where each set that is not marked is quiet
 pub restart_numbers : (t : Tabled) (moved : List Bool) (marked numbers : List ℕ) → numbers ≡ map (λ i. i + 1) marked → length moved ≡ length t.keys → length t.sets ≡ length t.keys → ElseHolds IsQuietSet moved t.sets
     → ((n : ℕ) → Contains marked n ↔ IsMarked moved n) → AllPairs (λ a b. a ≢ b) marked → AreToRestart t numbers
 restart_numbers t moved marked numbers is long as_long quiet members once = subst (AreToRestart t) (sym is) (record {
@@ -267,26 +232,27 @@ restart_numbers t moved marked numbers is long as_long quiet members once = subs
       quiet place set at (not_marked moved place (omega (arith, low, as_long, long)) (λ mark. none (Contains-map (λ i. i + 1) marked place ((members place).1 mark))));
 })
 
--- What marked sets name.
+-- What follows is of the numbers that marked sets name.
 
--- the numbers that the set at an index names
+-- the numbers that the set at an index names, or none where no set is there
 abbrev pub numbers_at : List AnySet → ℕ → List ℕ
 numbers_at [] index = []
 numbers_at (set ∷ sets) zero = numbers_of set
 numbers_at (set ∷ sets) (suc index) = numbers_at sets index
 
+-- where a set stands at an index, the numbers there are those that it names
 pub numbers_at-is : (sets : List AnySet) (index : ℕ) (set : AnySet) → slice_get sets index ≡ Some set → numbers_at sets index ≡ numbers_of set
 numbers_at-is [] index set at = absurd cc
-numbers_at-is (s ∷ sets) zero set at = ap numbers_of (same_of_some s set at)
+numbers_at-is (s ∷ sets) zero set at = ap numbers_of (same_Some s set at)
 numbers_at-is (s ∷ sets) (suc index) set at = numbers_at-is sets index set at
 
--- it is among those of all
+-- a number that the set at an index names is among the numbers of all the sets
 at_among : (sets : List AnySet) (index n : ℕ) → Contains (numbers_at sets index) n → Contains (flat_map numbers_of sets) n
 at_among [] index n has = has
 at_among (s ∷ sets) zero n has = Contains-append_left (numbers_of s) (flat_map numbers_of sets) n has
 at_among (s ∷ sets) (suc index) n has = Contains-append_right (numbers_of s) (flat_map numbers_of sets) n (at_among sets index n has)
 
--- what sets name, the marked ones do
+-- the numbers that all the sets name are those that the marked ones name, where the others name none
 pub marked_names : (marked : List ℕ) (marks : List Bool) (sets : List AnySet) → length marks ≡ length sets → AreMarked marks sets
     → ((n : ℕ) → Contains marked n ↔ IsMarked marks n) → (n : ℕ) → Contains (flat_map (numbers_at sets) marked) n ↔ Contains (flat_map numbers_of sets) n
 marked_names marked marks sets long are members n = (
@@ -309,17 +275,17 @@ marked_names marked marks sets long are members n = (
     mark_cases (false ∷ marks) zero low = inr refl
     mark_cases (m ∷ marks) (suc n) low = mark_cases marks n (omega arith)
 
--- what holds always holds of a success
+-- a fact that holds anyway holds where a result is a success
 pub always_ok : {A E : Type 0} (r : Result A E) (P : Type 0) → P → OnOk r P
 always_ok (Ok x) P p = p
 always_ok (Err e) P p = tt
 
--- what holds whatever is answered holds of an error
+-- a fact that holds anyway holds where a result is an error
 pub always_err : {A E : Type 0} (r : Result A E) (P : Type 0) → P → OnErr r P
 always_err (Ok x) P p = tt
 always_err (Err e) P p = p
 
--- the numbers were appended, unless that was refused
+-- the numbers of the sets were appended, ascending and each once, unless the call was refused
 pub named_if : {T E : Type 0} (r : Result T E) (t : Tabled) (old new added : List ℕ) → new ≡ cond (is_ok r) (old ++ added) old → AllPairs (λ a b. a < b) added
     → ((n : ℕ) → Contains added n ↔ Contains (flat_map numbers_of t.sets) n) → OnOk r (AppendsNamed t old new)
 named_if (Ok x) t old new added is rising same = (added, is, rising, same)

@@ -1,4 +1,4 @@
--- Indices that change places.
+-- Lemmas of the order of indices: the marked ones stand first, and to mark one or to take a mark off exchanges two places.
 use Rattle.std.specs.Prelude.{◌≡◌, ◌≢◌, ◌<◌, ◌≤◌, ◌+◌, ◌-◌, ◌↔◌, ℕ, Bool, true, false, Some, List, [], ◌∷◌, ◌++◌, AllPairs, Contains, length, nat_lt, get_or, set, take}
 use Rattle.std.proofs.Common.{inl, inr, sym, ◌∙◌, ap, subst, arith, true≢false}
 use Rattle.std.proofs.lemmas.Bool.{cases_lt, lt-ltb, le-ltb, ltb-true}
@@ -7,7 +7,7 @@ use Rattle.std.proofs.lemmas.Bool.Decides.{eqb_tells, nat_tests}
 use Rattle.std.proofs.lemmas.List.{length-set, length-map, length-append, get_or-set_same, get_or-set_other, get_or-map, same_lists, get_or_default, get_or_append_left, get_or_push, get_or-take, length-take-le}
 use Rattle.sip_states.specs.inner.Marks.{marks, IsPlaced, IsMarked, exchanged_order, exchanged_places}
 
--- the element at a place of a list in which two were written
+-- after two writes the second place has what was written second
 pub at_second : (xs : List ℕ) (i j a b d : ℕ) → j < length xs → get_or (set (set xs i a) j b) j d ≡ b
 at_second xs i j a b d low = get_or-set_same (set xs i a) j b d (let long = length-set xs i a in omega arith)
 
@@ -17,6 +17,7 @@ at_first xs i j a b d low differ = get_or-set_other (set xs i a) j i b d differ 
 pub at_other : (xs : List ℕ) (i j k a b d : ℕ) → k ≢ i → k ≢ j → get_or (set (set xs i a) j b) k d ≡ get_or xs k d
 at_other xs i j k a b d one two = get_or-set_other (set xs i a) j k b d two ∙ get_or-set_other xs i k a d one
 
+-- What follows is of an order in which the indices a and b, at the places p and q, were exchanged.
 module _ (order places : List ℕ) (count : ℕ) (is : IsPlaced order places count) (p q : ℕ) (p_low : p < length order) (q_low : q < length order) where
   abbrev a : ℕ
   a = get_or order p 0
@@ -36,11 +37,11 @@ module _ (order places : List ℕ) (count : ℕ) (is : IsPlaced order places cou
   b_low : b < length places
   b_low = (let low = (is.ordered q q_low).0 in let long = is.long in omega arith)
 
-  -- indices that are the same stand at the same place
+  -- two places with the same index are one place
   pub same_place : (k l : ℕ) → k < length order → l < length order → get_or order k 0 ≡ get_or order l 0 → k ≡ l
   same_place k l low high same = sym (is.ordered k low).1 ∙ ap (λ i. get_or places i 0) same ∙ (is.ordered l high).1
 
-  -- where an index stands then
+  -- after the exchange the index a has the place q
   pub place_of_a : get_or new_places a 0 ≡ q
   place_of_a =
       elim (eqb_tells a b) [
@@ -57,6 +58,7 @@ module _ (order places : List ℕ) (count : ℕ) (is : IsPlaced order places cou
   pub at_q : get_or new_order q 0 ≡ a
   at_q = at_second order p q b a 0 q_low
 
+  -- after the exchange the index b stands at the place p
   at_p : get_or new_order p 0 ≡ b
   at_p =
       elim (eqb_tells p q) [
@@ -70,6 +72,7 @@ module _ (order places : List ℕ) (count : ℕ) (is : IsPlaced order places cou
   pub new_long : length new_places ≡ length places
   new_long = length-set (set places a q) b p ∙ length-set places a q
 
+  -- after the exchange each index still has its place, whatever number of marked ones is within the length
   pub exchanged : (next : ℕ) → next ≤ length order → IsPlaced new_order new_places next
   exchanged next few = record {
     long = new_long ∙ is.long ∙ sym size;
@@ -112,13 +115,13 @@ module _ (order places : List ℕ) (count : ℕ) (is : IsPlaced order places cou
         );
   }
 
--- What is marked.
+-- What follows is of marks.
 
--- whether an index is marked
+-- an index is marked where its place is below the number of marked ones
 pub mark_at : (places : List ℕ) (count k : ℕ) (d : Bool) → k < length places → get_or (marks places count) k d ≡ nat_lt (get_or places k 0) count
 mark_at places count k d low = get_or-map (λ place. nat_lt place count) places k 0 d low
 
--- two lists of marks are the same where they say the same of each index
+-- a list that has this mark at the index, and at every other one what the places say, is the marks with one written
 same_marks : (xs : List Bool) (places : List ℕ) (count index : ℕ) (b : Bool) → length xs ≡ length places → index < length places
     → ((k : ℕ) (d : Bool) → k < length places → ((k ≡ index) → get_or xs k d ≡ b) × ((k ≢ index) → get_or xs k d ≡ nat_lt (get_or places k 0) count))
     → xs ≡ set (marks places count) index b
@@ -131,13 +134,13 @@ same_marks xs places count index b long low says =
       | inr differ ↦ (says k d within).1 differ.1 ∙ sym (get_or-set_other (marks places count) index k b d differ.1 ∙ mark_at places count k d within)
     ])
 
--- an index that is as it should be stays
+-- writing the mark that an index has already changes no mark
 pub marked_still : (places : List ℕ) (count index : ℕ) (b : Bool) → index < length places → nat_lt (get_or places index 0) count ≡ b → marks places count ≡ set (marks places count) index b
 marked_still places count index b low is =
     same_marks (marks places count) places count index b (length-map places (λ place. nat_lt place count)) low
     (λ k d low_k. (λ same. mark_at places count k d low_k ∙ ap (λ n. nat_lt (get_or places n 0) count) same ∙ is, λ differ. mark_at places count k d low_k))
 
--- an index is marked: it changes places with the first that is not
+-- exchanging an index that is not marked with the first one that is not, and counting one more, marks it and no other
 pub marked_more : (order places : List ℕ) (count : ℕ) → IsPlaced order places count → (index p : ℕ) → index < length places → p ≡ get_or places index 0 → count ≤ p
     → marks (exchanged_places order places p count) (count + 1) ≡ set (marks places count) index true
 marked_more order places count is index p low at high =
@@ -170,7 +173,7 @@ marked_more order places count is index p low at high =
     next_test : (x count : ℕ) → x ≢ count → nat_lt x (count + 1) ≡ nat_lt x count
     next_test x count differ = grind (arith, nat_tests)
 
--- a mark is taken off: the index changes places with the last that is marked
+-- exchanging an index that is marked with the last one that is, and counting one less, takes its mark off and no other
 pub marked_less : (order places : List ℕ) (count : ℕ) → IsPlaced order places count → (index p : ℕ) → index < length places → p ≡ get_or places index 0 → p < count
     → marks (exchanged_places order places p (count - 1)) (count - 1) ≡ set (marks places count) index false
 marked_less order places count is index p low at under =
@@ -205,9 +208,9 @@ marked_less order places count is index p low at under =
     last_test : (x count : ℕ) → 0 < count → x ≢ count - 1 → nat_lt x (count - 1) ≡ nat_lt x count
     last_test x count some differ = grind (arith, nat_tests)
 
--- The last index.
+-- What follows is of the last index.
 
--- it is not marked where its mark says so
+-- the place of the last index is not below the number of marked ones where its mark is `false`
 pub last_unmarked : (places : List ℕ) (count last : ℕ) (rest : List Bool) → length places ≡ last + 1 → marks places count ≡ rest ++ false ∷ [] → count ≤ get_or places last 0
 last_unmarked places count last rest whole is =
     let long : length rest + 1 ≡ length places = sym (length-append rest (false ∷ [])) ∙ ap length (sym is) ∙ length-map places (λ place. nat_lt place count) in
@@ -218,7 +221,7 @@ last_unmarked places count last rest whole is =
       | inr from ↦ from
     ]
 
--- where it is not marked, it goes: it changes places with the last in order, and both lists end before it
+-- where the last index is not marked, each index has its place once it was exchanged with the last in order and both lists were cut
 pub popped : (order places : List ℕ) (count : ℕ) (is : IsPlaced order places count) (last p : ℕ) → length order ≡ last + 1 → p ≡ get_or places last 0 → count ≤ p
     → IsPlaced (take last (exchanged_order order p last)) (take last (exchanged_places order places p last)) count
 popped order places count is last p whole at high =
@@ -256,7 +259,7 @@ popped order places count is last p whole at high =
           );
     }
 
--- the other indices are marked as before
+-- once the last index, which is not marked, was taken out, the marks of the others are as before
 pub popped_marks : (order places : List ℕ) (count : ℕ) (is : IsPlaced order places count) (last p : ℕ) → length order ≡ last + 1 → p ≡ get_or places last 0 → count ≤ p
     → marks places count ≡ marks (take last (exchanged_places order places p last)) count ++ false ∷ []
 popped_marks order places count is last p whole at high =
@@ -303,9 +306,9 @@ popped_marks order places count is last p whole at high =
               ap (λ n. nat_lt n count) (sym (place_of_other order places count is p last p_low q_low k (λ e. omega (arith, under, e ∙ mine)) not_b.1))
         ]
 
--- The first in order.
+-- What follows is of the indices that stand first in order.
 
--- just those that are marked stand there
+-- the first `count` indices in order are exactly those that are marked
 pub front_marked : (order places : List ℕ) (count : ℕ) → IsPlaced order places count → (index : ℕ) → Contains (take count order) index ↔ IsMarked (marks places count) index
 front_marked order places count is index =
     let long = is.long in
@@ -328,7 +331,7 @@ front_marked order places count is index =
           (get_or places index 0, omega arith, get_or-take count order (get_or places index 0) index under ∙ get_or_default order (get_or places index 0) index 0 was.0 ∙ was.1),
     )
 
--- each once
+-- no index stands twice among the first `count` in order
 pub front_once : (order places : List ℕ) (count : ℕ) → IsPlaced order places count → AllPairs (λ a b. a ≢ b) (take count order)
 front_once order places count is i j d less low =
     let few = is.few in

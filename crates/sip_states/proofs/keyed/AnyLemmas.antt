@@ -1,4 +1,4 @@
--- What `AnySet` says of waiting and of an event, put together from the clauses of `StateSet`.
+-- What `AnySet` says of waiting and of taking an event, put together from the clauses of `StateSet`.
 use Rattle.std.proofs.Common.{◌≡◌, ◌≤◌, ◌+◌, ℕ, Result, Ok, Err, OnOk, length}
 use Rattle.sip_machine.specs.NumberedEvent.{NumberedEvent}
 use Rattle.sip_machine.specs.Texts.{Texts, IsBook}
@@ -8,7 +8,7 @@ use Rattle.sip_states.specs.Held.{Held}
 use Rattle.sip_states.specs.Meaning.{Meaning, IsKnown, Waiting, Given, HasWaited, HasTaken}
 
 module _ {X M S T E : Type 0} (m : Meaning X M S) (old new : Held M S) where
-  -- the clauses of `StateSet::advance`, as one
+  -- the clauses of `StateSet::advance`, taken together, say that the set has waited
   pub has_waited : (moment : ℕ) (r : Result T E)
       → OnOk r ((new.machine ≡ old.machine) × (new.moment ≡ moment))
       → OnOk r ((texts : Texts) → IsBook texts → IsKnown m texts old → StandFor m.names m.in_range m.seen texts (Waiting m texts old moment) new.states)
@@ -17,7 +17,7 @@ module _ {X M S T E : Type 0} (m : Meaning X M S) (old new : Held M S) where
   has_waited moment (Ok x) at states one_more = record { machine = at.0; at = at.1; states = states; one_more = one_more }
   has_waited moment (Err e) at states one_more = tt
 
-  -- those of `StateSet::take`
+  -- the clauses of `StateSet::take`, taken together, say that the set has taken the event
   pub has_taken : (texts : Texts) (e : NumberedEvent) (r : Result T E)
       → OnOk r ((new.machine ≡ old.machine) × (new.moment ≡ e.moment))
       → OnOk r (StandFor m.names m.in_range m.seen texts (Given m texts old e) new.states)

@@ -1,4 +1,4 @@
--- A set of any machine, as one of its own.
+-- A set of any machine, seen as a set of that machine.
 use Rattle.std.proofs.Common.{◌≡◌, [], ◌∷◌, ◌++◌, inl, inr, ℕ, List, All, Contains, refl, sym, ap, ◌∙◌, subst}
 use Rattle.std.proofs.lemmas.List.Elements.{All-nil}
 use Rattle.sip_standard.specs.Times.{Times}
@@ -12,27 +12,23 @@ use Rattle.sip_machine.specs.inner.FigureLaws.{rules_lawful}
 use Rattle.sip_machine.specs.inner.OwingLaws.{owing_by_names, quiet_stands}
 use Rattle.sip_states.specs.Held.{Held}
 use Rattle.sip_standard.specs.KeyMachine.{MachineKind, transaction_of}
-use Rattle.sip_states.specs.KeySets.{coded_of, PhaseOf, key_rules, StateOf, set_of, held_of, start_of_machine}
+use Rattle.sip_states.specs.KeySets.{coded_of, PhaseOf, StateOf, set_of, held_of, start_of_machine}
 use Rattle.sip_states.proofs.keyed.KeySetLaws.{coded_holds, held_is, set_is, start_is, of_machine, to_machine, of_one_machine}
 use Rattle.sip_states.specs.Meaning.{Meaning}
 use Rattle.sip_states.specs.AnySet.{meaning_of, IsQuietIn, IsQuietSet, OfHeld, OfSet, OfHelds, OfSets, moment_of}
 use Rattle.sip_states.specs.Sweep.{names_of, numbers_of, AppendsNumbers}
 use Rattle.sip_states.specs.declared.any_set.AnySet.{AnySet}
 
--- its rules are those of its machine
-pub rules_are : (p : Times) (machine : MachineKind) → (meaning_of machine).rules p ≡ key_rules p machine
-rules_are p machine = refl
-
--- which are lawful
+-- the rules of each machine are lawful
 pub lawful_of : (machine : MachineKind) (p : Times) → IsLawful ((meaning_of machine).rules p)
 lawful_of machine p = rules_lawful (transaction_of machine).figure (coded_holds machine).is_figure p
 
--- a state stands for the same beside any book that has the messages that it names
+-- a state stands for the same beside two books that have the same texts for the messages that it names
 pub seen_by_names_of : (machine : MachineKind) (a b : Texts) (x : StateOf machine)
     → ((n : ℕ) → Contains ((meaning_of machine).names x) n → text_of a n ≡ text_of b n) → (meaning_of machine).seen a x ≡ (meaning_of machine).seen b x
 seen_by_names_of machine a b x h = owing_by_names (coded_of machine).names (coded_of machine).seen a b ((coded_holds machine).by_names a b) x h
 
--- the first state
+-- the state that the code starts a machine with
 abbrev pub first_of : (machine : MachineKind) → StateOf machine
 first_of machine = idle_state (coded_of machine)
 
@@ -40,50 +36,50 @@ pub first_is_of : (machine : MachineKind) (texts : Texts) (p : Times) → (meani
 first_is_of machine texts p =
     quiet_stands (coded_of machine).seen texts (coded_of machine).idle (transaction_of machine).figure.idle ((coded_holds machine).idle_is texts)
 
--- it names no message
+-- the first state of a machine names no message, so that every book knows it
 pub first_knows : (machine : MachineKind) (texts : Texts) → Knows (meaning_of machine).names texts (first_of machine)
 first_knows machine texts = subst (λ names. All (Keeps texts) (names ++ [])) (sym (coded_holds machine).idle_fits.0) (All-nil (Keeps texts))
 
--- each set is one of some machine
+-- every set is the set of some machine
 pub some_machine : (set : AnySet) → (machine : MachineKind) × (s : Held Times (StateOf machine)) × (set ≡ set_of machine s)
 some_machine set = ((held_of set).0, (held_of set).1, set_is set)
 
--- the moment of a set
+-- the moment of the set of a machine is the moment of what it holds
 pub moment_is : (machine : MachineKind) (s : Held Times (StateOf machine)) → moment_of (set_of machine s) ≡ s.moment
 moment_is machine s = ap (λ (h : (kind : MachineKind) × Held Times (StateOf kind)). h.1.moment) (held_is machine s)
 
--- the numbers of the messages that it names
+-- the numbers of the messages that the set of a machine names are those that its states name
 pub numbers_are : (machine : MachineKind) (s : Held Times (StateOf machine)) → numbers_of (set_of machine s) ≡ names_of machine s
 numbers_are machine s = ap (λ (h : (kind : MachineKind) × Held Times (StateOf kind)). names_of h.0 h.1) (held_is machine s)
 
--- which it appends
+-- what a set appended are the numbers of the messages that it names
 pub numbers_appended : (set : AnySet) (old new : List ℕ) → AppendsNumbers set old new → AppendsAll (numbers_of set) old new
 numbers_appended set old new appends =
     let (machine, s, is) = some_machine set in
     let by_names = of_machine (λ kind held. AppendsAll (names_of kind held) old new) machine s (subst (λ x. AppendsNumbers x old new) is appends) in
     subst (λ ns. AppendsAll ns old new) (sym (ap numbers_of is ∙ numbers_are machine s)) by_names
 
--- the set that a machine starts with names nothing
+-- the set that a machine starts with names no message
 pub start_silent : (p : Times) (machine : MachineKind) → numbers_of (start_of_machine p machine) ≡ []
 start_silent p machine =
     ap numbers_of (start_is p machine) ∙ numbers_are machine (record { machine = p; moment = 0; states = first_of machine ∷ [] }) ∙ ap (λ names. (names ++ []) ++ []) (coded_holds machine).idle_fits.0
 
--- The ended state.
+-- What follows is of the ended state.
 
 abbrev pub last_of : (machine : MachineKind) → StateOf machine
 last_of machine = ended_state (coded_of machine)
 
--- it stands for that of the rules
+-- the ended state of the code stands for the ended state of the rules
 pub last_is_of : (machine : MachineKind) (texts : Texts) (p : Times) → (meaning_of machine).seen texts (last_of machine) ≡ ((meaning_of machine).rules p).ended
 last_is_of machine texts p = quiet_stands (coded_of machine).seen texts (coded_of machine).ended (transaction_of machine).figure.ended ((coded_holds machine).ended_is texts)
 
--- it names no message
+-- the ended state of a machine names no message, so that every book knows it
 pub last_knows : (machine : MachineKind) (texts : Texts) → Knows (meaning_of machine).names texts (last_of machine)
 last_knows machine texts = subst (λ names. All (Keeps texts) (names ++ [])) (sym (coded_holds machine).ended_fits.0) (All-nil (Keeps texts))
 
--- Quiet sets.
+-- What follows is of quiet sets.
 
--- a set of a machine is quiet by its one state
+-- where the set of a machine is quiet, what it holds has one state, the first or the ended one
 pub quiet_in : (machine : MachineKind) (s : Held Times (StateOf machine)) → IsQuietSet (set_of machine s) → IsQuietIn machine s
 quiet_in machine s quiet = of_machine IsQuietIn machine s quiet
 
@@ -92,7 +88,7 @@ pub start_is_quiet : (p : Times) (machine : MachineKind) → IsQuietSet (start_o
 start_is_quiet p machine =
     subst IsQuietSet (sym (start_is p machine)) (to_machine IsQuietIn machine (record { machine = p; moment = 0; states = first_of machine ∷ [] }) (inl refl))
 
--- a quiet set names nothing
+-- a quiet set names no message
 pub quiet_silent : (set : AnySet) → IsQuietSet set → numbers_of set ≡ []
 quiet_silent set quiet =
     let (machine, s, is) = some_machine set in
@@ -103,14 +99,14 @@ quiet_silent set quiet =
     ]
 
 module _ (P : (X M S : Type 0) → Meaning X M S → Held M S → Type 0) where
-  -- what holds of a set of a machine
+  -- what holds of a set of any machine holds of what the set of this machine holds
   pub of_set : (machine : MachineKind) (s : Held Times (StateOf machine)) → OfSet P (set_of machine s) → P (PhaseOf machine) Times (StateOf machine) (meaning_of machine) s
   of_set machine s holds = of_machine (OfHeld P) machine s holds
 
   pub to_set : (machine : MachineKind) (s : Held Times (StateOf machine)) → P (PhaseOf machine) Times (StateOf machine) (meaning_of machine) s → OfSet P (set_of machine s)
   to_set machine s holds = to_machine (OfHeld P) machine s holds
 
--- what holds of two of them
+-- where P holds of the set of a machine and of a new set, the new one is of the same machine, and P holds of what the two hold
 pub of_sets : (P : (X M S : Type 0) → Meaning X M S → Held M S → Held M S → Type 0) (machine : MachineKind) (s : Held Times (StateOf machine)) (new : AnySet) → OfSets P (set_of machine s) new
     → (t : Held Times (StateOf machine)) × (new ≡ set_of machine t) × P (PhaseOf machine) Times (StateOf machine) (meaning_of machine) s t
 of_sets P machine s new both = of_one_machine (OfHelds P) machine s new both

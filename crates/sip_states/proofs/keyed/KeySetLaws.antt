@@ -1,8 +1,9 @@
--- Laws of the sets of each machine: the code has the machines as they are said to be, and a set is that of its machine, whichever that is.
+-- Laws of the sets of each machine: the code has each machine as the standard has it, and a set is a set of its own machine.
 use Rattle.std.specs.Prelude.{◌≡◌, [], ◌∷◌}
 use Rattle.std.proofs.Common.{refl}
 use Rattle.sip_standard.specs.Times.{Times}
 use Rattle.sip_standard.specs.KeyMachine.{MachineKind, OfInviteClient, OfPlainClient, OfInviteServer, OfPlainServer, OfInviteClient3261, OfInviteServer3261, transaction_of}
+use Rattle.sip_standard.specs.PhaseWords.{words_of}
 use Rattle.sip_machine.specs.inner.Coded.{IsCoded, idle_state}
 use Rattle.sip_machine.specs.inner.InviteClient.Laws.{invite_client_is_coded}
 use Rattle.sip_machine.specs.inner.PlainClient.Laws.{plain_client_is_coded}
@@ -15,8 +16,8 @@ use Rattle.sip_states.specs.declared.any_set.AnySet.{AnySet}
 use Rattle.sip_states.specs.declared.any_set.AnySet.TheVariants.{InviteClient, PlainClient, InviteServer, PlainServer, InviteClient3261, InviteServer3261}
 use Rattle.sip_states.specs.KeySets.{coded_of, StateOf, set_of, held_of, by_machine, by_one_machine, start_of_machine}
 
--- the code has each machine as it is
-pub coded_holds : (machine : MachineKind) → IsCoded (transaction_of machine).figure (coded_of machine)
+-- the code has the figure of each machine
+pub coded_holds : (machine : MachineKind) → IsCoded (transaction_of machine).figure (words_of machine) (coded_of machine)
 coded_holds OfInviteClient = invite_client_is_coded
 coded_holds OfPlainClient = plain_client_is_coded
 coded_holds OfInviteServer = invite_server_is_coded
@@ -24,7 +25,7 @@ coded_holds OfPlainServer = plain_server_is_coded
 coded_holds OfInviteClient3261 = invite_client_3261_is_coded
 coded_holds OfInviteServer3261 = invite_server_3261_is_coded
 
--- the set of a machine is of that machine
+-- the set that holds something of a machine is of that machine and holds that
 pub held_is : (machine : MachineKind) (s : Held Times (StateOf machine)) → held_of (set_of machine s) ≡ (machine, s)
 held_is OfInviteClient s = refl
 held_is OfPlainClient s = refl
@@ -33,7 +34,7 @@ held_is OfPlainServer s = refl
 held_is OfInviteClient3261 s = refl
 held_is OfInviteServer3261 s = refl
 
--- each set is that of its machine
+-- each set is the set of its machine that holds what it holds
 pub set_is : (set : AnySet) → set ≡ set_of (held_of set).0 (held_of set).1
 set_is (InviteClient s) = refl
 set_is (PlainClient s) = refl
@@ -42,7 +43,7 @@ set_is (PlainServer s) = refl
 set_is (InviteClient3261 s) = refl
 set_is (InviteServer3261 s) = refl
 
--- a machine starts with the set of its first state
+-- the set that a machine starts with has its idle state, at moment 0
 pub start_is : (p : Times) (machine : MachineKind) → start_of_machine p machine ≡ set_of machine (record { machine = p; moment = 0; states = idle_state (coded_of machine) ∷ [] })
 start_is p OfInviteClient = refl
 start_is p OfPlainClient = refl
@@ -51,8 +52,9 @@ start_is p OfPlainServer = refl
 start_is p OfInviteClient3261 = refl
 start_is p OfInviteServer3261 = refl
 
--- a fact of the set of a machine, by the machine of the set
+-- a fact of the set of a machine, told by cases of the set, is the fact of that machine
 module _ (P : (machine : MachineKind) → Held Times (StateOf machine) → Type 0) where
+  -- what holds by the machine of a set holds of the machine whose set it is
   pub of_machine : (machine : MachineKind) (s : Held Times (StateOf machine)) → by_machine P (set_of machine s) → P machine s
   of_machine OfInviteClient s holds = holds
   of_machine OfPlainClient s holds = holds
@@ -61,6 +63,7 @@ module _ (P : (machine : MachineKind) → Held Times (StateOf machine) → Type 
   of_machine OfInviteClient3261 s holds = holds
   of_machine OfInviteServer3261 s holds = holds
 
+  -- what holds of a machine and what its set holds, holds by the machine of the set
   pub to_machine : (machine : MachineKind) (s : Held Times (StateOf machine)) → P machine s → by_machine P (set_of machine s)
   to_machine OfInviteClient s holds = holds
   to_machine OfPlainClient s holds = holds
@@ -69,7 +72,7 @@ module _ (P : (machine : MachineKind) → Held Times (StateOf machine) → Type 
   to_machine OfInviteClient3261 s holds = holds
   to_machine OfInviteServer3261 s holds = holds
 
--- a fact of the set of a machine and of another set makes that one of the same machine
+-- where P holds of the set of a machine and of another set, that one is of the same machine, and P holds of what the two hold
 pub of_one_machine : (P : (machine : MachineKind) → Held Times (StateOf machine) → Held Times (StateOf machine) → Type 0) (machine : MachineKind) (s : Held Times (StateOf machine)) (new : AnySet)
     → by_one_machine P (set_of machine s) new → (t : Held Times (StateOf machine)) × (new ≡ set_of machine t) × P machine s t
 of_one_machine P OfInviteClient s (InviteClient t) holds = (t, refl, holds)

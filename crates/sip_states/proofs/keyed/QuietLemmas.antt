@@ -1,4 +1,4 @@
--- A quiet set stays as it is: it waits for ever, and a restart of the element leaves it.
+-- Lemmas of quiet sets: each waits for ever, and a restart of the element leaves it as it is.
 use Rattle.std.proofs.Common.{◌≡◌, ◌≤◌, ◌<◌, ◌^◌, ◌⊎◌, ◌↔◌, ◌∙◌, inl, inr, ℕ, None, [], ◌∷◌, Contains, map, refl, sym, ap, subst, arith}
 use Rattle.std.proofs.lemmas.List.Elements.{All-nil, All-cons}
 use Rattle.sip_standard.specs.declared.action.Action.TheVariants.{Restart}
@@ -17,7 +17,7 @@ use Rattle.sip_states.proofs.sets.Waiting.{StaysFrom, EndsFrom, IsWithin-none, I
 use Rattle.sip_states.proofs.keyed.ByMachine.{first_of, last_of, first_is_of, last_is_of, first_knows, last_knows, lawful_of}
 use Rattle.sip_states.proofs.lists.Listed.{Contains-single}
 
--- a second restart changes nothing
+-- a state that a restart led to is left as it is by a second restart
 pub restarts_once : {X : Type 0} (f : Figure X) (x y z : Owing X) → Restarts f x y → Restarts f y z → z ≡ y
 restarts_once f x y z (inl (idle, y_is)) (inl (same, z_is)) = z_is ∙ sym y_is
 restarts_once f x y z (inl (idle, y_is)) (inr (other, z_is)) = absurd (other (ap (λ s. s.phase) y_is))
@@ -25,7 +25,7 @@ restarts_once f x y z (inr (busy, y_is)) (inl (same, z_is)) = z_is ∙ ap quiet 
 restarts_once f x y z (inr (busy, y_is)) (inr (other, z_is)) = z_is ∙ sym y_is
 
 module _ {X : Type 0} (r : MachineRules X) (lawful : IsLawful r) (q : X) (endless : r.window q ≡ None) (stays : r.until q ≡ None) where
-  -- a state without an end and without a last moment is waited in for ever, and nothing else comes of it
+  -- where one stands in a state without an end and without a last moment alone, one stands in it alone at any later moment
   pub wait_still : (C : X → Type 0) → ((x : X) → C x ↔ (x ≡ q)) → (h n : ℕ) → h ≤ n → (y : X) → Wait r C h n y ↔ (y ≡ q)
   wait_still C only h n low y = (
     λ w. go ((Wait-cases r lawful C h n y).0 w),
@@ -36,42 +36,45 @@ module _ {X : Type 0} (r : MachineRules X) (lawful : IsLawful r) (q : X) (endles
       go (inl stay) = (only y).0 stay.among
       go (inr end) = absurd (IsOpenAt-none end.at (r.window end.start) (ap r.window ((only end.start).0 end.among) ∙ endless) end.hides.opened)
 
--- a restart leads from the idle state to itself
+-- a restart leads from the idle state, where nothing is owed, to itself alone
 idle_restarts : {X : Type 0} (f : Figure X) (y : Owing X) → Restarts f (quiet f.idle) y ↔ (y ≡ quiet f.idle)
 idle_restarts f y = (λ h. elim h [ inl same ↦ same.1 | inr other ↦ absurd (other.0 refl) ], λ is. inl (refl, is))
 
--- a restart leaves the ended state as it is
+-- a restart leads from the ended state, where nothing is owed, to itself alone
 ended_restarts : {X : Type 0} (f : Figure X) → (f.ended ≡ f.idle) ⊎ ¬ (f.ended ≡ f.idle) → (y : Owing X) → Restarts f (quiet f.ended) y ↔ (y ≡ quiet f.ended)
 ended_restarts f decided y = (
   λ h. elim h [ inl same ↦ same.1 ∙ ap quiet (sym same.0) | inr other ↦ other.1 ],
   λ is. elim decided [ inl same ↦ inl (same, is ∙ ap quiet same) | inr other ↦ inr (other, is) ],
 )
 
+-- What follows is of an event that restarts the element.
 module _ (p : Times) (machine : MachineKind) (e : MachineEvent) (is : e.action ≡ Restart) where
   abbrev f : Figure (transaction_of machine).Phase
   f = (transaction_of machine).figure
 
+  -- by the rules a restart leads from the idle state to itself alone
   idle_takes : (y : PhaseOf machine) → (key_rules p machine).Take (quiet f.idle) e y ↔ (y ≡ quiet f.idle)
   idle_takes y =
       let stays = IsWithin-none e.moment ((key_rules p machine).until (quiet f.idle)) (lawful_of machine p).first_stays in
       let steps = subst (λ a. Steps f p a e (quiet f.idle) y ↔ (y ≡ quiet f.idle)) (sym is) (idle_restarts f y) in
       (λ h. steps.0 h.1, λ same. (stays, steps.1 same))
 
+  -- by the rules a restart leads from the ended state to itself alone
   ended_takes : (y : PhaseOf machine) → (key_rules p machine).Take (quiet f.ended) e y ↔ (y ≡ quiet f.ended)
   ended_takes y =
       let stays = IsWithin-none e.moment ((key_rules p machine).until (quiet f.ended)) (lawful_of machine p).ended_stays in
       let steps = subst (λ a. Steps f p a e (quiet f.ended) y ↔ (y ≡ quiet f.ended)) (sym is) (ended_restarts f (coded_holds machine).ended_decided y) in
       (λ h. steps.0 h.1, λ same. (stays, steps.1 same))
 
--- the first and the ended state are in range
+-- the moments of the first state, and those of the ended one, are in range
 first_in_range : (machine : MachineKind) → (meaning_of machine).in_range (first_of machine)
 first_in_range machine = ((coded_holds machine).idle_fits.1, All-nil (λ debt. debt.deadline < 2 ^ 50))
 
 last_in_range : (machine : MachineKind) → (meaning_of machine).in_range (last_of machine)
 last_in_range machine = ((coded_holds machine).ended_fits.1, All-nil (λ debt. debt.deadline < 2 ^ 50))
 
--- what a quiet state of the code is: it stands for one without an end and without a last moment, which a restart leaves; it names nothing that is not
--- kept, and is in range
+-- the state of the code stands for one that has no end and no last moment, and that a restart leaves as it is; every book has what it
+-- names, and its moments are in range
 pub record IsStill (p : Times) (machine : MachineKind) (texts : Texts) (x : StateOf machine) : Type 0 where
   pub endless : ((meaning_of machine).rules p).window ((meaning_of machine).seen texts x) ≡ None
   pub stays : ((meaning_of machine).rules p).until ((meaning_of machine).seen texts x) ≡ None
@@ -79,6 +82,7 @@ pub record IsStill (p : Times) (machine : MachineKind) (texts : Texts) (x : Stat
   pub known : Knows (meaning_of machine).names texts x
   pub in_range : (meaning_of machine).in_range x
 
+-- the first state is still
 first_still : (p : Times) (machine : MachineKind) (texts : Texts) → IsStill p machine texts (first_of machine)
 first_still p machine texts =
     let q = first_is_of machine texts p in
@@ -92,6 +96,7 @@ first_still p machine texts =
       in_range = first_in_range machine;
     }
 
+-- the ended state is still
 last_still : (p : Times) (machine : MachineKind) (texts : Texts) → IsStill p machine texts (last_of machine)
 last_still p machine texts =
     let q = last_is_of machine texts p in
@@ -105,7 +110,7 @@ last_still p machine texts =
       in_range = last_in_range machine;
     }
 
--- the one state of a quiet set is one
+-- a quiet set has one state, which is still
 pub quiet_still : (p : Times) (machine : MachineKind) (texts : Texts) (s : Held Times (StateOf machine)) → IsQuietIn machine s → (x : StateOf machine) × (s.states ≡ x ∷ []) × IsStill p machine texts x
 quiet_still p machine texts s (inl is) = (first_of machine, is, first_still p machine texts)
 quiet_still p machine texts s (inr is) = (last_of machine, is, last_still p machine texts)
@@ -120,11 +125,11 @@ module _ (p : Times) (machine : MachineKind) (texts : Texts) (x : StateOf machin
   abbrev Alone : PhaseOf machine → Type 0
   Alone y = Contains (map ((meaning_of machine).seen texts) (x ∷ [])) y
 
-  -- one can wait in it for ever, and nothing else comes of it
+  -- where one stands in a still state alone, one stands in it alone at any later moment
   pub waits_still : (h n : ℕ) → h ≤ n → (y : PhaseOf machine) → Wait r Alone h n y ↔ (y ≡ q)
   waits_still h n low y = wait_still r (lawful_of machine p) q still.endless still.stays Alone (λ z. Contains-single q z) h n low y
 
-  -- a restart leaves a set that stands in idle alone
+  -- a restart leads from a wait in a still state to that state alone
   pub restart_still : (h : ℕ) (e : MachineEvent) → e.action ≡ Restart → h ≤ e.moment
       → StandFor (meaning_of machine).names (meaning_of machine).in_range (meaning_of machine).seen texts (RunGives r (Wait r Alone h e.moment) e) (x ∷ [])
   restart_still h e is low = record {

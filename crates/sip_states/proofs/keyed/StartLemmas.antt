@@ -1,4 +1,4 @@
--- A key that starts anew: the set with which it comes can wait for ever, and needs no mark.
+-- A key that starts anew: the set with which it comes can wait for ever and needs no mark.
 use Rattle.std.proofs.Common.{ℕ, Bool, List, [], ◌∷◌, None, Contains, inl, inr, map, slice_set, refl, sym, subst}
 use Rattle.sip_standard.specs.Key.{KeyParts}
 use Rattle.sip_standard.specs.Times.{Times}
@@ -12,16 +12,16 @@ use Rattle.sip_states.specs.Meaning.{HasAgenda}
 use Rattle.sip_states.specs.AnySet.{IsAgendaOf, meaning_of, start_of}
 use Rattle.sip_states.specs.declared.any_set.AnySet.{AnySet}
 use Rattle.sip_states.specs.inner.Marks.{ElseHolds}
-use Rattle.sip_states.proofs.due.AdvanceLemmas.{set_place}
+use Rattle.sip_states.proofs.lists.Places.{set_place}
 use Rattle.sip_states.proofs.keyed.ByMachine.{first_of, to_set}
 use Rattle.sip_states.proofs.keyed.QuietLemmas.{quiet_still, waits_still}
 
 module _ (p : Times) (machine : MachineKind) where
-  -- what the set of a new key holds
+  -- what the set of a new key of this machine holds
   abbrev new : Held Times (StateOf machine)
   new = record { machine = p; moment = 0; states = first_of machine ∷ [] }
 
-  -- a wait in it has no end
+  -- one can wait in the set of a new key for ever
   waits_on : (texts : Texts) → IsAgenda ((meaning_of machine).rules p) (Contains (map ((meaning_of machine).seen texts) new.states)) 0 None
   waits_on texts =
       let (x, one, still) = quiet_still p machine texts new (inl refl) in
@@ -34,6 +34,6 @@ module _ (p : Times) (machine : MachineKind) where
 pub start_endless : (p : Times) (key : KeyParts) → IsAgendaOf None (start_of p key)
 start_endless p key = start_waits p (machine_of_key p.rules key)
 
--- a set of which it holds needs no mark, whatever set it takes the place of
+-- P holds of the sets that are not marked once a set of which it holds is put at an index, marked or not
 pub else_set : (P : AnySet → Type 0) (marks : List Bool) (sets : List AnySet) (index : ℕ) (set : AnySet) → P set → ElseHolds P marks sets → ElseHolds P marks (slice_set sets index set)
 else_set P marks sets index set holds are n other at mark = elim (set_place sets index n set other at) [ inl here ↦ subst P here.1 holds | inr old ↦ are n other old.1 mark ]

@@ -1,4 +1,4 @@
--- The first of each kind from an index on: they are just the elements from there on, each once.
+-- The elements that are picked, the first of each kind from an index on, are exactly the elements from there on, each once.
 use Rattle.std.specs.Prelude.{◌≡◌, ◌≢◌, ◌↔◌, ◌≤◌, ◌<◌, ◌+◌, ◌-◌, ℕ, List, AllPairs, Contains, drop, get_or, length, map}
 use Rattle.std.proofs.Common.{◌∙◌, sym, ap, subst, arith}
 use Rattle.std.proofs.lemmas.List.{get_or-drop, get_or-map, get_or_default, length-drop, length-map}
@@ -10,7 +10,7 @@ module _ {S : Type 0} (ys : List S) (first : ℕ) (rows : List ℕ) (x : S) (one
   abbrev at : ℕ → S
   at row = get_or ys row x
 
-  -- they are just the elements from there on
+  -- each element that is picked is one from `first` on
   picked-there : (z : S) → Contains (picked ys x rows) z → Contains (drop first ys) z
   picked-there z has =
       let (row, among, is) = Contains-from_map at rows z has in
@@ -22,6 +22,7 @@ module _ {S : Type 0} (ys : List S) (first : ℕ) (rows : List ℕ) (x : S) (one
         get_or-drop first ys (row - first) z ∙ ap (λ k. get_or ys k z) where_it_stands ∙ get_or_default ys row z x high ∙ is,
       )
 
+  -- each element from `first` on is picked
   there-picked : (z : S) → Contains (drop first ys) z → Contains (picked ys x rows) z
   there-picked z (k, low, is) =
       let size : length (drop first ys) ≡ length ys - first = length-drop first ys in
@@ -33,14 +34,14 @@ module _ {S : Type 0} (ys : List S) (first : ℕ) (rows : List ℕ) (x : S) (one
   pub picked-members : (z : S) → Contains (picked ys x rows) z ↔ Contains (drop first ys) z
   picked-members z = (picked-there z, there-picked z)
 
-  -- each of them is picked once
+  -- no element is picked twice
   pub picked-distinct : AllPairs (λ a b. a ≢ b) (picked ys x rows)
   picked-distinct = λ i j d low high same.
       let size : length (picked ys x rows) ≡ length rows = length-map rows at in
       let high' : j < length rows = omega (arith, high, size) in
       ones.apart x i j 0 low high' (sym (get_or-map at rows i 0 d (omega (arith, low, high'))) ∙ same ∙ get_or-map at rows j 0 d high')
 
--- what differs after a function differs before it
+-- elements whose images all differ all differ
 pub unseen-distinct : {S X : Type 0} (f : S → X) (xs : List S) → AllPairs (λ a b. a ≢ b) (map f xs) → AllPairs (λ a b. a ≢ b) xs
 unseen-distinct f xs apart = λ i j d low high same.
     let size : length (map f xs) ≡ length xs = length-map xs f in

@@ -1,5 +1,5 @@
--- What is left of a list where some of its elements are kept: what a loop does that moves each of them to the front, and where each stands then.
-use Rattle.std.proofs.Common.{◌≡◌, ◌≢◌, ◌≤◌, ◌<◌, ◌+◌, ℕ, zero, suc, Bool, true, false, Some, List, [], ◌∷◌, ◌++◌, All, length, take, drop, get_or, set, refl, sym, ap, ap₂, ◌∙◌, ◌-◌, arith, append_assoc, append-nil}
+-- What is left of a list of which flagged elements are kept: how a loop moves each of them to the front, and where each stands then.
+use Rattle.std.proofs.Common.{◌≡◌, ◌≢◌, ◌≤◌, ◌<◌, ◌+◌, ℕ, zero, suc, Bool, true, false, Some, List, [], ◌∷◌, ◌++◌, All, length, take, drop, get_or, refl, sym, ap, ap₂, ◌∙◌, ◌-◌, arith, append_assoc, append-nil}
 use Rattle.std.specs.Prelude.{min, swap, slice_get, slice_set}
 use Rattle.std.proofs.Math.Decide.{dec_le}
 use Rattle.std.proofs.lemmas.Option.{get_or_from_slice_get, slice_get_within, slice_get-get_or}
@@ -9,17 +9,18 @@ use Rattle.std.proofs.lemmas.List.Edits.{length-swap, swapped_from_swap}
 use Rattle.sip_states.specs.Kept.{kept_of}
 
 module _ {X : Type 0} where
-  -- one more element, kept or not
+  -- what is kept from the place i on is what is kept of the element there, and of those after it
   kept_more : (flags : List Bool) (xs : List X) (i : ℕ) (b : Bool) (x : X) → i < length flags → i < length xs → b ≡ get_or flags i b → x ≡ get_or xs i x
       → kept_of (drop i flags) (drop i xs) ≡ kept_of (b ∷ drop (i + 1) flags) (x ∷ drop (i + 1) xs)
   kept_more flags xs i b x low within flag is =
       ap₂ kept_of (drop_more flags i b low ∙ ap (λ c. c ∷ drop (i + 1) flags) (sym flag)) (drop_more xs i x within ∙ ap (λ y. y ∷ drop (i + 1) xs) (sym is))
 
-  -- none is kept where there is no flag, or no element
+  -- nothing is kept of an empty list
   kept_none : (flags : List Bool) → kept_of {X = X} flags [] ≡ []
   kept_none [] = refl
   kept_none (b ∷ flags) = refl
 
+  -- nothing is kept from the place i on where the flags or the elements end before it
   pub kept_end : (flags : List Bool) (xs : List X) (i : ℕ) → min (length flags) (length xs) ≤ i → kept_of (drop i flags) (drop i xs) ≡ []
   kept_end flags xs i past = by (dec_le (length flags) i)
     where
@@ -27,7 +28,7 @@ module _ {X : Type 0} where
       by (yes end) = ap (λ fs. kept_of fs (drop i xs)) (drop_all i flags end)
       by (no on) = ap (kept_of (drop i flags)) (drop_all i xs (omega (arith, past, on))) ∙ kept_none (drop i flags)
 
-  -- a loop that appends what is kept
+  -- a loop that has appended what is kept before the place i, and appends the element there with its flag, has what is kept before i + 1
   pub appends_more : (flags : List Bool) (xs ys : List X) (i : ℕ) (x : X) → i < length flags → i < length xs → true ≡ get_or flags i true → x ≡ get_or xs i x
       → ys ++ kept_of (drop i flags) (drop i xs) ≡ kept_of flags xs → (ys ++ x ∷ []) ++ kept_of (drop (i + 1) flags) (drop (i + 1) xs) ≡ kept_of flags xs
   appends_more flags xs ys i x low within flag is whole =
@@ -37,15 +38,12 @@ module _ {X : Type 0} where
       → ys ++ kept_of (drop i flags) (drop i xs) ≡ kept_of flags xs → ys ++ kept_of (drop (i + 1) flags) (drop (i + 1) xs) ≡ kept_of flags xs
   appends_not flags xs ys i x low within flag is whole = ap (λ l. ys ++ l) (sym (kept_more flags xs i false x low within flag is)) ∙ whole
 
-  -- ys began as xs. So many of its places in front have what is kept of the first i of xs; from i on it is as it was
+  -- ys is xs with elements moved: its first k are what is kept of the first i of xs, and from the place i on it is as xs was
   pub record KeepsInPlace (flags : List Bool) (xs ys : List X) (k i : ℕ) : Type 0 where
     pub whole : take k ys ++ kept_of (drop i flags) (drop i xs) ≡ kept_of flags xs
     pub rest : drop i ys ≡ drop i xs
     pub behind : k ≤ i
     pub long : length ys ≡ length xs
-
-  pub keeps_begun : (flags : List Bool) (xs : List X) → KeepsInPlace flags xs xs 0 0
-  keeps_begun flags xs = record { whole = refl; rest = refl; behind = omega arith; long = refl }
 
   pub keeps_done : (flags : List Bool) (xs ys : List X) (k i : ℕ) → KeepsInPlace flags xs ys k i → min (length flags) (length xs) ≤ i → take k ys ≡ kept_of flags xs
   keeps_done flags xs ys k i h past = sym (append-nil (take k ys)) ∙ ap (λ l. take k ys ++ l) (sym (kept_end flags xs i past)) ∙ h.whole
@@ -63,6 +61,7 @@ module _ {X : Type 0} where
     after : drop (i + 1) ys ≡ drop (i + 1) xs
     after = ap (drop 1) both
 
+    -- where the flag at the place i is `false`, the loop goes on without a move, for the element x there
     pub keeps_not : false ≡ get_or flags i false → KeepsInPlace flags xs ys k (i + 1)
     keeps_not flag = record {
       whole = appends_not flags xs (take k ys) i x low within_xs flag at h.whole;
@@ -80,6 +79,7 @@ module _ {X : Type 0} where
     swap_long : length (swap ys i k) ≡ length ys
     swap_long = length-swap ys i k
 
+    -- the first k elements stay as they are when the elements at i and k are swapped
     same_front : take k (swap ys i k) ≡ take k ys
     same_front =
         let long = length-take-le k (swap ys i k) (let l = swap_long in let w = k_low in omega (arith, l, w)) in
@@ -90,6 +90,7 @@ module _ {X : Type 0} where
         let front : n < k = omega (arith, inside, long) in
         get_or-take k (swap ys i k) n d front ∙ moved.1 n d (λ e. omega (arith, front, b, e)) (λ e. omega (arith, front, e)) ∙ sym (get_or-take k ys n d front))
 
+    -- the elements after the place i stay as they are when the elements at i and k are swapped
     same_back : drop (i + 1) (swap ys i k) ≡ drop (i + 1) ys
     same_back =
         same_lists (drop (i + 1) (swap ys i k)) (drop (i + 1) ys) (length-drop (i + 1) (swap ys i k) ∙ ap (λ n. n - (i + 1)) swap_long ∙ sym (length-drop (i + 1) ys))
@@ -97,6 +98,7 @@ module _ {X : Type 0} where
         let b = h.behind in
         get_or-drop (i + 1) (swap ys i k) n d ∙ moved.1 (i + 1 + n) d (λ e. omega (arith, e)) (λ e. omega (arith, b, e)) ∙ sym (get_or-drop (i + 1) ys n d))
 
+    -- where the flag at the place i is `true`, the loop goes on once the elements at i and k were swapped, for the element x at i
     pub keeps_swap : true ≡ get_or flags i true → KeepsInPlace flags xs (swap ys i k) (k + 1) (i + 1)
     keeps_swap flag =
         let front : take (k + 1) (swap ys i k) ≡ take k ys ++ x ∷ [] =
@@ -108,30 +110,32 @@ module _ {X : Type 0} where
           long = swap_long ∙ h.long;
         }
 
-  -- an element that is there
+  -- an element stands at each place within a list
   pub some_at : (ys : List X) (n : ℕ) → n < length ys → (x : X) × (x ≡ get_or ys n x)
   some_at [] n low = absurd (omega arith)
   some_at (y ∷ ys) zero low = (y, refl)
   some_at (y ∷ ys) (suc n) low = some_at ys n (omega arith)
 
+  -- where the flag at the place i is `false`, the loop goes on without a move
   pub step_not : (flags : List Bool) (xs ys : List X) (k i : ℕ) → KeepsInPlace flags xs ys k i → i < length flags → i < length ys → false ≡ get_or flags i false → KeepsInPlace flags xs ys k (i + 1)
   step_not flags xs ys k i h low within flag =
       let (x, is) = some_at ys i within in
       keeps_not flags xs ys k i h low within x is flag
 
+  -- where the flag at the place i is `true`, the loop goes on once the element there was moved to the place k
   pub step_swap : (flags : List Bool) (xs ys : List X) (k i : ℕ) → KeepsInPlace flags xs ys k i → i < length flags → i < length ys → true ≡ get_or flags i true → KeepsInPlace flags xs (swap ys i k) (k + 1) (i + 1)
   step_swap flags xs ys k i h low within flag =
       let (x, is) = some_at ys i within in
       keeps_swap flags xs ys k i h low within x is flag
 
-  -- no more are kept than there are
+  -- no more elements are kept than the list has
   pub kept_few : (flags : List Bool) (xs : List X) → length (kept_of flags xs) ≤ length xs
   kept_few [] xs = omega arith
   kept_few (b ∷ flags) [] = omega arith
   kept_few (true ∷ flags) (x ∷ xs) = let rest = kept_few flags xs in omega (arith, rest)
   kept_few (false ∷ flags) (x ∷ xs) = let rest = kept_few flags xs in omega (arith, rest)
 
--- as many are kept of lists of one length
+-- the same flags keep as many elements of two lists of one length
 pub kept_long : {X Y : Type 0} (flags : List Bool) (xs : List X) (ys : List Y) → length xs ≡ length ys → length (kept_of flags xs) ≡ length (kept_of flags ys)
 kept_long [] xs ys long = refl
 kept_long (b ∷ flags) [] [] long = refl
@@ -140,35 +144,33 @@ kept_long (b ∷ flags) (x ∷ xs) [] long = absurd (omega (arith, long))
 kept_long (true ∷ flags) (x ∷ xs) (y ∷ ys) long = ap suc (kept_long flags xs ys (omega (arith, long)))
 kept_long (false ∷ flags) (x ∷ xs) (y ∷ ys) long = kept_long flags xs ys (omega (arith, long))
 
--- the keys and the values of the pairs that are kept
+-- the keys of the pairs that are kept are what is kept of the keys
 pub kept_keys : {K X : Type 0} (flags : List Bool) (es : List (K × X)) → keys_of (kept_of flags es) ≡ kept_of flags (keys_of es)
 kept_keys [] es = refl
 kept_keys (b ∷ flags) [] = refl
 kept_keys (true ∷ flags) (e ∷ es) = ap (λ l. e.0 ∷ l) (kept_keys flags es)
 kept_keys (false ∷ flags) (e ∷ es) = kept_keys flags es
 
+-- the values of the pairs that are kept are what is kept of the values
 pub kept_values : {K X : Type 0} (flags : List Bool) (es : List (K × X)) → values_of (kept_of flags es) ≡ kept_of flags (values_of es)
 kept_values [] es = refl
 kept_values (b ∷ flags) [] = refl
 kept_values (true ∷ flags) (e ∷ es) = ap (λ l. e.1 ∷ l) (kept_values flags es)
 kept_values (false ∷ flags) (e ∷ es) = kept_values flags es
 
--- a write over the last element
-pub set_last : {X : Type 0} (xs : List X) (x y : X) → set (xs ++ x ∷ []) (length xs) y ≡ xs ++ y ∷ []
-set_last [] x y = refl
-set_last (z ∷ xs) x y = ap (λ l. z ∷ l) (set_last xs x y)
-
+-- a write over the last element leaves the elements before it and the new one
 pub slice_set_last : {X : Type 0} (xs : List X) (x y : X) → slice_set (xs ++ x ∷ []) (length xs) y ≡ xs ++ y ∷ []
 slice_set_last [] x y = refl
 slice_set_last (z ∷ xs) x y = ap (λ l. z ∷ l) (slice_set_last xs x y)
 
--- where what is kept stood: at the same place in each list
+-- the place at which the element at place n of what is kept stood in the list; it depends on the flags alone
 abbrev pub place_of : List Bool → ℕ → ℕ
 place_of [] n = n
 place_of (true ∷ flags) zero = 0
 place_of (true ∷ flags) (suc n) = suc (place_of flags n)
 place_of (false ∷ flags) n = suc (place_of flags n)
 
+-- the element at place n of what is kept stood in the list at the place of n
 pub kept_at : {X : Type 0} (flags : List Bool) (xs : List X) (n : ℕ) (x : X) → slice_get (kept_of flags xs) n ≡ Some x
     → (slice_get xs (place_of flags n) ≡ Some x) × (slice_get flags (place_of flags n) ≡ Some true)
 kept_at [] xs n x at = absurd cc
@@ -177,11 +179,11 @@ kept_at (true ∷ flags) (y ∷ xs) zero x at = (at, refl)
 kept_at (true ∷ flags) (y ∷ xs) (suc n) x at = kept_at flags xs n x at
 kept_at (false ∷ flags) (y ∷ xs) n x at = kept_at flags xs n x at
 
--- where all are marked, none is not
+-- where all indices are marked, every mark is `true`
 pub all_marked : (marks : List Bool) → All (λ is_marked. is_marked ≡ true) marks → (index : ℕ) (b : Bool) → slice_get marks index ≡ Some b → b ≡ true
 all_marked marks all index b at = sym (get_or_from_slice_get marks index b b at) ∙ all index b (slice_get_within marks index b at)
 
--- what is marked in a list is marked in one as long where all are marked
+-- where a list of marks as long marks all indices, it marks what another list marks
 pub marked_within : (marks moved : List Bool) → length marks ≡ length moved → All (λ is_marked. is_marked ≡ true) moved → (index : ℕ) → slice_get marks index ≡ Some true → slice_get moved index ≡ Some true
 marked_within marks moved long all index marked =
     let inside = slice_get_within marks index true marked in

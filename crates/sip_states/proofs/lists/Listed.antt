@@ -1,9 +1,9 @@
--- What is in a list, and in its image under a function.
+-- Lemmas of what is in a list, in its image under a function, and in what a filter keeps of it.
 use Rattle.std.proofs.Common.{◌≡◌, ◌↔◌, ◌∙◌, ◌⊎◌, inl, inr, zero, suc, List, [], ◌∷◌, Contains, ◌≤◌, length, filter, Bool, true, false, cond, not, map, refl, sym, ap, arith}
 use Rattle.std.proofs.lemmas.List.{get_or-map, length-map}
 use Rattle.std.proofs.lemmas.List.Filters.{length-filter_both}
 
--- an empty list has none
+-- an empty list has no element
 pub Contains-none : {X : Type 0} (x : X) → Contains [] x → ⊥
 Contains-none x (k, low, is) = omega arith
 
@@ -11,16 +11,16 @@ Contains-none x (k, low, is) = omega arith
 pub Contains-here : {X : Type 0} (x : X) (xs : List X) → Contains (x ∷ xs) x
 Contains-here x xs = (0, omega arith, refl)
 
--- a list has each element of what comes after its first
+-- a list has each element that its rest has
 pub Contains-there : {X : Type 0} (y : X) (xs : List X) (x : X) → Contains xs x → Contains (y ∷ xs) x
 Contains-there y xs x (k, low, is) = (suc k, omega arith, is)
 
--- a list has its first element and what comes after it, and no more
+-- each element of a list is its first one, or one of its rest
 pub Contains-cons : {X : Type 0} (y : X) (xs : List X) (x : X) → Contains (y ∷ xs) x → (y ≡ x) ⊎ Contains xs x
 Contains-cons y xs x (zero, low, is) = inl is
 Contains-cons y xs x (suc k, low, is) = inr (k, omega arith, is)
 
--- a list of one element has that one alone
+-- the only element of a list of one element is that one
 pub Contains-single : {X : Type 0} (x y : X) → Contains (x ∷ []) y ↔ (y ≡ x)
 Contains-single x y =
     (λ h. elim (Contains-cons x [] y h) [ inl e ↦ sym e | inr none ↦ absurd (Contains-none y none) ], λ e. rw e (Contains-here x []))
@@ -40,7 +40,7 @@ module _ {X Y : Type 0} (f : X → Y) where
       go (inr h') rest = let (z, there, e) = rest h' in (z, Contains-there x xs z there, e)
 
 module _ {X : Type 0} (test : X → Bool) (x : X) where
-  -- what a filter keeps passes
+  -- what a filter keeps is in the list and passes the test
   kept : (xs : List X) → Contains (filter test xs) x → Contains xs x × (test x ≡ true)
   kept [] h = absurd (Contains-none x h)
   kept (y ∷ ys) h = step (test y) refl (kept ys) h
@@ -54,7 +54,7 @@ module _ {X : Type 0} (test : X → Bool) (x : X) where
           ]
       step false e rest h' = let r = rest h' in (Contains-there y ys x r.0, r.1)
 
-  -- what passes the test is kept by the filter
+  -- what is in the list and passes the test is kept by the filter
   keeps : (xs : List X) → Contains xs x → test x ≡ true → Contains (filter test xs) x
   keeps [] h passes = absurd (Contains-none x h)
   keeps (y ∷ ys) h passes = step (test y) refl (Contains-cons y ys x h) (λ later. keeps ys later passes)
@@ -65,10 +65,10 @@ module _ {X : Type 0} (test : X → Bool) (x : X) where
       step false e (inl same) rest = absurd (cc (ap test same))
       step false e (inr later) rest = rest later
 
-  -- a filter keeps just the elements that pass
+  -- a filter keeps exactly the elements of the list that pass the test
   pub Contains-filter : (xs : List X) → Contains (filter test xs) x ↔ (Contains xs x × (test x ≡ true))
   Contains-filter xs = (kept xs, λ h. keeps xs h.0 h.1)
 
--- a filter keeps no more than there was
+-- a filter keeps no more elements than the list has
 pub filter_shorter : {X : Type 0} (test : X → Bool) (xs : List X) → length (filter test xs) ≤ length xs
 filter_shorter test xs = omega (arith, length-filter_both test (λ x. not (test x)) (λ x. refl) xs)

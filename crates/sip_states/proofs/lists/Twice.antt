@@ -1,4 +1,4 @@
--- Two waits, one after the other, lead to the same states as one over the whole time.
+-- Two waits, one after the other, lead to the same states as one wait over the whole time.
 use Rattle.std.proofs.Common.{◌≤◌, ◌↔◌, inl, inr, ℕ, arith}
 use Rattle.std.proofs.Math.Decide.{dec_le}
 use Rattle.sip_machine.specs.Rules.{MachineRules, IsLawful, Waits}
@@ -6,7 +6,7 @@ use Rattle.sip_states.specs.Runs.{Wait}
 use Rattle.sip_states.proofs.sets.Waiting.{StaysFrom, EndsFrom, IsWithin-earlier, IsWithin-none, Wait-stay, Wait-end, Wait-cases, ends_once}
 
 module _ {X : Type 0} (r : MachineRules X) (lawful : IsLawful r) (P : X → Type 0) (h m n : ℕ) (low : h ≤ m) (high : m ≤ n) where
-  -- after a first wait, staying is one wait
+  -- a wait until m and then staying until n is one wait until n
   stay_after : (y : X) → Wait r P h m y → Waits r y n → Wait r P h n y
   stay_after y w waits =
       elim ((Wait-cases r lawful P h m y).0 w) [
@@ -14,7 +14,7 @@ module _ {X : Type 0} (r : MachineRules X) (lawful : IsLawful r) (P : X → Type
         | inr e ↦ Wait-end r lawful P h n y (record { start = e.start; among = e.among; at = e.at; after = e.after; before = let k = e.before in omega arith; hides = e.hides })
       ]
 
-  -- after a first wait, an end is one wait
+  -- a wait until m and then an end by n is one wait until n
   end_after : (y : X) → EndsFrom r (Wait r P h m) m n y → Wait r P h n y
   end_after y e =
       elim ((Wait-cases r lawful P h m e.start).0 e.among) [
@@ -22,7 +22,7 @@ module _ {X : Type 0} (r : MachineRules X) (lawful : IsLawful r) (P : X → Type
         | inr first ↦ absurd (ends_once r lawful first.start first.at e.at e.start y first.hides e.hides)
       ]
 
-  -- a state that stays from h to n stays in the middle
+  -- a state that stays from h to n is one in which one stands at m and which stays from there
   stay_twice : (y : X) → StaysFrom r P h n y → Wait r (Wait r P h m) m n y
   stay_twice y s =
       Wait-stay r (Wait r P h m) m n y
@@ -32,7 +32,7 @@ module _ {X : Type 0} (r : MachineRules X) (lawful : IsLawful r) (P : X → Type
         waits = s.waits;
       })
 
-  -- an end is by the middle or after it
+  -- an end between h and n is one by m, after which the ended state stays, or one after m
   end_twice : (y : X) → (e : EndsFrom r P h n y) → Dec (e.at ≤ m) → Wait r (Wait r P h m) m n y
   end_twice y e (yes by) =
       Wait-stay r (Wait r P h m) m n y
@@ -53,7 +53,7 @@ module _ {X : Type 0} (r : MachineRules X) (lawful : IsLawful r) (P : X → Type
         hides = e.hides;
       })
 
-  -- one wait or two lead to the same states
+  -- a wait until m and then one until n lead to the same states as one wait until n
   pub Wait-twice : (y : X) → Wait r (Wait r P h m) m n y ↔ Wait r P h n y
   Wait-twice y = (
     λ w. elim ((Wait-cases r lawful (Wait r P h m) m n y).0 w) [ inl s ↦ stay_after y s.among s.waits | inr e ↦ end_after y e ],

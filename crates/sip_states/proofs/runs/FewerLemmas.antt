@@ -1,4 +1,4 @@
--- What a run over some events holds.
+-- A run over some events contains a run over the first of them, and goes through each of them.
 use Rattle.std.proofs.Common.{◌≡◌, ◌≤◌, ◌<◌, ℕ, List, [], ◌∷◌, ◌++◌, All, refl, ap, subst, arith}
 use Rattle.std.proofs.Math.Decide.{dec_le}
 use Rattle.std.proofs.lemmas.List.Elements.{All-nil, All-cons, All-head, All-tail, All-weaker}
@@ -7,16 +7,16 @@ use Rattle.sip_machine.specs.Rules.{MachineRules, Waits, Hide}
 use Rattle.sip_states.specs.Runs.{Step, Hides, Takes, moment_of_step, Does, Goes, Reaches, taken, RuledRun}
 use Rattle.sip_states.proofs.sets.Waiting.{IsWithin-earlier}
 
--- an event is not before the moment
+-- the event is not before the moment
 abbrev NotBefore : ℕ → MachineEvent → Type 0
 NotBefore m e = m ≤ e.moment
 
--- an event is not after it
+-- the event is not after the moment
 abbrev NotAfter : ℕ → MachineEvent → Type 0
 NotAfter m e = e.moment ≤ m
 
 module _ {X : Type 0} (r : MachineRules X) where
-  -- steps from a moment on take no event before it
+  -- steps that start at a moment take no event before it
   Goes-low : (x : X) (h : ℕ) (steps : List Step) (y : X) (m : ℕ) → Goes r x h steps y m → All (NotBefore h) (taken steps)
   Goes-low x h [] y m goes = All-nil (NotBefore h)
   Goes-low x h (Hides t ∷ steps) y m (z, low, does, goes) =
@@ -24,18 +24,18 @@ module _ {X : Type 0} (r : MachineRules X) where
   Goes-low x h (Takes e ∷ steps) y m (z, low, does, goes) =
       All-cons (NotBefore h) e (taken steps) low (All-weaker (NotBefore e.moment) (NotBefore h) (λ f later. omega arith) (taken steps) (Goes-low z e.moment steps y m goes))
 
-  -- steps over just these events lead to a state that waits until m
+  -- steps that take exactly these events lead from x at h to a state that waits until m
   record Stands (x : X) (h : ℕ) (events : List MachineEvent) (m : ℕ) : Type 0 where
     pub state : X
     pub steps : List Step
     pub stands : Reaches r x h steps state m
     pub takes : taken steps ≡ events
 
-  -- no step
+  -- no step is needed for no event
   stays : (x : X) (h m : ℕ) → h ≤ m → Waits r x m → Stands x h [] m
   stays x h m reached waits = record { state = x; steps = []; stands = record { last = h; goes = (refl, refl); reached = reached; waits = waits }; takes = refl }
 
-  -- an end before them
+  -- a hidden end before the events, and steps from the ended state, are steps
   hides : (x : X) (h t : ℕ) (z : X) (events : List MachineEvent) (m : ℕ) → h ≤ t → Hide r x t z → Stands z t events m → Stands x h events m
   hides x h t z events m low does s = record {
     state = s.state;
@@ -44,7 +44,7 @@ module _ {X : Type 0} (r : MachineRules X) where
     takes = s.takes;
   }
 
-  -- an event before them
+  -- an event before the others, and steps from the state after it, are steps
   takes : (x : X) (h : ℕ) (e : MachineEvent) (z : X) (events : List MachineEvent) (m : ℕ) → h ≤ e.moment → Does r x (Takes e) z → Stands z e.moment events m → Stands x h (e ∷ events) m
   takes x h e z events m low does s = record {
     state = s.state;
@@ -53,7 +53,7 @@ module _ {X : Type 0} (r : MachineRules X) where
     takes = ap (λ es. e ∷ es) s.takes;
   }
 
-  -- steps over events and more, up to a moment between them
+  -- steps that take events and more events contain steps over the former, which stand at any moment m between the two
   Goes-fewer : (x : X) (h : ℕ) (steps : List Step) (y : X) (last : ℕ) (events more : List MachineEvent) (m n : ℕ) → Goes r x h steps y last → Waits r y n → taken steps ≡ events ++ more →
       All (NotAfter m) events → All (NotBefore m) more → h ≤ m → m ≤ n → Stands x h events m
   Goes-fewer x h [] y last [] more m n goes waits is low high from to = stays x h m from (IsWithin-earlier m n (r.until x) to (subst (λ z. Waits r z n) goes.0 waits))
@@ -82,14 +82,14 @@ module _ {X : Type 0} (r : MachineRules X) where
       subst (λ g. Stands x h (g ∷ events) m) same
       (takes x h f z events m after does (Goes-fewer z f.moment steps y last events more m n goes waits (cc) (All-tail (NotAfter m) e events low) high early to))
 
-  -- a run over events and more holds one over the events, which stands at any moment between them
+  -- a run over events and more events contains a run over the former, which stands at any moment m between the two
   pub Run-fewer : (events more : List MachineEvent) (m n : ℕ) (y : X) → All (λ e. e.moment ≤ m) events → All (λ e. m ≤ e.moment) more → m ≤ n → RuledRun r (events ++ more) n y → (x : X) × RuledRun r events m x
   Run-fewer events more m n y low high to run =
       let stands = run.stands in
       let s = Goes-fewer r.first 0 run.steps y stands.last events more m n stands.goes stands.waits run.takes low high (omega arith) to in
       (s.state, record { steps = s.steps; stands = s.stands; takes = s.takes })
 
-  -- steps that take an event among others: to the state before it, and from the one after it
+  -- steps that take an event among others: steps to the state before it, its step, and steps from the state after it
   pub record Through (x : X) (h : ℕ) (e : MachineEvent) (rest : List MachineEvent) (y : X) (m : ℕ) : Type 0 where
     pub front : List Step
     pub before : X
@@ -101,11 +101,12 @@ module _ {X : Type 0} (r : MachineRules X) where
     pub goes : Goes r reached e.moment steps y m
     pub takes : taken steps ≡ rest
 
-  -- one step more before them
+  -- steps that go through an event, with one step more before them, go through it as well
   step_before : (x : X) (h : ℕ) (step : Step) (z : X) (e : MachineEvent) (rest : List MachineEvent) (y : X) (m : ℕ) → h ≤ moment_of_step step → Does r x step z → Through z (moment_of_step step) e rest y m → Through x h e rest y m
   step_before x h step z e rest y m low does t =
       record { front = step ∷ t.front; before = t.before; at = t.at; to = (z, low, does, t.to); reached = t.reached; does = t.does; steps = t.steps; goes = t.goes; takes = t.takes }
 
+  -- steps that take an event among others go through it
   pub Goes-through : (x : X) (h : ℕ) (steps : List Step) (y : X) (m : ℕ) (front : List MachineEvent) (e : MachineEvent) (rest : List MachineEvent) → Goes r x h steps y m → taken steps ≡ front ++ e ∷ rest → Through x h e rest y m
   Goes-through x h [] y m [] e rest goes is = absurd (cc)
   Goes-through x h [] y m (f ∷ front) e rest goes is = absurd (cc)

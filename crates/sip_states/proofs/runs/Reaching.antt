@@ -1,4 +1,4 @@
--- How long one can wait in some states.
+-- Lemmas of how long one can wait in some states.
 use Rattle.std.proofs.Common.{◌≡◌, ◌≢◌, ◌≤◌, ◌↔◌, ◌⊎◌, inl, inr, ℕ, Option, Some, List, [], ◌∷◌, ◌++◌, All, max, refl, arith}
 use Rattle.std.specs.List.{Any}
 use Rattle.std.proofs.Math.Decide.{dec_le}
@@ -7,13 +7,13 @@ use Rattle.sip_machine.specs.Limits.{IsWithin}
 use Rattle.sip_states.specs.inner.Ways.{IsFirstEnd, CanEnd, CanReach, SomeCanReach, IsLastOf}
 use Rattle.sip_states.proofs.sets.Waiting.{IsWithin-earlier}
 
--- a state that first ends at a moment can end by those from there on
+-- a state that can first end at a moment can end by exactly the moments from there on
 pub can_end_by : (window : Option (ℕ × Option ℕ)) (until : Option ℕ) (h first m : ℕ) →
     IsFirstEnd window until h (Some first) → CanEnd window until h m ↔ (first ≤ m)
 can_end_by window until h first m ends =
     (λ can. let low = ends.1 can.at can.is in let high = can.before in omega arith, λ low. record { at = first; is = ends.0; before = low })
 
--- some of a list and one more is one of the list or that one
+-- P holds of some element of a list with one more exactly where it holds of one of the list or of that one
 pub any_push : {X : Type 0} (P : X → Type 0) (xs : List X) (x : X) → Any P (xs ++ x ∷ []) ↔ (Any P xs ⊎ P x)
 any_push P xs x = (
   λ (k, y, low, is, p). elim (Contains-push_cases xs x y (k, low, is)) [
@@ -27,11 +27,11 @@ any_push P xs x = (
 )
 
 module _ {S : Type 0} (window : S → Option (ℕ × Option ℕ)) (until : S → Option ℕ) (h : ℕ) where
-  -- one can wait until `last` from the states so far, and no longer; h counts as reached
+  -- one can wait until `last` from some state before the index, and no longer; h counts as a moment until which one can
   abbrev pub IsLastSoFar : List S → ℕ → Type 0
   IsLastSoFar xs last = (m : ℕ) → h ≤ m → ((m ≤ h) ⊎ SomeCanReach window until h m xs) ↔ (m ≤ last)
 
-  -- the later of two last moments is that of both
+  -- the last moment of the states so far and one more is the later of theirs and that of the one
   pub last_push : (xs : List S) (x : S) (last r new : ℕ) → IsLastSoFar xs last →
       IsLastOf (CanReach (window x) (until x) h) h (Some r) → new ≡ max last r → IsLastSoFar (xs ++ x ∷ []) new
   last_push xs x last r new so_far reach is m low = (
@@ -49,7 +49,7 @@ module _ {S : Type 0} (window : S → Option (ℕ × Option ℕ)) (until : S →
       go high (yes old) = elim ((so_far m low).1 old) [ inl first ↦ inl first | inr some ↦ inr ((any_push (λ y. CanReach (window y) (until y) h m) xs x).1 (inl some)) ]
       go high (no past) = inr ((any_push (λ y. CanReach (window y) (until y) h m) xs x).1 (inr ((reach m low).1 (omega arith))))
 
-  -- where each of the states can wait at h, and there is one, it is the last moment of all
+  -- the last moment of all the states is that of some state alone where each can wait at h, and there is one
   pub last_all : (xs : List S) (last : ℕ) → xs ≢ [] → All (λ x. IsWithin h (until x)) xs → IsLastSoFar xs last →
       IsLastOf (λ m. SomeCanReach window until h m xs) h (Some last)
   last_all [] last some waiting so_far = absurd (some refl)

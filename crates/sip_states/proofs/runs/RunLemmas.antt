@@ -1,4 +1,4 @@
--- Runs one step at a time: a run is a run to its last event and a wait from there.
+-- Lemmas of runs, one step at a time: a run is a run to its last event and a wait from there.
 use Rattle.std.proofs.Common.{◌≡◌, ◌≤◌, ◌↔◌, ℕ, List, [], ◌∷◌, ◌++◌, map, refl, ap, subst, ◌∙◌}
 use Rattle.sip_standard.specs.MachineEvent.{MachineEvent}
 use Rattle.sip_machine.specs.Rules.{MachineRules}
@@ -9,34 +9,34 @@ pub taken-hides : (ends : List ℕ) → taken (map Hides ends) ≡ []
 taken-hides [] = refl
 taken-hides (t ∷ ends) = taken-hides ends
 
--- steps that take no event are hidden
+-- steps that take no event are all hidden
 pub none_taken : (steps : List Step) → taken steps ≡ [] → (ends : List ℕ) × (steps ≡ map Hides ends)
 none_taken [] e = ([], refl)
 none_taken (Hides t ∷ steps) e = let (ends, is) = none_taken steps e in (t ∷ ends, ap (λ s. Hides t ∷ s) is)
 none_taken (Takes f ∷ steps) e = absurd (cc)
 
--- what two lists of steps take is what the first takes and then the second
+-- two lists of steps, joined, take what the first takes and then what the second takes
 pub taken-append : (front rest : List Step) → taken (front ++ rest) ≡ taken front ++ taken rest
 taken-append [] rest = refl
 taken-append (Hides t ∷ front) rest = taken-append front rest
 taken-append (Takes f ∷ front) rest = ap (λ s. f ∷ s) (taken-append front rest)
 
--- steps split at the one that takes the last event
+-- the steps before the one that takes the last event f, that step, and the hidden steps after it
 pub record SplitAt (steps : List Step) (fs : List MachineEvent) (f : MachineEvent) : Type 0 where
   pub front : List Step
   pub ends : List ℕ
   pub is : steps ≡ front ++ Takes f ∷ map Hides ends
   pub takes : taken front ≡ fs
 
--- the first of two steps is the last event's
+-- steps whose first takes the only event, and whose others are hidden, are split at the first
 here : (steps : List Step) (g f : MachineEvent) → g ≡ f → (ends : List ℕ) → steps ≡ map Hides ends → SplitAt (Takes g ∷ steps) [] f
 here steps g f first ends is = record { front = []; ends = ends; is = rw (first, is); takes = refl }
 
--- the last event is taken by a step after the first
+-- steps that are split at the one of the last event stay so with a step more before them, which takes another event
 later : (steps : List Step) (g k : MachineEvent) (fs : List MachineEvent) (f : MachineEvent) → g ≡ k → SplitAt steps fs f → SplitAt (Takes g ∷ steps) (k ∷ fs) f
 later steps g k fs f first s = record { front = Takes g ∷ s.front; ends = s.ends; is = ap (λ more. Takes g ∷ more) s.is; takes = rw (first, s.takes) }
 
--- steps that take events take the last one somewhere, and end after it
+-- steps that take the events fs and then f are split at the one that takes f
 pub split_last : (steps : List Step) (fs : List MachineEvent) (f : MachineEvent) → taken steps ≡ fs ++ f ∷ [] → SplitAt steps fs f
 split_last [] [] f e = absurd (cc)
 split_last [] (g ∷ fs) f e = absurd (cc)
@@ -46,19 +46,19 @@ split_last (Takes g ∷ steps) [] f e = let none = none_taken steps (cc) in here
 split_last (Takes g ∷ steps) (k ∷ fs) f e = later steps g k fs f (cc) (split_last steps fs f (cc))
 
 module _ {X : Type 0} (r : MachineRules X) where
-  -- steps to one in the middle, and the steps from there
+  -- a state between two lists of steps: the first leads to it, and the step and the others lead on from it
   pub record Passes (x : X) (h : ℕ) (front : List Step) (step : Step) (rest : List Step) (y : X) (m : ℕ) : Type 0 where
     pub middle : X
     pub goes : Goes r x h (front ++ step ∷ []) middle (moment_of_step step)
     pub then : Goes r middle (moment_of_step step) rest y m
 
-  -- steps go through the state after each of them
+  -- steps pass through the state before each step
   pub Goes-split : (x : X) (h : ℕ) (front : List Step) (step : Step) (rest : List Step) (y : X) (m : ℕ) → Goes r x h (front ++ step ∷ rest) y m → Passes x h front step rest y m
   Goes-split x h [] step rest y m (z, low, does, goes) = record { middle = z; goes = (z, low, does, (refl, refl)); then = goes }
   Goes-split x h (s ∷ front) step rest y m (z, low, does, goes) =
       let p = Goes-split z (moment_of_step s) front step rest y m goes in record { middle = p.middle; goes = (z, low, does, p.goes); then = p.then }
 
-  -- steps to a state and steps from there are steps
+  -- steps to a state and steps from there, joined, are steps
   pub Goes-join : (x : X) (h : ℕ) (front : List Step) (step : Step) (rest : List Step) (y : X) (m : ℕ) → Passes x h front step rest y m → Goes r x h (front ++ step ∷ rest) y m
   Goes-join x h [] step rest y m p =
       let (z, low, does, last) = p.goes in (z, low, does, subst (λ v. Goes r v (moment_of_step step) rest y m) last.0 p.then)
@@ -66,7 +66,7 @@ module _ {X : Type 0} (r : MachineRules X) where
       let (z, low, does, goes) = p.goes in
       (z, low, does, Goes-join z (moment_of_step s) front step rest y m (record { middle = p.middle; goes = goes; then = p.then }))
 
-  -- the last of several steps
+  -- the steps before the last one lead to a state, from which the last one leads on
   pub record Lasts (x : X) (h : ℕ) (front : List Step) (step : Step) (y : X) : Type 0 where
     pub before : X
     pub at : ℕ
@@ -74,13 +74,13 @@ module _ {X : Type 0} (r : MachineRules X) where
     pub low : at ≤ moment_of_step step
     pub does : Does r before step y
 
-  -- steps are those before the last and the last
+  -- steps to the moment of the last one are those before it and that one
   pub Goes-last : (x : X) (h : ℕ) (front : List Step) (step : Step) (y : X) → Goes r x h (front ++ step ∷ []) y (moment_of_step step) → Lasts x h front step y
   Goes-last x h [] step y (z, low, does, last) = record { before = x; at = h; goes = (refl, refl); low = low; does = rw last.0 does }
   Goes-last x h (s ∷ front) step y (z, low, does, goes) =
       let l = Goes-last z (moment_of_step s) front step y goes in record { before = l.before; at = l.at; goes = (z, low, does, l.goes); low = l.low; does = l.does }
 
-  -- steps and one more are steps
+  -- steps to a state and one more step from there are steps
   pub Goes-push : (x : X) (h : ℕ) (front : List Step) (step : Step) (y : X) → Lasts x h front step y → Goes r x h (front ++ step ∷ []) y (moment_of_step step)
   Goes-push x h [] step y l =
       (y, subst (λ n. n ≤ moment_of_step step) l.goes.1 l.low, subst (λ v. Does r v step y) l.goes.0 l.does, (refl, refl))
@@ -88,7 +88,7 @@ module _ {X : Type 0} (r : MachineRules X) where
       let (z, low, does, goes) = l.goes in
       (z, low, does, Goes-push z (moment_of_step s) front step y (record { before = l.before; at = l.at; goes = goes; low = l.low; does = l.does }))
 
-  -- a run to the last event, and the wait after it
+  -- a run over the events fs and then f is a wait from a state after f
   wait_of_run : (fs : List MachineEvent) (f : MachineEvent) (m : ℕ) (y : X) (run : RuledRun r (fs ++ f ∷ []) m y) → SplitAt run.steps fs f → Wait r (AfterRun r fs f) f.moment m y
   wait_of_run fs f m y run s =
       let p = Goes-split r.first 0 s.front (Takes f) (map Hides s.ends) y run.stands.last (subst (λ steps. Goes r r.first 0 steps y run.stands.last) s.is run.stands.goes) in
@@ -99,7 +99,7 @@ module _ {X : Type 0} (r : MachineRules X) where
         stands = record { last = run.stands.last; goes = p.then; reached = run.stands.reached; waits = run.stands.waits };
       }
 
-  -- a wait after the last event of a run is a run
+  -- a wait from a state after f is a run over the events fs and then f
   run_of_wait : (fs : List MachineEvent) (f : MachineEvent) (m : ℕ) (y : X) → Wait r (AfterRun r fs f) f.moment m y → RuledRun r (fs ++ f ∷ []) m y
   run_of_wait fs f m y w =
       record {
@@ -113,11 +113,11 @@ module _ {X : Type 0} (r : MachineRules X) where
         takes = taken-append w.begins.steps (Takes f ∷ map Hides w.ends) ∙ ap (λ s. s ++ f ∷ taken (map Hides w.ends)) w.begins.takes ∙ ap (λ s. fs ++ f ∷ s) (taken-hides w.ends);
       }
 
-  -- a run over events and one more is a wait from a last state of that one
+  -- the runs over the events fs and then f stand where one can wait from the last states after f
   pub Run-wait : (fs : List MachineEvent) (f : MachineEvent) (m : ℕ) (y : X) → RuledRun r (fs ++ f ∷ []) m y ↔ Wait r (AfterRun r fs f) f.moment m y
   Run-wait fs f m y = (λ run. wait_of_run fs f m y run (split_last run.steps fs f run.takes), run_of_wait fs f m y)
 
-  -- a run over no event is a wait from the first state
+  -- the runs over no event stand where one can wait from the first state
   pub Run-wait_first : (m : ℕ) (y : X) → RuledRun r [] m y ↔ Wait r (λ x. x ≡ r.first) 0 m y
   Run-wait_first m y = (
     λ run. let none = none_taken run.steps run.takes in
@@ -125,7 +125,7 @@ module _ {X : Type 0} (r : MachineRules X) where
     λ w. record { steps = map Hides w.ends; stands = subst (λ x. Reaches r x 0 (map Hides w.ends) y m) w.begins w.stands; takes = taken-hides w.ends },
   )
 
-  -- the last states after one more event are what it gives from where the runs stand at its moment
+  -- the last states after an event are what it gives from where the runs over the events before it stand at its moment
   pub After-run : (events : List MachineEvent) (e : MachineEvent) (y : X) → AfterRun r events e y ↔ RunGives r (RuledRun r events e.moment) e y
   After-run events e y = (
     λ after. let l = Goes-last r.first 0 after.steps (Takes e) y after.goes in
@@ -143,14 +143,14 @@ module _ {X : Type 0} (r : MachineRules X) where
     },
   )
 
-  -- the last states after a first event are what it gives from where one waits in the first state
+  -- the last states after the first event are what it gives from where one can wait in the first state
   pub After-first : (e : MachineEvent) (y : X) → AfterRun r [] e y ↔ RunGives r (Wait r (λ x. x ≡ r.first) 0 e.moment) e y
   After-first e y = (
     λ after. let g = (After-run [] e y).0 after in record { before = g.before; among = (Run-wait_first e.moment g.before).0 g.among; takes = g.takes },
     λ g. (After-run [] e y).1 (record { before = g.before; among = (Run-wait_first e.moment g.before).1 g.among; takes = g.takes }),
   )
 
-  -- the last states after one event more are what it gives from where one waits in the last states before
+  -- the last states after an event are what it gives from where one can wait in the last states after the event before it
   pub After-next : (events : List MachineEvent) (e f : MachineEvent) (y : X) → AfterRun r (events ++ e ∷ []) f y ↔ RunGives r (Wait r (AfterRun r events e) e.moment f.moment) f y
   After-next events e f y = (
     λ after. let g = (After-run (events ++ e ∷ []) f y).0 after in record { before = g.before; among = (Run-wait events e f.moment g.before).0 g.among; takes = g.takes },

@@ -1,4 +1,4 @@
--- What runs of servers send.
+-- What runs of the servers send.
 use Rattle.std.proofs.Common.{◌≡◌, ◌⊎◌, inl, inr, ℕ, suc, Bool, true, false, None, List, [], ◌∷◌, ◌++◌, refl, subst, arith}
 use Rattle.std.specs.List.{Any}
 use Rattle.sip_standard.specs.declared.action.Action.{Action}
@@ -21,11 +21,11 @@ use Rattle.sip_states.specs.KeySets.{PhaseOf, key_rules}
 use Rattle.sip_states.proofs.sets.Waiting.{IsOpenAt-none}
 use Rattle.sip_states.proofs.runs.RunLemmas.{Goes-last}
 
--- a request that came in
+-- the event is a request that was received
 abbrev IsAsked : MachineEvent → Type 0
 IsAsked e = (e.action ≡ Received) × ((method : Method) × (e.kind ≡ Request method))
 
--- in its idle phase a server has no timer, sends nothing, and leaves only for a request
+-- in its idle phase a server has no window for an end, sends nothing, and leaves only for a request
 record IsAsleep {X : Type 0} (f : Figure X) (p : Times) : Type 0 where
   pub no_end : f.window p f.idle ≡ None
   pub silent : (k : Kind) (e : MachineEvent) (y : Row X) → f.Sends p f.idle k e y → ⊥
@@ -33,6 +33,7 @@ record IsAsleep {X : Type 0} (f : Figure X) (p : Times) : Type 0 where
   pub unmoved : (k : Kind) → f.Stays f.idle k → ⊥
 
 module _ {X : Type 0} (f : Figure X) (p : Times) (asleep : IsAsleep f p) where
+  -- nothing can be sent from the idle state
   emits_nothing : (e : MachineEvent) (y : Owing X) → Emits f p e (quiet f.idle) y → ⊥
   emits_nothing e y (inl (row, is_row, to)) = asleep.silent e.kind e row is_row
   emits_nothing e y (inr (inr (stays, same))) = asleep.unmoved e.kind stays
@@ -46,7 +47,7 @@ module _ {X : Type 0} (f : Figure X) (p : Times) (asleep : IsAsleep f p) where
   fails_nothing true e y (some, to) = emits_nothing e some.0 some.1
   fails_nothing false e y h = emits_nothing e y h
 
-  -- a step stays there, or is a request's
+  -- a step from the idle state stays in it, or takes a request that was received
   stays_or_asked : (e : MachineEvent) (y : Owing X) (a : Action) → e.action ≡ a → Steps f p a e (quiet f.idle) y → (y ≡ quiet f.idle) ⊎ IsAsked e
   stays_or_asked e y Received is (inl (row, is_row, to)) = inr (is, asleep.woken e.kind e row is_row)
   stays_or_asked e y Received is (inr (none, same)) = inl same
@@ -56,7 +57,7 @@ module _ {X : Type 0} (f : Figure X) (p : Times) (asleep : IsAsleep f p) where
   stays_or_asked e y Restart is (inl (idle, same)) = inl same
   stays_or_asked e y Restart is (inr (other, ends)) = absurd (other refl)
 
-  -- several steps stay in idle, or take a request
+  -- steps from the idle state end in it, or one of them takes a request that was received
   goes_stay_or_asked : (h : ℕ) (steps : List Step) (y : Owing X) (m : ℕ) → Goes (rules_of_figure f p) (quiet f.idle) h steps y m → (y ≡ quiet f.idle) ⊎ Any IsAsked (taken steps)
   goes_stay_or_asked h [] y m goes = inl goes.0
   goes_stay_or_asked h (Hides t ∷ steps) y m (z, low, hides, goes) = absurd (IsOpenAt-none t _ asleep.no_end hides.opened)
@@ -71,7 +72,7 @@ module _ {X : Type 0} (f : Figure X) (p : Times) (asleep : IsAsleep f p) where
       by_step (inl same) rest = later (rest same)
       by_step (inr asked) rest = inr (0, e, omega arith, refl, asked)
 
-  -- what the machine sends comes after a request
+  -- an event that is sent comes after a request that was received
   sends_when_asked : (events : List MachineEvent) (e : MachineEvent) (y : Owing X) → AfterRun (rules_of_figure f p) events e y → e.action ≡ Sent → Any IsAsked events
   sends_when_asked events e y after sent =
       let r = rules_of_figure f p in
@@ -83,10 +84,11 @@ module _ {X : Type 0} (f : Figure X) (p : Times) (asleep : IsAsleep f p) where
           absurd (emits_nothing e y (subst (λ a. Steps f p a e (quiet f.idle) y) sent (subst (λ z. Steps f p e.action e (record { phase = z.phase; owes = unexpired e.moment z.owes }) y) same step)))
       by_state x step (inr asked) = subst (Any IsAsked) after.takes asked
 
--- the figure of a server
+-- the figure of the server with these rules
 abbrev server : (rules : Rules) (invite : Bool) → Figure (transaction_of (machine_of rules Server invite)).Phase
 server rules invite = (transaction_of (machine_of rules Server invite)).figure
 
+-- a message for which the idle phase of a server has a row is a request
 woken : (rules : Rules) (invite : Bool) (p : Times) (k : Kind) (e : MachineEvent) (y : Row (transaction_of (machine_of rules Server invite)).Phase) →
     (server rules invite).Receives p (server rules invite).idle k e y → (method : Method) × (k ≡ Request method)
 woken rules invite p (Request method) e y h = (method, refl)
@@ -95,7 +97,7 @@ woken R6026 false p (Response code) e y h = absurd h
 woken R3261 true p (Response code) e y h = absurd h.1
 woken R3261 false p (Response code) e y h = absurd h
 
--- each of them sleeps in its idle phase
+-- each of the servers is asleep in its idle phase
 asleep : (rules : Rules) (invite : Bool) (p : Times) → IsAsleep (server rules invite) p
 asleep R6026 true p = record { no_end = refl; silent = λ k e y h. h; woken = woken R6026 true p; unmoved = λ k stays. stays }
 asleep R6026 false p = record { no_end = refl; silent = λ k e y h. h; woken = woken R6026 false p; unmoved = λ k stays. stays }
@@ -106,7 +108,7 @@ asleep R3261 true p = record { no_end = refl; silent = λ k e y h. h; woken = wo
     unmoved (Response code) (again, held, success) = cc
 asleep R3261 false p = record { no_end = refl; silent = λ k e y h. h; woken = woken R3261 false p; unmoved = λ k stays. stays }
 
--- a server sends nothing before it is asked
+-- by each of the rules a server sends nothing before it has received a request
 pub server_sends_when_asked : (p : Times) (rules : Rules) (invite : Bool) (events : List MachineEvent) (e : MachineEvent) (y : PhaseOf (machine_of rules Server invite)) →
     AfterRun (key_rules p (machine_of rules Server invite)) events e y → e.action ≡ Sent → Any IsAsked events
 server_sends_when_asked p rules invite = sends_when_asked (server rules invite) p (asleep rules invite p)

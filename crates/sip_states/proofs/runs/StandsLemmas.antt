@@ -1,4 +1,4 @@
--- A run in the words of the standard is one by the rules of its figure.
+-- A run told in the words of the standard is a run by the rules of its figure.
 use Rattle.std.proofs.Common.{◌≡◌, ◌≤◌, ◌↔◌, ℕ, Option, Some, None, IfSome, IsSomeAnd, Bool, true, false, List, [], ◌∷◌, ◌++◌, All, if◌then◌else◌, refl, sym, ◌∙◌, subst, arith}
 use Rattle.std.specs.List.{list_any}
 use Rattle.std.proofs.lemmas.List.{append_assoc, append-nil}
@@ -13,17 +13,19 @@ use Rattle.sip_machine.specs.inner.DebtLaws.{All-front, All-back}
 use Rattle.sip_machine.specs.inner.OwesLaws.{IsWithin-owed}
 use Rattle.sip_machine.specs.inner.FigureLaws.{rules_lawful}
 use Rattle.sip_standard.specs.Stands.{Stands, begins, waits, ends, takes, StandsAfter}
+use Rattle.sip_standard.specs.KeyMachine.{MachineKind, transaction_of}
+use Rattle.sip_states.proofs.keyed.KeySetLaws.{coded_holds}
 use Rattle.sip_states.specs.Runs.{Step, Hides, Takes, Goes, taken, RuledRun, AfterRun}
 use Rattle.sip_states.proofs.sets.Waiting.{IsWithin-none, Wait-stay}
 use Rattle.sip_states.proofs.runs.RunLemmas.{taken-append, Goes-push, Run-wait, After-run}
 
--- a moment is past no close of a window exactly if it is not past the one that it may have
+-- a moment is past no close of a window exactly where it is not past the one close that the window may have
 closes-within : (h : ℕ) (window : Option (ℕ × Option ℕ)) → All (λ m. h ≤ m) (closes_of window) ↔ IfSome window (λ w. IfSome w.1 (λ close. h ≤ close))
 closes-within h None = (λ _. tt, λ _. All-nil (λ m. h ≤ m))
 closes-within h (Some (from, None)) = (λ _. tt, λ _. All-nil (λ m. h ≤ m))
 closes-within h (Some (from, Some to)) = (λ all. All-head (λ m. h ≤ m) to [] all, λ low. All-cons (λ m. h ≤ m) to [] low (All-nil (λ m. h ≤ m)))
 
--- an open window that has not closed
+-- a window that has opened by h, and has not closed before h, is open at h
 open-within : (h : ℕ) (window : Option (ℕ × Option ℕ)) → IsSomeAnd window (λ w. w.0 ≤ h) → IfSome window (λ w. IfSome w.1 (λ close. h ≤ close)) → IsOpenAt h window
 open-within h None opening low = opening
 open-within h (Some (from, None)) opening low = (opening, tt)
@@ -33,14 +35,14 @@ within-open : (h : ℕ) (window : Option (ℕ × Option ℕ)) → IsOpenAt h win
 within-open h None opening = opening
 within-open h (Some (from, to)) opening = opening.0
 
--- a window that opens where nothing has to be sent
+-- a window that counts only while nothing is owed is open at h only where nothing is owed
 open-owed : (h : ℕ) (owed : Bool) (window : Option (ℕ × Option ℕ)) → IsOpenAt h (if owed then None else window) → (owed ≡ false) × IsOpenAt h window
 open-owed h true window opening = absurd opening
 open-owed h false window opening = (refl, opening)
 
 module _ {X : Type 0} (f : Figure X) (is : IsFigure f) (p : Times) where
-  -- a state lasts as long as it waits
-  lasts-waits : (x : Owing X) (h : ℕ) → Lasts f p x h ↔ Waits (rules_of f p) x h
+  -- a state lasts until h in the words of the standard exactly where it waits until h by the rules
+  pub lasts-waits : (x : Owing X) (h : ℕ) → Lasts f p x h ↔ Waits (rules_of f p) x h
   lasts-waits x h =
       let owed = IsWithin-owed h (closes_at f p x.phase) x.owes in
       let closes = closes-within h (f.window p x.phase) in (
@@ -53,7 +55,7 @@ module _ {X : Type 0} (f : Figure X) (is : IsFigure f) (p : Times) where
             ),
       )
 
-  -- it may end where its window is open
+  -- a state that may end at h in the words of the standard, and waits until h, ends by the rules
   may-hide : (x : Owing X) (h : ℕ) → MayEnd f p x h → Waits (rules_of f p) x h → Hide (rules_of f p) x h (quiet f.ended)
   may-hide x h may waiting =
       record {
@@ -66,7 +68,7 @@ module _ {X : Type 0} (f : Figure X) (is : IsFigure f) (p : Times) where
   hide-may x h y hide =
       let opened = open-owed h (list_any (λ owed. owed.must) x.owes) (f.window p x.phase) hide.opened in (within-open h (f.window p x.phase) opened.1, opened.0)
 
-  -- from where a run stands steps lead on
+  -- where a run stands in a state, steps by the rules from there lead to where a longer run stands
   goes-stand : (events : List MachineEvent) (h : ℕ) (x : Owing X) → Stands f p events h x → (steps : List Step) (y : Owing X) (m : ℕ) →
       Goes (rules_of f p) x h steps y m → Stands f p (events ++ taken steps) m y
   goes-stand events h x stands [] y m goes = rw (goes.0, goes.1, append-nil events) stands
@@ -77,13 +79,14 @@ module _ {X : Type 0} (f : Figure X) (is : IsFigure f) (p : Times) where
       let led = takes events e x z (waits events h e.moment x stands low ((lasts-waits x e.moment).1 does.0)) (does.1).1 in
       subst (λ es. Stands f p es m y) (append_assoc events (e ∷ []) (taken steps)) (goes-stand (events ++ e ∷ []) e.moment z led steps y m goes)
 
+  -- where a run by the rules stands, one in the words of the standard stands
   run-stands : (events : List MachineEvent) (m : ℕ) (y : Owing X) → RuledRun (rules_of f p) events m y → Stands f p events m y
   run-stands events m y run =
       let stands = run.stands in
       let there = goes-stand [] 0 (quiet f.idle) begins run.steps y stands.last stands.goes in
       waits events stands.last m y (subst (λ es. Stands f p es stands.last y) run.takes there) stands.reached ((lasts-waits y m).1 stands.waits)
 
-  -- where a run stands, one by the rules does
+  -- where a run in the words of the standard stands, one by the rules stands
   stands-run : (events : List MachineEvent) (m : ℕ) (y : Owing X) → Stands f p events m y → RuledRun (rules_of f p) events m y
   stands-run _ _ _ begins =
       record {
@@ -120,10 +123,14 @@ module _ {X : Type 0} (f : Figure X) (is : IsFigure f) (p : Times) where
       (Wait-stay r (AfterRun r events e) e.moment e.moment y
       (record { among = (After-run r events e y).1 (record { before = x; among = run; takes = taking }); reached = omega arith; waits = (rules_lawful f is p).fresh x e y taking }))
 
+  -- what stands at a moment lasts until then
+  pub stands-lasts : (events : List MachineEvent) (m : ℕ) (y : Owing X) → Stands f p events m y → Lasts f p y m
+  stands-lasts events m y stands = (lasts-waits y m).1 (stands-run events m y stands).stands.waits
+
   pub stands-runs : (events : List MachineEvent) (m : ℕ) (y : Owing X) → Stands f p events m y ↔ RuledRun (rules_of f p) events m y
   stands-runs events m y = (stands-run events m y, run-stands events m y)
 
-  -- where an event leads from there, it does by the rules
+  -- an event leads to the same states in the words of the standard as by the rules
   pub stands-after : (events : List MachineEvent) (e : MachineEvent) (y : Owing X) → StandsAfter f p events e y ↔ AfterRun (rules_of f p) events e y
   stands-after events e y = (
     λ after.
@@ -134,3 +141,8 @@ module _ {X : Type 0} (f : Figure X) (is : IsFigure f) (p : Times) where
         let gives = (After-run (rules_of f p) events e y).0 after in
         (gives.before, run-stands events e.moment gives.before gives.among, gives.takes.1),
   )
+
+-- what stands at a moment lasts until then, whichever machine it is of
+pub what_stands_lasts : (machine : MachineKind) (p : Times) (events : List MachineEvent) (m : ℕ) (x : Owing (transaction_of machine).Phase)
+    → Stands (transaction_of machine).figure p events m x → Lasts (transaction_of machine).figure p x m
+what_stands_lasts machine p = stands-lasts (transaction_of machine).figure (coded_holds machine).is_figure p

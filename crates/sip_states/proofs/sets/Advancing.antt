@@ -1,4 +1,4 @@
--- How the code lets a list of states wait.
+-- Lemmas of how the code lets a list of states wait.
 use Rattle.std.proofs.Common.{◌≡◌, ◌≢◌, ◌↔◌, inl, inr, ℕ, true, Option, Some, None, List, [], ◌∷◌, ◌++◌, All, AllPairs, Contains, filter, refl, sym, arith}
 use Rattle.std.proofs.lemmas.List.Elements.{All-filter, All-push, Contains-push, Contains-push_cases, Contains-append_left, Contains-get_or}
 use Rattle.std.proofs.lemmas.Bool.{leb-true, le-leb}
@@ -9,18 +9,18 @@ use Rattle.sip_machine.specs.Limits.{IsWithin}
 use Rattle.sip_states.specs.inner.Ways.{is_within, SomeCanEnd, Advances}
 use Rattle.sip_states.proofs.lists.Listed.{Contains-filter, filter_shorter}
 
--- the test tells whether the moment is within the limit
+-- the test of the code tells whether the moment is within the limit
 pub within_test : (m : ℕ) (limit : Option ℕ) → (is_within m limit ≡ true) ↔ IsWithin m limit
 within_test m None = (λ e. tt, λ h. refl)
 within_test m (Some last) = (leb-true m last, le-leb m last)
 
 module _ {S : Type 0} (InRange : S → Type 0) (window : S → Option (ℕ × Option ℕ)) (until : S → Option ℕ) (ended : S) (ended_stays : until ended ≡ None) (h m : ℕ)
     (xs ys : List S) (apart : AllPairs (λ x y. x ≢ y) xs) (in_range : All InRange xs) where
-  -- the ended state can wait
+  -- the ended state passes the test, at every moment
   ended_waits : is_within m (until ended) ≡ true
   ended_waits = rw ended_stays
 
-  -- where no state can end, or the ended one is there, those that can wait stay
+  -- where no state can end, or the ended one is in the list, the states wait when those that pass the test are kept
   pub advances_stay : (SomeCanEnd window until h m xs → Contains xs ended) → ys ≡ filter (λ x. is_within m (until x)) xs → Advances InRange window until ended h m xs ys
   advances_stay there is =
       record {
@@ -33,7 +33,7 @@ module _ {S : Type 0} (InRange : S → Type 0) (window : S → Option (ℕ × Op
         grows = inl (rw is (filter_shorter (λ s. is_within m (until s)) xs));
       }
 
-  -- where one can, the ended one comes to them
+  -- where a state can end and the ended one is not in the list, the states wait when it is added and those that pass the test are kept
   pub advances_push : InRange ended → SomeCanEnd window until h m xs → (Contains xs ended → ⊥) → ys ≡ filter (λ x. is_within m (until x)) (xs ++ ended ∷ []) →
       Advances InRange window until ended h m xs ys
   advances_push ended_in_range some absent is =

@@ -1,4 +1,4 @@
--- Sets of states of the code beside the rules that they follow.
+-- Lemmas of sets of states of the code beside the rules that they follow.
 use Rattle.std.proofs.Common.{◌≡◌, ◌≢◌, ◌↔◌, ◌≤◌, ◌<◌, inl, inr, ◌∙◌, ℕ, Option, None, ap, List, [], ◌∷◌, All, AllPairs, Contains, map, length, get_or, refl, sym, subst, arith}
 use Rattle.std.proofs.lemmas.List.{get_or-map, length-map}
 use Rattle.std.proofs.lemmas.List.Elements.{All-nil, All-contains, Contains-get_or}
@@ -10,9 +10,10 @@ use Rattle.sip_states.specs.inner.Ways.{SomeCanEnd, SomeCanReach, Advances}
 use Rattle.sip_states.proofs.lists.Listed.{Contains-map, Contains-from_map}
 use Rattle.sip_states.proofs.sets.Waiting.{EndsFrom, IsWithin-none, Wait-stay, Wait-end, Wait-cases}
 
--- states of the code, with their windows and last moments, follow the rules over what they stand for
+-- states of the code follow the rules: their windows and last moments are those of the states for which they stand, and no two stand for one
 pub record Follows {X S : Type 0} (names : S → List ℕ) (seen : Texts → S → X) (r : MachineRules X) (ended : S) (window : S → Option (ℕ × Option ℕ)) (until : S → Option ℕ) : Type 0 where
   pub lawful : IsLawful r
+  -- the ended state of the code stands for the ended state of the rules, beside every book
   pub ended_is : (texts : Texts) → seen texts ended ≡ r.ended
   pub ended_names : names ended ≡ []
   pub window_is : (texts : Texts) (x : S) → r.window (seen texts x) ≡ window x
@@ -21,17 +22,17 @@ pub record Follows {X S : Type 0} (names : S → List ℕ) (seen : Texts → S �
 
 module _ {X S : Type 0} (names : S → List ℕ) (InRange : S → Type 0) (seen : Texts → S → X) (r : MachineRules X) (ended : S) (window : S → Option (ℕ × Option ℕ)) (until : S → Option ℕ)
     (follows : Follows names seen r ended window until) where
-  -- the ended state of the code stays for ever
+  -- the ended state of the code has no last moment
   pub ended_stays : until ended ≡ None
   ended_stays = sym (follows.until_is [] ended) ∙ ap r.until (follows.ended_is []) ∙ follows.lawful.ended_stays
 
 module _ {X S : Type 0} (names : S → List ℕ) (InRange : S → Type 0) (seen : Texts → S → X) (r : MachineRules X) (ended : S) (window : S → Option (ℕ × Option ℕ)) (until : S → Option ℕ)
     (follows : Follows names seen r ended window until) (texts : Texts) where
-  -- a state of the code can wait just as long as what it stands for
+  -- a state of the code can wait until the same moments as the state for which it stands
   pub seen_waits : (m : ℕ) (x : S) → Waits r (seen texts x) m ↔ IsWithin m (until x)
   seen_waits m x = (λ w. rw (follows.until_is texts x) at w, λ w. rw (follows.until_is texts x) w)
 
-  -- a state of the code that can end ends what it stands for
+  -- where a state of the code can end, the state for which it stands can end
   pub seen_ends : (xs : List S) (h m : ℕ) → SomeCanEnd window until h m xs → EndsFrom r (Contains (map (seen texts) xs)) h m r.ended
   seen_ends xs h m (k, x, low, is, can) =
       record {
@@ -43,7 +44,7 @@ module _ {X S : Type 0} (names : S → List ℕ) (InRange : S → Type 0) (seen 
         hides = record { opened = rw (follows.window_is texts x) can.is.opened; waited = (seen_waits can.at x).1 can.is.waited; gives = refl };
       }
 
-  -- where what the states stand for can end, one of the states can
+  -- where a state for which the states of the code stand can end, one of those can end
   pub ends_seen : (xs : List S) (h m : ℕ) (y : X) → EndsFrom r (Contains (map (seen texts) xs)) h m y → SomeCanEnd window until h m xs
   ends_seen xs h m y e =
       let (x, (k, low, is), same) = Contains-from_map (seen texts) xs e.start e.among in (
@@ -62,11 +63,11 @@ module _ {X S : Type 0} (names : S → List ℕ) (InRange : S → Type 0) (seen 
         },
       )
 
-  -- the ended state is known to every book
+  -- every book knows the ended state
   pub ended_known : Knows names texts ended
   ended_known = rw follows.ended_names (All-nil (Keeps texts))
 
-  -- states that differ stand for states that differ
+  -- where no state stands twice in a list that a book knows, no two of them stand for the same state
   pub distinct_seen : IsBook texts → (xs : List S) → All (Knows names texts) xs → AllPairs (λ x y. x ≢ y) xs → AllPairs (λ x y. x ≢ y) (map (seen texts) xs)
   distinct_seen book [] known apart = λ i j d low high _. omega arith
   distinct_seen book (x ∷ xs) known apart = λ i j d low high same.
@@ -77,7 +78,7 @@ module _ {X S : Type 0} (names : S → List ℕ) (InRange : S → Type 0) (seen 
       (sym (get_or-map (seen texts) (x ∷ xs) i x d first) ∙ same ∙ get_or-map (seen texts) (x ∷ xs) j x d last))
 
   module _ (h m : ℕ) (low : h ≤ m) (xs : List S) where
-    -- one can wait from what the states stand for as long as from one of them
+    -- one can wait until m from one of the states of the code exactly where one can from a state for which they stand
     pub reach_seen : SomeCanReach window until h m xs ↔ ((y : X) × Wait r (Contains (map (seen texts) xs)) h m y)
     reach_seen = (
       λ (k, x, within, is, can). elim can [
@@ -96,7 +97,7 @@ module _ {X S : Type 0} (names : S → List ℕ) (InRange : S → Type 0) (seen 
       ],
     )
 
-    -- a state to which the code waits stands for one in which one can stand
+    -- each state to which the code's states wait stands for one in which one can stand after waiting
     seen_waited : (ys : List S) → Advances InRange window until ended h m xs ys → (x : S) → Contains ys x → Wait r (Contains (map (seen texts) xs)) h m (seen texts x)
     seen_waited ys a x member =
         let (within, ways) = (a.members x).0 member in
@@ -108,7 +109,7 @@ module _ {X S : Type 0} (names : S → List ℕ) (InRange : S → Type 0) (seen 
               rw (is_ended, follows.ended_is texts) (Wait-end r follows.lawful (Contains (map (seen texts) xs)) h m r.ended (seen_ends xs h m some))
         ]
 
-    -- each state in which one can stand after waiting is what a state stands for to which the code waits
+    -- each state in which one can stand after waiting is one for which a state to which the code waits stands
     waited_seen : (ys : List S) → Advances InRange window until ended h m xs ys → (y : X) → Wait r (Contains (map (seen texts) xs)) h m y → Contains (map (seen texts) ys) y
     waited_seen ys a y wait =
         elim ((Wait-cases r follows.lawful (Contains (map (seen texts) xs)) h m y).0 wait) [
@@ -121,7 +122,7 @@ module _ {X S : Type 0} (names : S → List ℕ) (InRange : S → Type 0) (seen 
               ((a.members ended).1 ((seen_waits m ended).0 (rw (follows.ended_is texts) (IsWithin-none m (r.until r.ended) follows.lawful.ended_stays)), inr (refl, ends_seen xs h m y e))))
         ]
 
-    -- a book that knows the states knows those to which they wait
+    -- a book that knows the code's states knows those to which they wait
     waited_known : (ys : List S) → Advances InRange window until ended h m xs ys → All (Knows names texts) xs → All (Knows names texts) ys
     waited_known ys a known k d within =
         let (_, ways) = (a.members (get_or ys k d)).0 (Contains-get_or ys k d within) in
@@ -130,7 +131,7 @@ module _ {X S : Type 0} (names : S → List ℕ) (InRange : S → Type 0) (seen 
           | inr (is_ended, some) ↦ rw is_ended ended_known
         ]
 
-    -- where the code's states lead by waiting stands for where one can wait
+    -- the states to which the code's states wait stand for exactly the states in which one can stand after waiting
     pub advances_stand : IsBook texts → (ys : List S) → All (Knows names texts) xs → Advances InRange window until ended h m xs ys →
         StandFor names InRange seen texts (Wait r (Contains (map (seen texts) xs)) h m) ys
     advances_stand book ys known a =

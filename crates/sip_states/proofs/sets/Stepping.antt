@@ -1,4 +1,4 @@
--- How the code takes an event from a list of states.
+-- Lemmas of how the code takes an event in a list of states.
 use Rattle.std.proofs.Common.{◌≡◌, ◌≢◌, ◌↔◌, ◌≤◌, ◌⊎◌, inl, inr, ℕ, Option, List, [], ◌∷◌, ◌++◌, All, AllPairs, Contains, ap, ap₂, arith, drop, refl, length, length-append, map, get_or, subst, ◌∙◌, ◌+◌}
 use Rattle.std.proofs.Math.Seq.{drop-append_seam, get_or-append_seam}
 use Rattle.std.proofs.lemmas.List.{get_or_append_left, map-append}
@@ -12,12 +12,12 @@ use Rattle.sip_states.proofs.sets.Waiting.{Wait-stay, Wait-end, Wait-cases}
 use Rattle.sip_states.proofs.sets.Following.{Follows, seen_ends, ends_seen, distinct_seen}
 
 module _ {X S : Type 0} (names : S → List ℕ) (InRange : S → Type 0) (seen : Texts → S → X) (texts : Texts) where
-  -- states cover a set told otherwise
+  -- states that cover a set cover a set with the same members
   pub Covers-iff : (P Q : X → Type 0) → ((x : X) → P x ↔ Q x) → (xs : List S) → Covers names InRange seen texts P xs → Covers names InRange seen texts Q xs
   Covers-iff P Q same xs c =
       record { members = λ x. (λ h. (same x).0 ((c.members x).0 h), λ q. (c.members x).1 ((same x).1 q)); known = c.known; in_range = c.in_range }
 
-  -- two lists of states cover what either covers
+  -- states that cover P, and states after them that stand for Q, cover what either P or Q holds of
   pub Covers-append : (P Q : X → Type 0) (xs ys zs : List S) → Covers names InRange seen texts P xs → StandFor names InRange seen texts Q ys → zs ≡ xs ++ ys →
       Covers names InRange seen texts (λ x. P x ⊎ Q x) zs
   Covers-append P Q xs ys zs c s is =
@@ -33,7 +33,7 @@ module _ {X S : Type 0} (names : S → List ℕ) (InRange : S → Type 0) (seen 
         in_range = rw is (All-append InRange xs ys c.in_range s.in_range);
       }
 
--- what some states lead to by an event is what it gives from those of them that can wait
+-- what the event leads to from one of the states is what it gives from those of them that can wait until its moment
 pub gives_some : {X S : Type 0} (seen : Texts → S → X) (texts : Texts) (r : MachineRules X) (e : MachineEvent) → IsLawful r → (xs : List S) (y : X) →
     FromSome (λ s. r.Take (seen texts s) e) xs y ↔ GivesFrom seen texts r xs e y
 gives_some seen texts r e lawful [] y = (λ none. absurd none, λ g. absurd (Contains-none g.before g.among.0))
@@ -51,7 +51,7 @@ gives_some seen texts r e lawful (s ∷ xs) y =
 
 module _ {X S : Type 0} (names : S → List ℕ) (InRange : S → Type 0) (seen : Texts → S → X) (r : MachineRules X) (ended : S) (window : S → Option (ℕ × Option ℕ)) (until : S → Option ℕ)
     (follows : Follows names seen r ended window until) (texts : Texts) (xs : List S) (h : ℕ) (e : MachineEvent) (low : h ≤ e.moment) where
-  -- a state that can wait is one in which one can stand
+  -- what the event gives from the states that can wait is part of what it gives after waiting
   stayed_gives : (y : X) → GivesFrom seen texts r xs e y → GivesAfter seen texts r xs h e y
   stayed_gives y g =
       record {
@@ -60,7 +60,7 @@ module _ {X S : Type 0} (names : S → List ℕ) (InRange : S → Type 0) (seen 
         takes = g.takes;
       }
 
-  -- one can stand in those that can wait, and where one can end in the ended one
+  -- what the event gives after waiting is given from a state that can wait, or from the ended one where some state can end
   after_gives : (y : X) → GivesAfter seen texts r xs h e y → GivesFrom seen texts r xs e y ⊎ (SomeCanEnd window until h e.moment xs × r.Take (seen texts ended) e y)
   after_gives y g =
       elim ((Wait-cases r follows.lawful (Contains (map (seen texts) xs)) h e.moment g.before).0 g.among) [
@@ -68,14 +68,14 @@ module _ {X S : Type 0} (names : S → List ℕ) (InRange : S → Type 0) (seen 
         | inr ends ↦ inr (ends_seen names InRange seen r ended window until follows texts xs h e.moment g.before ends, rw (follows.ended_is texts, ← ends.hides.gives) g.takes)
       ]
 
-  -- where none can end, one stands in those that can wait alone
+  -- where no state can end, states that cover what the states that can wait give cover what is given after waiting
   pub gives_stayed : (SomeCanEnd window until h e.moment xs → ⊥) → (found : List S) → Covers names InRange seen texts (GivesFrom seen texts r xs e) found →
       Covers names InRange seen texts (GivesAfter seen texts r xs h e) found
   gives_stayed none found c =
       Covers-iff names InRange seen texts (GivesFrom seen texts r xs e) (GivesAfter seen texts r xs h e)
       (λ y. (stayed_gives y, λ g. elim (after_gives y g) [ inl from ↦ from | inr ends ↦ absurd (none ends.0) ])) found c
 
-  -- where one can, the successors of the ended one come to those found
+  -- where a state can end, those states and what the ended state leads to cover what is given after waiting
   pub gives_ended : SomeCanEnd window until h e.moment xs → (found added new : List S) → Covers names InRange seen texts (GivesFrom seen texts r xs e) found →
       StandFor names InRange seen texts (r.Take (seen texts ended) e) added → new ≡ found ++ added → Covers names InRange seen texts (GivesAfter seen texts r xs h e) new
   gives_ended some found added new c stands is =
@@ -93,7 +93,7 @@ module _ {X S : Type 0} (names : S → List ℕ) (InRange : S → Type 0) (seen 
       )) new
       (Covers-append names InRange seen texts (GivesFrom seen texts r xs e) (r.Take (seen texts ended) e) found added new c stands is)
 
-  -- the only state, where it cannot end before, gives what its step gives
+  -- where the list has one state, which cannot end before the event, what its step leads to is what is given after waiting
   pub gives_alone : (s : S) → xs ≡ s ∷ [] → (SomeCanEnd window until h e.moment xs → ⊥) → (new : List S) →
       StandFor names InRange seen texts (r.Take (seen texts s) e) new → StandFor names InRange seen texts (GivesAfter seen texts r xs h e) new
   gives_alone s is none new stands =
@@ -115,7 +115,7 @@ module _ {X S : Type 0} (names : S → List ℕ) (InRange : S → Type 0) (seen 
         in_range = stands.in_range;
       }
 
-  -- states that cover a set stand for it once each is there once
+  -- states that cover a set stand for it once each of them is in the list once
   pub covers_stand : IsBook texts → (P : X → Type 0) (found new : List S) → Covers names InRange seen texts P found → ((x : S) → Contains new x ↔ Contains found x) →
       AllPairs (λ x y. x ≢ y) new → StandFor names InRange seen texts P new
   covers_stand book P found new c same apart =
@@ -131,20 +131,20 @@ module _ {X S : Type 0} (names : S → List ℕ) (InRange : S → Type 0) (seen 
         in_range = λ k d low. All-contains InRange found (get_or new k d) c.in_range ((same (get_or new k d)).0 (Contains-get_or new k d low));
       }
 
--- The states of a pool, after which others were found.
+-- What follows is of the states of a pool, after which others were found.
 
 module _ {S : Type 0} where
-  -- the only element of a list is all of it
+  -- a list of length 1 is its only element
   pub only : (xs : List S) (d : S) → length xs ≡ 1 → xs ≡ get_or xs 0 d ∷ []
   only [] d one = absurd (omega (arith, one))
   only (x ∷ []) d one = refl
   only (x ∷ y ∷ xs) d one = absurd (omega (arith, one))
 
-  -- what stands after them
+  -- what stands in the new list after the old states is what was found
   pub found-behind : (old found new : List S) (n : ℕ) → new ≡ old ++ found → n ≡ length old → drop n new ≡ found
   found-behind old found new n is at = ap₂ drop at is ∙ drop-append_seam old found
 
-  -- the first one after them
+  -- the first of the new list after the old states is the one that was found first
   pub next-there : (old mid new found : List S) (x d : S) (n : ℕ) → mid ≡ old ++ x ∷ [] → new ≡ mid ++ found → n ≡ length old → get_or new n d ≡ x
   next-there old mid new found x d n mid_is new_is at =
       let size : length mid ≡ length old + 1 = ap length mid_is ∙ length-append old (x ∷ []) in

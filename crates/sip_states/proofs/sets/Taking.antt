@@ -1,4 +1,4 @@
--- What a set of states keeps when it takes an event.
+-- Lemmas of what a set of states keeps when it takes an event.
 use Rattle.std.proofs.Common.{◌≢◌, ◌≤◌, ◌<◌, inl, inr, ℕ, Option, List, [], ◌∷◌, All, AllPairs, Contains, map, length, get_or, arith}
 use Rattle.std.proofs.lemmas.List.{length-map}
 use Rattle.std.proofs.lemmas.List.Elements.{All-contains_itself, All-head, All-weaker, Contains-get_or}
@@ -14,7 +14,7 @@ use Rattle.sip_states.proofs.sets.Following.{Follows, seen_waits, ended_stays}
 use Rattle.sip_states.proofs.lists.Listed.{Contains-map}
 use Rattle.sip_states.proofs.sets.Waiting.{IsWithin-none}
 
--- more states than are followed stand for more
+-- where more states stand for a set than are followed, the set is too wide
 pub many_wide : {X S : Type 0} (names : S → List ℕ) (InRange : S → Type 0) (seen : Texts → S → X) (texts : Texts) (P : X → Type 0) (new : List S) →
     StandFor names InRange seen texts P new → widest < length new → IsWide P
 many_wide names InRange seen texts P new s many =
@@ -25,11 +25,11 @@ many_wide names InRange seen texts P new s many =
       each = All-weaker (Contains (map (seen texts) new)) P (λ x. (s.members x).0) (map (seen texts) new) (All-contains_itself (map (seen texts) new));
     }
 
--- a set that is too wide is in sets that are
+-- a set with all that a too wide set has is too wide
 pub wide_among : {X : Type 0} (P Q : X → Type 0) → ((x : X) → P x → Q x) → IsWide P → IsWide Q
 wide_among P Q among w = record { many = w.many; distinct = w.distinct; wide = w.wide; each = All-weaker P Q among w.many w.each }
 
--- a set that is too wide is not empty
+-- a too wide set has a state
 pub wide_some : {X : Type 0} (P : X → Type 0) → IsWide P → (x : X) × P x
 wide_some {X} P w = go w.many w.wide w.each
   where
@@ -37,7 +37,7 @@ wide_some {X} P w = go w.many w.wide w.each
     go [] wide each = absurd (omega arith)
     go (x ∷ many) wide each = (x, All-head P x many each)
 
--- what no more states than are followed stand for is not too wide
+-- where states that are followed stand for a set, the set is not too wide
 pub few_narrow : {X S : Type 0} (names : S → List ℕ) (InRange : S → Type 0) (seen : Texts → S → X) (texts : Texts) (P : X → Type 0) (new : List S) →
     StandFor names InRange seen texts P new → length new ≤ widest → IsWide P → ⊥
 few_narrow names InRange seen texts P new stands few w =
@@ -46,13 +46,13 @@ few_narrow names InRange seen texts P new stands few w =
     omega (arith, fits, length-map new (seen texts))
 
 module _ {X S : Type 0} (names : S → List ℕ) (InRange : S → Type 0) (seen : Texts → S → X) (texts : Texts) (r : MachineRules X) where
-  -- a state that an event gave can wait at its moment
+  -- each state that an event gave can wait at the moment of the event
   pub took_waits : IsLawful r → (P : X → Type 0) (e : MachineEvent) (new : List S) → StandFor names InRange seen texts (RunGives r P e) new → All (λ s. Waits r (seen texts s) e.moment) new
   took_waits lawful P e new gives k d within =
       let given = (gives.members (seen texts (get_or new k d))).0 (Contains-map (seen texts) new (get_or new k d) (Contains-get_or new k d within)) in
       lawful.fresh given.before e (seen texts (get_or new k d)) given.takes
 
--- after an event the set is kept, if it is not too wide
+-- after an event the set keeps its invariant where it is not too wide
 pub took_kept : {M X S : Type 0} (names : S → List ℕ) (InRange : S → Type 0) (seen : Texts → S → X) (r : M → MachineRules X) (ended : M → S) (window : M → S → Option (ℕ × Option ℕ)) (until : M → S → Option ℕ)
     (machine : M) → Follows names seen (r machine) (ended machine) (window machine) (until machine) → (texts : Texts) (P : X → Type 0) (e : MachineEvent) (new : List S) →
     StandFor names InRange seen texts (RunGives (r machine) P e) new → AllPairs (λ x y. x ≢ y) new → length new ≤ widest →
@@ -67,7 +67,7 @@ took_kept names InRange seen r ended window until machine follows texts P e new 
       few = inl few;
     }
 
--- a set that waited is kept
+-- a set that has waited keeps its invariant
 pub advanced_kept : {M X S : Type 0} (names : S → List ℕ) (InRange : S → Type 0) (seen : Texts → S → X) (r : M → MachineRules X) (ended : M → S) (window : M → S → Option (ℕ × Option ℕ)) (until : M → S → Option ℕ)
     (machine : M) → Follows names seen (r machine) (ended machine) (window machine) (until machine) → (h m : ℕ) (xs ys : List S) →
     IsKept InRange until ended (record { machine = machine; moment = h; states = xs }) → Advances InRange (window machine) (until machine) (ended machine) h m xs ys →

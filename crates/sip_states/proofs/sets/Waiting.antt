@@ -1,17 +1,17 @@
--- Waits: since the ended state has no end, at most one hidden step matters.
+-- Lemmas of waits: since the ended state has no end, a wait takes one hidden step at most.
 use Rattle.std.proofs.Common.{◌≡◌, ◌≤◌, ◌↔◌, ◌⊎◌, inl, inr, ℕ, Option, Some, None, List, [], ◌∷◌, map, refl, sym, subst, arith}
 use Rattle.sip_machine.specs.Limits.{IsWithin, IsOpenAt}
 use Rattle.sip_standard.specs.MachineEvent.{MachineEvent}
 use Rattle.sip_machine.specs.Rules.{MachineRules, IsLawful, Waits, Hide}
 use Rattle.sip_states.specs.Runs.{Hides, Reaches, Wait, RunGives}
 
--- y is in S and stays from h to m
+-- y is a state of S in which one can stay from h to m
 pub record StaysFrom {X : Type 0} (r : MachineRules X) (S : X → Type 0) (h m : ℕ) (y : X) : Type 0 where
   pub among : S y
   pub reached : h ≤ m
   pub waits : Waits r y m
 
--- y is the end of a state of S at a moment from h to m
+-- y is the ended state to which some state of S ends at a moment from h to m
 pub record EndsFrom {X : Type 0} (r : MachineRules X) (S : X → Type 0) (h m : ℕ) (y : X) : Type 0 where
   pub start : X
   pub among : S start
@@ -20,33 +20,33 @@ pub record EndsFrom {X : Type 0} (r : MachineRules X) (S : X → Type 0) (h m : 
   pub before : at ≤ m
   pub hides : Hide r start at y
 
--- what is within a limit is within it at an earlier moment
+-- a moment that is within a limit is within it at every earlier moment
 pub IsWithin-earlier : (m n : ℕ) (limit : Option ℕ) → m ≤ n → IsWithin n limit → IsWithin m limit
 IsWithin-earlier m n None low h = tt
 IsWithin-earlier m n (Some last) low h = omega arith
 
--- every moment is within no limit
+-- where there is no limit, every moment is within it
 pub IsWithin-none : (m : ℕ) (limit : Option ℕ) → limit ≡ None → IsWithin m limit
 IsWithin-none m limit e = rw e tt
 
--- no moment is in no window
+-- where there is no window, no moment is in it
 pub IsOpenAt-none : (m : ℕ) (window : Option (ℕ × Option ℕ)) → window ≡ None → IsOpenAt m window → ⊥
 IsOpenAt-none m window e h = rw e at h
 
 module _ {X : Type 0} (r : MachineRules X) where
-  -- waiting in a state is a wait
+  -- staying in a state of S is a wait
   pub Wait-stay : (S : X → Type 0) (h m : ℕ) (y : X) → StaysFrom r S h m y → Wait r S h m y
   Wait-stay S h m y stays =
       record { start = y; begins = stays.among; ends = []; stands = record { last = h; goes = (refl, refl); reached = stays.reached; waits = stays.waits } }
 
-  -- waits from the same states lead to the same states
+  -- waits from two sets with the same states lead to the same states
   pub Wait-iff : (S T : X → Type 0) → ((x : X) → S x ↔ T x) → (h m : ℕ) (y : X) → Wait r S h m y ↔ Wait r T h m y
   Wait-iff S T same h m y = (
     λ w. record { start = w.start; begins = (same w.start).0 w.begins; ends = w.ends; stands = w.stands },
     λ w. record { start = w.start; begins = (same w.start).1 w.begins; ends = w.ends; stands = w.stands },
   )
 
-  -- an event gives the same from the same states
+  -- an event gives the same from two sets with the same states
   pub Gives-iff : (S T : X → Type 0) → ((x : X) → S x ↔ T x) → (e : MachineEvent) (y : X) → RunGives r S e y ↔ RunGives r T e y
   Gives-iff S T same e y = (
     λ g. record { before = g.before; among = (same g.before).0 g.among; takes = g.takes },
@@ -54,7 +54,7 @@ module _ {X : Type 0} (r : MachineRules X) where
   )
 
 module _ {X : Type 0} (r : MachineRules X) (lawful : IsLawful r) where
-  -- an end is a wait
+  -- the end of a state of S, and the ended state after it, is a wait
   pub Wait-end : (S : X → Type 0) (h m : ℕ) (y : X) → EndsFrom r S h m y → Wait r S h m y
   Wait-end S h m y ended =
       record {
@@ -69,11 +69,11 @@ module _ {X : Type 0} (r : MachineRules X) (lawful : IsLawful r) where
         };
       }
 
-  -- the ended state does not end again
+  -- the ended state cannot end again
   pub ends_once : (x : X) (h k : ℕ) (y z : X) → Hide r x h y → Hide r y k z → ⊥
   ends_once x h k y z first second = IsOpenAt-none k (r.window y) (rw first.gives lawful.ended_has_no_end) second.opened
 
-  -- hidden steps are none or one
+  -- hidden steps that lead from a state of S are none, in which case it stays, or one end
   hidden : (S : X → Type 0) (h m : ℕ) (y : X) (x : X) → S x → (ends : List ℕ) → Reaches r x h (map Hides ends) y m → StaysFrom r S h m y ⊎ EndsFrom r S h m y
   hidden S h m y x among [] stands =
       inl (record { among = subst S (sym stands.goes.0) among; reached = let e = stands.goes.1 in let k = stands.reached in omega arith; waits = stands.waits })
@@ -91,6 +91,6 @@ module _ {X : Type 0} (r : MachineRules X) (lawful : IsLawful r) where
   hidden S h m y x among (t ∷ u ∷ ts) stands =
       let (z, low, first, more) = stands.goes in let (v, _, second, _) = more in absurd (ends_once x t u z v first second)
 
-  -- a wait stays in its first state, or ends it once
+  -- a wait is a state of S that stays, or one that ends once
   pub Wait-cases : (S : X → Type 0) (h m : ℕ) (y : X) → Wait r S h m y ↔ (StaysFrom r S h m y ⊎ EndsFrom r S h m y)
   Wait-cases S h m y = (λ w. hidden S h m y w.start w.begins w.ends w.stands, λ c. elim c [ inl s ↦ Wait-stay r S h m y s | inr e ↦ Wait-end S h m y e ])

@@ -18,14 +18,14 @@ HasLine order line = contains line_cmp order line ≡ true
 abbrev pub IsInOrder : Records → BTreeSet (ℕ × ℕ) → Type 0
 IsInOrder records order = (line : ℕ × ℕ) → HasLine order line ↔ (slice_get records line.1 ≡ Some (Some (Some line.0)))
 
--- it is the line of this index, which has this last moment, if any
+-- the line is the one of this index, which has this last moment; an index without a last moment has no line
 abbrev pub IsLineOf : ℕ → Option ℕ → ℕ × ℕ → Type 0
 IsLineOf index limit line = (line.1 ≡ index) × (limit ≡ Some line.0)
 
--- the new order has the lines of the old one, and that of this index
+-- the new order has the lines of the old one and the line of this index
 abbrev pub Enters : ℕ → Option ℕ → BTreeSet (ℕ × ℕ) → BTreeSet (ℕ × ℕ) → Type 0
 Enters index limit old new = (line : ℕ × ℕ) → HasLine new line ↔ (HasLine old line ⊎ IsLineOf index limit line)
 
--- the new order has the lines of the old one without that of this index
+-- the new order has the lines of the old one without the line of this index
 abbrev pub Leaves : ℕ → Option ℕ → BTreeSet (ℕ × ℕ) → BTreeSet (ℕ × ℕ) → Type 0
 Leaves index limit old new = (line : ℕ × ℕ) → HasLine new line ↔ (HasLine old line × ¬ IsLineOf index limit line)

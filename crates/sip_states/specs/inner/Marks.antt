@@ -9,14 +9,14 @@ use Rattle.sip_states.specs.Sweep.{numbers_of}
 abbrev pub marks : List ℕ → ℕ → List Bool
 marks places count = map (λ place. nat_lt place count) places
 
--- the order has each index at its place
+-- the order has each index at the place that `places` gives for it
 pub record IsPlaced (order places : List ℕ) (count : ℕ) : Type 0 where
   pub long : length places ≡ length order
   pub few : count ≤ length order
   pub placed : (i : ℕ) → i < length order → (get_or places i 0 < length order) × (get_or order (get_or places i 0) 0 ≡ i)
   pub ordered : (p : ℕ) → p < length order → (get_or order p 0 < length order) × (get_or places (get_or order p 0) 0 ≡ p)
 
--- the indices at two places, changed for one another
+-- the order with the indices at the two places exchanged
 abbrev pub exchanged_order : List ℕ → ℕ → ℕ → List ℕ
 exchanged_order order p q = set (set order p (get_or order q 0)) q (get_or order p 0)
 
@@ -31,11 +31,11 @@ IsMarked marks index = slice_get marks index ≡ Some true
 abbrev pub ElseHolds : (AnySet → Type 0) → List Bool → List AnySet → Type 0
 ElseHolds P marks sets = (index : ℕ) (set : AnySet) → slice_get sets index ≡ Some set → slice_get marks index ≡ Some false → P set
 
--- sets whose indices are not marked name no message
+-- each set whose index is not marked names no message
 abbrev pub AreMarked : List Bool → List AnySet → Type 0
 AreMarked marks sets = ElseHolds (λ set. numbers_of set ≡ []) marks sets
 
--- the marks of sets that a restart may change: the sets that are not marked are quiet, and each that may name a message is marked
+-- each set that `moved` does not mark is quiet, and each index that `marks` marks is marked by `moved` too
 pub record AreMoved (moved marks : List Bool) (sets : List AnySet) : Type 0 where
   pub quiet : ElseHolds IsQuietSet moved sets
   pub within : (index : ℕ) → IsMarked marks index → IsMarked moved index

@@ -8,7 +8,7 @@ use Rattle.sip_text.specs.Parts.{led}
 use Rattle.sip_text.specs.inner.Cut.{before, behind, parts, past}
 use Rattle.sip_text.proofs.texts.LacksLemmas.{Lacks}
 
--- a byte is the mark, or it is not
+-- what holds in both cases, where a byte is the mark and where it is not, holds of the test of the byte
 at_byte : (mark b : ℕ) (P : Bool → Type 0) → (nat_eq b mark ≡ true → P true) → (nat_eq b mark ≡ false → P false) → P (nat_eq b mark)
 at_byte mark b P yes_mark no_mark = go (nat_eq b mark) refl
   where
@@ -16,27 +16,27 @@ at_byte mark b P yes_mark no_mark = go (nat_eq b mark) refl
     go true is = yes_mark is
     go false is = no_mark is
 
--- the first part lacks the mark
+-- the text before the first mark lacks the mark
 pub lacks-before : (mark : ℕ) (text : List ℕ) → Lacks mark (before mark text)
 lacks-before mark [] = tt
 lacks-before mark (b ∷ text) =
     at_byte mark b (λ same. Lacks mark (cond same [] (b ∷ before mark text))) (λ _. tt) (λ is. (is, lacks-before mark text))
 
--- the two parts give the text back
+-- the text before the first mark, the mark and the text after it give the text back
 pub cut-whole : (mark : ℕ) (text : List ℕ) → text ≡ before mark text ++ led mark (behind mark text)
 cut-whole mark [] = refl
 cut-whole mark (b ∷ text) =
     at_byte mark b (λ same. b ∷ text ≡ cond same [] (b ∷ before mark text) ++ led mark (cond same (Some text) (behind mark text)))
     (λ is. ap (λ x. x ∷ text) (eqb-true b mark is)) (λ _. ap (λ t. b ∷ t) (cut-whole mark text))
 
--- what stands before the mark and lacks it is the first part
+-- where u lacks the mark, and nothing or the mark and more follows it, u is the text before the first mark
 pub before-led : (mark : ℕ) (u : List ℕ) (o : Option (List ℕ)) → Lacks mark u → before mark (u ++ led mark o) ≡ u
 before-led mark [] None lacks = refl
 before-led mark [] (Some v) lacks = ap (λ same. cond same [] (mark ∷ before mark v)) (eq-eqb mark mark refl)
 before-led mark (b ∷ u) o lacks =
     ap (λ same. cond same [] (b ∷ before mark (u ++ led mark o))) lacks.0 ∙ ap (λ t. b ∷ t) (before-led mark u o lacks.1)
 
--- what stands after the first mark is the second of two texts with the mark between them
+-- where u lacks the mark, the text after the first mark is what follows u and the mark, and None where nothing follows u
 pub behind-led : (mark : ℕ) (u : List ℕ) (o : Option (List ℕ)) → Lacks mark u → behind mark (u ++ led mark o) ≡ o
 behind-led mark [] None lacks = refl
 behind-led mark [] (Some v) lacks = ap (λ same. cond same (Some v) (behind mark v)) (eq-eqb mark mark refl)
@@ -48,7 +48,7 @@ abbrev pub later_parts : ℕ → Option (List ℕ) → List (List ℕ)
 later_parts mark None = []
 later_parts mark (Some text) = parts mark text
 
--- the parts, by the first of them
+-- the parts of a text are the text before the first mark, and the parts of what stands after that mark
 pub parts-cut : (mark : ℕ) (text : List ℕ) → parts mark text ≡ before mark text ∷ later_parts mark (behind mark text)
 parts-cut mark [] = refl
 parts-cut mark (b ∷ text) =
@@ -57,21 +57,21 @@ parts-cut mark (b ∷ text) =
     ≡ cond same [] (b ∷ before mark text) ∷ later_parts mark (cond same (Some text) (behind mark text)))
     (λ _. refl) (λ _. ap (onto_first b) (parts-cut mark text))
 
--- a text that lacks the mark is its one part
+-- a text that lacks the mark has itself as its one part
 pub parts-one : (mark : ℕ) (u : List ℕ) → Lacks mark u → parts mark u ≡ u ∷ []
 parts-one mark u lacks =
     ap (parts mark) (sym (append-nil u)) ∙ parts-cut mark (u ++ [])
     ∙ ap (λ t. t ∷ later_parts mark (behind mark (u ++ []))) (before-led mark u None lacks)
     ∙ ap (λ o. u ∷ later_parts mark o) (behind-led mark u None lacks)
 
--- the first part of a text stands before the first mark
+-- where u lacks the mark, the parts of u, the mark and v are u and the parts of v
 pub parts-mark : (mark : ℕ) (u v : List ℕ) → Lacks mark u → parts mark (u ++ (mark ∷ v)) ≡ u ∷ parts mark v
 parts-mark mark u v lacks =
     parts-cut mark (u ++ (mark ∷ v))
     ∙ ap (λ t. t ∷ later_parts mark (behind mark (u ++ (mark ∷ v)))) (before-led mark u (Some v) lacks)
     ∙ ap (λ o. u ∷ later_parts mark o) (behind-led mark u (Some v) lacks)
 
--- where no byte is the mark, the text is its first part
+-- where no byte of a text is the mark, the text is its first part, and nothing stands after a mark
 pub before-nowhere : (mark : ℕ) (text : List ℕ) → Nowhere (Passes (is_byte mark) text) 0 (length text) → (before mark text ≡ text) × (behind mark text ≡ None)
 before-nowhere mark [] none = (refl, refl)
 before-nowhere mark (b ∷ text) none =
@@ -81,7 +81,7 @@ before-nowhere mark (b ∷ text) none =
       ap (λ same. cond same (Some text) (behind mark text)) other ∙ rest.1,
     )
 
--- the first place of the mark is where the text is cut
+-- where k is the first place of the mark, the first part of the text is its first k bytes, and what follows the mark is the rest after it
 pub before-first : (mark k : ℕ) (text : List ℕ) → k < length text → Nowhere (Passes (is_byte mark) text) 0 k → Passes (is_byte mark) text k → (before mark text ≡ take k text) × (behind mark text ≡ Some (drop (k + 1) text))
 before-first mark k [] within none is = absurd (omega (arith, within))
 before-first mark zero (b ∷ text) within none is = (
@@ -96,7 +96,7 @@ before-first mark (suc k) (b ∷ text) within none is =
       ap (λ same. cond same (Some text) (behind mark text)) other ∙ rest.1 ∙ ap (λ n. Some (drop n (b ∷ text))) (sym next),
     )
 
--- what is past the mark stands after it
+-- a text that has a rest past the mark at its front is the mark and that rest
 pub past-some : (mark : ℕ) (text rest : List ℕ) → past mark text ≡ Some rest → text ≡ mark ∷ rest
 past-some mark [] rest is = cc
 past-some mark (b ∷ text) rest is = at (nat_eq b mark) refl is
@@ -111,19 +111,19 @@ behind-shorter mark text rest is =
     let whole : text ≡ before mark text ++ (mark ∷ rest) = cut-whole mark text ∙ ap (λ o. before mark text ++ led mark o) is in
     omega (arith, ap length whole, length-append (before mark text) (mark ∷ rest))
 
--- where the first part fails, not each part passes
+-- where the first part of a text does not pass the test, not all parts pass it
 pub parts-fail : (test : List ℕ → Bool) (mark : ℕ) (text : List ℕ) → test (before mark text) ≡ false → list_all test (parts mark text) ≡ false
 parts-fail test mark text fails =
     ap (list_all test) (parts-cut mark text) ∙ ap (λ first. first && list_all test (later_parts mark (behind mark text))) fails
 
--- where the first part passes and there is no mark, each part passes
+-- where the first part of a text passes the test and the text has no mark, all parts pass it
 pub parts-last : (test : List ℕ → Bool) (mark : ℕ) (text : List ℕ) → test (before mark text) ≡ true → behind mark text ≡ None → list_all test (parts mark text) ≡ true
 parts-last test mark text pass none =
     ap (list_all test) (parts-cut mark text)
     ∙ ap (λ first. first && list_all test (later_parts mark (behind mark text))) pass
     ∙ ap (λ o. list_all test (later_parts mark o)) none
 
--- where the first part passes, those after the mark decide
+-- where the first part of a text passes the test, all parts of the text pass it exactly if all parts of what follows the first mark do
 pub parts-more : (test : List ℕ → Bool) (mark : ℕ) (text rest : List ℕ) → test (before mark text) ≡ true → behind mark text ≡ Some rest → list_all test (parts mark rest) ≡ list_all test (parts mark text)
 parts-more test mark text rest pass some =
     sym (ap (list_all test) (parts-cut mark text)

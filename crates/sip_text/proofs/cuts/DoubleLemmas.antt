@@ -5,11 +5,11 @@ use Rattle.sip_text.specs.Bytes.{colon}
 use Rattle.sip_text.specs.inner.Pieces.{double_colon}
 use Rattle.sip_text.specs.inner.HostTests.{is_double_at, before_double, behind_double}
 
--- one step of the cut
+-- the first part of a byte and a text: none where "::" begins at the byte, and else the byte before the first part of the text
 abbrev pub front_onto : ℕ → List ℕ → Bool → List ℕ
 front_onto b text double = cond double [] (b ∷ before_double text)
 
--- and of what is after it
+-- what follows the first "::" of a byte and a text: where "::" begins at the byte, the text without its first byte, and else what follows its own first "::"
 abbrev pub rest_onto : List ℕ → Bool → Option (List ℕ)
 rest_onto text double = cond double (Some (drop 1 text)) (behind_double text)
 
@@ -17,13 +17,13 @@ rest_onto text double = cond double (Some (drop 1 text)) (behind_double text)
 double-last : (b : ℕ) → is_double_at (b ∷ []) 0 ≡ false
 double-last b = and_right (nat_eq b colon) false refl
 
--- after the first byte the places count from there
+-- "::" begins at place k + 1 of a byte and a text exactly if it begins at place k of the text
 double-later : (b k : ℕ) (text : List ℕ) → is_double_at (b ∷ text) (suc k) ≡ is_double_at text k
 double-later b k text =
     let next : suc k + 1 ≡ suc (k + 1) = omega arith in
     ap (λ n. nat_eq (slice_index text k) colon && nat_eq (slice_index (b ∷ text) n) colon) next
 
--- where there is no "::" the text is its first part
+-- where "::" begins at no place of a text, the text is its first part, and nothing stands after a "::"
 pub double-nowhere : (text : List ℕ) → ((k : ℕ) → k + 1 < length text → is_double_at text k ≡ false) → (before_double text ≡ text) × (behind_double text ≡ None)
 double-nowhere [] none = (refl, refl)
 double-nowhere (b ∷ []) none = (ap (front_onto b []) (double-last b), ap (rest_onto []) (double-last b))
@@ -32,7 +32,7 @@ double-nowhere (b ∷ a ∷ text) none =
     let rest = double-nowhere (a ∷ text) (λ k within. sym (double-later b k (a ∷ text)) ∙ none (suc k) (omega (arith, within))) in
     (ap (front_onto b (a ∷ text)) here ∙ ap (λ t. b ∷ t) rest.0, ap (rest_onto (a ∷ text)) here ∙ rest.1)
 
--- the first place of "::" is where the text is cut
+-- where k is the first place at which "::" begins, the first part of the text is its first k bytes, and the rest follows the "::"
 pub double-first : (k : ℕ) (text : List ℕ) → k < length text → is_double_at text k ≡ true → ((j : ℕ) → j < k → is_double_at text j ≡ false) → (before_double text ≡ take k text) × (behind_double text ≡ Some (drop (k + 2) text))
 double-first k [] within is none = absurd (omega (arith, within))
 double-first zero (b ∷ text) within is none = (ap (front_onto b text) is, ap (rest_onto text) is)
@@ -44,7 +44,7 @@ double-first (suc k) (b ∷ text) within is none =
       ap (rest_onto text) here ∙ rest.1 ∙ ap (λ n. Some (drop n (b ∷ text))) next,
     )
 
--- the two parts give the text back
+-- the text before the first "::", the "::" and the text after it give the text back
 pub double-whole : (text rest : List ℕ) → behind_double text ≡ Some rest → text ≡ before_double text ++ (double_colon ++ rest)
 double-whole [] rest is = cc
 double-whole (b ∷ text) rest is = at (is_double_at (b ∷ text) 0) refl is (double-whole text rest)

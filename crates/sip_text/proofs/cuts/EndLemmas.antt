@@ -13,21 +13,21 @@ last_byte (a ∷ text) = elim (last_byte text) [
   | inr more ↦ inr (a ∷ more.0, more.1, ap (λ t. a ∷ t) more.2)
 ]
 
--- the last byte stands after the others
+-- the byte at place `length u` of u and one byte more is that byte
 pub slice_index-end : (u : List ℕ) (b : ℕ) → slice_index (u ++ (b ∷ [])) (length u) ≡ b
 slice_index-end [] b = refl
 slice_index-end (a ∷ u) b = slice_index-end u b
 
--- the others stand before the last byte
+-- the first `length u` bytes of u and one byte more are u
 take-end : (u : List ℕ) (b : ℕ) → take (length u) (u ++ (b ∷ [])) ≡ u
 take-end [] b = refl
 take-end (a ∷ u) b = ap (λ t. a ∷ t) (take-end u b)
 
--- the place of the last byte
+-- u and one byte more are one byte longer than u
 pub length-end : (u : List ℕ) (b : ℕ) → length (u ++ (b ∷ [])) - 1 ≡ length u
 length-end u b = omega (arith, length-append u (b ∷ []))
 
--- the last byte decides
+-- u and one byte more end with the mark exactly if that byte is the mark, and then u is the text up to it
 pub up_to-end : (mark : ℕ) (u : List ℕ) (b : ℕ) → up_to mark (u ++ (b ∷ [])) ≡ cond (nat_eq b mark) (Some u) None
 up_to-end mark u b =
     ap (λ n. cond (nat_lt 0 (length text) && nat_eq (slice_index text n) mark) (Some (take n text)) None) (length-end u b)
@@ -39,11 +39,11 @@ up_to-end mark u b =
     text : List ℕ
     text = u ++ (b ∷ [])
 
--- what stands before the mark at the end
+-- the text up to the mark at the end of u and the mark is u
 pub up_to-mark : (mark : ℕ) (u : List ℕ) → up_to mark (u ++ (mark ∷ [])) ≡ Some u
 up_to-mark mark u = up_to-end mark u mark ∙ ap (λ same. cond same (Some u) None) (eq-eqb mark mark refl)
 
--- what is found stands before the mark at the end
+-- where u is the text up to the mark at the end of a text, the text is u and the mark
 pub up_to-some : (mark : ℕ) (text u : List ℕ) → up_to mark text ≡ Some u → text ≡ u ++ (mark ∷ [])
 up_to-some mark text u found = elim (last_byte text) [
   | inl none ↦ let missing = sym (ap (up_to mark) none) ∙ found in cc
@@ -56,7 +56,7 @@ up_to-some mark text u found = elim (last_byte text) [
         whole ∙ ap (λ x. w ++ (x ∷ [])) (eqb-true b mark same) ∙ ap (λ t. t ++ (mark ∷ [])) front
     at w b whole false same is = cc
 
--- after what lacks the mark there is none at the end
+-- a text that ends with v, which is not empty and lacks the mark, does not end with the mark
 pub up_to-lacks : (mark : ℕ) (u v : List ℕ) → Lacks mark v → 0 < length v → up_to mark (u ++ v) ≡ None
 up_to-lacks mark u v lacks long = elim (last_byte v) [
   | inl none ↦ absurd (omega (arith, long, ap length none))

@@ -6,7 +6,7 @@ use Rattle.memchr.specs.Find.{Nowhere, Passes, is_byte}
 use Rattle.sip_text.specs.inner.Cut.{before_last, behind_last}
 use Rattle.sip_text.proofs.texts.LacksLemmas.{Lacks}
 
--- one step of the cut
+-- the text before the last mark of a byte and a text, by what stands before the last mark of the text
 abbrev onto : ℕ → ℕ → Option (List ℕ) → Option (List ℕ)
 onto mark b o = option_map_or (λ u. Some (b ∷ u)) o (cond (nat_eq b mark) (Some []) None)
 
@@ -17,7 +17,7 @@ last-nowhere mark (b ∷ text) none =
     ap (onto mark b) (last-nowhere mark text (λ k low high. none (suc k) (omega arith) (omega arith)))
     ∙ ap (λ same. cond same (Some []) None) (false_from_ne_true (nat_eq b mark) (none 0 (omega arith) (omega arith)))
 
--- the last place of the mark is where the text is cut
+-- where k is the last place of the mark, the text before the last mark is the first k bytes
 pub last-place : (mark k : ℕ) (text : List ℕ) → k < length text → Nowhere (Passes (is_byte mark) text) (k + 1) (length text) → Passes (is_byte mark) text k → before_last mark text ≡ Some (take k text)
 last-place mark k [] within none is = absurd (omega (arith, within))
 last-place mark zero (b ∷ text) within none is =
@@ -32,13 +32,13 @@ lacks-none mark [] lacks = refl
 lacks-none mark (b ∷ text) lacks =
     ap (onto mark b) (lacks-none mark text lacks.1) ∙ ap (λ same. cond same (Some []) None) lacks.0
 
--- what stands before a mark after which the text lacks it is the first part
+-- where v lacks the mark, the text before the last mark of u, the mark and v is u
 pub before_last-mark : (mark : ℕ) (u v : List ℕ) → Lacks mark v → before_last mark (u ++ (mark ∷ v)) ≡ Some u
 before_last-mark mark [] v lacks =
     ap (onto mark mark) (lacks-none mark v lacks) ∙ ap (λ same. cond same (Some []) None) (eq-eqb mark mark refl)
 before_last-mark mark (b ∷ u) v lacks = ap (onto mark b) (before_last-mark mark u v lacks)
 
--- what stands after the last mark is the second of two texts with the mark between them
+-- where v lacks the mark, the text after the last mark of u, the mark and v is v
 pub behind_last-mark : (mark : ℕ) (u v : List ℕ) → Lacks mark v → behind_last mark (u ++ (mark ∷ v)) ≡ v
 behind_last-mark mark u v lacks =
     ap (λ o. option_map_or (λ w. drop (length w + 1) (u ++ (mark ∷ v))) o (u ++ (mark ∷ v))) (before_last-mark mark u v lacks)
@@ -51,7 +51,7 @@ behind_last-mark mark u v lacks =
         go [] = refl
         go (b ∷ x) = go x
 
--- the first part, the mark, and what stands after both
+-- a text is the text u before its last mark, the mark, and what is left without the first `length u + 1` bytes
 last-split : (mark : ℕ) (text u : List ℕ) → before_last mark text ≡ Some u → text ≡ u ++ (mark ∷ drop (suc (length u)) text)
 last-split mark [] u is = cc
 last-split mark (b ∷ text) u is = later (before_last mark text) (last-split mark text) is
@@ -68,7 +68,7 @@ last-split mark (b ∷ text) u is = later (before_last mark text) (last-split ma
         let longer : b ∷ v ≡ u = cc in
         ap (λ t. b ∷ t) (split v refl) ∙ ap (λ t. t ++ (mark ∷ drop (suc (length t)) (b ∷ text))) longer
 
--- the two parts give the text back
+-- the text before the last mark, the mark and the text after it give the text back
 pub last-whole : (mark : ℕ) (text u : List ℕ) → before_last mark text ≡ Some u → text ≡ u ++ (mark ∷ behind_last mark text)
 last-whole mark text u is =
     let next : suc (length u) ≡ length u + 1 = omega arith in

@@ -11,7 +11,7 @@ use Rattle.sip_text.proofs.texts.LacksLemmas.{lack-many, lack-one}
 use Rattle.sip_text.proofs.texts.RunLemmas.{run-front, run-list_all}
 use Rattle.sip_text.proofs.cuts.CutLemmas.{cut-whole, before-led, behind-led, past-some}
 
--- a run before a mark that is not of the class ends there
+-- where all bytes of u are of a class, and nothing or a mark that is not of the class follows them, the longest run of the class at the front is u
 prefix_len-run : (test : ℕ → Bool) (mark : ℕ) (u : List ℕ) (o : Option (List ℕ)) → test mark ≡ false → list_all test u ≡ true → prefix_len test (u ++ led mark o) ≡ length u
 prefix_len-run test mark [] None fails all = refl
 prefix_len-run test mark [] (Some v) fails all = ap (λ pass. cond pass (1 + prefix_len test v) 0) fails
@@ -20,12 +20,12 @@ prefix_len-run test mark (b ∷ u) o fails all =
     let rest = prefix_len-run test mark u o fails both.1 in
     ap (λ pass. cond pass (1 + prefix_len test (u ++ led mark o)) 0) both.0 ∙ omega (arith, rest)
 
--- where the first part is a run, the longest run is the first part
+-- where all bytes before the first mark are of a class without the mark, they are the longest run of the class at the front of the text
 pub run-before : (test : ℕ → Bool) (mark : ℕ) (text : List ℕ) → test mark ≡ false → list_all test (before mark text) ≡ true → prefix_len test text ≡ length (before mark text)
 run-before test mark text fails all =
     ap (prefix_len test) (cut-whole mark text) ∙ prefix_len-run test mark (before mark text) (behind mark text) fails all
 
--- where nothing stands after the longest run, it is the whole text
+-- where the longest run of a class without the mark is the whole text, the text has no mark, and all its bytes are of the class
 pub run-end : (test : ℕ → Bool) (mark n : ℕ) (text : List ℕ) → test mark ≡ false → n ≡ prefix_len test text → n ≡ length text → (text ≡ before mark text) × (None ≡ behind mark text) × (true ≡ list_all test (before mark text))
 run-end test mark n text fails run all =
     let many = front-whole (Many (One test)) text (prefix_len test text) (run-front test text) (sym run ∙ all) in
@@ -55,7 +55,7 @@ run-mark test mark n text rest fails run found =
     take-front [] v = refl
     take-front (b ∷ u) v = ap (λ t. b ∷ t) (take-front u v)
 
--- where something else stands there, the first part is no run
+-- where neither the end nor the mark follows the longest run of a class, not all bytes before the first mark are of the class
 pub run-other : (test : ℕ → Bool) (mark n : ℕ) (text : List ℕ) → test mark ≡ false → n ≡ prefix_len test text → (n ≡ length text → ⊥) → None ≡ past mark (drop n text) → false ≡ list_all test (before mark text)
 run-other test mark n text fails run more missing =
     sym (false_from_ne_true (list_all test (before mark text)) (λ all. at (run ∙ run-before test mark text fails all) (behind mark text) refl))

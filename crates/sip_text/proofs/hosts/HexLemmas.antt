@@ -23,7 +23,7 @@ use Rattle.sip_text.proofs.cuts.EndLemmas.{up_to-mark, up_to-some}
 lack-hex4 : AllLack colon Hex4
 lack-hex4 = lack-between colon 1 4 (One is_ascii_hexdigit) (lack-one colon is_ascii_hexdigit refl)
 
--- what passes the test is a hexseq
+-- a text that passes the test of a hexseq is one
 pub hexseq-yes : (text : List ℕ) → is_hexseq text ≡ true → Hexseq text
 hexseq-yes text pass = joined-yes is_hex4 colon Hex4 text (between-group variant.HexDigit 4) pass
 
@@ -31,7 +31,7 @@ hexseq-yes text pass = joined-yes is_hex4 colon Hex4 text (between-group variant
 pub hexseq-is : (text : List ℕ) → Hexseq text → is_hexseq text ≡ true
 hexseq-is text seq = joined-is is_hex4 colon Hex4 text lack-hex4 (group-between variant.HexDigit 4) seq
 
--- what passes the test is empty or a hexseq
+-- a text that passes the test of an optional hexseq is empty or a hexseq
 optional-yes : (text : List ℕ) → is_optional_hexseq text ≡ true → Optional Hexseq text
 optional-yes [] pass = inl refl
 optional-yes (b ∷ text) pass = elim (or_cases (nat_eq (length (b ∷ text)) 0) (is_hexseq (b ∷ text)) pass) [
@@ -53,13 +53,13 @@ Single (b ∷ text) = ((nat_eq b colon && nat_eq (slice_index_or text 0 colon) c
 abbrev Starts : List ℕ → Type 0
 Starts text = nat_eq (slice_index_or text 0 colon) colon ≡ false
 
--- a text without a colon is such a text
+-- in a text without a colon, no colon stands before another one
 single-lacks : (text : List ℕ) → Lacks colon text → Single text
 single-lacks [] lacks = tt
 single-lacks (b ∷ text) lacks =
     (and_left (nat_eq b colon) (nat_eq (slice_index_or text 0 colon) colon) lacks.0, single-lacks text lacks.1)
 
--- two texts without "::" in a row, with one colon between them, have none
+-- where u lacks the colon, and v begins with another byte and has no "::", u, a colon and v have no "::"
 single-colon : (u v : List ℕ) → Lacks colon u → Starts v → Single v → Single (u ++ (colon ∷ v))
 single-colon [] v lacks starts single = (and_right (nat_eq colon colon) (nat_eq (slice_index_or v 0 colon) colon) starts, single)
 single-colon (b ∷ u) v lacks starts single =
@@ -86,12 +86,12 @@ single-optional : (text : List ℕ) → Optional Hexseq text → Single text
 single-optional text (inl none) = subst Single (sym none) tt
 single-optional text (inr seq) = single-hexseq text seq
 
--- where the next byte is none, its place reads as no colon
+-- where a text has a first byte that is no colon, `slice_index` reads no colon there
 next_default : (text : List ℕ) → nat_eq (slice_index_or text 0 colon) colon ≡ false → nat_eq (slice_index text 0) colon ≡ false
 next_default [] other = refl
 next_default (b ∷ text) other = other
 
--- in such a text there is no "::"
+-- a text in which each colon stands before a byte that is none has no "::"
 single-none : (text : List ℕ) → Single text → behind_double text ≡ None
 single-none [] single = refl
 single-none (b ∷ text) single = ap (rest_onto text) here ∙ single-none text single.1
@@ -102,7 +102,7 @@ single-none (b ∷ text) single = ap (rest_onto text) here ∙ single-none text 
       | inr other ↦ and_right (nat_eq b colon) (nat_eq (slice_index text 0) colon) (next_default text other)
     ]
 
--- before a "::" such a text is the first part, and what follows the second
+-- where each colon of u stands before a byte that is none, u is the first part of u, "::" and v, and v follows the first "::"
 single-double : (u v : List ℕ) → Single u → (before_double (u ++ (double_colon ++ v)) ≡ u) × (behind_double (u ++ (double_colon ++ v)) ≡ Some v)
 single-double [] v single = (refl, refl)
 single-double (b ∷ u) v single =
@@ -121,7 +121,7 @@ single-double (b ∷ u) v single =
       | inr other ↦ and_right (nat_eq b colon) (nat_eq (slice_index (u ++ (double_colon ++ v)) 0) colon) (next u other)
     ]
 
--- two optional hexseqs round a "::" pass the test
+-- two optional hexseqs with "::" between them pass the test of a hexpart
 double-is : (u v text : List ℕ) → Optional Hexseq u → Optional Hexseq v → text ≡ u ++ (double_colon ++ v) → is_hexpart text ≡ true
 double-is u v text left right whole =
     let cut = single-double u v (single-optional u left) in
@@ -130,7 +130,7 @@ double-is u v text left right whole =
     ap (λ o. option_map_or (λ r. is_optional_hexseq (before_double text) && is_optional_hexseq r) o (is_hexseq text)) rest
     ∙ and_from _ _ (ap is_optional_hexseq front ∙ optional-is u left) (optional-is v right)
 
--- a hexpart passes its test
+-- a hexpart passes the test of one
 pub hexpart-is : (text : List ℕ) → Hexpart text → is_hexpart text ≡ true
 hexpart-is text (inl seq) =
     ap (λ o. option_map_or (λ r. is_optional_hexseq (before_double text) && is_optional_hexseq r) o (is_hexseq text)) (single-none text (single-hexseq text seq))
@@ -139,7 +139,7 @@ hexpart-is text (inr (inl (u, t, seq, (mark, v, is_mark, rest, t_is), whole))) =
     double-is u v text (inr seq) rest (whole ∙ ap (λ x. u ++ x) (t_is ∙ ap (λ x. x ++ v) is_mark))
 hexpart-is text (inr (inr (mark, v, is_mark, rest, whole))) = double-is [] v text (inl refl) rest (whole ∙ ap (λ x. x ++ v) is_mark)
 
--- what passes the test is a hexpart
+-- a text that passes the test of a hexpart is one
 pub hexpart-yes : (text : List ℕ) → is_hexpart text ≡ true → Hexpart text
 hexpart-yes text pass = at (behind_double text) refl pass
   where
@@ -153,7 +153,7 @@ hexpart-yes text pass = at (behind_double text) refl pass
         let both = and_parts (is_optional_hexseq (before_double text)) (is_optional_hexseq v) passes in
         split v (optional-yes (before_double text) both.0) (optional-yes v both.1) (double-whole text v is)
 
--- what passes is, with its last colon, a hexpart that ends with "::"
+-- a text that passes the test `is_open` is, with one colon more, a hexpart that ends with "::"
 pub open-yes : (text : List ℕ) → is_open text ≡ true → OpenHexpart (text ++ (colon ∷ []))
 open-yes text pass = at (up_to colon text) refl pass
   where
@@ -166,7 +166,7 @@ open-yes text pass = at (up_to colon text) refl pass
     at None is passes = cc
     at (Some u) is passes = ends u (optional-yes u passes) (up_to-some colon text u is)
 
--- a hexpart that ends with "::" passes without its last colon
+-- a hexpart that ends with "::" passes the test `is_open` without its last colon
 pub open-is : (text : List ℕ) → OpenHexpart text → (front : List ℕ) × (text ≡ front ++ (colon ∷ [])) × (is_open front ≡ true)
 open-is text hexpart = elim hexpart [
   | inl ends ↦ at ends.0 (inr ends.2) (ends.4 ∙ ap (λ t. ends.0 ++ t) ends.3)

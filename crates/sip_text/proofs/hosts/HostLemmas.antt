@@ -13,12 +13,12 @@ use Rattle.sip_text.proofs.hosts.HostnameLemmas.{lack-hostname, hostname-yes, ho
 use Rattle.sip_text.proofs.hosts.V4Lemmas.{lack-v4, v4-yes, v4-is}
 use Rattle.sip_text.proofs.hosts.V6Lemmas.{reference-yes, reference-is}
 
--- what lacks a byte lacks it after a front
+-- the last part of a text that lacks a byte lacks it
 lacks-behind : (mark : ℕ) (u v : List ℕ) → Lacks mark (u ++ v) → Lacks mark v
 lacks-behind mark [] v lacks = lacks
 lacks-behind mark (b ∷ u) v lacks = lacks-behind mark u v lacks.1
 
--- an IPv6 reference has a bracket
+-- an IPv6 reference does not lack "["
 bracketed : (text : List ℕ) → Bracketed text → Lacks left_bracket text → ⊥
 bracketed text reference lacks =
     let spelled : text ≡ left_bracket ∷ reference.1 = reference.4 ∙ ap (λ t. t ++ reference.1) reference.2 in
@@ -36,7 +36,7 @@ no_digit b letter = and_right _ _ (lt-leb b 57 (elim (or_cases (is_in_range 65 9
 no_dot : (b : ℕ) → is_ascii_alphabetic b ≡ true → nat_eq dot b ≡ false
 no_dot b letter = ne_eqb dot b (λ same. both_ways (is_ascii_alphabetic dot) refl (ap is_ascii_alphabetic same ∙ letter))
 
--- a label whose first byte is a letter
+-- a label whose first byte is a letter is a letter and what follows it
 starts_with : (text : List ℕ) → Label is_ascii_alphabetic text → (b : ℕ) × (rest : List ℕ) × (is_ascii_alphabetic b ≡ true) × (text ≡ b ∷ rest)
 starts_with text (inl one) = (one.0, [], one.1, one.2)
 starts_with text (inr more) = (more.2.0, more.1, more.2.1, more.4 ∙ ap (λ t. t ++ more.1) more.2.2)
@@ -50,11 +50,11 @@ lettered text (u, t, many, (top, end, is_top, optional, t_is), whole) address =
     let lacks = lack-v4 b (no_digit b first.2) (no_dot b first.2) text address in
     both_ways (nat_eq b b) (lacks-behind b u (b ∷ (first.1 ++ end)) (subst (Lacks b) spelled lacks)).0 (eq-eqb b b refl)
 
--- the text is that host and no other
+-- the text has the parts of that host, and of no other
 abbrev pub IsOnlyHost : List ℕ → HostParts → Type 0
 IsOnlyHost text host = HostText text host × ((x : HostParts) → HostText text x → x ≡ host)
 
--- an IPv6 reference is no other host
+-- a text that passes the test of an IPv6 reference is that host and no other
 pub only-v6 : (text : List ℕ) → is_v6_reference text ≡ true → IsOnlyHost text (v6 text)
 only-v6 text pass = ((reference-yes text pass, refl), only)
   where
@@ -63,7 +63,7 @@ only-v6 text pass = ((reference-yes text pass, refl), only)
     only (v4 host) fits = absurd (bracketed text (reference-yes text pass) (lack-v4 left_bracket refl refl text fits.0))
     only (v6 host) fits = ap v6 fits.1
 
--- an IPv4 address is no other host
+-- a text that passes the test of an IPv4 address is that host and no other
 pub only-v4 : (text : List ℕ) → is_v4 text ≡ true → IsOnlyHost text (v4 text)
 only-v4 text pass = ((v4-yes text pass, refl), only)
   where
@@ -72,7 +72,7 @@ only-v4 text pass = ((v4-yes text pass, refl), only)
     only (v4 host) fits = ap v4 fits.1
     only (v6 host) fits = absurd (bracketed text fits.0 (lack-v4 left_bracket refl refl text (v4-yes text pass)))
 
--- a hostname is no other host
+-- a text that passes the test of a hostname is that host and no other
 pub only-name : (text : List ℕ) → is_hostname text ≡ true → IsOnlyHost text (name text)
 only-name text pass = ((hostname-yes text pass, refl), only)
   where
@@ -81,7 +81,7 @@ only-name text pass = ((hostname-yes text pass, refl), only)
     only (v4 host) fits = absurd (lettered text (hostname-yes text pass) fits.0)
     only (v6 host) fits = absurd (bracketed text fits.0 (lack-hostname left_bracket refl refl refl refl text (hostname-yes text pass)))
 
--- what passes no test is no host
+-- a text that passes none of the three tests is no host
 pub no-host : (text : List ℕ) → is_v6_reference text ≡ false → is_v4 text ≡ false → is_hostname text ≡ false → (x : HostParts) → HostText text x → ⊥
 no-host text not_v6 not_v4 not_name (name host) fits = both_ways (is_hostname text) not_name (hostname-is text fits.0)
 no-host text not_v6 not_v4 not_name (v4 host) fits = both_ways (is_v4 text) not_v4 (v4-is text fits.0)

@@ -21,7 +21,7 @@ use Rattle.sip_text.proofs.hosts.LabelLemmas.{alphanumeric-alphabetic, label-is,
 domain-is : (text : List ℕ) → Label is_ascii_alphanumeric text → is_label text ≡ true
 domain-is text label = (label-is is_ascii_alphanumeric text (λ b pass. pass) label).0
 
--- what passes the test is a domainlabel
+-- a text that passes the test of a domainlabel is one
 domain-yes : (text : List ℕ) → is_label text ≡ true → Label is_ascii_alphanumeric text
 domain-yes text pass = label-yes is_ascii_alphanumeric text pass (label-starts text pass)
 
@@ -32,14 +32,14 @@ top-is text label =
     let parts = and_parts (has_label_ends text) (list_all is_label_byte text) both.0 in
     and_from _ _ (and_from _ _ both.1 parts.0) parts.1
 
--- what passes the test is a toplabel
+-- a text that passes the test of a toplabel is one
 top-yes : (text : List ℕ) → is_top_label text ≡ true → Label is_ascii_alphabetic text
 top-yes text pass =
     let both = and_parts (has_top_ends text) (list_all is_label_byte text) pass in
     let ends = and_parts (is_ascii_alphabetic (slice_index text 0)) (has_label_ends text) both.0 in
     label-yes is_ascii_alphabetic text (and_from _ _ ends.1 both.1) ends.0
 
--- a label lacks what is no byte of a label
+-- a label lacks each byte that may neither begin a label nor stand in one
 lack-label : (mark : ℕ) (first : ℕ → Bool) → first mark ≡ false → is_label_byte mark ≡ false → is_ascii_alphanumeric mark ≡ false → AllLack mark (Label first)
 lack-label mark first no_first no_label no_last =
     lack-or mark (One first) (One first then Many (One is_label_byte) then One is_ascii_alphanumeric) (lack-one mark first no_first)
@@ -64,7 +64,7 @@ long-label first text (inr more) = omega (arith, ap length more.4, length-append
 abbrev Name : List ℕ → Type 0
 Name = Many (Label is_ascii_alphanumeric then Byte dot) then Label is_ascii_alphabetic
 
--- its parts are labels
+-- the parts between the dots of a hostname that has no dot at its end pass the test of labels
 name-is : (text : List ℕ) → Name text → are_labels (parts dot text) ≡ true
 name-is text (u, top, many, is_top, whole) =
     ap (λ t. are_labels (parts dot t)) (whole ∙ ap (λ t. t ++ top) many.2) ∙ go many.0 many.1
@@ -84,7 +84,7 @@ name-is text (u, top, many, is_top, whole) =
             ∙ append_assoc label.0 label.1 (concat us ++ top)
             ∙ ap (λ t. label.0 ++ (t ++ (concat us ++ top))) label.3
 
--- labels are the parts of a name
+-- a text whose parts between the dots pass the test of labels is a hostname that has no dot at its end
 name-yes : (text : List ℕ) → are_labels (parts dot text) ≡ true → Name text
 name-yes text pass =
     let cut = parts-cut dot text in
@@ -116,7 +116,7 @@ hostname-is text (u, t, many, (top, end, is_top, inr is_dot, t_is), whole) =
     ap (λ o. are_labels (parts dot (unwrap_or o text))) (ap (up_to dot) name ∙ up_to-mark dot (u ++ top))
     ∙ name-is (u ++ top) (u, top, many, is_top, refl)
 
--- what passes the test is a hostname
+-- a text that passes the test of a hostname is one
 pub hostname-yes : (text : List ℕ) → is_hostname text ≡ true → Hostname text
 hostname-yes text pass = at (up_to dot text) refl pass
   where

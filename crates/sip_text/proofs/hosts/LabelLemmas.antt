@@ -15,34 +15,34 @@ use Rattle.sip_text.proofs.texts.RunLemmas.{run-list_all, list_all-run}
 use Rattle.sip_text.proofs.cuts.EndLemmas.{last_byte, length-end, slice_index-end}
 use Rattle.sip_text.proofs.cuts.CutLemmas.{later_parts, parts-cut}
 
--- a label before others
+-- a label and the parts of a text pass the test of labels exactly if the label passes its test and the parts do
 pub labels-cons : (label text : List ℕ) → are_labels (label ∷ parts dot text) ≡ (is_label label && are_labels (parts dot text))
 labels-cons label text =
     ap (λ ps. are_labels (label ∷ ps)) (parts-cut dot text) ∙ ap (λ ps. is_label label && are_labels ps) (sym (parts-cut dot text))
 
--- a text with a dot: its first part is a label, and those after the dot decide
+-- the parts of a text with a dot pass the test of labels exactly if the first part is a label and the parts after its dot pass
 labels-behind : (text rest : List ℕ) → behind dot text ≡ Some rest → are_labels (parts dot text) ≡ (is_label (before dot text) && are_labels (parts dot rest))
 labels-behind text rest some =
     ap are_labels (parts-cut dot text)
     ∙ ap (λ o. are_labels (before dot text ∷ later_parts dot o)) some
     ∙ labels-cons (before dot text) rest
 
--- where the first part is a label, those after the dot decide
+-- where the first part is a label, the parts of a text with a dot pass the test of labels exactly if the parts after that dot do
 pub labels-more : (text rest : List ℕ) → is_label (before dot text) ≡ true → behind dot text ≡ Some rest → are_labels (parts dot rest) ≡ are_labels (parts dot text)
 labels-more text rest pass some =
     sym (labels-behind text rest some ∙ ap (λ first. first && are_labels (parts dot rest)) pass)
 
--- where the first part is none, the parts are no labels
+-- where the first part is no label, the parts of a text with a dot do not pass the test of labels
 pub labels-fail : (text rest : List ℕ) → is_label (before dot text) ≡ false → behind dot text ≡ Some rest → are_labels (parts dot text) ≡ false
 labels-fail text rest fails some =
     labels-behind text rest some ∙ ap (λ first. first && are_labels (parts dot rest)) fails
 
--- a text without a dot is its last label
+-- the parts of a text without a dot pass the test of labels exactly if the text is a toplabel
 pub labels-last : (text : List ℕ) → behind dot text ≡ None → are_labels (parts dot text) ≡ is_top_label (before dot text)
 labels-last text none =
     ap are_labels (parts-cut dot text) ∙ ap (λ o. are_labels (before dot text ∷ later_parts dot o)) none
 
--- where that is a run of bytes of labels, its ends decide
+-- where all bytes of a text without a dot are bytes of labels, its parts are labels exactly if it begins and ends as a toplabel does
 pub labels-last_run : (text : List ℕ) → list_all is_label_byte (before dot text) ≡ true → behind dot text ≡ None → are_labels (parts dot text) ≡ has_top_ends (before dot text)
 labels-last_run text run none =
     labels-last text none ∙ ap (λ all. has_top_ends (before dot text) && all) run ∙ alone (has_top_ends (before dot text))
@@ -51,7 +51,7 @@ labels-last_run text run none =
     alone true = refl
     alone false = refl
 
--- where the first part has another byte, the parts are no labels
+-- where the first part has a byte that is none of a label, the parts do not pass the test of labels
 pub labels-other : (text : List ℕ) → list_all is_label_byte (before dot text) ≡ false → are_labels (parts dot text) ≡ false
 labels-other text other = at (behind dot text) refl
   where
@@ -89,7 +89,7 @@ record LabelPasses (text : List ℕ) : Type 0 where
   last : nat_eq (slice_index text (length text - 1)) hyphen ≡ false
   bytes : list_all is_label_byte text ≡ true
 
--- what passes, part by part
+-- a text that passes the test of a label passes each part of the test
 passes_parts : (text : List ℕ) → is_label text ≡ true → LabelPasses text
 passes_parts text pass =
     let all = and_parts (has_label_ends text) (list_all is_label_byte text) pass in
@@ -97,13 +97,13 @@ passes_parts text pass =
     let front = and_parts (nat_lt 0 (length text)) (not (nat_eq (slice_index text 0) hyphen)) ends.0 in
     record { long = front.0; first = not-true _ front.1; last = not-true _ ends.1; bytes = all.1 }
 
--- the parts give the test
+-- a text that passes each part of the test of a label passes the test
 passes_from : (text : List ℕ) → LabelPasses text → is_label text ≡ true
 passes_from text passes =
     and_from (has_label_ends text) (list_all is_label_byte text)
     (and_from _ _ (and_from _ _ passes.long (not_from_false _ passes.first)) (not_from_false _ passes.last)) passes.bytes
 
--- a letter or digit is a byte of a label, and no hyphen
+-- a letter or digit is a byte of a label
 label_byte : (b : ℕ) → is_ascii_alphanumeric b ≡ true → is_label_byte b ≡ true
 label_byte b pass = or_left (is_ascii_alphanumeric b) (nat_eq b hyphen) pass
 
@@ -111,11 +111,11 @@ label_byte b pass = or_left (is_ascii_alphanumeric b) (nat_eq b hyphen) pass
 no_hyphen : (b : ℕ) → is_ascii_alphanumeric b ≡ true → nat_eq b hyphen ≡ false
 no_hyphen b pass = other_byte is_ascii_alphanumeric hyphen b refl pass
 
--- the last byte of a text of two or more
+-- the last byte of a byte b, a text m and a byte e is e
 last_of : (b e : ℕ) (m : List ℕ) → slice_index (b ∷ (m ++ (e ∷ []))) (length (b ∷ (m ++ (e ∷ []))) - 1) ≡ e
 last_of b e m = ap (slice_index (b ∷ (m ++ (e ∷ [])))) (length-end (b ∷ m) e) ∙ slice_index-end (b ∷ m) e
 
--- a label passes the test
+-- a label whose first byte is a letter or digit passes the test of a label, and its first byte passes its own test
 pub label-is : (first : ℕ → Bool) (text : List ℕ) → ((b : ℕ) → first b ≡ true → is_ascii_alphanumeric b ≡ true) → Label first text → (is_label text ≡ true) × (first (slice_index text 0) ≡ true)
 label-is first text within (inl one) =
     let alphanumeric = within one.0 one.1 in
@@ -147,7 +147,7 @@ label-is first text within (inr (u, t, one, (m, e, many, last, t_is), whole)) =
     split : text ≡ one.0 ∷ (m ++ (last.0 ∷ []))
     split = whole ∙ ap (λ x. x ++ t) one.2 ∙ ap (λ x. one.0 ∷ x) (t_is ∙ ap (λ x. m ++ x) last.2)
 
--- what passes throughout passes before its last byte, and there
+-- where all bytes of m and e pass a test, those of m pass it, and e does
 list_all-end : (test : ℕ → Bool) (m : List ℕ) (e : ℕ) → list_all test (m ++ (e ∷ [])) ≡ true → (list_all test m ≡ true) × (test e ≡ true)
 list_all-end test [] e all = (refl, (and_parts (test e) true all).0)
 list_all-end test (b ∷ m) e all =
@@ -155,7 +155,7 @@ list_all-end test (b ∷ m) e all =
     let rest = list_all-end test m e both.1 in
     (and_from _ _ both.0 rest.0, rest.1)
 
--- what passes the test is a label
+-- a text that passes the test of a label, and whose first byte passes the test of the first one, is a label
 pub label-yes : (first : ℕ → Bool) (text : List ℕ) → is_label text ≡ true → first (slice_index text 0) ≡ true → Label first text
 label-yes first [] pass starts = let none = (passes_parts [] pass).long in cc
 label-yes first (b ∷ text) pass starts = elim (last_byte text) [
@@ -180,7 +180,7 @@ label-yes first (b ∷ text) pass starts = elim (last_byte text) [
           refl,
         )
 
--- what passes the test starts with a letter or digit
+-- a text that passes the test of a label begins with a letter or digit
 pub label-starts : (text : List ℕ) → is_label text ≡ true → is_ascii_alphanumeric (slice_index text 0) ≡ true
 label-starts [] pass = let none = (passes_parts [] pass).long in cc
 label-starts (b ∷ text) pass =

@@ -10,7 +10,7 @@ use Rattle.sip_text.specs.Parts.{led}
 use Rattle.sip_text.specs.Host.{HostParts, HostText, host_text, name, v4, v6}
 use Rattle.sip_text.specs.Uri.{SipParts, userinfo_text, hostport_text, sip_text, scheme_name, UriParts, UriText, sip, other}
 
--- a host has parts
+-- a host of the profile is the text of some parts
 pub host-parts : (text : List ℕ) → Host text → (h : HostParts) × HostText (host_text h) h × (text ≡ host_text h)
 host-parts text (inl is) = (name text, (is, refl), refl)
 host-parts text (inr (inl is)) = (v4 text, (is, refl), refl)
@@ -22,7 +22,7 @@ parts-host text (name host) is = inl is.0
 parts-host text (v4 host) is = inr (inl is.0)
 parts-host text (v6 host) is = inr (inr is.0)
 
--- an optional part after its mark
+-- the mark and a part of P, or nothing where there is no part, are an optional part of P after its mark
 led-optional : (mark : ℕ) (P : List ℕ → Type 0) (part : Option (List ℕ)) → IfSome part P → Optional (Byte mark then P) (led mark part)
 led-optional mark P None fits = inl refl
 led-optional mark P (Some part) fits = inr (mark ∷ [], part, refl, fits, refl)
@@ -32,7 +32,7 @@ optional-led : (mark : ℕ) (P : List ℕ → Type 0) (text : List ℕ) → Opti
 optional-led mark P text (inl none) = (None, tt, none)
 optional-led mark P text (inr (u, v, u_is, is, whole)) = (Some v, is, whole ∙ ap (λ x. x ++ v) u_is)
 
--- what stands before a host
+-- the text of a user and a password, or of none, is an optional userinfo of the profile
 userinfo-optional : (user password : Option (List ℕ)) → IfSome user User → IfSome password Password → Optional Userinfo (userinfo_text user password)
 userinfo-optional None password user_fits fits = inl refl
 userinfo-optional (Some user) password user_fits fits =
@@ -44,7 +44,7 @@ userinfo-optional (Some user) password user_fits fits =
       append_assoc user (led colon password) (at_sign ∷ []),
     )
 
--- the parts of what stands before a host
+-- the user and the password that stand before a host, where there are any, and that the text is theirs
 record Info (text : List ℕ) : Type 0 where
   user : Option (List ℕ)
   password : Option (List ℕ)
@@ -53,6 +53,7 @@ record Info (text : List ℕ) : Type 0 where
   owner : IsNone user → IsNone password
   whole : text ≡ userinfo_text user password
 
+-- an optional userinfo of the profile is the text of a user and a password, or of none
 optional-userinfo : (text : List ℕ) → Optional Userinfo text → Info text
 optional-userinfo text (inl none) = record { user = None; password = None; user_fits = tt; fits = tt; owner = λ is. is; whole = none }
 optional-userinfo text (inr (u, v, user, (w, x, word, at, v_is), whole)) =
@@ -74,7 +75,7 @@ named-scheme : (text : List ℕ) → SipScheme text → (secure : Bool) × (fold
 named-scheme text (inl is) = (false, is)
 named-scheme text (inr is) = (true, is)
 
--- a URI has parts
+-- a URI of the profile has parts
 pub uri-parts : (text : List ℕ) → Uri text → (p : UriParts) × UriText text p
 uri-parts text (inl (s, r1, scheme, (c, r2, c_is, (i, r3, info, (h, r4, host, (o, r5, port, (a, b, params, headers, e5), e4), e3), e2), e1), e0)) =
     let named = named-scheme s scheme in
@@ -97,7 +98,7 @@ uri-parts text (inl (s, r1, scheme, (c, r2, c_is, (i, r3, info, (h, r4, host, (o
 uri-parts text (inr (s, v, (scheme, none), (c, w, c_is, some, v_is), whole)) =
     (other s w, (scheme, (λ secure same. none (scheme-named s secure same)), some, whole ∙ ap (λ t. s ++ t) (v_is ∙ ap (λ t. t ++ w) c_is)))
 
--- a text with the parts of a URI is one
+-- a text with the parts of a URI is a URI of the profile
 pub parts-uri : (text : List ℕ) (p : UriParts) → UriText text p → Uri text
 parts-uri text (sip p) (scheme, same, fits, whole) =
     let behind : List ℕ = p.params ++ led question p.headers in

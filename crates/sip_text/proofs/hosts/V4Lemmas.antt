@@ -18,7 +18,7 @@ use Rattle.sip_text.proofs.texts.GroupLemmas.{group-between, between-group}
 pub lack-decimal : (mark : ℕ) → is_ascii_digit mark ≡ false → AllLack mark DecimalGroup
 lack-decimal mark other = lack-between mark 1 3 (One is_ascii_digit) (lack-one mark is_ascii_digit other)
 
--- digits and a dot, and then what passes
+-- where each text that passes `later` is of Q, a text that passes the test of digits, a dot and `later` is digits, a dot and a text of Q
 decimal_dot-yes : (later : List ℕ → Bool) (Q : List ℕ → Type 0) (text : List ℕ) → ((t : List ℕ) → later t ≡ true → Q t) → is_decimal_dot later text ≡ true → (DecimalGroup then Byte dot then Q) text
 decimal_dot-yes later Q text each pass = at (is_decimal (before dot text)) (behind dot text) refl refl pass
   where
@@ -33,7 +33,7 @@ decimal_dot-yes later Q text each pass = at (is_decimal (before dot text)) (behi
       cut-whole dot text ∙ ap (λ o. before dot text ++ led dot o) is,
     )
 
--- digits, a dot and what passes pass
+-- where each text of Q passes `later`, digits, a dot and a text of Q pass the test of digits, a dot and `later`
 decimal_dot-is : (later : List ℕ → Bool) (Q : List ℕ → Type 0) (text : List ℕ) → ((t : List ℕ) → Q t → later t ≡ true) → (DecimalGroup then Byte dot then Q) text → is_decimal_dot later text ≡ true
 decimal_dot-is later Q text each (u, t, group, (mark, v, is_mark, one, t_is), whole) =
     let split : text ≡ u ++ led dot (Some v) = whole ∙ ap (λ x. u ++ x) (t_is ∙ ap (λ x. x ++ v) is_mark) in
@@ -44,15 +44,15 @@ decimal_dot-is later Q text each (u, t, group, (mark, v, is_mark, one, t_is), wh
     ∙ ap (λ o. option_map_or later o false) (ap (behind dot) split ∙ behind-led dot u (Some v) lacks)
     ∙ each v one
 
--- the last two groups, and the last three
+-- the last two groups of an IPv4 address
 abbrev LastTwo : List ℕ → Type 0
 LastTwo = DecimalGroup then Byte dot then DecimalGroup
 
--- the last three groups
+-- the last three groups of an IPv4 address
 abbrev LastThree : List ℕ → Type 0
 LastThree = DecimalGroup then Byte dot then LastTwo
 
--- what passes the test is an IPv4 address
+-- a text that passes the test of an IPv4 address is one
 pub v4-yes : (text : List ℕ) → is_v4 text ≡ true → Ipv4 text
 v4-yes text pass = decimal_dot-yes (is_decimal_dot (is_decimal_dot is_decimal)) LastThree text three pass
   where

@@ -13,7 +13,7 @@ use Rattle.sip_text.proofs.cuts.EndLemmas.{up_to-mark, up_to-some}
 use Rattle.sip_text.proofs.hosts.V4Lemmas.{lack-v4, v4-yes, v4-is}
 use Rattle.sip_text.proofs.hosts.HexLemmas.{hexpart-yes, hexpart-is, open-yes, open-is}
 
--- what stands before the last colon, and the IPv4 address after it
+-- a front that may stand before the last colon, a colon and an IPv4 address pass the test `has_v4_tail`
 tail-is : (text front v4 : List ℕ) → is_before_v4 front ≡ true → Ipv4 v4 → text ≡ front ++ (colon ∷ v4) → has_v4_tail text ≡ true
 tail-is text front v4 before address whole =
     let lacks = lack-v4 colon refl refl v4 address in
@@ -35,7 +35,7 @@ v6-is text (inr (hexpart, v4, is_hex, address, whole)) =
     (tail-is text front.0 v4 (or_right (is_hexpart front.0) (is_open front.0) front.2) address
     (whole ∙ ap (λ t. t ++ v4) front.1 ∙ append_assoc front.0 (colon ∷ []) v4))
 
--- an IPv4 address after the last colon
+-- a text that passes the test `has_v4_tail` is an IPv6 address
 tail-yes : (text : List ℕ) → has_v4_tail text ≡ true → Ipv6 text
 tail-yes text pass = at (before_last colon text) refl pass
   where
@@ -53,7 +53,7 @@ tail-yes text pass = at (before_last colon text) refl pass
           | inr ends ↦ inr (front ++ (colon ∷ []), v4, open-yes front ends, address, whole ∙ sym (append_assoc front (colon ∷ []) v4))
         ]
 
--- what passes the test is an IPv6 address
+-- a text that passes the test of an IPv6 address is one
 pub v6-yes : (text : List ℕ) → is_v6 text ≡ true → Ipv6 text
 v6-yes text pass = elim (or_cases (is_hexpart text) (has_v4_tail text) pass) [
   | inl hexpart ↦ inl (text, [], hexpart-yes text hexpart, inl refl, sym (append-nil text))
@@ -69,7 +69,7 @@ reference-is text (first, t, is_first, (inner, last, address, is_last, t_is), wh
     ∙ ap (λ o. option_map_or is_v6 o false) (up_to-mark right_bracket inner)
     ∙ v6-is inner address
 
--- what passes the test is an IPv6 reference
+-- a text that passes the test of an IPv6 reference is one
 pub reference-yes : (text : List ℕ) → is_v6_reference text ≡ true → Bracketed text
 reference-yes text pass = begins (past left_bracket text) refl pass
   where

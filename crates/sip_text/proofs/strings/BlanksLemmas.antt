@@ -51,7 +51,7 @@ lws-blank u (front, b, inr fold, one, whole) = (front, b, inr ([], front, many-n
 pub blanks-units : (text : List ℕ) → Many Blank text → Sws text
 blanks-units text many = some-many Lws text (many-map Blank Lws text lws-blank many)
 
--- the blank at the front of a text is the one that is measured
+-- where a blank stands at the front of a text, `blank_len` gives its length
 blank-at_front : (u v : List ℕ) → Blank u → blank_len (u ++ v) ≡ length u
 blank-at_front u v (front, b, inl none, one, whole) =
     let text : u ≡ one.0 ∷ [] = whole ∙ ap (λ t. t ++ b) none ∙ one.2 in
@@ -68,7 +68,7 @@ blank-moves u blank = omega (arith, ap length blank.4, length-append blank.0 bla
 abbrev fold_len : Bool → ℕ
 fold_len fold = cond fold 3 0
 
--- what is measured is a blank
+-- `blank_len` gives 0, or a blank of that length stands at the front of the text
 blank-piece : (text : List ℕ) → (blank_len text ≡ 0) ⊎ HasFront Blank text (blank_len text)
 blank-piece [] = inl refl
 blank-piece (a ∷ text) = at (is_wsp a) refl
@@ -89,11 +89,11 @@ blank-piece (a ∷ text) = at (is_wsp a) refl
     at true is = inr (a ∷ [], text, blank-wsp (a ∷ []) (a, is, refl), refl, refl)
     at false is = folds (begins_with_fold (a ∷ text)) refl
 
--- `blank_len` measures blanks
+-- `blank_len` measures the blank at the front of a text, and is 0 where there is none
 pub blank-step : IsStep Blank blank_len
 blank-step = record { at_piece = blank-at_front; moves = blank-moves; piece = blank-piece }
 
--- blanks that cannot go on are the longest blank run
+-- the first n bytes of a text are its longest blank run where they are blanks and no blank follows them
 pub longest-blanks : (text : List ℕ) (n : ℕ) → HasFront (Many Blank) text n → blank_len (drop n text) ≡ 0 → IsLongestFront Blanks text n
 longest-blanks text n front stops = record {
   front = elim (blanks-units front.0 front.2) [
@@ -105,7 +105,7 @@ longest-blanks text n front stops = record {
       (other.0, other.1, units-blanks other.0 other.2, other.3, other.4);
 }
 
--- the longest blank run is blanks that cannot go on
+-- the longest blank run of a text is blanks, and no blank follows it
 pub blanks-longest : (text : List ℕ) (n : ℕ) → IsLongestFront Blanks text n → HasFront (Many Blank) text n × (blank_len (drop n text) ≡ 0)
 blanks-longest text n run = (units, stops (blank_len (drop n text)) refl)
   where

@@ -19,14 +19,14 @@ use Rattle.sip_text.proofs.strings.BlanksLemmas.{units-blanks, blanks-units, bla
 abbrev IsPlain : ℕ → Type 0
 IsPlain b = (is_quoted_byte b ≡ false) × (nat_eq b backslash ≡ false)
 
--- a WSP is such a byte
+-- a WSP is no byte of qdtext, and begins no quoted pair
 plain_wsp : (b : ℕ) → is_wsp b ≡ true → IsPlain b
 plain_wsp b wsp = elim (or_cases (nat_eq b space) (nat_eq b tab) wsp) [
   | inl is ↦ subst IsPlain (sym (eqb-true b space is)) (refl, refl)
   | inr is ↦ subst IsPlain (sym (eqb-true b tab is)) (refl, refl)
 ]
 
--- at a blank the blank is measured
+-- where a blank stands at the front of a text, `item_len` gives what `blank_len` gives
 item-blank : (u v : List ℕ) → Blank u → item_len (u ++ v) ≡ blank_len (u ++ v)
 item-blank u v (front, b, inl none, one, whole) =
     let text : u ≡ one.0 ∷ [] = whole ∙ ap (λ t. t ++ b) none ∙ one.2 in
@@ -39,7 +39,7 @@ item-blank u v (front, b, inr fold, one, whole) =
     let text : u ≡ crlf ++ (one.0 ∷ []) = whole ∙ ap (λ t. t ++ b) fold ∙ ap (λ t. crlf ++ t) one.2 in
     ap (λ t. item_len (t ++ v)) text ∙ sym (ap (λ t. blank_len (t ++ v)) text)
 
--- the piece at the front of a text is the one that is measured
+-- where a piece of a quoted string stands at the front of a text, `item_len` gives its length
 item-at_front : (u v : List ℕ) → QuotedItem u → item_len (u ++ v) ≡ length u
 item-at_front u v (inl byte) =
     ap (λ t. item_len (t ++ v)) byte.2
@@ -59,7 +59,7 @@ item-moves u (inl byte) = omega (arith, ap length byte.2)
 item-moves u (inr (inl pair)) = omega (arith, ap length pair.4, length-append pair.0 pair.1, ap length pair.2)
 item-moves u (inr (inr blank)) = blank-step.moves u blank
 
--- what is measured is a piece
+-- `item_len` gives 0, or a piece of that length stands at the front of the text
 item-piece : (text : List ℕ) → (item_len text ≡ 0) ⊎ HasFront QuotedItem text (item_len text)
 item-piece [] = inl refl
 item-piece (a ∷ text) = at (is_quoted_byte a) refl
@@ -89,11 +89,11 @@ item-piece (a ∷ text) = at (is_quoted_byte a) refl
     at true is = inr (a ∷ [], text, inl (a, is, refl), refl, refl)
     at false is = pairs (begins_with_pair (a ∷ text)) refl
 
--- `item_len` measures the pieces
+-- `item_len` measures the piece at the front of a text, and is 0 where there is none
 pub item-step : IsStep QuotedItem item_len
 item-step = record { at_piece = item-at_front; moves = item-moves; piece = item-piece }
 
--- optional blanks are blanks
+-- what is empty or a blank run is blanks
 units-sws : (text : List ℕ) → Sws text → Many Blank text
 units-sws text (inl none) = subst (Many Blank) (sym none) (many-nil Blank)
 units-sws text (inr blanks) = units-blanks text blanks
@@ -131,13 +131,13 @@ length-quoted_text : (blanks items : List ℕ) → length (quoted_text blanks it
 length-quoted_text blanks items =
     omega (arith, length-append blanks (dquote ∷ (items ++ (dquote ∷ []))), length-append items (dquote ∷ []))
 
--- what follows a quoted string follows its last quote
+-- a quoted string and a rest are its blanks, a quote, its pieces, a quote and the rest
 quoted_text-append : (blanks items rest : List ℕ) → quoted_text blanks items ++ rest ≡ blanks ++ (dquote ∷ (items ++ (dquote ∷ rest)))
 quoted_text-append blanks items rest =
     append_assoc blanks (dquote ∷ (items ++ (dquote ∷ []))) rest
     ∙ ap (λ t. blanks ++ (dquote ∷ t)) (append_assoc items (dquote ∷ []) rest)
 
--- a quoted string at the front stands in quotes
+-- a quoted string at the front of a text is blanks, a quote, pieces and a quote, and has the length of these
 quotes-front : (text : List ℕ) (n : ℕ) → HasFront (Sws then Quoted) text n → (blanks : List ℕ) × (items : List ℕ) × (rest : List ℕ) × Quotes text blanks items rest × (n ≡ length blanks + length items + 2)
 quotes-front text n (u, v, (blanks, t, sws, (first, w, is_first, (items, last, contents, is_last, w_is), t_is), u_is), whole, n_is) = (
   blanks,
@@ -155,7 +155,7 @@ quotes-front text n (u, v, (blanks, t, sws, (first, w, is_first, (items, last, c
     spelled =
         u_is ∙ ap (λ x. blanks ++ x) (t_is ∙ ap (λ x. x ++ w) is_first ∙ ap (λ x. dquote ∷ x) (w_is ∙ ap (λ x. items ++ x) is_last))
 
--- what stands in quotes is a quoted string at the front
+-- blanks, a quote, pieces and a quote at the front of a text are a quoted string there
 front-quotes : (text blanks items rest : List ℕ) → Quotes text blanks items rest → HasFront (Sws then Quoted) text (length blanks + length items + 2)
 front-quotes text blanks items rest quotes = (
   quoted_text blanks items,
@@ -171,14 +171,14 @@ front-quotes text blanks items rest quotes = (
   sym (length-quoted_text blanks items),
 )
 
--- blanks end where a quote stands, and so do pieces
+-- the blanks of a quoted string are those at the front that no blank follows, and then its quote stands
 opens : (text : List ℕ) (n : ℕ) (blanks items rest : List ℕ) (front : HasFront (Many Blank) text n) → blank_len (drop n text) ≡ 0 → Quotes text blanks items rest → (front.0 ≡ blanks) × (drop n text ≡ dquote ∷ (items ++ (dquote ∷ rest)))
 opens text n blanks items rest front stops quotes =
     let at_rest = front-rest (Many Blank) text n front in
     let same = same_many Blank blank_len front.0 front.1 blanks (dquote ∷ (items ++ (dquote ∷ rest))) blank-step front.2 quotes.are_blanks (sym front.3 ∙ quotes.whole) (ap blank_len (sym at_rest) ∙ stops) refl in
     (same.0, at_rest ∙ same.1)
 
--- pieces end where the last quote stands
+-- the pieces of a quoted string are those after its first quote that no piece follows, and then its last quote stands
 closes : (text inner : List ℕ) (n k : ℕ) (blanks items rest : List ℕ) (front : HasFront (Many Blank) text n) (contents : HasFront (Many QuotedItem) inner k) → blank_len (drop n text) ≡ 0 → past dquote (drop n text) ≡ Some inner → item_len (drop k inner) ≡ 0 → Quotes text blanks items rest → (contents.0 ≡ items) × (drop k inner ≡ dquote ∷ rest)
 closes text inner n k blanks items rest front contents stops found ends quotes =
     let at_rest = front-rest (Many QuotedItem) inner k contents in
@@ -188,7 +188,7 @@ closes text inner n k blanks items rest front contents stops found ends quotes =
     let same = same_many QuotedItem item_len contents.0 contents.1 items (dquote ∷ rest) item-step contents.2 quotes.are_items (sym contents.3 ∙ inner_is) (ap item_len (sym at_rest) ∙ ends) refl in
     (same.0, at_rest ∙ same.1)
 
--- without a quote after the blanks there is no quoted string
+-- where no quote follows the longest blank run, no quoted string stands at the front of the text
 pub none-opens : (text : List ℕ) (n : ℕ) → HasFront (Many Blank) text n → blank_len (drop n text) ≡ 0 → past dquote (drop n text) ≡ None → IsOnlyFront (Sws then Quoted) text None
 none-opens text n front stops missing m quoted =
     let parse = quotes-front text m quoted in
@@ -196,7 +196,7 @@ none-opens text n front stops missing m quoted =
     let found = ap (past dquote) opened.1 in
     cc
 
--- without a quote after the pieces there is no quoted string
+-- where no quote follows the longest run of pieces after the first quote, no quoted string stands at the front of the text
 pub none-closes : (text inner : List ℕ) (n k : ℕ) → HasFront (Many Blank) text n → HasFront (Many QuotedItem) inner k → blank_len (drop n text) ≡ 0 → past dquote (drop n text) ≡ Some inner → item_len (drop k inner) ≡ 0 → past dquote (drop k inner) ≡ None → IsOnlyFront (Sws then Quoted) text None
 none-closes text inner n k front contents stops first ends missing m quoted =
     let parse = quotes-front text m quoted in
@@ -204,7 +204,7 @@ none-closes text inner n k front contents stops first ends missing m quoted =
     let found = ap (past dquote) closed.1 in
     cc
 
--- with both quotes there is the one that they enclose
+-- where a quote follows the blanks and another the pieces after it, the one quoted string at the front of the text ends there
 pub only-quoted : (text inner rest : List ℕ) (n k : ℕ) → HasFront (Many Blank) text n → HasFront (Many QuotedItem) inner k → blank_len (drop n text) ≡ 0 → past dquote (drop n text) ≡ Some inner → item_len (drop k inner) ≡ 0 → past dquote (drop k inner) ≡ Some rest → IsOnlyFront (Sws then Quoted) text (Some (n + k + 2))
 only-quoted text inner rest n k front contents stops first ends last =
     (subst (HasFront (Sws then Quoted) text) len (front-quotes text front.0 contents.0 rest quotes), only)

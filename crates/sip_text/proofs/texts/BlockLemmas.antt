@@ -16,24 +16,27 @@ IsBlock v = (length v ≡ 16) × Each1 (Fits w8) v
 abbrev pub down : ℕ → ℕ → ℕ
 down a b = a / 2 ^ b
 
+-- the shuffle by the upper halves of the bytes of a block is defined
 pub high_ok : (v : List ℕ) → IsBlock v → SwzOk w8 16 16 0 (zip2 down v (replicate 16 4))
 high_ok v fits =
     let small = Each1-weaker (λ a. a < 256) (λ a. a / 16 < 16) (λ a h. omega arith) v (below_from_Fits w8 v fits.1) in
     SwzOk-from_below w8 16 1 16 0 (zip2 down v (replicate 16 4)) refl (omega (arith, length-zip2 down v (replicate 16 4) fits.0))
     (Each1-zip2 down (λ j. j < 16) v (replicate 16 4) (Each2-splat (λ a b. down a b < 16) v 16 4 small))
 
+-- the shuffle by the lower halves of the bytes of a block is defined
 pub low_ok : (v : List ℕ) → IsBlock v → SwzOk w8 16 16 0 (zip2 bit_and v (replicate 16 15))
 low_ok v fits =
     let small = Each1-all (λ a. bit_and a 15 < 16) (λ a. omega (arith, and_le_r a 15)) v in
     SwzOk-from_below w8 16 1 16 0 (zip2 bit_and v (replicate 16 15)) refl (omega (arith, length-zip2 bit_and v (replicate 16 15) fits.0))
     (Each1-zip2 bit_and (λ j. j < 16) v (replicate 16 15) (Each2-splat (λ a b. bit_and a b < 16) v 16 15 small))
 
+-- each byte of a block is below 256
 lane_fits : (v : List ℕ) (i : ℕ) → Each1 (Fits w8) v → get_or v i 0 < 256
 lane_fits [] i h = omega arith
 lane_fits (x ∷ xs) zero h = h.0.fits
 lane_fits (x ∷ xs) (suc i) h = lane_fits xs i h.1
 
--- a table t of sixteen, read at places g x
+-- where the table t has sixteen entries, the shuffle of t by g x for each x of a block gives the entry of t at g x
 pub looked_up : (t : List ℕ) (g : ℕ → ℕ) (v js : List ℕ) → IsBlock v → js ≡ map g v → ((x : ℕ) → x < 256 → g x < 16) → swz_l w8 16 t 0 js ≡ map (λ x. get_or t (g x) 0) v
 looked_up t g v js fits e small =
     let long : length js ≡ 16 = ap length e ∙ length-map v g ∙ fits.0 in
@@ -51,34 +54,35 @@ by_low-is v fits = looked_up LOW (λ x. bit_and x 15) v _ fits (zip2_splat bit_a
 pub by_high-is : (v : List ℕ) → IsBlock v → swz_l w8 16 HIGH 0 (zip2 down v (replicate 16 4)) ≡ map (λ x. get_or HIGH (x / 16) 0) v
 by_high-is v fits = looked_up HIGH (λ x. x / 16) v _ fits (zip2_splat down v 16 4 fits.0) (λ x h. omega arith)
 
--- the two look-ups share a bit at a byte of a token alone
+-- the bits that the table of the lower halves and that of the upper halves share at a byte: 0 at a byte that is of no token
 abbrev pub shares : ℕ → ℕ
 shares x = bit_and (get_or LOW (bit_and x 15) 0) (get_or HIGH (x / 16) 0)
 
 pub shares-token : (x : ℕ) → x < 256 → not (eqb (shares x) 0) ≡ is_token_byte x
 shares-token x below = agree_below_at (λ y. not (eqb (shares y) 0)) is_token_byte 256 x refl below
 
--- tests that agree on each byte
+-- where two tests agree on each byte, the longest fronts that pass them are equally long
 pub prefix_len-agree : (p q : ℕ → Bool) → ((x : ℕ) → x < 256 → p x ≡ q x) → (v : List ℕ) → Each1 (Fits w8) v → prefix_len p v ≡ prefix_len q v
 prefix_len-agree p q same [] fits = refl
 prefix_len-agree p q same (x ∷ xs) fits = ap (λ b. cond b (1 + prefix_len p xs) 0) (same x fits.0.fits) ∙ ap (λ n. cond (q x) (1 + n) 0) (prefix_len-agree p q same xs fits.1)
 
--- the bytes that are of no token
+-- the mask of the bytes at which the two look-ups share no bit is the mask of the bytes that share none by `shares`
 pub others : (v a b : List ℕ) → a ≡ map (λ x. get_or LOW (bit_and x 15) 0) v → b ≡ map (λ x. get_or HIGH (x / 16) 0) v → mask_l (map (λ x. eqb x 0) (zip2 bit_and a b)) ≡ mask_l (map (λ x. eqb (shares x) 0) v)
 others v a b a_is b_is =
     ap (λ z. mask_l (map (λ x. eqb x 0) z)) (zip2_of_maps bit_and (λ x. get_or LOW (bit_and x 15) 0) (λ x. get_or HIGH (x / 16) 0) v a_is b_is)
     ∙ ap mask_l (map-map (λ x. eqb x 0) shares v)
 
+-- the two look-ups of a block of sixteen bytes, joined bit by bit, are sixteen
 pub long-and : (v a b : List ℕ) (f g : ℕ → ℕ) → length v ≡ 16 → a ≡ map f v → b ≡ map g v → length (zip2 bit_and a b) ≡ 16
 long-and v a b f g long a_is b_is =
     let left : length a ≡ 16 = ap length a_is ∙ length-map v f ∙ long in
     length-zip2 bit_and a b (left ∙ sym (ap length b_is ∙ length-map v g ∙ long)) ∙ left
 
--- the run of a block
+-- the run of bytes of a block at which the tables share a bit is its run of bytes of tokens
 pub block-run : (v : List ℕ) → Each1 (Fits w8) v → prefix_len (λ x. not (eqb (shares x) 0)) v ≡ prefix_len is_token_byte v
 block-run v fits = prefix_len-agree (λ x. not (eqb (shares x) 0)) is_token_byte shares-token v fits
 
--- from a block to the text
+-- where all bytes of a text before a block pass, and the first r bytes of the block do, all before `at + r` pass
 pub block-passes : (p : ℕ → Bool) (text : List ℕ) (at r : ℕ) → at + 16 ≤ length text → r ≡ prefix_len p (chunk at 16 text) → ((k : ℕ) → k < at → p (get_or text k 0) ≡ true) → (k : ℕ) → k < at + r → p (get_or text k 0) ≡ true
 block-passes p text at r room r_is before k below =
     elim (cases_lt k at) [
@@ -91,6 +95,7 @@ block-passes p text at r room r_is before k below =
           (prefix_len_passes p (chunk at 16 text) (k - at) 0 (omega (arith, below, r_is, high)))
     ]
 
+-- where fewer than all sixteen bytes of a block pass, the byte after those that do does not pass
 pub block-stops : (p : ℕ → Bool) (text : List ℕ) (at r : ℕ) → at + 16 ≤ length text → r ≡ prefix_len p (chunk at 16 text) → r < 16 → p (get_or text (at + r) 0) ≡ false
 block-stops p text at r room r_is short =
     let stops = prefix_len_stops p (chunk at 16 text) 0 (omega (arith, short, r_is, length-chunk at 16 text room)) in

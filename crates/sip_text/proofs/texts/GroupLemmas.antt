@@ -9,13 +9,13 @@ use Rattle.sip_text.specs.inner.Class.{is_in}
 use Rattle.sip_text.specs.inner.HostTests.{is_group}
 use Rattle.sip_text.proofs.texts.RunLemmas.{run-list_all, list_all-run}
 
--- as many bytes as pieces of one byte
+-- pieces of one byte each are as many as their bytes
 pub length-ones : (test : ℕ → Bool) (us : List (List ℕ)) → AllByRecursion (One test) us → length (concat us) ≡ length us
 length-ones test [] all = refl
 length-ones test (u ∷ us) all =
     omega (arith, length-append u (concat us), ap length all.0.2, length-ones test us all.1)
 
--- one to so many bytes of the class pass the test
+-- a text of one to `most` bytes of the class passes the test of a group
 pub group-between : (class : Class) (most : ℕ) (text : List ℕ) → Between 1 most (One (is_in class)) text → is_group class most text ≡ true
 group-between class most text many =
     let ones = length-ones (is_in class) many.0 many.1 in
@@ -25,7 +25,7 @@ group-between class most text many =
     (lt-ltb 0 (length text) (omega (arith, ones, len, many.3))) (le-leb (length text) most (omega (arith, ones, len, many.4))))
     (run-list_all (is_in class) text (many.0, many.1, many.2))
 
--- what passes the test is so many bytes of the class
+-- a text that passes the test of a group is one to `most` bytes of the class
 pub between-group : (class : Class) (most : ℕ) (text : List ℕ) → is_group class most text ≡ true → Between 1 most (One (is_in class)) text
 between-group class most text pass =
     let both = and_parts (nat_lt 0 (length text) && nat_le (length text) most) (list_all (is_in class) text) pass in

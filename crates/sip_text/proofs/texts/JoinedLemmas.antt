@@ -12,7 +12,7 @@ use Rattle.sip_text.proofs.texts.LacksLemmas.{AllLack}
 use Rattle.sip_text.proofs.texts.ManyLemmas.{many-nil, many-cons}
 use Rattle.sip_text.proofs.cuts.CutLemmas.{later_parts, parts-cut, parts-one, parts-mark}
 
--- where a text of P lacks the mark, each part of joined texts of P is one
+-- where texts of P lack the mark, each part of a text that is texts of P with the mark between them is a text of P
 pub parts-joined : (mark : ℕ) (P : List ℕ → Type 0) (text : List ℕ) → AllLack mark P → Joined mark P text → AllByRecursion P (parts mark text)
 parts-joined mark P text lack joined =
     subst (λ t. AllByRecursion P (parts mark t)) (sym (joined.4 ∙ ap (λ t. joined.0 ++ t) joined.3.2))
@@ -28,7 +28,7 @@ parts-joined mark P text lack joined =
         split : u ++ (v ++ concat us) ≡ u ++ (mark ∷ (all.0.1 ++ concat us))
         split = ap (λ t. u ++ (t ++ concat us)) (all.0.4 ∙ ap (λ t. t ++ all.0.1) all.0.2)
 
--- where each part is a text of P, the text is joined texts of P
+-- where each part is a text of P, the text is texts of P with the mark between them
 pub joined-parts : (mark : ℕ) (P : List ℕ → Type 0) (text : List ℕ) → AllByRecursion P (parts mark text) → Joined mark P text
 joined-parts mark P text all =
     let cut = parts-cut mark text in
@@ -46,24 +46,24 @@ joined-parts mark P text all =
           ap (λ t. u ++ (mark ∷ t)) rest.4,
         )
 
--- tests of P decide the texts joined of P
+-- where each text that passes the test is of P, and all texts of a list pass it, all are of P
 AllByRecursion-test : (test : List ℕ → Bool) (P : List ℕ → Type 0) (us : List (List ℕ)) → ((u : List ℕ) → test u ≡ true → P u) → list_all test us ≡ true → AllByRecursion P us
 AllByRecursion-test test P [] each all = tt
 AllByRecursion-test test P (u ∷ us) each all =
     let both = and_parts (test u) (list_all test us) all in
     (each u both.0, AllByRecursion-test test P us each both.1)
 
--- where P holds of each text, each passes the test
+-- where each text of P passes the test, and all texts of a list are of P, all pass it
 list_all-AllByRecursion : (test : List ℕ → Bool) (P : List ℕ → Type 0) (us : List (List ℕ)) → ((u : List ℕ) → P u → test u ≡ true) → AllByRecursion P us → list_all test us ≡ true
 list_all-AllByRecursion test P [] each all = refl
 list_all-AllByRecursion test P (u ∷ us) each all =
     and_from (test u) (list_all test us) (each u all.0) (list_all-AllByRecursion test P us each all.1)
 
--- where each part passes, the text is joined of P
+-- where each text that passes the test is of P, and all parts pass it, the text is texts of P with the mark between them
 pub joined-yes : (test : List ℕ → Bool) (mark : ℕ) (P : List ℕ → Type 0) (text : List ℕ) → ((u : List ℕ) → test u ≡ true → P u) → list_all test (parts mark text) ≡ true → Joined mark P text
 joined-yes test mark P text each all = joined-parts mark P text (AllByRecursion-test test P (parts mark text) each all)
 
--- where the text is joined of P, each part passes
+-- where texts of P lack the mark and pass the test, each part of a text that is texts of P with the mark between them passes
 pub joined-is : (test : List ℕ → Bool) (mark : ℕ) (P : List ℕ → Type 0) (text : List ℕ) → AllLack mark P → ((u : List ℕ) → P u → test u ≡ true) → Joined mark P text → list_all test (parts mark text) ≡ true
 joined-is test mark P text lack each joined =
     list_all-AllByRecursion test P (parts mark text) each (parts-joined mark P text lack joined)

@@ -6,20 +6,20 @@ use Rattle.std.proofs.lemmas.List.Folds.{concat-append}
 use Rattle.sip_standard.specs.Text.{Many, OneOrMore}
 use Rattle.sip_text.specs.Parts.{HasFront}
 
--- what holds of each piece of two lists holds of each piece of both
+-- what holds of each element of two lists holds of each element of the one after the other
 pub AllByRecursion-append : {X : Type 0} (P : X → Type 0) (us vs : List X) → AllByRecursion P us → AllByRecursion P vs → AllByRecursion P (us ++ vs)
 AllByRecursion-append P [] vs left right = right
 AllByRecursion-append P (u ∷ us) vs left right = (left.0, AllByRecursion-append P us vs left.1 right)
 
--- the empty text has no piece
+-- the empty text is any number of pieces: none
 pub many-nil : (P : List ℕ → Type 0) → Many P []
 many-nil P = ([], tt, refl)
 
--- a piece before pieces
+-- a piece and then any number of pieces are any number of pieces
 pub many-cons : (P : List ℕ → Type 0) (u v : List ℕ) → P u → Many P v → Many P (u ++ v)
 many-cons P u v one many = (u ∷ many.0, (one, many.1), ap (λ t. u ++ t) many.2)
 
--- pieces before pieces
+-- any number of pieces and then any number more are any number of pieces
 pub many-append : (P : List ℕ → Type 0) (u v : List ℕ) → Many P u → Many P v → Many P (u ++ v)
 many-append P u v left right = (
   left.0 ++ right.0,
@@ -27,24 +27,24 @@ many-append P u v left right = (
   ap (λ t. t ++ v) left.2 ∙ ap (λ t. concat left.0 ++ t) right.2 ∙ sym (concat-append left.0 right.0),
 )
 
--- one piece
+-- one piece is any number of pieces
 pub many-one : (P : List ℕ → Type 0) (u : List ℕ) → P u → Many P u
 many-one P u one = subst (Many P) (append-nil u) (many-cons P u [] one (many-nil P))
 
--- a piece after pieces
+-- any number of pieces and then one piece are any number of pieces
 pub many-push : (P : List ℕ → Type 0) (u v : List ℕ) → Many P u → P v → Many P (u ++ v)
 many-push P u v many one = many-append P u v many (many-one P v one)
 
--- one or more are many
+-- one or more pieces are any number of pieces
 pub many-some : (P : List ℕ → Type 0) (text : List ℕ) → OneOrMore P text → Many P text
 many-some P text some = subst (Many P) (sym some.4) (many-cons P some.0 some.1 some.2 some.3)
 
--- many are none, or one or more
+-- any number of pieces are none, or one or more
 pub some-many : (P : List ℕ → Type 0) (text : List ℕ) → Many P text → (text ≡ []) ⊎ OneOrMore P text
 some-many P text ([], all, whole) = inl whole
 some-many P text (u ∷ us, all, whole) = inr (u, concat us, all.0, (us, all.1, refl), whole)
 
--- pieces that are themselves pieces of another kind
+-- where each text of P is any number of texts of Q, any number of texts of P are any number of texts of Q
 pub many-flat : (P Q : List ℕ → Type 0) (text : List ℕ) → ((u : List ℕ) → P u → Many Q u) → Many P text → Many Q text
 many-flat P Q text each many = subst (Many Q) (sym many.2) (flat many.0 many.1)
   where
@@ -52,7 +52,7 @@ many-flat P Q text each many = subst (Many Q) (sym many.2) (flat many.0 many.1)
     flat [] all = many-nil Q
     flat (u ∷ us) all = many-append Q u (concat us) (each u all.0) (flat us all.1)
 
--- pieces of one kind are pieces of a wider kind
+-- where each text of P is a text of Q, any number of texts of P are any number of texts of Q
 pub many-map : (P Q : List ℕ → Type 0) (text : List ℕ) → ((u : List ℕ) → P u → Q u) → Many P text → Many Q text
 many-map P Q text each many = many-flat P Q text (λ u one. many-one Q u (each u one)) many
 
@@ -62,12 +62,12 @@ pub record IsStep (P : List ℕ → Type 0) (len : List ℕ → ℕ) : Type 0 wh
   pub moves : (u : List ℕ) → P u → 0 < length u
   pub piece : (text : List ℕ) → (len text ≡ 0) ⊎ HasFront P text (len text)
 
--- after the front stands what the front leaves
+-- u and v without the first `length u` bytes are v
 pub drop-front : (u v : List ℕ) → drop (length u) (u ++ v) ≡ v
 drop-front [] v = refl
 drop-front (b ∷ u) v = drop-front u v
 
--- what a front leaves
+-- a text without its first n bytes, which are of P, is the rest that this front leaves
 pub front-rest : (P : List ℕ → Type 0) (text : List ℕ) (n : ℕ) (front : HasFront P text n) → drop n text ≡ front.1
 front-rest P text n front =
     ap (λ m. drop m text) front.4 ∙ ap (drop (length front.0)) front.3 ∙ drop-front front.0 front.1
@@ -76,7 +76,7 @@ front-rest P text n front =
 pub front-within : (P : List ℕ → Type 0) (text : List ℕ) (n : ℕ) → HasFront P text n → n ≤ length text
 front-within P text n front = omega (arith, ap length front.3, length-append front.0 front.1, front.4)
 
--- the loop's step: one more piece after the pieces so far
+-- where n bytes of a text are pieces, and `len` measures k bytes more, the first n + k bytes are pieces
 pub run-more : (P : List ℕ → Type 0) (len : List ℕ → ℕ) (text : List ℕ) (n k : ℕ) → IsStep P len → HasFront (Many P) text n → k ≡ len (drop n text) → (k ≡ 0 → ⊥) → HasFront (Many P) text (n + k)
 run-more P len text n k step front k_is some =
     elim (step.piece front.1) [
@@ -104,7 +104,7 @@ append_cancel_both (a ∷ p) x (b ∷ q) y lens same =
     let rest = append_cancel_both p x q y (omega (arith, lens)) tails in
     (cc, rest.1)
 
--- the piece at the front of pieces is the one that `len` measures
+-- where a text begins with a piece u, `len` measures u there
 at_front : (P : List ℕ → Type 0) (len : List ℕ → ℕ) (u w v text : List ℕ) → IsStep P len → P u → text ≡ (u ++ w) ++ v → (len text ≡ length u) × (text ≡ u ++ (w ++ v))
 at_front P len u w v text step one whole =
     let flat : text ≡ u ++ (w ++ v) = whole ∙ append_assoc u w v in
@@ -116,7 +116,7 @@ no_piece P len u w v text step one stops whole =
     let measured = at_front P len u w v text step one whole in
     absurd (omega (arith, step.moves u one, measured.0, stops))
 
--- two texts that begin with one piece each, and are the same, begin with the same piece
+-- two texts that are equal, and begin with one piece each, begin with the same piece and go on with the same rest
 same_piece : (P : List ℕ → Type 0) (len : List ℕ → ℕ) (u w v x z y : List ℕ) → IsStep P len → P u → P x → (u ++ w) ++ v ≡ (x ++ z) ++ y → (u ≡ x) × (w ++ v ≡ z ++ y)
 same_piece P len u w v x z y step one other same =
     let left = at_front P len u w v _ step one refl in
@@ -135,14 +135,14 @@ same_pieces P len (u ∷ us) (x ∷ xs) v y step ones others same v_stops y_stop
     let rest = same_pieces P len us xs v y step ones.1 others.1 first.1 v_stops y_stops in
     (ap (λ t. t ++ concat us) first.0 ∙ ap (λ t. x ++ t) rest.0, rest.1)
 
--- a text has one run of pieces that cannot go on
+-- pieces at the front of a text that no piece follows are the same pieces in each reading of the text
 pub same_many : (P : List ℕ → Type 0) (len : List ℕ → ℕ) (u v x y : List ℕ) → IsStep P len → Many P u → Many P x → u ++ v ≡ x ++ y → len v ≡ 0 → len y ≡ 0 → (u ≡ x) × (v ≡ y)
 same_many P len u v x y step ones others same v_stops y_stops =
     let both = same_pieces P len ones.0 others.0 v y step ones.1 others.1
     (ap (λ t. t ++ v) (sym ones.2) ∙ same ∙ ap (λ t. t ++ y) others.2) v_stops y_stops in
     (ones.2 ∙ both.0 ∙ sym others.2, both.1)
 
--- a run that cannot go on is at least as long as any
+-- pieces at the front of a text that no piece follows are at least as long as any pieces at its front
 longest_pieces : (P : List ℕ → Type 0) (len : List ℕ → ℕ) (us xs : List (List ℕ)) (v y : List ℕ) → IsStep P len → AllByRecursion P us → AllByRecursion P xs → concat us ++ v ≡ concat xs ++ y → len v ≡ 0 → length (concat xs) ≤ length (concat us)
 longest_pieces P len us [] v y step ones others same stops = omega arith
 longest_pieces P len [] (x ∷ xs) v y step ones others same stops =

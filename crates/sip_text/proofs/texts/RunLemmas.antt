@@ -8,7 +8,7 @@ use Rattle.sip_standard.specs.Text.{One, Many, OneOrMore}
 use Rattle.sip_text.specs.Parts.{HasFront, IsLongestFront}
 use Rattle.sip_text.proofs.texts.ManyLemmas.{many-cons, many-nil, many-some, front-whole}
 
--- a run of bytes of the class passes the test throughout
+-- all bytes of a run of bytes of the class pass the test
 pub run-list_all : (test : ℕ → Bool) (text : List ℕ) → Many (One test) text → list_all test text ≡ true
 run-list_all test text many = ap (list_all test) many.2 ∙ go many.0 many.1
   where
@@ -17,14 +17,14 @@ run-list_all test text many = ap (list_all test) many.2 ∙ go many.0 many.1
     go (u ∷ us) all =
         ap (λ t. list_all test (t ++ concat us)) all.0.2 ∙ and_from _ _ all.0.1 (go us all.1)
 
--- a text that passes the test throughout is a run of bytes of the class
+-- a text all bytes of which pass the test is a run of bytes of the class
 pub list_all-run : (test : ℕ → Bool) (text : List ℕ) → list_all test text ≡ true → Many (One test) text
 list_all-run test [] all = many-nil (One test)
 list_all-run test (b ∷ text) all =
     let parts = and_parts (test b) (list_all test text) all in
     many-cons (One test) (b ∷ []) text (b, parts.0, refl) (list_all-run test text parts.1)
 
--- the front that passes is a run
+-- the first `prefix_len` bytes of a text are a run of bytes of the class
 pub run-front : (test : ℕ → Bool) (text : List ℕ) → HasFront (Many (One test)) text (prefix_len test text)
 run-front test [] = ([], [], many-nil (One test), refl, refl)
 run-front test (b ∷ text) = at (run-front test text) (test b) refl
@@ -39,7 +39,7 @@ run-front test (b ∷ text) = at (run-front test text) (test b) refl
     )
     at rest false is = ([], b ∷ text, many-nil (One test), refl, refl)
 
--- a front that is a run passes
+-- no run of bytes of the class at the front of a text is longer than `prefix_len`
 pub run-longest : (test : ℕ → Bool) (text : List ℕ) (n : ℕ) → HasFront (Many (One test)) text n → n ≤ prefix_len test text
 run-longest test text n front =
     let same : prefix_len test text ≡ prefix_len test (concat front.2.0 ++ front.1) =
@@ -54,7 +54,7 @@ run-longest test text n front =
         ∙ ap (λ passes. cond passes (1 + prefix_len test (concat us ++ v)) 0) all.0.1 in
         omega (arith, first, go us v all.1, ap (λ t. length (t ++ concat us)) all.0.2)
 
--- one or more bytes of the class: the longest front is what passes the test
+-- the longest front of a text that is one or more bytes of the class has the length `prefix_len`, and there is none where that is 0
 pub longest-run : (test : ℕ → Bool) (text : List ℕ) → IsLongestFront (OneOrMore (One test)) text (prefix_len test text)
 longest-run test text = record {
   front = front text;
@@ -78,7 +78,7 @@ longest-run test text = record {
         )
         at false is = inl refl
 
--- there is one longest front
+-- two longest fronts of one text are equally long
 pub longest-same : (P : List ℕ → Type 0) (text : List ℕ) (n m : ℕ) → IsLongestFront P text n → IsLongestFront P text m → n ≡ m
 longest-same P text n m one other = omega (arith, within n m one.front other, within m n other.front one)
   where

@@ -30,17 +30,17 @@ escaped-bytes text (mark, digits, is_mark, (u, v, (high, high_is, u_is), (low, l
       ∙ ap (λ t. percent ∷ t) (both ∙ ap (λ t. t ++ v) u_is ∙ ap (λ t. high ∷ t) v_is),
 )
 
--- three such bytes are an escape
+-- a "%" and two hexadecimal digits are an escape
 bytes-escaped : (high low : ℕ) → AreDigits high low → Escaped (percent ∷ high ∷ low ∷ [])
 bytes-escaped high low digits =
     (percent ∷ [], high ∷ low ∷ [], refl, (high ∷ [], low ∷ [], (high, digits.0, refl), (low, digits.1, refl), refl), refl)
 
--- the reader takes an escape off
+-- the text after the escape at the front of an escape and a rest is the rest
 strips-escape : (high low : ℕ) (rest : List ℕ) → AreDigits high low → behind_escape (percent ∷ high ∷ low ∷ rest) ≡ Some rest
 strips-escape high low rest digits =
     ap (λ t. if t then Some rest else None) (and_from (is_ascii_hexdigit high) (is_ascii_hexdigit low) digits.0 digits.1)
 
--- what the reader takes off is an escape
+-- a text that has a rest after an escape at its front is "%", two hexadecimal digits and that rest
 stripped-escape : (text rest : List ℕ) → behind_escape text ≡ Some rest → (high : ℕ) × (low : ℕ) × AreDigits high low × (text ≡ percent ∷ high ∷ low ∷ rest)
 stripped-escape [] rest is = cc
 stripped-escape (mark ∷ []) rest is = cc
@@ -56,7 +56,7 @@ stripped-escape (mark ∷ high ∷ low ∷ text) rest is = at _ refl is
         let rest_is : text ≡ rest = cc in
         (high, low, (first.1, last.1), ap (λ b. b ∷ high ∷ low ∷ text) mark_is ∙ ap (λ t. percent ∷ high ∷ low ∷ t) rest_is)
 
--- characters begin with a byte of the class or with an escape
+-- where characters are a byte and a text, the byte is of the class and the text is characters, or an escape begins and characters follow it
 chars-cons : (class : Class) (b : ℕ) (text : List ℕ) → Many (ClassChar class) (b ∷ text) → (IsTrue (is_in class b) × Many (ClassChar class) text) ⊎ ((rest : List ℕ) × (behind_escape (b ∷ text) ≡ Some rest) × (b ≡ percent) × Many (ClassChar class) rest)
 chars-cons class b text many =
     elim (some-many (ClassChar class) (b ∷ text) many) [
@@ -74,7 +74,7 @@ chars-cons class b text many =
       ]
     ]
 
--- after a byte of the class the rest is characters, too
+-- where "%" is not of the class, what follows a byte of the class at the front of characters is characters
 chars-tail : (class : Class) (b : ℕ) (text : List ℕ) → is_in class percent ≡ false → IsTrue (is_in class b) → Many (ClassChar class) (b ∷ text) → Many (ClassChar class) text
 chars-tail class b text no_percent test many =
     elim (chars-cons class b text many) [
@@ -82,7 +82,7 @@ chars-tail class b text no_percent test many =
       | inr (rest, _, is, _) ↦ absurd (both_ways (is_in class percent) no_percent (ap (is_in class) (sym is) ∙ test))
     ]
 
--- after bytes of the class, too
+-- where "%" is not of the class, what follows bytes of the class at the front of characters is characters
 chars-behind : (class : Class) (u v : List ℕ) → is_in class percent ≡ false → list_all (is_in class) u ≡ true → Many (ClassChar class) (u ++ v) → Many (ClassChar class) v
 chars-behind class [] v no_percent all many = many
 chars-behind class (b ∷ u) v no_percent all many =
@@ -102,7 +102,7 @@ pub record IsRun (test : ℕ → Bool) (text stop : List ℕ) : Type 0 where
   pub all : list_all test run ≡ true
   pub stops : (b : ℕ) (rest : List ℕ) → stop ≡ b ∷ rest → test b ≡ false
 
--- it is what `prefix_len` measures
+-- the text after its first `prefix_len` bytes is what the longest run of bytes of the class stops at
 run-cut : (test : ℕ → Bool) (text : List ℕ) → IsRun test text (drop (prefix_len test text) text)
 run-cut test [] = record { run = []; whole = refl; all = refl; stops = λ b rest is. cc }
 run-cut test (x ∷ text) = at (run-cut test text) (test x) refl
@@ -184,17 +184,17 @@ some-map P Q text each (u, v, one, more, whole) = (u, v, each u one, many-map P 
 abbrev pub CharOf : (ℕ → Bool) → List ℕ → Type 0
 CharOf own = One own or One is_unreserved or Escaped
 
--- the same, as bytes of a class and escapes
+-- one of the part's own / unreserved / escaped, as a byte of one class or an escape
 abbrev pub Own : (ℕ → Bool) → List ℕ → Type 0
 Own own = One (λ b. is_unreserved b || own b) or Escaped
 
--- a character is one of the class
+-- a character as `Char` has it is a byte of the class or an escape
 own-first : (own : ℕ → Bool) (u : List ℕ) → CharOf own u → Own own u
 own-first own u (inl (b, test, is)) = inl (b, or_right (is_unreserved b) (own b) test, is)
 own-first own u (inr (inl (b, test, is))) = inl (b, or_left (is_unreserved b) (own b) test, is)
 own-first own u (inr (inr escape)) = inr escape
 
--- a character that is a byte of the class or an escape is one of the form
+-- a byte of the class or an escape is a character as `Char` has it
 first-own : (own : ℕ → Bool) (u : List ℕ) → Own own u → CharOf own u
 first-own own u (inl (b, test, is)) =
     elim (or_cases (is_unreserved b) (own b) test) [
@@ -207,7 +207,7 @@ first-own own u (inr escape) = inr (inr escape)
 pub decides-some : (own : ℕ → Bool) (text : List ℕ) (r : Bool) → Decides r (OneOrMore (Own own) text) → Decides r (OneOrMore (CharOf own) text)
 decides-some own text r = Decides-like r (some-map _ _ text (first-own own)) (some-map _ _ text (own-first own))
 
--- a test of such characters, of which there may be none, is one of the form
+-- what decides any number of bytes of the class and escapes decides any number of characters
 pub decides-many : (own : ℕ → Bool) (text : List ℕ) (r : Bool) → Decides r (Many (Own own) text) → Decides r (Many (CharOf own) text)
 decides-many own text r = Decides-like r (many-map _ _ text (first-own own)) (many-map _ _ text (own-first own))
 

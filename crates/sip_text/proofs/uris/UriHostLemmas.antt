@@ -42,7 +42,7 @@ lack-v6 mark no_hex no_digit no_colon no_dot no_left no_right =
         (lack-optional mark _ (lack-then mark _ _ (lack-byte mark colon no_colon) (lack-v4 mark no_digit no_dot))))
         (lack-then mark _ _ opened (lack-v4 mark no_digit no_dot))
 
--- a byte that is in no host
+-- the byte stands in no host: it is no byte of a label, no hexadecimal digit, and no dot, colon or bracket
 pub record IsForeign (mark : ℕ) : Type 0 where
   pub label : is_label_byte mark ≡ false
   pub alphanumeric : is_ascii_alphanumeric mark ≡ false
@@ -54,25 +54,25 @@ pub record IsForeign (mark : ℕ) : Type 0 where
   pub of_left : nat_eq left_bracket mark ≡ false
   pub of_right : nat_eq right_bracket mark ≡ false
 
--- no host has it
+-- a host lacks each byte that is foreign to hosts
 pub lack-host : (mark : ℕ) (text : List ℕ) (host : HostParts) → IsForeign mark → HostText text host → Lacks mark text
 lack-host mark text (name host) foreign fits = lack-hostname mark foreign.of_dot foreign.alphabetic foreign.label foreign.alphanumeric text fits.0
 lack-host mark text (v4 host) foreign fits = lack-v4 mark foreign.digit foreign.of_dot text fits.0
 lack-host mark text (v6 host) foreign fits =
     lack-v6 mark foreign.hexdigit foreign.digit foreign.of_colon foreign.of_dot foreign.of_left foreign.of_right text fits.0
 
--- the text that a host says is the one it was read from
+-- the text that the parts of a host say is the text that has these parts
 pub host-spelled : (text : List ℕ) (host : HostParts) → HostText text host → host_text host ≡ text
 host-spelled text (name host) fits = fits.1
 host-spelled text (v4 host) fits = fits.1
 host-spelled text (v6 host) fits = fits.1
 
--- a text with the mark does not lack it
+-- u, the mark and v do not lack the mark
 has-mark : (mark : ℕ) (u v : List ℕ) → Lacks mark (u ++ mark ∷ v) → ⊥
 has-mark mark [] v lacks = both_ways (nat_eq mark mark) lacks.0 (eq-eqb mark mark refl)
 has-mark mark (b ∷ u) v lacks = has-mark mark u v lacks.1
 
--- the last byte of a text is in what ends it
+-- where a text ends with the mark, each end of the text that is not empty has the mark in it
 last-in : (mark b : ℕ) (x u v : List ℕ) → x ++ mark ∷ [] ≡ u ++ b ∷ v → Lacks mark (b ∷ v) → ⊥
 last-in mark b x [] v same lacks = has-mark mark x [] (subst (Lacks mark) (sym same) lacks)
 last-in mark b [] (c ∷ u) v same lacks =

@@ -16,7 +16,7 @@ use Rattle.sip_text.specs.declared.uri.Uri.{Uri}
 use Rattle.sip_text.proofs.texts.LacksLemmas.{Lacks, AllLack, lack-one, lack-then, lack-many}
 use Rattle.sip_text.proofs.cuts.CutLemmas.{cut-whole, before-led, behind-led}
 
--- what lacks ":" folded lacks it
+-- a text lacks ":" where it lacks it with its letters in lower case
 folded-lacks : (text : List ℕ) → Lacks colon (folded text) → Lacks colon text
 folded-lacks [] lacks = tt
 folded-lacks (b ∷ text) lacks = (at (nat_eq b colon) refl, folded-lacks text lacks.1)
@@ -37,37 +37,37 @@ scheme-lacks : AllLack colon Scheme
 scheme-lacks =
     lack-then colon _ _ (lack-one colon is_ascii_alphabetic refl) (lack-many colon _ (lack-one colon is_scheme_byte refl))
 
--- a text is secure or it is not
+-- a scheme that is one of "sip" and "sips" is one of them alone
 one-scheme : (scheme : List ℕ) (a b : Bool) → SameText scheme (scheme_name a) → SameText scheme (scheme_name b) → a ≡ b
 one-scheme scheme true true same also = refl
 one-scheme scheme false false same also = refl
 one-scheme scheme true false same also = let names = sym same ∙ also in cc
 one-scheme scheme false true same also = let names = sym same ∙ also in cc
 
--- a text is cut after its scheme
+-- the scheme of a text stands before its first ":", and the rest follows that ":"
 pub record IsSchemeCut (text scheme rest : List ℕ) : Type 0 where
   pub front : scheme ≡ before colon text
   pub later : Some rest ≡ behind colon text
 
--- which is the only way
+-- a name without ":", a ":" and a tail are cut into that name and that tail alone
 scheme-cut : (text scheme rest name tail : List ℕ) → IsSchemeCut text scheme rest → Lacks colon name → text ≡ name ++ colon ∷ tail → (name ≡ scheme) × (rest ≡ tail)
 scheme-cut text scheme rest name tail cut lacks whole =
     let front : before colon text ≡ name = ap (before colon) whole ∙ before-led colon name (Some tail) lacks in
     let behind_is : Some rest ≡ Some tail = cut.later ∙ ap (behind colon) whole ∙ behind-led colon name (Some tail) lacks in
     (sym front ∙ sym cut.front, cc)
 
--- the two parts of a cut at the scheme give the text
+-- a text is its scheme, ":" and the rest
 scheme-whole : (text scheme rest : List ℕ) → IsSchemeCut text scheme rest → text ≡ scheme ++ colon ∷ rest
 scheme-whole text scheme rest cut =
     cut-whole colon text ∙ ap (λ t. t ++ led colon (behind colon text)) (sym cut.front)
     ∙ ap (λ o. scheme ++ led colon o) (sym cut.later)
 
--- where a scheme was cut off a text
+-- where the reader finds a ":" in a text, the text before the first one is the scheme, and the text after it the rest
 pub scheme-at : (text scheme : List ℕ) (later : Option (Bor (List ℕ))) (rest : Bor (List ℕ)) → scheme ≡ before colon text → option_copied later ≡ behind colon text → later ≡ Some rest → IsSchemeCut text scheme rest.now
 scheme-at text scheme later rest front_is later_is some =
     record { front = front_is; later = ap option_copied (sym some) ∙ later_is }
 
--- after "sip" or "sips" the rest is read as a SIP URI's
+-- where a URI has the scheme "sip" or "sips", its rest is that of a SIP URI
 uri-sip : (secure : Bool) (text scheme rest : List ℕ) (x : UriParts) → IsSchemeCut text scheme rest → SameText scheme (scheme_name secure) → UriText text x → SipText secure rest x
 uri-sip secure text scheme rest (sip p) cut same (name, same_name, fits, whole) =
     let parts = scheme-cut text scheme rest name (sip_text p) cut (sip-lacks name p.secure same_name) whole in (
@@ -79,7 +79,7 @@ uri-sip secure text scheme rest (other name tail) cut same (is_scheme, not_sip, 
     let parts = scheme-cut text scheme rest name tail cut (scheme-lacks name is_scheme) whole in
     absurd (not_sip secure (subst (λ s. SameText s (scheme_name secure)) (sym parts.0) same))
 
--- the rest after the scheme of a SIP URI makes the whole one
+-- where the scheme is "sip" or "sips", and the rest is that of a SIP URI, the text is a URI
 sip-uri : (secure : Bool) (text scheme rest : List ℕ) (x : UriParts) → IsSchemeCut text scheme rest → SameText scheme (scheme_name secure) → SipText secure rest x → UriText text x
 sip-uri secure text scheme rest (sip p) cut same (secure_is, fits, rest_is) = (
   scheme,
@@ -89,7 +89,7 @@ sip-uri secure text scheme rest (sip p) cut same (secure_is, fits, rest_is) = (
 )
 sip-uri secure text scheme rest (other name tail) cut same none = absurd none
 
--- the value of the rest is that of the text
+-- where the scheme is "sip" or "sips", what is read of the rest is the one value that the text has as a URI
 pub read-sip : (secure : Bool) (text scheme rest : List ℕ) (result : Option Uri) → IsSchemeCut text scheme rest → SameText scheme (scheme_name secure) → IsOnlyValue (SipText secure) uri_parts rest result → IsOnlyValue UriText uri_parts text result
 read-sip secure text scheme rest None cut same none =
     λ x fits. none x (uri-sip secure text scheme rest x cut same fits)
@@ -98,21 +98,21 @@ read-sip secure text scheme rest (Some uri) cut same only = (
   λ x fits. only.1 x (uri-sip secure text scheme rest x cut same fits),
 )
 
--- a scheme that is one of the two, where it is told which
+-- a scheme that is one of "sip" and "sips" is the one that the test `is_sip` tells
 pub named-so : (is_sip : Bool) (scheme : List ℕ) → (is_sip ≡ true → SameText scheme (scheme_name false)) → (is_sip ≡ false → SameText scheme (scheme_name true)) → SameText scheme (scheme_name (not is_sip))
 named-so true scheme sip_named sips_named = sip_named refl
 named-so false scheme sip_named sips_named = sips_named refl
 
--- a scheme that is neither
+-- a scheme that is neither "sip" nor "sips" is the name of no SIP URI
 pub not-sip : (scheme : List ℕ) → (SameText scheme (scheme_name false) → ⊥) → (SameText scheme (scheme_name true) → ⊥) → (secure : Bool) → SameText scheme (scheme_name secure) → ⊥
 not-sip scheme not_sip not_sips true = not_sips
 not-sip scheme not_sip not_sips false = not_sip
 
--- after another scheme the URI is that scheme and the rest
+-- where the scheme is neither "sip" nor "sips", the text is a URI with the scheme and the rest as its parts
 pub other-fits : (text scheme rest : List ℕ) → IsSchemeCut text scheme rest → ((secure : Bool) → SameText scheme (scheme_name secure) → ⊥) → Scheme scheme → OneOrMore Uric rest → UriText text (other scheme rest)
 other-fits text scheme rest cut neither fits uric = (fits, neither, uric, scheme-whole text scheme rest cut)
 
--- a URI with another scheme is its scheme and its rest, and nothing else
+-- where the scheme is neither "sip" nor "sips", a URI's parts are its scheme and its rest, and nothing else
 pub other-only : (text scheme rest : List ℕ) (x : UriParts) → IsSchemeCut text scheme rest → ((secure : Bool) → SameText scheme (scheme_name secure) → ⊥) → UriText text x → Scheme scheme × OneOrMore Uric rest × (x ≡ other scheme rest)
 other-only text scheme rest (sip p) cut neither (name, same, _, whole) =
     let parts = scheme-cut text scheme rest name (sip_text p) cut (sip-lacks name p.secure same) whole in

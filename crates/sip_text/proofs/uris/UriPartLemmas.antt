@@ -19,7 +19,7 @@ use Rattle.sip_text.proofs.cuts.CutLemmas.{cut-whole, before-led, behind-led, la
 use Rattle.sip_text.proofs.uris.UriCharLemmas.{is_char_byte, lack-char}
 use Rattle.sip_text.proofs.texts.JoinedLemmas.{parts-joined, joined-parts}
 
--- P [ mark Q ]: cut at the mark
+-- where P lacks the mark, a text of P [ mark Q ] is of P before its first mark, and of Q after it if there is one
 pub cut-optional : (mark : ℕ) (P Q : List ℕ → Type 0) (text : List ℕ) → AllLack mark P → (P then Optional (Byte mark then Q)) text → P (before mark text) × IfSome (behind mark text) Q
 cut-optional mark P Q text lack (u, v, one, inl none, whole) =
     let same : text ≡ u ++ led mark None = whole ∙ ap (λ t. u ++ t) none in (
@@ -32,7 +32,7 @@ cut-optional mark P Q text lack (u, v, one, inr (m, w, is_mark, other, both), wh
       subst (λ o. IfSome o Q) (sym (ap (behind mark) same ∙ behind-led mark u (Some w) (lack u one))) other,
     )
 
--- the two parts of a text around a mark that may lack are put together again
+-- where a text is of P before its first mark, and of Q after it if there is one, it is of P [ mark Q ]
 pub optional-cut : (mark : ℕ) (P Q : List ℕ → Type 0) (text : List ℕ) → P (before mark text) → IfSome (behind mark text) Q → (P then Optional (Byte mark then Q)) text
 optional-cut mark P Q text one other = at (behind mark text) other (cut-whole mark text)
   where
@@ -40,7 +40,7 @@ optional-cut mark P Q text one other = at (behind mark text) other (cut-whole ma
     at None none whole = (before mark text, [], one, inl refl, whole)
     at (Some v) some whole = (before mark text, mark ∷ v, one, inr (mark ∷ [], v, refl, some, refl), whole)
 
--- P mark Q: the mark is there
+-- where P lacks the mark, a text of P mark Q has the mark, and is of P before the first one and of Q after it
 pub cut-then : (mark : ℕ) (P Q : List ℕ → Type 0) (text : List ℕ) → AllLack mark P → (P then Byte mark then Q) text → P (before mark text) × IsSomeAnd (behind mark text) Q
 cut-then mark P Q text lack (u, v, one, (m, w, is_mark, other, both), whole) =
     let same : text ≡ u ++ led mark (Some w) = whole ∙ ap (λ t. u ++ t) (both ∙ ap (λ t. t ++ w) is_mark) in (
@@ -48,7 +48,7 @@ cut-then mark P Q text lack (u, v, one, (m, w, is_mark, other, both), whole) =
       subst (λ o. IsSomeAnd o Q) (sym (ap (behind mark) same ∙ behind-led mark u (Some w) (lack u one))) other,
     )
 
--- the two parts of a text around a mark are put together again
+-- where a text has the mark, and is of P before the first one and of Q after it, it is of P mark Q
 pub then-cut : (mark : ℕ) (P Q : List ℕ → Type 0) (text : List ℕ) → P (before mark text) → IsSomeAnd (behind mark text) Q → (P then Byte mark then Q) text
 then-cut mark P Q text one other = at (behind mark text) other (cut-whole mark text)
   where
@@ -64,7 +64,7 @@ lack-param_word = lack-some equals ParamChar (lack-char equals is_param_unreserv
 lack-hname : AllLack equals (OneOrMore HeaderChar)
 lack-hname = lack-some equals HeaderChar (lack-char equals is_hnv_unreserved refl)
 
--- what decides its two parts decides a parameter
+-- what decides the name and the value of a parameter, cut at the first "=", decides the parameter
 pub decides-param : (text name : List ℕ) (value : Option (List ℕ)) (r : Bool) → name ≡ before equals text → value ≡ behind equals text → Decides r (ParamWord name × IfSome value ParamWord) → Decides r (UriParameter text)
 decides-param text name value r name_is value_is =
     Decides-like r
@@ -75,7 +75,7 @@ decides-param text name value r name_is value_is =
     let both = cut-optional equals ParamWord ParamWord text lack-param_word whole in
     (subst ParamWord (sym name_is) both.0, subst (λ o. IfSome o ParamWord) (sym value_is) both.1))
 
--- what decides its two parts decides a header
+-- what decides the name and the value of a header, cut at the first "=", decides the header
 pub decides-header : (text name : List ℕ) (value : Option (List ℕ)) (r : Bool) → name ≡ before equals text → value ≡ behind equals text → Decides r (OneOrMore HeaderChar name × IsSomeAnd value (Many HeaderChar)) → Decides r (Header text)
 decides-header text name value r name_is value_is =
     Decides-like r
@@ -90,11 +90,11 @@ decides-header text name value r name_is value_is =
 pub both-when : {P Q : Type 0} (x y : Bool) → x ≡ true → Decides x P → Decides y Q → Decides y (P × Q)
 both-when x y is first second = (λ yes_second. (first.0 is, second.0 yes_second), λ both. second.1 both.1)
 
--- where the first fails, neither holds
+-- where the test that decides P fails, it decides P and Q together
 pub both-unless : {P Q : Type 0} (x : Bool) → x ≡ false → Decides x P → Decides x (P × Q)
 both-unless x is first = (λ passes. absurd (both_ways x is passes), λ both. first.1 both.0)
 
--- where the second does not hold, both do not
+-- where Q does not hold, false decides P and Q together
 pub neither : {P Q : Type 0} → (Q → ⊥) → Decides false (P × Q)
 neither no_second = (λ is. absurd (false≢true is), λ both. absurd (no_second both.1))
 
@@ -102,7 +102,7 @@ neither no_second = (λ is. absurd (false≢true is), λ both. absurd (no_second
 pub decides-not : {P : Type 0} → (P → ⊥) → Decides false P
 decides-not none = (λ is. absurd (false≢true is), λ one. absurd (none one))
 
--- where there is no second, the first decides
+-- where nothing more is asked, what decides P decides all
 pub first-alone : {P : Type 0} (x : Bool) → Decides x P → Decides x (P × ⊤)
 first-alone x first = (λ is. (first.0 is, tt), λ both. first.1 both.0)
 
@@ -110,7 +110,7 @@ first-alone x first = (λ is. (first.0 is, tt), λ both. first.1 both.0)
 abbrev pub Each : ℕ → (List ℕ → Type 0) → List ℕ → Type 0
 Each mark P text = AllByRecursion P (parts mark text)
 
--- past a mark stands the rest
+-- a text that has a rest past the mark at its front is the mark and that rest
 past-is : (mark : ℕ) (text rest : List ℕ) → past mark text ≡ Some rest → text ≡ mark ∷ rest
 past-is mark [] rest is = cc
 past-is mark (b ∷ text) rest is = at (b == mark) refl is
@@ -119,7 +119,7 @@ past-is mark (b ∷ text) rest is = at (b == mark) refl is
     at false same is = cc
     at true same is = let tail : text ≡ rest = cc in ap (λ x. x ∷ text) (eqb-true b mark same) ∙ ap (λ t. mark ∷ t) tail
 
--- past a part of P and its mark, P holds of each part exactly if it did, and the rest is shorter
+-- where the first part is of P, all parts of what follows it are exactly if all parts of the text are, and what follows is shorter
 pub each-past : (mark : ℕ) (P : List ℕ → Type 0) (text part rest : List ℕ) → part ≡ before mark text → Some rest ≡ behind mark text → P part → (Each mark P rest ↔ Each mark P text) × (length rest < length text)
 each-past mark P text part rest part_is rest_is one =
     let split : parts mark text ≡ part ∷ parts mark rest =
@@ -135,7 +135,7 @@ each-past mark P text part rest part_is rest_is one =
       omega (arith, ap length whole, length-append part (mark ∷ rest)),
     )
 
--- a last part of P is each part
+-- where the first part is of P and no mark follows it, all parts of the text are of P
 pub each-last : (mark : ℕ) (P : List ℕ → Type 0) (text part : List ℕ) → part ≡ before mark text → None ≡ behind mark text → P part → Each mark P text
 each-last mark P text part part_is rest_is one =
     subst (AllByRecursion P)
@@ -143,7 +143,7 @@ each-last mark P text part part_is rest_is one =
     ∙ ap (λ o. part ∷ later_parts mark o) (sym rest_is)))
     (one, tt)
 
--- the first part is one of them
+-- where all parts of a text are of P, the first is
 pub each-first : (mark : ℕ) (P : List ℕ → Type 0) (text part : List ℕ) → part ≡ before mark text → Each mark P text → P part
 each-first mark P text part part_is each =
     subst P (sym part_is) (subst (AllByRecursion P) (parts-cut mark text) each).0
@@ -159,11 +159,11 @@ lack-ampersand =
 pub headers-each : (text : List ℕ) → Headers text → Each ampersand Header text
 headers-each text = parts-joined ampersand Header text lack-ampersand
 
--- texts between "&", each of which is a header, are headers
+-- a text of which each part between the "&" is a header is headers
 pub each-headers : (text : List ℕ) → Each ampersand Header text → Headers text
 each-headers text = joined-parts ampersand Header text
 
--- a byte of neither stands in no parameter
+-- a byte that is neither "=" nor a byte of a parameter's words stands in no parameter
 pub lack-param : (mark : ℕ) → is_char_byte is_param_unreserved mark ≡ false → nat_eq equals mark ≡ false → AllLack mark UriParameter
 lack-param mark no_char no_equals =
     let word = lack-some mark ParamChar (lack-char mark is_param_unreserved no_char) in
@@ -173,11 +173,11 @@ lack-param mark no_char no_equals =
 pub joined-each : (text : List ℕ) → Joined semicolon UriParameter text → Each semicolon UriParameter text
 joined-each text = parts-joined semicolon UriParameter text (lack-param semicolon refl refl)
 
--- texts between ";", each of which is a parameter, are parameters that are joined
+-- a text of which each part between the ";" is a parameter is parameters with ";" between them
 pub each-joined : (text : List ℕ) → Each semicolon UriParameter text → Joined semicolon UriParameter text
 each-joined text = joined-parts semicolon UriParameter text
 
--- parameters after the first ";" are joined by it
+-- where ";" and a text are the parameters of a URI, the text is parameters with ";" between them
 pub params-joined : (text : List ℕ) → UriParameters (semicolon ∷ text) → Joined semicolon UriParameter text
 params-joined text many =
     elim (some-many (Byte semicolon then UriParameter) (semicolon ∷ text) many) [
@@ -189,13 +189,13 @@ params-joined text many =
           (p, v, one, more, tail)
     ]
 
--- parameters that are joined are those of a URI after a ";"
+-- where a text is parameters with ";" between them, ";" and the text are the parameters of a URI
 pub joined-params : (text : List ℕ) → Joined semicolon UriParameter text → UriParameters (semicolon ∷ text)
 joined-params text (p, v, one, more, whole) =
     subst UriParameters (ap (λ t. semicolon ∷ t) (sym whole))
     (many-cons (Byte semicolon then UriParameter) (semicolon ∷ p) v (semicolon ∷ [], p, refl, one, refl) more)
 
--- parameters are none, or begin with a ";"
+-- the parameters of a URI are empty, or begin with ";"
 pub params-led : (text : List ℕ) → UriParameters text → (rest : Option (List ℕ)) × (text ≡ led semicolon rest)
 params-led text many =
     elim (some-many (Byte semicolon then UriParameter) text many) [
@@ -204,7 +204,7 @@ params-led text many =
           (Some (p ++ v), whole ∙ ap (λ t. t ++ v) (both ∙ ap (λ t. t ++ p) is_mark))
     ]
 
--- past the ";" at their front, what decides the rest decides parameters
+-- where ";" is first in a text, what decides whether the rest is parameters with ";" between them decides whether the text is those of a URI
 pub decides-params : (text params : List ℕ) (r : Bool) → Some params ≡ past semicolon text → Decides r (Joined semicolon UriParameter params) → Decides r (UriParameters text)
 decides-params text params r is =
     let same : text ≡ semicolon ∷ params = past-is semicolon text params (sym is) in

@@ -26,7 +26,7 @@ port-length text port =
     let len = ap length port.0.2 in
     (omega (arith, ones, len, port.0.3), omega (arith, ones, len, port.0.4))
 
--- each is a digit
+-- each byte of a port is a digit
 pub port-digit : (text : List ℕ) (k : ℕ) → Port text → k < length text → is_ascii_digit (get_or text k 0) ≡ false → ⊥
 port-digit text k port within other =
     both_ways (list_all is_ascii_digit text) (list_all_at is_ascii_digit text k 0 within other)
@@ -40,7 +40,7 @@ digits-port text low high all small =
     let len = ap length many.2 in
     ((many.0, many.1, many.2, omega (arith, ones, len), omega (arith, ones, len)), small)
 
--- what the loop knows of the digits before the index
+-- what the loop knows of the bytes before its index: all are digits, and they write the number
 pub record ReadsDigits (text : List ℕ) (at number : ℕ) : Type 0 where
   pub all : list_all is_ascii_digit (take at text) ≡ true
   pub value : number ≡ digits_value 10 (take at text)
@@ -54,7 +54,7 @@ digit-above c is =
     let high = leb-true c 57 both.1 in
     (low, high, digit_value_digit c (low, high))
 
--- one digit more
+-- where the byte at the index is a digit, the bytes up to it are digits, and write ten times the number and that digit
 pub digit-more : (text : List ℕ) (at number : ℕ) → at < length text → ReadsDigits text at number → is_ascii_digit (get_or text at 0) ≡ true → (list_all is_ascii_digit (take (at + 1) text) ≡ true) × (number * 10 + (get_or text at 0 - 48) ≡ digits_value 10 (take (at + 1) text))
 digit-more text at number within reads is =
     let digit = digit-above (get_or text at 0) is in (
@@ -68,7 +68,7 @@ pub port-large : (text : List ℕ) (at number : ℕ) → number ≡ digits_value
 port-large text at number is large port =
     omega (arith, is, large, port.1, digits_value-take-le 10 text at (omega arith))
 
--- at the end the digits are a port
+-- where the loop is at the end of one to five bytes, they are a port
 pub port-end : (text : List ℕ) (at number : ℕ) → 1 ≤ length text → length text ≤ 5 → length text ≤ at → ReadsDigits text at number → Port text
 port-end text at number low high end reads =
     let whole = take_all at text end in
@@ -90,7 +90,7 @@ no-port text none = (
       (subst Port (sym (ap (behind_last colon) whole ∙ behind_last-mark colon u v lacks)) port),
 )
 
--- where one does, it is cut off there
+-- where a port stands after the last ":", it is cut off there
 pub port-there : (text host port : List ℕ) → before_last colon text ≡ Some host → port ≡ behind_last colon text → Port port → IsPortCut text host (Some port)
 port-there text host port host_is port_is fits =
     (fits, last-whole colon text host host_is ∙ ap (λ t. host ++ colon ∷ t) (sym port_is))

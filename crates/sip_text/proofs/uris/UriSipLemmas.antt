@@ -35,17 +35,17 @@ uncut mark u lacks = (
   ap (behind mark) (sym (append-nil u)) ∙ behind-led mark u None lacks,
 )
 
--- of a missing part nothing need be shown
+-- where each text of P is of Q, an optional part that is of P is of Q
 weaker : (P Q : List ℕ → Type 0) (o : Option (List ℕ)) → ((u : List ℕ) → P u → Q u) → IfSome o P → IfSome o Q
 weaker P Q None each fits = tt
 weaker P Q (Some u) each fits = each u fits
 
--- what is none is None
+-- an optional part that is missing is None
 none-is : (o : Option (List ℕ)) → IsNone o → o ≡ None
 none-is None none = refl
 none-is (Some u) none = absurd (false≢true (sym none))
 
--- the userinfo of a text that spells one is cut off, and nothing else is
+-- where a text is the spelling of a userinfo and a tail, the reader cuts off that userinfo and leaves that tail
 pub info-agrees : (text : List ℕ) (user password : Option (List ℕ)) (rest : List ℕ) (owner key : Option (List ℕ)) (tail : List ℕ) → IsInfoCut text user password rest → text ≡ userinfo_text owner key ++ tail → IfSome owner (Lacks at_sign) → IfSome owner (Lacks colon) → IfSome key (Lacks at_sign) → (IsNone owner → IsNone key) → Lacks at_sign tail → (user ≡ owner) × (password ≡ key) × (rest ≡ tail)
 info-agrees text None password rest None key tail (_, password_is, rest_is) whole _ _ _ unowned _ =
     (refl, password_is ∙ sym (none-is key (unowned refl)), rest_is ∙ whole)
@@ -71,7 +71,7 @@ info-agrees text (Some user) password rest (Some owner) key tail (behind_is, use
       rest_same,
     )
 
--- the port of a text that spells a host and one is cut off, and nothing else is
+-- where a text is a host with a port or without one, the reader cuts it into that host and that port
 pub port-agrees : (text host : List ℕ) (port : Option (List ℕ)) (name : List ℕ) (parts : HostParts) (number : Option (List ℕ)) → IsPortCut text host port → HostText name parts → IfSome number Port → text ≡ name ++ led colon number → (host ≡ name) × (port ≡ number)
 port-agrees text host None name parts None (host_is, _) fits _ whole =
     (host_is ∙ whole ∙ append-nil name, refl)
@@ -94,11 +94,11 @@ port-agrees text host (Some port) name parts (Some number) (is_port, there) fits
 at_sign-foreign : IsForeign at_sign
 at_sign-foreign = record { label = refl; alphanumeric = refl; alphabetic = refl; hexdigit = refl; digit = refl; of_colon = refl; of_dot = refl; of_left = refl; of_right = refl }
 
--- "?", too
+-- "?" is in no host
 question-foreign : IsForeign question
 question-foreign = record { label = refl; alphanumeric = refl; alphabetic = refl; hexdigit = refl; digit = refl; of_colon = refl; of_dot = refl; of_left = refl; of_right = refl }
 
--- ";", too
+-- ";" is in no host
 semicolon-foreign : IsForeign semicolon
 semicolon-foreign = record { label = refl; alphanumeric = refl; alphabetic = refl; hexdigit = refl; digit = refl; of_colon = refl; of_dot = refl; of_left = refl; of_right = refl }
 
@@ -118,7 +118,7 @@ password-at_sign = lack-many at_sign _ (lack-char at_sign is_password_unreserved
 port-lacks : (mark : ℕ) → is_ascii_digit mark ≡ false → AllLack mark Port
 port-lacks mark no_digit port fits = lack-between mark 1 5 (One is_ascii_digit) (lack-one mark is_ascii_digit no_digit) port fits.0
 
--- parameters lack what is no byte of one
+-- parameters lack each byte that is neither ";" nor "=" nor a byte of a parameter's words
 params-lack : (mark : ℕ) → is_char_byte is_param_unreserved mark ≡ false → nat_eq equals mark ≡ false → nat_eq semicolon mark ≡ false → AllLack mark UriParameters
 params-lack mark no_char no_equals no_semicolon =
     lack-many mark _ (lack-then mark _ _ (lack-byte mark semicolon no_semicolon) (lack-param mark no_char no_equals))
@@ -131,7 +131,7 @@ headers-at_sign =
     (lack-then at_sign _ _ (lack-some at_sign _ char)
     (lack-then at_sign _ _ (lack-byte at_sign equals refl) (lack-many at_sign _ char)))
 
--- host and port lack what neither has
+-- a host with its port lacks each byte that is foreign to hosts
 hostport-lacks : (mark : ℕ) (host : HostParts) (port : Option (List ℕ)) → IsForeign mark → HostText (host_text host) host → IfSome port Port → Lacks mark (hostport_text host port)
 hostport-lacks mark host port foreign fits is_port =
     lacks-append mark (host_text host) (led colon port) (lack-host mark (host_text host) host foreign fits)
@@ -146,7 +146,7 @@ pub record Agrees (cut : CutParts) (p : SipParts) : Type 0 where
   pub params : cut.params ≡ p.params
   pub headers : cut.headers ≡ p.headers
 
--- of a text that spells parts that fit they are
+-- where a text spells parts that fit, the reader cuts it into these parts
 pub cuts-agree : (text : List ℕ) (cut : CutParts) (p : SipParts) → IsSipCut text cut → SipFits p → text ≡ sip_text p → Agrees cut p
 cuts-agree text cut p is fits whole =
     let hostport = hostport_text p.host p.port in
@@ -184,19 +184,19 @@ pub before-within : (mark : ℕ) (text front : List ℕ) → front ≡ before ma
 before-within mark text front is =
     omega (arith, ap length is, ap length (cut-whole mark text), length-append (before mark text) (led mark (behind mark text)))
 
--- bytes of a class without the mark
+-- where all bytes of a text are of a class without the mark, the text lacks it
 lacks-all : (mark : ℕ) (test : ℕ → Bool) (u : List ℕ) → test mark ≡ false → list_all test u ≡ true → Lacks mark u
 lacks-all mark test [] fails all = tt
 lacks-all mark test (b ∷ u) fails all =
     let both = and_parts (test b) (list_all test u) all in
     ((lack-one mark test fails (b ∷ []) (b, both.0, refl)).0, lacks-all mark test u fails both.1)
 
--- a text with the mark in it does not lack it
+-- u, the mark and v do not lack the mark
 not-lacks : (mark : ℕ) (u v : List ℕ) → Lacks mark (u ++ mark ∷ v) → ⊥
 not-lacks mark [] v lacks = both_ways (nat_eq mark mark) lacks.0 (eq-eqb mark mark refl)
 not-lacks mark (b ∷ u) v lacks = not-lacks mark u v lacks.1
 
--- after the userinfo stands a host alone, where no byte there ends one
+-- where all bytes after the userinfo are of a class without "?", ";" and ":", they are the host, and no other part follows
 pub host-cut : (test : ℕ → Bool) (text : List ℕ) (user password : Option (List ℕ)) (rest : List ℕ) → test question ≡ false → test semicolon ≡ false → test colon ≡ false → IsInfoCut text user password rest → list_all test rest ≡ true → IsSipCut text (record { user = user; password = password; host = rest; port = None; params = []; headers = None })
 host-cut test text user password rest no_question no_semicolon no_colon info all =
     let headers = uncut question rest (lacks-all question test rest no_question all) in
@@ -229,7 +229,7 @@ sip-cut text cut rest front hostport info front_is headers_is hostport_is port p
       port = subst (λ t. IsPortCut t cut.host cut.port) hostport_cut port;
     }
 
--- a text is its userinfo and what follows
+-- a text is its userinfo and the rest
 info-whole : (text : List ℕ) (user password : Option (List ℕ)) (rest : List ℕ) → IsInfoCut text user password rest → text ≡ userinfo_text user password ++ rest
 info-whole text None password rest (_, _, rest_is) = sym rest_is
 info-whole text (Some user) password rest (behind_is, user_is, password_is) =
@@ -249,7 +249,7 @@ port-whole : (text host : List ℕ) (port : Option (List ℕ)) → IsPortCut tex
 port-whole text host None (host_is, _) = sym host_is ∙ sym (append-nil host)
 port-whole text host (Some port) (_, whole) = whole
 
--- the port of a cut is a port
+-- the port that is cut off a host, where there is one, is a port
 port-fits : (text host : List ℕ) (port : Option (List ℕ)) → IsPortCut text host port → IfSome port Port
 port-fits text host None cut = tt
 port-fits text host (Some port) (fits, _) = fits
@@ -266,7 +266,7 @@ read_parts secure cut host = record {
   headers = cut.headers;
 }
 
--- parts that fit are those of the text
+-- where the parts that were cut fit, and the host was read of its text, the text is a SIP URI with these parts
 pub parts-fit : (secure : Bool) (text : List ℕ) (cut : CutParts) (host : HostParts) → IsSipCut text cut → InfoFits cut → TailFits cut → HostText cut.host host → SipText secure text (sip (read_parts secure cut host))
 parts-fit secure text cut host is info tail fits =
     let spelled = host-spelled cut.host host fits in
@@ -290,7 +290,7 @@ parts-fit secure text cut host is info tail fits =
       info-whole text cut.user cut.password is.rest is.userinfo ∙ ap (λ t. userinfo_text cut.user cut.password ++ t) whole,
     )
 
--- parts are the same where each is
+-- parts of a SIP URI are those that were read where each of them is
 same-parts : (p : SipParts) (secure : Bool) (cut : CutParts) (host : HostParts) → p.secure ≡ secure → Agrees cut p → p.host ≡ host → p ≡ read_parts secure cut host
 same-parts p secure cut host secure_is same host_is =
     ap (λ (s : Bool). read_parts s (cut_of p) p.host) secure_is
@@ -304,20 +304,20 @@ same-parts p secure cut host secure_is same host_is =
     cut_of : SipParts → CutParts
     cut_of q = record { user = q.user; password = q.password; host = cut.host; port = q.port; params = q.params; headers = q.headers }
 
--- parts that the text has are those that were cut
+-- where the host's text is one host alone, the parts that a SIP URI has are those that were cut
 pub parts-only : (secure : Bool) (text : List ℕ) (cut : CutParts) (host : HostParts) (x : UriParts) → IsSipCut text cut → ((y : HostParts) → HostText cut.host y → y ≡ host) → SipText secure text x → x ≡ sip (read_parts secure cut host)
 parts-only secure text cut host (sip p) is only (secure_is, fits, whole) =
     let same = cuts-agree text cut p is fits whole in
     ap sip (same-parts p secure cut host secure_is same (only p.host (subst (λ t. HostText t p.host) (sym same.host) fits.host)))
 parts-only secure text cut host (other scheme rest) is only none = absurd none
 
--- where no host was cut off, the text is no SIP URI
+-- where the text that was cut off as a host is none, the text is no SIP URI
 pub no-host_cut : (secure : Bool) (text : List ℕ) (cut : CutParts) (x : UriParts) → IsSipCut text cut → ((y : HostParts) → HostText cut.host y → ⊥) → SipText secure text x → ⊥
 no-host_cut secure text cut (sip p) is none (_, fits, whole) =
     none p.host (subst (λ t. HostText t p.host) (sym (cuts-agree text cut p is fits whole).host) fits.host)
 no-host_cut secure text cut (other scheme rest) is none not_sip = absurd not_sip
 
--- the parts of a SIP URI fit
+-- where a text is a SIP URI, the parts that are cut off it fit
 pub info-fits : (secure : Bool) (text : List ℕ) (cut : CutParts) (x : UriParts) → IsSipCut text cut → SipText secure text x → InfoFits cut × TailFits cut
 info-fits secure text cut (sip p) is (_, fits, whole) =
     let same = cuts-agree text cut p is fits whole in (

@@ -7,7 +7,7 @@ use Rattle.sip_text.specs.Bytes.{tab, space, carriage_return, line_feed, crlf}
 abbrev pub is_wsp : ℕ → Bool
 is_wsp byte = byte == space || byte == tab
 
--- a blank, and the CRLF of a fold before it if it has one
+-- a piece of a blank run: a WSP, and before it the CRLF of a fold if it has one
 abbrev pub Blank : List ℕ → Type 0
 Blank = Optional (Exactly crlf) then One is_wsp
 
@@ -16,7 +16,7 @@ abbrev pub begins_with_fold : List ℕ → Bool
 begins_with_fold text =
     slice_index text 0 == carriage_return && slice_index text 1 == line_feed && is_wsp (slice_index text 2)
 
--- the length of the blank at the front of the text, and 0 if there is none
+-- the length of the piece of a blank run at the front of the text, and 0 if there is none
 abbrev pub blank_len : List ℕ → ℕ
 blank_len text =
     if is_wsp (slice_index text 0) then 1 else (if begins_with_fold text then 3 else 0)

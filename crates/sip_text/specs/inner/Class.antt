@@ -30,7 +30,7 @@ is_unreserved = is_alphanum_or "-_.!~*'()"
 abbrev pub is_user_unreserved : ℕ → Bool
 is_user_unreserved = is_among "&=+$,;?/"
 
--- what a password has beside unreserved and escaped
+-- a byte that a password may have beside those of unreserved and escaped
 abbrev pub is_password_unreserved : ℕ → Bool
 is_password_unreserved = is_among "&=+$,"
 

@@ -1,4 +1,4 @@
--- The tests by which a host is read.
+-- The tests by which a host is read: each is named by the production that it tells (RFC 3261, section 25.1).
 use Rattle.std.specs.Prelude.{ℕ, Bool, false, ◌&&◌, ◌||◌, not, ◌+◌, ◌-◌, List, [], ◌∷◌, Option, None, Some, unwrap_or, length, drop, slice_index, nat_lt, nat_le, ◌==◌, if◌then◌else◌}
 use Rattle.std.specs.List.{list_all}
 use Rattle.std.specs.Option.{option_map_or}
@@ -9,11 +9,11 @@ use Rattle.sip_text.specs.Bytes.{hyphen, dot, colon, left_bracket, right_bracket
 use Rattle.sip_text.specs.inner.Class.{is_label_byte, is_in}
 use Rattle.sip_text.specs.inner.Cut.{before, behind, before_last, behind_last, parts, past, up_to}
 
--- a byte or more, and at most so many
+-- the text has one byte or more, and at most `most`
 abbrev pub has_len : ℕ → List ℕ → Bool
 has_len most text = nat_lt 0 (length text) && nat_le (length text) most
 
--- a byte of the class or more, and at most so many
+-- the text is one byte of the class or more, and at most `most`
 abbrev pub is_group : Class → ℕ → List ℕ → Bool
 is_group class most text = has_len most text && list_all (is_in class) text
 
@@ -21,11 +21,11 @@ is_group class most text = has_len most text && list_all (is_in class) text
 abbrev pub is_decimal : List ℕ → Bool
 is_decimal text = is_group variant.Digit 3 text
 
--- the text after 1*3DIGIT ".", if it begins so
+-- the text after 1*3DIGIT ".", if it begins with these
 abbrev pub past_decimal : List ℕ → Option (List ℕ)
 past_decimal text = if is_decimal (before dot text) then behind dot text else None
 
--- 1*3DIGIT "." and then what passes
+-- 1*3DIGIT "." and then a text that passes the test `later`
 abbrev pub is_decimal_dot : (List ℕ → Bool) → List ℕ → Bool
 is_decimal_dot later text = option_map_or later (past_decimal text) false
 
@@ -65,7 +65,7 @@ is_hexpart text =
     option_map_or (λ rest. is_optional_hexseq (before_double text) && is_optional_hexseq rest)
     (behind_double text) (is_hexseq text)
 
--- [ hexseq ] ":", a hexpart that ends with "::" but for its last ":"
+-- [ hexseq ] ":": a hexpart that ends with "::", without its last ":"
 abbrev pub is_open : List ℕ → Bool
 is_open text = option_map_or is_optional_hexseq (up_to colon text) false
 
@@ -104,7 +104,7 @@ is_label text = has_label_ends text && list_all is_label_byte text
 abbrev pub is_top_label : List ℕ → Bool
 is_top_label text = has_top_ends text && list_all is_label_byte text
 
--- *( domainlabel "." ) toplabel, by its parts
+-- *( domainlabel "." ) toplabel, by the parts between the dots
 abbrev pub are_labels : List (List ℕ) → Bool
 are_labels [] = false
 are_labels (label ∷ []) = is_top_label label

@@ -6,7 +6,7 @@ use Rattle.sip_text.specs.inner.Class.{is_quoted_byte, is_escaped_byte}
 use Rattle.sip_text.specs.inner.Blanks.{Blank, blank_len}
 use Rattle.sip_text.specs.inner.Pieces.{QuotedPair}
 
--- a byte of qdtext, a quoted pair, or a blank
+-- a piece of the contents of a quoted string: a byte of qdtext, a quoted pair, or a blank
 abbrev pub QuotedItem : List ℕ → Type 0
 QuotedItem = One is_quoted_byte or QuotedPair or Blank
 

@@ -16,7 +16,7 @@ use Rattle.sip_text.specs.declared.uri.Cuts.{Cuts}
 abbrev pub ClassChar : Class → List ℕ → Type 0
 ClassChar class = One (is_in class) or Escaped
 
--- what stands after the escape at the front
+-- the text after the escape at its front, if it begins with one
 abbrev pub behind_escape : List ℕ → Option (List ℕ)
 behind_escape (mark ∷ high ∷ low ∷ rest) =
     (if mark == percent && is_ascii_hexdigit high && is_ascii_hexdigit low then Some rest else None)
@@ -30,7 +30,7 @@ IsInfoCut text (Some user) password rest =
     (behind at_sign text ≡ Some rest)
     × (user ≡ before colon (before at_sign text)) × (password ≡ behind colon (before at_sign text))
 
--- [ ":" port ] is cut off, where the text ends with one
+-- [ ":" port ] is cut off where the text ends with one, and nothing is where it does not
 abbrev pub IsPortCut : List ℕ → List ℕ → Option (List ℕ) → Type 0
 IsPortCut text host None =
     (host ≡ text) × ((u v : List ℕ) → Port v → text ≡ u ++ colon ∷ v → ⊥)
@@ -56,8 +56,8 @@ cut_parts cuts = record {
   headers = option_copied cuts.headers;
 }
 
--- what follows the scheme of a SIP URI is cut into these parts, after the userinfo at the first
--- "?" and then at the first ";"
+-- what follows the scheme of a SIP URI is cut into these parts: the userinfo is cut off, and the rest is cut at its first "?" and
+-- then at its first ";"
 pub record IsSipCut (text : List ℕ) (cut : CutParts) : Type 0 where
   pub rest : List ℕ
   pub userinfo : IsInfoCut text cut.user cut.password rest

@@ -1,4 +1,4 @@
--- Until when the transactions of a judge can wait: up to the earliest last moment on record.
+-- All transactions of a judge can wait until the earliest last moment on record, and not longer.
 use Rattle.std.proofs.Common.{◌≡◌, ◌≤◌, ◌+◌, ◌∙◌, ◌↔◌, ℕ, true, false, Option, Some, None, IsTrue, List, All, position, get_or, slice_get, refl, sym, subst, arith}
 use Rattle.std.specs.Option.{option_map}
 use Rattle.std.proofs.lemmas.Bool.{false≢true}
@@ -24,11 +24,11 @@ use Rattle.sip_verdict.proofs.tables.TablesPassing.{at_place, All-place, All-pla
 
 module _ (texts : Texts) (t : Tabled) (es : List (Observation KeyParts)) (from : ℕ) (may : MayPass texts t from) (recorded : AllAreOnRecord t) (tracks : TablesTrack texts es t) (moment : ℕ)
     (newest : newest_moment es ≤ moment) (later : from ≤ moment) where
-  -- a key has a run that stands at the moment
+  -- the key has a run over the entries that stands at the moment
   abbrev Runs : KeyParts → Type 0
   Runs key = StandsUntil t.times (machine_of_key t.times.rules key) (events_for key es) moment
 
-  -- a key, its set and its last moment on record
+  -- What follows is of one key, its set and its last moment on record.
   module _ (n : ℕ) (key : KeyParts) (s : AnySet) (at : slice_get t.keys n ≡ Some key) (here : slice_get t.sets n ≡ Some s) where
     leads : LeadsOf texts t.times (machine_of_key t.times.rules key) (events_for key es) (newest_moment es) s
     leads = All-place (IsReady (key_keeping texts t.times) es) (transactions_of t) n (key, s) (zip-place t.keys t.sets n key s at here) tracks.ready
@@ -36,21 +36,21 @@ module _ (texts : Texts) (t : Tabled) (es : List (Observation KeyParts)) (from :
     low : moment_of s ≤ moment
     low = let h = All-place (λ x. moment_of x ≤ from) t.sets n s here may.order in omega (arith, h, later)
 
-    -- after its last moment it has none
+    -- a key whose last moment on record is past has no run that stands at the moment
     late : (r : Option (Option ℕ)) → slice_get t.records n ≡ Some r → is_overdue moment r ≡ true → ¬ Runs key
     late None on is = absurd (false≢true is)
     late (Some limit) on is = λ run.
         overdue_none texts t.times (machine_of_key t.times.rules key) (events_for key es) (newest_moment es) s leads limit (recorded.each n s (Some limit) here on) moment newest low is
         (stands-run t.times (machine_of_key t.times.rules key) (events_for key es) moment run)
 
-    -- a key whose last moment is not past has a run
+    -- a key whose last moment on record is not past has a run that stands at the moment
     in_time : (r : Option (Option ℕ)) → slice_get t.records n ≡ Some r → is_overdue moment r ≡ false → Runs key
     in_time None on is = absurd (false≢true (recorded.each n s None here on))
     in_time (Some limit) on is =
         run-stands t.times (machine_of_key t.times.rules key) (events_for key es) moment
         (in_time_some texts t.times (machine_of_key t.times.rules key) (events_for key es) (newest_moment es) s leads limit (recorded.each n s (Some limit) here on) moment newest low is)
 
-  -- each key has a set and a place for its last moment
+  -- each key has a set and a last moment on record
   set_of_key : (n : ℕ) (key : KeyParts) → slice_get t.keys n ≡ Some key → (s : AnySet) × (slice_get t.sets n ≡ Some s)
   set_of_key n key at = at_place t.sets n (let within = slice_get_within t.keys n key at in let long = may.long in omega arith)
 
@@ -60,7 +60,7 @@ module _ (texts : Texts) (t : Tabled) (es : List (Observation KeyParts)) (from :
   keys_of_all : t.keys ≡ keys_in es
   keys_of_all = sym (keys_are t may.long) ∙ tracks.keys
 
-  -- where nothing is overdue, each has a run
+  -- where no last moment is past, each transaction can wait until the moment
   none_waits : due_of t moment ≡ None → CanWaitUntil t.times es moment
   none_waits none = subst (All Runs) keys_of_all (All-places Runs t.keys (λ n key at. let (s, here) = set_of_key n key at in let (r, on) = record_of_key n key at in in_time n key s at here r on (nothing (position (is_overdue moment) t.records) refl none n r on)))
     where
@@ -68,7 +68,7 @@ module _ (texts : Texts) (t : Tabled) (es : List (Observation KeyParts)) (from :
       nothing None is e n r on = not_passing (is_overdue moment r) (All-place (λ x. ¬ (IsTrue (is_overdue moment x))) t.records n r on (All-position_None (is_overdue moment) t.records is))
       nothing (Some i) is e n r on = absurd cc
 
-  -- where each key has a run, none is overdue
+  -- where each transaction can wait until the moment, no last moment is past
   waits_none : CanWaitUntil t.times es moment → due_of t moment ≡ None
   waits_none waits = go (position (is_overdue moment) t.records) refl
     where
@@ -80,11 +80,11 @@ module _ (texts : Texts) (t : Tabled) (es : List (Observation KeyParts)) (from :
           let (s, here) = set_of_key i key at in
           absurd (late i key s at here (get_or t.records i None) (slice_get-get_or t.records i None found.0) found.1 (All-place Runs t.keys i key at (subst (All Runs) (sym keys_of_all) waits)))
 
-  -- all can wait up to the earliest of the last moments
+  -- where P holds exactly if no last moment is past, each transaction can wait until the moment exactly if P holds
   pub waits_until : (P : Type 0) → ((due_of t moment ≡ None) ↔ P) → CanWaitUntil t.times es moment ↔ P
   waits_until P due = (λ waits. due.0 (waits_none waits), λ h. none_waits (due.1 h))
 
--- until when all transactions of a judge can wait
+-- for a judge that may take the next entry, all transactions can wait until a moment exactly if no last moment on record is past at it
 pub judge_waits : (j : Judging) (es : List (Observation KeyParts)) → StandsFor j es → MayTake j.texts j.tables (j.number + 1) j.moment → (moment : ℕ) → j.moment ≤ moment
     → (P : Type 0) → ((due_of j.tables moment ≡ None) ↔ P) → CanWaitUntil j.tables.times es moment ↔ P
 judge_waits j es stands may moment later P due =

@@ -1,4 +1,4 @@
--- How the entries that were read tell of the input.
+-- What the entries that were read say of the whole log of the input.
 use Rattle.std.proofs.Common.{inl, inr, refl, Option, IfSome, List, [], ◌∷◌, ◌++◌, ℕ, sym, subst, append_assoc}
 use Rattle.std.proofs.lemmas.List.{append-nil}
 use Rattle.sip_standard.specs.Key.{KeyParts}
@@ -15,7 +15,7 @@ use Rattle.sip_verdict.specs.LegalLog.{IsGood}
 use Rattle.sip_verdict.specs.inner.Walking.{HasRead}
 use Rattle.sip_verdict.proofs.listings.WalkingLemmas.{read_log}
 
--- one more is observed of one more
+-- items that are seen as entries, with one item more that is seen after them, are seen as the entries and that of the one more
 pub seen-push : (before : List (Observation KeyParts)) (xs : List Item) (es : List (Observation KeyParts)) (x : Item) (e : Observation KeyParts) → AreSeen before xs es → Sees (before ++ es) x e
     → AreSeen before (xs ++ x ∷ []) (es ++ e ∷ [])
 seen-push before [] [] x e a s = (subst (λ fs. Sees fs x e) (append-nil before) s, tt)
@@ -24,7 +24,7 @@ seen-push before (y ∷ xs) [] x e a s = elim a [ ]
 seen-push before (y ∷ xs) (f ∷ es) x e a s =
     (a.0, seen-push (before ++ f ∷ []) xs es x e a.1 (subst (λ fs. Sees fs x e) (sym (append_assoc before (f ∷ []) es)) s))
 
--- after entries in no trouble, the verdict of what is left is that of all
+-- a verdict of the items that are left after entries in no trouble is the verdict of all items
 pub judges_front : (p : Times) (end : LogEnd) (v : Verdict) (before : List (Observation KeyParts)) (items rest : List Item) (es : List (Observation KeyParts)) → AreSeen before items es → IsGood p (before ++ es) →
     IsVerdictAfter p (before ++ es) rest end v → IsVerdictAfter p before (items ++ rest) end v
 judges_front p end v before [] rest [] seen good left = subst (λ fs. IsVerdictAfter p fs rest end v) (append-nil before) left
@@ -44,7 +44,7 @@ judges_front p end v before (item ∷ items) rest (e ∷ es) seen good left =
     )
 
 module _ (p : Times) (start : Option (List ℕ)) (items : List Item) (es : List (Observation KeyParts)) (observed : AreSeen [] items es) (good : IsGood p es) where
-  -- a verdict after the entries that were judged is that of the log
+  -- a verdict after the entries that were judged is the verdict of each input whose log has them first
   goes_on : (rest : List Item) (end : LogEnd) (v : Verdict) → IsVerdictAfter p es rest end v → (input : List ℕ) → LogSays input p (items ++ rest) end → IsVerdictOf input v
   goes_on rest end v left input is = inr (p, items ++ rest, end, is, judges_front p end v [] items rest es observed good left)
 
@@ -54,7 +54,7 @@ module _ (p : Times) (start : Option (List ℕ)) (items : List Item) (es : List 
       IfSome-map start (λ input. LogSays input p items end) (λ input. IsVerdictOf input v)
       (λ input is. goes_on [] end v left input (subst (λ all. LogSays input p all end) (sym (append-nil items)) is)) logs
 
-  -- the next one is in trouble
+  -- where the next item is in trouble, each input whose log has the items and it first has the verdict of that trouble
   pub judged_trouble : (i : Item) (new : log.ReaderState) → HasRead start p (items ++ i ∷ []) new → (e : Observation KeyParts) → Sees es i e → (v : Verdict) → HasTrouble p es e v
       → IfSome start (λ input. IsVerdictOf input v)
   judged_trouble i new read e seen v is =

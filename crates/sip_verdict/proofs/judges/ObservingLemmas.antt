@@ -1,4 +1,4 @@
--- What the judge is told of an entry is what is observed of it.
+-- What a judge is told of an entry is what is observed of it.
 use Rattle.std.specs.Prelude.{not, codes, bytes_eq, is_some, option_map, option_to_list, if◌then◌else◌}
 use Rattle.std.proofs.Common.{◌≡◌, ◌≢◌, ◌≤◌, ◌&&◌, ℕ, Bool, true, false, Option, Some, None, MatchOption, List, [], ◌++◌, refl, sym, ap, ◌∙◌, subst}
 use Rattle.std.proofs.lemmas.Bool.{false≢true}
@@ -43,7 +43,7 @@ observes_silent before item stays =
     let e = silent_observation item.action item.moment (keys_in before) in
     subst (λ d. MatchOption d (e ≡ silent_observation item.action item.moment (keys_in before)) (λ way. ObservesMessage way item e)) (sym stays) refl
 
--- it is that of a mark, or of a restart; so it is told
+-- what is told of an entry without a message is observed as a mark, or as a restart of all keys so far
 pub silent_observed : (texts : Texts) (es : List (Observation KeyParts)) (item : Item) → direction_of item.action ≡ None
     → IsObserved texts es item (silent_told item.action) (silent_observation item.action item.moment (keys_in es))
 silent_observed texts es item stays = go item.action stays
@@ -55,6 +55,7 @@ silent_observed texts es item stays = go item.action stays
     go Mark stays = (refl, refl, refl)
     go Restart stays = refl
 
+-- where an entry has no message, what is told of it fits any book
 pub silent_heard : (texts : Texts) (moment : ℕ) (a : Action) → IsHeard texts moment (silent_told a)
 silent_heard texts moment Sent = tt
 silent_heard texts moment Received = tt
@@ -62,7 +63,7 @@ silent_heard texts moment Failed = tt
 silent_heard texts moment Mark = tt
 silent_heard texts moment Restart = tt
 
--- before the first entry, it concerns no key
+-- before the first entry, an entry without a message concerns no key
 silent_none : (item : Item) → direction_of item.action ≡ None → ConcernsNone item
 silent_none item stays = (silent_observation item.action item.moment [], observes_silent [] item stays, go item.action)
   where
@@ -73,6 +74,7 @@ silent_none item stays = (silent_observation item.action item.moment [], observe
     go Mark = refl
     go Restart = refl
 
+-- where an entry has no message, the book stays as it is, as what is told of the entry says
 pub silent_kept : (old new : Texts) (entry : Entry) → direction_of entry.action ≡ None → new ≡ old → IsKept old new entry (silent_told entry.action)
 silent_kept old new entry stays same = go entry.action refl
   where
@@ -83,14 +85,14 @@ silent_kept old new entry stays same = go entry.action refl
     go Mark is = same
     go Restart is = (same, silent_none (item entry) stays)
 
--- an entry whose message went some way is no mark, and no restart
+-- an entry whose message went some way is neither a mark nor a restart
 pub going : (action : Action) (direction : Direction) → direction_of action ≡ Some direction → action ≡ Mark → ⊥
 going action direction goes mark = let e : None ≡ Some direction = sym (ap direction_of mark) ∙ goes in cc
 
 pub going_on : (action : Action) (direction : Direction) → direction_of action ≡ Some direction → action ≡ Restart → ⊥
 going_on action direction goes restart = let e : None ≡ Some direction = sym (ap direction_of restart) ∙ goes in cc
 
--- it has a message
+-- an entry whose message went some way has a message
 pub going_says : (action : Action) (direction : Direction) → direction_of action ≡ Some direction → has_message action ≡ true
 going_says Sent direction goes = refl
 going_says Received direction goes = refl
@@ -98,20 +100,20 @@ going_says Failed direction goes = refl
 going_says Mark direction goes = cc
 going_says Restart direction goes = cc
 
--- a fault of its bytes
+-- where the bytes of a message have a fault, the fault is observed of the message
 pub observes_fault : (item : Item) (direction : Direction) (text : List ℕ) (fault : Fault) → text ≡ item.text → Says text (stops fault) → ObservesMessage direction item (fault_observation item fault)
 observes_fault item direction text fault same has = has_fault fault (subst (λ t. Says t (stops fault)) same has) refl
 
--- that it lacks the cookie
+-- where a request that is sent lacks the cookie, this fault is observed of the message
 pub observes_no_cookie : (item : Item) (direction : Direction) (text : List ℕ) (r : message.Reading) → text ≡ item.text → Reads text r → lacks_cookie (said_of r) direction ≡ true
     → ObservesMessage direction item (fault_observation item no_cookie)
 observes_no_cookie item direction text r same reads lacks = has_no_cookie (said_of r) (subst (λ t. Says t (gives (said_of r))) same reads.says) lacks refl
 
--- of a message that concerns no key its event
+-- what is observed of a message that concerns no key: its event without keys
 abbrev pub keyless_observation : Item → Said → Observation KeyParts
 keyless_observation item s = record { fault = None; event = message_event item s; keys = [] }
 
--- that it concerns no key
+-- of a message that concerns no key, an event without keys is observed
 pub observes_none : (item : Item) (direction : Direction) (text : List ℕ) (r : message.Reading) → text ≡ item.text → Reads text r → lacks_cookie (said_of r) direction ≡ false → Concerns (said_of r) direction []
     → ObservesMessage direction item (keyless_observation item (said_of r))
 observes_none item direction text r same reads has concerns = is_heard (said_of r) [] (subst (λ t. Says t (gives (said_of r))) same reads.says) has concerns refl
@@ -120,7 +122,7 @@ observes_none item direction text r same reads has concerns = is_heard (said_of 
 abbrev pub event_of : Item → message.Reading → ℕ → NumberedEvent
 event_of item r number = record { moment = item.moment; action = item.action; number = number; kind = kind_of r.message.start; reliable = is_reliable r.parts.via.1.transport }
 
--- its event and its keys
+-- of a message that was read, its event is observed with the keys that it concerns
 pub observes_heard : (item : Item) (direction : Direction) (text : List ℕ) (r : message.Reading) (texts : Texts) (event : NumberedEvent) (number : ℕ) (keys : List KeyParts) → text ≡ item.text → Reads text r
     → lacks_cookie (said_of r) direction ≡ false → Concerns (said_of r) direction keys → event ≡ event_of item r number → text_of texts number ≡ item.text
     → ObservesMessage direction item (record { fault = None; event = event_in texts event; keys = keys })
@@ -135,21 +137,21 @@ pub event_fits : (item : Item) (r : message.Reading) (texts : Texts) (event : Nu
     → FitsBook texts event × (event.moment ≡ item.moment)
 event_fits item r texts event number is keeps limit = (subst (FitsBook texts) (sym is) (record { keeps = λ _. keeps; limit = limit }), ap (λ e. e.moment) is)
 
--- it is kept under its number
+-- the message of the event is kept under the event's number
 pub event_kept : (item : Item) (r : message.Reading) (texts : Texts) (event : NumberedEvent) (number : ℕ) (bytes : List ℕ) → event ≡ event_of item r number → Keeps texts number → text_of texts number ≡ bytes
     → Keeps texts event.number × (text_of texts event.number ≡ bytes)
 event_kept item r texts event number bytes is keeps text = let same : number ≡ event.number = sym (ap (λ e. e.number) is) in (subst (Keeps texts) same keeps, subst (λ n. text_of texts n ≡ bytes) same text)
 
--- What concerns no key.
+-- What follows is of messages that concern no key.
 
--- without a branch there is no key
+-- where there is no branch there is no key
 pub no_keys : {A B : Type 0} (own other : A → B) (cancels : Bool) (branch : Option A) → branch ≡ None
     → option_to_list (option_map own branch) ++ option_to_list (if cancels then option_map other branch else None) ≡ []
 no_keys own other cancels (Some x) none = absurd cc
 no_keys own other true None none = refl
 no_keys own other false None none = refl
 
--- without a key there is no branch
+-- where there is no key there is no branch
 no_branch : {A B : Type 0} (own other : A → B) (cancels : Bool) (branch : Option A)
     → option_to_list (option_map own branch) ++ option_to_list (if cancels then option_map other branch else None) ≡ [] → branch ≡ None
 no_branch own other cancels None none = refl
@@ -170,7 +172,7 @@ branchless direction item s says none = go (lacks_cookie s direction) refl
     go false has =
         (keyless_observation item s, is_heard s [] says has (sym (no_keys _ _ (is_sent (λ method. bytes_eq method (codes "CANCEL")) s.start direction) (cookie_branch s.via.branch) none)) refl, refl)
 
--- bytes that concern none one way concern none the other way
+-- where the bytes of a message concern no key when it goes one way, they concern none when it goes the other way
 other_way : (way direction : Direction) (i j : Item) (e : Observation KeyParts) → i.text ≡ j.text → ObservesMessage way i e → e.keys ≡ [] → (f : Observation KeyParts) × ObservesMessage direction j f × (f.keys ≡ [])
 other_way way direction i j e same (has_fault fault has is) none = (fault_observation j fault, has_fault fault (subst (λ t. Says t (stops fault)) same has) refl, refl)
 other_way way direction i j e same (has_no_cookie s says lacks is) none =
@@ -187,7 +189,7 @@ went Failed says = (way.Sent, refl)
 went Mark says = absurd (false≢true says)
 went Restart says = absurd (false≢true says)
 
--- entries whose messages have the same bytes concern no key alike
+-- of two entries whose messages have the same bytes, one concerns no key exactly as the other does
 pub none_alike : (i j : Item) → i.text ≡ j.text → has_message i.action ≡ true → has_message j.action ≡ true → ConcernsNone i → ConcernsNone j
 none_alike i j same i_says j_says (e, seen, none) =
     let (way, i_goes) = went i.action i_says in
@@ -195,11 +197,11 @@ none_alike i j same i_says j_says (e, seen, none) =
     let (f, f_seen, f_none) = other_way way direction i j e same (subst (λ d. MatchOption d (e ≡ silent_observation i.action i.moment []) (λ way. ObservesMessage way i e)) i_goes seen) none in
     (f, observes [] j f direction j_goes f_seen, f_none)
 
--- an entry of which some key is observed concerns one
+-- an entry of which some key is observed concerns a key
 pub concerns_some : (i : Item) (keys : List KeyParts) (e : Observation KeyParts) → Sees [] i e → e.keys ≡ keys → keys ≢ [] → ¬ ConcernsNone i
 concerns_some i keys e seen are some (f, f_seen, none) = some (sym are ∙ ap (λ o. o.keys) (observes_one [] i e f seen f_seen) ∙ none)
 
--- those that are some are keys
+-- a message that concerns some transactions, and not all, concerns at least one key
 pub each_some : {T : Type 0} (c : Concerned T) → is_all c ≡ false → c ≢ concerned.None → each c ≢ []
 each_some concerned.None named some none = some refl
 each_some (concerned.Own own) named some none = cc

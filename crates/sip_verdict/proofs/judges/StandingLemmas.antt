@@ -1,11 +1,11 @@
--- What is kept before and after an entry is judged.
+-- What is kept of the transactions before and after an entry is judged.
 use Rattle.std.proofs.Common.{◌≡◌, ◌≢◌, ◌≤◌, ◌<◌, ◌+◌, ◌-◌, ◌⊎◌, inl, inr, ℕ, zero, suc, Bool, true, false, cond, Contains, map, slice_get, get_or, IfNone, Option, Some, None, List, [], ◌∷◌, ◌++◌, All, AllPairs, length, refl, sym, ap, ◌∙◌, subst, arith}
 use Rattle.std.specs.Prelude.{fold, ◌==◌, take}
 use Rattle.std.specs.Cmp.{unsigned_Decides}
 use Rattle.std.proofs.lemmas.List.{take_more, take_all}
 use Rattle.sip_states.proofs.lists.Listed.{Contains-here, Contains-there}
 use Rattle.std.proofs.lemmas.Bool.{false≢true}
-use Rattle.std.proofs.lemmas.Option.{slice_get_within, get_or_from_slice_get}
+use Rattle.std.proofs.lemmas.Option.{same_Some, slice_get_within, get_or_from_slice_get}
 use Rattle.std.proofs.lemmas.List.Elements.{All-nil, All-cons, All-weaker}
 use Rattle.sip_standard.specs.Key.{KeyParts}
 use Rattle.sip_standard.specs.Times.{Times, last_moment}
@@ -42,12 +42,12 @@ use Rattle.sip_verdict.proofs.tables.TrackingLemmas.{AreKept, kept_tracked, befo
 use Rattle.sip_verdict.proofs.tables.TablesTouching.{touches_times, touches_few, touches_recorded, kept_each, have_numbers, told_unheard, told_event, told_restart}
 use Rattle.sip_verdict.proofs.tables.TablesPassing.{at_place, keys_are}
 
--- the book has the same messages, or one more
+-- the book has the same messages, or one more at its end
 abbrev pub IsGrown : Texts → ℕ → List ℕ → Texts → Type 0
 IsGrown old number bytes new = (new ≡ old) ⊎ (new ≡ old ++ (number, bytes) ∷ [])
 
 module _ (old new : Texts) (number : ℕ) (bytes : List ℕ) where
-  -- what is kept stays
+  -- a book that has grown keeps the messages that it kept
   grown_keeps : IsGrown old number bytes new → (n : ℕ) → Keeps old n → Keeps new n
   grown_keeps (inl same) n keeps = subst (λ texts. Keeps texts n) (sym same) keeps
   grown_keeps (inr more) n keeps = subst (λ texts. Keeps texts n) (sym more) (Keeps-grow old number bytes n keeps)
@@ -62,15 +62,16 @@ module _ (old new : Texts) (number : ℕ) (bytes : List ℕ) where
       (All-weaker (Knows names old) (Knows names new) (λ x knows. All-weaker (Keeps old) (Keeps new) (grown_keeps grown) (names x) knows) o.1.states
       (of_set (λ X M S m s. IsKnown m old s) o.0 o.1 (subst (IsKnownSet old) o.2 known))))
 
-  -- an entry may still pass
+  -- an entry that may pass beside a book may pass beside the book that has grown
   pub grown_may : IsGrown old number bytes new → (t : Tabled) (moment : ℕ) → MayPass old t moment → MayPass new t moment
   grown_may grown t moment may = record { order = may.order; known = All-weaker (IsKnownSet old) (IsKnownSet new) (grown_known grown) t.sets may.known; long = may.long }
 
-  -- the numbers stay below the next
+  -- each number of a book that has grown is above 0
   grown_some : IsGrown old number bytes new → 0 < number → ((n : ℕ) → Keeps old n → 0 < n) → (n : ℕ) → Keeps new n → 0 < n
   grown_some (inl same) some above n keeps = above n (subst (λ texts. Keeps texts n) same keeps)
   grown_some (inr more) some above n keeps = elim (Keeps-grow_cases old number bytes n (subst (λ texts. Keeps texts n) more keeps)) [ inl k ↦ above n k | inr e ↦ omega (arith, some, e) ]
 
+  -- each number of a book that has grown by an entry's message is at most the entry's number
   grown_numbered : IsGrown old number bytes new → ((n : ℕ) → Keeps old n → n < number) → (n : ℕ) → Keeps new n → n < number + 1
   grown_numbered (inl same) below n keeps = let low = below n (subst (λ texts. Keeps texts n) same keeps) in omega arith
   grown_numbered (inr more) below n keeps = go (Keeps-grow_cases old number bytes n (subst (λ texts. Keeps texts n) more keeps))
@@ -80,7 +81,7 @@ module _ (old new : Texts) (number : ℕ) (bytes : List ℕ) where
       go (inr e) = omega arith
 
   module _ (p : Times) (es : List (Observation KeyParts)) where
-    -- a transaction leads to the same
+    -- a transaction that leads to its runs beside a book leads to them beside the book with one message more
     ready_more : (t : KeyParts × AnySet) → IsReady (key_keeping old p) es t → IsReady (key_keeping (old ++ (number, bytes) ∷ []) p) es t
     ready_more t (s, is, leads) =
         let machine = machine_of_key p.rules t.0 in
@@ -103,9 +104,9 @@ module _ (old new : Texts) (number : ℕ) (bytes : List ℕ) where
   pub grown_track : IsGrown old number bytes new → (es : List (Observation KeyParts)) (t : Tabled) → TablesTrack old es t → TablesTrack new es t
   grown_track grown es t s = record { keys = s.keys; ready = grown_ready t.times es grown (transactions_of t) s.ready; good = s.good }
 
--- the keys that an entry concerns are looked up
+-- What follows is of tables before and after the keys that an entry concerns were looked up.
 module _ (ks : List KeyParts) (ns : List ℕ) (old new : Tabled) (touched : TouchesEach ks ns old new) where
-  -- those whose last moments are not on record are to hear it
+  -- after the keys were looked up, each last moment is on record, except those of the transactions that the entry concerns
   pub touched_recorded : length old.sets ≡ length old.keys → AllAreOnRecord old → AreOnRecord ns new
   touched_recorded long recorded =
       touches_recorded ns ks ns old new (λ n waiting. waiting) long (record { long = recorded.long; each = λ n set r at here. waits_more n set r (recorded.each n set r at here) }) touched
@@ -114,7 +115,7 @@ module _ (ks : List KeyParts) (ns : List ℕ) (old new : Tabled) (touched : Touc
       waits_more n set None h = absurd (false≢true h)
       waits_more n set (Some limit) h = h
 
-  -- the transactions before the event, by the old times
+  -- tables that follow the entries have, after the keys of the entry e were looked up, the keys of the entries and of e, and have not heard e yet
   pub touched_track : (texts : Texts) (es : List (Observation KeyParts)) (e : Observation KeyParts) → length old.sets ≡ length old.keys → e.keys ≡ ks → TablesTrack texts es old
       → TracksBefore old.times (key_keeping texts old.times) es e (transactions_of new)
   touched_track texts es e long keys s =
@@ -124,7 +125,7 @@ module _ (ks : List KeyParts) (ns : List ℕ) (old new : Tabled) (touched : Touc
       (subst (λ xs. AreKept k es (fold keyed.with_key (keys_in es) xs) (transactions_of new)) (sym keys)
       (kept_each texts p es (keys_in es) ks ns old new refl long touched (kept_tracked k es p (transactions_of old) s))) s.good
 
--- at most two keys come with an entry
+-- an entry brings at most two keys
 pub few_keys : (keys : Concerned KeyParts) (ns : List ℕ) (old new : Tabled) → TouchesEach (each keys) ns old new → length new.keys ≤ length old.keys + 2
 few_keys keys ns old new touched = let more = touches_few (each keys) ns old new touched in let few = at_most_two keys in omega arith
   where
@@ -134,7 +135,7 @@ few_keys keys ns old new touched = let more = touches_few (each keys) ns old new
     at_most_two (concerned.OwnAndCancelled own cancelled) = omega arith
     at_most_two concerned.All = omega arith
 
--- the bytes of a message that is not kept
+-- the book has no bytes under a number that it does not keep
 pub text_of_none : (texts : Texts) (n : ℕ) → ¬ Keeps texts n → text_of texts n ≡ []
 text_of_none [] n none = refl
 text_of_none (kept ∷ texts) n none = go (kept.0 == n) refl (text_of_none texts n (λ has. none (Contains-there kept.0 (map (λ k. k.0) texts) n has)))
@@ -150,13 +151,14 @@ listed_each count (concerned.Own own) some = refl
 listed_each count (concerned.OwnAndCancelled own cancelled) some = refl
 listed_each count concerned.All some = absurd (false≢true (sym some))
 
--- all keys have the numbers up to their count
+-- numbers of keys stay numbers of these keys when one number and its key are put after them
 have_more : (all : List KeyParts) (ns : List ℕ) (ks : List KeyParts) (n : ℕ) (k : KeyParts) → HaveNumbers all ns ks → 0 < n → slice_get all (n - 1) ≡ Some k → HaveNumbers all (ns ++ n ∷ []) (ks ++ k ∷ [])
 have_more all [] [] n k have low at = (low, at, tt)
 have_more all [] (key ∷ ks) n k have low at = absurd have
 have_more all (m ∷ ns) [] n k have low at = absurd have
 have_more all (m ∷ ns) (key ∷ ks) n k (some, there, rest) low at = (some, there, have_more all ns ks n k rest low at)
 
+-- the numbers up to the count of all keys are the numbers of all keys
 pub have_all : (all : List KeyParts) → HaveNumbers all (up_to (length all)) all
 have_all all = subst (HaveNumbers all (up_to (length all))) (take_all (length all) all (omega arith)) (front (length all) (omega arith))
   where
@@ -169,7 +171,7 @@ have_all all = subst (HaveNumbers all (up_to (length all))) (take_all (length al
         subst (HaveNumbers all (up_to (suc n))) (sym (ap (λ k. take k all) more ∙ take_more all n key.0 (omega (arith, low)) ∙ ap (λ k. take n all ++ k ∷ []) (get_or_from_slice_get all n key.0 key.0 key.1)))
         (have_more all (up_to n) (take n all) (suc n) key.0 (front n (omega (arith, low))) (omega arith) (ap (slice_get all) before ∙ key.1))
 
--- what is left after an entry without trouble
+-- after an entry without trouble the next entry may be taken, by the tables and the book that the entry leaves
 pub may_next : (verdict : Option Verdict) (old mid last : Texts) (t u v : Tabled) (number moment : ℕ) (bytes : List ℕ) → MayTake old t number moment → IsGrown old number bytes mid
     → length u.keys ≤ length t.keys + 2 → v.keys ≡ u.keys → last ≡ mid → MayPass last v moment → IfNone verdict (AllAreOnRecord v) → IfNone verdict (MayTake last v (number + 1) moment)
 may_next None old mid last t u v number moment bytes may grown few keys book passes recorded = record {
@@ -181,7 +183,7 @@ may_next None old mid last t u v number moment bytes may grown few keys book pas
 }
 may_next (Some x) old mid last t u v number moment bytes may grown few keys book passes recorded = tt
 
--- the numbers of keys were given
+-- numbers under which keys stand in the tables were given
 pub are_given : (t : Tabled) (ns : List ℕ) (ks : List KeyParts) → HaveNumbers t.keys ns ks → All (IsGiven t) ns
 are_given t [] ks h = All-nil (IsGiven t)
 are_given t (n ∷ ns) [] h = absurd h
@@ -189,11 +191,11 @@ are_given t (n ∷ ns) (k ∷ ks) (low, at, rest) =
     All-cons (IsGiven t) n ns (let within = slice_get_within t.keys (n - 1) k at in record { low = low; high = omega arith }) (are_given t ns ks rest)
 
 module _ (verdict : Option Verdict) (old mid last : Texts) (number : ℕ) (bytes : List ℕ) (grown : IsGrown old number bytes mid) (i : Item) (moment count : ℕ) where
-  -- this was told of the entry
+  -- this is told of the entry, and observed of it after any entries
   abbrev Tells : Observed → Type 0
   Tells told = (es : List (Observation KeyParts)) → (e : Observation KeyParts) × Sees es i e × IsObserved mid es i told e
 
-  -- an entry that is not heard
+  -- an entry that no transaction hears is judged as what is observed of it
   pub unheard_judged : (t v : Tabled) → i.moment ≡ moment → Tells Unheard
       → ((es : List (Observation KeyParts)) (e : Observation KeyParts) → e.fault ≡ None → newest_moment es ≤ moment → AreTold mid t.keys moment None e → TablesTrackBefore mid es e t → count ≡ length es + 1
       → IsJudged t.times (key_keeping last t.times) es e (transactions_of v) verdict)
@@ -208,7 +210,7 @@ module _ (verdict : Option Verdict) (old mid last : Texts) (number : ℕ) (bytes
         subst (HaveNumbers v.keys []) (sym none) tt,
       )
 
-  -- a message that is heard
+  -- a message that transactions hear is judged as what is observed of it, with the keys that it concerns
   pub heard_judged : (event : NumberedEvent) (concerned : Concerned KeyParts) (numbers : Concerned ℕ) (t u v : Tabled) → length t.sets ≡ length t.keys → TouchesEach (each concerned) (each numbers) t u
       → AllPairs (λ a b. a ≢ b) u.keys → v.keys ≡ u.keys → event.moment ≡ moment → is_all numbers ≡ false
       → Tells (Heard event concerned)
@@ -227,7 +229,7 @@ module _ (verdict : Option Verdict) (old mid last : Texts) (number : ℕ) (bytes
     subst (λ all. HaveNumbers all (each numbers) (each concerned)) (sym keys) have,
   )
     where
-      -- what is observed of it
+      -- what is observed of the message
       seen : Observation KeyParts
       seen = record { fault = None; event = event_in mid event; keys = each concerned }
 
@@ -237,7 +239,7 @@ module _ (verdict : Option Verdict) (old mid last : Texts) (number : ℕ) (bytes
       have : HaveNumbers u.keys (each numbers) (each concerned)
       have = have_numbers (each concerned) (each numbers) t u touched
 
-  -- a restart
+  -- a restart is judged as what is observed of it, with all keys so far
   pub restart_judged : (event : NumberedEvent) (t v : Tabled) → length t.sets ≡ length t.keys → AllPairs (λ a b. a ≢ b) t.keys → v.keys ≡ t.keys
       → event ≡ record { moment = moment; action = Restart; number = 0; kind = Request Other; reliable = false } → ((n : ℕ) → Keeps mid n → 0 < n) → i.moment ≡ moment
       → Tells told.Restart
@@ -261,33 +263,29 @@ module _ (verdict : Option Verdict) (old mid last : Texts) (number : ℕ) (bytes
         subst (λ ks. HaveNumbers v.keys (up_to (length v.keys)) ks) (same ∙ sym keys) (have_all v.keys),
       )
 
--- two options that are the same hold the same
-pub same_some : {A : Type 0} (a b : A) → Some a ≡ Some b → a ≡ b
-same_some a b h = cc
-
--- a number at a place is that of the key there
+-- the number at a place of the numbers stands for the key at the same place of the keys
 number_at : (all : List KeyParts) (ns : List ℕ) (ks : List KeyParts) → HaveNumbers all ns ks → (i d : ℕ) → i < length ns → (k : KeyParts) × (slice_get ks i ≡ Some k) × (slice_get all (get_or ns i d - 1) ≡ Some k)
 number_at all [] ks h i d low = absurd (omega arith)
 number_at all (n ∷ ns) [] h i d low = absurd h
 number_at all (n ∷ ns) (k ∷ ks) h zero d low = (k, refl, h.1)
 number_at all (n ∷ ns) (k ∷ ks) h (suc i) d low = number_at all ns ks h.2 i d (omega arith)
 
--- keys that differ have numbers that do
+-- numbers of keys that all differ do all differ
 numbers_differ : (all : List KeyParts) (ns : List ℕ) (ks : List KeyParts) → HaveNumbers all ns ks → AllPairs (λ a b. a ≢ b) ks → AllPairs (λ a b. a ≢ b) ns
 numbers_differ all ns ks have apart i j d less low same =
     let (a, a_at, a_there) = number_at all ns ks have i d (omega arith) in
     let (b, b_at, b_there) = number_at all ns ks have j d low in
     let both : Some a ≡ Some b = sym a_there ∙ ap (λ n. slice_get all (n - 1)) same ∙ b_there in
-    apart i j a less (slice_get_within ks j b b_at) (get_or_from_slice_get ks i a a a_at ∙ same_some a b both ∙ sym (get_or_from_slice_get ks j b a b_at))
+    apart i j a less (slice_get_within ks j b b_at) (get_or_from_slice_get ks i a a a_at ∙ same_Some a b both ∙ sym (get_or_from_slice_get ks j b a b_at))
 
--- an event may be heard by the numbers of the keys
+-- an event may be heard under the numbers of the keys that it concerns, once these were looked up
 pub may_hear : (texts : Texts) (moment : ℕ) (event : NumberedEvent) (concerned : Concerned KeyParts) (numbers : Concerned ℕ) (t u : Tabled) → TouchesEach (each concerned) (each numbers) t u → FitsBook texts event
     → event.moment ≡ moment → AllPairs (λ a b. a ≢ b) (each concerned) → is_all numbers ≡ false → MayHear texts u moment (record { event = event; concerned = numbers })
 may_hear texts moment event concerned numbers t u touched fits at differ some =
     let have = have_numbers (each concerned) (each numbers) t u touched in
     record { fits = fits; at = at; given = are_given u (each numbers) (each concerned) have; apart = numbers_differ u.keys (each numbers) (each concerned) have differ; restart = λ all. absurd (false≢true (sym some ∙ all)) }
 
--- and a restart by all
+-- a restart may be heard by all transactions
 pub may_restart : (texts : Texts) (moment : ℕ) (event : NumberedEvent) (t : Tabled) → event ≡ record { moment = moment; action = Restart; number = 0; kind = Request Other; reliable = false } → moment ≤ last_moment
     → MayHear texts t moment (record { event = event; concerned = concerned.All })
 may_restart texts moment event t is limit = subst (λ e. MayHear texts t moment (record { event = e; concerned = concerned.All })) (sym is) (record {

@@ -1,4 +1,4 @@
--- A run over entries holds one over fewer of them.
+-- A run over entries in the order of their moments gives a run over the first of them.
 use Rattle.std.proofs.Common.{◌≡◌, ◌≤◌, ℕ, List, [], ◌∷◌, ◌++◌, All, map, ap, ◌∙◌, subst, arith}
 use Rattle.std.specs.Prelude.{filter, fold, AllPairs}
 use Rattle.std.proofs.lemmas.List.{map-append}
@@ -17,7 +17,7 @@ use Rattle.sip_verdict.specs.Entries.{newest_moment}
 use Rattle.sip_verdict.specs.inner.Keyed.{concerns}
 use Rattle.sip_verdict.proofs.keys.RunsStand.{run-stands, stands-run}
 
--- the first is not after the second
+-- the moment of the first entry is not after that of the second
 abbrev IsNotAfter : Observation KeyParts → Observation KeyParts → Type 0
 IsNotAfter a b = a.event.moment ≤ b.event.moment
 
@@ -27,11 +27,11 @@ IsFrom moment e = moment ≤ e.event.moment
 abbrev IsTo : ℕ → Observation KeyParts → Type 0
 IsTo moment e = e.event.moment ≤ moment
 
--- the moment of the newest entry, this one where there is none
+-- the moment of the newest of these entries, and the given moment where there is none
 abbrev newest : ℕ → List (Observation KeyParts) → ℕ
 newest last es = fold (λ moment e. e.event.moment) last es
 
--- the newest moment of entries in order is not before the moment from which they are
+-- where no entry is before the moment `last`, and the entries are in order, the newest moment of the first ones is not before it either
 newest-from : (last : ℕ) (front more : List (Observation KeyParts)) → All (IsFrom last) (front ++ more) → AllPairs IsNotAfter (front ++ more) → last ≤ newest last front
 newest-from last [] more from order = omega arith
 newest-from last (e ∷ front) more from order =

@@ -3,29 +3,29 @@ use Rattle.std.proofs.Common.{◌≡◌, ◌≢◌, ◌≤◌, ℕ, List, [], �
 use Rattle.sip_machine.specs.Texts.{Texts}
 use Rattle.sip_standard.specs.MachineEvent.{MachineEvent}
 use Rattle.sip_machine.specs.Rules.{MachineRules, IsLawful, StandFor}
-use Rattle.sip_verdict.specs.declared.passing.Fate.TheVariants.{Runs, NoRun, TooWide}
+use Rattle.sip_verdict.specs.declared.passing.Outcome.TheVariants as all
 use Rattle.sip_states.specs.Runs.{Wait, RunGives, AfterRun, IsWide, widest}
 use Rattle.sip_states.specs.Held.{Held}
 use Rattle.sip_verdict.specs.inner.Leads.{Leads}
-use Rattle.sip_verdict.specs.inner.Stepping.{LeadsTo, IsStepped}
+use Rattle.sip_verdict.specs.inner.Stepping.{LeadsTo, RunsUntil, IsStepped}
 use Rattle.sip_verdict.proofs.keys.Leading.{Leads-take}
 use Rattle.sip_verdict.proofs.keys.OneMachine.{none_runs, some_runs, took_after, took_narrow, wide_runs}
 use Rattle.sip_states.proofs.sets.Taking.{took_waits}
 
 module _ {M X S : Type 0} (names : S → List ℕ) (InRange : S → Type 0) (seen : Texts → S → X) (rules : M → MachineRules X) (lawful : (machine : M) → IsLawful (rules machine))
     (texts : Texts) (machine : M) (events : List MachineEvent) (from : ℕ) (set new : Held M S) (leads : LeadsTo names seen rules texts machine set events from) where
-  -- where one can stand at a moment after waiting from the set, by the rules of this machine
+  -- P holds of where a run can stand at a moment after it waited from the states of the set, by the rules of this machine
   abbrev WaitFrom : M → ℕ → X → Type 0
   WaitFrom own moment = Wait (rules own) (Contains (map (seen texts) set.states)) set.moment moment
 
-  -- a set of the same machine at the moment leads to the runs over its events
+  -- where the new set has the same machine and this moment, and its states lead to the runs over these events, the set leads to them
   led : (more : List MachineEvent) (moment : ℕ) → new.machine ≡ set.machine → new.moment ≡ moment → Leads names seen texts (rules machine) more moment moment new.states → LeadsTo names seen rules texts machine new more moment
   led more moment same at l = record {
     machine_is = same ∙ leads.machine_is;
     leads = subst (λ m. Leads names seen texts (rules machine) more moment m new.states) (sym at) l;
   }
 
-  -- the new set is just the last states of the runs that end with an event
+  -- the states of the new set are just the last states of the runs that end with the event e
   abbrev pub Stands : MachineEvent → Type 0
   Stands e = StandFor names InRange seen texts (AfterRun (rules machine) events e) new.states
 
@@ -36,13 +36,13 @@ module _ {M X S : Type 0} (names : S → List ℕ) (InRange : S → Type 0) (see
     taken : Leads names seen texts (rules machine) (events ++ e ∷ []) e.moment e.moment new.states
     taken = Leads-take names InRange seen texts (rules machine) events from set.moment set.states leads.leads e late low new.states given
 
-    -- no state is left: no run takes the event
-    pub heard_none : new.states ≡ [] → IsStepped (rules machine) events e (λ es. LeadsTo names seen rules texts machine new es e.moment) Stands NoRun
+    -- where no state is left, no run takes the event
+    pub heard_none : new.states ≡ [] → ¬ RunsUntil (rules machine) (events ++ e ∷ []) e.moment
     heard_none none run = none_runs names seen texts (rules machine) (events ++ e ∷ []) e.moment e.moment new.states taken (omega arith) none run
 
-    -- some are left, and not too many: the runs go on
+    -- where states are left, and not too many, the runs go on
     pub heard_some : new.machine ≡ set.machine → new.moment ≡ e.moment → new.states ≢ [] → length new.states ≤ widest
-        → IsStepped (rules machine) events e (λ es. LeadsTo names seen rules texts machine new es e.moment) Stands Runs
+        → IsStepped (rules machine) events e (λ es. LeadsTo names seen rules texts machine new es e.moment) Stands all.Fine
     heard_some same at some few = (
       some_runs names seen texts (rules machine) (events ++ e ∷ []) e.moment e.moment new.states taken (omega arith)
           (took_waits names InRange seen texts (rules machine) (lawful machine) _ e new.states given) some,
@@ -56,9 +56,9 @@ module _ {M X S : Type 0} (names : S → List ℕ) (InRange : S → Type 0) (see
       },
     )
 
-  -- too many come out: there is a run, and too many last states
+  -- where too many states come out, there is a run over the event, and the last states are too many
   pub heard_wide : (e : MachineEvent) → from ≤ e.moment → set.moment ≤ e.moment → IsWide (RunGives (rules set.machine) (WaitFrom set.machine e.moment) e)
-      → IsStepped (rules machine) events e (λ es. LeadsTo names seen rules texts machine new es e.moment) Stands TooWide
+      → RunsUntil (rules machine) (events ++ e ∷ []) e.moment × IsWide (AfterRun (rules machine) events e)
   heard_wide e late low wide =
       wide_runs names seen texts (rules machine) (lawful machine) events from set.moment set.states leads.leads e late low
       (subst (λ own. IsWide (RunGives (rules own) (WaitFrom own e.moment) e)) leads.machine_is wide)

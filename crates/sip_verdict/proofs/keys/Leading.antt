@@ -11,16 +11,16 @@ use Rattle.sip_states.proofs.lists.Listed.{Contains-single, Contains-none, Conta
 use Rattle.sip_states.proofs.runs.RunLemmas.{Run-wait, Run-wait_first, After-run}
 use Rattle.sip_states.proofs.sets.Waiting.{Wait-iff, Gives-iff, Wait-stay}
 
--- one fact that holds just as another and that as a third hold alike
+-- where A holds exactly if B does, and B exactly if C does, A holds exactly if C does
 pub iff_trans : {A B C : Type 0} → A ↔ B → B ↔ C → A ↔ C
 iff_trans e f = (λ a. f.0 (e.0 a), λ c. e.1 (f.1 c))
 
--- two facts that hold alike hold alike the other way round
+-- where A holds exactly if B does, B holds exactly if A does
 pub iff_sym : {A B : Type 0} → A ↔ B → B ↔ A
 iff_sym e = (e.1, e.0)
 
 module _ {X S : Type 0} (names : S → List ℕ) (seen : Texts → S → X) where
-  -- the first state alone leads to the runs over no event
+  -- the first state of a machine, alone in a set, leads to the runs over no event
   pub Leads-start : (texts : Texts) (r : MachineRules X) (first : S) → seen texts first ≡ r.first → Knows names texts first → (from : ℕ) → Leads names seen texts r [] from 0 (first ∷ [])
   Leads-start texts r first is known from =
       record {
@@ -31,7 +31,7 @@ module _ {X S : Type 0} (names : S → List ℕ) (seen : Texts → S → X) wher
             (iff_sym (Run-wait_first r n x));
       }
 
-  -- an event gives from where a set leads exactly the last states of runs
+  -- what the event e gives from the states to which a set leads are exactly the last states of the runs that end with e
   pub gives_after : (texts : Texts) (r : MachineRules X) (events : List MachineEvent) (from moment : ℕ) (states : List S) → Leads names seen texts r events from moment states →
       (e : MachineEvent) → from ≤ e.moment → moment ≤ e.moment → (x : X) → RunGives r (Wait r (Contains (map (seen texts) states)) moment e.moment) e x ↔ AfterRun r events e x
   gives_after texts r events from moment states leads e late low x =
@@ -39,7 +39,7 @@ module _ {X S : Type 0} (names : S → List ℕ) (seen : Texts → S → X) wher
       (Gives-iff r (Wait r (Contains (map (seen texts) states)) moment e.moment) (RuledRun r events e.moment) (λ y. leads.runs e.moment y late low) e x)
       (iff_sym (After-run r events e x))
 
-  -- an empty set leads to no run
+  -- where a set that leads to the runs is empty, no run stands at any moment from there on
   pub Leads-none : (texts : Texts) (r : MachineRules X) (events : List MachineEvent) (from moment : ℕ) (states : List S) → Leads names seen texts r events from moment states →
       states ≡ [] → (n : ℕ) → from ≤ n → moment ≤ n → (x : X) → RuledRun r events n x → ⊥
   Leads-none texts r events from moment states leads none n late low x run =
@@ -55,7 +55,7 @@ module _ {X S : Type 0} (names : S → List ℕ) (seen : Texts → S → X) wher
       (Wait-stay r (Contains (map (seen texts) states)) moment moment (seen texts s)
       (record { among = Contains-map (seen texts) states s member; reached = reached; waits = waits }))
 
-  -- a set leads to the same beside a book that agrees on what it names
+  -- a set leads to the same runs beside another book that has the same bytes for the messages that its states name
   pub Leads-book : ((a b : Texts) (x : S) → ((n : ℕ) → Contains (names x) n → text_of a n ≡ text_of b n) → seen a x ≡ seen b x) →
       (a b : Texts) (r : MachineRules X) (events : List MachineEvent) (from moment : ℕ) (states : List S) → All (AgreeOn names a b) states →
       Leads names seen a r events from moment states → Leads names seen b r events from moment states
@@ -65,7 +65,7 @@ module _ {X S : Type 0} (names : S → List ℕ) (seen : Texts → S → X) wher
         runs = λ n x late low. subst (λ xs. Wait r (Contains xs) moment n x ↔ RuledRun r events n x) (map-seen names seen by_names a b states agree) (leads.runs n x late low);
       }
 
-  -- a set leads to the same when the book grows
+  -- a set leads to the same runs beside a book that has grown by one message
   pub Leads-grow : ((a b : Texts) (x : S) → ((n : ℕ) → Contains (names x) n → text_of a n ≡ text_of b n) → seen a x ≡ seen b x) →
       (texts : Texts) (number : ℕ) (bytes : List ℕ) (r : MachineRules X) (events : List MachineEvent) (from moment : ℕ) (states : List S) →
       Leads names seen texts r events from moment states → Leads names seen (texts ++ (number, bytes) ∷ []) r events from moment states
@@ -74,7 +74,7 @@ module _ {X S : Type 0} (names : S → List ℕ) (seen : Texts → S → X) wher
       (All-weaker (Knows names texts) (AgreeOn names texts (texts ++ (number, bytes) ∷ [])) (AgreeOn-grow names texts number bytes) states leads.known) leads
 
 module _ {X S : Type 0} (names : S → List ℕ) (InRange : S → Type 0) (seen : Texts → S → X) (texts : Texts) (r : MachineRules X) where
-  -- what an event gives from where a set leads leads on
+  -- the states that the event e gives from a set that leads to the runs over the events lead to the runs over the events and e
   pub Leads-take : (events : List MachineEvent) (from moment : ℕ) (states : List S) → Leads names seen texts r events from moment states →
       (e : MachineEvent) → from ≤ e.moment → moment ≤ e.moment → (new : List S) → StandFor names InRange seen texts (RunGives r (Wait r (Contains (map (seen texts) states)) moment e.moment) e) new →
       Leads names seen texts r (events ++ e ∷ []) e.moment e.moment new
@@ -87,7 +87,7 @@ module _ {X S : Type 0} (names : S → List ℕ) (InRange : S → Type 0) (seen 
             (iff_sym (Run-wait r events e n x));
       }
 
--- it leads there from any later moment on
+-- a set that leads to the runs from one moment on leads to them from any later moment on
 pub Leads-later : {X S : Type 0} (names : S → List ℕ) (seen : Texts → S → X) (texts : Texts) (r : MachineRules X) (events : List MachineEvent) (from later moment : ℕ) (states : List S) → from ≤ later
     → Leads names seen texts r events from moment states → Leads names seen texts r events later moment states
 Leads-later names seen texts r events from later moment states low leads = record { known = leads.known; runs = λ n x reached. leads.runs n x (omega (arith, low, reached)) }

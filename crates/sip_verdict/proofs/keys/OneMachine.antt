@@ -1,4 +1,4 @@
--- What one event leaves of the runs of one machine, and how a set tells it.
+-- What one event leaves of the runs of one machine, said by the set of their states.
 use Rattle.std.proofs.Common.{◌≡◌, ◌≢◌, ◌≤◌, ◌↔◌, ℕ, List, [], ◌∷◌, ◌++◌, All, Contains, map, length, refl, arith}
 use Rattle.std.proofs.lemmas.List.Elements.{All-contains}
 use Rattle.sip_machine.specs.Texts.{Texts}
@@ -14,11 +14,11 @@ use Rattle.sip_verdict.proofs.keys.Leading.{iff_trans, gives_after, Leads-none, 
 
 module _ {X S : Type 0} (names : S → List ℕ) (seen : Texts → S → X) (texts : Texts) (r : MachineRules X) (events : List MachineEvent) (from moment : ℕ) (states : List S)
     (leads : Leads names seen texts r events from moment states) (late : from ≤ moment) where
-  -- an empty set means that there is no run at its moment
+  -- where the set is empty, no run stands at its moment
   pub none_runs : states ≡ [] → ¬ ((x : X) × RuledRun r events moment x)
   none_runs none (x, run) = Leads-none names seen texts r events from moment states leads none moment late (omega arith) x run
 
-  -- a set with a state that can wait means that there is one
+  -- where the set has a state, and each can wait at its moment, some run stands there
   pub some_runs : All (λ s. Waits r (seen texts s) moment) states → states ≢ [] → (x : X) × RuledRun r events moment x
   some_runs waits some =
       let (s, member) = first_of_some states some in
@@ -35,7 +35,7 @@ module _ {X S : Type 0} (names : S → List ℕ) (InRange : S → Type 0) (seen 
       (x : X) → Contains (map (seen texts) new) x ↔ AfterRun r events e x
   took_after new gives x = iff_trans (gives.members x) (gives_after names seen texts r events from moment states leads e late low x)
 
-  -- states that are not too many mean that the last states are not more
+  -- where the set holds at most 1,024 states, the last states of the runs are not too many
   pub took_narrow : (new : List S) → StandFor names InRange seen texts (RunGives r (Wait r (Contains (map (seen texts) states)) moment e.moment) e) new →
       length new ≤ widest → ¬ IsWide (AfterRun r events e)
   took_narrow new gives few wide =
@@ -45,14 +45,14 @@ module _ {X S : Type 0} (names : S → List ℕ) (InRange : S → Type 0) (seen 
 
 module _ {X S : Type 0} (names : S → List ℕ) (seen : Texts → S → X) (texts : Texts) (r : MachineRules X) (lawful : IsLawful r)
     (events : List MachineEvent) (from moment : ℕ) (states : List S) (leads : Leads names seen texts r events from moment states) (e : MachineEvent) (late : from ≤ e.moment) (low : moment ≤ e.moment) where
-  -- a state that the event gives is where a run stands at its moment
+  -- where the event gives a state, a run with the event stands in that state at its moment
   pub given_runs : (x : X) → RunGives r (Wait r (Contains (map (seen texts) states)) moment e.moment) e x → RuledRun r (events ++ e ∷ []) e.moment x
   given_runs x given =
       (Run-wait r events e e.moment x).1
       (Wait-stay r (AfterRun r events e) e.moment e.moment x
       (record { among = (gives_after names seen texts r events from moment states leads e late low x).0 given; reached = omega arith; waits = lawful.fresh given.before e x given.takes }))
 
-  -- too many states mean that there is a run, and that the last states are too many
+  -- where the event gives too many states, there is a run with it, and the last states of the runs are too many
   pub wide_runs : IsWide (RunGives r (Wait r (Contains (map (seen texts) states)) moment e.moment) e) →
       ((x : X) × RuledRun r (events ++ e ∷ []) e.moment x) × IsWide (AfterRun r events e)
   wide_runs wide =

@@ -1,4 +1,4 @@
--- How long the runs of a key can wait, by the last moment on record of its set.
+-- How long the runs of a key can wait, by the last moment that is on record of its set.
 use Rattle.std.proofs.Common.{◌≡◌, ◌≤◌, ◌↔◌, ℕ, true, false, Option, Some, None, List, [], ◌∷◌, ◌++◌, Contains, map, ap, ◌∙◌, subst, arith}
 use Rattle.std.proofs.lemmas.Bool.{ltb-true, ltb-false, false≢true}
 use Rattle.sip_standard.specs.Times.{Times}
@@ -18,7 +18,7 @@ use Rattle.sip_verdict.specs.inner.Stepping.{RunsUntil}
 use Rattle.sip_verdict.specs.inner.TablesTracking.{LeadsOf}
 use Rattle.sip_states.proofs.keyed.ByMachine.{moment_is, of_set}
 
--- a run over one event more holds one that stands at its moment
+-- where a run over the events and e stands somewhere, a run over the events stands at the moment of e
 pub run_before : {X : Type 0} (r : MachineRules X) (events : List MachineEvent) (e : MachineEvent) (n : ℕ) → RunsUntil r (events ++ e ∷ []) n → RunsUntil r events e.moment
 run_before r events e n (y, run) =
     let wait = (Run-wait r events e n y).0 run in
@@ -27,7 +27,7 @@ run_before r events e n (y, run) =
 
 module _ (texts : Texts) (p : Times) (machine : MachineKind) (events : List MachineEvent) (from : ℕ) (set : AnySet) (leads : LeadsOf texts p machine events from set) (limit : Option ℕ) (agenda : IsAgendaOf limit set)
     (moment : ℕ) (late : from ≤ moment) (low : moment_of set ≤ moment) where
-  -- a wait from the states of the set lasts until then just where that is within the limit
+  -- from the states of the set a run can wait until a moment exactly if the moment is within the limit
   waits : IsAgenda ((meaning_of machine).rules p) (Contains (map ((meaning_of machine).seen texts) leads.0.states)) leads.0.moment limit
   waits =
       subst (λ q. IsAgenda ((meaning_of machine).rules q) (Contains (map ((meaning_of machine).seen texts) leads.0.states)) leads.0.moment limit) leads.2.machine_is
@@ -43,7 +43,7 @@ module _ (texts : Texts) (p : Times) (machine : MachineKind) (events : List Mach
     λ within. let wait = (waits moment not_later).1 within in (wait.0, (leads.2.leads.runs moment wait.0 late not_later).0 wait.1),
   )
 
-  -- none stands after the last moment
+  -- where the limit is past at the moment, no run over the events stands then
   pub overdue_none : is_overdue moment (Some limit) ≡ true → ¬ RunsUntil (key_rules p machine) events moment
   overdue_none past run = go limit past (runs_within.0 run)
     where
@@ -51,7 +51,7 @@ module _ (texts : Texts) (p : Times) (machine : MachineKind) (events : List Mach
       go None past within = false≢true past
       go (Some last) past within = omega (arith, ltb-true last moment past, within)
 
-  -- a run stands at any moment up to the last one on record
+  -- where the limit is not past at the moment, some run over the events stands then
   pub in_time_some : is_overdue moment (Some limit) ≡ false → RunsUntil (key_rules p machine) events moment
   in_time_some in_time = runs_within.1 (go limit in_time)
     where

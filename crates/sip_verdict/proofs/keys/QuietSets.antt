@@ -14,13 +14,13 @@ use Rattle.sip_states.specs.AnySet.{meaning_of, moment_of, IsQuietSet}
 use Rattle.sip_states.specs.declared.any_set.AnySet.{AnySet}
 use Rattle.sip_states.proofs.keyed.ByMachine.{lawful_of, moment_is, quiet_in}
 use Rattle.sip_states.proofs.keyed.QuietLemmas.{quiet_still, waits_still, restart_still}
-use Rattle.sip_verdict.specs.declared.passing.Fate.TheVariants.{Runs}
+use Rattle.sip_verdict.specs.declared.passing.Outcome.TheVariants as all
 use Rattle.sip_verdict.specs.inner.Stepping.{IsStepped}
 use Rattle.sip_verdict.specs.inner.TablesTracking.{LeadsOf, StandsOf}
 use Rattle.sip_verdict.proofs.keys.Hearing.{heard_some}
 use Rattle.sip_verdict.proofs.keys.Leading.{iff_trans, iff_sym, Leads-later}
 
--- a set leads to the runs from any later moment on
+-- a set that leads to the runs from one moment on leads to them from any later moment on
 pub leads_later : (texts : Texts) (p : Times) (machine : MachineKind) (events : List MachineEvent) (from later : ℕ) (set : AnySet) → from ≤ later → LeadsOf texts p machine events from set → LeadsOf texts p machine events later set
 leads_later texts p machine events from later set low (s, is, leads) =
     let m = meaning_of machine in
@@ -34,15 +34,15 @@ module _ (texts : Texts) (p : Times) (machine : MachineKind) (events : List Mach
   abbrev r : MachineRules (PhaseOf machine)
   r = (meaning_of machine).rules p
 
-  -- the set as it is at the moment of the restart
+  -- the states of the set, at the moment of the restart
   abbrev new : Held Times (StateOf machine)
   new = record { machine = held.machine; moment = e.moment; states = held.states }
 
   not_later : held.moment ≤ e.moment
   not_later = subst (λ m. m ≤ e.moment) (ap moment_of leads.1 ∙ moment_is machine held) low
 
-  -- a quiet set that takes the restart has runs still, and leads and stands as it did
-  pub quiet_stepped : IsStepped (key_rules p machine) events (event_in texts e) (λ es. LeadsOf texts p machine es e.moment set) (λ f. StandsOf texts p machine events f set) Runs
+  -- where a quiet set takes a restart, there are runs still, and the set as it was leads to them and holds just their last states
+  pub quiet_stepped : IsStepped (key_rules p machine) events (event_in texts e) (λ es. LeadsOf texts p machine es e.moment set) (λ f. StandsOf texts p machine events f set) all.Fine
   quiet_stepped =
       let m = meaning_of machine in
       let (x, one, still) = quiet_still p machine texts held (quiet_in machine held (subst IsQuietSet leads.1 quiet)) in

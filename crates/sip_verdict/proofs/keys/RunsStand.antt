@@ -1,4 +1,4 @@
--- The runs by the rules of a machine are those in the words of the standard.
+-- A machine has a run by its rules exactly where it has one in the words of the standard.
 use Rattle.std.proofs.Common.{◌≢◌, ◌<◌, ℕ, List, length, All, AllPairs}
 use Rattle.std.proofs.lemmas.List.Elements.{All-weaker}
 use Rattle.sip_standard.specs.Times.{Times}
@@ -15,7 +15,7 @@ use Rattle.sip_verdict.specs.inner.Stepping.{RunsUntil}
 abbrev pub StandsUntil : Times → MachineKind → List MachineEvent → ℕ → Type 0
 StandsUntil p machine events moment = (y : PhaseOf machine) × Stands (transaction_of machine).figure p events moment y
 
--- more than 1,024 states of the machine of which P holds
+-- P holds of more than 1,024 states of the machine
 abbrev pub AreTooMany : (machine : MachineKind) → (PhaseOf machine → Type 0) → Type 0
 AreTooMany machine P = (many : List (PhaseOf machine)) × AllPairs (λ x y. x ≢ y) many × (1024 < length many) × All P many
 
@@ -28,7 +28,7 @@ module _ (p : Times) (machine : MachineKind) (events : List MachineEvent) where
   pub stands-run : (moment : ℕ) → StandsUntil p machine events moment → RunsUntil (key_rules p machine) events moment
   stands-run moment (y, stands) = (y, (stands-runs (transaction_of machine).figure (coded_holds machine).is_figure p events moment y).0 stands)
 
-  -- the last states of runs are too many
+  -- What follows is of the last states of the runs that end with the event e.
   module _ (e : MachineEvent) where
     abbrev Last : PhaseOf machine → Type 0
     Last y = AfterRun (key_rules p machine) events e y

@@ -1,4 +1,4 @@
--- Where two splits of one list stand to each other.
+-- How two splits of one list lie to each other.
 use Rattle.std.proofs.Common.{◌≡◌, ◌⊎◌, inl, inr, List, [], ◌∷◌, ◌++◌, refl}
 
 -- two splits of one list are at the same place, or one is before the other

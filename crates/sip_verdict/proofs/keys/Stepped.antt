@@ -1,4 +1,4 @@
--- From the events of one transaction to the entries of a log, one entry more.
+-- What an event leaves of the runs of a transaction is what its entry leaves of the key.
 use Rattle.std.proofs.Common.{◌≡◌, Bool, true, false, List, [], ◌∷◌, ◌++◌, refl, sym, ◌∙◌, subst}
 use Rattle.std.proofs.lemmas.Bool.{false≢true}
 use Rattle.sip_standard.specs.Key.{KeyParts}
@@ -7,8 +7,8 @@ use Rattle.sip_standard.specs.MachineEvent.{MachineEvent}
 use Rattle.sip_standard.specs.KeyMachine.{MachineKind, machine_of_key}
 use Rattle.sip_states.specs.KeySets.{PhaseOf, key_rules}
 use Rattle.sip_machine.specs.Rules.{MachineRules}
-use Rattle.sip_verdict.specs.declared.passing.Fate.{Fate}
-use Rattle.sip_verdict.specs.declared.passing.Fate.TheVariants.{Runs, NoRun, TooWide}
+use Rattle.sip_verdict.specs.declared.passing.Outcome.{Outcome}
+use Rattle.sip_verdict.specs.declared.passing.Outcome.TheVariants as all
 use Rattle.sip_standard.specs.Observation.{Observation}
 use Rattle.sip_standard.specs.VerdictOf.{events_for, RunsOver}
 use Rattle.sip_verdict.specs.inner.Keyed.{concerns}
@@ -19,47 +19,47 @@ use Rattle.sip_verdict.proofs.keys.Overdue.{run_before}
 use Rattle.sip_verdict.proofs.keys.RunsStand.{StandsUntil, run-stands, stands-run, wide-stands, stands-wide}
 
 module _ {T : Type 0} (p : Times) (k : Keeping T) (es : List (Observation KeyParts)) (e : Observation KeyParts) (t : T) where
-  -- the machine of its key, with its rules
+  -- the machine of the transaction's key
   abbrev machine : MachineKind
   machine = machine_of_key p.rules (k.key t)
 
   abbrev r : MachineRules (PhaseOf machine)
   r = key_rules p machine
 
-  -- a run over the events that stands at the newest moment is one of the key
+  -- where a run over the key's events stands at the moment of e, the key has a run over the entries and e
   runs_key : (events : List MachineEvent) → events_for (k.key t) (es ++ e ∷ []) ≡ events → RunsUntil r events e.event.moment → RunsOver p (es ++ e ∷ []) (k.key t)
   runs_key events at run =
       subst (λ now. StandsUntil p machine (events_for (k.key t) (es ++ e ∷ [])) now) (sym (newest_moment-push es e))
       (subst (λ fs. StandsUntil p machine fs e.event.moment) (sym at) (run-stands p machine events e.event.moment run))
 
-  -- a key with a run over the entries has one over its events until the moment
+  -- where the key has a run over the entries and e, a run over its events stands at the moment of e
   key_runs : (events : List MachineEvent) → events_for (k.key t) (es ++ e ∷ []) ≡ events → RunsOver p (es ++ e ∷ []) (k.key t) → RunsUntil r events e.event.moment
   key_runs events at run =
       stands-run p machine events e.event.moment
       (subst (λ fs. StandsUntil p machine fs e.event.moment) at (subst (λ now. StandsUntil p machine (events_for (k.key t) (es ++ e ∷ [])) now) (newest_moment-push es e) run))
 
-  -- an entry that concerns the key
+  -- What follows is of an entry e that concerns the key.
   module _ (concerned : concerns (k.key t) e ≡ true) where
     own : events_for (k.key t) (es ++ e ∷ []) ≡ events_for (k.key t) es ++ e.event ∷ []
     own = events_for-concerned (k.key t) es e concerned
 
-    -- what became of the runs over its events is what becomes of the key with the entry
-    pub own_passed : (fate : Fate) → IsStepped r (events_for (k.key t) es) e.event (λ fs. k.Leads t fs e.event.moment) (k.Stands t (events_for (k.key t) es)) fate → IsPassed p k es e t fate
-    own_passed Runs h = record {
+    -- what the event of e leaves of the runs of the key's machine is what e leaves of the key
+    pub own_passed : (outcome : Outcome) → IsStepped r (events_for (k.key t) es) e.event (λ fs. k.Leads t fs e.event.moment) (k.Stands t (events_for (k.key t) es)) outcome → IsPassed p k es e t outcome
+    own_passed all.Fine h = record {
       runs = runs_key _ own h.0;
       narrow = λ wide. h.1 (stands-wide p machine (events_for (k.key t) es) e.event wide.1);
       ready = subst (k.Leads t (events_for (k.key t) (es ++ e ∷ []))) (sym (newest_moment-push es e)) (subst (λ fs. k.Leads t fs e.event.moment) (sym own) h.2);
       stands = λ concerned. h.3;
     }
-    own_passed NoRun h = λ run. h (key_runs _ own run)
-    own_passed TooWide h = (runs_key _ own h.0, (concerned, wide-stands p machine (events_for (k.key t) es) e.event h.1))
+    own_passed (all.NoRun number) h = λ run. h (key_runs _ own run)
+    own_passed (all.TooWide number) h = (runs_key _ own h.0, (concerned, wide-stands p machine (events_for (k.key t) es) e.event h.1))
 
-  -- an entry that does not: the key goes on if one of its runs can wait until then
+  -- What follows is of an entry e that does not concern the key: the key goes on if one of its runs can wait until e.
   module _ (unconcerned : concerns (k.key t) e ≡ false) where
     other : events_for (k.key t) (es ++ e ∷ []) ≡ events_for (k.key t) es
     other = events_for-other (k.key t) es e unconcerned
 
-    -- where a run over its events waits until the entry, the key goes on
+    -- where a run over the key's events waits until e, and the transaction leads on, the key goes on over e
     pub other_passed : RunsUntil r (events_for (k.key t) es) e.event.moment → k.Leads t (events_for (k.key t) es) e.event.moment → GoesOn p k es e t
     other_passed run leads = record {
       runs = runs_key _ other run;
@@ -68,7 +68,7 @@ module _ {T : Type 0} (p : Times) (k : Keeping T) (es : List (Observation KeyPar
       stands = λ concerned. absurd (false≢true (sym unconcerned ∙ concerned));
     }
 
-  -- a run over all entries holds one over those before, which waits until the last
+  -- where the key has a run over the entries and e, a run over its events before e waits until e
   pub run_still : RunsOver p (es ++ e ∷ []) (k.key t) → RunsUntil r (events_for (k.key t) es) e.event.moment
   run_still run = go (concerns (k.key t) e) refl
     where

@@ -1,4 +1,4 @@
--- The text of an entry.
+-- The text of an entry's transactions is the listing that the definitions ask for.
 use Rattle.std.proofs.Common.{◌≡◌, ◌≢◌, ◌∙◌, ◌<◌, ◌+◌, ◌-◌, ℕ, Bool, true, false, cond, Option, Some, None, MatchOption, List, [], ◌∷◌, ◌++◌, All, AllPairs, length, slice_get, refl, sym, ap, subst, arith, append_assoc}
 use Rattle.std.specs.Prelude.{IsAscii, fold}
 use Rattle.std.specs.List.{list_any}
@@ -33,8 +33,9 @@ use Rattle.sip_standard.specs.Concerns.{Concerns}
 use Rattle.sip_key.proofs.MethodLemmas.{keys_ascii}
 use Rattle.sip_verdict.proofs.listings.ListingLemmas.{TellsBook, told_set, standing_lines}
 
--- The keys of an entry have methods that are ASCII.
+-- What follows shows that the keys of an entry have methods in ASCII.
 
+-- the keys that are observed of a message have methods in ASCII
 message_ascii : (i : Item) (e : Observation KeyParts) (d : Direction) → ObservesMessage d i e → All (λ k. IsAscii k.method) e.keys
 message_ascii i e d (has_fault fault has is) = subst (All (λ k. IsAscii k.method)) (sym (ap (λ x. x.keys) is)) (All-nil (λ k. IsAscii k.method))
 message_ascii i e d (has_no_cookie s says lacks is) = subst (All (λ k. IsAscii k.method)) (sym (ap (λ x. x.keys) is)) (All-nil (λ k. IsAscii k.method))
@@ -42,6 +43,7 @@ message_ascii i e d (is_heard s keys says has concerns is) =
     let read = says-reads i.text s says in
     subst (All (λ k. IsAscii k.method)) (sym (ap (λ x. x.keys) is)) (keys_ascii i.text read.0 d keys read.1 (subst (λ x. Concerns x d keys) read.2 concerns))
 
+-- the keys that are observed of an entry without a message have methods in ASCII, where the keys so far have
 silent_ascii : (a : Action) (moment : ℕ) (keys : List KeyParts) → All (λ k. IsAscii k.method) keys → All (λ k. IsAscii k.method) (silent_observation a moment keys).keys
 silent_ascii Sent moment keys ascii = All-nil (λ k. IsAscii k.method)
 silent_ascii Received moment keys ascii = All-nil (λ k. IsAscii k.method)
@@ -49,16 +51,17 @@ silent_ascii Failed moment keys ascii = All-nil (λ k. IsAscii k.method)
 silent_ascii Mark moment keys ascii = All-nil (λ k. IsAscii k.method)
 silent_ascii Restart moment keys ascii = ascii
 
+-- the keys that are observed of an entry, whichever way its message went, have methods in ASCII, where the keys so far have
 ways_ascii : (i : Item) (keys : List KeyParts) (e : Observation KeyParts) (way : Option Direction) → All (λ k. IsAscii k.method) keys → MatchOption way (e ≡ silent_observation i.action i.moment keys) (λ d. ObservesMessage d i e)
     → All (λ k. IsAscii k.method) e.keys
 ways_ascii i keys e None ascii is = subst (All (λ k. IsAscii k.method)) (sym (ap (λ x. x.keys) is)) (silent_ascii i.action i.moment keys ascii)
 ways_ascii i keys e (Some d) ascii observes = message_ascii i e d observes
 
--- the keys of an entry have methods in ASCII
+-- the keys that are seen of an entry have methods in ASCII, where the keys so far have
 entry_ascii : (before : List (Observation KeyParts)) (i : Item) (e : Observation KeyParts) → All (λ k. IsAscii k.method) (keys_in before) → Sees before i e → All (λ k. IsAscii k.method) e.keys
 entry_ascii before i e ascii observes = ways_ascii i (keys_in before) e (direction_of i.action) ascii observes
 
--- the keys of some entries and of others have methods in ASCII
+-- where keys and more keys have methods in ASCII, so have the keys with the new ones of the others added
 more_ascii : (keys more : List KeyParts) → All (λ k. IsAscii k.method) keys → All (λ k. IsAscii k.method) more → All (λ k. IsAscii k.method) (fold with_key keys more)
 more_ascii keys [] old new = old
 more_ascii keys (k ∷ more) old new = more_ascii (with_key keys k) more (one (list_any (same_key k) keys)) (All-tail (λ x. IsAscii x.method) k more new)
@@ -67,6 +70,7 @@ more_ascii keys (k ∷ more) old new = more_ascii (with_key keys k) more (one (l
     one true = old
     one false = All-push (λ x. IsAscii x.method) keys k old (All-head (λ x. IsAscii x.method) k more new)
 
+-- the keys of all entries so far have methods in ASCII
 keys_ascii_after : (before : List (Observation KeyParts)) (items : List Item) (es : List (Observation KeyParts)) → All (λ k. IsAscii k.method) (keys_in before) → AreSeen before items es
     → All (λ k. IsAscii k.method) (keys_in (before ++ es))
 keys_ascii_after before [] [] ascii seen = subst (λ es. All (λ k. IsAscii k.method) (keys_in es)) (sym (append-nil before)) ascii
@@ -77,12 +81,12 @@ keys_ascii_after before (i ∷ items) (e ∷ es) ascii seen =
     (keys_ascii_after (before ++ e ∷ []) items es
     (subst (All (λ k. IsAscii k.method)) (sym (keys_in-push before e)) (more_ascii (keys_in before) e.keys ascii (entry_ascii before i e ascii seen.0))) seen.1)
 
--- the methods of the keys that an entry concerns are ASCII
+-- the keys that an entry after the entries of a log concerns have methods in ASCII
 pub observed_ascii : (items : List Item) (before : List (Observation KeyParts)) (i : Item) (e : Observation KeyParts) → AreSeen [] items before → Sees before i e
     → All (λ k. IsAscii k.method) e.keys
 observed_ascii items before i e seen observes = entry_ascii before i e (keys_ascii_after [] items before (All-nil (λ k. IsAscii k.method)) seen) observes
 
--- Among keys that differ, the one at a place is the first that is the same.
+-- among keys that all differ, the key at a place is the first one that is equal to it
 first_place : (keys : List KeyParts) → AllPairs (λ a b. a ≢ b) keys → (n : ℕ) (key : KeyParts) → slice_get keys n ≡ Some key → IsFirstKey (λ k. same_key key k ≡ true) keys (n + 1)
 first_place keys apart n key at =
     first_at (λ k. same_key key k ≡ true) keys n key at ((same_key-decides key key).1 refl)
@@ -91,7 +95,7 @@ first_place keys apart n key at =
 module _ (number : List ℕ → ℕ) (texts : Texts) (tells : TellsBook number texts) (p : Times) (es : List (Observation KeyParts)) (e : Observation KeyParts) (t : Tabled)
     (known : All (IsKnownSet texts) t.sets) (long : length t.sets ≡ length t.keys) (apart : AllPairs (λ a b. a ≢ b) t.keys)
     (judged : IsJudged p (key_keeping texts p) es e (transactions_of t) None) where
-  -- a transaction that was appended
+  -- where the listing of one transaction was appended, the text has grown by what is asked for of its key
   key_text : (key : KeyParts) (n : ℕ) (old new : List ℕ) → concerns key e ≡ true → IsAscii key.method → 0 < n → slice_get t.keys (n - 1) ≡ Some key → Appends t n old new
       → (text : List ℕ) × IsKeyText p number es e key text × (new ≡ old ++ text)
   key_text key n old new concerned ascii low at (k, set, lines, key_at, set_at, lists, is) =
@@ -111,7 +115,7 @@ module _ (number : List ℕ → ℕ) (texts : Texts) (tells : TellsBook number t
         subst (λ x. new ≡ old ++ transaction_text n x lines) same (is (subst (λ x. IsAscii x.method) (sym same) ascii)),
       )
 
-  -- and others after it
+  -- where the listings of several transactions were appended, the text has grown by what is asked for of their keys
   key_texts : (ks : List KeyParts) (ns : List ℕ) (old new : List ℕ) → All (λ k. (concerns k e ≡ true) × IsAscii k.method) ks → HaveNumbers t.keys ns ks → AppendsEach t ns old new
       → (text : List ℕ) × AreKeyTexts p number es e ks text × (new ≡ old ++ text)
   key_texts [] [] old new good have same = ([], refl, same ∙ sym (append-nil old))
@@ -123,7 +127,7 @@ module _ (number : List ℕ → ℕ) (texts : Texts) (tells : TellsBook number t
       let others = key_texts ks ns between new (All-tail (λ x. (concerns x e ≡ true) × IsAscii x.method) k ks good) rest more in
       (one.0 ++ others.0, (one.0, others.0, one.1, others.1, refl), others.2 ∙ ap (λ z. z ++ others.0) one.2 ∙ append_assoc old one.0 others.0)
 
-  -- the text of the entry
+  -- the text of the transactions with these numbers is what is asked for of an entry that concerns their keys
   texts_of : (ks : List KeyParts) (ns : List ℕ) (text : List ℕ) → All (λ k. (concerns k e ≡ true) × IsAscii k.method) ks → HaveNumbers t.keys ns ks → IsTextOf t ns text
       → IsEntryText p number es e ks text
   texts_of [] [] text good have is = is
@@ -133,6 +137,6 @@ module _ (number : List ℕ → ℕ) (texts : Texts) (tells : TellsBook number t
       let all = key_texts (k ∷ ks) (n ∷ ns) [] text good have is in
       subst (AreKeyTexts p number es e (k ∷ ks)) (sym all.2) all.1
 
-  -- the texts of the numbers of an entry are the text of the entry
+  -- the text of the transactions with the numbers of the entry's keys is the text that is asked for of the entry
   pub entry_text : (ns : List ℕ) (text : List ℕ) → All (λ k. IsAscii k.method) e.keys → HaveNumbers t.keys ns e.keys → IsTextOf t ns text → IsEntryText p number es e e.keys text
   entry_text ns text ascii have is = texts_of e.keys ns text (λ i d low. (contains-among _ e.keys (Contains-get_or e.keys i d low), ascii i d low)) have is

@@ -1,4 +1,4 @@
--- From the states that the code holds to the lines of a listing.
+-- The lines that the code writes of a set's states are the lines of a listing.
 use Rattle.std.proofs.Common.{◌≡◌, ◌↔◌, ℕ, List, [], ◌∷◌, All, map, refl, sym, ap, subst}
 use Rattle.std.proofs.lemmas.List.Elements.{All-weaker}
 use Rattle.sip_standard.specs.Times.{Times}
@@ -20,30 +20,30 @@ use Rattle.sip_standard.specs.StateText.{state_text}
 use Rattle.sip_verdict.specs.inner.TablesTracking.{StandsOf}
 use Rattle.sip_states.proofs.keyed.ByMachine.{some_machine, of_set, to_set}
 
--- the book's numbers are those by which its messages are told
+-- each message of the book is told by its number in the book
 abbrev pub TellsBook : (List ℕ → ℕ) → Texts → Type 0
 TellsBook number texts = (n : ℕ) → Keeps texts n → number (text_of texts n) ≡ n
 
 module _ (number : List ℕ → ℕ) (texts : Texts) (tells : TellsBook number texts) where
-  -- then the states of a set that name what it keeps are told by them
+  -- where the states of a set name messages of the book, they are told by the book's numbers
   told_states : {S : Type 0} (names : S → List ℕ) (xs : List S) → All (Knows names texts) xs → All (λ x. Tells number texts (names x)) xs
   told_states names xs known =
       All-weaker (Knows names texts) (λ x. Tells number texts (names x))
       (λ x all. All-weaker (Keeps texts) (λ n. number (text_of texts n) ≡ n) (λ n keeps. tells n keeps) (names x) all) xs known
 
-  -- the states of a set that the book knows are told by its numbers
+  -- a set whose messages the book keeps is told by the book's numbers
   pub told_set : (set : AnySet) → IsKnownSet texts set → TellsSet number texts set
   told_set set known =
       let (machine, s, is) = some_machine set in
       let known_s = of_set (λ X M S m s. IsKnown m texts s) machine s (subst (IsKnownSet texts) is known) in
       subst (TellsSet number texts) (sym is) (to_set (λ X M S m s. All (λ x. Tells number texts (m.names x)) s.states) machine s (told_states (meaning_of machine).names s.states known_s))
 
--- one map after another
+-- one map after another maps by one function after the other
 map-after : {A B C : Type 0} (f : B → C) (g : A → B) (xs : List A) → map f (map g xs) ≡ map (λ x. f (g x)) xs
 map-after f g [] = refl
 map-after f g (x ∷ xs) = ap (λ ys. f (g x) ∷ ys) (map-after f g xs)
 
--- lines of states that stand for exactly those of which P holds, each once
+-- where states stand for exactly those of which P holds, each once, their lines are the lines of what P holds of
 stood_lines : {X S : Type 0} (names : S → List ℕ) (InRange : S → Type 0) (seen : Texts → S → X) (texts : Texts) (text : X → List ℕ) (P : X → Type 0) (xs : List S) (lines : List (List ℕ))
     → StandFor names InRange seen texts P xs → AreInOrder (map (λ x. text (seen texts x)) xs) lines → AreLinesOf text P lines
 stood_lines names InRange seen texts text P xs lines stand in_order = record {
@@ -53,7 +53,7 @@ stood_lines names InRange seen texts text P xs lines stand in_order = record {
   in_order = subst (λ ts. AreInOrder ts lines) (sym (map-after text (seen texts) xs)) in_order;
 }
 
--- lines of the states of which P holds are those of the states of which Q does, where these are the same
+-- where P and Q hold of the same states, the lines of one are the lines of the other
 lines_alike : {X : Type 0} (text : X → List ℕ) (P Q : X → Type 0) (lines : List (List ℕ)) → ((x : X) → P x ↔ Q x) → AreLinesOf text P lines → AreLinesOf text Q lines
 lines_alike text P Q lines same are = record {
   states = are.states;
@@ -62,7 +62,7 @@ lines_alike text P Q lines same are = record {
   in_order = are.in_order;
 }
 
--- the lines that list a set are those of exactly the states where it stands
+-- the lines that list a set are the lines of exactly the states in which its transaction can stand
 pub standing_lines : (number : List ℕ → ℕ) (texts : Texts) (p : Times) (machine : MachineKind) (events : List MachineEvent) (e : MachineEvent) (set : AnySet) (lines : List (List ℕ))
     → StandsOf texts p machine events e set → TellsSet number texts set → Lists set lines → AreLinesOf (state_text machine number) (StandsAfter (transaction_of machine).figure p events e) lines
 standing_lines number texts p machine events e set lines (s, is, stand) told lists =

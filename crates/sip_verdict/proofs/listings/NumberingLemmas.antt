@@ -1,4 +1,4 @@
--- The numbers of messages in a log.
+-- Messages of a log have the number of the first entry with their bytes.
 use Rattle.std.specs.Str.{bytes_eq}
 use Rattle.std.proofs.Common.{◌≡◌, ◌≢◌, ◌∙◌, ◌<◌, ◌+◌, ◌&&◌, ◌⊎◌, inl, inr, ℕ, Bool, true, false, Option, Some, None, IfNone, List, [], ◌∷◌, ◌++◌, All, cond, length, refl, sym, ap, subst, arith}
 use Rattle.std.proofs.lemmas.Bool.{false_from_ne_true}
@@ -18,7 +18,7 @@ use Rattle.sip_verdict.proofs.judges.ObservingLemmas.{none_alike}
 abbrev pub carries : Item → List ℕ → Bool
 carries item text = has_message item.action && bytes_eq item.text text
 
--- where none carries them, the number is 0, and that of the next that does is counted
+-- where no item carries the bytes, and the next one does, the first entry with the bytes is the next one
 pub entry_from-next : (number : ℕ) (items : List Item) (item : Item) (text : List ℕ) → All (λ i. carries i text ≡ false) items → carries item text ≡ true
     → entry_from number (items ++ item ∷ []) text ≡ number + length items
 entry_from-next number [] item text none it = rw it (omega arith)
@@ -26,25 +26,25 @@ entry_from-next number (i ∷ items) item text none it =
     rw (All-head (λ i. carries i text ≡ false) i items none)
     (entry_from-next (number + 1) items item text (All-tail (λ i. carries i text ≡ false) i items none) it ∙ omega arith)
 
--- the choice of an entry, whatever comes after it
+-- a choice of a number or x that is not 0 is the same of the number or y, where y is x unless x is 0
 chosen : (b : Bool) (number x y : ℕ) → (x ≢ 0 → y ≡ x) → cond b number x ≢ 0 → cond b number y ≡ cond b number x
 chosen true number x y more some = refl
 chosen false number x y more some = more some
 
--- one that carries them keeps its number when more entries come
+-- bytes that an item carries keep the number of their first entry when more entries come
 pub entry_from-kept : (number : ℕ) (items more : List Item) (text : List ℕ) → entry_from number items text ≢ 0 → entry_from number (items ++ more) text ≡ entry_from number items text
 entry_from-kept number [] more text some = absurd (some refl)
 entry_from-kept number (i ∷ items) more text some =
     chosen (carries i text) number (entry_from (number + 1) items text) (entry_from (number + 1) (items ++ more) text) (λ found. entry_from-kept (number + 1) items more text found) some
 
--- of a book that numbers the messages of entries, each keeps its number with more entries
+-- where a book numbers the messages of entries, each message keeps its number when more entries come
 pub stay_numbered : (items more : List Item) (texts : Texts) → AreNumbered items texts → (n : ℕ) → Keeps texts n → first_entry (items ++ more) (text_of texts n) ≡ n
 stay_numbered items more texts a n keeps =
     entry_from-kept 1 items more (text_of texts n) (λ none. let zero_is : n ≡ 0 = sym (a.numbered n keeps) ∙ none in absurd (let low = a.some n keeps in omega (arith, zero_is, low)))
     ∙ a.numbered n keeps
 
 module _ (items : List Item) (i : Item) (old : Texts) (a : AreNumbered items old) where
-  -- the book stays as it is
+  -- where the item concerns no key, or the book has its message already, the book numbers the entries with the item too
   same_book : (¬ ConcernsNone i → (n : ℕ) × Keeps old n × (text_of old n ≡ i.text)) → AreNumbered (items ++ i ∷ []) old
   same_book kept = record {
     some = a.some;
@@ -52,9 +52,9 @@ module _ (items : List Item) (i : Item) (old : Texts) (a : AreNumbered items old
     kept = All-push (λ j. ¬ ConcernsNone j → (n : ℕ) × Keeps old n × (text_of old n ≡ j.text)) items i a.kept kept;
   }
 
-  -- the entry's message is new
+  -- What follows is of an item whose message is new in the book.
   module _ (number : ℕ) (counts : number ≡ length items + 1) (says : has_message i.action ≡ true) (some : ¬ ConcernsNone i) (below : (n : ℕ) → Keeps old n → n < number) (book : IsBook (old ++ (number, i.text) ∷ [])) where
-    -- then no earlier entry has it
+    -- an earlier item does not carry the bytes of the new message
     absent : (j : Item) → (¬ ConcernsNone j → (n : ℕ) × Keeps old n × (text_of old n ≡ j.text)) → carries j i.text ≡ false
     absent j kept = by (has_message j.action) refl
       where
@@ -72,6 +72,7 @@ module _ (items : List Item) (i : Item) (old : Texts) (a : AreNumbered items old
         by false is = refl
         by true is = false_from_ne_true (bytes_eq j.text i.text) (differ is)
 
+    -- the book with the new message numbers the entries with the item too
     more_book : AreNumbered (items ++ i ∷ []) (old ++ (number, i.text) ∷ [])
     more_book = record {
       some = λ n keeps. elim (Keeps-grow_cases old number i.text n keeps) [ inl k ↦ a.some n k | inr e ↦ omega (arith, counts, e) ];
@@ -89,7 +90,7 @@ module _ (items : List Item) (i : Item) (old : Texts) (a : AreNumbered items old
           (λ is. (number, Keeps-added old number i.text, text_of-added old number i.text below));
     }
 
--- a book without messages numbers those of no entry
+-- a book without messages numbers the messages of no entries
 pub numbered_start : (texts : Texts) → texts ≡ [] → AreNumbered [] texts
 numbered_start texts none = subst (AreNumbered []) (sym none) (record {
   some = λ n keeps. absurd (Contains-nil n keeps);
@@ -97,12 +98,12 @@ numbered_start texts none = subst (AreNumbered []) (sym none) (record {
   kept = All-nil (λ j. ¬ ConcernsNone j → (n : ℕ) × Keeps [] n × (text_of [] n ≡ j.text));
 })
 
--- an entry that concerns no key leaves the book
+-- where an entry concerns no key, a book that is left as it was is numbered on
 pub numbered_none : (i : Item) (number : ℕ) (old new : Texts) → ConcernsNone i → new ≡ old → StaysNumbered i number old new
 numbered_none i number old new none same items a counts =
     subst (AreNumbered (items ++ i ∷ [])) (sym same) (same_book items i old a (λ some. absurd (some none)))
 
--- a message that is heard is in the book, or comes into it
+-- where an entry is heard, a book that has its message, or takes it in under the entry's number, is numbered on
 pub numbered_heard : (i : Item) (number name : ℕ) (old new : Texts) → has_message i.action ≡ true → ¬ ConcernsNone i → Keeps new name → text_of new name ≡ i.text → ((n : ℕ) → Keeps old n → n < number) → IsBook new
     → (new ≡ old) ⊎ (new ≡ old ++ (number, i.text) ∷ []) → StaysNumbered i number old new
 numbered_heard i number name old new says some keeps is below book (inl same) items a counts =
@@ -110,19 +111,19 @@ numbered_heard i number name old new says some keeps is below book (inl same) it
 numbered_heard i number name old new says some keeps is below book (inr more) items a counts =
     subst (AreNumbered (items ++ i ∷ [])) (sym more) (more_book items i old a number counts says some below (subst IsBook more book))
 
--- what is so holds where there is no trouble
+-- what holds at all holds where there is no trouble
 pub unless_trouble : (P : Type 0) (verdict : Option Verdict) → P → IfNone verdict P
 unless_trouble P None p = p
 unless_trouble P (Some v) p = tt
 
--- Texts of transactions.
+-- What follows is of the texts of transactions.
 
--- one more was appended
+-- where the listings of some transactions were appended, and then that of one more, the listings of all of these were
 pub appends_more : (t : Tabled) (ns : List ℕ) (n : ℕ) (old mid new : List ℕ) → AppendsEach t ns old mid → Appends t n mid new → AppendsEach t (ns ++ n ∷ []) old new
 appends_more t [] n old mid new same one = (new, subst (λ x. Appends t n x new) same one, refl)
 appends_more t (m ∷ ns) n old mid new (between, first, rest) one = (between, first, appends_more t ns n between mid new rest one)
 
--- the text of some transactions
+-- the listings of one transaction or more, appended to nothing, are the text of these transactions
 pub text_of_some : (t : Tabled) (ns : List ℕ) (text : List ℕ) → ns ≢ [] → AppendsEach t ns [] text → IsTextOf t ns text
 text_of_some t [] text some appends = absurd (some refl)
 text_of_some t (n ∷ ns) text some appends = appends

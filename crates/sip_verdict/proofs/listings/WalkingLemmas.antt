@@ -1,4 +1,4 @@
--- What each answer adds to the entries that were read.
+-- What each answer of the reader adds to the entries that were read.
 use Rattle.std.proofs.Common.{◌≡◌, inr, Bool, Ok, Err, Option, Some, None, IfSome, ℕ, List, [], ◌∷◌, ◌++◌, refl, subst}
 use Rattle.sip_standard.specs.Times.{Times}
 use Rattle.sip_log.specs.declared.entry.Entry.{Entry}
@@ -17,7 +17,7 @@ use Rattle.sip_log.specs.declared.log_error.LogError.TheVariants as errors
 use Rattle.sip_log.specs.Reading as log
 use Rattle.sip_standard.specs.declared.log_reason.LogReason.TheVariants as reasons
 
--- a reason is that of a fault of the input, where no read failed
+-- an error that is told as the reason of a fault is a fault of the input, and no read failed
 pub told-fault : (before after : Bool) (P : LogReason → Type 0) (e : LogError) (reason : LogReason) → Ok reason ≡ told_as e → FailsAs before after (λ fault. P fault) e → (after ≡ before) × P reason
 told-fault before after P errors.Header reason is fails = let same : reasons.Header ≡ reason = cc in (fails.0, subst P same fails.1)
 told-fault before after P errors.EntryLine reason is fails = let same : reasons.EntryLine ≡ reason = cc in (fails.0, subst P same fails.1)
@@ -29,7 +29,7 @@ told-fault before after P errors.Memory reason is fails = cc
 told-fault before after P errors.Failed reason is fails = cc
 
 module _ (start : Option (List ℕ)) (times : Times) (items : List Item) (now new : log.ReaderState) (read : HasRead start times items now) where
-  -- one more
+  -- where the reader gives an entry, the entry was read after the others
   pub gives_entry : (e : Entry) → Nexts now new (Ok (Some e)) → HasRead start times (items ++ item e ∷ []) new
   gives_entry e nexts = record {
     on = (Nexts-counted start items now new e nexts).on;
@@ -37,13 +37,13 @@ module _ (start : Option (List ℕ)) (times : Times) (items : List Item) (now ne
     stands = Stands-gives start items now new e read.stands nexts;
   }
 
-  -- the end
+  -- where the reader gives the end of the log, the log of the input is just the items that were read
   pub gives_end : Nexts now new (Ok None) → IfSome start (λ input. LogSays input times items Clean)
   gives_end nexts =
       subst (λ t. IfSome start (λ input. IfSome t (λ p. LogSays input p items Clean))) (Nexts-times now new (Ok None) times read.on read.times_are nexts)
       (Stands-ends start items now new (inr read.on) read.stands nexts)
 
-  -- what is no entry
+  -- where the reader gives an error that is told as the reason of a fault, no read failed, and the log of the input stops at this fault after the items
   pub gives_fault : (e : LogError) (reason : LogReason) → Ok reason ≡ told_as e → Nexts now new (Err e) → (new.has_failed ≡ now.has_failed) × WalkGives start times items new (Fault reason)
   gives_fault e reason is nexts =
       told-fault now.has_failed new.has_failed (λ r. WalkGives start times items new (Fault r)) e reason is (FailsAs-map now.has_failed new.has_failed
@@ -51,7 +51,7 @@ module _ (start : Option (List ℕ)) (times : Times) (items : List Item) (now ne
       (λ fault stops. (fault, refl, subst (λ t. IfSome start (λ input. StopsAt start items now new input t fault)) (Nexts-times now new (Err e) times read.on read.times_are nexts) stops))
       (Stands-stops start items now new e (inr read.on) read.stands nexts))
 
--- the entries that were read are the first of a log of the input
+-- the items that were read are the first ones of the log of the input
 pub read_log : (start : Option (List ℕ)) (times : Times) (items : List Item) (now : log.ReaderState) → HasRead start times items now
     → IfSome start (λ input. (more : List Item) × (end : LogEnd) × LogSays input times (items ++ more) end)
 read_log start times items now read =

@@ -35,13 +35,14 @@ use Rattle.sip_verdict.proofs.listings.NumberingLemmas.{numbered_start}
 use Rattle.sip_verdict.proofs.listings.WalkingLemmas.{read_log}
 use Rattle.sip_log.specs.Reading as log
 
--- What is kept.
+-- What follows is of what is kept of the entries.
 
--- nothing was judged yet
+-- before the first entry, no messages and no transactions follow no entries
 follows_none : (way : Aim) (p : Times) (texts : Texts) (t : Tabled) → texts ≡ [] → t ≡ record { times = p; keys = []; sets = []; records = [] } → Follows way texts t 0 [] []
 follows_none aim.End p texts t none empty = followed_none p texts t none empty
 follows_none (aim.Entry number) p texts t none empty = ((followed_none p texts t none empty).tracks, numbered_start texts none)
 
+-- a walk that has read the header has walked over no entries
 pub walks_start : (way : Aim) (start : Option (List ℕ)) (now : log.ReaderState) (p : Times) (texts : Texts) (t : Tabled) → texts ≡ [] → t ≡ record { times = p; keys = []; sets = []; records = [] }
     → HasRead start p [] now → Walks way start now 0 0 texts t
 walks_start way start now p texts t none empty read = record {
@@ -55,20 +56,21 @@ walks_start way start now p texts t none empty read = record {
   newest = omega arith;
 }
 
--- the transactions are those of the entries, whatever the aim is
+-- whatever the aim is, the tables follow the entries
 tracks_of : (way : Aim) (texts : Texts) (t : Tabled) (left : ℕ) (items : List Item) (es : List (Observation KeyParts)) → Follows way texts t left items es → TablesTrack texts es t
 tracks_of aim.End texts t left items es follows = follows.tracks
 tracks_of (aim.Entry number) texts t left items es follows = follows.0
 
--- One entry is judged.
+-- What follows is of one entry that is judged.
 
 module _ (old new : Texts) (t u : Tabled) (left rest : ℕ) (e : Entry) where
+  -- what follows the entries with few messages kept follows the entry too, where the aim is the end, or its verdict is given
   end_on : (items : List Item) (es : List (Observation KeyParts)) (seen : Observation KeyParts) (verdict : Option Verdict) → AreFollowedOn new u rest es seen verdict
       → FollowsOn aim.End new u rest items (item e) es seen verdict
   end_on items es seen None follows = follows
   end_on items es seen (Some v) trouble = trouble
 
-  -- few messages are kept
+  -- where the aim is the end, an entry is judged with few messages kept
   pub judges_end : (way : Aim) → way ≡ aim.End → (verdict : Option Verdict)
       → ((es : List (Observation KeyParts)) → AreFollowed old t left es → e.number ≡ length es + 1 → newest_moment es ≤ e.moment
       → (seen : Observation KeyParts) × Sees es (item e) seen × AreFollowedOn new u rest es seen verdict)
@@ -77,13 +79,14 @@ module _ (old new : Texts) (t u : Tabled) (left rest : ℕ) (e : Entry) where
       subst (λ a. JudgesOn a old t left new u rest e verdict) (sym is)
       (λ items es follows long next order. let h = says es follows next order in (h.0, h.1, end_on items es h.0 verdict h.2))
 
+  -- a book that numbers the messages of the entries numbers those of the entry too, where the aim is an entry, or the verdict of the entry is given
   entry_on : (number : ℕ) (items : List Item) (es : List (Observation KeyParts)) (seen : Observation KeyParts) (verdict : Option Verdict) → AreNumbered items old → e.number ≡ length items + 1
       → u.times ≡ t.times → IfNone verdict (StaysNumbered (item e) e.number old new) → IsJudged t.times (key_keeping new t.times) es seen (transactions_of u) verdict
       → FollowsOn (aim.Entry number) new u rest items (item e) es seen verdict
   entry_on number items es seen None numbered next times stays judged = (subst (λ p. Tracks p (key_keeping new p) (es ++ seen ∷ []) (transactions_of u)) (sym times) judged.0, stays items numbered next)
   entry_on number items es seen (Some v) numbered next times stays trouble = subst (λ p. HasTrouble p es seen v) (sym times) trouble
 
-  -- each is
+  -- where the aim is an entry, an entry is judged with each message kept under its first entry's number
   pub judges_entry : {E : Type 0} (way : Aim) (number : ℕ) → way ≡ aim.Entry number → (result : Result (Option Verdict) E) → OnOk result (u.times ≡ t.times)
       → IfOk result (λ verdict. IfNone verdict (StaysNumbered (item e) e.number old new))
       → IfOk result (λ verdict. (es : List (Observation KeyParts)) → TablesTrack old es t → e.number ≡ length es + 1 → newest_moment es ≤ e.moment
@@ -95,9 +98,9 @@ module _ (old new : Texts) (t u : Tabled) (left rest : ℕ) (e : Entry) where
       let h = says es follows.0 next order in
       (h.0, h.1, entry_on number items es h.0 verdict follows.1 (next ∙ ap (λ n. n + 1) (sym long)) times stays h.2))
 
--- Verdicts.
+-- What follows is of verdicts.
 
--- trouble is that of the next entry
+-- the verdict of trouble at the entry e after these entries names the number of e
 trouble_at : (p : Times) (es : List (Observation KeyParts)) (e : Observation KeyParts) (v : Verdict) → HasTrouble p es e v → trouble_of v ≡ Some (length es + 1)
 trouble_at p es e (Legal whole transactions) is = absurd is
 trouble_at p es e (Malformed entry fault) is = ap Some is.0
@@ -105,7 +108,7 @@ trouble_at p es e (Breach entry transaction) is = ap Some is.0
 trouble_at p es e (Undecided entry transaction) is = ap Some is.0
 trouble_at p es e (FaultOfLog entry reason) is = absurd is
 
--- what is listed after trouble is its verdict
+-- where a walk ends with the verdict of trouble before its aim, this verdict is what is listed
 listed_trouble : (v : Verdict) (k : ℕ) → trouble_of v ≡ Some k → listed_after v ≡ Stopped v
 listed_trouble (Legal whole transactions) k at = cc
 listed_trouble (Malformed entry fault) k at = refl
@@ -113,11 +116,11 @@ listed_trouble (Breach entry transaction) k at = refl
 listed_trouble (Undecided entry transaction) k at = refl
 listed_trouble (FaultOfLog entry reason) k at = refl
 
--- the verdict of trouble at an entry that is not after the aim is listed
+-- a verdict of trouble at an entry that is not after the aim is what is listed of the aim
 stops_at : (input : List ℕ) (v : Verdict) (k n : ℕ) → trouble_of v ≡ Some k → k ≤ n → IsVerdictOf input v → IsListingOf input n (Stopped v)
 stops_at input v k n at low is = (is, subst (λ o. IsSomeAnd o (λ k. k ≤ n)) (sym at) low)
 
--- a walk answers the verdict of trouble
+-- a walk that meets trouble not after its aim answers rightly with the verdict of the input
 pub walks_stop : (way : Aim) (start : Option (List ℕ)) (v : Verdict) (k : ℕ) → trouble_of v ≡ Some k → ((n : ℕ) → way ≡ aim.Entry n → k ≤ n) → IfSome start (λ input. IsVerdictOf input v)
     → WalksTo way start (Err v)
 walks_stop aim.End start v k at low is = is
@@ -125,7 +128,7 @@ walks_stop (aim.Entry n) start v k at low is =
     IfSome-map start (λ input. IsVerdictOf input v) (λ input. IsListingOf input n (listed_after v))
     (λ input verdict. subst (IsListingOf input n) (sym (listed_trouble v k at)) (stops_at input v k n at (low n refl) verdict)) is
 
--- and that a log is legal
+-- a walk that reads a legal log with no entry at its aim answers rightly that the log is legal
 walks_through : (way : Aim) (start : Option (List ℕ)) (count many : ℕ) → ((n : ℕ) → way ≡ aim.Entry n → count < n) → IfSome start (λ input. IsVerdictOf input (Legal count many))
     → WalksTo way start (Err (Legal count many))
 walks_through aim.End start count many low is = is
@@ -139,7 +142,7 @@ none_listed way start p now read zero =
     (IfSome-map start (λ input. (more : List Item) × (end : LogEnd) × LogSays input p more end) (λ input. IsListingOf input 0 NoEntry) (λ input l. inl (refl, (p, l.0, l.1, l.2)))
     (read_log start p [] now read))
 
--- entries of which none is in trouble are a legal log
+-- entries of which none is in trouble, read to the end of their log, are legal
 legal_until : (p : Times) (items : List Item) (es : List (Observation KeyParts)) (count : ℕ) → AreSeen [] items es → IsGood p es → count ≡ length es
     → IsVerdictAfter p [] items Clean (Legal count (length (keys_in es)))
 legal_until p items es count observed good counts =
@@ -150,14 +153,14 @@ module _ (way : Aim) (start : Option (List ℕ)) (now : log.ReaderState) (count 
   tracks : TablesTrack texts walks.es t
   tracks = tracks_of way texts t left walks.items walks.es walks.follows
 
-  -- the log ends: it is legal
+  -- where the log ends before the aim, the walk answers rightly that it is legal
   pub walks_end : (many : ℕ) → many ≡ length t.keys → length t.sets ≡ length t.keys → ((n : ℕ) → way ≡ aim.Entry n → count < n) → IfSome start (λ input. LogSays input t.times walks.items Clean)
       → WalksTo way start (Err (Legal count many))
   walks_end many keys long low logs =
       walks_through way start count many low (judged_ends t.times start walks.items walks.es walks.observed tracks.good Clean (Legal count many)
       (ap (λ c. Legal c many) walks.counts ∙ ap (Legal (length walks.es)) (keys ∙ followed_keys texts t walks.es long tracks)) logs)
 
-  -- it cannot be read on
+  -- where the log cannot be read on before the aim, the walk answers rightly with the fault of the log
   pub walks_fault : (reason : LogReason) → ((n : ℕ) → way ≡ aim.Entry n → count < n) → (fault : LogReason) × (reason ≡ fault) × IfSome start (λ input. LogSays input t.times walks.items (Stops fault))
       → WalksTo way start (Err (FaultOfLog (count + 1) reason))
   walks_fault reason low (fault, is, logs) =
@@ -172,7 +175,7 @@ module _ (way : Aim) (start : Option (List ℕ)) (now : log.ReaderState) (count 
     in_order : newest_moment walks.es ≤ e.moment
     in_order = (let newest = walks.newest in omega (arith, newest, order))
 
-    -- it is in no trouble
+    -- where the next entry is in no trouble, the walk goes on over it
     pub walks_on : (left2 : ℕ) (texts2 : Texts) (u : Tabled) → JudgesOn way texts t left texts2 u left2 e None → u.times ≡ t.times → new.last ≡ e.moment → Walks way start new e.number left2 texts2 u
     walks_on left2 texts2 u says times last =
         let h = says walks.items walks.es walks.follows walks.long number_is in_order in
@@ -187,7 +190,7 @@ module _ (way : Aim) (start : Option (List ℕ)) (now : log.ReaderState) (count 
           newest = omega (arith, observed_moment walks.es (item e) h.0 h.1, last);
         }
 
-    -- it is
+    -- where the next entry is in trouble, the walk answers rightly with the verdict of the entry
     pub walks_trouble : (left2 : ℕ) (texts2 : Texts) (u : Tabled) (v : Verdict) → JudgesOn way texts t left texts2 u left2 e (Some v) → u.times ≡ t.times → ((n : ℕ) → way ≡ aim.Entry n → count < n) → WalksTo way start (Err v)
     walks_trouble left2 texts2 u v says times low =
         let h = says walks.items walks.es walks.follows walks.long number_is in_order in
@@ -195,6 +198,7 @@ module _ (way : Aim) (start : Option (List ℕ)) (now : log.ReaderState) (count 
         walks_stop way start v (length walks.es + 1) (trouble_at t.times walks.es h.0 v is) (λ n same. (let before = low n same in let counts = walks.counts in omega (arith, before, counts)))
         (judged_trouble t.times start walks.items walks.es walks.observed tracks.good (item e) new read h.0 h.1 v is)
 
+    -- what is listed of the entry e, whatever comes after it in the log, is what is listed of it in the input
     listed_at : (listing : Listing)
         → ((more : List Item) → (seen : Observation KeyParts) × Sees walks.es (item e) seen × IsListedEntry t.times (first_entry ((walks.items ++ item e ∷ []) ++ more)) walks.es seen listing)
         → IfSome start (λ input. IsListingOf input e.number listing)
@@ -223,7 +227,7 @@ module _ (way : Aim) (start : Option (List ℕ)) (now : log.ReaderState) (count 
         })
         (read_log start t.times (walks.items ++ item e ∷ []) new read)
 
-    -- it is the aim: what is listed of it
+    -- where the next entry is the aim, the walk answers rightly with what is listed of it
     pub walks_listed : (listing : Listing) → way ≡ aim.Entry e.number
         → ((es : List (Observation KeyParts)) (items more : List Item) → TablesTrack texts es t → AreNumbered items texts → AreSeen [] items es → length items ≡ length es → e.number ≡ length es + 1
         → newest_moment es ≤ e.moment

@@ -20,7 +20,7 @@ use Rattle.sip_standard.specs.declared.shown.Shown.TheVariants.{End, Malformed, 
 use Rattle.sip_standard.specs.Showing.{IsCanonOf, shown_entry, AreShown, last_text, EndsAs, IsShownOf}
 use Rattle.sip_log.specs.Reading as log
 
--- one more entry is shown
+-- where entries are shown, and one entry more with its number and its canonical form, all of these are shown
 AreShown-push : (count : ℕ) (items : List Item) (text : List ℕ) (e : Item) (form : List ℕ) (n : ℕ) → n ≡ count + length items + 1 → AreShown count items text → IsCanonOf e.action e.text form
     → AreShown count (items ++ e ∷ []) (text ++ shown_entry n e form)
 AreShown-push count [] text e form n number none is =
@@ -50,16 +50,16 @@ pub record Showed (start : Option (List ℕ)) (now : log.ReaderState) (old new :
   pub times_are : now.times ≡ Some times
   pub stands : Stands start items now
 
--- what was shown, where an answer is given
+-- the answer is right for the input, with the text that was written between the two states of the writer
 abbrev pub Answers : Option (List ℕ) → Option (List ℕ) → Option (List ℕ) → Shown → Type 0
 Answers start old new shown = IfSome start (λ input. (text : List ℕ) × IsShownOf input text shown × Appends old new text)
 
--- the last line was written, which is the answer
+-- where the answer is the given one, and P holds of it whenever there is an answer, P holds of the answer
 pub finished : {E : Type 0} (r : Result Shown E) (shown : Shown) (P : Shown → Type 0) (Q : Type 0) → IfOk r (λ answer. answer ≡ shown) → OnOk r Q → (Q → P shown) → IfOk r P
 finished (Ok answer) shown P Q same wrote f = subst P (sym same) (f wrote)
 finished (Err e) shown P Q same wrote f = tt
 
--- nothing was shown yet
+-- a reader that has read the header has shown no entry yet
 pub showed_start : (start : Option (List ℕ)) (now : log.ReaderState) (p : Times) (w : Option (List ℕ)) → now.stage ≡ entries → now.times ≡ Some p → Stands start [] now → Showed start now w w
 showed_start start now p w on times stands = record {
   times = p;
@@ -73,12 +73,13 @@ showed_start start now p w on times stands = record {
 }
 
 module _ (start : Option (List ℕ)) (now : log.ReaderState) (old w : Option (List ℕ)) (s : Showed start now old w) (new : log.ReaderState) where
-  -- so many entries were read
+  -- the reader has counted the entries that were shown
   count_is : now.count ≡ length s.items
   count_is = (subst (λ x. StandsAt x start s.items now) s.on s.stands).1
 
-  -- the last line was written after them
+  -- What follows is of the writer after the last line, or after one entry more.
   module _ (w2 : Option (List ℕ)) where
+    -- where the log ends here, and the last line was written, all that was written is right for the input
     ends : (end : LogEnd) (shown : Shown) → EndsAs (length s.items) [] end shown → (t : Option Times) → t ≡ Some s.times → IfSome start (λ input. IfSome t (λ p. LogSays input p s.items end))
         → Appends w w2 (last_text shown ++ line_feed ∷ []) → Answers start old w2 shown
     ends end shown is t same logs last =
@@ -98,12 +99,12 @@ module _ (start : Option (List ℕ)) (now : log.ReaderState) (old w : Option (Li
           Appends-trans old w w2 s.text (last_text shown ++ line_feed ∷ []) s.appends last,
         )) logs
 
-    -- the log ends
+    -- where the log ends, what was written with the last line is right, and the answer is how many entries there are
     pub showed_end : (n : ℕ) → n ≡ now.count → Nexts now new (Ok None) → Appends w w2 (last_text (End n) ++ line_feed ∷ []) → Answers start old w2 (End n)
     showed_end n many nexts last =
         ends Clean (End n) (ap End (many ∙ count_is)) new.times (Nexts-times now new (Ok None) s.times s.on s.times_are nexts) (Stands-ends start s.items now new (inr s.on) s.stands nexts) last
 
-    -- the next entry cannot be read
+    -- where the next entry cannot be read, what was written with the last line is right, and the answer is the fault of the log
     pub showed_stops : (n : ℕ) → n ≡ now.count → (e : LogError) → Nexts now new (Err e)
         → FailsAs now.has_failed new.has_failed (λ fault. Appends w w2 (last_text (FaultOfLog (n + 1) fault) ++ line_feed ∷ []) → Answers start old w2 (FaultOfLog (n + 1) fault)) e
     showed_stops n many e nexts =
@@ -119,7 +120,7 @@ module _ (start : Option (List ℕ)) (now : log.ReaderState) (old w : Option (Li
     number_is : e.number ≡ length s.items + 1
     number_is = (Nexts-counted start s.items now new e nexts).continues.number_is ∙ ap (λ n. n + 1) count_is
 
-    -- the next entry was shown
+    -- where the next entry was written in its canonical form, it is shown too
     pub showed_more : (w2 : Option (List ℕ)) (form : List ℕ) → IsCanonOf e.action e.bytes.items form → Appends w w2 (shown_entry e.number (item e) form) → Showed start new old w2
     showed_more w2 form is appends = record {
       times = s.times;
@@ -132,7 +133,7 @@ module _ (start : Option (List ℕ)) (now : log.ReaderState) (old w : Option (Li
       stands = Stands-gives start s.items now new e s.stands nexts;
     }
 
-    -- the next entry's message has a fault
+    -- where the message of the next entry has a fault, what was written with the last line is right, and the answer is this fault
     pub showed_fault : (w2 : Option (List ℕ)) (fault : Fault) → has_message e.action ≡ true → Says e.bytes.items (stops fault) → Appends w w2 (last_text (Malformed e.number fault) ++ line_feed ∷ []) → Answers start old w2 (Malformed e.number fault)
     showed_fault w2 fault some is last =
         let counted = Nexts-counted start s.items now new e nexts in

@@ -1,4 +1,4 @@
--- Messages and sets that follow entries, with one entry more, and after a sweep.
+-- Messages and sets that follow entries follow one entry more, and follow the same entries after a sweep.
 use Rattle.std.proofs.Common.{◌≡◌, ◌<◌, ◌≤◌, ◌+◌, ◌∙◌, ℕ, zero, suc, Option, Some, None, MatchOption, List, [], ◌∷◌, ◌++◌, AllPairs, length, get_or, refl, sym, ap, subst, append_assoc, arith}
 use Rattle.std.proofs.lemmas.List.{append-nil}
 use Rattle.std.proofs.lemmas.List.Elements.{Contains-get_or}
@@ -26,9 +26,9 @@ use Rattle.sip_verdict.proofs.keys.Keys.{newest_moment-push}
 use Rattle.sip_verdict.proofs.tables.TrackingLemmas.{tracks_none}
 use Rattle.sip_verdict.proofs.tables.NamedTables.{no_events_silent}
 
--- How many messages a book keeps.
+-- What follows is of how many messages a book keeps.
 
--- the numbers of a book are not below their places
+-- where the numbers of a book ascend, none of them is below its place
 not_below : (texts : Texts) → AllPairs (λ a b. a.0 < b.0) texts → (d : ℕ × List ℕ) (i : ℕ) → i < length texts → i ≤ (get_or texts i d).0
 not_below texts rising d zero low = omega arith
 not_below texts rising d (suc i) low =
@@ -49,13 +49,13 @@ book_few texts book number below = go (length texts) refl
         let under = below kept.0 (Contains-map (λ k. k.0) texts kept (Contains-get_or texts last (0, []) low)) in
         omega (arith, size, high, under)
 
--- What was named.
+-- What follows is of the messages that are named.
 
--- as many messages were named after some entry as are named after the last
+-- the messages that are named after all entries are among the counts of what was named
 pub now_named : (p : Times) (es : List (Observation KeyParts)) (count : ℕ) → AreMany (IsNamed p es) count → WereNamed p es count
 now_named p es count many = record { front = es; rest = []; whole = sym (append-nil es); many = many }
 
--- what was named after some entry was so before one entry more
+-- a count of what was named stays one when one entry more comes
 more_named : (p : Times) (es : List (Observation KeyParts)) (e : Observation KeyParts) (count : ℕ) → WereNamed p es count
     → WereNamed p (es ++ e ∷ []) count
 more_named p es e count w = record { front = w.front; rest = w.rest ++ e ∷ []; whole = ap (λ xs. xs ++ e ∷ []) w.whole ∙ append_assoc w.front w.rest (e ∷ []); many = w.many }
@@ -69,13 +69,15 @@ none_named p = record {
   counts = refl;
 }
 
--- What is observed of an entry has its moment.
+-- What follows shows that what is observed of an entry has the moment of its item.
 
-heard_moment : (direction : Direction) (i : Item) (e : Observation KeyParts) → ObservesMessage direction i e → e.event.moment ≡ i.moment
+-- a message is seen at the moment of its entry
+pub heard_moment : (direction : Direction) (i : Item) (e : Observation KeyParts) → ObservesMessage direction i e → e.event.moment ≡ i.moment
 heard_moment direction i e (has_fault fault has is) = ap (λ x. x.event.moment) is
 heard_moment direction i e (has_no_cookie r reads lacks is) = ap (λ x. x.event.moment) is
 heard_moment direction i e (is_heard r keys reads fine concerns is) = ap (λ x. x.event.moment) is
 
+-- an entry without a message is observed at its moment
 silent_moment : (a : Action) (moment : ℕ) (keys : List KeyParts) → (silent_observation a moment keys).event.moment ≡ moment
 silent_moment Sent moment keys = refl
 silent_moment Received moment keys = refl
@@ -83,6 +85,7 @@ silent_moment Failed moment keys = refl
 silent_moment Mark moment keys = refl
 silent_moment Restart moment keys = refl
 
+-- an entry is observed at the moment of its item, whichever way its message went
 moment_going : (direction : Option Direction) (i : Item) (keys : List KeyParts) (e : Observation KeyParts) → MatchOption direction (e ≡ silent_observation i.action i.moment keys) (λ way. ObservesMessage way i e)
     → e.event.moment ≡ i.moment
 moment_going None i keys e seen = ap (λ x. x.event.moment) seen ∙ silent_moment i.action i.moment keys
@@ -92,9 +95,9 @@ moment_going (Some direction) i keys e seen = heard_moment direction i e seen
 pub observed_moment : (es : List (Observation KeyParts)) (i : Item) (e : Observation KeyParts) → Sees es i e → newest_moment (es ++ e ∷ []) ≡ i.moment
 observed_moment es i e seen = newest_moment-push es e ∙ moment_going (direction_of i.action) i (keys_in es) e seen
 
--- What follows the entries.
+-- What follows is of messages and sets that follow entries.
 
--- nothing follows none
+-- an empty book and empty tables follow no entries
 pub followed_none : (p : Times) (texts : Texts) (t : Tabled) → texts ≡ [] → t ≡ record { times = p; keys = []; sets = []; records = [] } → AreFollowed texts t 0 []
 followed_none p texts t none empty =
     subst (λ b. AreFollowed b t 0 []) (sym none) (subst (λ u. AreFollowed [] u 0 []) (sym empty) (record {
@@ -108,7 +111,7 @@ pub followed_keys : (texts : Texts) (t : Tabled) (es : List (Observation KeyPart
 followed_keys texts t es long tracks = ap length (sym (firsts-zip t.keys t.sets long) ∙ tracks.keys)
 
 module _ (old mid : Texts) (t u : Tabled) (times : u.times ≡ t.times) (number : ℕ) (i : Item) where
-  -- what was judged of an entry after those that old and t follow
+  -- what was judged of the entry after those that the old messages and sets follow, as the new ones follow it
   abbrev Says : Option Verdict → Type 0
   Says verdict = (es : List (Observation KeyParts)) → TablesTrack old es t → number ≡ length es + 1 → newest_moment es ≤ i.moment
       → (e : Observation KeyParts) × Sees es i e × IsJudged t.times (key_keeping mid t.times) es e (transactions_of u) verdict
@@ -116,7 +119,7 @@ module _ (old mid : Texts) (t u : Tabled) (times : u.times ≡ t.times) (number 
   tracks_on : (es : List (Observation KeyParts)) (e : Observation KeyParts) → IsJudged t.times (key_keeping mid t.times) es e (transactions_of u) None → TablesTrack mid (es ++ e ∷ []) u
   tracks_on es e judged = subst (λ p. Tracks p (key_keeping mid p) (es ++ e ∷ []) (transactions_of u)) (sym times) judged.0
 
-  -- it is not, and few messages are kept
+  -- where the entry is in no trouble and few messages are kept, what is kept follows the entry too
   pub followed_kept : Says None → (left : ℕ) → length mid ≤ left + left + 64 → (es : List (Observation KeyParts)) → AreFollowed old t left es → number ≡ length es + 1 → newest_moment es ≤ i.moment
       → (e : Observation KeyParts) × Sees es i e × AreFollowedOn mid u left es e None
   followed_kept says left few es follows counts order =
@@ -130,7 +133,7 @@ module _ (old mid : Texts) (t u : Tabled) (times : u.times ≡ t.times) (number 
         },
       )
 
-  -- it is not, and messages were forgotten
+  -- where the entry is in no trouble and the book was swept, what is left follows the entry too
   pub followed_swept : Says None → (texts : Texts) (v : Tabled) → v.times ≡ u.times → ((es : List (Observation KeyParts)) → TablesTrack mid es u → TablesTrack texts es v)
       → ((es : List (Observation KeyParts)) → TablesTrack mid es u → newest_moment es ≡ i.moment → AreMany (IsNamed u.times es) (length texts))
       → (now : ℕ) → now ≡ length texts → (left : ℕ) (es : List (Observation KeyParts)) → AreFollowed old t left es → number ≡ length es + 1 → newest_moment es ≤ i.moment
@@ -149,7 +152,7 @@ module _ (old mid : Texts) (t u : Tabled) (times : u.times ≡ t.times) (number 
         },
       )
 
--- an entry may come next where messages were forgotten
+-- where the book was swept, the next entry may be taken by what is left
 pub swept_take : (old texts : Texts) (t u : Tabled) (number moment : ℕ) → MayTake old t number moment → MayPass texts u moment → AllAreOnRecord u → ((n : ℕ) → Keeps texts n → Keeps old n) → u.keys ≡ t.keys
     → MayTake texts u number moment
 swept_take old texts t u number moment may passes recorded fewer keys = record {

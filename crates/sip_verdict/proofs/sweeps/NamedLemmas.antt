@@ -1,47 +1,29 @@
--- What the states of the sets name are the messages that are named.
+-- The states of the sets name just the messages that the runs name.
 use Rattle.std.proofs.Common.{◌≡◌, ◌≤◌, ◌↔◌, ◌⊎◌, inl, inr, ℕ, List, [], ◌∷◌, ◌++◌, Contains, map, refl, sym, ap, ap₂, ◌∙◌, subst}
 use Rattle.std.specs.List.{flat_map}
 use Rattle.std.proofs.lemmas.List.{map-append}
-use Rattle.std.proofs.lemmas.List.Elements.{Contains-append_left, Contains-append_right, Contains-append_cases}
 use Rattle.sip_standard.specs.Times.{Times}
 use Rattle.sip_ledger.specs.declared.debt.Debt.{Debt}
 use Rattle.sip_machine.specs.Texts.{Texts, text_of}
 use Rattle.sip_machine.specs.Owes.{owes_seen, owes_names}
 use Rattle.sip_standard.specs.MachineEvent.{MachineEvent}
 use Rattle.sip_machine.specs.Rules.{MachineRules, IsLawful, StandFor}
-use Rattle.sip_machine.proofs.texts.TextLaws.{Contains-nil, Contains-cons_cases}
 use Rattle.sip_states.specs.Runs.{Wait, RuledRun}
 use Rattle.sip_standard.specs.KeyMachine.{MachineKind}
 use Rattle.sip_states.specs.KeySets.{coded_of, StateOf}
 use Rattle.sip_states.proofs.keyed.KeySetLaws.{coded_holds}
 use Rattle.sip_states.specs.AnySet.{meaning_of}
-use Rattle.sip_states.proofs.lists.Listed.{Contains-map, Contains-from_map, Contains-here, Contains-there, Contains-none}
+use Rattle.sip_states.proofs.lists.Listed.{Contains-map, Contains-from_map, Contains-none}
+use Rattle.sip_states.proofs.keyed.NamesLemmas.{Contains-flat_map, Contains-from_flat_map}
 use Rattle.sip_states.proofs.sets.Waiting.{StaysFrom, EndsFrom, Wait-cases}
 use Rattle.sip_verdict.specs.inner.Leads.{Leads}
 use Rattle.sip_verdict.specs.Named.{messages_of}
 
--- an element of a list that one of several gives
-pub Contains-flat_map : {X Y : Type 0} (f : X → List Y) (xs : List X) (x : X) (y : Y) → Contains xs x → Contains (f x) y → Contains (flat_map f xs) y
-Contains-flat_map f [] x y among has = absurd (Contains-nil x among)
-Contains-flat_map f (u ∷ xs) x y among has =
-    elim (Contains-cons_cases u xs x among) [
-      | inl same ↦ Contains-append_left (f u) (flat_map f xs) y (subst (λ v. Contains (f v) y) (sym same) has)
-      | inr rest ↦ Contains-append_right (f u) (flat_map f xs) y (Contains-flat_map f xs x y rest has)
-    ]
-
-pub Contains-from_flat_map : {X Y : Type 0} (f : X → List Y) (xs : List X) (y : Y) → Contains (flat_map f xs) y → (x : X) × Contains xs x × Contains (f x) y
-Contains-from_flat_map f [] y has = absurd (Contains-nil y has)
-Contains-from_flat_map f (u ∷ xs) y has =
-    elim (Contains-append_cases (f u) (flat_map f xs) y has) [
-      | inl here ↦ (u, Contains-here u xs, here)
-      | inr more ↦ (let (x, among, is) = Contains-from_flat_map f xs y more in (x, Contains-there u xs x among, is))
-    ]
-
--- a number of the set stands for the text
+-- one of these numbers stands for the text in the book
 abbrev pub IsNumberOf : Texts → List ℕ → List ℕ → Type 0
 IsNumberOf texts numbers text = (n : ℕ) × Contains numbers n × (text_of texts n ≡ text)
 
--- a state of a run names the text
+-- a run over the events stands at the moment in a state that names the text
 abbrev pub RunNames : {X : Type 0} → MachineRules X → (X → List (List ℕ)) → List MachineEvent → ℕ → List ℕ → Type 0
 RunNames {X} r messages events moment text = (y : X) × RuledRun r events moment y × Contains (messages y) text
 
@@ -79,20 +61,21 @@ module _ {X S : Type 0} (names : S → List ℕ) (InRange : S → Type 0) (seen 
           Contains-none n (subst (λ ns. Contains ns n) silent (Contains-flat_map names old x n among in_names))
       go (inr ends) = Contains-none text (subst (λ ts. Contains ts text) (ap messages ends.hides.gives ∙ rests) has)
 
--- what is owed stands for the messages of its debts
+-- the messages of the debts that a state stands for are those that its debts name in the book
 owed_named : (texts : Texts) (owes : List Debt) → map (λ owed. owed.message) (owes_seen texts owes) ≡ map (text_of texts) (owes_names owes)
 owed_named texts [] = refl
 owed_named texts (debt ∷ owes) = ap (λ rest. text_of texts debt.message ∷ rest) (owed_named texts owes)
 
--- what a state names is what it stands for
+-- what a state of the code names in the book is what the state that it stands for names
 pub named_of : (machine : MachineKind) (texts : Texts) (x : StateOf machine) → messages_of machine ((meaning_of machine).seen texts x) ≡ map (text_of texts) ((meaning_of machine).names x)
 named_of machine texts x =
     ap₂ (λ of_phase owed. of_phase ++ owed) ((coded_holds machine).named texts x.phase) (owed_named texts x.owes)
     ∙ sym (map-append (text_of texts) ((coded_of machine).names x.phase) (owes_names x.owes))
 
--- the first and the ended state name nothing
+-- the first state names nothing
 pub first_silent : (machine : MachineKind) (p : Times) → messages_of machine ((meaning_of machine).rules p).first ≡ []
 first_silent machine p = ap (λ messages. messages ++ []) (coded_holds machine).idle_silent
 
+-- the ended state names nothing
 pub ended_silent : (machine : MachineKind) (p : Times) → messages_of machine ((meaning_of machine).rules p).ended ≡ []
 ended_silent machine p = ap (λ messages. messages ++ []) (coded_holds machine).ended_silent

@@ -1,4 +1,4 @@
--- The newest message is forgotten, where no set names it: the sets know what they name, and lead and stand as before.
+-- Where no set names the newest message, it can be dropped: the sets name kept messages still, and lead and stand as before.
 use Rattle.std.proofs.Common.{◌≡◌, ◌<◌, ◌+◌, ◌-◌, ◌⊎◌, inl, inr, ℕ, Bool, true, false, Option, Some, None, List, [], ◌∷◌, ◌++◌, All, Contains, get_or, slice_get, refl, sym, ap, ◌∙◌, subst, arith}
 use Rattle.std.specs.List.{flat_map}
 use Rattle.std.proofs.lemmas.Bool.{false≢true}
@@ -30,7 +30,7 @@ use Rattle.sip_verdict.specs.inner.TablesTracking.{LeadsOf, StandsOf, key_keepin
 use Rattle.sip_verdict.specs.declared.concerned.Concerned.{Concerned}
 use Rattle.sip_verdict.specs.declared.passing.Hearing.{Hearing}
 use Rattle.sip_verdict.proofs.keys.Leading.{Leads-book}
-use Rattle.sip_verdict.proofs.sweeps.NamedLemmas.{Contains-flat_map, Contains-from_flat_map}
+use Rattle.sip_states.proofs.keyed.NamesLemmas.{Contains-flat_map, Contains-from_flat_map}
 use Rattle.sip_verdict.proofs.sweeps.SweptBook.{same_within}
 use Rattle.sip_verdict.proofs.tables.TablesPassing.{All-place, All-places, place-zip, among_one}
 
@@ -54,7 +54,7 @@ module _ (number : ℕ) (bytes : List ℕ) (new : Texts) where
   abbrev old : Texts
   old = new ++ (number, bytes) ∷ []
 
-  -- of a set of this machine each state names what is still kept
+  -- a state of a set of this machine that does not name the dropped message names only messages that are kept still
   agree : (machine : MachineKind) (s : Held Times (StateOf machine)) → ((n : ℕ) → Contains (flat_map (meaning_of machine).names s.states) n → n ≡ number → ⊥) → All (Knows (meaning_of machine).names old) s.states
       → All (AgreeOn (meaning_of machine).names old new) s.states
   agree machine s unnamed knows k d low n has =
@@ -67,12 +67,13 @@ module _ (number : ℕ) (bytes : List ℕ) (new : Texts) where
       go (inl keeps) = (keeps, text_of-grow new number bytes n keeps)
       go (inr same) = absurd (unnamed n (Contains-flat_map (meaning_of machine).names s.states (get_or s.states k d) n (Contains-get_or s.states k d low) has) (sym same))
 
-  -- a set that does not name the message
+  -- a set of this machine that does not name the dropped message has only states that do not name it
   unnamed_of : (machine : MachineKind) (s : Held Times (StateOf machine)) (set : AnySet) → set ≡ set_of machine s → ¬ Contains (numbers_of set) number
       → (n : ℕ) → Contains (flat_map (meaning_of machine).names s.states) n → n ≡ number → ⊥
   unnamed_of machine s set is unnamed n has same =
       unnamed (subst (λ ns. Contains ns number) (sym (ap numbers_of is ∙ numbers_are machine s)) (subst (Contains (flat_map (meaning_of machine).names s.states)) same has))
 
+  -- a set that does not name the dropped message names only messages that are kept still
   pub unnamed_known : (set : AnySet) → ¬ Contains (numbers_of set) number → IsKnownSet old set → IsKnownSet new set
   unnamed_known set unnamed known =
       let (machine, s, is) = some_machine set in
@@ -82,6 +83,7 @@ module _ (number : ℕ) (bytes : List ℕ) (new : Texts) where
       subst (IsKnownSet new) (sym is) (to_set (λ X M S m s. IsKnown m new s) machine s
       (All-weaker (AgreeOn m.names old new) (Knows m.names new) (λ x at k d low. (at (get_or (m.names x) k d) (Contains-get_or (m.names x) k d low)).0) s.states agrees))
 
+  -- a set that does not name the dropped message leads to the same runs without it
   pub unnamed_leads : (p : Times) (machine : MachineKind) (events : List MachineEvent) (from : ℕ) (set : AnySet) → ¬ Contains (numbers_of set) number → LeadsOf old p machine events from set → LeadsOf new p machine events from set
   unnamed_leads p machine events from set unnamed (s, is, leads) =
       let m = meaning_of machine in (
@@ -93,6 +95,7 @@ module _ (number : ℕ) (bytes : List ℕ) (new : Texts) where
         },
       )
 
+  -- a set that does not name the dropped message stands for the same last states without it
   pub unnamed_stands : (p : Times) (machine : MachineKind) (events : List MachineEvent) (e : MachineEvent) (set : AnySet) → ¬ Contains (numbers_of set) number → StandsOf old p machine events e set → StandsOf new p machine events e set
   unnamed_stands p machine events e set unnamed (s, is, stand) =
       let m = meaning_of machine in (
@@ -101,7 +104,7 @@ module _ (number : ℕ) (bytes : List ℕ) (new : Texts) where
         StandFor-book m.names m.in_range m.seen (seen_by_names_of machine) old new (AfterRun (key_rules p machine) events e) s.states (agree machine s (unnamed_of machine s set is unnamed) stand.known) stand,
       )
 
-  -- sets that do not name the message are ready and stand without it, each beside its key
+  -- What follows is of sets none of which names the dropped message, each beside its key.
   module _ (p : Times) (es : List (Observation KeyParts)) (t : Tabled) (unnamed : All (λ set. ¬ Contains (numbers_of set) number) t.sets) where
     unnamed_at : (n : ℕ) (x : KeyParts × AnySet) → slice_get (transactions_of t) n ≡ Some x → ¬ Contains (numbers_of x.1) number
     unnamed_at n x at = All-place (λ set. ¬ Contains (numbers_of set) number) t.sets n x.1 (place-zip t.keys t.sets n x at).1 unnamed
@@ -110,12 +113,13 @@ module _ (number : ℕ) (bytes : List ℕ) (new : Texts) where
     unnamed_ready ready = All-places (IsReady (key_keeping new p) es) (transactions_of t) (λ n x at.
         unnamed_leads p (machine_of_key p.rules x.0) (events_for x.0 es) (newest_moment es) x.1 (unnamed_at n x at) (All-place (IsReady (key_keeping old p) es) (transactions_of t) n x at ready))
 
+    -- each set stands for the same last states beside the book without the message
     unnamed_standing : (e : Observation KeyParts) → All (IsStanding (key_keeping old p) es e) (transactions_of t) → All (IsStanding (key_keeping new p) es e) (transactions_of t)
     unnamed_standing e stand = All-places (IsStanding (key_keeping new p) es e) (transactions_of t) (λ n x at concerned.
         unnamed_stands p (machine_of_key p.rules x.0) (events_for x.0 es) e.event x.1 (unnamed_at n x at)
         (All-place (IsStanding (key_keeping old p) es e) (transactions_of t) n x at stand concerned))
 
--- what was judged of an entry without trouble
+-- an entry in no trouble is judged as before, where a message that no set names was dropped after it
 pub dropped_judged : (number : ℕ) (texts_before new : Texts) (p : Times) (es : List (Observation KeyParts)) (e : Observation KeyParts) (t : Tabled) → DropsUnnamed t.sets number texts_before new
     → IsJudged p (key_keeping texts_before p) es e (transactions_of t) None → IsJudged p (key_keeping new p) es e (transactions_of t) None
 dropped_judged number texts_before new p es e t (inl same) judged = subst (λ texts. IsJudged p (key_keeping texts p) es e (transactions_of t) None) (sym same) judged
@@ -125,7 +129,7 @@ dropped_judged number texts_before new p es e t (inr (bytes, is, unnamed)) judge
       unnamed_standing number bytes new p es t unnamed e before.1,
     )
 
--- the next entry may come
+-- the next entry may be taken as before, where a message that no set names was dropped
 pub dropped_take : (number : ℕ) (texts_before new : Texts) (t : Tabled) (next moment : ℕ) → DropsUnnamed t.sets number texts_before new → MayTake texts_before t next moment → MayTake new t next moment
 dropped_take number texts_before new t next moment (inl same) may = subst (λ texts. MayTake texts t next moment) (sym same) may
 dropped_take number texts_before new t next moment (inr (bytes, is, unnamed)) may =
@@ -142,13 +146,13 @@ dropped_take number texts_before new t next moment (inr (bytes, is, unnamed)) ma
       few = before.few;
     }
 
--- what is left where the newest message was dropped was kept before
+-- where the newest message was dropped, or none was, each message that is left was kept before
 pub dropped_within : (sets : List AnySet) (number : ℕ) (texts_before new : Texts) → DropsUnnamed sets number texts_before new → All (Contains texts_before) new
 dropped_within sets number texts_before new (inl same) = same_within texts_before new same
 dropped_within sets number texts_before new (inr (bytes, is, unnamed)) = λ k d low.
     subst (λ texts. Contains texts (get_or new k d)) (sym is) (Contains-append_left new ((number, bytes) ∷ []) (get_or new k d) (Contains-get_or new k d low))
 
--- where none of some transactions names a message, the sets of their numbers do not
+-- where none of the transactions with these numbers names a message, none of their sets does
 these_unnamed : (message : ℕ) (t : Tabled) (numbers : List ℕ) → All (NamesNot t message) numbers → (n : ℕ) (set : AnySet) → is_among numbers (n + 1) ≡ true → slice_get t.sets n ≡ Some set
     → ¬ Contains (numbers_of set) message
 these_unnamed message t [] none n set among at = absurd (false≢true among)
@@ -160,14 +164,14 @@ these_unnamed message t (m ∷ ms) none n set among at =
       | inr other ↦ these_unnamed message t ms (All-tail (NamesNot t message) m ms none) n set (among_one (n + 1) m ms among other.1) at
     ]
 
--- a transaction whose set does not name it
+-- a transaction whose set does not name a message does not name it
 pub names_not : (message number : ℕ) (t : Tabled) (set : AnySet) → slice_get t.sets (number - 1) ≡ Some set → ¬ Contains (numbers_of set) message → NamesNot t message number
 names_not message number t set at none other is =
     let same : Some set ≡ Some other = sym at ∙ is in
     let one : set ≡ other = cc in
     subst (λ s. ¬ Contains (numbers_of s) message) one none
 
--- the sets that none of some transactions is, and those, name no such message
+-- where no set but those of the entry's transactions names the message, and none of the entry's does, no set names it
 pub all_unnamed : (number : ℕ) (concerned : Concerned ℕ) (t : Tabled) → is_all concerned ≡ false → OthersAre (λ set. ¬ Contains (numbers_of set) number) concerned t
     → All (NamesNot t number) (each concerned)
     → All (λ set. ¬ Contains (numbers_of set) number) t.sets

@@ -1,4 +1,4 @@
--- A sweep: sets wait, and the book keeps what they name. They still lead to the same runs, and their last moments stay.
+-- In a sweep the sets wait, and the book keeps what they name: the sets lead to the same runs, and their last moments stay.
 use Rattle.std.proofs.Common.{◌≡◌, ◌≤◌, ◌<◌, ◌↔◌, ◌⊎◌, inl, inr, ℕ, Option, List, All, AllPairs, Contains, map, get_or, refl, sym, ap, ◌∙◌, subst, arith}
 use Rattle.std.specs.List.{flat_map}
 use Rattle.std.proofs.lemmas.List.Elements.{Contains-get_or}
@@ -25,9 +25,9 @@ use Rattle.sip_verdict.specs.inner.Leads.{Leads}
 use Rattle.sip_verdict.specs.inner.TablesTracking.{LeadsOf}
 use Rattle.sip_verdict.proofs.keys.Leading.{iff_trans, Leads-book}
 use Rattle.sip_states.proofs.keyed.ByMachine.{some_machine, lawful_of, moment_is, numbers_are, of_set, to_set, of_sets, seen_by_names_of}
-use Rattle.sip_verdict.proofs.sweeps.NamedLemmas.{Contains-flat_map}
+use Rattle.sip_states.proofs.keyed.NamesLemmas.{Contains-flat_map}
 
--- once a set that leads has waited, it leads
+-- a set that leads to the runs leads to them after it has waited until a later moment
 pub waited_leads : {X S : Type 0} (names : S → List ℕ) (InRange : S → Type 0) (seen : Texts → S → X) (texts : Texts) (r : MachineRules X) → IsLawful r → (events : List MachineEvent) (from at moment : ℕ) (old new : List S) → at ≤ moment
     → Leads names seen texts r events from at old → StandFor names InRange seen texts (Wait r (Contains (map (seen texts) old)) at moment) new → Leads names seen texts r events from moment new
 waited_leads names InRange seen texts r lawful events from at moment old new low leads stand = record {
@@ -37,7 +37,7 @@ waited_leads names InRange seen texts r lawful events from at moment old new low
       (iff_trans (Wait-twice r lawful (Contains (map (seen texts) old)) at moment n low later x) (leads.runs n x late (omega (arith, low, later))));
 }
 
--- a set leads to the same beside a book that keeps what it names
+-- a set leads to the same runs beside the book with some of its messages alone, where these are all that the set names
 pub kept_leads : {X S : Type 0} (names : S → List ℕ) (seen : Texts → S → X) → ((a b : Texts) (x : S) → ((n : ℕ) → Contains (names x) n → text_of a n ≡ text_of b n) → seen a x ≡ seen b x)
     → (texts : Texts) (numbers : List ℕ) → IsBook texts → AllPairs (λ a b. a < b) numbers → All (Keeps texts) numbers → (r : MachineRules X) (events : List MachineEvent) (from moment : ℕ) (states : List S)
     → ((n : ℕ) → Contains (flat_map names states) n → Contains numbers n) → Leads names seen texts r events from moment states → Leads names seen (only numbers texts) r events from moment states
@@ -48,7 +48,7 @@ kept_leads names seen by_names texts numbers book up kept r events from moment s
     (only-Keeps texts numbers book up kept n among, sym (text_of-only texts numbers book up kept n among)))) leads
 
 module _ (texts : Texts) (numbers : List ℕ) (book : IsBook texts) (up : AllPairs (λ a b. a < b) numbers) (kept : All (Keeps texts) numbers) (p : Times) (machine : MachineKind) (events : List MachineEvent) (from : ℕ) where
-  -- the set of a key, of the tables
+  -- a set of the tables that has waited leads to the same runs beside the book with some of its messages alone, where these are all that it names
   pub swept_leads : (moment : ℕ) (old new : AnySet) → moment_of old ≤ moment → IsAdvanced moment old new → ((n : ℕ) → Contains (numbers_of new) n → Contains numbers n)
       → LeadsOf texts p machine events from old → LeadsOf (only numbers texts) p machine events from new
   swept_leads moment old new low (inl waits) within (s, is, leads) =
@@ -77,10 +77,11 @@ module _ (texts : Texts) (numbers : List ℕ) (book : IsBook texts) (up : AllPai
         },
       )
 
--- Until when a wait lasts does not depend on the book.
+-- What follows shows that it does not depend on the book until when a wait lasts.
 
 module _ {X S : Type 0} (seen : Texts → S → X) (r : MachineRules X) (lawful : IsLawful r) (window_same : (a b : Texts) (x : S) → r.window (seen a x) ≡ r.window (seen b x))
     (until_same : (a b : Texts) (x : S) → r.until (seen a x) ≡ r.until (seen b x)) where
+  -- where some state comes of a wait beside one book, some state comes of it beside the other
   some_wait : (a b : Texts) (states : List S) (h m : ℕ) → ((y : X) × Wait r (Contains (map (seen a) states)) h m y) → (y : X) × Wait r (Contains (map (seen b) states)) h m y
   some_wait a b states h m (y, wait) = go ((Wait-cases r lawful (Contains (map (seen a) states)) h m y).0 wait)
     where
@@ -111,10 +112,11 @@ module _ {X S : Type 0} (seen : Texts → S → X) (r : MachineRules X) (lawful 
             }),
           )
 
+  -- a last moment beside one book is one beside the other
   pub agenda_any : (a b : Texts) (states : List S) (h : ℕ) (limit : Option ℕ) → IsAgenda r (Contains (map (seen a) states)) h limit → IsAgenda r (Contains (map (seen b) states)) h limit
   agenda_any a b states h limit agenda m low = (λ some. (agenda m low).0 (some_wait b a states h m some), λ within. some_wait a b states h m ((agenda m low).1 within))
 
--- a wait lasts as long after a wait
+-- until when a wait from a set can last is the same after the set has waited
 pub agenda_waited : {X S : Type 0} (names : S → List ℕ) (InRange : S → Type 0) (seen : Texts → S → X) (texts : Texts) (r : MachineRules X) → IsLawful r → (at moment : ℕ) (old new : List S) → at ≤ moment
     → StandFor names InRange seen texts (Wait r (Contains (map (seen texts) old)) at moment) new → (limit : Option ℕ) → IsAgenda r (Contains (map (seen texts) old)) at limit
     → IsAgenda r (Contains (map (seen texts) new)) moment limit
@@ -124,14 +126,14 @@ agenda_waited {X} names InRange seen texts r lawful at moment old new low stand 
     let lasts = agenda n (omega (arith, low, later)) in
     (λ some. lasts.0 (some.0, (same some.0).0 some.1), λ within. let some = lasts.1 within in (some.0, (same some.0).1 some.1))
 
--- the timers of a state do not depend on it
+-- the timers of a state do not depend on the book
 window_of : (machine : MachineKind) (p : Times) (a b : Texts) (x : StateOf machine) → ((meaning_of machine).rules p).window ((meaning_of machine).seen a x) ≡ ((meaning_of machine).rules p).window ((meaning_of machine).seen b x)
 window_of machine p a b x = window_same (transaction_of machine).figure (coded_of machine).seen a b p x ((coded_holds machine).window_same a b p x.phase)
 
 until_of : (machine : MachineKind) (p : Times) (a b : Texts) (x : StateOf machine) → ((meaning_of machine).rules p).until ((meaning_of machine).seen a x) ≡ ((meaning_of machine).rules p).until ((meaning_of machine).seen b x)
 until_of machine p a b x = until_same (transaction_of machine).figure (coded_of machine).seen a b p x ((coded_holds machine).closes_same a b p x.phase)
 
--- the last moment on record is still that of the set
+-- where a last moment is on record of a set, it is that of the set after a sweep
 pub swept_agenda : (texts : Texts) → IsBook texts → (moment : ℕ) (old new : AnySet) → moment_of old ≤ moment → IsAdvanced moment old new
     → IsKnownSet texts old → (limit : Option ℕ) → IsAgendaOf limit old → IsAgendaOf limit new
 swept_agenda texts book moment old new low (inr (same, silent)) known limit agenda = subst (IsAgendaOf limit) (sym same) agenda

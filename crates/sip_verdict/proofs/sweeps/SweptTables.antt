@@ -1,4 +1,4 @@
--- A sweep of the tables and the book.
+-- After a sweep the tables follow the same entries beside the smaller book.
 use Rattle.std.proofs.Common.{◌≡◌, ◌≤◌, ◌<◌, ◌↔◌, inl, inr, ℕ, Option, Some, None, List, [], ◌++◌, All, AllPairs, Contains, map, length, slice_get, get_or, sym, ap, ◌∙◌, subst, arith}
 use Rattle.std.specs.List.{flat_map}
 use Rattle.std.proofs.lemmas.List.Elements.{All-contains, Contains-get_or}
@@ -22,10 +22,10 @@ use Rattle.sip_verdict.specs.inner.Tracking.{IsReady, Tracks}
 use Rattle.sip_verdict.specs.inner.TablesTracking.{key_keeping, transactions_of, TablesTrack, MayPass, IsOnRecord, AllAreOnRecord}
 use Rattle.sip_states.proofs.keyed.ByMachine.{some_machine, moment_is, numbers_are, of_set, to_set, of_sets}
 use Rattle.sip_verdict.proofs.tables.TablesPassing.{at_place, All-place, All-places, zip-place, place-zip, keys_are}
-use Rattle.sip_verdict.proofs.sweeps.NamedLemmas.{Contains-flat_map, Contains-from_flat_map}
+use Rattle.sip_states.proofs.keyed.NamesLemmas.{Contains-flat_map, Contains-from_flat_map}
 use Rattle.sip_verdict.proofs.sweeps.SweptSets.{swept_leads, swept_agenda}
 
--- numbers that were appended to none
+-- where the list of numbers began empty, the numbers that were appended are the whole list
 pub named_is : (t : Tabled) (start out : List ℕ) → start ≡ [] → AppendsNamed t start out → (numbers : List ℕ) → numbers ≡ out
     → AllPairs (λ a b. a < b) numbers × ((n : ℕ) → Contains numbers n ↔ Contains (flat_map numbers_of t.sets) n)
 named_is t start out none (added, is, rising, same) numbers are =
@@ -34,15 +34,15 @@ named_is t start out none (added, is, rising, same) numbers are =
 
 module _ (texts : Texts) (book : IsBook texts) (t u : Tabled) (moment : ℕ) (advances : AdvancesAll moment t u) (may : MayPass texts t moment)
     (numbers : List ℕ) (up : AllPairs (λ a b. a < b) numbers) (same : (n : ℕ) → Contains numbers n ↔ Contains (flat_map numbers_of u.sets) n) where
-  -- the set that was at a place
+  -- the set that stood at the place before the sweep
   pub before : (n : ℕ) (new : AnySet) → slice_get u.sets n ≡ Some new → (old : AnySet) × (slice_get t.sets n ≡ Some old)
   before n new at = at_place t.sets n (let low = slice_get_within u.sets n new at in let long = advances.long in omega arith)
 
-  -- what it names is kept
+  -- each message that a set names after the sweep is among the numbers
   pub within : (n : ℕ) (new : AnySet) → slice_get u.sets n ≡ Some new → (k : ℕ) → Contains (numbers_of new) k → Contains numbers k
   within n new at k has = (same k).1 (Contains-flat_map numbers_of u.sets new k (n, slice_get_within u.sets n new at, get_or_from_slice_get u.sets n new new at) has)
 
-  -- no set is later than the moment
+  -- no set has a moment after that of the sweep
   pub swept_order : All (λ set. moment_of set ≤ moment) u.sets
   swept_order = All-places (λ set. moment_of set ≤ moment) u.sets (λ n new at.
       let (old, was) = before n new at in
@@ -56,7 +56,7 @@ module _ (texts : Texts) (book : IsBook texts) (t u : Tabled) (moment : ℕ) (ad
           omega (arith, at)
       go old new low (inr stays) = subst (λ s. moment_of s ≤ moment) (sym stays.0) low
 
-  -- what they name was kept
+  -- each message that the sets name was kept before the sweep
   pub swept_kept : All (Keeps texts) numbers
   swept_kept = All-of numbers (λ k has.
       (let (new, (n, low, is), in_set) = Contains-from_flat_map numbers_of u.sets k ((same k).0 has) in
@@ -78,7 +78,7 @@ module _ (texts : Texts) (book : IsBook texts) (t u : Tabled) (moment : ℕ) (ad
           All-contains (Keeps texts) (names x) k (All-contains (Knows names texts) v.states x stand.known among) named
 
   module _ (kept : All (Keeps texts) numbers) where
-    -- the book keeps what they name
+    -- the swept book keeps each message that the sets name
     pub swept_known : All (IsKnownSet (only numbers texts)) u.sets
     swept_known = All-places (IsKnownSet (only numbers texts)) u.sets (λ n new at.
         let (machine, s, is) = some_machine new in
@@ -90,10 +90,11 @@ module _ (texts : Texts) (book : IsBook texts) (t u : Tabled) (moment : ℕ) (ad
         only-Keeps texts numbers book up kept number (within n new at number (subst (λ ns. Contains ns number) (sym (ap numbers_of is ∙ numbers_are machine s)) has))) in
         subst (IsKnownSet (only numbers texts)) (sym is) (to_set (λ X M S m s. IsKnown m (only numbers texts) s) machine s known))
 
+    -- after the sweep the sets may pass an entry at the moment
     pub swept_may : MayPass (only numbers texts) u moment
     swept_may = record { order = swept_order; known = swept_known; long = advances.long ∙ may.long ∙ sym (ap length advances.keys) }
 
-    -- the tables follow the same entries
+    -- tables that follow the entries follow them after the sweep, beside the swept book
     pub swept_track : (es : List (Observation KeyParts)) → TablesTrack texts es t → TablesTrack (only numbers texts) es u
     swept_track es tracks =
         let keys : map (λ x. x.0) (transactions_of u) ≡ map (λ x. x.0) (transactions_of t) =
@@ -111,7 +112,7 @@ module _ (texts : Texts) (book : IsBook texts) (t u : Tabled) (moment : ℕ) (ad
           good = tracks.good;
         })
 
-  -- each last moment on record stays that of its set
+  -- where each last moment is on record, it is so after the sweep
   pub swept_recorded : AllAreOnRecord t → AllAreOnRecord u
   swept_recorded recorded = record {
     long = ap length advances.records ∙ recorded.long ∙ sym (ap length advances.keys);

@@ -1,4 +1,4 @@
--- What is kept before the first entry, and between two.
+-- Which entry may be taken first, and which one next.
 use Rattle.std.proofs.Common.{◌≡◌, ◌≤◌, ◌+◌, ℕ, [], refl, sym, subst, arith}
 use Rattle.std.proofs.lemmas.List.Elements.{All-nil, All-weaker}
 use Rattle.sip_standard.specs.Times.{Times}
@@ -25,7 +25,7 @@ first_may texts t p moment none empty = subst (λ b. MayTake b t 1 moment) (sym 
   few = omega arith;
 }))
 
--- an entry may come next that has the next number and is no earlier
+-- where the next number may be taken, an entry with that number may be taken at any moment that is no earlier
 pub next_may : (texts : Texts) (t : Tabled) (count last number moment : ℕ) → number ≡ count + 1 → last ≤ moment → MayTake texts t (count + 1) last → MayTake texts t number moment
 next_may texts t count last number moment next order may = subst (λ n. MayTake texts t n moment) (sym next) (record {
   passes = record {

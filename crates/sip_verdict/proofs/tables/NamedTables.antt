@@ -1,4 +1,4 @@
--- What the sets of tables name once they have waited is what is named in the log.
+-- What the sets of the tables name, once they have waited, is what is named in the log.
 use Rattle.std.proofs.Common.{◌≡◌, ◌≤◌, ◌<◌, ◌↔◌, ◌⊎◌, inl, inr, ℕ, Bool, true, false, Some, List, [], All, AllPairs, Contains, map, length, slice_get, get_or, refl, sym, ap, ◌∙◌, subst, arith}
 use Rattle.std.specs.List.{flat_map, list_any}
 use Rattle.std.proofs.lemmas.List.{length-map, get_or-map}
@@ -35,7 +35,8 @@ use Rattle.sip_verdict.specs.inner.Tracking.{IsReady}
 use Rattle.sip_verdict.proofs.keys.Keys.{among-contains, new_key}
 use Rattle.sip_states.proofs.keyed.ByMachine.{lawful_of, moment_is, numbers_are, of_sets}
 use Rattle.sip_verdict.proofs.tables.TablesPassing.{at_place, All-place, zip-place, keys_are}
-use Rattle.sip_verdict.proofs.sweeps.NamedLemmas.{RunNames, IsNumberOf, waited_names, silent_names, named_of, first_silent, ended_silent, Contains-flat_map, Contains-from_flat_map}
+use Rattle.sip_states.proofs.keyed.NamesLemmas.{Contains-flat_map, Contains-from_flat_map}
+use Rattle.sip_verdict.proofs.sweeps.NamedLemmas.{RunNames, IsNumberOf, waited_names, silent_names, named_of, first_silent, ended_silent}
 
 -- a run over no event stands in the first state
 stays_first : {X : Type 0} (r : MachineRules X) → IsLawful r → (m : ℕ) (y : X) → RuledRun r [] m y → y ≡ r.first
@@ -45,24 +46,24 @@ stays_first {X} r lawful m y run = go ((Wait-cases r lawful (λ x. x ≡ r.first
     go (inl stays) = stays.among
     go (inr ends) = absurd (IsOpenAt-none ends.at (r.window ends.start) (ap r.window ends.among ∙ lawful.first_has_no_end) ends.hides.opened)
 
--- a state of a run of the machine names the text
+-- a run of the machine over the events stands at the moment in a state that names the text
 abbrev pub StandsNaming : Times → MachineKind → List MachineEvent → ℕ → List ℕ → Type 0
 StandsNaming p machine events moment text = (y : PhaseOf machine) × Stands (transaction_of machine).figure p events moment y × Contains (messages_of machine y) text
 
--- a state that names the text is that of a run by the machine's rules
+-- a state of a run in the words of the standard names the text exactly if one of a run by the machine's rules does
 names_stand : (p : Times) (machine : MachineKind) (events : List MachineEvent) (moment : ℕ) (text : List ℕ) → StandsNaming p machine events moment text ↔ RunNames (key_rules p machine) (messages_of machine) events moment text
 names_stand p machine events moment text =
     let same = stands-runs (transaction_of machine).figure (coded_holds machine).is_figure p events moment in
     (λ h. (h.0, (same h.0).0 h.1, h.2), λ h. (h.0, (same h.0).1 h.1, h.2))
 
--- a key without events names nothing
+-- a transaction without events names no message
 pub no_events_silent : (p : Times) (moment : ℕ) (machine : MachineKind) (events : List MachineEvent) (text : List ℕ) → events ≡ [] → StandsNaming p machine events moment text → ⊥
 no_events_silent p moment machine events text none named =
     let q = (meaning_of machine).rules p in
     let (y, run, has) = (names_stand p machine [] moment text).0 (subst (λ es. StandsNaming p machine es moment text) none named) in
     Contains-none text (subst (λ ts. Contains ts text) (ap (messages_of machine) (stays_first q (lawful_of machine p) moment y run) ∙ first_silent machine p) has)
 
--- where texts are named just by these numbers, there are just as many as messages that are kept
+-- where P holds of just the texts with these numbers, as many texts satisfy P as the book keeps messages under them
 pub many_texts : (texts : Texts) → IsBook texts → (P : List ℕ → Type 0) (all : List ℕ) → ((text : List ℕ) → P text ↔ IsNumberOf texts all text) → (numbers : List ℕ) → AllPairs (λ a b. a < b) numbers
     → ((n : ℕ) → Contains numbers n ↔ Contains all n) → All (Keeps texts) numbers → AreMany P (length (only numbers texts))
 many_texts texts book P all named numbers up same kept = record {
@@ -85,7 +86,7 @@ many_texts texts book P all named numbers up same kept = record {
 }
 
 module _ (texts : Texts) (book : IsBook texts) (p : Times) (moment : ℕ) where
-  -- one key: its runs name just what its set names
+  -- What follows is of one key: its runs name just what its set names.
   module _ (machine : MachineKind) (events : List MachineEvent) (from : ℕ) (old new : AnySet) (leads : LeadsOf texts p machine events from old) (late : from ≤ moment) (low : moment_of old ≤ moment) (text : List ℕ) where
     abbrev held : Held Times (StateOf machine)
     held = leads.0
@@ -96,6 +97,7 @@ module _ (texts : Texts) (book : IsBook texts) (p : Times) (moment : ℕ) where
     not_later : held.moment ≤ moment
     not_later = subst (λ n. n ≤ moment) (ap moment_of leads.1 ∙ moment_is machine held) low
 
+    -- for a set that has waited until the moment, the runs name the text exactly if the set names its number
     by_set : IsAdvanced moment old new → RunNames r (messages_of machine) events moment text ↔ IsNumberOf texts (numbers_of new) text
     by_set (inl waits) =
         let m = meaning_of machine in
@@ -111,26 +113,28 @@ module _ (texts : Texts) (book : IsBook texts) (p : Times) (moment : ℕ) where
       λ h. absurd (Contains-none h.0 (subst (λ ns. Contains ns h.0) (ap numbers_of same ∙ silent) h.1)),
     )
 
+    -- what runs of the key name is what the set names that has waited
     pub key_named : IsAdvanced moment old new → StandsNaming p machine events moment text ↔ IsNumberOf texts (numbers_of new) text
     key_named advanced = iff_trans (names_stand p machine events moment text) (by_set advanced)
 
-  -- all keys
+  -- What follows is of all keys of the entries.
   module _ (es : List (Observation KeyParts)) (t u : Tabled) (times : t.times ≡ p) (tracks : TablesTrack texts es t) (long : length t.sets ≡ length t.keys) (newest : newest_moment es ≡ moment)
       (order : All (λ set. moment_of set ≤ moment) t.sets) (as_long : length u.sets ≡ length t.sets)
       (advanced : (n : ℕ) (old new : AnySet) → slice_get t.sets n ≡ Some old → slice_get u.sets n ≡ Some new → IsAdvanced moment old new) where
-    -- the set of a key leads to its runs
+    -- the set of a key leads to the runs of the key
     leads_at : (n : ℕ) (key : KeyParts) (old : AnySet) → slice_get t.keys n ≡ Some key → slice_get t.sets n ≡ Some old → LeadsOf texts p (machine_of_key p.rules key) (events_for key es) (newest_moment es) old
     leads_at n key old at here =
         let ready = subst (λ q. All (IsReady (key_keeping texts q) es) (transactions_of t)) times tracks.ready in
         All-place (IsReady (key_keeping texts p) es) (transactions_of t) n (key, old) (zip-place t.keys t.sets n key old at here) ready
 
+    -- what the set at a place names is just what the runs of the key there name
     at_key : (n : ℕ) (key : KeyParts) (old new : AnySet) → slice_get t.keys n ≡ Some key → slice_get t.sets n ≡ Some old → slice_get u.sets n ≡ Some new → (text : List ℕ)
         → StandsNaming p (machine_of_key p.rules key) (events_for key es) moment text ↔ IsNumberOf texts (numbers_of new) text
     at_key n key old new at here there text =
         key_named (machine_of_key p.rules key) (events_for key es) (newest_moment es) old new (leads_at n key old at here) (omega (arith, newest)) (All-place (λ set. moment_of set ≤ moment) t.sets n old here order) text
         (advanced n old new here there)
 
-    -- what a key names is named by its set
+    -- what the runs of a key name is named by its set
     from_key : (key : KeyParts) (text : List ℕ) → StandsNaming p (machine_of_key p.rules key) (events_for key es) moment text
         → (b : Bool) → list_any (same_key key) (keys_in es) ≡ b → IsNumberOf texts (flat_map numbers_of u.sets) text
     from_key key text named false none = absurd (no_events_silent p moment (machine_of_key p.rules key) (events_for key es) text (new_key key es none) named)
@@ -143,6 +147,7 @@ module _ (texts : Texts) (book : IsBook texts) (p : Times) (moment : ℕ) where
         let (number, has, text_is) = (at_key n key old new at here there text).0 named in
         (number, Contains-flat_map numbers_of u.sets new number (n, slice_get_within u.sets n new there, get_or_from_slice_get u.sets n new new there) has, text_is)
 
+    -- the texts that are named in the log are those of the messages that the sets name
     pub tables_named : (text : List ℕ) → IsNamed p es text ↔ IsNumberOf texts (flat_map numbers_of u.sets) text
     tables_named text = (
       λ h. from_key h.key text (h.state, subst (λ n. Stands (transaction_of (machine_of_key p.rules h.key)).figure p (events_for h.key es) n h.state) newest h.stands, h.names)
@@ -156,7 +161,7 @@ module _ (texts : Texts) (book : IsBook texts) (p : Times) (moment : ℕ) where
           record { key = key; state = y; stands = subst (λ n. Stands (transaction_of (machine_of_key p.rules key)).figure p (events_for key es) n y) (sym newest) run; names = names },
     )
 
-    -- as many messages are named as are kept
+    -- as many messages are named after the entries as the book keeps under the numbers that the sets name
     pub many_named : (numbers : List ℕ) → AllPairs (λ a b. a < b) numbers → ((n : ℕ) → Contains numbers n ↔ Contains (flat_map numbers_of u.sets) n) → All (Keeps texts) numbers
         → AreMany (IsNamed p es) (length (only numbers texts))
     many_named numbers up same kept = many_texts texts book (IsNamed p es) (flat_map numbers_of u.sets) tables_named numbers up same kept

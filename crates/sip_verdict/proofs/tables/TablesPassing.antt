@@ -13,14 +13,13 @@ use Rattle.sip_machine.specs.NumberedEvent.{NumberedEvent}
 use Rattle.sip_states.specs.AnySet.{IsAgendaOf}
 use Rattle.sip_states.specs.Tables.{Tabled, IsGiven, Settles, with_set}
 use Rattle.sip_states.specs.declared.any_set.AnySet.{AnySet}
-use Rattle.sip_verdict.specs.declared.passing.Fate.{Fate}
-use Rattle.sip_verdict.specs.declared.passing.Fate.TheVariants.{Runs, NoRun, TooWide}
 use Rattle.sip_verdict.specs.declared.passing.Outcome.{Outcome}
 use Rattle.sip_verdict.specs.declared.passing.Outcome.TheVariants as all
-use Rattle.sip_verdict.specs.inner.Tracking.{outcome_of, first_of}
-use Rattle.sip_verdict.specs.inner.TablesTracking.{transactions_of, is_among, IsOnRecord, AreOnRecord, AllAreOnRecord, AreOnRecordIf, Leaves, Hears, HearsOne, HearsEach, AreHearers}
+use Rattle.sip_verdict.specs.inner.Tracking.{first_of}
+use Rattle.sip_verdict.specs.inner.TablesTracking.{transactions_of, is_among, IsOnRecord, AreOnRecord, AllAreOnRecord, AreOnRecordIf, Leaves, Hears, HearsEach, AreHearers}
 use Rattle.sip_states.specs.Restarting.{AreToRestart}
 use Rattle.sip_states.proofs.lists.Listed.{Contains-none, Contains-cons}
+use Rattle.sip_states.proofs.lists.Places.{set_place}
 use Rattle.sip_verdict.specs.declared.concerned.Concerned.{Concerned}
 use Rattle.sip_verdict.specs.declared.concerned.Concerned.TheVariants as concerned
 use Rattle.sip_verdict.specs.inner.Concerned.{each, is_all}
@@ -40,34 +39,25 @@ All-place P xs n x at all = subst P (get_or_from_slice_get xs n x x at) (all n x
 pub All-places : {A : Type 0} (P : A → Type 0) (xs : List A) → ((n : ℕ) (x : A) → slice_get xs n ≡ Some x → P x) → All P xs
 All-places P xs each n d low = let x = at_place xs n low in subst P (sym (get_or_from_slice_get xs n x.0 d x.1)) (each n x.0 x.1)
 
--- lists side by side at a place
+-- where x and y stand at the same place of two lists, the pair of them stands there in both lists side by side
 pub zip-place : {A B : Type 0} (xs : List A) (ys : List B) (n : ℕ) (x : A) (y : B) → slice_get xs n ≡ Some x → slice_get ys n ≡ Some y → slice_get (zip xs ys) n ≡ Some (x, y)
 zip-place [] ys n x y a b = absurd cc
 zip-place (u ∷ xs) [] n x y a b = absurd cc
 zip-place (u ∷ xs) (v ∷ ys) zero x y a b = cc
 zip-place (u ∷ xs) (v ∷ ys) (suc n) x y a b = zip-place xs ys n x y a b
 
--- a pair at a place of two lists side by side is of what stands there in each
+-- a pair at a place of two lists side by side has the two elements that stand there
 pub place-zip : {A B : Type 0} (xs : List A) (ys : List B) (n : ℕ) (z : A × B) → slice_get (zip xs ys) n ≡ Some z → (slice_get xs n ≡ Some z.0) × (slice_get ys n ≡ Some z.1)
 place-zip [] ys n z at = absurd cc
 place-zip (u ∷ xs) [] n z at = absurd cc
 place-zip (u ∷ xs) (v ∷ ys) zero z at = let same : (u, v) ≡ z = cc in (ap (λ w. Some w.0) same, ap (λ w. Some w.1) same)
 place-zip (u ∷ xs) (v ∷ ys) (suc n) z at = place-zip xs ys n z at
 
--- the element at a place, where another was put at one
-pub set-place : {A : Type 0} (xs : List A) (i n : ℕ) (a x : A) → slice_get (set xs i a) n ≡ Some x → ((n ≡ i) × (a ≡ x)) ⊎ ((n ≢ i) × (slice_get xs n ≡ Some x))
-set-place [] i n a x at = absurd cc
-set-place (u ∷ xs) zero zero a x at = inl (refl, cc)
-set-place (u ∷ xs) zero (suc n) a x at = inr (λ same. omega (arith, same), at)
-set-place (u ∷ xs) (suc i) zero a x at = inr (λ same. omega (arith, same), at)
-set-place (u ∷ xs) (suc i) (suc n) a x at =
-    elim (set-place xs i n a x at) [ inl h ↦ inl (ap suc h.0, h.1) | inr h ↦ inr (λ same. h.0 (omega (arith, same)), h.1) ]
-
--- each transaction's key
+-- the keys of the transactions are the keys of the tables
 pub keys_are : (t : Tabled) → length t.sets ≡ length t.keys → map (λ x. x.0) (transactions_of t) ≡ t.keys
 keys_are t long = firsts-zip t.keys t.sets long
 
--- a number that is this one or among these
+-- a number among these with one more before them, which is not the one, is among these
 pub among_one : (n number : ℕ) (ns : List ℕ) → is_among (number ∷ ns) n ≡ true → n ≢ number → is_among ns n ≡ true
 among_one n number ns h differ = go (nat_eq n number) refl
   where
@@ -75,7 +65,7 @@ among_one n number ns h differ = go (nat_eq n number) refl
     go true same = absurd (differ ((unsigned_Decides n number).0 same))
     go false same = sym (ap (λ b. b || is_among ns n) same) ∙ h
 
--- a number that is not among some is not among one more, or is that one
+-- a number that is not among these is not among them with one more before them, or it is the one
 pub among_not : (n number : ℕ) (ns : List ℕ) → is_among ns n ≡ false → (is_among (number ∷ ns) n ≡ false) ⊎ (n ≡ number)
 among_not n number ns h = go (nat_eq n number) refl
   where
@@ -83,11 +73,11 @@ among_not n number ns h = go (nat_eq n number) refl
     go true same = inr ((unsigned_Decides n number).0 same)
     go false same = inl (ap (λ b. b || is_among ns n) same ∙ h)
 
--- the first of these is among them, and so is each of the others
+-- a number is among numbers of which it is the first
 pub among_first : (n number : ℕ) (ns : List ℕ) → n ≡ number → is_among (number ∷ ns) n ≡ true
 among_first n number ns same = ap (λ b. b || is_among ns n) ((unsigned_Decides n number).1 same)
 
--- a number among some is among them and one more
+-- a number among these is among them with one more before them
 pub among_rest : (n number : ℕ) (ns : List ℕ) → is_among ns n ≡ true → is_among (number ∷ ns) n ≡ true
 among_rest n number ns h = go (nat_eq n number)
   where
@@ -95,7 +85,7 @@ among_rest n number ns h = go (nat_eq n number)
     go true = refl
     go false = h
 
--- where all differ, the first is not among the others
+-- where all numbers of a list differ, the first is not among the others
 pub first_apart : (number : ℕ) (ns : List ℕ) → AllPairs (λ a b. a ≢ b) (number ∷ ns) → is_among ns number ≡ false
 first_apart number ns apart = list_any_none (nat_eq number) ns (λ k d low. differ _ (apart 0 (suc k) d (omega arith) (omega arith)))
   where
@@ -107,32 +97,39 @@ first_apart number ns apart = list_any_none (nat_eq number) ns (λ k d low. diff
         go false same = refl
 
 -- a set that has heard leaves the keys and the other sets as they were
-pub leaves_keys : (number : ℕ) (after : AnySet) (fate : Fate) (t u : Tabled) → Leaves number after fate t u → u.keys ≡ t.keys
-leaves_keys number after Runs t u h = ap (λ x. x.keys) h.2
-leaves_keys number after NoRun t u h = ap (λ x. x.keys) h
-leaves_keys number after TooWide t u h = ap (λ x. x.keys) h
+pub leaves_keys : (number : ℕ) (after : AnySet) (outcome : Outcome) (t u : Tabled) → Leaves number after outcome t u → u.keys ≡ t.keys
+leaves_keys number after all.Fine t u h = ap (λ x. x.keys) h.2
+leaves_keys number after (all.NoRun told) t u h = ap (λ x. x.keys) h
+leaves_keys number after (all.TooWide told) t u h = ap (λ x. x.keys) h
 
 -- a set that has heard stands in its place, and the other sets stand as they were
-pub leaves_sets : (number : ℕ) (after : AnySet) (fate : Fate) (t u : Tabled) → Leaves number after fate t u → u.sets ≡ set t.sets (number - 1) after
-leaves_sets number after Runs t u h = ap (λ x. x.sets) h.2
-leaves_sets number after NoRun t u h = ap (λ x. x.sets) h
-leaves_sets number after TooWide t u h = ap (λ x. x.sets) h
+pub leaves_sets : (number : ℕ) (after : AnySet) (outcome : Outcome) (t u : Tabled) → Leaves number after outcome t u → u.sets ≡ set t.sets (number - 1) after
+leaves_sets number after all.Fine t u h = ap (λ x. x.sets) h.2
+leaves_sets number after (all.NoRun told) t u h = ap (λ x. x.sets) h
+leaves_sets number after (all.TooWide told) t u h = ap (λ x. x.sets) h
 
--- a set that was settled
-pub settles_leaves : (number : ℕ) (after : AnySet) (t u : Tabled) → Settles number (with_set t number after) u → Leaves number after Runs t u
+-- where the last moment of a set was put on record, the set has taken its place and goes on
+pub settles_leaves : (number : ℕ) (after : AnySet) (t u : Tabled) → Settles number (with_set t number after) u → Leaves number after all.Fine t u
 settles_leaves number after t u s = (s.limit, subst (IsAgendaOf s.limit) same s.agenda, s.recorded)
   where
     same : s.set ≡ after
-    same = elim (set-place t.sets (number - 1) (number - 1) after s.set s.at) [ inl h ↦ sym h.1 | inr h ↦ absurd (h.0 refl) ]
+    same = elim (set_place t.sets (number - 1) (number - 1) after s.set s.at) [ inl h ↦ sym h.1 | inr h ↦ absurd (h.0 refl) ]
 
--- a number that was given still is
+-- where its transaction is in trouble, a set that has heard stands with its number, and nothing else changes
+pub trouble_leaves : (number : ℕ) (after : AnySet) (outcome : Outcome) (t : Tabled) → outcome ≢ all.Fine → Leaves number after outcome t (with_set t number after)
+trouble_leaves number after all.Fine t trouble = absurd (trouble refl)
+trouble_leaves number after (all.NoRun told) t trouble = refl
+trouble_leaves number after (all.TooWide told) t trouble = refl
+
+-- a number that was given is given still where the keys are the same
 pub given_still : (number : ℕ) (t u : Tabled) → u.keys ≡ t.keys → IsGiven t number → IsGiven u number
 given_still number t u keys g = record { low = g.low; high = (let same = ap length keys in let high = g.high in omega arith) }
 
--- once a set has heard its event and has a state, its last moment is on record
+-- What follows is of a set that has heard its event and has a state: its last moment is put on record.
 module _ (t : Tabled) (number : ℕ) (ns : List ℕ) (low : 0 < number) (after : AnySet) (limit : Option ℕ) (agenda : IsAgendaOf limit after) (old : AreOnRecord (number ∷ ns) t) where
+  -- where the set's last moment was written, each place is on record, or its set is still to hear the event
   recorded_at : (n : ℕ) (s : AnySet) (r : Option (Option ℕ)) → slice_get (set t.sets (number - 1) after) n ≡ Some s → slice_get (set t.records (number - 1) (Some limit)) n ≡ Some r → IsOnRecord ns (n + 1) s r
-  recorded_at n s r at here = go (set-place t.sets (number - 1) n after s at) (set-place t.records (number - 1) n (Some limit) r here)
+  recorded_at n s r at here = go (set_place t.sets (number - 1) n after s at) (set_place t.records (number - 1) n (Some limit) r here)
     where
       go : ((n ≡ number - 1) × (after ≡ s)) ⊎ ((n ≢ number - 1) × (slice_get t.sets n ≡ Some s)) → ((n ≡ number - 1) × (Some limit ≡ r)) ⊎ ((n ≢ number - 1) × (slice_get t.records n ≡ Some r))
           → IsOnRecord ns (n + 1) s r
@@ -145,31 +142,27 @@ module _ (t : Tabled) (number : ℕ) (ns : List ℕ) (low : 0 < number) (after :
           only None h = among_one (n + 1) number ns h (λ same. a.0 (omega (arith, same)))
           only (Some l) h = h
 
-  -- once the last moment of the set that heard is on record, those that are still to hear alone may lack one
+  -- once the last moment of the set is on record, those of the sets that are still to hear alone may be missing
   pub settled : (u : Tabled) → u.keys ≡ t.keys → u.sets ≡ set t.sets (number - 1) after → u.records ≡ set t.records (number - 1) (Some limit) → AreOnRecord ns u
   settled u keys sets records = record {
     long = ap length records ∙ length-set t.records (number - 1) (Some limit) ∙ old.long ∙ ap length (sym keys);
     each = λ n s r at here. recorded_at n s r (ap (λ xs. slice_get xs n) (sym sets) ∙ at) (ap (λ xs. slice_get xs n) (sym records) ∙ here);
   }
 
-heard_record : (texts : Texts) (event : NumberedEvent) (number : ℕ) (ns : List ℕ) (t u : Tabled) (outcome : Outcome) → IsGiven t number → AreOnRecord (number ∷ ns) t → HearsOne texts event number t u outcome → outcome ≡ all.Fine
+-- where one set has heard the event and is in no trouble, the last moments of those that are still to hear alone may be missing
+heard_record : (texts : Texts) (event : NumberedEvent) (number : ℕ) (ns : List ℕ) (t u : Tabled) (outcome : Outcome) → IsGiven t number → AreOnRecord (number ∷ ns) t → Hears texts event number t u outcome → outcome ≡ all.Fine
     → AreOnRecord ns u
-heard_record texts event number ns t u outcome given old (fate, h, is) fine = go fate h (sym is ∙ fine)
-  where
-    go : (f : Fate) → Hears texts event number t u f → outcome_of number f ≡ all.Fine → AreOnRecord ns u
-    go Runs heard same =
-        let (limit, agenda, left) = heard.leaves in
-        settled t number ns given.low heard.after limit agenda old u (ap (λ x. x.keys) left) (ap (λ x. x.sets) left) (ap (λ x. x.records) left)
-    go NoRun heard same = absurd cc
-    go TooWide heard same = absurd cc
+heard_record texts event number ns t u outcome given old h fine =
+    let (limit, agenda, left) = subst (λ o. Leaves number h.after o t u) fine h.leaves in
+    settled t number ns given.low h.after limit agenda old u (ap (λ x. x.keys) left) (ap (λ x. x.sets) left) (ap (λ x. x.records) left)
 
 -- a set that has heard leaves the numbers as they were given
-pub heard_given : (texts : Texts) (event : NumberedEvent) (number : ℕ) (t u : Tabled) (outcome : Outcome) → HearsOne texts event number t u outcome → (ns : List ℕ) → All (IsGiven t) ns → All (IsGiven u) ns
-heard_given texts event number t u outcome (fate, h, is) ns given =
-    let keys = leaves_keys number h.after fate t u h.leaves in
+pub heard_given : (texts : Texts) (event : NumberedEvent) (number : ℕ) (t u : Tabled) (outcome : Outcome) → Hears texts event number t u outcome → (ns : List ℕ) → All (IsGiven t) ns → All (IsGiven u) ns
+heard_given texts event number t u outcome h ns given =
+    let keys = leaves_keys number h.after outcome t u h.leaves in
     All-weaker (IsGiven t) (IsGiven u) (λ n g. given_still n t u keys g) ns given
 
--- those before were fine where those after are
+-- where the outcome after some sets have heard is no trouble, so was the outcome before them
 each_fine : (texts : Texts) (event : NumberedEvent) (ns : List ℕ) (t u : Tabled) (before after : Outcome) → HearsEach texts event ns t before u after → after ≡ all.Fine → before ≡ all.Fine
 each_fine texts event [] t u before after h fine = sym h.1 ∙ fine
 each_fine texts event (n ∷ ns) t u before after (between, one, first, rest) fine = (both_fine before one (each_fine texts event ns between u (first_of before one) after rest fine)).0
@@ -182,7 +175,7 @@ heard_records texts event (n ∷ ns) t u before after given old (between, one, f
     heard_records texts event ns between u (first_of before one) after (heard_given texts event n t between one first ns (All-tail (IsGiven t) n ns given))
     (heard_record texts event n ns t between one (All-head (IsGiven t) n ns given) old first one_fine) rest fine
 
--- all are on record after an entry in no trouble
+-- where the last moments are on record if the outcome is no trouble, they are so unless it is trouble
 pub on_record_if : (outcome : Outcome) (t : Tabled) → (outcome ≡ all.Fine → AllAreOnRecord t) → AreOnRecordIf outcome t
 on_record_if all.Fine t h = h refl
 on_record_if (all.NoRun number) t h = tt
@@ -192,9 +185,9 @@ on_record_if (all.TooWide number) t h = tt
 pub heard_recorded : (texts : Texts) (event : NumberedEvent) (ns : List ℕ) (t u : Tabled) (before after : Outcome) → All (IsGiven t) ns → AreOnRecord ns t → HearsEach texts event ns t before u after → AreOnRecordIf after u
 heard_recorded texts event ns t u before after given old h = on_record_if after u (heard_records texts event ns t u before after given old h)
 
--- Which sets hear an event.
+-- What follows is of which sets hear an event.
 
--- each last moment is on record, but those of sets that are still to hear it, also where more are to
+-- where the last moments of few sets may be missing, those of more sets may be
 pub recorded_more : (few more : List ℕ) (t : Tabled) → ((n : ℕ) → is_among few n ≡ true → is_among more n ≡ true) → AreOnRecord few t → AreOnRecord more t
 recorded_more few more t among recorded = record { long = recorded.long; each = λ n set r at here. one n set r (recorded.each n set r at here) }
   where
@@ -202,7 +195,7 @@ recorded_more few more t among recorded = record { long = recorded.long; each = 
     one n set None h = among (n + 1) h
     one n set (Some limit) h = h
 
--- those that an event names, where it names them one by one
+-- where an event names its transactions one by one, just these hear it
 pub named_hearers : (t : Tabled) (c : Concerned ℕ) → is_all c ≡ false → All (IsGiven t) (each c) → AllPairs (λ a b. a ≢ b) (each c) → AreHearers t c (each c)
 named_hearers t c some given apart = record {
   given = given;
@@ -212,12 +205,12 @@ named_hearers t c some given apart = record {
   others = λ all. absurd (false≢true (sym some ∙ all));
 }
 
--- a number that is one of some is among them
+-- a number that is an element of numbers is among them
 pub is_among-of : (ns : List ℕ) (n : ℕ) → Contains ns n → is_among ns n ≡ true
 is_among-of [] n has = absurd (Contains-none n has)
 is_among-of (m ∷ ns) n has = elim (Contains-cons m ns n has) [ inl same ↦ among_first n m ns (sym same) | inr rest ↦ among_rest n m ns (is_among-of ns n rest) ]
 
--- those that a restart may change
+-- the transactions that a restart may change are the ones that hear it
 pub all_hearers : (t : Tabled) (numbers : List ℕ) → AreToRestart t numbers → AreHearers t concerned.All numbers
 all_hearers t numbers are = record {
   given = are.given;
@@ -227,19 +220,19 @@ all_hearers t numbers are = record {
   others = λ all n set at none. are.others n set at (λ has. false≢true (sym none ∙ is_among-of numbers (n + 1) has));
 }
 
--- One after another.
+-- What follows is of sets that hear an event one after another.
 
--- one more has heard the event
-pub hears_more : (texts : Texts) (event : NumberedEvent) (ns : List ℕ) (n : ℕ) (t u v : Tabled) (before mid one : Outcome) → HearsEach texts event ns t before u mid → HearsOne texts event n u v one
+-- where some sets have heard the event, and then one more has, all of them have, and the outcomes are joined
+pub hears_more : (texts : Texts) (event : NumberedEvent) (ns : List ℕ) (n : ℕ) (t u v : Tabled) (before mid one : Outcome) → HearsEach texts event ns t before u mid → Hears texts event n u v one
     → HearsEach texts event (ns ++ n ∷ []) t before v (first_of mid one)
 hears_more texts event [] n t u v before mid one (same, fine) last =
-    (v, one, subst (λ x. HearsOne texts event n x v one) same last, (refl, ap (λ o. first_of o one) fine))
+    (v, one, subst (λ x. Hears texts event n x v one) same last, (refl, ap (λ o. first_of o one) fine))
 hears_more texts event (m ∷ ns) n t u v before mid one (between, first, hears, rest) last =
     (between, first, hears, hears_more texts event ns n between u v (first_of before first) mid one rest last)
 
--- Those that do not hear it.
+-- What follows is of sets that do not hear an event.
 
--- the element at a place stays where another one is set
+-- the element at a place stays where the element at another place is replaced
 set-other : {A : Type 0} (xs : List A) (i n : ℕ) (a : A) → n ≢ i → slice_get (set xs i a) n ≡ slice_get xs n
 set-other [] i n a other = refl
 set-other (x ∷ xs) zero zero a other = absurd (other refl)
@@ -247,7 +240,7 @@ set-other (x ∷ xs) zero (suc n) a other = refl
 set-other (x ∷ xs) (suc i) zero a other = refl
 set-other (x ∷ xs) (suc i) (suc n) a other = set-other xs i n a (λ same. other (ap suc same))
 
--- a number that is not among some is neither the first nor among the rest
+-- a number that is not among numbers is neither the first of them nor among the others
 among_none : (n number : ℕ) (ns : List ℕ) → is_among (number ∷ ns) n ≡ false → (n ≢ number) × (is_among ns n ≡ false)
 among_none n number ns h = (λ same. false≢true (sym h ∙ among_first n number ns same), go (is_among ns n) refl)
   where
@@ -260,11 +253,10 @@ pub hears_others : (texts : Texts) (event : NumberedEvent) (ns : List ℕ) (t u 
     → (n : ℕ) → is_among ns (n + 1) ≡ false → slice_get u.sets n ≡ slice_get t.sets n
 hears_others texts event [] t u before after given h n none = ap (λ x. slice_get x.sets n) h.0
 hears_others texts event (m ∷ ns) t u before after given (between, one, first, rest) n none =
-    let (fate, heard, is) = first in
     let (other, others) = among_none (n + 1) m ns none in
     let low = (All-head (IsGiven t) m ns given).low in
-    let here : slice_get between.sets n ≡ slice_get t.sets n = ap (λ xs. slice_get xs n) (leaves_sets m heard.after fate t between heard.leaves)
-    ∙ set-other t.sets (m - 1) n heard.after (λ same. other (omega (arith, same, low))) in
+    let here : slice_get between.sets n ≡ slice_get t.sets n = ap (λ xs. slice_get xs n) (leaves_sets m first.after one t between first.leaves)
+    ∙ set-other t.sets (m - 1) n first.after (λ same. other (omega (arith, same, low))) in
     hears_others texts event ns between u (first_of before one) after (heard_given texts event m t between one first ns (All-tail (IsGiven t) m ns given)) rest n others ∙ here
 
 -- a number that the event does not concern is not among the hearers

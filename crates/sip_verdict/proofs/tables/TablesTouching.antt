@@ -26,6 +26,7 @@ use Rattle.sip_verdict.specs.inner.Concerned.{each, is_all}
 use Rattle.sip_verdict.proofs.keys.Keys.{contains-among}
 use Rattle.sip_verdict.proofs.keys.Leading.{Leads-start}
 use Rattle.sip_states.proofs.keyed.ByMachine.{first_of, first_is_of, first_knows, moment_is, to_set}
+use Rattle.sip_states.proofs.lists.Places.{push_place}
 use Rattle.sip_verdict.proofs.tables.TablesPassing.{keys_are, among_first, among_rest}
 use Rattle.sip_verdict.proofs.tables.TrackingLemmas.{AreKept, kept_touched}
 
@@ -41,15 +42,15 @@ touches_elim Q more [] (n ∷ ns) old new holds h = absurd h
 touches_elim Q more (k ∷ ks) [] old new holds h = absurd h
 touches_elim Q more (k ∷ ks) (n ∷ ns) old new holds (between, one, rest) = touches_elim Q more ks ns between new (touched_elim Q more k n old between holds one) rest
 
--- the times stay
+-- the times of the tables stay when keys are looked up
 pub touches_times : (ks : List KeyParts) (ns : List ℕ) (old new : Tabled) → TouchesEach ks ns old new → new.times ≡ old.times
 touches_times ks ns old new h = touches_elim (λ t. t.times ≡ old.times) (λ t key same. same) ks ns old new refl h
 
--- each key has a set
+-- where each key has a set, each has one after a key came with the set that it starts with
 long_more : (t : Tabled) (key : KeyParts) → length t.sets ≡ length t.keys → length (t.sets ++ start_of t.times key ∷ []) ≡ length (t.keys ++ key ∷ [])
 long_more t key long = length-append t.sets (start_of t.times key ∷ []) ∙ ap (λ n. n + 1) long ∙ sym (length-append t.keys (key ∷ []))
 
--- there is at most one key more for each
+-- keys that are looked up bring at most one new key each
 pub touches_few : (ks : List KeyParts) (ns : List ℕ) (old new : Tabled) → TouchesEach ks ns old new → length new.keys ≤ length old.keys + length ks
 touches_few [] [] old new same = let long = ap (λ t. length t.keys) same in omega arith
 touches_few [] (n ∷ ns) old new h = absurd h
@@ -58,7 +59,7 @@ touches_few (k ∷ ks) (n ∷ ns) old new (between, one, rest) =
     let more = touches_few ks ns between new rest in
     elim one [ inl h ↦ (let long = ap (λ t. length t.keys) h.1 in omega arith) | inr h ↦ (let long = ap (λ t. length t.keys) h.2 ∙ length-append old.keys (k ∷ []) in omega arith) ]
 
--- a set starts at moment 0, and names no message
+-- the set that a key starts with has the moment 0
 pub start_at : (p : Times) (key : KeyParts) → moment_of (start_of p key) ≡ 0
 start_at p key =
     let machine = machine_of_key p.rules key in
@@ -75,7 +76,7 @@ start_known texts p key =
     known_one : (machine : _) → IsKnown (meaning_of machine) texts (record { machine = p; moment = 0; states = first_of machine ∷ [] })
     known_one machine = All-push (λ x. All (Keeps texts) ((meaning_of machine).names x)) [] (first_of machine) (λ k d l. absurd (omega (arith, l))) (first_knows machine texts)
 
--- an entry may still pass
+-- an entry that may pass the tables may pass them after keys were looked up
 pub touches_may : (texts : Texts) (moment : ℕ) (ks : List KeyParts) (ns : List ℕ) (old new : Tabled) → MayPass texts old moment → TouchesEach ks ns old new → MayPass texts new moment
 touches_may texts moment ks ns old new may h = touches_elim (λ t. MayPass texts t moment) more ks ns old new may h
   where
@@ -86,19 +87,13 @@ touches_may texts moment ks ns old new may h = touches_elim (λ t. MayPass texts
       long = long_more t key m.long;
     }
 
--- an element of a list with one more
-pub push-place : {A : Type 0} (xs : List A) (a : A) (n : ℕ) (x : A) → slice_get (xs ++ a ∷ []) n ≡ Some x → (slice_get xs n ≡ Some x) ⊎ ((n ≡ length xs) × (a ≡ x))
-push-place [] a zero x at = inr (refl, cc)
-push-place [] a (suc n) x at = absurd cc
-push-place (u ∷ xs) a zero x at = inl at
-push-place (u ∷ xs) a (suc n) x at = elim (push-place xs a n x at) [ inl h ↦ inl h | inr h ↦ inr (ap suc h.0, h.1) ]
-
--- each last moment stays on record, and there is none yet of a key that waits
+-- What follows shows that each last moment stays on record when keys come, except those of the sets that are to hear an event.
 module _ (waits : List ℕ) where
+  -- where a key comes that is to hear the event, the last moments of the sets that are to hear alone may be missing
   with_key_recorded : (key : KeyParts) (number : ℕ) (old : Tabled) → length old.sets ≡ length old.keys → number ≡ length old.keys + 1 → is_among waits number ≡ true → AreOnRecord waits old → AreOnRecord waits (with_key old key)
   with_key_recorded key number old long counts waiting h = record {
     long = length-append old.records (None ∷ []) ∙ ap (λ i. i + 1) h.long ∙ sym (length-append old.keys (key ∷ []));
-    each = λ i s r at here. go i s r (push-place old.sets (start_of old.times key) i s at) (push-place old.records None i r here);
+    each = λ i s r at here. go i s r (push_place old.sets (start_of old.times key) i s at) (push_place old.records None i r here);
   }
     where
       go : (i : ℕ) (s : AnySet) (r : Option (Option ℕ)) → (slice_get old.sets i ≡ Some s) ⊎ ((i ≡ length old.sets) × (start_of old.times key ≡ s))
@@ -121,7 +116,7 @@ module _ (waits : List ℕ) where
       recorded (inl same) = subst (AreOnRecord waits) (sym same.1) h
       recorded (inr new_one) = subst (AreOnRecord waits) (sym new_one.2) (with_key_recorded k n old long new_one.1 (wait n (among_first n n ns refl)) h)
 
--- lists side by side with one more pair
+-- two lists of the same length, each with one element more at its end, are side by side the pairs of before and one pair more
 zip-push : {A B : Type 0} (xs : List A) (ys : List B) (x : A) (y : B) → length ys ≡ length xs → zip (xs ++ x ∷ []) (ys ++ y ∷ []) ≡ zip xs ys ++ (x, y) ∷ []
 zip-push [] [] x y long = refl
 zip-push [] (v ∷ ys) x y long = absurd (omega arith)
@@ -139,7 +134,7 @@ module _ (texts : Texts) (p : Times) where
         record { machine_is = refl; leads = Leads-start m.names m.seen texts (m.rules p) (first_of machine) (first_is_of machine texts p) (first_knows machine texts) from },
       )
 
-  -- the transactions of a key that is looked up
+  -- what is kept of keys is kept when one key is looked up, and of that key too
   touched : (key : KeyParts) (number : ℕ) (old new : Tabled) → old.times ≡ p → length old.sets ≡ length old.keys → Touches key number old new
       → IsTouched (key_keeping texts p) (key, start_of p key) (transactions_of old) (transactions_of new)
   touched key number old new times long (inl h) = inl (
@@ -154,7 +149,7 @@ module _ (texts : Texts) (p : Times) where
       absent : ¬ Contains old.keys key
       absent (i, low, is) = h.0 i key low is
 
-  -- what was kept of some keys is kept when keys are touched one after another
+  -- what is kept of keys is kept when keys are looked up one after another, and of these too
   pub kept_each : (es : List (Observation KeyParts)) (keys ks : List KeyParts) (ns : List ℕ) (old new : Tabled) → old.times ≡ p → length old.sets ≡ length old.keys → TouchesEach ks ns old new
       → AreKept (key_keeping texts p) es keys (transactions_of old) → AreKept (key_keeping texts p) es (fold keyed.with_key keys ks) (transactions_of new)
   kept_each es keys [] [] old new times long same kept = subst (λ t. AreKept (key_keeping texts p) es keys (transactions_of t)) (sym same) kept
@@ -165,7 +160,7 @@ module _ (texts : Texts) (p : Times) where
       (touched_elim (λ t. length t.sets ≡ length t.keys) long_more k n old between long one) rest
       (kept_touched (key_keeping texts p) es (k, start_of p k) (starts k (newest_moment es)) keys (transactions_of old) (transactions_of between) kept (touched k n old between times long one))
 
--- an element of a list stays where it is
+-- an element of a list stays at its place when more elements come after it
 pub slice_get-more : {A : Type 0} (xs ys : List A) (n : ℕ) (x : A) → slice_get xs n ≡ Some x → slice_get (xs ++ ys) n ≡ Some x
 slice_get-more [] ys n x at = absurd cc
 slice_get-more (u ∷ xs) ys zero x at = at
@@ -191,13 +186,13 @@ have_numbers (k ∷ ks) (n ∷ ns) old new (between, one, rest) =
         let last : length old.keys ≡ n - 1 = omega (arith, h.1) in
         (omega (arith, h.1), subst (λ t. slice_get t.keys (n - 1) ≡ Some k) (sym h.2) (subst (λ i. slice_get (old.keys ++ k ∷ []) i ≡ Some k) last (slice_get-last old.keys k)))
 
--- two tests that hold alike are the same
+-- two flags are equal where each is true if the other is
 same_test : (a b : Bool) → (a ≡ true → b ≡ true) → (b ≡ true → a ≡ true) → a ≡ b
 same_test true b f g = sym (f refl)
 same_test false true f g = g refl
 same_test false false f g = refl
 
--- no two places hold the same
+-- where all elements of a list differ, no element stands at two places
 pub same_place : {A : Type 0} (xs : List A) → AllPairs (λ a b. a ≢ b) xs → (i k : ℕ) (x : A) → slice_get xs i ≡ Some x → slice_get xs k ≡ Some x → i ≡ k
 same_place [] apart i k x a b = absurd cc
 same_place (u ∷ xs) apart zero zero x a b = refl
@@ -210,7 +205,7 @@ same_place (u ∷ xs) apart (suc i) zero x a b =
 same_place (u ∷ xs) apart (suc i) (suc k) x a b =
     ap suc (same_place xs (λ m n d low within. apart (suc m) (suc n) d (omega arith) (omega arith)) i k x a b)
 
--- a key is one of those of an event just where its number is
+-- a key is one of the keys exactly if its number is among theirs
 pub same_numbers : (all : List KeyParts) → AllPairs (λ a b. a ≢ b) all → (ns : List ℕ) (ks : List KeyParts) → HaveNumbers all ns ks → (n : ℕ) (k : KeyParts) → slice_get all n ≡ Some k → list_any (same_key k) ks ≡ is_among ns (n + 1)
 same_numbers all apart [] [] h n k at = refl
 same_numbers all apart [] (key ∷ ks) h n k at = absurd h
@@ -225,7 +220,7 @@ same_numbers all apart (i ∷ ns) (key ∷ ks) (some, there, rest) n k at = λ j
         let both : Some key ≡ Some k = sym there ∙ ap (slice_get all) place ∙ at in
         (same_key-decides k key).1 (let own : k ≡ key = cc in own)))
 
--- an entry that is not heard tells each key its moment
+-- where no transaction hears an entry, it tells each key its moment
 pub told_unheard : (texts : Texts) (keys : List KeyParts) (moment : ℕ) (e : Observation KeyParts) → e.event.moment ≡ moment → e.keys ≡ [] → AreTold texts keys moment None e
 told_unheard texts keys moment e at none n k there = record { at = at; event = tt; concerned = ap (list_any (same_key k)) none }
 
@@ -235,7 +230,7 @@ pub told_event : (texts : Texts) (keys : List KeyParts) (moment : ℕ) (h : Hear
 told_event texts keys moment h e apart some numbers at event n k there =
     record { at = at; event = event; concerned = same_numbers keys apart (each h.concerned) e.keys numbers n k there ∙ sym (ap (λ b. b || is_among (each h.concerned) (n + 1)) some) }
 
--- a restart is told to all
+-- a restart is told to all keys
 pub told_restart : (texts : Texts) (keys : List KeyParts) (moment : ℕ) (h : Hearing) (e : Observation KeyParts) → is_all h.concerned ≡ true → e.keys ≡ keys → e.event.moment ≡ moment → e.event ≡ event_in texts h.event
     → AreTold texts keys moment (Some h) e
 told_restart texts keys moment h e all same at event n k there = record {

@@ -1,9 +1,10 @@
--- What is kept of transactions before and after an entry passes.
+-- What is kept of transactions before and after an entry passes them.
 use Rattle.std.proofs.Common.{◌≡◌, inl, inr, ℕ, ◌+◌, false, None, List, [], ◌∷◌, ◌++◌, All, Contains, map, length, refl, sym, ap, ◌∙◌, subst}
 use Rattle.std.specs.Prelude.{fold}
 use Rattle.std.specs.List.{list_any}
 use Rattle.std.proofs.lemmas.List.{map-append}
 use Rattle.std.proofs.lemmas.List.Elements.{All-nil, All-map, All-weaker, All-push}
+use Rattle.std.proofs.lemmas.Bool.{cond-true, cond-false}
 use Rattle.sip_standard.specs.declared.verdict.Verdict.TheVariants.{Breach, Undecided}
 use Rattle.sip_standard.specs.Observation.{Observation}
 use Rattle.sip_standard.specs.VerdictOf.{keys_in, RunsOver, IsWideAt, IsFirstKey, HasTrouble}
@@ -13,22 +14,23 @@ use Rattle.sip_verdict.specs.inner.Keyed.{with_key}
 use Rattle.sip_standard.specs.Key.{KeyParts, same_key}
 use Rattle.sip_standard.specs.Times.{Times}
 use Rattle.sip_verdict.specs.inner.Tracking.{Keeping, IsReady, IsStanding, Tracks, TracksBefore, GoesOn, IsTouched}
-use Rattle.sip_verdict.proofs.keys.Keys.{cond_true, cond_false, new_key, contains-among, not_among, among-with_key, keys_in-push, keys_in-none, keys_in-all}
+use Rattle.sip_verdict.proofs.keys.Keys.{new_key, contains-among, not_among, among-with_key, keys_in-push, keys_in-none, keys_in-all}
 use Rattle.sip_verdict.proofs.verdicts.Unique.{good-nil, good-push}
 
--- the transactions have these keys, among which are those of the entries, and lead to the runs over the entries
+-- the transactions have these keys, among which are those of the entries, and lead to their runs over the entries
 pub record AreKept {T : Type 0} (k : Keeping T) (es : List (Observation KeyParts)) (ks : List KeyParts) (ts : List T) : Type 0 where
   pub keys : map k.key ts ≡ ks
   pub among : (key : KeyParts) → list_any (same_key key) ks ≡ false → list_any (same_key key) (keys_in es) ≡ false
   pub ready : All (IsReady k es) ts
 
 module _ {T : Type 0} (k : Keeping T) (es : List (Observation KeyParts)) where
-  -- those that follow the entries
+  -- transactions that follow the entries are kept with the keys of the entries
   pub kept_tracked : (p : Times) (ts : List T) → Tracks p k es ts → AreKept k es (keys_in es) ts
   kept_tracked p ts s = record { keys = s.keys; among = λ key none. none; ready = s.ready }
 
-  -- and those with one key more, which was touched
+  -- What follows is of transactions with one key more, which was looked up.
   module _ (fresh : T) (starts : k.Leads fresh [] (newest_moment es)) (keys : List KeyParts) (old new : List T) (kept : AreKept k es keys old) where
+    -- with one key that was looked up, the transactions are kept with that key too
     pub kept_touched : IsTouched k fresh old new → AreKept k es (with_key keys (k.key fresh)) new
     kept_touched (inl h) = record {
       keys = ap (map k.key) h.0 ∙ kept.keys ∙ sym known;
@@ -37,7 +39,7 @@ module _ {T : Type 0} (k : Keeping T) (es : List (Observation KeyParts)) where
     }
       where
         known : with_key keys (k.key fresh) ≡ keys
-        known = cond_true (list_any (same_key (k.key fresh)) keys) keys (keys ++ k.key fresh ∷ [])
+        known = cond-true (list_any (same_key (k.key fresh)) keys) keys (keys ++ k.key fresh ∷ [])
             (contains-among (k.key fresh) keys (subst (λ ks. Contains ks (k.key fresh)) kept.keys h.1))
     kept_touched (inr h) = record {
       keys = ap (map k.key) h.1 ∙ map-append k.key old (fresh ∷ []) ∙ ap (λ ks. ks ++ k.key fresh ∷ []) kept.keys ∙ sym unknown;
@@ -50,28 +52,28 @@ module _ {T : Type 0} (k : Keeping T) (es : List (Observation KeyParts)) where
         none = not_among (k.key fresh) keys (λ there. h.0 (subst (λ ks. Contains ks (k.key fresh)) (sym kept.keys) there))
 
         unknown : with_key keys (k.key fresh) ≡ keys ++ k.key fresh ∷ []
-        unknown = cond_false (list_any (same_key (k.key fresh)) keys) keys (keys ++ k.key fresh ∷ []) none
+        unknown = cond-false (list_any (same_key (k.key fresh)) keys) keys (keys ++ k.key fresh ∷ []) none
 
 module _ {T : Type 0} (p : Times) (k : Keeping T) where
-  -- no transaction is kept of no entry
+  -- no transactions follow no entries
   pub tracks_none : Tracks p k [] []
   tracks_none = record { keys = refl; ready = All-nil (IsReady k []); good = good-nil p }
 
   module _ (es : List (Observation KeyParts)) (e : Observation KeyParts) where
-    -- an entry that concerns no key passes the transactions that are there
+    -- where the entry e concerns no key, transactions that follow the entries have all keys that e needs, and have not passed e yet
     pub before_none : (ts : List T) → e.keys ≡ [] → Tracks p k es ts → TracksBefore p k es e ts
     before_none ts none s = record { keys = s.keys ∙ sym (keys_in-none es e none); ready = s.ready; good = s.good }
 
-    -- what tracks the entries is ready for one that concerns all of their keys
+    -- where the entry e concerns all keys so far, transactions that follow the entries have all keys that e needs, and have not passed e yet
     pub before_all : (ts : List T) → e.keys ≡ keys_in es → Tracks p k es ts → TracksBefore p k es e ts
     before_all ts all s = record { keys = s.keys ∙ sym (keys_in-all es e all); ready = s.ready; good = s.good }
 
-    -- the transactions of the entry's keys, which were touched
+    -- where the keys of the entry e were looked up, the transactions have all keys that e needs, and have not passed e yet
     pub before_touched : (ts : List T) → AreKept k es (fold with_key (keys_in es) e.keys) ts → IsGood p es → TracksBefore p k es e ts
     before_touched ts kept good = record { keys = kept.keys ∙ sym (keys_in-push es e); ready = kept.ready; good = good }
 
     module _ (k2 : Keeping T) (old new : List T) (before : TracksBefore p k2 es e old) (same : map k.key new ≡ map k2.key old) where
-      -- every transaction goes on: the entries are tracked
+      -- where the message of the entry has no fault and every transaction goes on, the transactions follow the entry too
       pub judged_fine : e.fault ≡ None → All (GoesOn p k es e) new → Tracks p k (es ++ e ∷ []) new × All (IsStanding k es e) new
       judged_fine formed goes = (
         record {
@@ -88,13 +90,13 @@ module _ {T : Type 0} (p : Times) (k : Keeping T) where
         All-weaker (GoesOn p k es e) (IsStanding k es e) (λ t g. g.stands) new goes,
       )
 
-      -- one has no run: a breach
+      -- where a transaction has no run over the entry, and this is the first such one, the verdict of the entry is its breach
       pub judged_breach : (number transaction : ℕ) → number ≡ length es + 1 → e.fault ≡ None → IsFirstKey (λ key. ¬ RunsOver p (es ++ e ∷ []) key) (map k.key new) transaction
           → HasTrouble p es e (Breach number transaction)
       judged_breach number transaction counts formed first =
           (counts, formed, subst (λ keys. IsFirstKey (λ key. ¬ RunsOver p (es ++ e ∷ []) key) keys transaction) (same ∙ before.keys) first)
 
-      -- one is too wide, and each has a run: undecided
+      -- where each transaction has a run over the entry, and this is the first that is too wide, the verdict of the entry is that it is undecided
       pub judged_undecided : (number transaction : ℕ) → number ≡ length es + 1 → e.fault ≡ None
           → All (RunsOver p (es ++ e ∷ [])) (map k.key new) → IsFirstKey (IsWideAt p es e) (map k.key new) transaction → HasTrouble p es e (Undecided number transaction)
       judged_undecided number transaction counts formed runs first = (

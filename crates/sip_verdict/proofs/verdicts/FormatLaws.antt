@@ -13,26 +13,26 @@ use Rattle.sip_log.proofs.logs.LogLaws.{Header-one}
 use Rattle.sip_standard.specs.declared.verdict.Verdict.{Verdict}
 use Rattle.sip_standard.specs.VerdictOf.{IsVerdictOf, IsVerdictAfter}
 
--- what a verdict of an input judges is its log
+-- a verdict of an input is a verdict on the log that the input says
 judges_log : (input : List ℕ) (p : Times) (items : List Item) (end : LogEnd) (v : Verdict) → LogSays input p items end → IsVerdictOf input v → IsVerdictAfter p [] items end v
 judges_log input p items end v log (inl (none, is)) = absurd (log_has_header input p items end none log)
 judges_log input p items end v log (inr (q, ys, fin, other, judges)) =
     let same = log_is_one input p q items ys end fin log other in
     subst (λ z. IsVerdictAfter z [] items end v) (sym same.0) (subst (λ z. IsVerdictAfter q [] z end v) (sym same.1) (subst (λ z. IsVerdictAfter q [] ys z v) (sym same.2) judges))
 
--- inputs of one log have the same verdict
+-- two inputs that say the same log have the same verdicts
 log_verdict : (input other : List ℕ) (p : Times) (items : List Item) (end : LogEnd) (v : Verdict) → LogSays input p items end → LogSays other p items end → IsVerdictOf input v → IsVerdictOf other v
 log_verdict input other p items end v log same is =
     inr (p, items, end, same, judges_log input p items end v log is)
 
--- a log of format 1 and one of format 2
+-- a log of format 1 with a clean end has, after a header of format 2 with the same times, the same verdicts
 pub format_verdict : (v : Verdict) (input other : List ℕ) (p : Times) (behind : List ℕ) (items : List Item) → Header One p input behind → Header Two p other behind → LogSays input p items Clean
     → IsVerdictOf input v ↔ IsVerdictOf other v
 format_verdict v input other p behind items one two log =
     let same = log-of-two input other p behind items one two log in
     (log_verdict input other p items Clean v log same, log_verdict other input p items Clean v same log)
 
--- logs with two spellings of a header
+-- an input that says a log with a clean end says the same log with another header of the same format and the same times
 log-of-same : (format : Format) (input other : List ℕ) (p : Times) (behind : List ℕ) (items : List Item) → Header format p input behind → Header format p other behind → LogSays input p items Clean
     → LogSays other p items Clean
 log-of-same format input other p behind items one two is =

@@ -26,11 +26,11 @@ use Rattle.sip_verdict.specs.inner.Observing.{mark_observation, restart_observat
 use Rattle.sip_message.specs.Reading as message
 use Rattle.sip_standard.specs.declared.role.Direction.TheVariants as way
 
--- it is not false
+-- it is false that A is false
 abbrev Weakly : Type 0 → Type 0
 Weakly A = ¬ (¬ A)
 
--- P is false of all of these, or there is a first of which it holds
+-- P is false of all keys, or some key is the first of which it holds
 first_or_none : (P : KeyParts → Type 0) (keys : List KeyParts) → Weakly (All (λ k. ¬ (P k)) keys ⊎ ((n : ℕ) × IsFirstKey P keys n))
 first_or_none P [] never = never (inl (All-nil (λ k. ¬ (P k))))
 first_or_none P (key ∷ keys) never = first_or_none P keys at
@@ -43,7 +43,7 @@ first_or_none P (key ∷ keys) never = first_or_none P keys at
     at (inr (n, (before, first, rest, is, holds, earlier, counts))) =
         never (inr (n + 1, (key ∷ before, first, rest, ap (λ xs. key ∷ xs) is, holds, All-cons (λ k. ¬ (P k)) key before here earlier, omega (arith, counts))))
 
--- what is not false of each is not false of all
+-- where P is false of no key, it is not false that P holds of all keys
 all_of : (P : KeyParts → Type 0) (keys : List KeyParts) → All (λ k. ¬ (¬ (P k))) keys → Weakly (All P keys)
 all_of P [] all never = never (All-nil P)
 all_of P (key ∷ keys) all never =
@@ -59,7 +59,7 @@ module _ (p : Times) (es : List (Observation KeyParts)) (e : Observation KeyPart
   abbrev Wide : KeyParts → Type 0
   Wide key = IsWideAt p es e key
 
-  -- an entry that has no verdict is in no trouble
+  -- an entry that has no verdict of trouble is in no trouble
   fine_or_trouble : ((v : Verdict) → ¬ (HasTrouble p es e v)) → Weakly (IsFine p es e)
   fine_or_trouble no_trouble not_fine = by_fault e.fault refl
     where
@@ -89,14 +89,14 @@ observes_message direction item never = reading-or-fault item.text no_reading no
         by_cookie true lacks = never (_, has_no_cookie (said_of r) reads.says lacks refl)
         by_cookie false has = never (_, is_heard (said_of r) _ reads.says has refl refl)
 
--- and of each entry
+-- something is observed of each entry
 pub sees_entry : (before : List (Observation KeyParts)) (item : Item) → Weakly ((e : Observation KeyParts) × Sees before item e)
 sees_entry before item = by_action item.action refl
   where
     keys : List KeyParts
     keys = keys_in before
 
-    -- this is observed of an entry with which this was done
+    -- this is observed of the entry where its action is a
     Seen : Observation KeyParts → Action → Type 0
     Seen e a = MatchOption (direction_of a) (e ≡ silent_observation a item.moment keys) (λ d. ObservesMessage d item e)
 
@@ -107,7 +107,7 @@ sees_entry before item = by_action item.action refl
     by_action Mark is never = never (mark_observation item.moment, subst (Seen (mark_observation item.moment)) (sym is) refl)
     by_action Restart is never = never (restart_observation item.moment keys, subst (Seen (restart_observation item.moment keys)) (sym is) refl)
 
--- entries have a verdict after others
+-- after any entries, the items that are left have a verdict
 judges_some : (p : Times) (es : List (Observation KeyParts)) (items : List Item) (end : LogEnd) → Weakly ((v : Verdict) × IsVerdictAfter p es items end v)
 judges_some p es [] Clean never = never (Legal (length es) (length (keys_in es)), refl)
 judges_some p es [] (Stops fault) never = never (LogFault (length es + 1) fault, refl)
@@ -116,7 +116,7 @@ judges_some p es (item ∷ items) end never =
     fine_or_trouble p es seen.0 (λ v trouble. never (v, (seen.0, seen.1, inl trouble))) (λ fine.
     judges_some p (es ++ seen.0 ∷ []) items end (λ left. never (left.0, (seen.0, seen.1, inr (fine.formed, fine.runs, fine.narrow, left.1))))))
 
--- a log has a verdict
+-- an input that lacks a header, or says a log, has a verdict
 verdict_of_log : (input : List ℕ) → LacksHeader input ⊎ ((p : Times) × (items : List Item) × (end : LogEnd) × LogSays input p items end) → Weakly ((v : Verdict) × IsVerdictOf input v)
 verdict_of_log input (inl none) never = never (LogFault 0 Header, inl (none, refl))
 verdict_of_log input (inr (p, items, end, is)) never = judges_some p [] items end (λ one. never (one.0, inr (p, items, end, is, one.1)))

@@ -1,4 +1,4 @@
--- The messages of a legal log.
+-- The messages of a legal log are of the grammar.
 use Rattle.std.proofs.Common.{◌≡◌, Option, Some, None, IfSome, MatchOption, List, [], ◌∷◌, ◌++◌, All, sym, ap, ◌∙◌}
 use Rattle.std.proofs.lemmas.List.Elements.{All-nil, All-cons, All-head, All-tail}
 use Rattle.sip_standard.specs.declared.role.Direction.{Direction}
@@ -14,13 +14,13 @@ formed direction item e none (has_fault fault has is) = let h : Some fault ≡ N
 formed direction item e none (has_no_cookie s says lacks is) = let h : Some no_cookie ≡ None = sym (ap (λ x. x.fault) is) ∙ none in cc
 formed direction item e none (is_heard s keys says fine concerns is) = (s, says, fine)
 
--- so is the message of an entry, if it has one
+-- the message of an entry without a fault is of the grammar, where the entry has a message
 formed_going : (direction : Option Direction) (item : Item) (silent e : Observation KeyParts) → e.fault ≡ None → MatchOption direction (e ≡ silent) (λ d. ObservesMessage d item e)
     → IfSome direction (λ d. IsFormed d item.text)
 formed_going None item silent e none seen = tt
 formed_going (Some direction) item silent e none seen = formed direction item e none seen
 
--- and that of each
+-- the messages of all entries are of the grammar, where none of them has a fault
 pub all_formed : (before : List (Observation KeyParts)) (items : List Item) (es : List (Observation KeyParts)) → AreSeen before items es → All (λ e. e.fault ≡ None) es
     → All (λ item. IfSome (direction_of item.action) (λ d. IsFormed d item.text)) items
 all_formed before [] es seen none = All-nil (λ item. IfSome (direction_of item.action) (λ d. IsFormed d item.text))

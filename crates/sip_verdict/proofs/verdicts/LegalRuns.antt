@@ -15,14 +15,14 @@ use Rattle.sip_verdict.proofs.judges.JudgingLemmas.{seen-push}
 use Rattle.sip_verdict.proofs.verdicts.LegalMessages.{all_formed}
 use Rattle.sip_verdict.proofs.verdicts.Unique.{good-nil, good-push}
 
--- what holds of each element that a list is split at holds of all
+-- where P holds of each element at which a list can be split, it holds of all elements
 All-from_splits : {A : Type 0} (P : A → Type 0) (xs : List A) → ((front : List A) (x : A) (rest : List A) → xs ≡ front ++ x ∷ rest → P x) → All P xs
 All-from_splits P [] each = All-nil P
 All-from_splits P (x ∷ xs) each =
     All-cons P x xs (each [] x xs refl) (All-from_splits P xs (λ front y rest is. each (x ∷ front) y rest (ap (λ z. x ∷ z) is)))
 
 -- a list is empty or has a last element
-empty_or_last : {A : Type 0} (xs : List A) → (xs ≡ []) ⊎ ((front : List A) × (x : A) × (xs ≡ front ++ x ∷ []))
+pub empty_or_last : {A : Type 0} (xs : List A) → (xs ≡ []) ⊎ ((front : List A) × (x : A) × (xs ≡ front ++ x ∷ []))
 empty_or_last [] = inl refl
 empty_or_last {A} (x ∷ xs) = go (empty_or_last xs)
   where
@@ -41,12 +41,12 @@ good_runs p es good = go (empty_or_last es)
     go (inl none) = subst AllRun (sym none) (All-nil (RunsOver p []))
     go (inr h) = subst AllRun (sym h.2) (good h.0 h.1 [] h.2).runs
 
--- and none has a fault
+-- where no entry is in trouble, no message has a fault
 good_formed : (p : Times) (es : List (Observation KeyParts)) → IsGood p es → All (λ e. e.fault ≡ None) es
 good_formed p es good = All-from_splits (λ e. e.fault ≡ None) es (λ front e rest is. (good front e rest is).formed)
 
 module _ (input : List ℕ) (entries transactions : ℕ) (p : Times) where
-  -- where the verdict of what is left is that the log is legal, it ends cleanly, with no entry in trouble
+  -- where the verdict after these entries is that the log is legal, the log ends cleanly, with no entry in trouble
   legal_end : (done : List Item) (es : List (Observation KeyParts)) (rest : List Item) (end : LogEnd) → LogSays input p (done ++ rest) end → AreSeen [] done es → IsGood p es →
       IsVerdictAfter p es rest end (Legal entries transactions) → IsLegalLog input entries transactions
   legal_end done es [] Clean log seen good is = record {
@@ -67,7 +67,7 @@ module _ (input : List ℕ) (entries transactions : ℕ) (p : Times) where
       legal_end (done ++ item ∷ []) (es ++ e ∷ []) rest end (subst (λ all. LogSays input p all end) (sym (append_assoc done (item ∷ []) rest)) log)
       (seen-push [] done es item e seen sees) (good-push p es e good (record { formed = formed; runs = runs; narrow = narrow })) left
 
--- a legal log has messages of the grammar, and runs
+-- a log with a legal verdict has messages of the grammar, and a run of each transaction
 pub legal_log : (input : List ℕ) (entries transactions : ℕ) → IsVerdictOf input (Legal entries transactions) → IsLegalLog input entries transactions
 legal_log input entries transactions (inl faulty) = let e = faulty.1 in cc
 legal_log input entries transactions (inr (p, items, end, log, left)) = legal_end input entries transactions p [] [] items end log tt (good-nil p) left

@@ -1,10 +1,10 @@
--- One thing is observed of an entry.
+-- Only one thing is observed of an entry.
 use Rattle.std.proofs.Common.{◌≡◌, ℕ, true, false, Option, Some, None, MatchOption, List, ◌++◌, sym, ap, ◌∙◌}
 use Rattle.std.specs.Prelude.{option_to_list}
 use Rattle.sip_standard.specs.declared.fault.Fault.{Fault}
 use Rattle.sip_standard.specs.Outcome.{Outcome, gives, stops}
 use Rattle.sip_standard.specs.Says.{Said, Says}
-use Rattle.sip_message.proofs.lemmas.says.Reading.{says-one, says-no_fault}
+use Rattle.sip_message.proofs.lemmas.says.Reading.{says-one, said-one, says-no_fault}
 use Rattle.sip_standard.specs.declared.role.Direction.{Direction}
 use Rattle.sip_standard.specs.Key.{KeyParts}
 use Rattle.sip_standard.specs.Concerns.{Concerns, lacks_cookie, own_key, cancelled_key}
@@ -16,25 +16,21 @@ use Rattle.sip_standard.specs.VerdictOf.{Sees}
 pub fault_says_none : (text : List ℕ) (fault : Fault) (s : Said) → Says text (stops fault) → Says text (gives s) → ⊥
 fault_says_none text fault s has says = says-no_fault text s fault says has
 
--- and bytes say one message
-pub one_said : (text : List ℕ) (s t : Said) → Says text (gives s) → Says text (gives t) → s ≡ t
-one_said text s t a b = let same : ◌≡◌ {A = Outcome Said} (gives s) (gives t) = says-one text (gives s) (gives t) a b in cc
-
--- the same bytes have or lack the cookie
+-- the same bytes do not both have and lack the cookie
 cookie_once : (text : List ℕ) (direction : Direction) (s t : Said) → Says text (gives s) → Says text (gives t) → lacks_cookie s direction ≡ true → lacks_cookie t direction ≡ false → ⊥
-cookie_once text direction s t a b lacks has = let e : true ≡ false = sym lacks ∙ ap (λ x. lacks_cookie x direction) (one_said text s t a b) ∙ has in cc
+cookie_once text direction s t a b lacks has = let e : true ≡ false = sym lacks ∙ ap (λ x. lacks_cookie x direction) (said-one text s t a b) ∙ has in cc
 
--- a message that is heard
+-- what is observed of a message that is heard, with these keys
 abbrev heard_as : Item → Said → List KeyParts → Observation KeyParts
 heard_as item s keys = record { fault = None; event = message_event item s; keys = keys }
 
--- they are heard alike, and concern the same keys
+-- one message is heard alike, with the same keys
 heard_once : (item : Item) (direction : Direction) (s t : Said) (keys more : List KeyParts) → s ≡ t → Concerns s direction keys → Concerns t direction more → heard_as item s keys ≡ heard_as item t more
 heard_once item direction s t keys more same c d =
     let alike : keys ≡ more = c ∙ ap (λ x. option_to_list (own_key x direction) ++ option_to_list (cancelled_key x direction)) same ∙ sym d in
     ap (λ ks. heard_as item s ks) alike ∙ ap (λ x. heard_as item x more) same
 
--- one thing is observed of a message
+-- two things that are observed of one message are the same
 pub message_one : (direction : Direction) (item : Item) (e f : Observation KeyParts) → ObservesMessage direction item e → ObservesMessage direction item f → e ≡ f
 message_one direction item e f (has_fault a has is) (has_fault b has2 is2) =
     let same : ◌≡◌ {A = Outcome Said} (stops a) (stops b) = says-one item.text (stops a) (stops b) has has2 in
@@ -47,14 +43,14 @@ message_one direction item e f (has_no_cookie s says lacks is) (is_heard t keys 
 message_one direction item e f (is_heard s keys says fine concerns is) (has_fault b has is2) = absurd (fault_says_none item.text b s has says)
 message_one direction item e f (is_heard s keys says fine concerns is) (has_no_cookie t says2 lacks is2) = absurd (cookie_once item.text direction t s says2 says lacks fine)
 message_one direction item e f (is_heard s keys says fine concerns is) (is_heard t more says2 fine2 concerns2 is2) =
-    is ∙ heard_once item direction s t keys more (one_said item.text s t says says2) concerns concerns2 ∙ sym is2
+    is ∙ heard_once item direction s t keys more (said-one item.text s t says says2) concerns concerns2 ∙ sym is2
 
--- one thing is observed of an entry, with a message that went this way or with none
+-- two things that are observed of one entry are the same, whether it has a message, which went this way, or none
 going_one : (direction : Option Direction) (item : Item) (silent e f : Observation KeyParts) → MatchOption direction (e ≡ silent) (λ d. ObservesMessage d item e)
     → MatchOption direction (f ≡ silent) (λ d. ObservesMessage d item f) → e ≡ f
 going_one None item silent e f a b = a ∙ sym b
 going_one (Some direction) item silent e f a b = message_one direction item e f a b
 
--- one thing is observed of an entry
+-- two things that are observed of one entry are the same
 pub observes_one : (es : List (Observation KeyParts)) (item : Item) (e f : Observation KeyParts) → Sees es item e → Sees es item f → e ≡ f
 observes_one es item e f a b = going_one (direction_of item.action) item _ e f a b

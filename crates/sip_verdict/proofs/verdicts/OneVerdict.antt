@@ -11,13 +11,13 @@ use Rattle.sip_standard.specs.VerdictOf.{keys_in, RunsOver, IsWideAt, HasTrouble
 use Rattle.sip_verdict.proofs.verdicts.MessageUnique.{observes_one}
 use Rattle.sip_verdict.proofs.verdicts.Unique.{fine_no_trouble, trouble_is_one}
 
--- entries have one verdict
+-- two verdicts on the same items after the same entries are the same
 judges_one : (p : Times) (es : List (Observation KeyParts)) (items : List Item) (end : LogEnd) (v w : Verdict) → IsVerdictAfter p es items end v → IsVerdictAfter p es items end w → v ≡ w
 judges_one p es [] Clean v w a b = a ∙ sym b
 judges_one p es [] (Stops fault) v w a b = a ∙ sym b
 judges_one p es (item ∷ items) end v w (e, seen, a) (f, seen2, b) = go a (subst (λ g. After g w) (sym (observes_one es item e f seen seen2)) b) (judges_one p (es ++ e ∷ []) items end v w)
   where
-    -- the verdict where this is seen of the entry
+    -- the verdict on the items, where e is what is seen of the first of them
     After : Observation KeyParts → Verdict → Type 0
     After g x =
         HasTrouble p es g x
@@ -29,13 +29,13 @@ judges_one p es (item ∷ items) end v w (e, seen, a) (f, seen2, b) = go a (subs
     go (inr a) (inl b) later = absurd (fine_no_trouble p es e w (record { formed = a.0; runs = a.1; narrow = a.2 }) b)
     go (inr a) (inr b) later = later a.3 b.3
 
--- an input with a header has one verdict
+-- two verdicts on logs that one input says are the same
 log_judges_one : (input : List ℕ) (p q : Times) (xs ys : List Item) (end fin : LogEnd) (v w : Verdict) → LogSays input p xs end → IsVerdictAfter p [] xs end v → LogSays input q ys fin → IsVerdictAfter q [] ys fin w → v ≡ w
 log_judges_one input p q xs ys end fin v w log a other b =
     let same = log_is_one input p q xs ys end fin log other in
     judges_one p [] xs end v w a (subst (λ z. IsVerdictAfter z [] xs end w) (sym same.0) (subst (λ z. IsVerdictAfter q [] z end w) (sym same.1) (subst (λ z. IsVerdictAfter q [] ys z w) (sym same.2) b)))
 
--- an input has one verdict
+-- two verdicts of one input are the same
 pub verdict_is_one : (input : List ℕ) (v w : Verdict) → IsVerdictOf input v → IsVerdictOf input w → v ≡ w
 verdict_is_one input v w (inl a) (inl b) = a.1 ∙ sym b.1
 verdict_is_one input v w (inl a) (inr (q, ys, fin, log, b)) = absurd (log_has_header input q ys fin a.0 log)

@@ -1,4 +1,4 @@
--- What the outcomes of some keys of a list and of others say of both.
+-- What the outcomes of two groups of keys say of both groups together.
 use Rattle.std.proofs.Common.{◌≡◌, ◌<◌, ◌+◌, ◌⊎◌, inl, inr, ℕ, zero, suc, min, Some, List, [], ◌∷◌, slice_get, refl, sym, ap, subst, arith}
 use Rattle.std.proofs.Math.Nat.{min-eq_left, min-eq_right}
 use Rattle.std.proofs.lemmas.Bool.{cases_lt}
@@ -9,7 +9,7 @@ use Rattle.sip_standard.specs.VerdictOf.{IsFirstKey}
 use Rattle.sip_standard.specs.Key.{KeyParts}
 use Rattle.sip_verdict.specs.inner.Tracking.{first_of}
 
--- a key at a place, of which P holds, and before which it holds of none, is the first
+-- a key of which P holds, and before which P holds of none, is the first of which it holds
 pub first_at : (P : KeyParts → Type 0) (keys : List KeyParts) (place : ℕ) (key : KeyParts) → slice_get keys place ≡ Some key → P key
     → ((n : ℕ) (k : KeyParts) → n < place → slice_get keys n ≡ Some k → ¬ P k) → IsFirstKey P keys (place + 1)
 first_at P [] place key at holds earlier = absurd cc
@@ -18,7 +18,7 @@ first_at P (x ∷ xs) (suc place) key at holds earlier =
     let (before, first, rest, is, it_holds, none, counts) = first_at P xs place key at holds (λ n k low. earlier (suc n) k (omega arith)) in
     (x ∷ before, first, rest, ap (λ ks. x ∷ ks) is, it_holds, All-cons (λ k. ¬ P k) x before (earlier 0 x (omega arith) refl) none, omega (arith, counts))
 
--- the number, from 1, of the first of some keys of a list, given by their places, of which P holds
+-- the number, from 1, of a key of which P holds, before which P holds of no key at the places of `Among`
 pub record IsFirstAmong (P : KeyParts → Type 0) (keys : List KeyParts) (Among : ℕ → Type 0) (number : ℕ) : Type 0 where
   pub place : ℕ
   pub counts : number ≡ place + 1
@@ -28,21 +28,22 @@ pub record IsFirstAmong (P : KeyParts → Type 0) (keys : List KeyParts) (Among 
   pub earlier : (n : ℕ) (k : KeyParts) → n < place → slice_get keys n ≡ Some k → Among n → ¬ P k
 
 module _ (Runs Wide : KeyParts → Type 0) (keys : List KeyParts) where
-  -- P of some of the keys, by their places
+  -- P holds of the keys at the places of `Among`
   abbrev pub OfSome : (KeyParts → Type 0) → (ℕ → Type 0) → Type 0
   OfSome P Among = (n : ℕ) (k : KeyParts) → slice_get keys n ≡ Some k → Among n → P k
 
-  -- what an outcome says of some of them: each has a run and is not too wide; or this is the first without a run; or each has one, and this is the first that is too wide
+  -- what an outcome says of the keys at some places: each has a run and is narrow; or the first without a run; or each has one, and the first that is wide
   abbrev pub Says : (ℕ → Type 0) → Outcome → Type 0
   Says Among all.Fine = OfSome (λ k. Runs k × ¬ Wide k) Among
   Says Among (all.NoRun number) = IsFirstAmong (λ k. ¬ Runs k) keys Among number
   Says Among (all.TooWide number) = OfSome Runs Among × IsFirstAmong Wide keys Among number
 
   module _ (A B : ℕ → Type 0) (less : (n : ℕ) → B n → A n) where
-    -- what it says of some it says of fewer
+    -- what holds of the keys at some places holds of those at fewer places
     fewer : (P : KeyParts → Type 0) → OfSome P A → OfSome P B
     fewer P h n k at among = h n k at (less n among)
 
+    -- the first key for some places, of which P holds, is the first for fewer places
     first_fewer : (P : KeyParts → Type 0) (number : ℕ) → IsFirstAmong P keys A number → IsFirstAmong P keys B number
     first_fewer P number f = record {
       place = f.place;
@@ -53,14 +54,14 @@ module _ (Runs Wide : KeyParts → Type 0) (keys : List KeyParts) where
       earlier = λ n k low at among. f.earlier n k low at (less n among);
     }
 
-    -- an outcome that is said of some keys is said of fewer
+    -- what an outcome says of the keys at some places it says of those at fewer places
     pub says_fewer : (outcome : Outcome) → Says A outcome → Says B outcome
     says_fewer all.Fine h = fewer (λ k. Runs k × ¬ Wide k) h
     says_fewer (all.NoRun number) h = first_fewer (λ k. ¬ Runs k) number h
     says_fewer (all.TooWide number) h = (fewer Runs h.0, first_fewer Wide number h.1)
 
   module _ (A B : ℕ → Type 0) where
-    -- one of both
+    -- the place is among those of A or of B
     abbrev Either : ℕ → Type 0
     Either n = A n ⊎ B n
 
@@ -68,7 +69,7 @@ module _ (Runs Wide : KeyParts → Type 0) (keys : List KeyParts) where
     of_both P a b n k at (inl among) = a n k at among
     of_both P a b n k at (inr among) = b n k at among
 
-    -- the first of some, where P holds of none of the others before it
+    -- the first key for the places of A is the first for the places of both, where P holds of no key before it at the places of B
     first_left : (P : KeyParts → Type 0) (i : ℕ) → IsFirstAmong P keys A i → ((n : ℕ) (k : KeyParts) → n + 1 < i → slice_get keys n ≡ Some k → B n → ¬ P k) → IsFirstAmong P keys Either i
     first_left P i f others = record {
       place = f.place;
@@ -79,6 +80,7 @@ module _ (Runs Wide : KeyParts → Type 0) (keys : List KeyParts) where
       earlier = λ n k low at. (λ among. elim among [ inl a ↦ f.earlier n k low at a | inr b ↦ others n k (omega (arith, f.counts, low)) at b ]);
     }
 
+    -- the first key for the places of B is the first for the places of both, where P holds of no key before it at the places of A
     first_right : (P : KeyParts → Type 0) (i : ℕ) → IsFirstAmong P keys B i → ((n : ℕ) (k : KeyParts) → n + 1 < i → slice_get keys n ≡ Some k → A n → ¬ P k) → IsFirstAmong P keys Either i
     first_right P i f others = record {
       place = f.place;
@@ -89,14 +91,14 @@ module _ (Runs Wide : KeyParts → Type 0) (keys : List KeyParts) where
       earlier = λ n k low at. (λ among. elim among [ inl a ↦ others n k (omega (arith, f.counts, low)) at a | inr b ↦ f.earlier n k low at b ]);
     }
 
-    -- the lesser of two firsts is the first of both
+    -- the smaller number of two first keys is that of the first key of both groups
     first_both : (P : KeyParts → Type 0) (i j : ℕ) → IsFirstAmong P keys A i → IsFirstAmong P keys B j → IsFirstAmong P keys Either (min i j)
     first_both P i j f g = elim (cases_lt i j) [
       | inl low ↦ subst (IsFirstAmong P keys Either) (sym (min-eq_left (omega arith))) (first_left P i f (λ n k below at. g.earlier n k (omega (arith, g.counts, below, low)) at))
       | inr low ↦ subst (IsFirstAmong P keys Either) (sym (min-eq_right low)) (first_right P j g (λ n k below at. f.earlier n k (omega (arith, f.counts, below, low)) at))
     ]
 
-    -- the first of two outcomes says of both what each says of its own
+    -- where two outcomes are said of two groups, their join is said of both groups together
     pub says_both : (a b : Outcome) → Says A a → Says B b → Says Either (first_of a b)
     says_both all.Fine all.Fine h l = of_both (λ k. Runs k × ¬ Wide k) h l
     says_both all.Fine (all.NoRun j) h l = first_right (λ k. ¬ Runs k) j l (λ n k below at among none. none (h n k at among).0)
@@ -108,7 +110,7 @@ module _ (Runs Wide : KeyParts → Type 0) (keys : List KeyParts) where
     says_both (all.TooWide i) (all.NoRun j) h l = first_right (λ k. ¬ Runs k) j l (λ n k below at among none. none (h.0 n k at among))
     says_both (all.TooWide i) (all.TooWide j) h l = (of_both Runs h.0 l.0, first_both Wide i j h.1 l.1)
 
--- an outcome in which both are fine is of two that are
+-- where the join of two outcomes is no trouble, both are no trouble
 pub both_fine : (a b : Outcome) → first_of a b ≡ all.Fine → (a ≡ all.Fine) × (b ≡ all.Fine)
 both_fine all.Fine b h = (refl, h)
 both_fine (all.NoRun i) all.Fine h = absurd cc

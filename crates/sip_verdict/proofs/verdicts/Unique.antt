@@ -1,4 +1,4 @@
--- There is at most one verdict on an entry after others.
+-- There is at most one verdict on an entry.
 use Rattle.std.proofs.Common.{◌≡◌, ◌⊎◌, inl, inr, ◌+◌, ℕ, List, [], ◌∷◌, ◌++◌, length, Some, None, All, Contains, refl, sym, ap, ◌∙◌, subst, arith, length-append}
 use Rattle.std.proofs.lemmas.List.Elements.{All-contains, Contains-append_right}
 use Rattle.sip_standard.specs.declared.verdict.Verdict.{Verdict}
@@ -10,7 +10,7 @@ use Rattle.sip_standard.specs.VerdictOf.{keys_in, RunsOver, IsWideAt, IsFirstKey
 use Rattle.sip_verdict.specs.LegalLog.{IsFine, IsGood}
 use Rattle.sip_verdict.proofs.keys.Splitting.{split_compare}
 
--- what stands in the middle of a list is in it
+-- a list contains the element in its middle
 pub Contains-middle : {A : Type 0} (xs ys : List A) (x : A) → Contains (xs ++ x ∷ ys) x
 Contains-middle xs ys x = Contains-append_right xs (x ∷ ys) x (0, omega arith, refl)
 
@@ -18,7 +18,7 @@ Contains-middle xs ys x = Contains-append_right xs (x ∷ ys) x (0, omega arith,
 pub All-middle : {A : Type 0} (P : A → Type 0) (xs ys : List A) (x : A) → All P (xs ++ x ∷ ys) → P x
 All-middle P xs ys x h = All-contains P (xs ++ x ∷ ys) x h (Contains-middle xs ys x)
 
--- the first key of which P holds has one number
+-- two numbers of the first key of which P holds are the same
 pub first_is_one : (P : KeyParts → Type 0) (keys : List KeyParts) (n k : ℕ) → IsFirstKey P keys n → IsFirstKey P keys k → n ≡ k
 first_is_one P keys n k (before, key, rest, is, holds, earlier, counts) (front, first, more, are, also, none, number) =
     go (split_compare before rest front more key first (sym is ∙ are))
@@ -28,11 +28,11 @@ first_is_one P keys n k (before, key, rest, is, holds, earlier, counts) (front, 
     go (inr (inl h)) = absurd (All-middle (λ x. ¬ (P x)) before h.0 key (subst (All (λ x. ¬ (P x))) h.1 none) holds)
     go (inr (inr h)) = absurd (All-middle (λ x. ¬ (P x)) front h.0 first (subst (All (λ x. ¬ (P x))) h.1 earlier) also)
 
--- a key of which P holds does not leave it false of all
+-- where P holds of some key, it is not false of all keys
 pub first_not_all : (P : KeyParts → Type 0) (keys : List KeyParts) (n : ℕ) → IsFirstKey P keys n → All (λ k. ¬ (P k)) keys → ⊥
 first_not_all P keys n (before, key, rest, is, holds, earlier, counts) h = All-middle (λ k. ¬ (P k)) before rest key (subst (All (λ k. ¬ (P k))) is h) holds
 
--- a key without a run is not among keys that all have one
+-- where a key has no run, not all keys have one
 pub first_not_run : (P : KeyParts → Type 0) (keys : List KeyParts) (n : ℕ) → IsFirstKey (λ k. ¬ (P k)) keys n → All P keys → ⊥
 first_not_run P keys n (before, key, rest, is, none, earlier, counts) h = none (All-middle P before rest key (subst (All P) is h))
 
@@ -40,14 +40,14 @@ module _ (p : Times) (front : List (Observation KeyParts)) (e : Observation KeyP
   abbrev keys : List KeyParts
   keys = keys_in (front ++ e ∷ [])
 
-  -- the key has a run over the entries and this one, or is too wide at this one
+  -- the key has a run over the entries and e
   abbrev Runs : KeyParts → Type 0
   Runs key = RunsOver p (front ++ e ∷ []) key
 
   abbrev Wide : KeyParts → Type 0
   Wide key = IsWideAt p front e key
 
-  -- an entry that is in no trouble has no verdict
+  -- an entry that is in no trouble has no verdict of trouble
   pub fine_no_trouble : (v : Verdict) → IsFine p front e → HasTrouble p front e v → ⊥
   fine_no_trouble (Legal n t) f h = h
   fine_no_trouble (Malformed n fault) f h = let a : None ≡ Some fault = sym f.formed ∙ h.1 in cc
@@ -55,7 +55,7 @@ module _ (p : Times) (front : List (Observation KeyParts)) (e : Observation KeyP
   fine_no_trouble (Undecided n t) f h = first_not_all Wide keys t h.3 f.narrow
   fine_no_trouble (LogFault n reason) f h = h
 
-  -- an entry has one verdict
+  -- two verdicts of trouble at one entry are the same
   pub trouble_is_one : (v w : Verdict) → HasTrouble p front e v → HasTrouble p front e w → v ≡ w
   trouble_is_one (Malformed n f) (Malformed k g) a b = let s : Some f ≡ Some g = sym a.1 ∙ b.1 in let s' : n ≡ k = a.0 ∙ sym b.0 in cc
   trouble_is_one (Malformed n f) (Breach k t) a b = let s : Some f ≡ None = sym a.1 ∙ b.1 in cc
@@ -72,12 +72,12 @@ module _ (p : Times) (front : List (Observation KeyParts)) (e : Observation KeyP
   trouble_is_one v (LogFault n r) a b = absurd b
 
 module _ (p : Times) where
-  -- no entry is in no trouble
+  -- the empty log has no entry in trouble
   pub good-nil : IsGood p []
   good-nil [] e rest is = cc
   good-nil (f ∷ front) e rest is = cc
 
-  -- one more entry that is in no trouble
+  -- where no entry is in trouble, and e after them is in none, no entry with e is in trouble
   pub good-push : (es : List (Observation KeyParts)) (e : Observation KeyParts) → IsGood p es → IsFine p es e → IsGood p (es ++ e ∷ [])
   good-push es e good fine front f rest is =
       go (split_compare es [] front rest e f is)

@@ -3,13 +3,13 @@ use Rattle.sip_standard.specs.Outcome.{gives}
 use Rattle.sip_standard.specs.Says.{Said, Says}
 use Rattle.sip_verdict.specs.declared.histories.History.{History}
 
--- What is kept of the entries of each transaction.
+-- What follows says what a survey keeps of the entries of each transaction.
 
--- this is the branch of the top Via, as it is spelled, if bytes spell a message that has one
+-- these bytes are the branch of the top Via as a message spells it, where the other bytes spell a message that has one
 abbrev pub SpellsBranch : List ℕ → List ℕ → Type 0
 SpellsBranch text branch = (s : Said) → Says text (gives s) → IfSome s.via.branch (λ spelled. branch ≡ spelled)
 
--- the entry with this number and text is noted of a known transaction, as its last one
+-- the entry with this number and text becomes the last entry of the history of a transaction that is known
 pub record NotesLast (entry number : ℕ) (old new : List History) : Type 0 where
   pub before : History
   pub after : History
@@ -19,7 +19,7 @@ pub record NotesLast (entry number : ℕ) (old new : List History) : Type 0 wher
   pub first : after.first ≡ before.first
   pub last : after.last ≡ entry
 
--- the entry with this number and text is noted of a new transaction, as its first one and its last one
+-- the entry with this number and text begins the history of a new transaction: it is its first and its last entry
 pub record NotesFirst (entry : ℕ) (text : List ℕ) (number : ℕ) (old new : List History) : Type 0 where
   pub begun : History
   pub beyond : length old ≤ number - 1
@@ -28,11 +28,11 @@ pub record NotesFirst (entry : ℕ) (text : List ℕ) (number : ℕ) (old new : 
   pub first : begun.first ≡ entry
   pub last : begun.last ≡ entry
 
--- the entry is noted of the transaction with this number, be it known or new
+-- the entry is written into the history of the transaction with this number, be the transaction known or new
 abbrev pub Notes : (entry : ℕ) (text : List ℕ) (number : ℕ) → List History → List History → Type 0
 Notes entry text number old new = NotesLast entry number old new ⊎ NotesFirst entry text number old new
 
--- the entry is noted of the transactions with these numbers, one after another
+-- the entry is written into the histories of the transactions with these numbers, one after another
 abbrev pub NotesEach : (entry : ℕ) (text : List ℕ) → List ℕ → List History → List History → Type 0
 NotesEach entry text [] old new = new ≡ old
 NotesEach entry text (n ∷ ns) old new = (between : List History) × Notes entry text n old between × NotesEach entry text ns between new

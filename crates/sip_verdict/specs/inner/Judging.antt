@@ -6,7 +6,7 @@ use Rattle.sip_standard.specs.declared.log_reason.LogReason.TheVariants as reaso
 use Rattle.sip_standard.specs.declared.judge_error.JudgeError.{JudgeError}
 use Rattle.sip_standard.specs.declared.judge_error.JudgeError.TheVariants.{Io, Memory}
 
--- what an error of reading a log is told as: the reason of its fault, or why there is no answer
+-- an error of reading a log is told as the reason of the log's fault, or as why there is no answer
 abbrev pub told_as : LogError → Result LogReason JudgeError
 told_as log.Header = Ok reasons.Header
 told_as log.EntryLine = Ok reasons.EntryLine

@@ -4,7 +4,7 @@ use Rattle.sip_standard.specs.MachineEvent.{MachineEvent}
 use Rattle.sip_machine.specs.Rules.{MachineRules, Knows}
 use Rattle.sip_states.specs.Runs.{Wait, RuledRun}
 
--- the set of these states at the moment leads, from there and from a later moment on, exactly to where the runs over the events stand
+-- the states of a set at a moment say, of that moment and of each later one, exactly where the runs over the events stand
 pub record Leads {X S : Type 0} (names : S → List ℕ) (seen : Texts → S → X) (texts : Texts) (r : MachineRules X) (events : List MachineEvent) (from moment : ℕ) (states : List S) : Type 0 where
   pub known : All (Knows names texts) states
   pub runs : (n : ℕ) (x : X) → from ≤ n → moment ≤ n → Wait r (Contains (map (seen texts) states)) moment n x ↔ RuledRun r events n x

@@ -22,27 +22,27 @@ pub record AreNumbered (items : List Item) (texts : Texts) : Type 0 where
   pub numbered : (n : ℕ) → Keeps texts n → first_entry items (text_of texts n) ≡ n
   pub kept : All (λ i. ¬ ConcernsNone i → (n : ℕ) × Keeps texts n × (text_of texts n ≡ i.text)) items
 
--- with the next entry, which has this number, the book is as before, or keeps its message too
+-- the book with the next entry, which has this number: it is as before, or keeps the message of this entry too
 abbrev pub StaysNumbered : Item → ℕ → Texts → Texts → Type 0
 StaysNumbered item number old new = (items : List Item) → AreNumbered items old → number ≡ length items + 1 → AreNumbered (items ++ item ∷ []) new
 
--- the transaction with this number was appended to a text
+-- the text has grown by the listing of the transaction with this number
 abbrev pub Appends : Tabled → ℕ → List ℕ → List ℕ → Type 0
 Appends t n old new =
     (key : KeyParts) × (set : AnySet) × (lines : List (List ℕ)) × (slice_get t.keys (n - 1) ≡ Some key) × (slice_get t.sets (n - 1) ≡ Some set) × Lists set lines
     × (IsAscii key.method → new ≡ old ++ transaction_text n key lines)
 
--- those with these numbers were, one after another
+-- the text has grown by the listings of the transactions with these numbers, one after another
 abbrev pub AppendsEach : Tabled → List ℕ → List ℕ → List ℕ → Type 0
 AppendsEach t [] old new = new ≡ old
 AppendsEach t (n ∷ ns) old new = (between : List ℕ) × Appends t n old between × AppendsEach t ns between new
 
--- the text of the transactions with these numbers, or that there is none
+-- this is the text of the transactions with these numbers; where there is no number it says that there is no transaction
 abbrev pub IsTextOf : Tabled → List ℕ → List ℕ → Type 0
 IsTextOf t [] text = text ≡ codes "no transaction\n"
 IsTextOf t (n ∷ ns) text = AppendsEach t (n ∷ ns) [] text
 
--- what is listed of the entry after these: its text if it is in no trouble, else its verdict
+-- what is listed of the entry e after these: the text of its transactions where it is in no trouble, and else its verdict
 abbrev pub IsListedEntry : Times → (List ℕ → ℕ) → List (Observation KeyParts) → Observation KeyParts → Listing → Type 0
 IsListedEntry p number es e (Text text) = IsGood p (es ++ e ∷ []) × IsEntryText p number es e e.keys (string_bytes text)
 IsListedEntry p number es e (Stopped v) = HasTrouble p es e v

@@ -20,9 +20,9 @@ use Rattle.sip_standard.specs.VerdictOf.{keys_in}
 use Rattle.sip_verdict.specs.Entries.{ConcernsNone}
 use Rattle.sip_verdict.specs.inner.Concerned.{each, is_all}
 
--- What the judge is told of an entry.
+-- What follows says what a judge is told of an entry.
 
--- the keys of the transactions that a message concerns, which differ and are told one by one, or that it lacks the cookie; of memory nothing is said
+-- the keys of the transactions that a message concerns, all different and given one by one, or that it lacks the cookie; want of memory is not spoken of
 abbrev pub AreKeysOf : Said → Direction → Result (Concerned KeyParts) KeyError → Type 0
 AreKeysOf s direction (Ok concerned) = (lacks_cookie s direction ≡ false) × Concerns s direction (each concerned) × AllPairs (λ a b. a ≢ b) (each concerned) × (is_all concerned ≡ false)
 AreKeysOf s direction (Err error.NoCookie) = lacks_cookie s direction ≡ true
@@ -32,23 +32,23 @@ AreKeysOf s direction (Err error.Memory) = ⊤
 abbrev pub mark_observation : ℕ → Observation KeyParts
 mark_observation moment = silent_observation action.Mark moment []
 
--- a restart concerns each of these keys
+-- a restart concerns each of these keys at its moment
 abbrev pub restart_observation : ℕ → List KeyParts → Observation KeyParts
 restart_observation moment keys = silent_observation action.Restart moment keys
 
--- what is told of an entry without a message
+-- what is told of an entry without a message, by its action
 abbrev pub silent_told : Action → Observed
 silent_told action.Restart = Restart
 silent_told a = Unheard
 
--- what is observed of an entry after others of which this is told, beside the texts of a book: of one that is not heard, its moment
+-- what is observed of an item after these entries, where this is told of it and the book has these texts: its moment alone where no transaction hears it
 abbrev pub IsObserved : Texts → List (Observation KeyParts) → Item → Observed → Observation KeyParts → Type 0
 IsObserved texts es i Unheard e = (e.fault ≡ None) × (e.event.moment ≡ i.moment) × (e.keys ≡ [])
 IsObserved texts es i (Fault fault) e = e ≡ fault_observation i fault
 IsObserved texts es i Restart e = e ≡ restart_observation i.moment (keys_in es)
 IsObserved texts es i (Heard event concerned) e = e ≡ record { fault = None; event = event_in texts event; keys = each concerned }
 
--- an event that is told is of this moment, the book keeps its message, and its keys differ
+-- an event that is told has this moment, the book keeps its message, and its keys are all different
 abbrev pub IsHeard : Texts → ℕ → Observed → Type 0
 IsHeard texts moment Unheard = ⊤
 IsHeard texts moment (Fault fault) = ⊤
@@ -56,7 +56,7 @@ IsHeard texts moment Restart = ⊤
 IsHeard texts moment (Heard event concerned) =
     FitsBook texts event × (event.moment ≡ moment) × AllPairs (λ a b. a ≢ b) (each concerned) × (is_all concerned ≡ false)
 
--- the book keeps the entry's message if it is heard, which concerns some key, under the event's number, and nothing else is kept or lost
+-- the book keeps the message of an entry that is heard under the number of its event, and neither keeps nor loses any other message
 abbrev pub IsKept : Texts → Texts → Entry → Observed → Type 0
 IsKept old new entry Unheard = new ≡ old
 IsKept old new entry (Fault fault) = new ≡ old

@@ -11,18 +11,18 @@ use Rattle.sip_standard.specs.declared.show_error.ShowError.{ShowError}
 use Rattle.sip_standard.specs.declared.show_error.ShowError.TheVariants.{Read, Write, Memory}
 use Rattle.sip_standard.specs.Showing.{IsCanonOf, shown_entry}
 
--- How a log is shown, piece by piece.
+-- What follows says how a log is shown, entry by entry.
 
--- why a message has no canonical form: its fault; of memory nothing is said
+-- a message has no canonical form because it has this fault; want of memory is not spoken of
 abbrev pub IsFaulty : List ℕ → ReadError → Type 0
 IsFaulty bytes (message.Fault fault) = Says bytes (stops fault)
 IsFaulty bytes message.Memory = ⊤
 
--- why an entry has no canonical form: its message has none; an entry without a message always has one
+-- an entry has no canonical form because its message has none; an entry without a message always has one
 abbrev pub HasNoForm : Action → List ℕ → ReadError → Type 0
 HasNoForm action bytes error = (has_message action ≡ true) × IsFaulty bytes error
 
--- an entry was written as it is shown; or its message has a fault, and nothing was written
+-- the entry was written as it is shown; or its message has a fault, and nothing was written
 abbrev pub ShowsEntry : ℕ → Item → Option (List ℕ) → Option (List ℕ) → Bool → Bool → Result (Option Fault) ShowError → Type 0
 ShowsEntry number e old new before after (Ok None) = (form : List ℕ) × IsCanonOf e.action e.text form × Appends old new (shown_entry number e form) × (after ≡ before)
 ShowsEntry number e old new before after (Ok (Some fault)) = (has_message e.action ≡ true) × Says e.text (stops fault) × (new ≡ old) × (after ≡ before)

@@ -15,7 +15,7 @@ use Rattle.sip_verdict.specs.declared.survey_error.SurveyError.TheVariants.{Read
 use Rattle.sip_verdict.specs.declared.surveying.Counts.{Counts}
 use Rattle.sip_standard.specs.Observation.{Observation}
 use Rattle.sip_verdict.specs.SurveyOf.{IsSurveyAfter, IsSurveyOf, IsFoundAt, verdict_of}
-use Rattle.sip_verdict.specs.SurveyParts.{IsPartItem, IsPartSurveyOf, IsPartToldOf}
+use Rattle.sip_verdict.specs.SurveyParts.{IsPartSurveyOf, IsPartToldOf, IsTaken}
 use Rattle.sip_verdict.specs.SurveyText.{SumsUp, is_undecided, IsFirstOf, IsLastOf, IsLineOf, IsToldOf, transaction_words}
 use Rattle.sip_verdict.specs.Surveys.{Surveying, SurveysFor}
 use Rattle.sip_verdict.specs.inner.Walking.{HasRead}
@@ -28,27 +28,27 @@ use Rattle.sip_standard.specs.VerdictOf.{keys_in}
 use Rattle.sip_log.specs.Reading as log
 use Rattle.sip_standard.specs.declared.judge_error.JudgeError.TheVariants as judging
 
--- what a log that could not be read to its end is told as
+-- the error of a survey that stands for this error of judging, where a log could not be read to its end
 abbrev pub unsurveyed : JudgeError → SurveyError
 unsurveyed judging.Io = Read
 unsurveyed judging.Memory = Memory
 
--- these findings were counted besides those before
+-- these findings were counted, besides those that were counted before
 pub record AreCounted (found : List Finding) (old new : Counts) : Type 0 where
   pub findings : new.findings ≡ old.findings + length found
   pub undecided : new.undecided ≡ old.undecided + length (filter is_undecided found)
 
--- these findings are all that was counted, and these lines were written
+-- the counts are those of these findings, and these lines were written
 pub record AreTold (found : List Finding) (lines : List ℕ) (counts : Counts) (before after : Option (List ℕ)) : Type 0 where
   pub findings : counts.findings ≡ length found
   pub undecided : counts.undecided ≡ length (filter is_undecided found)
   pub written : Appends before after lines
 
--- the words for a transaction, as the survey tells it
+-- the words for a transaction as a survey tells it
 abbrev pub words_of : Transaction → List ℕ
 words_of t = transaction_words t.key.now t.branch.now t.first t.last
 
--- the line of a finding, with the words for its transaction where that is known
+-- the line of a finding, with the words for its transaction where the transaction is known
 abbrev pub line_with : Finding → Option Transaction → List ℕ
 line_with f None = rendered (verdict_of f) ++ line_feed ∷ []
 line_with f (Some t) = rendered (verdict_of f) ++ words_of t ++ line_feed ∷ []
@@ -58,13 +58,13 @@ abbrev pub Tells : Surveying → ℕ → Option Transaction → Type 0
 Tells s number told = (es : List (Observation KeyParts)) → SurveysFor s es → 0 < number
     → IfSome (slice_get (keys_in es) (number - 1)) (λ key. IsSomeAnd told (λ t. (t.key.now ≡ key) × IsFirstOf es key t.first t.branch.now × IsLastOf es key t.last))
 
--- the survey tells the transaction of the finding; a message with a fault has none
+-- the survey tells the transaction of the finding; a fault of a message has no transaction
 abbrev pub TellsOf : Surveying → Finding → Option Transaction → Type 0
 TellsOf s (Malformed entry fault) told = told ≡ None
 TellsOf s (Breach entry number) told = Tells s number told
 TellsOf s (Undecided entry number) told = Tells s number told
 
--- this is the line of the finding, if it is found at the newest entry of those that the survey stands for
+-- this is the line of the finding, where it is found at the newest entry that the survey has taken
 abbrev pub IsLineBy : Surveying → Finding → List ℕ → Type 0
 IsLineBy s f line = (p : Times) (es : List (Observation KeyParts)) (e : Observation KeyParts) → SurveysFor s (es ++ e ∷ []) → IsFoundAt p es e f → IsLineOf (es ++ e ∷ []) f line
 
@@ -73,12 +73,7 @@ abbrev pub AreLinesBy : Surveying → List Finding → List ℕ → Type 0
 AreLinesBy s [] text = text ≡ []
 AreLinesBy s (f ∷ found) text = (line : List ℕ) × (more : List ℕ) × IsLineBy s f line × AreLinesBy s found more × (text ≡ line ++ more)
 
--- the item as it is surveyed: itself, or as it is in the log of the part
-abbrev pub IsTaken : Option PartOf → Item → Item → Type 0
-IsTaken None item taken = taken ≡ item
-IsTaken (Some part) item taken = IsPartItem part item taken
-
--- the log as it is surveyed
+-- the items as they are surveyed: the whole log, or the log of the part
 abbrev pub AreTaken : Option PartOf → List Item → List Item → Type 0
 AreTaken part [] [] = ⊤
 AreTaken part (item ∷ items) (taken ∷ more) = IsTaken part item taken × AreTaken part items more
@@ -94,7 +89,7 @@ abbrev pub IsToldIn : Option PartOf → List ℕ → List Finding → SurveyEnd 
 IsToldIn None input found end text = IsToldOf input found end text
 IsToldIn (Some part) input found end text = IsPartToldOf part input found end text
 
--- the survey of the input, or of a part, is written, and the summary sums it up
+-- the survey of the input, or of a part of it, is written, and the summary sums it up
 pub record IsWritten (part : Option PartOf) (input : List ℕ) (summary : Summary) (before after : Option (List ℕ)) : Type 0 where
   pub found : List Finding
   pub text : List ℕ
@@ -102,15 +97,16 @@ pub record IsWritten (part : Option PartOf) (input : List ℕ) (summary : Summar
   pub sums : SumsUp found summary
   pub written : Appends before after text
 
--- the survey goes on, and took all entries that were read up to this place
+-- the survey goes on, and took all entries that were read up to this place, with each of which at most two transactions came
 pub record IsSurveyAt (s : Surveying) (place : ProgressState) : Type 0 where
   pub on : place.stage ≡ entries
   pub goes_on : s.failed ≡ false
   pub counts : s.number ≡ place.count
   pub newest : s.moment ≡ place.last
   pub few : place.count ≤ most_entries
+  pub room : length s.tables.keys ≤ place.count + place.count
 
--- the survey stands for the entries that were read of the input, as they are taken, and this was found at them: with what is found at those that are left it is found at all
+-- the survey has taken the entries that were read of the input, and found this at them: with what is found at the entries to come, it is the whole survey
 pub record SurveysRead (part : Option PartOf) (s : Surveying) (found : List Finding) (start : Option (List ℕ)) (now : log.ReaderState) : Type 0 where
   pub items : List Item
   pub taken : List Item

@@ -8,7 +8,7 @@ use Rattle.sip_standard.specs.Observation.{Observation}
 use Rattle.sip_standard.specs.VerdictOf.{HasTrouble}
 use Rattle.sip_verdict.specs.Judging.{AreFollowed}
 
--- what is judged of an entry after those that messages and sets follow: they follow this one too, or this is its verdict
+-- messages and sets that follow the entries follow one entry more, or the verdict of that entry is given
 abbrev pub AreFollowedOn : Texts → Tabled → ℕ → List (Observation KeyParts) → Observation KeyParts → Option Verdict → Type 0
 AreFollowedOn texts t left es e None = AreFollowed texts t left (es ++ e ∷ [])
 AreFollowedOn texts t left es e (Some v) = HasTrouble t.times es e v

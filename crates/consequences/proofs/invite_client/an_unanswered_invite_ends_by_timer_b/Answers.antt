@@ -16,7 +16,7 @@ use Rattle.sip_standard.specs.Stands.{Stands, StandsAfter}
 use Rattle.consequences.specs.Events.{SendsRequest, GetsResponse, IsAnyCode}
 use Rattle.consequences.specs.Machines.{figure_of, StateOf}
 use Rattle.consequences.proofs.lemmas.client.InviteClients.{receives_6026, receives_3261}
-use Rattle.consequences.proofs.lemmas.run.Lasting.{what_stands_lasts}
+use Rattle.sip_states.proofs.runs.StandsLemmas.{what_stands_lasts}
 use Rattle.consequences.proofs.lemmas.client.Unanswered.{over-by-timer-b, silent-after-timer-b}
 use Rattle.consequences.proofs.invite_client.an_unanswered_invite_ends_by_timer_b.Goals as goal
 

@@ -18,7 +18,7 @@ use Rattle.consequences.specs.Events.{SendsRequest, GetsResponse, IsRefused, IsR
 use Rattle.consequences.specs.Machines.{figure_of, StateOf}
 use Rattle.consequences.proofs.lemmas.client.Acknowledging.{acknowledged}
 use Rattle.consequences.proofs.lemmas.client.InviteClients.{receives_6026, receives_3261}
-use Rattle.consequences.proofs.lemmas.run.Lasting.{what_stands_lasts}
+use Rattle.sip_states.proofs.runs.StandsLemmas.{what_stands_lasts}
 use Rattle.consequences.proofs.lemmas.run.Lists.{any-none}
 use Rattle.consequences.proofs.invite_client.an_unsuccessful_response_is_acknowledged.Goals as goal
 
@@ -27,7 +27,7 @@ module _ (p : Times) (before between after : List MachineEvent) (invite response
   abbrev IsBroken : MachineEvent → Type 0
   IsBroken g = GetsResponse IsSuccess g ⊎ IsRefused g ⊎ IsRestart g
 
-  -- by either rules
+  -- by each of the rules, a response between which and the INVITE nothing broke the transaction is acknowledged
   by : (rules : Rules) (y : StateOf rules Client true) → All (λ g. ¬ (IsBroken g)) between
       → ¬ (Any (GetsResponse IsUnsuccessful) between × ((invite.reliable ≡ true) ⊎ (open_at p invite.moment 32000 ≤ response.moment)))
       → Stands (figure_of rules Client true) p (before ++ invite ∷ (between ++ response ∷ after)) m y → Any (Acknowledges p invite response) after ⊎ Any (λ f. IsRefused f ⊎ IsRestart f) after

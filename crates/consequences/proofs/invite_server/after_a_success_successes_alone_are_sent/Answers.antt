@@ -1,23 +1,15 @@
-use Rattle.std.proofs.Common.{◌≡◌, ◌≤◌, ◌⊎◌, inl, inr, ◌∙◌, ℕ, List, refl, sym, arith}
+use Rattle.std.proofs.Common.{◌≡◌, ◌≤◌, ◌⊎◌, inl, inr, List, refl, arith}
 use Rattle.std.specs.List.{Any}
-use Rattle.sip_standard.specs.declared.kind.Kind.TheVariants.{Response}
 use Rattle.sip_standard.specs.Window.{close_at}
 use Rattle.sip_standard.specs.MachineEvent.{MachineEvent}
 use Rattle.sip_standard.specs.Kind.{IsProvisional, IsFinal, IsSuccess, IsUnsuccessful}
 use Rattle.sip_standard.specs.Times.{Times}
 use Rattle.sip_standard.specs.InviteServer.{invite_server}
 use Rattle.consequences.specs.Events.{IsResponse, SendsResponse}
-use Rattle.consequences.proofs.lemmas.server.FinalResponse.{sent-after-final}
+use Rattle.consequences.proofs.lemmas.server.FinalResponse.{one-code, sent-after-final}
 use Rattle.consequences.proofs.lemmas.server.InviteServers.{is-server-6026}
 use Rattle.consequences.proofs.lemmas.server.Passed.{successes-alone}
 use Rattle.consequences.proofs.invite_server.after_a_success_successes_alone_are_sent.Goals as goal
-
--- one code is not both
-one-code : (e : MachineEvent) → IsResponse IsUnsuccessful e → ¬ (IsResponse IsSuccess e)
-one-code e (code, kind, unsuccessful) (other, again, success) = absurd (omega (arith, codes-are-one code other (sym kind ∙ again), unsuccessful.0, success.1))
-  where
-    codes-are-one : (a b : ℕ) → Response a ≡ Response b → a ≡ b
-    codes-are-one a b same = cc
 
 final-too : (final : MachineEvent) → SendsResponse IsSuccess final → SendsResponse IsFinal final
 final-too final sends = (sends.0, (sends.1.0, sends.1.1, (sends.1.2.0, omega (arith, sends.1.2.1))))

@@ -1,4 +1,4 @@
-use Rattle.std.proofs.Common.{◌≡◌, ◌≤◌, ◌⊎◌, inl, inr, ◌++◌, ◌∷◌, ◌∙◌, ℕ, Bool, true, Option, List, All, refl, sym, arith}
+use Rattle.std.proofs.Common.{◌≡◌, ◌≤◌, ◌⊎◌, inl, inr, ◌++◌, ◌∷◌, ℕ, Bool, true, Option, List, All, refl, arith}
 use Rattle.std.specs.List.{Any}
 use Rattle.sip_standard.specs.declared.role.Role.TheVariants.{Server}
 use Rattle.sip_standard.specs.declared.action.Action.TheVariants.{Sent}
@@ -18,16 +18,9 @@ use Rattle.sip_standard.specs.Stands.{StandsAfter}
 use Rattle.consequences.specs.Events.{IsResponse, SendsResponse}
 use Rattle.consequences.specs.Machines.{figure_of, StateOf}
 use Rattle.consequences.specs.Servers.{BeginNoneAnew}
-use Rattle.consequences.proofs.lemmas.server.FinalResponse.{sent-after-final}
+use Rattle.consequences.proofs.lemmas.server.FinalResponse.{one-code, sent-after-final}
 use Rattle.consequences.proofs.lemmas.server.InviteServers.{Row, is-server-6026, is-server-3261, first_in}
 use Rattle.consequences.proofs.invite_server.after_an_unsuccessful_response_that_one_alone_is_sent.Goals as goal
-
--- one code is not both
-one-code : (e : MachineEvent) → IsResponse IsUnsuccessful e → ¬ (IsResponse IsSuccess e)
-one-code e (code, kind, unsuccessful) (other, again, success) = absurd (omega (arith, codes-are-one code other (sym kind ∙ again), unsuccessful.0, success.1))
-  where
-    codes-are-one : (a b : ℕ) → Response a ≡ Response b → a ≡ b
-    codes-are-one a b same = cc
 
 module _ (p : Times) (before after : List MachineEvent) (final e : MachineEvent) (sends : SendsResponse IsUnsuccessful final) where
   is_final : SendsResponse IsFinal final
@@ -42,7 +35,7 @@ module _ (p : Times) (before after : List MachineEvent) (final e : MachineEvent)
   only (inr (inl bad)) = inl bad.1
   only (inr (inr old)) = inr old
 
-  -- the row by RFC 3261 is that of RFC 6026
+  -- the row of RFC 3261 for this response is that of RFC 6026, over phases without a 2xx before them
   row-3261 : (x : InviteServerPhase) (y : InviteServer3261Phase × Change) → without.Sends p (first_in x) final.kind final y → (row : Row) × corrected.Sends p x final.kind final row × (y ≡ (first_in row.0, row.1))
   row-3261 x y h = by ((is-server-3261 p).sent x final.kind final y h)
     where

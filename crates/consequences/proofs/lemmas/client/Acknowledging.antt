@@ -2,6 +2,7 @@
 use Rattle.std.proofs.Common.{◌≡◌, ◌≤◌, ◌<◌, ◌*◌, ◌⊎◌, inl, inr, ℕ, Bool, true, false, Some, None, List, [], ◌∷◌, ◌++◌, All, Contains, refl, sym, subst, ◌∙◌, arith}
 use Rattle.std.specs.List.{Any}
 use Rattle.std.proofs.lemmas.List.Elements.{Contains-push}
+use Rattle.std.proofs.lemmas.List.{append-nil}
 use Rattle.sip_standard.specs.AckOf.{AckOf}
 use Rattle.sip_standard.specs.declared.action.Action.{Action}
 use Rattle.sip_standard.specs.declared.action.Action.TheVariants.{Sent, Received, Failed, Mark, Restart}
@@ -20,35 +21,35 @@ use Rattle.consequences.specs.Acknowledged.{Acknowledges}
 use Rattle.consequences.specs.Events.{SendsRequest, GetsResponse, IsRefused, IsRestart}
 use Rattle.consequences.proofs.lemmas.run.Lists.{any-last, any-earlier}
 use Rattle.consequences.proofs.lemmas.run.MustSend.{still-owed, other-paid, more-owed, no-end, in-time}
-use Rattle.consequences.proofs.lemmas.run.Running.{IsKept, left_at, step-of, stands-run, Cut, cut, run-keeps, append-none}
+use Rattle.consequences.proofs.lemmas.run.Running.{IsKept, left_at, step-of, stands-run, Cut, cut, run-keeps}
 use Rattle.consequences.proofs.lemmas.client.InviteClients.{Row, Receiving, client, Answers, IsReceiving, pays-completed, sends-calling, sends-proceeding, sends-completed}
 use Rattle.consequences.proofs.lemmas.client.Unanswered.{CallsFrom, begins-calling}
+use Rattle.consequences.proofs.lemmas.server.Said.{codes-are-one}
 
-codes-are-one : (a b : ℕ) → Response a ≡ Response b → a ≡ b
-codes-are-one a b same = cc
-
+-- What follows is of an INVITE, and of a client with these rows.
 module _ (R : Receiving) (is : IsReceiving R) (p : Times) (invite : MachineEvent) where
   abbrev f : Figure InviteClientPhase
   f = client R
 
-  -- From the INVITE to the response.
+  -- What follows leads from the INVITE to the response.
 
   abbrev IsBroken : MachineEvent → Type 0
   IsBroken g = GetsResponse IsSuccess g ⊎ IsRefused g ⊎ IsRestart g
 
-  -- the wait is over: by a 2xx, a refused message or a restart; by timer B or the user's giving up; or by timer D after a 300 to 699
+  -- the client need not acknowledge any more: a 2xx, a refused message or a restart came, timer B may have fired, or timer D may have after a 300 to 699
   abbrev Over : List MachineEvent → ℕ → Type 0
   Over es m =
       Any IsBroken es ⊎ (open_at p invite.moment (64 * p.t1) ≤ m)
       ⊎ (Any (GetsResponse IsUnsuccessful) es × ((invite.reliable ≡ true) ⊎ (open_at p invite.moment 32000 ≤ m)))
 
+  -- Over stays true after more events and later
   over-later : (es more : List MachineEvent) (h m : ℕ) → h ≤ m → Over es h → Over (es ++ more) m
   over-later es more h m low (inl broken) = inl (any-earlier IsBroken es more broken)
   over-later es more h m low (inr (inl late)) = inr (inl (omega (arith, low, late)))
   over-later es more h m low (inr (inr (came, inl reliable))) = inr (inr (any-earlier (GetsResponse IsUnsuccessful) es more came, inl reliable))
   over-later es more h m low (inr (inr (came, inr late))) = inr (inr (any-earlier (GetsResponse IsUnsuccessful) es more came, inr (omega (arith, low, late))))
 
-  -- it waits for its final response, or completed
+  -- the client has sent this INVITE and waits for its final response, or it has got a 300 to 699 and is completed
   abbrev Waits : List MachineEvent → InviteClientPhase → Type 0
   Waits es (Calling w) = CallsFrom invite (Calling w)
   Waits es (Proceeding reliable request None) = (request ≡ invite.text) × (reliable ≡ invite.reliable)
@@ -56,6 +57,7 @@ module _ (R : Receiving) (is : IsReceiving R) (p : Times) (invite : MachineEvent
   Waits es (Completed reliable request set) = (request ≡ invite.text) × (reliable ≡ invite.reliable) × (invite.moment ≤ set) × Any (GetsResponse IsUnsuccessful) es
   Waits es x = ⊥
 
+  -- Waits stays true after more events
   waits-later : (es more : List MachineEvent) (x : InviteClientPhase) → Waits es x → Waits (es ++ more) x
   waits-later es more (Calling w) waits = waits
   waits-later es more (Proceeding reliable request None) waits = waits
@@ -70,12 +72,14 @@ module _ (R : Receiving) (is : IsReceiving R) (p : Times) (invite : MachineEvent
     abbrev Now : List MachineEvent
     Now = es ++ e ∷ []
 
+    -- a response to the INVITE leads to a phase of which Waits holds, or Over holds
     answered : (reliable : Bool) (request : List ℕ) (row : Row) → e.action ≡ Received → invite.moment ≤ e.moment → request ≡ invite.text → reliable ≡ invite.reliable → Answers reliable request e.kind e row
         → Waits Now row.0 ⊎ Over Now e.moment
     answered reliable request row was low text transport (code, kind, inl h) = inl (rw h.1 (text, transport))
     answered reliable request row was low text transport (code, kind, inr (inl h)) = inr (inl (any-last IsBroken es e (inl (was, (code, kind, h.0)))))
     answered reliable request row was low text transport (code, kind, inr (inr h)) = inl (rw h.1 (text, transport, low, any-last (GetsResponse IsUnsuccessful) es e (was, (code, kind, h.0))))
 
+    -- the row of a received message leads from a client that waits to a phase of which Waits holds, or Over holds
     waits-received : (x : InviteClientPhase) (row : Row) → e.action ≡ Received → invite.moment ≤ e.moment → Waits es x → R p x e.kind e row → Waits Now row.0 ⊎ Over Now e.moment
     waits-received (Calling w) row was low waits h = answered w.reliable w.request row was low waits.1 waits.2 (is.calling p w e.kind e row h)
     waits-received (Proceeding reliable request None) row was low waits h = answered reliable request row was low waits.0 waits.1 (is.proceeding p reliable request None e.kind e row h)
@@ -83,6 +87,7 @@ module _ (R : Receiving) (is : IsReceiving R) (p : Times) (invite : MachineEvent
     waits-received (Completed reliable request set) row was low waits h = inl (rw (is.completed p reliable request set e.kind e row h).3 (waits-later es (e ∷ []) (Completed reliable request set) waits))
     waits-received x row was low waits h = absurd waits
 
+    -- the row of a sent message leads from a client that waits to a phase of which Waits holds
     waits-sent : (x : InviteClientPhase) (row : Row) → invite.moment ≤ e.moment → Waits es x → Sends p x e.kind e row → Waits Now row.0
     waits-sent (Calling w) row low waits h = rw (sends-calling p w e.kind e row h).2 waits
     waits-sent (Proceeding reliable request None) row low waits h = by (sends-proceeding p reliable request None e.kind e row h).1
@@ -103,6 +108,7 @@ module _ (R : Receiving) (is : IsReceiving R) (p : Times) (invite : MachineEvent
     waits-emits x owes y low waits (inr (inl (left, pays, to))) = rw to (waits-later es (e ∷ []) x waits)
     waits-emits x owes y low waits (inr (inr (stays, same))) = absurd stays
 
+    -- a step leads from a client that waits to a phase of which Waits holds, or Over holds
     waits-steps : (a : Action) (x : InviteClientPhase) (owes : List Owed) (y : Owing InviteClientPhase) → e.action ≡ a → invite.moment ≤ e.moment → Waits es x → Steps f p a e (record { phase = x; owes = owes }) y
         → Waits Now y.phase ⊎ Over Now e.moment
     waits-steps Received x owes y was low waits (inl (row, is_row, to)) = rw to (waits-received x row was low waits is_row)
@@ -112,6 +118,7 @@ module _ (R : Receiving) (is : IsReceiving R) (p : Times) (invite : MachineEvent
     waits-steps Mark x owes y was low waits h = absurd h
     waits-steps Restart x owes y was low waits h = inr (inl (any-last IsBroken es e (inr (inr was))))
 
+  -- a client that waits and may end need not acknowledge any more
   waits-ends : (es : List MachineEvent) (h : ℕ) (x : InviteClientPhase) (owes : List Owed) → Waits es x → MayEnd f p (record { phase = x; owes = owes }) h → Over es h
   waits-ends es h (Calling w) owes waits may = inr (inl (subst (λ m. open_at p m (64 * p.t1) ≤ h) waits.0 may.0))
   waits-ends es h (Proceeding reliable request None) owes waits may = absurd may.0
@@ -120,12 +127,13 @@ module _ (R : Receiving) (is : IsReceiving R) (p : Times) (invite : MachineEvent
   waits-ends es h (Completed false request set) owes waits may = let opening = may.0 in inr (inr (waits.3, inr (omega (arith, waits.2, opening))))
   waits-ends es h x owes waits may = absurd waits
 
+  -- a run keeps that the client waits, or need not acknowledge any more
   awaits-kept : IsKept f p Awaits
   awaits-kept = record { as_it_waits = as_it_waits; as_it_ends = as_it_ends; as_it_takes = as_it_takes }
     where
       as_it_waits : (es : List MachineEvent) (h m : ℕ) (x : Owing InviteClientPhase) → Awaits es h x → h ≤ m → Lasts f p x m → Awaits es m x
       as_it_waits es h m x (from, inl waits) low lasts = (omega (arith, from, low), inl waits)
-      as_it_waits es h m x (from, inr over) low lasts = (omega (arith, from, low), inr (subst (λ fs. Over fs m) (append-none es) (over-later es [] h m low over)))
+      as_it_waits es h m x (from, inr over) low lasts = (omega (arith, from, low), inr (subst (λ fs. Over fs m) (append-nil es) (over-later es [] h m low over)))
 
       as_it_ends : (es : List MachineEvent) (h : ℕ) (x : Owing InviteClientPhase) → Awaits es h x → MayEnd f p x h → Awaits es h (quiet Ended)
       as_it_ends es h x (from, inl waits) may = (from, inr (waits-ends es h x.phase x.owes waits may))
@@ -135,13 +143,13 @@ module _ (R : Receiving) (is : IsReceiving R) (p : Times) (invite : MachineEvent
       as_it_takes es e x y (from, inl waits) take = (from, waits-steps es e e.action x.phase (left_at e x) y refl from waits take)
       as_it_takes es e x y (from, inr over) take = (from, inr (over-later es (e ∷ []) e.moment e.moment (omega arith) over))
 
-  -- From the response on.
+  -- What follows leads from the response to its ACK.
 
   module _ (response : MachineEvent) where
     abbrev debt : Owed
     debt = record { message = response.text; deadline = close_at p response.moment 0; must = true }
 
-    -- completed for this INVITE
+    -- the phase is completed, for this INVITE
     abbrev IsCompleted : InviteClientPhase → Type 0
     IsCompleted (Completed reliable request set) = request ≡ invite.text
     IsCompleted x = ⊥
@@ -149,12 +157,14 @@ module _ (R : Receiving) (is : IsReceiving R) (p : Times) (invite : MachineEvent
     abbrev Owes : Owing InviteClientPhase → Type 0
     Owes y = IsCompleted y.phase × Contains y.owes debt
 
+    -- the row of a 300 to 699 makes the client completed, and owes the ACK of the response
     owes-answer : (reliable : Bool) (request : List ℕ) (k : Kind) (row : Row) (owes : List Owed) (code : ℕ) → k ≡ Response code → IsUnsuccessful code → request ≡ invite.text → Answers reliable request k response row
         → IsCompleted row.0 × Contains (changed p response.moment row.1 owes) debt
     owes-answer reliable request k row owes code kind bad text (other, again, inl h) = absurd (omega (arith, codes-are-one code other (sym kind ∙ again), bad.0, h.0.1))
     owes-answer reliable request k row owes code kind bad text (other, again, inr (inl h)) = absurd (omega (arith, codes-are-one code other (sym kind ∙ again), bad.0, h.0.1))
     owes-answer reliable request k row owes code kind bad text (other, again, inr (inr h)) = rw h.1 (text, Contains-push owes debt)
 
+    -- the row of the response makes a client that waits completed, and owes the ACK of the response
     taken : (es : List MachineEvent) (x : InviteClientPhase) (row : Row) (owes : List Owed) (code : ℕ) → response.kind ≡ Response code → IsUnsuccessful code → Waits es x → R p x response.kind response row
         → IsCompleted row.0 × Contains (changed p response.moment row.1 owes) debt
     taken es (Calling w) row owes code kind bad waits h = owes-answer w.reliable w.request response.kind row owes code kind bad waits.1 (is.calling p w response.kind response row h)
@@ -167,7 +177,7 @@ module _ (R : Receiving) (is : IsReceiving R) (p : Times) (invite : MachineEvent
     has : (x : InviteClientPhase) (k : Kind) (code : ℕ) (row : Row) → k ≡ Response code → R p x (Response code) response row → (next : Row) × R p x k response next
     has x k code row kind is_row = (row, subst (λ j. R p x j response row) (sym kind) is_row)
 
-    -- it has a row
+    -- a client that waits has a row for a 300 to 699
     opens : (es : List MachineEvent) (x : InviteClientPhase) (k : Kind) (code : ℕ) → k ≡ Response code → IsUnsuccessful code → Waits es x → (row : Row) × R p x k response row
     opens es (Calling w) k code kind bad waits =
         has (Calling w) k code (Completed w.reliable w.request response.moment, gains true response.text) kind (is.takes_calling p w code response bad)
@@ -180,13 +190,14 @@ module _ (R : Receiving) (is : IsReceiving R) (p : Times) (invite : MachineEvent
         has (Completed reliable request set) k code (Completed reliable request set, gains true response.text) kind (is.takes_completed p reliable request set code response bad)
     opens es x k code kind bad waits = absurd waits
 
+    -- the step of the response leaves a client that waits completed, and it owes the ACK of the response
     response-owes : (es : List MachineEvent) (x : InviteClientPhase) (owes : List Owed) (y : Owing InviteClientPhase) (code : ℕ) → response.kind ≡ Response code → IsUnsuccessful code → Waits es x
         → Steps f p Received response (record { phase = x; owes = owes }) y → Owes y
     response-owes es x owes y code kind bad waits (inl (row, is_row, to)) = rw to (taken es x row owes code kind bad waits is_row)
     response-owes es x owes y code kind bad waits (inr (none, same)) =
         let (row, is_row) = opens es x response.kind code kind bad waits in absurd (none (record { phase = row.0; owes = changed p response.moment row.1 owes }) (row, is_row, refl))
 
-    -- it owes the ACK until it is sent
+    -- the client owes the ACK of the response, or sent it in time, or a message was refused, or the element started again
     abbrev Owing-on : List MachineEvent → ℕ → Owing InviteClientPhase → Type 0
     Owing-on es m y = Owes y ⊎ Any (Acknowledges p invite response) es ⊎ Any (λ g. IsRefused g ⊎ IsRestart g) es
 
@@ -199,12 +210,14 @@ module _ (R : Receiving) (is : IsReceiving R) (p : Times) (invite : MachineEvent
     owes-sent (Completed reliable request set) owes e row done owed h = rw (sends-completed p reliable request set e.kind e row h).1 (done, owed)
     owes-sent x owes e row done owed h = absurd done
 
+    -- an ACK that pays the response is the ACK of the response, sent in time
     owes-paid : (es : List MachineEvent) (x : InviteClientPhase) (e : MachineEvent) → e.action ≡ Sent → IsCompleted x → Satisfies x e.kind e response.text → e.moment ≤ close_at p response.moment 0 → Any (Acknowledges p invite response) (es ++ e ∷ [])
     owes-paid es (Completed reliable request set) e was done pays low =
         let ack = pays-completed reliable request set e.kind e response.text pays in
         any-last (Acknowledges p invite response) es e ((was, ack.0), subst (λ bytes. AckOf e.text bytes response.text) done ack.1, low)
     owes-paid es x e was done pays low = absurd done
 
+    -- what is sent keeps that the ACK is owed, or is that ACK
     owes-emits : (es : List MachineEvent) (x : InviteClientPhase) (owes : List Owed) (e : MachineEvent) (y : Owing InviteClientPhase) → e.action ≡ Sent → IsCompleted x → Contains owes debt
         → Emits f p e (record { phase = x; owes = owes }) y → Owing-on (es ++ e ∷ []) e.moment y
     owes-emits es x owes e y was done owed (inl (row, is_row, to)) = inl (rw to (owes-sent x owes e row done owed is_row))
@@ -215,6 +228,7 @@ module _ (R : Receiving) (is : IsReceiving R) (p : Times) (invite : MachineEvent
         by (inr paid) = inr (inl (owes-paid es x e was done paid.0 paid.1))
     owes-emits es x owes e y was done owed (inr (inr (stays, same))) = absurd stays
 
+    -- a step keeps that the ACK is owed, or is that of the ACK, of a refused message or of a restart
     owes-steps : (a : Action) (es : List MachineEvent) (x : InviteClientPhase) (owes : List Owed) (e : MachineEvent) (y : Owing InviteClientPhase) → e.action ≡ a → IsCompleted x → Contains owes debt
         → Steps f p a e (record { phase = x; owes = owes }) y → Owing-on (es ++ e ∷ []) e.moment y
     owes-steps Received es x owes e y was done owed (inl (row, is_row, to)) = inl (rw to (owes-received x owes e row done owed is_row))
@@ -224,6 +238,7 @@ module _ (R : Receiving) (is : IsReceiving R) (p : Times) (invite : MachineEvent
     owes-steps Mark es x owes e y was done owed h = absurd h
     owes-steps Restart es x owes e y was done owed h = inr (inr (any-last (λ g. IsRefused g ⊎ IsRestart g) es e (inr was)))
 
+    -- a run keeps that the ACK is owed, or that it was sent in time, or that a message was refused or the element started again
     owes-kept : IsKept f p Owing-on
     owes-kept = record { as_it_waits = λ es h m x holds low lasts. holds; as_it_ends = as_it_ends; as_it_takes = as_it_takes }
       where
@@ -236,6 +251,7 @@ module _ (R : Receiving) (is : IsReceiving R) (p : Times) (invite : MachineEvent
         as_it_takes es e x y (inr (inl acked)) take = inr (inl (any-earlier (Acknowledges p invite response) es (e ∷ []) acked))
         as_it_takes es e x y (inr (inr broken)) take = inr (inr (any-earlier (λ g. IsRefused g ⊎ IsRestart g) es (e ∷ []) broken))
 
+    -- once the time to acknowledge a 300 to 699 is over, its ACK has been sent, or a message was refused, or the element began anew
     pub acknowledged : (lasts : (events : List MachineEvent) (m : ℕ) (x : Owing InviteClientPhase) → Stands f p events m x → Lasts f p x m) (before between after : List MachineEvent) (m : ℕ) (y : Owing InviteClientPhase) →
         All (λ g. ¬ (SendsRequest Invite g)) before → SendsRequest Invite invite → ¬ (Over between response.moment) → GetsResponse IsUnsuccessful response →
         Stands f p (before ++ invite ∷ (between ++ response ∷ after)) m y → close_at p response.moment 0 < m → Any (Acknowledges p invite response) after ⊎ Any (λ g. IsRefused g ⊎ IsRestart g) after

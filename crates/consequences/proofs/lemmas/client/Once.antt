@@ -1,4 +1,4 @@
--- A client sends its request once: after that it is never idle again, and a restart ends it.
+-- A client sends its request once: after it the client is never idle again, and a restart ends it.
 use Rattle.std.proofs.Common.{◌≡◌, ◌⊎◌, inl, inr, ℕ, Bool, true, false, Some, List, ◌∷◌, ◌++◌, refl, sym, subst, ◌∙◌}
 use Rattle.sip_standard.specs.declared.action.Action.{Action}
 use Rattle.sip_standard.specs.declared.action.Action.TheVariants.{Sent, Received, Failed, Mark, Restart}
@@ -17,18 +17,20 @@ use Rattle.consequences.proofs.lemmas.server.Asleep.{nothing-to-pay}
 use Rattle.consequences.proofs.lemmas.client.InviteClients.{Row, Receiving, client, IsDone, Answers, IsReceiving, pays-nothing, sends-idle, sends-calling, sends-proceeding, sends-accepted, sends-completed, sends-ended}
 use Rattle.consequences.proofs.lemmas.run.Running.{IsKept, left_at, step-of, stands-run, Cut, cut, run-keeps}
 
--- phases after the request: no row leads back, and the ended one sends only what it may and stays
+-- a client of which HasAsked says whether a phase comes after its request: no row leads back before it; the ended phase receives nothing, sends only
+-- what MaySend allows, and stays
 pub record IsOnce {X : Type 0} (f : Figure X) (p : Times) (HasAsked : X → Type 0) (IsRequest MaySend : Kind → Type 0) : Type 0 where
   pub idle : ¬ (HasAsked f.idle)
   pub ended : HasAsked f.ended
   pub received : (x : X) (k : Kind) (e : MachineEvent) (y : X × Change) → HasAsked x → f.Receives p x k e y → HasAsked y.0
   pub sent : (x : X) (k : Kind) (e : MachineEvent) (y : X × Change) → HasAsked x → f.Sends p x k e y → HasAsked y.0
   pub asks : (e : MachineEvent) (x y : Owing X) → IsRequest e.kind → Emits f p e x y → HasAsked y.phase
-  pub deaf : (k : Kind) (e : MachineEvent) (y : X × Change) → ¬ (f.Receives p f.ended k e y)
+  pub none_received : (k : Kind) (e : MachineEvent) (y : X × Change) → ¬ (f.Receives p f.ended k e y)
   pub over : (k : Kind) (e : MachineEvent) (y : X × Change) → f.Sends p f.ended k e y → MaySend k × (y ≡ (f.ended, keeps))
   pub unmoved : (x : X) (k : Kind) → ¬ (f.Stays x k)
 
 module _ {X : Type 0} (f : Figure X) (p : Times) (HasAsked : X → Type 0) (IsRequest MaySend : Kind → Type 0) (once : IsOnce f p HasAsked IsRequest MaySend) where
+  -- a message that is sent leads from a phase after the request to a phase after the request
   emits : (e : MachineEvent) (x y : Owing X) → HasAsked x.phase → Emits f p e x y → HasAsked y.phase
   emits e x y asked (inl (row, is_row, to)) = rw to (once.sent x.phase e.kind e row asked is_row)
   emits e x y asked (inr (inl (left, pays, to))) = rw to asked
@@ -38,6 +40,7 @@ module _ {X : Type 0} (f : Figure X) (p : Times) (HasAsked : X → Type 0) (IsRe
   fails true e x y asked h = rw h.1 once.ended
   fails false e x y asked h = emits e x y asked h
 
+  -- a step leads from a phase after the request to a phase after the request
   steps : (a : Action) (e : MachineEvent) (x y : Owing X) → HasAsked x.phase → Steps f p a e x y → HasAsked y.phase
   steps Received e x y asked (inl (row, is_row, to)) = rw to (once.received x.phase e.kind e row asked is_row)
   steps Received e x y asked (inr (none, same)) = rw same asked
@@ -47,6 +50,7 @@ module _ {X : Type 0} (f : Figure X) (p : Times) (HasAsked : X → Type 0) (IsRe
   steps Restart e x y asked (inl (idle, to)) = absurd (once.idle (subst HasAsked idle asked))
   steps Restart e x y asked (inr (other, to)) = rw to once.ended
 
+  -- a run keeps that the phase is one after the request
   asked-kept : IsKept f p (λ es m y. HasAsked y.phase)
   asked-kept = record {
     as_it_waits = λ es h m x asked low lasts. asked;
@@ -54,6 +58,7 @@ module _ {X : Type 0} (f : Figure X) (p : Times) (HasAsked : X → Type 0) (IsRe
     as_it_takes = λ es e x y asked take. steps e.action e (record { phase = x.phase; owes = left_at e x }) y asked take;
   }
 
+  -- what is sent in the ended phase is what MaySend allows, and the client stays there
   pub over-emits : (e : MachineEvent) (y : Owing X) → Emits f p e (quiet f.ended) y → MaySend e.kind × (y ≡ quiet f.ended)
   over-emits e y (inl (row, is_row, to)) = let sends = once.over e.kind e row is_row in (sends.0, rw (to, sends.1))
   over-emits e y (inr (inl (left, pays, to))) = absurd (nothing-to-pay _ left pays)
@@ -63,8 +68,9 @@ module _ {X : Type 0} (f : Figure X) (p : Times) (HasAsked : X → Type 0) (IsRe
   over-fails true e y h = h.1
   over-fails false e y h = (over-emits e y h).1
 
+  -- no step leads away from the end
   pub over-steps : (a : Action) (e : MachineEvent) (y : Owing X) → Steps f p a e (quiet f.ended) y → y ≡ quiet f.ended
-  over-steps Received e y (inl (row, is_row, to)) = absurd (once.deaf e.kind e row is_row)
+  over-steps Received e y (inl (row, is_row, to)) = absurd (once.none_received e.kind e row is_row)
   over-steps Received e y (inr (none, same)) = same
   over-steps Sent e y h = (over-emits e y h).1
   over-steps Failed e y h = over-fails (f.ends_refused f.ended e.kind) e y h
@@ -72,6 +78,7 @@ module _ {X : Type 0} (f : Figure X) (p : Times) (HasAsked : X → Type 0) (IsRe
   over-steps Restart e y (inl (idle, to)) = absurd (once.idle (subst HasAsked idle once.ended))
   over-steps Restart e y (inr (other, to)) = to
 
+  -- a run keeps that the phase is the ended one, with no debts
   over-kept : IsKept f p (λ es m y. y ≡ quiet f.ended)
   over-kept = record {
     as_it_waits = λ es h m x over low lasts. over;
@@ -79,7 +86,7 @@ module _ {X : Type 0} (f : Figure X) (p : Times) (HasAsked : X → Type 0) (IsRe
     as_it_takes = λ es e x y over take. over-steps e.action e y (subst (λ z. Takes f p z e y) over take);
   }
 
-  -- what stands after the request and a restart is over
+  -- after the request and then a restart, a run stands in the ended phase
   pub restart-ends : (before between after : List MachineEvent) (request restart : MachineEvent) (m : ℕ) (y : Owing X) → request.action ≡ Sent → IsRequest request.kind → IsRestart restart →
       Stands f p (before ++ request ∷ (between ++ restart ∷ after)) m y → y ≡ quiet f.ended
   restart-ends before between after request restart m y sent asks restarts stands =
@@ -99,29 +106,35 @@ module _ {X : Type 0} (f : Figure X) (p : Times) (HasAsked : X → Type 0) (IsRe
           by-restart found.to (once.asks request (record { phase = found.from.phase; owes = left_at request found.from }) found.to asks (step-of f p Sent request found.from found.to sent found.step))
           (cut f p found.to request.moment between restart after m y found.goes)
 
+  -- after its request and a restart a client sends only what MaySend allows
   pub restart-silences : (before between after : List MachineEvent) (request restart e : MachineEvent) (y : Owing X) → request.action ≡ Sent → IsRequest request.kind → IsRestart restart →
       e.action ≡ Sent → StandsAfter f p (before ++ request ∷ (between ++ restart ∷ after)) e y → MaySend e.kind
   restart-silences before between after request restart e y sent asks restarts is_sent (x, stands, take) =
       let over = restart-ends before between after request restart e.moment x sent asks restarts stands in
       (over-emits e y (step-of f p Sent e (quiet f.ended) y is_sent (subst (λ z. Takes f p z e y) over take))).0
 
--- The INVITE clients.
+-- What follows is of the INVITE clients.
 
+-- the INVITE was sent: the phase is not idle
 abbrev pub IsInvited : invite.InviteClientPhase → Type 0
 IsInvited invite.Idle = ⊥
 IsInvited x = Unit {0}
 
+-- What follows shows that both INVITE clients send their INVITE once.
 module _ (R : Receiving) (is : IsReceiving R) (p : Times) where
+  -- a phase that is done is one after the INVITE
   done-invited : (x : invite.InviteClientPhase) → IsDone x → IsInvited x
   done-invited invite.Ended done = tt
   done-invited (invite.Accepted set) done = tt
   done-invited x done = absurd done
 
+  -- the row of a response leads to a phase after the INVITE
   answers-invited : (reliable : Bool) (request : List ℕ) (k : Kind) (e : MachineEvent) (row : Row) → Answers reliable request k e row → IsInvited row.0
   answers-invited reliable request k e row (code, kind, inl h) = rw h.1 tt
   answers-invited reliable request k e row (code, kind, inr (inl h)) = done-invited row.0 h.1
   answers-invited reliable request k e row (code, kind, inr (inr h)) = rw h.1 tt
 
+  -- the row of a received message leads from a phase after the INVITE to a phase after the INVITE
   received : (x : invite.InviteClientPhase) (k : Kind) (e : MachineEvent) (row : Row) → IsInvited x → R p x k e row → IsInvited row.0
   received invite.Idle k e row asked h = absurd asked
   received invite.Ended k e row asked h = absurd (is.ended p k e row h)
@@ -130,6 +143,7 @@ module _ (R : Receiving) (is : IsReceiving R) (p : Times) where
   received (invite.Proceeding reliable request cancel) k e row asked h = answers-invited reliable request k e row (is.proceeding p reliable request cancel k e row h)
   received (invite.Completed reliable request set) k e row asked h = rw (is.completed p reliable request set k e row h).3 tt
 
+  -- the row of a sent message leads from a phase after the INVITE to a phase after the INVITE
   sent : (x : invite.InviteClientPhase) (k : Kind) (e : MachineEvent) (row : Row) → IsInvited x → invite.Sends p x k e row → IsInvited row.0
   sent invite.Idle k e row asked h = absurd asked
   sent (invite.Calling w) k e row asked h = rw (sends-calling p w k e row h).2 tt
@@ -142,6 +156,7 @@ module _ (R : Receiving) (is : IsReceiving R) (p : Times) where
   sent (invite.Completed reliable request set) k e row asked h = rw (sends-completed p reliable request set k e row h).1 tt
   sent invite.Ended k e row asked h = rw (sends-ended p k e row h).1 tt
 
+  -- the row of an INVITE that is sent leads to a phase after the INVITE
   sent-invite : (x : invite.InviteClientPhase) (k : Kind) (e : MachineEvent) (row : Row) → k ≡ Request Invite → invite.Sends p x k e row → IsInvited row.0
   sent-invite invite.Idle k e row asks h = by (sends-idle p k e row h)
     where
@@ -158,40 +173,48 @@ module _ (R : Receiving) (is : IsReceiving R) (p : Times) where
   no-ack : ¬ (Request Invite ≡ Request Ack)
   no-ack same = cc
 
+  -- an INVITE that is sent leads to a phase after the INVITE
   asks : (e : MachineEvent) (x y : Owing invite.InviteClientPhase) → e.kind ≡ Request Invite → Emits (client R) p e x y → IsInvited y.phase
   asks e x y invites (inl (row, is_row, to)) = rw to (sent-invite x.phase e.kind e row invites is_row)
   asks e x y invites (inr (inl (left, pays, to))) = absurd (no-ack (sym invites ∙ (pays-nothing x.phase e.kind e pays.first.message pays.holds.0).4))
   asks e x y invites (inr (inr (stays, same))) = absurd stays
 
+  -- an INVITE client sends its INVITE once, and after the end CANCEL alone
   pub invites-once : IsOnce (client R) p IsInvited (λ k. k ≡ Request Invite) (λ k. k ≡ Request Cancel)
-  invites-once = record { idle = λ h. h; ended = tt; received = received; sent = sent; asks = asks; deaf = is.ended p; over = sends-ended p; unmoved = λ x k h. h }
+  invites-once = record { idle = λ h. h; ended = tt; received = received; sent = sent; asks = asks; none_received = is.ended p; over = sends-ended p; unmoved = λ x k h. h }
 
--- The client of any other method.
+-- What follows is of the client of any other method.
 
+-- the request was sent: the phase is not idle
 abbrev pub IsAsked : plain.PlainClientPhase → Type 0
 IsAsked plain.Idle = ⊥
 IsAsked x = Unit {0}
 
+-- a request, whatever its method
 abbrev pub IsAnyRequest : Kind → Type 0
 IsAnyRequest k = (method : Method) × (k ≡ Request method)
 
+-- the row of a received message leads from a phase after the request to a phase after the request
 plain-received : (p : Times) (x : plain.PlainClientPhase) (k : Kind) (e : MachineEvent) (row : plain.PlainClientPhase × Change) → IsAsked x → plain.Receives p x k e row → IsAsked row.0
 plain-received p (plain.Trying w) (Response code) e row asked (inl h) = rw h.1 tt
 plain-received p (plain.Trying w) (Response code) e row asked (inr h) = rw h.1 tt
 plain-received p (plain.Proceeding w) (Response code) e row asked h = rw h.1 tt
 plain-received p x k e row asked h = absurd h
 
+-- the row of a sent message leads to a phase after the request
 plain-sent : (p : Times) (x : plain.PlainClientPhase) (k : Kind) (e : MachineEvent) (row : plain.PlainClientPhase × Change) → plain.Sends p x k e row → IsAsked row.0
 plain-sent p plain.Idle (Request method) e row h = rw h tt
 plain-sent p (plain.Trying w) (Request method) e row h = rw h.1 tt
 plain-sent p (plain.Proceeding w) (Request method) e row h = rw h.1 tt
 plain-sent p x k e row h = absurd h
 
+-- a message that is sent leads to a phase after the request
 plain-asks : (p : Times) (e : MachineEvent) (x y : Owing plain.PlainClientPhase) → Emits plain.plain_client p e x y → IsAsked y.phase
 plain-asks p e x y (inl (row, is_row, to)) = rw to (plain-sent p x.phase e.kind e row is_row)
 plain-asks p e x y (inr (inl (left, pays, to))) = absurd pays.holds.0
 plain-asks p e x y (inr (inr (stays, same))) = absurd stays
 
+-- a client of any other method sends its request once, and nothing after the end
 pub asks-once : (p : Times) → IsOnce plain.plain_client p IsAsked IsAnyRequest (λ k. ⊥)
 asks-once p = record {
   idle = λ h. h;
@@ -199,7 +222,7 @@ asks-once p = record {
   received = plain-received p;
   sent = λ x k e row asked h. plain-sent p x k e row h;
   asks = λ e x y asks h. plain-asks p e x y h;
-  deaf = λ k e row h. h;
+  none_received = λ k e row h. h;
   over = λ k e row h. absurd h;
   unmoved = λ x k h. h;
 }

@@ -16,11 +16,12 @@ use Rattle.consequences.specs.Repeats.{sends_invite, sends_request, AreSpaced, I
 use Rattle.consequences.proofs.lemmas.client.InviteClients.{Row, Receiving, client, IsDone, Answers, IsReceiving, pays-nothing, sends-idle, sends-calling, sends-proceeding, sends-accepted, sends-completed, sends-ended}
 use Rattle.consequences.proofs.lemmas.run.Running.{IsKept, left_at, stands-run, run-keeps}
 
--- moments from a first one on are so spaced, the last is this one, and the next interval is this one
+-- the moments after the first one lie no closer than the growing intervals, the last of them is `last`, and the next interval is `more`
 abbrev SpacedTo : Times → (ℕ → ℕ) → ℕ → ℕ → List ℕ → ℕ → ℕ → Type 0
 SpacedTo p next first interval [] last more = (last ≡ first) × (more ≡ interval)
 SpacedTo p next first interval (m ∷ ms) last more = (open_at p first interval ≤ m) × SpacedTo p next m (next interval) ms last more
 
+-- SpacedTo stays true with one moment more, which comes after the next interval or later
 one-more : (p : Times) (next : ℕ → ℕ) (first interval : ℕ) (ms : List ℕ) (last more m : ℕ) → SpacedTo p next first interval ms last more → open_at p last more ≤ m →
     SpacedTo p next first interval (ms ++ m ∷ []) m (next more)
 one-more p next first interval [] last more m spaced low =
@@ -31,7 +32,7 @@ are-spaced : (p : Times) (next : ℕ → ℕ) (first interval : ℕ) (ms : List 
 are-spaced p next first interval [] last more spaced = tt
 are-spaced p next first interval (m ∷ ms) last more spaced = (spaced.0, are-spaced p next m (next interval) ms last more spaced.1)
 
--- moments that begin with one
+-- the moments begin with one, and those after it lie no closer than the intervals that grow from T1
 abbrev Begins : Times → (ℕ → ℕ) → List ℕ → ℕ → ℕ → Type 0
 Begins p next moments last more = (first : ℕ) × (ms : List ℕ) × (moments ≡ first ∷ ms) × SpacedTo p next first p.t1 ms last more
 
@@ -49,7 +50,7 @@ pass-cons : (test : MachineEvent → Bool) (e : MachineEvent) (es : List Machine
 pass-cons test e es true is = rw is refl
 pass-cons test e es false is = rw is refl
 
--- one that passes is the last, and one that does not changes nothing
+-- an event that passes the test adds its moment at the end
 passed-more : (test : MachineEvent → Bool) (es : List MachineEvent) (e : MachineEvent) → test e ≡ true → passed test (es ++ e ∷ []) ≡ passed test es ++ e.moment ∷ []
 passed-more test [] e is = pass-cons test e [] true is
 passed-more test (g ∷ es) e is = by (test g) refl (passed-more test es e is)
@@ -58,6 +59,7 @@ passed-more test (g ∷ es) e is = by (test g) refl (passed-more test es e is)
     by true here same = pass-cons test g (es ++ e ∷ []) true here ∙ ap (λ ms. g.moment ∷ ms) same ∙ sym (ap (λ ms. ms ++ e.moment ∷ []) (pass-cons test g es true here))
     by false here same = pass-cons test g (es ++ e ∷ []) false here ∙ same ∙ sym (ap (λ ms. ms ++ e.moment ∷ []) (pass-cons test g es false here))
 
+-- an event that does not pass the test adds no moment
 passed-same : (test : MachineEvent → Bool) (es : List MachineEvent) (e : MachineEvent) → test e ≡ false → passed test (es ++ e ∷ []) ≡ passed test es
 passed-same test [] e is = pass-cons test e [] false is
 passed-same test (g ∷ es) e is = by (test g) refl (passed-same test es e is)
@@ -66,8 +68,9 @@ passed-same test (g ∷ es) e is = by (test g) refl (passed-same test es e is)
     by true here same = pass-cons test g (es ++ e ∷ []) true here ∙ ap (λ ms. g.moment ∷ ms) same ∙ sym (pass-cons test g es true here)
     by false here same = pass-cons test g (es ++ e ∷ []) false here ∙ same ∙ sym (pass-cons test g es false here)
 
--- The INVITE clients.
+-- What follows is of the INVITE clients.
 
+-- a message that is sent and is no INVITE is not counted
 not-an-invite : (k : Kind) → ¬ (k ≡ Request Invite) → sends_invite Sent k ≡ false
 not-an-invite (Request Invite) other = absurd (other refl)
 not-an-invite (Request Ack) other = refl
@@ -75,6 +78,7 @@ not-an-invite (Request Cancel) other = refl
 not-an-invite (Request Other) other = refl
 not-an-invite (Response code) other = refl
 
+-- What follows is of the moments at which an INVITE client with these rows sends INVITEs.
 module _ (R : Receiving) (is : IsReceiving R) (p : Times) where
   abbrev f : Figure invite.InviteClientPhase
   f = client R
@@ -85,12 +89,14 @@ module _ (R : Receiving) (is : IsReceiving R) (p : Times) where
   abbrev test : MachineEvent → Bool
   test = λ e. sends_invite e.action e.kind
 
-  -- the moments of the INVITEs that lead to a phase
+  -- what is known in a phase of the moments at which INVITEs are sent: there is none in idle, the last and the next interval are those
+  -- of calling, and elsewhere they lie apart
   abbrev Invited : List ℕ → invite.InviteClientPhase → Type 0
   Invited ms invite.Idle = ms ≡ []
   Invited ms (invite.Calling w) = Begins p next ms w.set w.interval
   Invited ms x = IsSpaced p next ms
 
+  -- where Invited holds of a phase, the moments lie apart
   invited-spaced : (ms : List ℕ) (x : invite.InviteClientPhase) → Invited ms x → IsSpaced p next ms
   invited-spaced ms invite.Idle invited = rw invited tt
   invited-spaced ms (invite.Calling w) invited = begins-spaced p next ms w.set w.interval invited
@@ -99,16 +105,19 @@ module _ (R : Receiving) (is : IsReceiving R) (p : Times) where
   invited-spaced ms (invite.Completed reliable request set) invited = invited
   invited-spaced ms invite.Ended invited = invited
 
+  -- in a phase that is done, Invited asks only that the moments lie apart
   done-invited : (ms : List ℕ) (x : invite.InviteClientPhase) → IsDone x → IsSpaced p next ms → Invited ms x
   done-invited ms invite.Ended done spaced = spaced
   done-invited ms (invite.Accepted set) done spaced = spaced
   done-invited ms x done spaced = absurd done
 
+  -- the row of a response leads to a phase in which Invited asks only that the moments lie apart
   answers-invited : (ms : List ℕ) (reliable : Bool) (request : List ℕ) (k : Kind) (e : MachineEvent) (row : Row) → IsSpaced p next ms → Answers reliable request k e row → Invited ms row.0
   answers-invited ms reliable request k e row spaced (code, kind, inl h) = rw h.1 spaced
   answers-invited ms reliable request k e row spaced (code, kind, inr (inl h)) = done-invited ms row.0 h.1 spaced
   answers-invited ms reliable request k e row spaced (code, kind, inr (inr h)) = rw h.1 spaced
 
+  -- the row of a received message keeps what is known of the moments
   invited-received : (ms : List ℕ) (x : invite.InviteClientPhase) (e : MachineEvent) (row : Row) → Invited ms x → R p x e.kind e row → Invited ms row.0
   invited-received ms invite.Idle e row invited h = absurd (is.idle p e.kind e row h)
   invited-received ms invite.Ended e row invited h = absurd (is.ended p e.kind e row h)
@@ -121,7 +130,7 @@ module _ (R : Receiving) (is : IsReceiving R) (p : Times) where
   no-invite : ¬ (Request Cancel ≡ Request Invite)
   no-invite same = cc
 
-  -- what is sent, with the moments before it and with it
+  -- the row of a sent message keeps what is known of the moments, with one more where it is an INVITE
   invited-sent : (ms now : List ℕ) (x : invite.InviteClientPhase) (e : MachineEvent) (row : Row) → (e.kind ≡ Request Invite → now ≡ ms ++ e.moment ∷ []) → (¬ (e.kind ≡ Request Invite) → now ≡ ms) → Invited ms x
       → invite.Sends p x e.kind e row → Invited now row.0
   invited-sent ms now invite.Idle e row one other invited h = by (sends-idle p e.kind e row h)
@@ -151,6 +160,7 @@ module _ (R : Receiving) (is : IsReceiving R) (p : Times) where
   ack-is-none : ¬ (Request Ack ≡ Request Invite)
   ack-is-none same = cc
 
+  -- a message that is sent keeps what is known of the moments, with one more where it is an INVITE
   invited-emits : (ms now : List ℕ) (e : MachineEvent) (x y : Owing invite.InviteClientPhase) → (e.kind ≡ Request Invite → now ≡ ms ++ e.moment ∷ []) → (¬ (e.kind ≡ Request Invite) → now ≡ ms) → Invited ms x.phase
       → Emits f p e x y → Invited now y.phase
   invited-emits ms now e x y one other invited (inl (row, is_row, to)) = rw to (invited-sent ms now x.phase e row one other invited is_row)
@@ -162,11 +172,13 @@ module _ (R : Receiving) (is : IsReceiving R) (p : Times) where
   ended-by-an-invite : (x : invite.InviteClientPhase) → ¬ (invite.ends_refused x (Request Invite) ≡ false)
   ended-by-an-invite x same = cc
 
+  -- a message that is refused keeps what is known of the moments
   invited-fails : (ends : Bool) (ms : List ℕ) (e : MachineEvent) (x y : Owing invite.InviteClientPhase) → invite.ends_refused x.phase e.kind ≡ ends → Invited ms x.phase → Fails ends f p e x y → Invited ms y.phase
   invited-fails true ms e x y ends invited fails = rw fails.1 (invited-spaced ms x.phase invited)
   invited-fails false ms e x y ends invited emits =
       invited-emits ms ms e x y (λ is_invite. absurd (ended-by-an-invite x.phase (ap (invite.ends_refused x.phase) (sym is_invite) ∙ ends))) (λ other. refl) invited emits
 
+  -- a step keeps what is known of the moments, with that of the event where it is an INVITE that is sent
   invited-steps : (a : Action) (es : List MachineEvent) (e : MachineEvent) (x y : Owing invite.InviteClientPhase) → e.action ≡ a → Invited (passed test es) x.phase → Steps f p a e x y
       → Invited (passed test (es ++ e ∷ [])) y.phase
   invited-steps Received es e x y was invited (inl (row, is_row, to)) =
@@ -184,6 +196,7 @@ module _ (R : Receiving) (is : IsReceiving R) (p : Times) where
   invited-steps Restart es e x y was invited (inr (other, to)) =
       rw (to, passed-same test es e (ap (λ a. sends_invite a e.kind) was)) (invited-spaced (passed test es) x.phase invited)
 
+  -- a run keeps what is known of the moments at which INVITEs are sent
   invited-kept : IsKept f p (λ es m y. Invited (passed test es) y.phase)
   invited-kept = record {
     as_it_waits = λ es h m x invited low lasts. invited;
@@ -197,8 +210,9 @@ module _ (R : Receiving) (is : IsReceiving R) (p : Times) where
       invited-spaced (passed test events) y.phase
       (run-keeps f p (λ es h x. Invited (passed test es) x.phase) invited-kept events (quiet invite.Idle) 0 m y refl (stands-run f p events m y stands))
 
--- The client of any other method.
+-- What follows is of the client of any other method.
 
+-- What follows is of the moments at which a non-INVITE client sends its request.
 module _ (p : Times) where
   abbrev next-plain : ℕ → ℕ
   next-plain = λ interval. min (2 * interval) p.t2
@@ -206,13 +220,15 @@ module _ (p : Times) where
   abbrev test-plain : MachineEvent → Bool
   test-plain = λ e. sends_request e.action e.kind
 
-  -- the next interval is no longer than that of the phase
+  -- what is known in a phase of the moments at which requests are sent: there is none in idle, the next interval is at most that of a
+  -- phase that waits, and elsewhere they lie apart
   abbrev Asked : List ℕ → plain.PlainClientPhase → Type 0
   Asked ms plain.Idle = ms ≡ []
   Asked ms (plain.Trying w) = (more : ℕ) × Begins p next-plain ms w.set more × (more ≤ w.interval)
   Asked ms (plain.Proceeding w) = (more : ℕ) × Begins p next-plain ms w.set more × (more ≤ w.interval)
   Asked ms x = IsSpaced p next-plain ms
 
+  -- where Asked holds of a phase, the moments lie apart
   asked-spaced : (ms : List ℕ) (x : plain.PlainClientPhase) → Asked ms x → IsSpaced p next-plain ms
   asked-spaced ms plain.Idle asked = rw asked tt
   asked-spaced ms (plain.Trying w) asked = begins-spaced p next-plain ms w.set asked.0 asked.1
@@ -220,6 +236,7 @@ module _ (p : Times) where
   asked-spaced ms (plain.Completed reliable set) asked = asked
   asked-spaced ms plain.Ended asked = asked
 
+  -- the row of a received message keeps what is known of the moments
   asked-received : (ms : List ℕ) (x : plain.PlainClientPhase) (k : Kind) (e : MachineEvent) (row : plain.PlainClientPhase × Change) → Asked ms x → plain.Receives p x k e row → Asked ms row.0
   asked-received ms (plain.Trying w) (Response code) e row asked (inl h) = rw h.1 asked
   asked-received ms (plain.Trying w) (Response code) e row asked (inr h) = rw h.1 (asked-spaced ms (plain.Trying w) asked)
@@ -229,6 +246,7 @@ module _ (p : Times) where
   fires-too : (set interval more m : ℕ) → more ≤ interval → open_at p set interval ≤ m → open_at p set more ≤ m
   fires-too set interval more m low fires = omega (arith, low, fires)
 
+  -- the row of a sent message is that of a request, and keeps what is known of the moments, with one more
   asked-sent : (ms : List ℕ) (x : plain.PlainClientPhase) (k : Kind) (e : MachineEvent) (row : plain.PlainClientPhase × Change) → Asked ms x → plain.Sends p x k e row →
       (sends_request Sent k ≡ true) × Asked (ms ++ e.moment ∷ []) row.0
   asked-sent ms plain.Idle (Request method) e row asked h = (refl, rw h (p.t1, (e.moment, [], ap (λ ks. ks ++ e.moment ∷ []) asked, (refl, refl)), omega arith))
@@ -239,6 +257,7 @@ module _ (p : Times) where
       (refl, rw h.1 (next-plain asked.0, begins-more p next-plain ms w.set asked.0 e.moment asked.1 (fires-too w.set w.interval asked.0 e.moment asked.2 h.0.fires), omega arith))
   asked-sent ms x k e row asked h = absurd h
 
+  -- a step keeps what is known of the moments, with that of the event where it is a request that is sent
   asked-steps : (a : Action) (es : List MachineEvent) (e : MachineEvent) (x y : Owing plain.PlainClientPhase) → e.action ≡ a → Asked (passed test-plain es) x.phase → Steps plain.plain_client p a e x y
       → Asked (passed test-plain (es ++ e ∷ [])) y.phase
   asked-steps Received es e x y was asked (inl (row, is_row, to)) =
@@ -257,6 +276,7 @@ module _ (p : Times) where
   asked-steps Restart es e x y was asked (inr (other, to)) =
       rw (to, passed-same test-plain es e (ap (λ a. sends_request a e.kind) was)) (asked-spaced (passed test-plain es) x.phase asked)
 
+  -- a run keeps what is known of the moments at which requests are sent
   asked-kept : IsKept plain.plain_client p (λ es m y. Asked (passed test-plain es) y.phase)
   asked-kept = record {
     as_it_waits = λ es h m x asked low lasts. asked;

@@ -1,4 +1,4 @@
--- A client of any method but INVITE ends by timer F, and sends nothing after.
+-- A client of any method but INVITE ends by timer F, and sends nothing after it.
 use Rattle.std.proofs.Common.{◌≡◌, ◌≤◌, ◌<◌, ◌*◌, ◌⊎◌, inl, inr, ℕ, List, [], ◌∷◌, ◌++◌, All, refl, subst, arith}
 use Rattle.std.specs.List.{Any}
 use Rattle.sip_standard.specs.declared.action.Action.{Action}
@@ -17,13 +17,15 @@ use Rattle.consequences.specs.Events.{SendsAnyRequest, GetsResponse}
 use Rattle.consequences.proofs.lemmas.run.Lists.{any-last, any-earlier, any-none}
 use Rattle.consequences.proofs.lemmas.run.Running.{IsKept, left_at, step-of, stands-run, Cut, cut, run-keeps}
 
+-- What follows is of the non-INVITE client.
 module _ (p : Times) where
-  -- where it waits for its response, it began by the moment
+  -- where the client waits for its response, its request was first sent by the moment
   abbrev BeganBy : ℕ → PlainClientPhase → Type 0
   BeganBy m (Trying w) = w.start ≤ m
   BeganBy m (Proceeding w) = w.start ≤ m
   BeganBy m x = Unit {0}
 
+  -- what began by a moment began by every later one
   began-later : (x : PlainClientPhase) (h m : ℕ) → h ≤ m → BeganBy h x → BeganBy m x
   began-later Idle h m low began = tt
   began-later Ended h m low began = tt
@@ -31,35 +33,39 @@ module _ (p : Times) where
   began-later (Proceeding w) h m low began = omega (arith, low, began)
   began-later (Completed reliable set) h m low began = tt
 
+  -- the row of a received message keeps BeganBy
   began-received : (x : PlainClientPhase) (k : Kind) (e : MachineEvent) (row : PlainClientPhase × Change) → BeganBy e.moment x → Receives p x k e row → BeganBy e.moment row.0
   began-received (Trying w) (Response code) e row began (inl h) = rw h.1 began
   began-received (Trying w) (Response code) e row began (inr h) = rw h.1 tt
   began-received (Proceeding w) (Response code) e row began h = rw h.1 tt
   began-received x k e row began h = absurd h
 
-  -- it waits, and began by the moment
+  -- the client waits for its response, and its request was first sent by the moment
   abbrev WaitsBy : ℕ → PlainClientPhase → Type 0
   WaitsBy m (Trying w) = w.start ≤ m
   WaitsBy m (Proceeding w) = w.start ≤ m
   WaitsBy m x = ⊥
 
+  -- a phase of which WaitsBy holds is one of which BeganBy holds
   waits-began : (x : PlainClientPhase) (m : ℕ) → WaitsBy m x → BeganBy m x
   waits-began (Trying w) m waits = waits
   waits-began (Proceeding w) m waits = waits
   waits-began x m waits = absurd waits
 
-  -- a request that is sent leads there
+  -- the row of a request that is sent leads to a client that waits
   sent-waits : (x : PlainClientPhase) (k : Kind) (e : MachineEvent) (row : PlainClientPhase × Change) → BeganBy e.moment x → Sends p x k e row → WaitsBy e.moment row.0
   sent-waits Idle (Request method) e row began h = rw h (omega arith)
   sent-waits (Trying w) (Request method) e row began h = rw h.1 began
   sent-waits (Proceeding w) (Request method) e row began h = rw h.1 began
   sent-waits x k e row began h = absurd h
 
+  -- a message that is sent leads to a client that waits
   emits-waits : (e : MachineEvent) (x y : Owing PlainClientPhase) → BeganBy e.moment x.phase → Emits plain_client p e x y → WaitsBy e.moment y.phase
   emits-waits e x y began (inl (row, is_row, to)) = rw to (sent-waits x.phase e.kind e row began is_row)
   emits-waits e x y began (inr (inl (left, pays, to))) = absurd pays.holds.0
   emits-waits e x y began (inr (inr (stays, same))) = absurd stays
 
+  -- a step keeps BeganBy
   began-steps : (a : Action) (e : MachineEvent) (x y : Owing PlainClientPhase) → BeganBy e.moment x.phase → Steps plain_client p a e x y → BeganBy e.moment y.phase
   began-steps Received e x y began (inl (row, is_row, to)) = rw to (began-received x.phase e.kind e row began is_row)
   began-steps Received e x y began (inr (none, same)) = rw same began
@@ -69,6 +75,7 @@ module _ (p : Times) where
   began-steps Restart e x y began (inl (idle, to)) = rw to tt
   began-steps Restart e x y began (inr (other, to)) = rw to tt
 
+  -- a run keeps BeganBy
   began-kept : IsKept plain_client p (λ es m y. BeganBy m y.phase)
   began-kept = record {
     as_it_waits = λ es h m x began low lasts. began-later x.phase h m low began;
@@ -77,7 +84,7 @@ module _ (p : Times) where
   }
 
   module _ (moment : ℕ) where
-    -- it is over, or got a final response; and sends no more
+    -- the phase is completed or ended, and sends nothing any more
     abbrev IsSilent : PlainClientPhase → Type 0
     IsSilent (Completed reliable set) = Unit {0}
     IsSilent Ended = Unit {0}
@@ -89,6 +96,7 @@ module _ (p : Times) where
     abbrev Asks : List MachineEvent → ℕ → Owing PlainClientPhase → Type 0
     Asks es m y = WaitsBy moment y.phase ⊎ IsOver es y
 
+    -- the row of a received message leaves the client waiting, or it is that of a final response
     waits-received : (es : List MachineEvent) (e : MachineEvent) (x : PlainClientPhase) (k : Kind) (owes : List Owed) (row : PlainClientPhase × Change) → e.action ≡ Received → e.kind ≡ k → WaitsBy moment x → Receives p x k e row
         → WaitsBy moment row.0 ⊎ (IsSilent row.0 × Any (GetsResponse IsFinal) (es ++ e ∷ []))
     waits-received es e (Trying w) (Response code) owes row was kind waits (inl h) = inl (rw h.1 waits)
@@ -96,6 +104,7 @@ module _ (p : Times) where
     waits-received es e (Proceeding w) (Response code) owes row was kind waits h = inr (rw h.1 tt, any-last (GetsResponse IsFinal) es e (was, (code, kind, h.0)))
     waits-received es e x k owes row was kind waits h = absurd h
 
+    -- the row of a sent message leaves a client that waits waiting
     sent-still : (x : PlainClientPhase) (k : Kind) (e : MachineEvent) (row : PlainClientPhase × Change) → WaitsBy moment x → Sends p x k e row → WaitsBy moment row.0
     sent-still (Trying w) (Request method) e row waits h = rw h.1 waits
     sent-still (Proceeding w) (Request method) e row waits h = rw h.1 waits
@@ -106,6 +115,7 @@ module _ (p : Times) where
     not-idle : (x : PlainClientPhase) → WaitsBy moment x → ¬ (x ≡ Idle)
     not-idle x waits idle = absurd (subst (WaitsBy moment) idle waits)
 
+    -- a step leaves a client that waits waiting, or over as IsOver has it
     waits-steps : (a : Action) (es : List MachineEvent) (e : MachineEvent) (x y : Owing PlainClientPhase) → e.action ≡ a → WaitsBy moment x.phase → Steps plain_client p a e x y → Asks (es ++ e ∷ []) e.moment y
     waits-steps Received es e x y was waits (inl (row, is_row, to)) = by (waits-received es e x.phase e.kind x.owes row was refl waits is_row)
       where
@@ -139,11 +149,12 @@ module _ (p : Times) where
     silent-is-not-idle : (x : PlainClientPhase) → IsSilent x → ¬ (x ≡ Idle)
     silent-is-not-idle x silent idle = absurd (subst IsSilent idle silent)
 
-    -- with less owed, an ended one is as it was
+    -- IsOver stays true after an event, of the debts that are still owed when the event comes
     over-later : (es : List MachineEvent) (e : MachineEvent) (x : Owing PlainClientPhase) → IsOver es x → IsOver (es ++ e ∷ []) (record { phase = x.phase; owes = left_at e x })
     over-later es e x (silent, inl ended) = (silent, inl (rw ended refl))
     over-later es e x (silent, inr came) = (silent, inr (any-earlier (GetsResponse IsFinal) es (e ∷ []) came))
 
+    -- a step keeps IsOver
     over-steps : (a : Action) (es : List MachineEvent) (e : MachineEvent) (x y : Owing PlainClientPhase) → IsOver es x → Steps plain_client p a e x y → IsOver es y
     over-steps Received es e x y over (inl (row, is_row, to)) = absurd (silent-receives x.phase e.kind e row over.0 is_row)
     over-steps Received es e x y over (inr (none, same)) = rw same over
@@ -153,6 +164,7 @@ module _ (p : Times) where
     over-steps Restart es e x y over (inl (idle, to)) = absurd (silent-is-not-idle x.phase over.0 idle)
     over-steps Restart es e x y over (inr (other, to)) = (rw to tt, inl to)
 
+    -- a run keeps that the client waits for its response or is over
     asks-kept : IsKept plain_client p Asks
     asks-kept = record { as_it_waits = λ es h m x asks low lasts. asks; as_it_ends = λ es h x asks may. inr (tt, inl refl); as_it_takes = as_it_takes }
       where
@@ -160,6 +172,7 @@ module _ (p : Times) where
         as_it_takes es e x y (inl waits) take = waits-steps e.action es e (record { phase = x.phase; owes = left_at e x }) y refl waits take
         as_it_takes es e x y (inr over) take = inr (over-steps e.action (es ++ e ∷ []) e (record { phase = x.phase; owes = left_at e x }) y (over-later es e x over) take)
 
+  -- a client that waits lasts no longer than timer F may take
   waits-in-time : (moment m : ℕ) (x : Owing PlainClientPhase) (phase : PlainClientPhase) → x.phase ≡ phase → WaitsBy moment phase → Lasts plain_client p x m → m ≤ close_at p moment (64 * p.t1)
   waits-in-time moment m x phase is waits lasts = by phase waits (subst (λ z. Lasts plain_client p (record { phase = z; owes = x.owes }) m) is lasts)
     where
@@ -168,8 +181,10 @@ module _ (p : Times) where
       by (Proceeding w) waits lasts = let low = lasts.0 in omega (arith, waits, low)
       by phase waits lasts = absurd waits
 
+  -- What follows is of a request that is sent in a run.
   module _ (lasts : (events : List MachineEvent) (m : ℕ) (x : Owing PlainClientPhase) → Stands plain_client p events m x → Lasts plain_client p x m) (before after : List MachineEvent) (request : MachineEvent)
       (sends : SendsAnyRequest request) where
+    -- after a request that is sent, the client waits for its response or is over
     asked : (m : ℕ) (y : Owing PlainClientPhase) → Stands plain_client p (before ++ request ∷ after) m y → Asks request.moment after m y
     asked m y stands = by-cut (cut plain_client p (quiet Idle) 0 before request after m y (stands-run plain_client p (before ++ request ∷ after) m y stands))
       where
@@ -179,7 +194,7 @@ module _ (p : Times) where
             let waits = emits-waits request (record { phase = found.from.phase; owes = left_at request found.from }) found.to began (step-of plain_client p Sent request found.from found.to sends.1.0 found.step) in
             run-keeps plain_client p (Asks request.moment) (asks-kept request.moment) after found.to request.moment m y (inl waits) found.goes
 
-    -- a request that has no final response is over once timer F has to have fired
+    -- a request that has no final response is over once timer F must have fired
     pub over-by-timer-f : (m : ℕ) (y : Owing PlainClientPhase) → All (λ g. ¬ (GetsResponse IsFinal g)) after → Stands plain_client p (before ++ request ∷ after) m y → close_at p request.moment (64 * p.t1) < m → y ≡ quiet Ended
     over-by-timer-f m y unanswered stands late = by (asked m y stands)
       where
@@ -188,7 +203,7 @@ module _ (p : Times) where
         by (inr (silent, inl ended)) = ended
         by (inr (silent, inr came)) = absurd (any-none (GetsResponse IsFinal) after unanswered came)
 
-    -- what is sent for a request that has no final response is sent by the last moment at which timer F may fire
+    -- what is sent after a request is sent by the last moment at which timer F may fire
     pub silent-after-timer-f : (e : MachineEvent) (y : Owing PlainClientPhase) → e.action ≡ Sent → StandsAfter plain_client p (before ++ request ∷ after) e y → e.moment ≤ close_at p request.moment (64 * p.t1)
     silent-after-timer-f e y sent (x, stands, take) = by (asked e.moment x stands)
       where

@@ -1,6 +1,7 @@
 -- An INVITE client before a response has come: it sends no CANCEL, and ends by timer B.
 use Rattle.std.proofs.Common.{◌≡◌, ◌≤◌, ◌<◌, ◌*◌, ◌⊎◌, inl, inr, ℕ, Bool, true, false, Some, None, List, [], ◌∷◌, ◌++◌, All, refl, sym, ap, subst, ◌∙◌, arith}
 use Rattle.std.specs.List.{Any}
+use Rattle.std.proofs.lemmas.List.{append-nil}
 use Rattle.sip_standard.specs.declared.action.Action.{Action}
 use Rattle.sip_standard.specs.declared.action.Action.TheVariants.{Sent, Received, Failed, Mark, Restart}
 use Rattle.sip_standard.specs.declared.kind.Method.TheVariants.{Invite, Ack, Cancel}
@@ -16,21 +17,22 @@ use Rattle.sip_standard.specs.Figure.{Figure, keeps, gains, Owing, quiet, Emits,
 use Rattle.sip_standard.specs.InviteClient.{InviteClientPhase, Idle, Ended, Calling, Proceeding, Accepted, Completed, Sends, ends_refused}
 use Rattle.sip_standard.specs.Stands.{Stands, StandsAfter}
 use Rattle.consequences.specs.Events.{SendsRequest, GetsResponse, IsAnyCode, IsRefused, IsRestart}
-use Rattle.consequences.proofs.lemmas.run.Lists.{any-last, any-earlier, any-none, All-front, All-last}
+use Rattle.sip_machine.specs.inner.DebtLaws.{All-front}
+use Rattle.consequences.proofs.lemmas.run.Lists.{any-last, any-earlier, any-none, All-last}
 use Rattle.consequences.proofs.lemmas.client.Once.{IsInvited, invites-once, over-emits, over-steps}
-use Rattle.consequences.proofs.lemmas.run.Running.{Runs, IsKept, left_at, step-of, stands-run, Cut, cut, run-keeps, append-none}
+use Rattle.consequences.proofs.lemmas.run.Running.{Runs, IsKept, left_at, step-of, stands-run, Cut, cut, run-keeps}
 use Rattle.consequences.proofs.lemmas.client.InviteClients.{Row, Receiving, client, IsDone, Answers, IsReceiving, pays-nothing, sends-idle, sends-calling, sends-proceeding, sends-accepted, sends-completed, sends-ended}
 
 no-cancel : ¬ (Request Invite ≡ Request Cancel)
 no-cancel is = cc
 
--- a phase has not sent its INVITE, or never will
+-- the phase is idle or ended, in neither of which the client waits for a response
 abbrev IsUnasked : InviteClientPhase → Type 0
 IsUnasked Idle = Unit {0}
 IsUnasked Ended = Unit {0}
 IsUnasked x = ⊥
 
--- a calling phase that began with this INVITE
+-- the phase is calling, and began with this INVITE
 abbrev pub CallsFrom : MachineEvent → InviteClientPhase → Type 0
 CallsFrom invite (Calling w) = (w.start ≡ invite.moment) × (w.request ≡ invite.text) × (w.reliable ≡ invite.reliable)
 CallsFrom invite x = ⊥
@@ -38,14 +40,16 @@ CallsFrom invite x = ⊥
 not-calling : {A : Type 0} (x : InviteClientPhase) (reliable : Bool) (request : List ℕ) (set : ℕ) (invite : MachineEvent) → x ≡ Completed reliable request set → CallsFrom invite x → A
 not-calling x reliable request set invite is calls = absurd (subst (CallsFrom invite) is calls)
 
+-- What follows is of an INVITE client with these rows.
 module _ (R : Receiving) (is : IsReceiving R) (p : Times) where
   abbrev f : Figure InviteClientPhase
   f = client R
 
-  -- before an INVITE is sent, none was
+  -- where no INVITE was sent so far, the phase is idle or ended
   abbrev Before : List MachineEvent → ℕ → Owing InviteClientPhase → Type 0
   Before es m y = All (λ g. ¬ (SendsRequest Invite g)) es → IsUnasked y.phase
 
+  -- what is sent, unless it is an INVITE, leads from idle or ended to idle or ended
   unasked-emits : (e : MachineEvent) (x : InviteClientPhase) (owes : List Owed) (y : Owing InviteClientPhase) → IsUnasked x → ¬ (e.kind ≡ Request Invite) → Emits f p e (record { phase = x; owes = owes }) y → IsUnasked y.phase
   unasked-emits e x owes y from never (inr (inl (left, pays, to))) = rw to from
   unasked-emits e x owes y from never (inr (inr (stays, same))) = absurd stays
@@ -58,6 +62,7 @@ module _ (R : Receiving) (is : IsReceiving R) (p : Times) where
   unasked-emits e Ended owes y from never (inl (row, is_row, to)) = rw (to, (sends-ended p e.kind e row is_row).1) tt
   unasked-emits e x owes y from never (inl row) = absurd from
 
+  -- what is refused leads from idle or ended to idle or ended
   unasked-fails : (ends : Bool) (e : MachineEvent) (x : InviteClientPhase) (owes : List Owed) (y : Owing InviteClientPhase) → ends_refused x e.kind ≡ ends → IsUnasked x
       → Fails ends f p e (record { phase = x; owes = owes }) y → IsUnasked y.phase
   unasked-fails true e x owes y ends from fails = rw fails.1 tt
@@ -66,6 +71,7 @@ module _ (R : Receiving) (is : IsReceiving R) (p : Times) where
       ended-by-an-invite : (x : InviteClientPhase) → ¬ (ends_refused x (Request Invite) ≡ false)
       ended-by-an-invite x is = cc
 
+  -- a step, unless it sends an INVITE, leads from idle or ended to idle or ended
   unasked-steps : (a : Action) (e : MachineEvent) (x : InviteClientPhase) (owes : List Owed) (y : Owing InviteClientPhase) → e.action ≡ a → IsUnasked x → ¬ (SendsRequest Invite e)
       → Steps f p a e (record { phase = x; owes = owes }) y → IsUnasked y.phase
   unasked-steps Received e Idle owes y was from never (inl (row, is_row, to)) = absurd (is.idle p e.kind e row is_row)
@@ -78,6 +84,7 @@ module _ (R : Receiving) (is : IsReceiving R) (p : Times) where
   unasked-steps Restart e x owes y was from never (inl (idle, to)) = rw to tt
   unasked-steps Restart e x owes y was from never (inr (other, to)) = rw to tt
 
+  -- a run without an INVITE that is sent keeps the phase idle or ended
   before-kept : IsKept f p Before
   before-kept = record {
     as_it_waits = λ es h m x holds low lasts. holds;
@@ -86,7 +93,7 @@ module _ (R : Receiving) (is : IsReceiving R) (p : Times) where
         unasked-steps e.action e x.phase (left_at e x) y refl (holds (All-front (λ g. ¬ (SendsRequest Invite g)) es (e ∷ []) all)) (All-last (λ g. ¬ (SendsRequest Invite g)) es e all) take;
   }
 
-  -- the INVITE with which the client begins leads to a calling phase
+  -- the first INVITE that is sent leads to calling, as the phase that began with it
   pub begins-calling : (before : List MachineEvent) (invite : MachineEvent) (x y : Owing InviteClientPhase) → All (λ g. ¬ (SendsRequest Invite g)) before → SendsRequest Invite invite
       → Runs f p (quiet Idle) 0 before invite.moment x → Takes f p x invite y → CallsFrom invite y.phase
   begins-calling before invite x y none sent run take =
@@ -108,8 +115,21 @@ module _ (R : Receiving) (is : IsReceiving R) (p : Times) where
       by phase owes from (inr (inr (stays, same))) = absurd stays
       by phase owes from (inl row) = absurd from
 
+  -- what a client that calls receives with a row is a response of some code
+  response-came : (es : List MachineEvent) (e : MachineEvent) (w : Waiting) (row : Row) → e.action ≡ Received → R p (Calling w) e.kind e row → Any (GetsResponse IsAnyCode) (es ++ e ∷ [])
+  response-came es e w row was is_row = by (is.calling p w e.kind e row is_row)
+    where
+      any : (code : ℕ) → (IsProvisional code × (row ≡ (Proceeding w.reliable w.request None, keeps))) ⊎ (IsSuccess code × IsDone row.0)
+          ⊎ (IsUnsuccessful code × (row ≡ (Completed w.reliable w.request e.moment, gains true e.text))) → IsAnyCode code
+      any code (inl h) = (h.0.0, omega (arith, h.0.1))
+      any code (inr (inl h)) = (omega (arith, h.0.0), omega (arith, h.0.1))
+      any code (inr (inr h)) = (omega (arith, h.0.0), h.0.1)
+
+      by : Answers w.reliable w.request e.kind e row → Any (GetsResponse IsAnyCode) (es ++ e ∷ [])
+      by (code, kind, leads) = any-last (GetsResponse IsAnyCode) es e (was, (code, kind, any code leads))
+
   module _ (invite : MachineEvent) where
-    -- a response came, a message was refused, the element started again, or timer B may have fired
+    -- the client need not wait: a response came, a message was refused, the element started again, or timer B may have fired
     abbrev Over : List MachineEvent → ℕ → Type 0
     Over es m = Any (GetsResponse IsAnyCode) es ⊎ Any (λ g. IsRefused g ⊎ IsRestart g) es ⊎ (open_at p invite.moment (64 * p.t1) ≤ m)
 
@@ -118,7 +138,7 @@ module _ (R : Receiving) (is : IsReceiving R) (p : Times) where
     over-later es more h m low (inr (inl broke)) = inr (inl (any-earlier (λ g. IsRefused g ⊎ IsRestart g) es more broke))
     over-later es more h m low (inr (inr late)) = inr (inr (omega (arith, low, late)))
 
-    -- from the INVITE on it calls, or that is so
+    -- the client still calls from the INVITE on, or need not wait
     abbrev Calls : List MachineEvent → ℕ → Owing InviteClientPhase → Type 0
     Calls es m y = CallsFrom invite y.phase ⊎ Over es m
 
@@ -126,18 +146,7 @@ module _ (R : Receiving) (is : IsReceiving R) (p : Times) where
     calls-ends es h (Calling w) owes calls may = inr (inr (subst (λ m. open_at p m (64 * p.t1) ≤ h) calls.0 may.0))
     calls-ends es h x owes calls may = absurd calls
 
-    calls-received : (es : List MachineEvent) (e : MachineEvent) (w : Waiting) (row : Row) → e.action ≡ Received → R p (Calling w) e.kind e row → Over (es ++ e ∷ []) e.moment
-    calls-received es e w row was is_row = by (is.calling p w e.kind e row is_row)
-      where
-        any : (code : ℕ) → (IsProvisional code × (row ≡ (Proceeding w.reliable w.request None, keeps))) ⊎ (IsSuccess code × IsDone row.0)
-            ⊎ (IsUnsuccessful code × (row ≡ (Completed w.reliable w.request e.moment, gains true e.text))) → IsAnyCode code
-        any code (inl h) = (h.0.0, omega (arith, h.0.1))
-        any code (inr (inl h)) = (omega (arith, h.0.0), omega (arith, h.0.1))
-        any code (inr (inr h)) = (omega (arith, h.0.0), h.0.1)
-
-        by : Answers w.reliable w.request e.kind e row → Over (es ++ e ∷ []) e.moment
-        by (code, kind, leads) = inl (any-last (GetsResponse IsAnyCode) es e (was, (code, kind, any code leads)))
-
+    -- what is sent in calling is the INVITE, and the phase stays calling
     calls-emits : (es : List MachineEvent) (e : MachineEvent) (x : InviteClientPhase) (owes : List Owed) (y : Owing InviteClientPhase) → CallsFrom invite x
         → Emits f p e (record { phase = x; owes = owes }) y → (e.kind ≡ Request Invite) × CallsFrom invite y.phase
     calls-emits es e x owes y calls (inr (inl (left, pays, to))) =
@@ -146,9 +155,10 @@ module _ (R : Receiving) (is : IsReceiving R) (p : Times) where
     calls-emits es e (Calling w) owes y calls (inl (row, is_row, to)) = let sends = sends-calling p w e.kind e row is_row in (sends.0, rw (to, sends.2) calls)
     calls-emits es e x owes y calls (inl row) = absurd calls
 
+    -- a step leaves the client calling, or it need not wait any more
     calls-steps : (a : Action) (es : List MachineEvent) (e : MachineEvent) (x : InviteClientPhase) (owes : List Owed) (y : Owing InviteClientPhase) → e.action ≡ a → CallsFrom invite x
         → Steps f p a e (record { phase = x; owes = owes }) y → Calls (es ++ e ∷ []) e.moment y
-    calls-steps Received es e (Calling w) owes y was calls (inl (row, is_row, to)) = inr (calls-received es e w row was is_row)
+    calls-steps Received es e (Calling w) owes y was calls (inl (row, is_row, to)) = inr (inl (response-came es e w row was is_row))
     calls-steps Received es e x owes y was calls (inl row) = absurd calls
     calls-steps Received es e x owes y was calls (inr (none, same)) = inl (rw same calls)
     calls-steps Sent es e x owes y was calls emits = inl (calls-emits es e x owes y calls emits).1
@@ -156,12 +166,13 @@ module _ (R : Receiving) (is : IsReceiving R) (p : Times) where
     calls-steps Mark es e x owes y was calls h = absurd h
     calls-steps Restart es e x owes y was calls h = inr (inr (inl (any-last (λ g. IsRefused g ⊎ IsRestart g) es e (inr was))))
 
+    -- a run keeps that the client calls, or need not wait any more
     calls-kept : IsKept f p Calls
     calls-kept = record { as_it_waits = as_it_waits; as_it_ends = as_it_ends; as_it_takes = as_it_takes }
       where
         as_it_waits : (es : List MachineEvent) (h m : ℕ) (x : Owing InviteClientPhase) → Calls es h x → h ≤ m → Lasts f p x m → Calls es m x
         as_it_waits es h m x (inl calls) low lasts = inl calls
-        as_it_waits es h m x (inr over) low lasts = inr (subst (λ fs. Over fs m) (append-none es) (over-later es [] h m low over))
+        as_it_waits es h m x (inr over) low lasts = inr (subst (λ fs. Over fs m) (append-nil es) (over-later es [] h m low over))
 
         as_it_ends : (es : List MachineEvent) (h : ℕ) (x : Owing InviteClientPhase) → Calls es h x → MayEnd f p x h → Calls es h (quiet Ended)
         as_it_ends es h x (inl calls) may = inr (calls-ends es h x.phase x.owes calls may)
@@ -171,7 +182,7 @@ module _ (R : Receiving) (is : IsReceiving R) (p : Times) where
         as_it_takes es e x y (inl calls) take = calls-steps e.action es e x.phase (left_at e x) y refl calls take
         as_it_takes es e x y (inr over) take = inr (over-later es (e ∷ []) e.moment e.moment (omega arith) over)
 
-    -- section 9.1
+    -- a CANCEL is sent only where the client need not wait, section 9.1
     pub cancel-waits : (before after : List MachineEvent) (e : MachineEvent) (y : Owing InviteClientPhase) → All (λ g. ¬ (SendsRequest Invite g)) before → SendsRequest Invite invite →
         SendsRequest Cancel e → StandsAfter f p (before ++ invite ∷ after) e y → Over after e.moment
     cancel-waits before after e y none sent cancels (x, stands, take) = by-cut (cut f p (quiet Idle) 0 before invite after e.moment x (stands-run f p (before ++ invite ∷ after) e.moment x stands))
@@ -186,13 +197,14 @@ module _ (R : Receiving) (is : IsReceiving R) (p : Times) where
         by-cut : Cut f p (quiet Idle) 0 before invite after e.moment x → Over after e.moment
         by-cut found = by (run-keeps f p Calls calls-kept after found.to invite.moment e.moment x (inl (begins-calling before invite found.from found.to none sent found.leads found.step)) found.goes)
 
-  -- An INVITE that gets no response.
+  -- What follows is of an INVITE that gets no response.
 
-  -- a calling phase began by the moment
+  -- where the phase is calling, its INVITE was first sent by the moment
   abbrev BeganBy : ℕ → InviteClientPhase → Type 0
   BeganBy m (Calling w) = w.start ≤ m
   BeganBy m x = Unit {0}
 
+  -- what began by a moment began by every later one
   began-later : (x : InviteClientPhase) (h m : ℕ) → h ≤ m → BeganBy h x → BeganBy m x
   began-later (Calling w) h m low began = omega (arith, low, began)
   began-later Idle h m low began = tt
@@ -201,17 +213,19 @@ module _ (R : Receiving) (is : IsReceiving R) (p : Times) where
   began-later (Accepted set) h m low began = tt
   began-later (Completed reliable request set) h m low began = tt
 
-  -- what is not calling has begun by any moment
+  -- a phase that is done is not calling, so that BeganBy holds of it at any moment
   done-began : (x : InviteClientPhase) (m : ℕ) → IsDone x → BeganBy m x
   done-began Ended m done = tt
   done-began (Accepted set) m done = tt
   done-began x m done = absurd done
 
+  -- the row of a response leads to a phase of which BeganBy holds
   answers-began : (reliable : Bool) (request : List ℕ) (k : Kind) (e : MachineEvent) (row : Row) → Answers reliable request k e row → BeganBy e.moment row.0
   answers-began reliable request k e row (code, kind, inl h) = rw h.1 tt
   answers-began reliable request k e row (code, kind, inr (inl h)) = done-began row.0 e.moment h.1
   answers-began reliable request k e row (code, kind, inr (inr h)) = rw h.1 tt
 
+  -- the row of a received message leads to a phase of which BeganBy holds
   received-began : (x : InviteClientPhase) (k : Kind) (e : MachineEvent) (row : Row) → R p x k e row → BeganBy e.moment row.0
   received-began Idle k e row h = absurd (is.idle p k e row h)
   received-began Ended k e row h = absurd (is.ended p k e row h)
@@ -220,6 +234,7 @@ module _ (R : Receiving) (is : IsReceiving R) (p : Times) where
   received-began (Proceeding reliable request cancel) k e row h = answers-began reliable request k e row (is.proceeding p reliable request cancel k e row h)
   received-began (Completed reliable request set) k e row h = rw (is.completed p reliable request set k e row h).3 tt
 
+  -- the row of a sent message keeps BeganBy
   sent-began : (x : InviteClientPhase) (k : Kind) (e : MachineEvent) (row : Row) → BeganBy e.moment x → Sends p x k e row → BeganBy e.moment row.0
   sent-began Idle k e row began h = by (sends-idle p k e row h)
     where
@@ -237,6 +252,7 @@ module _ (R : Receiving) (is : IsReceiving R) (p : Times) where
   sent-began (Completed reliable request set) k e row began h = rw (sends-completed p reliable request set k e row h).1 tt
   sent-began Ended k e row began h = rw (sends-ended p k e row h).1 tt
 
+  -- a message that is sent keeps BeganBy
   began-emits : (e : MachineEvent) (x y : Owing InviteClientPhase) → BeganBy e.moment x.phase → Emits f p e x y → BeganBy e.moment y.phase
   began-emits e x y began (inl (row, is_row, to)) = rw to (sent-began x.phase e.kind e row began is_row)
   began-emits e x y began (inr (inl (left, pays, to))) = rw to began
@@ -246,6 +262,7 @@ module _ (R : Receiving) (is : IsReceiving R) (p : Times) where
   began-fails true e x y began fails = rw fails.1 tt
   began-fails false e x y began emits = began-emits e x y began emits
 
+  -- a step keeps BeganBy
   began-steps : (a : Action) (e : MachineEvent) (x y : Owing InviteClientPhase) → BeganBy e.moment x.phase → Steps f p a e x y → BeganBy e.moment y.phase
   began-steps Received e x y began (inl (row, is_row, to)) = rw to (received-began x.phase e.kind e row is_row)
   began-steps Received e x y began (inr (none, same)) = rw same began
@@ -255,6 +272,7 @@ module _ (R : Receiving) (is : IsReceiving R) (p : Times) where
   began-steps Restart e x y began (inl (idle, to)) = rw to tt
   began-steps Restart e x y began (inr (other, to)) = rw to tt
 
+  -- a run keeps BeganBy
   began-kept : IsKept f p (λ es m y. BeganBy m y.phase)
   began-kept = record {
     as_it_waits = λ es h m x began low lasts. began-later x.phase h m low began;
@@ -262,12 +280,12 @@ module _ (R : Receiving) (is : IsReceiving R) (p : Times) where
     as_it_takes = λ es e x y began take. began-steps e.action e (record { phase = x.phase; owes = left_at e x }) y began take;
   }
 
-  -- it calls, and began by the moment
+  -- the phase is calling, and its INVITE was first sent by the moment
   abbrev CallsBy : ℕ → InviteClientPhase → Type 0
   CallsBy m (Calling w) = w.start ≤ m
   CallsBy m x = ⊥
 
-  -- an INVITE that is sent leads there
+  -- an INVITE that is sent leads to calling, as CallsBy has it
   invite-calls : (e : MachineEvent) (x : InviteClientPhase) (owes : List Owed) (y : Owing InviteClientPhase) → e.kind ≡ Request Invite → BeganBy e.moment x
       → Emits f p e (record { phase = x; owes = owes }) y → CallsBy e.moment y.phase
   invite-calls e x owes y invite began (inr (inl (left, pays, to))) = absurd (no-ack (sym invite ∙ (pays-nothing x e.kind e pays.first.message pays.holds.0).4))
@@ -288,22 +306,11 @@ module _ (R : Receiving) (is : IsReceiving R) (p : Times) where
   invite-calls e Ended owes y invite began (inl (row, is_row, to)) = absurd (no-cancel (sym invite ∙ (sends-ended p e.kind e row is_row).0))
 
   module _ (moment : ℕ) where
-    -- it calls from the moment on, or has ended, or a response came
+    -- the client calls, since the moment or longer, or has ended, or a response came
     abbrev Waits : List MachineEvent → ℕ → Owing InviteClientPhase → Type 0
     Waits es m y = CallsBy moment y.phase ⊎ (y ≡ quiet Ended) ⊎ Any (GetsResponse IsAnyCode) es
 
-    waits-received : (es : List MachineEvent) (e : MachineEvent) (w : Waiting) (row : Row) → e.action ≡ Received → R p (Calling w) e.kind e row → Any (GetsResponse IsAnyCode) (es ++ e ∷ [])
-    waits-received es e w row was is_row = by (is.calling p w e.kind e row is_row)
-      where
-        any : (code : ℕ) → (IsProvisional code × (row ≡ (Proceeding w.reliable w.request None, keeps))) ⊎ (IsSuccess code × IsDone row.0)
-            ⊎ (IsUnsuccessful code × (row ≡ (Completed w.reliable w.request e.moment, gains true e.text))) → IsAnyCode code
-        any code (inl h) = (h.0.0, omega (arith, h.0.1))
-        any code (inr (inl h)) = (omega (arith, h.0.0), omega (arith, h.0.1))
-        any code (inr (inr h)) = (omega (arith, h.0.0), h.0.1)
-
-        by : Answers w.reliable w.request e.kind e row → Any (GetsResponse IsAnyCode) (es ++ e ∷ [])
-        by (code, kind, leads) = any-last (GetsResponse IsAnyCode) es e (was, (code, kind, any code leads))
-
+    -- what is sent in calling leaves the phase calling
     waits-emits : (e : MachineEvent) (x : InviteClientPhase) (owes : List Owed) (y : Owing InviteClientPhase) → CallsBy moment x → Emits f p e (record { phase = x; owes = owes }) y → CallsBy moment y.phase
     waits-emits e (Calling w) owes y calls (inl (row, is_row, to)) = rw (to, (sends-calling p w e.kind e row is_row).2) calls
     waits-emits e x owes y calls (inl row) = absurd calls
@@ -315,9 +322,10 @@ module _ (R : Receiving) (is : IsReceiving R) (p : Times) where
     waits-fails true es e x owes y calls fails = inr (inl fails.1)
     waits-fails false es e x owes y calls emits = inl (waits-emits e x owes y calls emits)
 
+    -- a step leaves the client calling, or ends it, or receives a response
     waits-steps : (a : Action) (es : List MachineEvent) (e : MachineEvent) (x : InviteClientPhase) (owes : List Owed) (y : Owing InviteClientPhase) → e.action ≡ a → CallsBy moment x
         → Steps f p a e (record { phase = x; owes = owes }) y → Waits (es ++ e ∷ []) e.moment y
-    waits-steps Received es e (Calling w) owes y was calls (inl (row, is_row, to)) = inr (inr (waits-received es e w row was is_row))
+    waits-steps Received es e (Calling w) owes y was calls (inl (row, is_row, to)) = inr (inr (response-came es e w row was is_row))
     waits-steps Received es e x owes y was calls (inl row) = absurd calls
     waits-steps Received es e x owes y was calls (inr (none, same)) = inl (rw same calls)
     waits-steps Sent es e x owes y was calls emits = inl (waits-emits e x owes y calls emits)
@@ -327,6 +335,7 @@ module _ (R : Receiving) (is : IsReceiving R) (p : Times) where
     waits-steps Restart es e x owes y was calls (inl (idle, to)) = absurd (subst (CallsBy moment) idle calls)
     waits-steps Restart es e x owes y was calls (inr (other, to)) = inr (inl to)
 
+    -- a run keeps that the client calls, or has ended, or has got a response
     waits-kept : IsKept f p Waits
     waits-kept = record { as_it_waits = as_it_waits; as_it_ends = λ es h x holds may. inr (inl refl); as_it_takes = as_it_takes }
       where
@@ -338,8 +347,9 @@ module _ (R : Receiving) (is : IsReceiving R) (p : Times) where
         as_it_takes es e x y (inr (inl ended)) take = inr (inl (over-steps f p IsInvited (λ k. k ≡ Request Invite) (λ k. k ≡ Request Cancel) (invites-once R is p) e.action e y (subst (λ z. Takes f p z e y) ended take)))
         as_it_takes es e x y (inr (inr came)) take = inr (inr (any-earlier (GetsResponse IsAnyCode) es (e ∷ []) came))
 
-  -- timer B, section 17.1.1.2, where what stands lasts
+  -- timer B, section 17.1.1.2: an INVITE without a response is over by it, where what stands lasts
   module _ (lasts : (events : List MachineEvent) (m : ℕ) (x : Owing InviteClientPhase) → Stands f p events m x → Lasts f p x m) where
+    -- an INVITE that has no response is over once timer B has to have fired
     pub over-by-timer-b : (before after : List MachineEvent) (invite : MachineEvent) (m : ℕ) (y : Owing InviteClientPhase) → SendsRequest Invite invite →
         All (λ g. ¬ (GetsResponse IsAnyCode g)) after → Stands f p (before ++ invite ∷ after) m y → close_at p invite.moment (64 * p.t1) < m → y ≡ quiet Ended
     over-by-timer-b before after invite m y sent unanswered stands late =
@@ -360,6 +370,7 @@ module _ (R : Receiving) (is : IsReceiving R) (p : Times) where
             let calls = invite-calls invite found.from.phase (left_at invite found.from) found.to sent.1 began (step-of f p Sent invite found.from found.to sent.0 found.step) in
             by (run-keeps f p (Waits invite.moment) (waits-kept invite.moment) after found.to invite.moment m y (inl calls) found.goes)
 
+    -- once timer B has to have fired for an INVITE that has no response, CANCEL alone is sent
     pub silent-after-timer-b : (before after : List MachineEvent) (invite e : MachineEvent) (y : Owing InviteClientPhase) → SendsRequest Invite invite →
         All (λ g. ¬ (GetsResponse IsAnyCode g)) after → e.action ≡ Sent → StandsAfter f p (before ++ invite ∷ after) e y → close_at p invite.moment (64 * p.t1) < e.moment → e.kind ≡ Request Cancel
     silent-after-timer-b before after invite e y sent unanswered is_sent (x, stands, take) late =

@@ -14,10 +14,11 @@ use Rattle.sip_standard.specs.InviteServer as corrected
 use Rattle.sip_standard.specs.InviteServer3261 as without
 use Rattle.sip_standard.specs.PlainServer as plain
 use Rattle.consequences.specs.Events.{IsRestart}
-use Rattle.consequences.proofs.lemmas.run.Lists.{All-front, All-last}
+use Rattle.sip_machine.specs.inner.DebtLaws.{All-front}
+use Rattle.consequences.proofs.lemmas.run.Lists.{All-last}
 use Rattle.consequences.proofs.lemmas.run.Running.{Runs, IsKept, step-of, run-keeps}
 
--- in its idle phase, which is the ended one, a server has no timer, sends nothing, and leaves only for a request that wakes it
+-- in its idle phase, which is the ended one, a server has no window, sends nothing, and leaves only for a request that wakes it
 pub record IsAsleep {X : Type 0} (f : Figure X) (p : Times) (Wakes : Kind → Type 0) : Type 0 where
   pub ended_is : f.ended ≡ f.idle
   pub no_end : f.window p f.idle ≡ None
@@ -25,7 +26,7 @@ pub record IsAsleep {X : Type 0} (f : Figure X) (p : Times) (Wakes : Kind → Ty
   pub woken : (k : Kind) (e : MachineEvent) (y : X × Change) → f.Receives p f.idle k e y → Wakes k
   pub unmoved : (k : Kind) → ¬ (f.Stays f.idle k)
 
--- where nothing is owed nothing is paid
+-- where nothing is owed, nothing is paid
 pub nothing-to-pay : (P : Owed → Type 0) (left : List Owed) → ¬ (IsWithoutFirst P [] left)
 nothing-to-pay P left pays = by pays.before pays.whole
   where
@@ -57,10 +58,11 @@ module _ {X : Type 0} (f : Figure X) (p : Times) (Wakes : Kind → Type 0) (asle
   no-window : (window : Option (ℕ × Option ℕ)) (h : ℕ) → window ≡ None → ¬ (IsSomeAnd window (λ w. w.0 ≤ h))
   no-window window h is some = absurd (subst (λ w. IsSomeAnd w (λ v. v.0 ≤ h)) is some)
 
-  -- without a request that wakes it, it sleeps on
+  -- where no request that wakes it came, the server sleeps
   abbrev Sleeps : List MachineEvent → ℕ → Owing X → Type 0
   Sleeps es m y = All (λ g. ¬ ((g.action ≡ Received) × Wakes g.kind)) es → y ≡ quiet f.idle
 
+  -- a run without a request that wakes the server keeps it asleep
   sleeps-kept : IsKept f p Sleeps
   sleeps-kept = record { as_it_waits = λ es h m x holds low lasts. holds; as_it_ends = as_it_ends; as_it_takes = as_it_takes }
     where
@@ -75,11 +77,11 @@ module _ {X : Type 0} (f : Figure X) (p : Times) (Wakes : Kind → Type 0) (asle
           by (inl same) = same
           by (inr wakes) = absurd (All-last (λ g. ¬ ((g.action ≡ Received) × Wakes g.kind)) es e all wakes)
 
-  -- a run that begins asleep, without a request that wakes it, ends asleep
+  -- a run that begins asleep, and has no request that wakes the server, ends asleep
   pub sleeps-on : (es : List MachineEvent) (x : Owing X) (h m : ℕ) (y : Owing X) → x ≡ quiet f.idle → All (λ g. ¬ ((g.action ≡ Received) × Wakes g.kind)) es → Runs f p x h es m y → y ≡ quiet f.idle
   sleeps-on es x h m y is all run = run-keeps f p Sleeps sleeps-kept es x h m y (λ none. is) run all
 
-  -- a restart puts it to sleep
+  -- a restart puts the server to sleep
   pub restart-sleeps : (e : MachineEvent) (x y : Owing X) → IsRestart e → Takes f p x e y → y ≡ quiet f.idle
   restart-sleeps e x y restart take = by (step-of f p Restart e x y restart take)
     where
@@ -87,13 +89,13 @@ module _ {X : Type 0} (f : Figure X) (p : Times) (Wakes : Kind → Type 0) (asle
       by (inl idle) = idle.1
       by (inr other) = rw (other.1, asleep.ended_is)
 
--- The three servers.
+-- What follows is of the three servers.
 
--- an INVITE
+-- the kind is an INVITE
 abbrev pub IsInvite : Kind → Type 0
 IsInvite k = k ≡ Request Invite
 
--- a request, whatever its method
+-- the kind is a request, of any method
 abbrev pub IsAnyRequest : Kind → Type 0
 IsAnyRequest k = (method : Method) × (k ≡ Request method)
 

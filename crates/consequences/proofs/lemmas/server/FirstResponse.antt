@@ -1,4 +1,4 @@
--- An INVITE server that has just got its INVITE: it answers within 200 ms.
+-- An INVITE server that has just got its INVITE answers it within 200 ms.
 use Rattle.std.proofs.Common.{◌≡◌, ◌≤◌, ◌<◌, ◌⊎◌, inl, inr, ℕ, Bool, true, false, Option, None, IsSomeAnd, List, [], ◌∷◌, ◌++◌, All, refl, sym, ap, subst, ◌∙◌, arith}
 use Rattle.std.specs.List.{Any}
 use Rattle.std.proofs.lemmas.List.Elements.{All-head}
@@ -22,23 +22,24 @@ use Rattle.consequences.proofs.lemmas.run.Running.{IsKept, step-of, stands-run, 
 use Rattle.consequences.proofs.lemmas.server.InviteServers.{Row, IsServer, ReceivedRow, comes, again, again_after, acknowledged, received-row, SentRow, provisional, success, unsuccessful, success_again, repeats, sent-row}
 
 module _ {X : Type 0} (f : Figure X) (p : Times) (held : InviteServerPhase → X) (is : IsServer f p held) (invite : MachineEvent) where
-  -- the event has this property, and comes within 200 ms of the INVITE and as much as an element may be late
+  -- the event has the property P, and comes within 200 ms of the INVITE and as much as an element may be late
   abbrev InTime : (MachineEvent → Type 0) → MachineEvent → Type 0
   InTime P e = P e × (e.moment ≤ close_at p invite.moment 200)
 
-  -- it has sent nothing yet, and it is not too late for it; or it has sent a response in time, or the element started again in time
+  -- the server has sent nothing yet and still has time to, or it has sent a response in time, or the element started again in time
   abbrev Waits : List MachineEvent → ℕ → Owing X → Type 0
   Waits es m y =
       ((reliable : Bool) × (y ≡ quiet (held (Proceeding reliable invite.moment None))) × (m ≤ close_at p invite.moment 200))
       ⊎ Any (InTime (SendsResponse IsAnyCode)) es ⊎ Any (InTime IsRestart) es
 
+  -- while the server has sent nothing, no received message has a row
   no-row : (reliable : Bool) (set : ℕ) (x : InviteServerPhase) (k : Kind) (e : MachineEvent) (row : Row) → x ≡ Proceeding reliable set None → ¬ (ReceivedRow x k e row)
   no-row reliable set x k e row here (comes _) = cc
   no-row reliable set x k e row here (again _ r s last must) = cc
   no-row reliable set x k e row here (again_after _ r final s repeat interval) = cc
   no-row reliable set x k e row here (acknowledged _ r final s repeat interval) = cc
 
-  -- the row of a sent response is one of a response
+  -- what a row sends while the server has sent nothing is a response
   is-response : (x : InviteServerPhase) (k : Kind) (e : MachineEvent) (row : Row) → SentRow p x k e row → (reliable : Bool) (set : ℕ) → x ≡ Proceeding reliable set None → (code : ℕ) × (k ≡ Response code) × IsAnyCode code
   is-response _ _ _ _ (provisional _ r s last code is_provisional) reliable set here = (code, refl, (is_provisional.0, omega (arith, is_provisional.1)))
   is-response _ _ _ _ (success _ r s last code is_success) reliable set here = (code, refl, (omega (arith, is_success.0), omega (arith, is_success.1)))
@@ -52,7 +53,7 @@ module _ {X : Type 0} (f : Figure X) (p : Times) (held : InviteServerPhase → X
       other : ¬ (Completed r final s repeat interval ≡ Proceeding reliable set None)
       other same = cc
 
-  -- what it sends within 200 ms is a response in time
+  -- what the server sends within 200 ms is a response in time
   sends : (reliable : Bool) (es : List MachineEvent) (e : MachineEvent) (y : Owing X) → e.moment ≤ close_at p invite.moment 200 → (e.action ≡ Sent) ⊎ (e.action ≡ Failed)
       → Emits f p e (quiet (held (Proceeding reliable invite.moment None))) y → Any (InTime (SendsResponse IsAnyCode)) (es ++ e ∷ [])
   sends reliable es e y low out (inl (row, is_row, to)) = by (is.sent (Proceeding reliable invite.moment None) e.kind e row is_row)
@@ -68,11 +69,13 @@ module _ {X : Type 0} (f : Figure X) (p : Times) (held : InviteServerPhase → X
   sends reliable es e y low out (inr (inl (left, pays, to))) = absurd (nothing-to-pay _ left pays)
   sends reliable es e y low out (inr (inr (stays, same))) = absurd (is.unmoved (Proceeding reliable invite.moment None) e.kind stays)
 
+  -- what is refused within 200 ms counts as a response in time
   fails : (ends : Bool) (reliable : Bool) (es : List MachineEvent) (e : MachineEvent) (y : Owing X) → e.moment ≤ close_at p invite.moment 200 → e.action ≡ Failed
       → Fails ends f p e (quiet (held (Proceeding reliable invite.moment None))) y → Any (InTime (SendsResponse IsAnyCode)) (es ++ e ∷ [])
   fails true reliable es e y low was h = sends reliable es e h.0.0 low (inr was) h.0.1
   fails false reliable es e y low was h = sends reliable es e y low (inr was) h
 
+  -- a step within 200 ms leaves the server as it waits, or is a response or a restart in time
   steps : (a : Action) (reliable : Bool) (es : List MachineEvent) (e : MachineEvent) (y : Owing X) → e.moment ≤ close_at p invite.moment 200 → e.action ≡ a
       → Steps f p a e (quiet (held (Proceeding reliable invite.moment None))) y → Waits (es ++ e ∷ []) e.moment y
   steps Received reliable es e y low was (inl (row, is_row, to)) =
@@ -84,11 +87,12 @@ module _ {X : Type 0} (f : Figure X) (p : Times) (held : InviteServerPhase → X
   steps Mark reliable es e y low was h = absurd h
   steps Restart reliable es e y low was h = inr (inr (any-last (InTime IsRestart) es e (was, low)))
 
-  -- who has sent nothing yet can wait so long
+  -- while the server has sent nothing, it lasts no longer than 200 ms and as much as an element may be late
   in-time : (reliable : Bool) (x : Owing X) (m : ℕ) → x ≡ quiet (held (Proceeding reliable invite.moment None)) → Lasts f p x m → m ≤ close_at p invite.moment 200
   in-time reliable x m same lasts =
       All-head (λ last. m ≤ last) (close_at p invite.moment 200) [] (subst (All (λ last. m ≤ last)) (is.sends_by (Proceeding reliable invite.moment None)) (subst (λ z. Lasts f p z m) same lasts).1)
 
+  -- a run keeps that the server waits within its time, or that a response or a restart came in time
   waits-kept : IsKept f p Waits
   waits-kept = record { as_it_waits = as_it_waits; as_it_ends = as_it_ends; as_it_takes = as_it_takes }
     where
@@ -107,7 +111,7 @@ module _ {X : Type 0} (f : Figure X) (p : Times) (held : InviteServerPhase → X
       as_it_takes es e x y (inr (inr restarted)) take = inr (inr (any-earlier (InTime IsRestart) es (e ∷ []) restarted))
 
   module _ (asleep : IsAsleep f p IsInvite) where
-    -- the first INVITE opens the transaction
+    -- the first INVITE leads to proceeding, where nothing was sent yet
     opens : (x y : Owing X) → x ≡ quiet f.idle → GetsRequest Invite invite → Takes f p x invite y → y ≡ quiet (held (Proceeding invite.reliable invite.moment None))
     opens x y same gets take = by (step-of f p Received invite (quiet (held Idle)) y gets.0 (subst (λ z. Takes f p z invite y) (same ∙ ap quiet is.idle) take))
       where
@@ -125,7 +129,7 @@ module _ {X : Type 0} (f : Figure X) (p : Times) (held : InviteServerPhase → X
             to ∙ ap (λ s. record { phase = s.0; owes = changed p invite.moment s.1 [] }) (leads ∙ ap (λ s. (held s.0, s.1)) r_is)
         by (inr (none, stays)) = absurd (none (quiet (held (Proceeding invite.reliable invite.moment None))) ((held (Proceeding invite.reliable invite.moment None), keeps), opening, refl))
 
-    -- once 200 ms and late are over after an INVITE, a response was sent in time, or the element began anew in time
+    -- later than 200 ms and as much as an element may be late after the first INVITE, a response was sent in time, or the element started again in time
     pub answered-in-time : (before after : List MachineEvent) (m : ℕ) (y : Owing X) → All (λ g. ¬ (GetsRequest Invite g)) before → GetsRequest Invite invite →
         Stands f p (before ++ invite ∷ after) m y → close_at p invite.moment 200 < m → Any (InTime (SendsResponse IsAnyCode)) after ⊎ Any (InTime IsRestart) after
     answered-in-time before after m y none gets stands late = by-cut (cut f p (quiet f.idle) 0 before invite after m y (stands-run f p (before ++ invite ∷ after) m y stands))

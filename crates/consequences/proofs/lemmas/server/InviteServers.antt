@@ -1,4 +1,4 @@
--- Both INVITE servers. But for a 2xx they have the same rows, over phases that each has in its own way.
+-- Both INVITE servers: but for a 2xx they have the same rows, over phases that each holds in its own way.
 use Rattle.std.proofs.Common.{◌≡◌, ◌*◌, ◌⊎◌, inl, inr, ℕ, Bool, true, false, Option, Some, None, List, refl, sym, subst, min}
 use Rattle.sip_standard.specs.declared.kind.Method.TheVariants.{Invite, Ack}
 use Rattle.sip_standard.specs.declared.kind.Kind.{Kind}
@@ -11,16 +11,16 @@ use Rattle.sip_standard.specs.InviteServer.{InviteServerPhase, Idle, Proceeding,
 use Rattle.sip_standard.specs.InviteServer as corrected
 use Rattle.sip_standard.specs.InviteServer3261 as without
 
--- where a row leads: a phase, and what becomes of the debts
+-- what a row leads to: a phase, and what becomes of the debts
 abbrev pub Row : Type 0
 Row = InviteServerPhase × Change
 
--- what the rows of both servers are, where a phase of the one by RFC 6026 is held so
+-- what holds of the rows of both servers; `held` gives the phase of the server for a phase of RFC 6026
 pub record IsServer {X : Type 0} (f : Figure X) (p : Times) (held : InviteServerPhase → X) : Type 0 where
   pub idle : f.idle ≡ held Idle
   pub ended : f.ended ≡ held Idle
   pub received : (x : InviteServerPhase) (k : Kind) (e : MachineEvent) (y : X × Change) → f.Receives p (held x) k e y → (row : Row) × corrected.Receives p x k e row × (y ≡ (held row.0, row.1))
-  -- a row of a sent message is one of the corrected machine, or it is of a 2xx in proceeding
+  -- a row of a sent message is one of the machine by RFC 6026, or one of a 2xx in proceeding
   pub sent : (x : InviteServerPhase) (k : Kind) (e : MachineEvent) (y : X × Change) → f.Sends p (held x) k e y → ((row : Row) × corrected.Sends p x k e row × (y ≡ (held row.0, row.1)))
       ⊎ ((reliable : Bool) × (set : ℕ) × (last : Option (List ℕ)) × (x ≡ Proceeding reliable set last) × ((code : ℕ) × (k ≡ Response code) × IsSuccess code))
   pub paid : (x : InviteServerPhase) (k : Kind) (e : MachineEvent) (message : List ℕ) → f.Satisfies (held x) k e message → message ≡ e.text
@@ -34,7 +34,7 @@ paid-6026 : (x : InviteServerPhase) (k : Kind) (e : MachineEvent) (message : Lis
 paid-6026 x (Response code) e message h = h
 paid-6026 x (Request method) e message h = absurd h
 
--- the server by RFC 6026 is one
+-- what IsServer asks holds of the server by RFC 6026
 pub is-server-6026 : (p : Times) → IsServer corrected.invite_server p (λ x. x)
 is-server-6026 p = record {
   idle = refl;
@@ -49,10 +49,11 @@ is-server-6026 p = record {
   sends_by = λ x. refl;
 }
 
--- the phase without a 2xx before it
+-- the phase of the server by RFC 3261 that has sent no 2xx before
 abbrev pub first_in : InviteServerPhase → without.InviteServer3261Phase
 first_in x = without.In x false
 
+-- a row of a message that the server by RFC 3261 sends is one of RFC 6026, or one of a 2xx in proceeding
 sent-3261 : (p : Times) (x : InviteServerPhase) (k : Kind) (e : MachineEvent) (y : without.InviteServer3261Phase × Change) → without.Sends p (first_in x) k e y →
     ((row : Row) × corrected.Sends p x k e row × (y ≡ (first_in row.0, row.1)))
     ⊎ ((reliable : Bool) × (set : ℕ) × (last : Option (List ℕ)) × (x ≡ Proceeding reliable set last) × ((code : ℕ) × (k ≡ Response code) × IsSuccess code))
@@ -65,6 +66,7 @@ paid-3261 : (x : InviteServerPhase) (k : Kind) (e : MachineEvent) (message : Lis
 paid-3261 x (Response code) e message h = h.1
 paid-3261 x (Request method) e message h = absurd h
 
+-- the server by RFC 3261 sends no message without a row for it or a debt that it pays
 unmoved-3261 : (x : InviteServerPhase) (k : Kind) → ¬ (without.Stays (first_in x) k)
 unmoved-3261 x (Response code) h = never h.0
   where
@@ -72,7 +74,7 @@ unmoved-3261 x (Response code) h = never h.0
     never is = cc
 unmoved-3261 x (Request method) h = absurd h
 
--- the server by RFC 3261 alone is one, before a 2xx
+-- what IsServer asks holds of the server by RFC 3261, as long as it has sent no 2xx
 pub is-server-3261 : (p : Times) → IsServer without.invite_server_3261 p first_in
 is-server-3261 p = record {
   idle = refl;
@@ -87,9 +89,9 @@ is-server-3261 p = record {
   sends_by = λ x. refl;
 }
 
--- The rows, read.
+-- What follows are the rows, read as cases.
 
--- a received request: an INVITE comes to an idle server, or comes again, or an ACK comes
+-- the rows of a received request: an INVITE comes to an idle server, or comes again, or an ACK comes
 pub data ReceivedRow : InviteServerPhase → Kind → MachineEvent → Row → Type 0 where
   comes : (e : MachineEvent) → ReceivedRow Idle (Request Invite) e (Proceeding e.reliable e.moment None, keeps)
   again : (e : MachineEvent) (reliable : Bool) (set : ℕ) (last : List ℕ) (must : Bool) →
@@ -99,7 +101,7 @@ pub data ReceivedRow : InviteServerPhase → Kind → MachineEvent → Row → T
   acknowledged : (e : MachineEvent) (reliable : Bool) (final : List ℕ) (set repeat interval : ℕ) →
       ReceivedRow (Completed reliable final set repeat interval) (Request Ack) e (Confirmed reliable e.moment, keeps)
 
--- each row of a received request is one of these
+-- each row of a received message is one of these cases
 pub received-row : (p : Times) (x : InviteServerPhase) (k : Kind) (e : MachineEvent) (row : Row) → corrected.Receives p x k e row → ReceivedRow x k e row
 received-row p Idle (Request Invite) e row h = subst (ReceivedRow Idle (Request Invite) e) (sym h) (comes e)
 received-row p (Proceeding reliable set (Some last)) (Request Invite) e row (inl h) =
@@ -113,7 +115,7 @@ received-row p (Completed reliable final set repeat interval) (Request Ack) e ro
     subst (ReceivedRow (Completed reliable final set repeat interval) (Request Ack) e) (sym h) (acknowledged e reliable final set repeat interval)
 received-row p x k e row h = absurd h
 
--- a sent response: of proceeding, a 2xx again, or the final response again
+-- the rows of a sent response: one of proceeding, a 2xx again, or the final response again
 pub data SentRow (p : Times) : InviteServerPhase → Kind → MachineEvent → Row → Type 0 where
   provisional : (e : MachineEvent) (reliable : Bool) (set : ℕ) (last : Option (List ℕ)) (code : ℕ) → IsProvisional code →
       SentRow p (Proceeding reliable set last) (Response code) e (Proceeding reliable set (Some e.text), keeps)
@@ -125,7 +127,7 @@ pub data SentRow (p : Times) : InviteServerPhase → Kind → MachineEvent → R
   repeats : (e : MachineEvent) (reliable : Bool) (final : List ℕ) (set repeat interval : ℕ) (k : Kind) → e.text ≡ final →
       SentRow p (Completed reliable final set repeat interval) k e (Completed reliable final set e.moment (min (2 * interval) p.t2), keeps)
 
--- each row of a response that is sent is one of these
+-- each row of a sent message is one of these cases
 pub sent-row : (p : Times) (x : InviteServerPhase) (k : Kind) (e : MachineEvent) (row : Row) → corrected.Sends p x k e row → SentRow p x k e row
 sent-row p (Proceeding reliable set last) (Response code) e row (inl h) =
     subst (SentRow p (Proceeding reliable set last) (Response code) e) (sym h.1) (provisional e reliable set last code h.0)

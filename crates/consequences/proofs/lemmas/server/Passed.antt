@@ -1,4 +1,4 @@
--- An INVITE server by RFC 3261 alone, after a 2xx: it sends 2xx until an INVITE comes.
+-- An INVITE server by RFC 3261 alone after a 2xx: it sends nothing but 2xx until an INVITE comes.
 use Rattle.std.proofs.Common.{◌≡◌, ◌⊎◌, inl, inr, ℕ, Bool, true, false, List, [], ◌∷◌, ◌++◌, All, refl, sym, subst, ◌∙◌, arith}
 use Rattle.sip_standard.specs.declared.action.Action.{Action}
 use Rattle.sip_standard.specs.declared.action.Action.TheVariants.{Sent, Received, Failed, Mark, Restart}
@@ -16,14 +16,18 @@ use Rattle.sip_standard.specs.Stands.{StandsAfter}
 use Rattle.consequences.specs.Events.{GetsRequest, IsResponse, SendsResponse}
 use Rattle.consequences.proofs.lemmas.server.Asleep.{IsInvite, nothing-to-pay, without-asleep, asleep-emits, asleep-steps}
 use Rattle.consequences.proofs.lemmas.server.InviteServers.{first_in, is-server-3261}
-use Rattle.consequences.proofs.lemmas.run.Lists.{All-front, All-last}
+use Rattle.sip_machine.specs.inner.DebtLaws.{All-front}
+use Rattle.consequences.proofs.lemmas.run.Lists.{All-last}
 use Rattle.consequences.proofs.lemmas.run.Running.{IsKept, left_at, step-of, stands-run, Cut, cut, run-keeps}
 use Rattle.consequences.proofs.lemmas.server.FinalResponse.{HoldsIn, Opens, BeforeFinal, before-final-kept, opens-left, final-paid}
+use Rattle.consequences.proofs.lemmas.server.Said.{codes-are-one}
 
 abbrev f : Figure InviteServer3261Phase
 f = invite_server_3261
 
+-- What follows is of the phase `Passed`, after a 2xx.
 module _ (p : Times) where
+  -- what is sent after a 2xx is a 2xx, and changes nothing
   passed-emits : (e : MachineEvent) (y : Owing InviteServer3261Phase) → Emits f p e (quiet Passed) y → IsResponse IsSuccess e × (y ≡ quiet Passed)
   passed-emits e y (inl (row, is_row, to)) = by e.kind refl is_row
     where
@@ -41,10 +45,11 @@ module _ (p : Times) where
   passed-received (Request Invite) e row h = refl
   passed-received k e row h = absurd h
 
-  -- the user sends its 2xx again, or the element started again
+  -- the server has passed a 2xx, so that the user sends it again, or it is idle since the element started again
   abbrev Sits : Owing InviteServer3261Phase → Type 0
   Sits y = (y ≡ quiet Passed) ⊎ (y ≡ quiet (In Idle false))
 
+  -- a step after a 2xx, unless an INVITE comes, keeps the server there, or is a restart
   passed-steps : (a : Action) (e : MachineEvent) (y : Owing InviteServer3261Phase) → e.action ≡ a → ¬ (GetsRequest Invite e) → Steps f p a e (quiet Passed) y → Sits y
   passed-steps Received e y was never (inl (row, is_row, to)) = absurd (never (was, passed-received e.kind e row is_row))
   passed-steps Received e y was never (inr (none, same)) = inl same
@@ -57,6 +62,7 @@ module _ (p : Times) where
   abbrev Stays-so : List MachineEvent → ℕ → Owing InviteServer3261Phase → Type 0
   Stays-so es m y = All (λ g. ¬ (GetsRequest Invite g)) es → Sits y
 
+  -- a run without an INVITE keeps the server after its 2xx, or idle after a restart
   stays-so-kept : IsKept f p Stays-so
   stays-so-kept = record { as_it_waits = λ es h m x holds low lasts. holds; as_it_ends = λ es h x holds may all. inr refl; as_it_takes = as_it_takes }
     where
@@ -74,21 +80,21 @@ module _ (p : Times) where
           by (inl passed) = passed-steps e.action e y refl never (subst (λ z. Takes f p z e y) passed take)
           by (inr idle) = by-sleep (asleep-steps f p IsInvite (without-asleep p) e.action e y refl (subst (λ z. Takes f p z e y) idle take))
 
+  -- What follows is of the first final response of the server, which is a 2xx.
   module _ (before : List MachineEvent) (final : MachineEvent) (sends : SendsResponse IsSuccess final) (one_kind : All (λ g. g.text ≡ final.text → g.kind ≡ final.kind) before) where
     is_final : SendsResponse IsFinal final
     is_final = (sends.0, (sends.1.0, sends.1.1, (sends.1.2.0, omega (arith, sends.1.2.1))))
 
+    -- the row of the 2xx leads to `Passed`, and drops the debts
     success-row : (x : InviteServerPhase) (k : Kind) (row : InviteServer3261Phase × Change) (owes : List Owed) → Opens f p first_in (is-server-3261 p) before final.moment x owes → IsResponse IsSuccess final → final.kind ≡ k
         → Sends p (first_in x) k final row → row ≡ (Passed, drops)
     success-row (Proceeding reliable set last) (Response code) row owes opens (other, kind, success) here (inl h) = h.1
     success-row (Proceeding reliable set last) (Response code) row owes opens (other, kind, success) here (inr h) = absurd (h.0 (subst IsSuccess (codes-are-one other code (sym kind ∙ here)) success))
-      where
-        codes-are-one : (a b : ℕ) → Response a ≡ Response b → a ≡ b
-        codes-are-one a b same = cc
     success-row (Proceeding reliable set last) (Request method) row owes opens success here h = absurd h
     success-row Idle k row owes opens success here h = absurd h
     success-row x k row owes opens success here h = absurd opens
 
+    -- the 2xx that is sent leads to `Passed`
     final-emits : (x : InviteServerPhase) (owes : List Owed) (y : Owing InviteServer3261Phase) → Opens f p first_in (is-server-3261 p) before final.moment x owes
         → Emits f p final (record { phase = first_in x; owes = owes }) y → Sits y
     final-emits x owes y opens (inl (row, is_row, to)) = inl (rw (to, success-row x final.kind row owes opens sends.1 refl is_row) refl)
@@ -96,6 +102,7 @@ module _ (p : Times) where
         absurd (final-paid f p first_in (is-server-3261 p) before final is_final one_kind _ x owes left opens pays ((is-server-3261 p).paid x final.kind final pays.first.message pays.holds.0))
     final-emits x owes y opens (inr (inr (stays, same))) = absurd ((is-server-3261 p).unmoved x final.kind stays)
 
+    -- the 2xx, sent or refused, leads to `Passed`
     final-steps : (x y : Owing InviteServer3261Phase) → HoldsIn f p first_in (is-server-3261 p) (Opens f p first_in (is-server-3261 p) before final.moment) x → Takes f p x final y → Sits y
     final-steps x y (phase, owes, same, opens) take = by sends.0
       where
@@ -107,7 +114,7 @@ module _ (p : Times) where
             final-emits phase (left_at final (record { phase = first_in phase; owes = owes })) y (opens-left f p first_in (is-server-3261 p) before final final.moment phase (record { phase = first_in phase; owes = owes }) opens)
             (step-of f p Failed final (record { phase = first_in phase; owes = owes }) y refused (subst (λ w. Takes f p w final y) same take))
 
-    -- after its first final response, a 2xx, and until an INVITE comes again, a server sends 2xx alone
+    -- after its first final response, a 2xx, and until an INVITE comes again, the server sends only 2xx
     pub successes-alone : (after : List MachineEvent) (e : MachineEvent) (y : Owing InviteServer3261Phase) → All (λ g. ¬ (SendsResponse IsFinal g)) before → All (λ g. ¬ (GetsRequest Invite g)) after
         → e.action ≡ Sent → StandsAfter f p (before ++ final ∷ after) e y → IsResponse IsSuccess e
     successes-alone after e y first none sent (x, stands, take) =

@@ -1,7 +1,8 @@
--- The non-INVITE server: what comes again after its final response is answered by it.
+-- The non-INVITE server answers a request that comes again after its final response by that response.
 use Rattle.std.proofs.Common.{◌≡◌, ◌≤◌, ◌<◌, ◌*◌, ◌⊎◌, inl, inr, ℕ, Bool, true, false, List, [], ◌∷◌, ◌++◌, All, Contains, refl, sym, subst, arith}
 use Rattle.std.specs.List.{Any}
 use Rattle.std.proofs.lemmas.List.Elements.{All-nil, All-filter, All-push, All-weaker, Contains-push}
+use Rattle.std.proofs.lemmas.List.{append-nil}
 use Rattle.sip_standard.specs.declared.action.Action.{Action}
 use Rattle.sip_standard.specs.declared.action.Action.TheVariants.{Sent, Received, Failed, Mark, Restart}
 use Rattle.sip_standard.specs.declared.kind.Method.{Method}
@@ -18,10 +19,11 @@ use Rattle.sip_standard.specs.PlainServer.{PlainServerPhase, Idle, Trying, Proce
 use Rattle.sip_standard.specs.Stands.{Stands}
 use Rattle.consequences.specs.Events.{GetsAnyRequest, SendsResponse, SendsBytes, IsRestart}
 use Rattle.consequences.proofs.lemmas.server.Asleep.{nothing-to-pay}
-use Rattle.consequences.proofs.lemmas.run.Lists.{any-last, any-earlier, any-none, All-front, All-last}
-use Rattle.consequences.proofs.lemmas.server.Said.{IsOut, IsSaid, all-without, all-first, said-later, not-provisional, not-said}
+use Rattle.sip_machine.specs.inner.DebtLaws.{All-front, All-without}
+use Rattle.consequences.proofs.lemmas.run.Lists.{any-last, any-earlier, any-none, All-last}
+use Rattle.consequences.proofs.lemmas.server.Said.{IsOut, IsSaid, all-first, said-later, not-provisional, not-said}
 use Rattle.consequences.proofs.lemmas.run.MustSend.{still-owed, other-paid, more-owed, no-end, in-time}
-use Rattle.consequences.proofs.lemmas.run.Running.{IsKept, left_at, step-of, stands-run, Cut, cut, run-keeps, append-none}
+use Rattle.consequences.proofs.lemmas.run.Running.{IsKept, left_at, step-of, stands-run, Cut, cut, run-keeps}
 
 abbrev Row : Type 0
 Row = PlainServerPhase × Change
@@ -32,8 +34,9 @@ f = plain_server
 true-false : ¬ (true ≡ false)
 true-false same = cc
 
+-- What follows is of a non-INVITE server whose requests came over an unreliable transport.
 module _ (p : Times) where
-  -- Before the final response.
+  -- What follows is of the time before the final response.
 
   abbrev AreSaid : List MachineEvent → List Owed → Type 0
   AreSaid es owes = All (λ o. IsSaid es o.message) owes
@@ -41,19 +44,21 @@ module _ (p : Times) where
   are-said-later : (es more : List MachineEvent) (owes : List Owed) → AreSaid es owes → AreSaid (es ++ more) owes
   are-said-later es more owes all = All-weaker (λ o. IsSaid es o.message) (λ o. IsSaid (es ++ more) o.message) (λ o said. said-later es more o.message said) owes all
 
-  -- over an unreliable transport, what is owed was sent as a provisional response
+  -- over an unreliable transport: idle owes nothing, and elsewhere the last response and what is owed were sent as provisional ones
   abbrev Opens : List MachineEvent → PlainServerPhase → List Owed → Type 0
   Opens es Idle owes = owes ≡ []
   Opens es (Trying reliable) owes = (reliable ≡ false) × AreSaid es owes
   Opens es (Proceeding reliable last) owes = (reliable ≡ false) × IsSaid es last × AreSaid es owes
   Opens es x owes = ⊥
 
+  -- Opens stays true after more events
   opens-later : (es more : List MachineEvent) (x : PlainServerPhase) (owes : List Owed) → Opens es x owes → Opens (es ++ more) x owes
   opens-later es more Idle owes opens = opens
   opens-later es more (Trying reliable) owes opens = (opens.0, are-said-later es more owes opens.1)
   opens-later es more (Proceeding reliable last) owes opens = (opens.0, said-later es more last opens.1, are-said-later es more owes opens.2)
   opens-later es more x owes opens = absurd opens
 
+  -- Opens stays true where less is owed
   opens-fewer : (es : List MachineEvent) (x : PlainServerPhase) (owes left : List Owed) → (owes ≡ [] → left ≡ []) → (AreSaid es owes → AreSaid es left) → Opens es x owes → Opens es x left
   opens-fewer es Idle owes left none said opens = none opens
   opens-fewer es (Trying reliable) owes left none said opens = (opens.0, said opens.1)
@@ -63,7 +68,7 @@ module _ (p : Times) where
   opens-left : (es : List MachineEvent) (e : MachineEvent) (x : Owing PlainServerPhase) → Opens es x.phase x.owes → Opens es x.phase (left_at e x)
   opens-left es e x opens = opens-fewer es x.phase x.owes (left_at e x) (λ none. rw none refl) (λ said. All-filter _ (λ o. IsSaid es o.message) x.owes said) opens
 
-  -- a state is so
+  -- K holds of the phase and the debts of the state
   abbrev Is : (PlainServerPhase → List Owed → Type 0) → Owing PlainServerPhase → Type 0
   Is K y = K y.phase y.owes
 
@@ -71,6 +76,7 @@ module _ (p : Times) where
     abbrev Now : List MachineEvent
     Now = es ++ e ∷ []
 
+    -- the row of a message that is received over an unreliable transport keeps Opens
     opens-received : (x : PlainServerPhase) (k : Kind) (row : Row) (owes : List Owed) → e.reliable ≡ false → Opens es x owes → Receives p x k e row → Opens Now row.0 (changed p e.moment row.1 owes)
     opens-received Idle (Request method) row owes unreliable opens h = rw h (unreliable, rw opens (All-nil (λ o. IsSaid Now o.message)))
     opens-received (Proceeding reliable last) (Request method) row owes unreliable opens h = by h
@@ -87,6 +93,7 @@ module _ (p : Times) where
     opens-received (Completed reliable final set) (Request method) row owes unreliable opens h = absurd opens
     opens-received x k row owes unreliable opens h = absurd h
 
+    -- the row of a message that is no final response keeps Opens
     opens-sent : (x : PlainServerPhase) (k : Kind) (row : Row) (owes : List Owed) → IsOut e → e.kind ≡ k → ¬ (SendsResponse IsFinal e) → Opens es x owes → Sends p x k e row → Opens Now row.0 (changed p e.moment row.1 owes)
     opens-sent (Trying reliable) (Response code) row owes out kind never opens (inl h) =
         rw h.1 (opens.0, any-last (λ g. SendsResponse IsProvisional g × (g.text ≡ e.text)) es e ((out, (code, kind, h.0)), refl), are-said-later es (e ∷ []) owes opens.1)
@@ -99,14 +106,16 @@ module _ (p : Times) where
     opens-without : (P : Owed → Type 0) (x : PlainServerPhase) (owes left : List Owed) → IsWithoutFirst P owes left → Opens es x owes → Opens Now x left
     opens-without P x owes left pays opens =
         opens-later es (e ∷ []) x left
-        (opens-fewer es x owes left (λ none. absurd (nothing-to-pay P left (subst (λ os. IsWithoutFirst P os left) none pays))) (λ said. all-without P (λ o. IsSaid es o.message) owes left pays said) opens)
+        (opens-fewer es x owes left (λ none. absurd (nothing-to-pay P left (subst (λ os. IsWithoutFirst P os left) none pays))) (λ said. All-without P (λ o. IsSaid es o.message) owes left pays said) opens)
 
+    -- a message that is sent and is no final response keeps Opens
     opens-emits : (x : PlainServerPhase) (owes : List Owed) (y : Owing PlainServerPhase) → IsOut e → ¬ (SendsResponse IsFinal e) → Opens es x owes → Emits f p e (record { phase = x; owes = owes }) y → Is (Opens Now) y
     opens-emits x owes y out never opens (inl (row, is_row, to)) = rw to (opens-sent x e.kind row owes out refl never opens is_row)
     opens-emits x owes y out never opens (inr (inl (left, pays, to))) =
         rw to (opens-without _ x owes left pays opens)
     opens-emits x owes y out never opens (inr (inr (stays, same))) = absurd stays
 
+    -- a step without a final response, over an unreliable transport, keeps Opens
     opens-steps : (a : Action) (x : PlainServerPhase) (owes : List Owed) (y : Owing PlainServerPhase) → e.action ≡ a → e.reliable ≡ false → ¬ (SendsResponse IsFinal e) → Opens es x owes
         → Steps f p a e (record { phase = x; owes = owes }) y → Is (Opens Now) y
     opens-steps Received x owes y was unreliable never opens (inl (row, is_row, to)) = rw to (opens-received x e.kind row owes unreliable opens is_row)
@@ -123,6 +132,7 @@ module _ (p : Times) where
   abbrev BeforeFinal : List MachineEvent → ℕ → Owing PlainServerPhase → Type 0
   BeforeFinal es m y = All IsBefore es → Opens es y.phase y.owes
 
+  -- a run without a final response, over an unreliable transport, keeps Opens
   before-final-kept : IsKept f p BeforeFinal
   before-final-kept = record { as_it_waits = λ es h m x holds low lasts. holds; as_it_ends = λ es h x holds may all. refl; as_it_takes = as_it_takes }
     where
@@ -131,10 +141,11 @@ module _ (p : Times) where
           let last = All-last IsBefore es e all in
           opens-steps es e e.action x.phase (left_at e x) y refl last.0 last.1 (opens-left es e x (holds (All-front IsBefore es (e ∷ []) all))) take
 
-  -- After it.
+  -- What follows is of the time after the final response.
 
+  -- What follows is of a final response, whose bytes no message of another kind had before.
   module _ (before : List MachineEvent) (final : MachineEvent) (is_final : SendsResponse IsFinal final) (one_kind : All (λ g. g.text ≡ final.text → g.kind ≡ final.kind) before) where
-    -- completed by that response, over an unreliable transport, or timer J may have fired, or the element started again
+    -- the phase is completed by that response, over an unreliable transport
     abbrev IsCompleted : PlainServerPhase → Type 0
     IsCompleted (Completed reliable message set) = (reliable ≡ false) × (message ≡ final.text) × (set ≡ final.moment)
     IsCompleted x = ⊥
@@ -142,6 +153,7 @@ module _ (p : Times) where
     abbrev Past : List MachineEvent → ℕ → Type 0
     Past es m = (open_at p final.moment (64 * p.t1) ≤ m) ⊎ Any IsRestart es
 
+    -- the row of the final response leads to completed, by that response
     final-sent : (x : PlainServerPhase) (k : Kind) (row : Row) (owes : List Owed) → final.kind ≡ k → Opens before x owes → Sends p x k final row → IsCompleted row.0
     final-sent (Trying reliable) (Response code) row owes kind opens (inl h) = absurd (not-provisional before final is_final one_kind code kind h.0)
     final-sent (Trying reliable) (Response code) row owes kind opens (inr h) = rw h.1 (opens.0, refl, refl)
@@ -149,6 +161,7 @@ module _ (p : Times) where
     final-sent (Proceeding reliable last) (Response code) row owes kind opens (inr h) = rw h.1 (opens.0, refl, refl)
     final-sent x k row owes kind opens h = absurd h
 
+    -- the final response pays no debt of a server that waits or proceeds
     final-paid : (P : Owed → Type 0) (x : PlainServerPhase) (owes left : List Owed) → Opens before x owes → (pays : IsWithoutFirst P owes left) → ¬ (pays.first.message ≡ final.text)
     final-paid P Idle owes left opens pays same = nothing-to-pay P left (subst (λ os. IsWithoutFirst P os left) opens pays)
     final-paid P (Trying reliable) owes left opens pays same = not-said before final is_final one_kind (subst (IsSaid before) same (all-first P (λ o. IsSaid before o.message) owes left pays opens.1))
@@ -160,6 +173,7 @@ module _ (p : Times) where
     final-emits x owes y opens (inr (inl (left, pays, to))) = absurd (final-paid _ x owes left opens pays pays.holds.0)
     final-emits x owes y opens (inr (inr (stays, same))) = absurd stays
 
+    -- the final response, sent or refused, leads to completed, by that response
     final-steps : (x y : Owing PlainServerPhase) → Opens before x.phase x.owes → Takes f p x final y → IsCompleted y.phase
     final-steps x y opens take = by is_final.0
       where
@@ -167,18 +181,20 @@ module _ (p : Times) where
         by (inl sent) = final-emits x.phase (left_at final x) y (opens-left before final x opens) (step-of f p Sent final x y sent take)
         by (inr refused) = final-emits x.phase (left_at final x) y (opens-left before final x opens) (step-of f p Failed final x y refused take)
 
-    -- it stays so
+    -- the row of a received message leaves the server completed by the final response
     completed-received : (x : PlainServerPhase) (k : Kind) (e : MachineEvent) (row : Row) → IsCompleted x → Receives p x k e row → IsCompleted row.0
     completed-received (Completed reliable message set) (Request method) e row done h = rw h done
     completed-received (Completed reliable message set) (Response code) e row done h = absurd h
     completed-received x k e row done h = absurd done
 
+    -- a message that is sent leaves the server completed by the final response
     completed-emits : (x : PlainServerPhase) (owes : List Owed) (e : MachineEvent) (y : Owing PlainServerPhase) → IsCompleted x → Emits f p e (record { phase = x; owes = owes }) y → IsCompleted y.phase
     completed-emits (Completed reliable message set) owes e y done (inl (row, is_row, to)) = absurd is_row
     completed-emits x owes e y done (inl row) = absurd done
     completed-emits x owes e y done (inr (inl (left, pays, to))) = rw to done
     completed-emits x owes e y done (inr (inr (stays, same))) = absurd stays
 
+    -- a step leaves the server completed by the final response, unless the element starts again
     completed-steps : (a : Action) (es : List MachineEvent) (x : PlainServerPhase) (owes : List Owed) (e : MachineEvent) (y : Owing PlainServerPhase) → e.action ≡ a → IsCompleted x → Steps f p a e (record { phase = x; owes = owes }) y
         → IsCompleted y.phase ⊎ Past (es ++ e ∷ []) e.moment
     completed-steps Received es x owes e y was done (inl (row, is_row, to)) = inl (rw to (completed-received x e.kind e row done is_row))
@@ -197,12 +213,13 @@ module _ (p : Times) where
     completed-ends (Completed false message set) owes h done may = subst (λ m. open_at p m (64 * p.t1) ≤ h) done.2 may.0
     completed-ends x owes h done may = absurd done
 
+    -- a run keeps the server completed by the final response, or the transaction may be over
     completed-kept : IsKept f p (λ es m y. IsCompleted y.phase ⊎ Past es m)
     completed-kept = record { as_it_waits = as_it_waits; as_it_ends = as_it_ends; as_it_takes = as_it_takes }
       where
         as_it_waits : (es : List MachineEvent) (h m : ℕ) (x : Owing PlainServerPhase) → IsCompleted x.phase ⊎ Past es h → h ≤ m → Lasts f p x m → IsCompleted x.phase ⊎ Past es m
         as_it_waits es h m x (inl done) low lasts = inl done
-        as_it_waits es h m x (inr past) low lasts = inr (subst (λ fs. Past fs m) (append-none es) (past-later es [] h m low past))
+        as_it_waits es h m x (inr past) low lasts = inr (subst (λ fs. Past fs m) (append-nil es) (past-later es [] h m low past))
 
         as_it_ends : (es : List MachineEvent) (h : ℕ) (x : Owing PlainServerPhase) → IsCompleted x.phase ⊎ Past es h → MayEnd f p x h → IsCompleted Idle ⊎ Past es h
         as_it_ends es h x (inl done) may = inr (inl (completed-ends x.phase x.owes h done may))
@@ -212,7 +229,7 @@ module _ (p : Times) where
         as_it_takes es e x y (inl done) take = completed-steps e.action es x.phase (left_at e x) e y refl done take
         as_it_takes es e x y (inr past) take = inr (past-later es (e ∷ []) e.moment e.moment (omega arith) past)
 
-    -- The request that comes again is owed that response.
+    -- What follows is of a request that comes again: the final response is owed to it.
 
     module _ (again : MachineEvent) where
       abbrev debt : Owed
@@ -221,6 +238,7 @@ module _ (p : Times) where
       abbrev IsPaid : MachineEvent → Type 0
       IsPaid g = SendsBytes final.text g × (g.moment ≤ close_at p again.moment 0)
 
+      -- the row of a request that comes again leaves the server completed, and owes the final response
       again-received : (x : PlainServerPhase) (owes : List Owed) (k : Kind) (row : Row) → (method : Method) × (k ≡ Request method) → IsCompleted x → Receives p x k again row
           → IsCompleted row.0 × Contains (changed p again.moment row.1 owes) debt
       again-received (Completed reliable message set) owes (Request method) row asks done h =
@@ -232,7 +250,7 @@ module _ (p : Times) where
       again-received (Completed reliable message set) owes (Response code) row asks done h = absurd h
       again-received x owes k row asks done h = absurd done
 
-      -- there is a row for it
+      -- a completed server has a row for a request
       again-opens : (x : PlainServerPhase) (k : Kind) → (method : Method) × (k ≡ Request method) → IsCompleted x → (row : Row) × Receives p x k again row
       again-opens (Completed reliable message set) (Request method) asks done = ((Completed reliable message set, gains true message), refl)
       again-opens (Completed reliable message set) (Response code) (method, kind) done = absurd (no-request kind)
@@ -241,13 +259,14 @@ module _ (p : Times) where
           no-request same = cc
       again-opens x k asks done = absurd done
 
+      -- the step of a request that comes again leaves the server completed, and it owes the final response
       again-steps : (x : PlainServerPhase) (owes : List Owed) (y : Owing PlainServerPhase) → (method : Method) × (again.kind ≡ Request method) → IsCompleted x
           → Steps f p Received again (record { phase = x; owes = owes }) y → IsCompleted y.phase × Contains y.owes debt
       again-steps x owes y asks done (inl (row, is_row, to)) = rw to (again-received x owes again.kind row asks done is_row)
       again-steps x owes y asks done (inr (none, same)) =
           let (row, is_row) = again-opens x again.kind asks done in absurd (none (record { phase = row.0; owes = changed p again.moment row.1 owes }) (row, is_row, refl))
 
-      -- until it is sent, it is owed
+      -- the server is completed and owes the final response, or it was sent in time, or the element started again
       abbrev Owes : List MachineEvent → ℕ → Owing PlainServerPhase → Type 0
       Owes es m y = (IsCompleted y.phase × Contains y.owes debt) ⊎ Any IsPaid es ⊎ Any IsRestart es
 
@@ -256,6 +275,7 @@ module _ (p : Times) where
       owes-received (Completed reliable message set) owes (Response code) e row done owed h = absurd h
       owes-received x owes k e row done owed h = absurd done
 
+      -- what is sent keeps that the final response is owed, or sends it in time
       owes-emits : (es : List MachineEvent) (x : PlainServerPhase) (owes : List Owed) (e : MachineEvent) (y : Owing PlainServerPhase) → IsOut e → IsCompleted x → Contains owes debt
           → Emits f p e (record { phase = x; owes = owes }) y → Owes (es ++ e ∷ []) e.moment y
       owes-emits es (Completed reliable message set) owes e y out done owed (inl (row, is_row, to)) = absurd is_row
@@ -267,6 +287,7 @@ module _ (p : Times) where
           by (inr paid) = inr (inl (any-last IsPaid es e ((out, sym paid.0), paid.1)))
       owes-emits es x owes e y out done owed (inr (inr (stays, same))) = absurd stays
 
+      -- a step keeps that the final response is owed, or sends it in time, or is a restart
       owes-steps : (a : Action) (es : List MachineEvent) (x : PlainServerPhase) (owes : List Owed) (e : MachineEvent) (y : Owing PlainServerPhase) → e.action ≡ a → IsCompleted x → Contains owes debt
           → Steps f p a e (record { phase = x; owes = owes }) y → Owes (es ++ e ∷ []) e.moment y
       owes-steps Received es x owes e y was done owed (inl (row, is_row, to)) = inl (rw to (completed-received x e.kind e row done is_row, owes-received x owes e.kind e row done owed is_row))
@@ -276,6 +297,7 @@ module _ (p : Times) where
       owes-steps Mark es x owes e y was done owed h = absurd h
       owes-steps Restart es x owes e y was done owed h = inr (inr (any-last IsRestart es e was))
 
+      -- a run keeps that the final response is owed, or that it was sent in time, or that the element started again
       owes-kept : IsKept f p Owes
       owes-kept = record { as_it_waits = λ es h m x holds low lasts. holds; as_it_ends = as_it_ends; as_it_takes = as_it_takes }
         where
@@ -288,6 +310,8 @@ module _ (p : Times) where
           as_it_takes es e x y (inr (inl paid)) take = inr (inl (any-earlier IsPaid es (e ∷ []) paid))
           as_it_takes es e x y (inr (inr restarted)) take = inr (inr (any-earlier IsRestart es (e ∷ []) restarted))
 
+      -- a request that comes again before timer J may fire is answered with the final response, by the end of a run that goes on longer
+      -- than an element may be late
       pub answered-again : (lasts : (events : List MachineEvent) (m : ℕ) (x : Owing PlainServerPhase) → Stands f p events m x → Lasts f p x m) (between after : List MachineEvent) (m : ℕ) (y : Owing PlainServerPhase) →
           All (λ g. g.reliable ≡ false) before → All (λ g. ¬ (SendsResponse IsFinal g)) before → All (λ g. ¬ (IsRestart g)) between → GetsAnyRequest again → again.moment < open_at p final.moment (64 * p.t1) →
           Stands f p (before ++ final ∷ (between ++ again ∷ after)) m y → close_at p again.moment 0 < m → Any IsPaid after ⊎ Any IsRestart after

@@ -1,4 +1,4 @@
--- A run of each of the six machines is one by a wider tolerance.
+-- A run of each of the six machines has one with a wider tolerance.
 use Rattle.std.proofs.Common.{◌≡◌, ◌≤◌, ℕ, List}
 use Rattle.sip_standard.specs.Figure.{Owing}
 use Rattle.sip_standard.specs.MachineEvent.{MachineEvent}
@@ -12,17 +12,18 @@ use Rattle.sip_standard.specs.PlainServer.{plain_server}
 use Rattle.sip_standard.specs.KeyMachine.{MachineKind, OfInviteClient, OfPlainClient, OfInviteServer, OfPlainServer, OfInviteClient3261, OfInviteServer3261, transaction_of}
 use Rattle.sip_standard.specs.Stands.{Stands}
 use Rattle.consequences.specs.Tolerance.{tolerant, AreOneKind}
-use Rattle.consequences.proofs.lemmas.run.Lasting.{what_stands_lasts}
+use Rattle.sip_states.proofs.runs.StandsLemmas.{what_stands_lasts}
 use Rattle.consequences.proofs.lemmas.tolerance.Sorted.{MayIn, MayIn3261, client-sorted, client-3261-sorted, plain-client-sorted, server-sorted, server-3261-sorted}
 use Rattle.consequences.proofs.lemmas.tolerance.SortedPlainServer.{May, plain-server-sorted}
 use Rattle.consequences.proofs.lemmas.tolerance.Steady.{client-steady, client-3261-steady, plain-client-steady, server-steady, server-3261-steady, plain-server-steady}
 use Rattle.consequences.proofs.lemmas.tolerance.Wider.{wider-keeps}
 
+-- What follows is of a tolerance that is at least as early and as late.
 module _ (p : Times) (early late : ℕ) where
   abbrev q : Times
   q = tolerant early late p
 
-  -- each machine by a wider tolerance
+  -- where a run of a machine stands, one by the wider tolerance stands in the same phase
   pub all-wider : (machine : MachineKind) (events : List MachineEvent) (m : ℕ) (x : Owing (transaction_of machine).Phase) → p.early ≤ early → p.late ≤ late → AreOneKind events →
       Stands (transaction_of machine).figure p events m x → (y : Owing (transaction_of machine).Phase) × Stands (transaction_of machine).figure q events m y × (y.phase ≡ x.phase)
   all-wider OfInviteClient events m x earlier later one stands =

@@ -1,4 +1,4 @@
--- What may be sent and what has to be sent are not paid by one send.
+-- What may be sent and what must be sent are not paid by one send, for five of the six machines.
 use Rattle.std.proofs.Common.{◌≡◌, ◌≤◌, inl, inr, ℕ, Bool, true, false, Some, None, List, [], ◌∷◌, All, filter, refl, sym, subst, ◌∙◌, Decides, bytes_eq}
 use Rattle.std.proofs.Math.Decide.{dec_le}
 use Rattle.std.proofs.lemmas.Slice.Eq.{bytes_eq-Decides}
@@ -19,12 +19,12 @@ use Rattle.sip_standard.specs.InviteClient3261 as client_3261
 use Rattle.sip_standard.specs.PlainClient as plain
 use Rattle.sip_standard.specs.InviteServer as server
 use Rattle.sip_standard.specs.InviteServer3261 as server_3261
+use Rattle.sip_machine.specs.inner.DebtLaws.{All-without}
 use Rattle.consequences.proofs.lemmas.server.Asleep.{nothing-to-pay}
-use Rattle.consequences.proofs.lemmas.server.Said.{all-without}
 use Rattle.consequences.proofs.lemmas.run.Running.{IsKept, left_at, stands-run, run-keeps}
 use Rattle.consequences.proofs.lemmas.tolerance.Wider.{IsSorted}
 
--- two texts are the same or are not
+-- two texts are the same, or they are not
 pub same-bytes : (a b : List ℕ) → Dec (a ≡ b)
 same-bytes a b = by (bytes_eq a b) (bytes_eq-Decides a b)
   where
@@ -35,9 +35,9 @@ same-bytes a b = by (bytes_eq a b) (bytes_eq-Decides a b)
     by true is = yes (is.0 refl)
     by false is = no (λ same. false-true (is.1 same))
 
--- Clients: all that they owe has to be sent.
+-- What follows is of clients: all that they owe must be sent.
 
--- a change that makes nothing owed that may be sent
+-- the change makes nothing owed that only may be sent
 abbrev pub IsFirm : Change → Type 0
 IsFirm keeps = Unit {0}
 IsFirm softens = ⊥
@@ -45,7 +45,7 @@ IsFirm drops = Unit {0}
 IsFirm (gains true message) = Unit {0}
 IsFirm (gains false message) = ⊥
 
--- no row of the figure makes owed what only may be sent
+-- no row of the figure makes anything owed that only may be sent
 pub record AreFirm {X : Type 0} (f : Figure X) (p : Times) : Type 0 where
   pub received : (x : X) (k : Kind) (e : MachineEvent) (row : X × Change) → f.Receives p x k e row → IsFirm row.1
   pub sent : (x : X) (k : Kind) (e : MachineEvent) (row : X × Change) → f.Sends p x k e row → IsFirm row.1
@@ -54,6 +54,7 @@ module _ {X : Type 0} (f : Figure X) (p : Times) (firm : AreFirm f p) where
   abbrev AllMust : List Owed → Type 0
   AllMust owes = All (λ o. o.must ≡ true) owes
 
+  -- a change that makes nothing owed that only may be sent keeps that all debts must be sent
   must-changed : (t : ℕ) (c : Change) (owes : List Owed) → IsFirm c → AllMust owes → AllMust (changed p t c owes)
   must-changed t keeps owes is_firm all = all
   must-changed t softens owes is_firm all = absurd is_firm
@@ -61,15 +62,17 @@ module _ {X : Type 0} (f : Figure X) (p : Times) (firm : AreFirm f p) where
   must-changed t (gains true message) owes is_firm all = All-push (λ o. o.must ≡ true) owes _ all refl
   must-changed t (gains false message) owes is_firm all = absurd is_firm
 
+  -- a message that is sent keeps that all debts must be sent
   must-emits : (e : MachineEvent) (x y : Owing X) → AllMust x.owes → Emits f p e x y → AllMust y.owes
   must-emits e x y all (inl (row, is_row, to)) = rw to (must-changed e.moment row.1 x.owes (firm.sent x.phase e.kind e row is_row) all)
-  must-emits e x y all (inr (inl (left, pays, to))) = rw to (all-without _ (λ o. o.must ≡ true) x.owes left pays all)
+  must-emits e x y all (inr (inl (left, pays, to))) = rw to (All-without {X = Owed} _ (λ o. o.must ≡ true) x.owes left pays all)
   must-emits e x y all (inr (inr (stays, same))) = rw same all
 
   must-fails : (ends : Bool) (e : MachineEvent) (x y : Owing X) → AllMust x.owes → Fails ends f p e x y → AllMust y.owes
   must-fails true e x y all fails = rw fails.1 (All-nil (λ o. o.must ≡ true))
   must-fails false e x y all emits = must-emits e x y all emits
 
+  -- a step keeps that all debts must be sent
   must-steps : (a : Action) (e : MachineEvent) (x y : Owing X) → AllMust x.owes → Steps f p a e x y → AllMust y.owes
   must-steps Received e x y all (inl (row, is_row, to)) = rw to (must-changed e.moment row.1 x.owes (firm.received x.phase e.kind e row is_row) all)
   must-steps Received e x y all (inr (none, same)) = rw same all
@@ -79,6 +82,7 @@ module _ {X : Type 0} (f : Figure X) (p : Times) (firm : AreFirm f p) where
   must-steps Restart e x y all (inl (idle, to)) = rw to (All-nil (λ o. o.must ≡ true))
   must-steps Restart e x y all (inr (other, to)) = rw to (All-nil (λ o. o.must ≡ true))
 
+  -- a run keeps that all debts must be sent
   must-kept : IsKept f p (λ es m y. AllMust y.owes)
   must-kept = record {
     as_it_waits = λ es h m x all low lasts. all;
@@ -86,13 +90,14 @@ module _ {X : Type 0} (f : Figure X) (p : Times) (firm : AreFirm f p) where
     as_it_takes = λ es e x y all take. must-steps e.action e (record { phase = x.phase; owes = left_at e x }) y (All-filter _ (λ o. o.must ≡ true) x.owes all) take;
   }
 
+  -- a debt that must be sent is not one that only may be
   true-false : (o : Owed) → o.must ≡ true → ¬ (o.must ≡ false)
   true-false o must may = by (sym must ∙ may)
     where
       by : ¬ (true ≡ false)
       by same = cc
 
-  -- of such a figure nothing that is owed only may be sent
+  -- a figure whose rows make nothing owed that only may be sent is sorted
   pub firm-sorted : IsSorted f p (λ es x message. ⊥)
   firm-sorted = record {
     sorted = λ es m y one stands. All-weaker (λ o. o.must ≡ true) (λ o. (o.must ≡ true → ¬ ⊥) × (o.must ≡ false → ⊥)) (λ o must. (λ is never. never, λ may. true-false o must may)) y.owes
@@ -101,6 +106,7 @@ module _ {X : Type 0} (f : Figure X) (p : Times) (firm : AreFirm f p) where
     alike = λ es x k e a b pays also may. may;
   }
 
+-- no row of a message that the INVITE client by RFC 6026 receives makes owed what only may be sent
 client-received : (p : Times) (x : client.InviteClientPhase) (k : Kind) (e : MachineEvent) (row : client.InviteClientPhase × Change) → client.Receives p x k e row → IsFirm row.1
 client-received p (client.Calling w) (Response code) e row (inl h) = rw h.1 tt
 client-received p (client.Calling w) (Response code) e row (inr (inl h)) = rw h.1 tt
@@ -110,6 +116,7 @@ client-received p (client.Proceeding reliable request cancel) (Response code) e 
 client-received p (client.Completed reliable request set) (Response code) e row h = rw h.1 tt
 client-received p x k e row h = absurd h
 
+-- no row of a message that the INVITE client by RFC 3261 receives makes owed what only may be sent
 client-3261-received : (p : Times) (x : client.InviteClientPhase) (k : Kind) (e : MachineEvent) (row : client.InviteClientPhase × Change) → client_3261.Receives p x k e row → IsFirm row.1
 client-3261-received p (client.Calling w) (Response code) e row (inl h) = rw h.1 tt
 client-3261-received p (client.Calling w) (Response code) e row (inr (inl h)) = rw h.1 tt
@@ -119,6 +126,7 @@ client-3261-received p (client.Proceeding reliable request cancel) (Response cod
 client-3261-received p (client.Completed reliable request set) (Response code) e row h = rw h.1 tt
 client-3261-received p x k e row h = absurd h
 
+-- no row of a message that an INVITE client sends makes owed what only may be sent
 client-sent : (p : Times) (x : client.InviteClientPhase) (k : Kind) (e : MachineEvent) (row : client.InviteClientPhase × Change) → client.Sends p x k e row → IsFirm row.1
 client-sent p client.Idle (Request Invite) e row h = rw h tt
 client-sent p client.Idle (Request Ack) e row h = rw h tt
@@ -131,40 +139,43 @@ client-sent p (client.Completed reliable request set) (Request Cancel) e row h =
 client-sent p client.Ended (Request Cancel) e row h = rw h tt
 client-sent p x k e row h = absurd h
 
+-- no row of a message that the non-INVITE client receives makes owed what only may be sent
 plain-received : (p : Times) (x : plain.PlainClientPhase) (k : Kind) (e : MachineEvent) (row : plain.PlainClientPhase × Change) → plain.Receives p x k e row → IsFirm row.1
 plain-received p (plain.Trying w) (Response code) e row (inl h) = rw h.1 tt
 plain-received p (plain.Trying w) (Response code) e row (inr h) = rw h.1 tt
 plain-received p (plain.Proceeding w) (Response code) e row h = rw h.1 tt
 plain-received p x k e row h = absurd h
 
+-- no row of a message that the non-INVITE client sends makes owed what only may be sent
 plain-sent : (p : Times) (x : plain.PlainClientPhase) (k : Kind) (e : MachineEvent) (row : plain.PlainClientPhase × Change) → plain.Sends p x k e row → IsFirm row.1
 plain-sent p plain.Idle (Request method) e row h = rw h tt
 plain-sent p (plain.Trying w) (Request method) e row h = rw h.1 tt
 plain-sent p (plain.Proceeding w) (Request method) e row h = rw h.1 tt
 plain-sent p x k e row h = absurd h
 
--- the INVITE client by RFC 6026 is sorted so
+-- the INVITE client by RFC 6026 owes nothing that only may be sent, so that it is sorted
 pub client-sorted : (p : Times) → IsSorted client.invite_client p (λ es x message. ⊥)
 client-sorted p = firm-sorted client.invite_client p (record { received = client-received p; sent = client-sent p })
 
--- the INVITE client by RFC 3261 alone is sorted so
+-- the INVITE client by RFC 3261 alone owes nothing that only may be sent, so that it is sorted
 pub client-3261-sorted : (p : Times) → IsSorted client_3261.invite_client_3261 p (λ es x message. ⊥)
 client-3261-sorted p = firm-sorted client_3261.invite_client_3261 p (record { received = client-3261-received p; sent = client-sent p })
 
--- the non-INVITE client is sorted so
+-- the non-INVITE client owes nothing that only may be sent, so that it is sorted
 pub plain-client-sorted : (p : Times) → IsSorted plain.plain_client p (λ es x message. ⊥)
 plain-client-sorted p = firm-sorted plain.plain_client p (record { received = plain-received p; sent = plain-sent p })
 
--- The INVITE servers: while they proceed, a 100 may be sent and any other has to be; later all that is owed may be sent.
+-- What follows is of INVITE servers: in proceeding a 100 only may be sent and any other response must be, and later all that is owed only may be.
 
 abbrev IsTold : Owed → Type 0
 IsTold o = (o.must ≡ true → ¬ (Is100 o.message)) × (o.must ≡ false → Is100 o.message)
 
--- what only may be sent in a phase: in proceeding a 100, elsewhere whatever is owed
+-- the message is one that only may be sent where it is owed in this phase: a 100 in proceeding, and any message elsewhere
 abbrev pub MayIn : server.InviteServerPhase → List ℕ → Type 0
 MayIn (server.Proceeding reliable set last) message = Is100 message
 MayIn x message = Unit {0}
 
+-- the debts are sorted: in proceeding exactly the 100s only may be sent, and elsewhere all debts only may be
 abbrev AreSorted : server.InviteServerPhase → List Owed → Type 0
 AreSorted server.Idle owes = owes ≡ []
 AreSorted (server.Proceeding reliable set last) owes = All IsTold owes
@@ -176,6 +187,7 @@ no-must same = cc
 yes-must : ¬ (true ≡ false)
 yes-must same = cc
 
+-- debts that were softened only may be sent
 soft : (owes : List Owed) → All (λ o. o.must ≡ false) (softened owes)
 soft [] = All-nil (λ o. o.must ≡ false)
 soft (o ∷ os) = All-push-front o os (soft os)
@@ -183,7 +195,9 @@ soft (o ∷ os) = All-push-front o os (soft os)
     All-push-front : (o : Owed) (os : List Owed) → All (λ k. k.must ≡ false) (softened os) → All (λ k. k.must ≡ false) (softened (o ∷ os))
     All-push-front o os all = All-cons (λ k. k.must ≡ false) (record { message = o.message; deadline = o.deadline; must = false }) (softened os) refl all
 
+-- What follows is of the INVITE server by RFC 6026.
 module _ (p : Times) where
+  -- debts stay sorted where some are left out
   sorted-left : (x : server.InviteServerPhase) (e : MachineEvent) (owes : List Owed) (test : Owed → Bool) → AreSorted x owes → AreSorted x (filter test owes)
   sorted-left server.Idle e owes test sorted = rw sorted refl
   sorted-left (server.Proceeding reliable set last) e owes test sorted = All-filter test IsTold owes sorted
@@ -191,13 +205,15 @@ module _ (p : Times) where
   sorted-left (server.Completed reliable final set repeat interval) e owes test sorted = All-filter test (λ o. o.must ≡ false) owes sorted
   sorted-left (server.Confirmed reliable set) e owes test sorted = All-filter test (λ o. o.must ≡ false) owes sorted
 
+  -- debts stay sorted where one is paid
   sorted-without : (P : Owed → Type 0) (x : server.InviteServerPhase) (owes left : List Owed) → IsWithoutFirst P owes left → AreSorted x owes → AreSorted x left
   sorted-without P server.Idle owes left pays sorted = absurd (nothing-to-pay P left (subst (λ os. IsWithoutFirst P os left) sorted pays))
-  sorted-without P (server.Proceeding reliable set last) owes left pays sorted = all-without P IsTold owes left pays sorted
-  sorted-without P (server.Accepted set) owes left pays sorted = all-without P (λ o. o.must ≡ false) owes left pays sorted
-  sorted-without P (server.Completed reliable final set repeat interval) owes left pays sorted = all-without P (λ o. o.must ≡ false) owes left pays sorted
-  sorted-without P (server.Confirmed reliable set) owes left pays sorted = all-without P (λ o. o.must ≡ false) owes left pays sorted
+  sorted-without P (server.Proceeding reliable set last) owes left pays sorted = All-without P IsTold owes left pays sorted
+  sorted-without P (server.Accepted set) owes left pays sorted = All-without P (λ o. o.must ≡ false) owes left pays sorted
+  sorted-without P (server.Completed reliable final set repeat interval) owes left pays sorted = All-without P (λ o. o.must ≡ false) owes left pays sorted
+  sorted-without P (server.Confirmed reliable set) owes left pays sorted = All-without P (λ o. o.must ≡ false) owes left pays sorted
 
+  -- the row of a received message keeps the debts sorted
   sorted-received : (x : server.InviteServerPhase) (k : Kind) (e : MachineEvent) (row : server.InviteServerPhase × Change) (owes : List Owed) → AreSorted x owes → server.Receives p x k e row → AreSorted row.0 (changed p e.moment row.1 owes)
   sorted-received server.Idle (Request Invite) e row owes sorted h = rw (h, sorted) (All-nil IsTold)
   sorted-received (server.Proceeding reliable set (Some last)) (Request Invite) e row owes sorted (inl h) = rw h.1 (All-push IsTold owes _ sorted (λ must. h.0, λ may. absurd (yes-must may)))
@@ -207,6 +223,7 @@ module _ (p : Times) where
   sorted-received (server.Completed reliable final set repeat interval) (Request Ack) e row owes sorted h = rw h sorted
   sorted-received x k e row owes sorted h = absurd h
 
+  -- the row of a sent message keeps the debts sorted
   sorted-sent : (x : server.InviteServerPhase) (k : Kind) (e : MachineEvent) (row : server.InviteServerPhase × Change) (owes : List Owed) → AreSorted x owes → server.Sends p x k e row → AreSorted row.0 (changed p e.moment row.1 owes)
   sorted-sent (server.Proceeding reliable set last) (Response code) e row owes sorted (inl h) = rw h.1 sorted
   sorted-sent (server.Proceeding reliable set last) (Response code) e row owes sorted (inr (inl h)) = rw h.1 (soft owes)
@@ -215,7 +232,7 @@ module _ (p : Times) where
   sorted-sent (server.Completed reliable final set repeat interval) (Response code) e row owes sorted h = rw h.1 sorted
   sorted-sent x k e row owes sorted h = absurd h
 
-  -- whether a debt must be sent is told by the bytes of its message
+  -- the bytes of a debt tell whether it must be sent, where the debts are sorted
   told : (x : server.InviteServerPhase) (owes : List Owed) → AreSorted x owes → All (λ o. (o.must ≡ true → ¬ (MayIn x o.message)) × (o.must ≡ false → MayIn x o.message)) owes
   told server.Idle owes sorted = rw sorted (All-nil (λ o. (o.must ≡ true → ¬ (Unit {0})) × (o.must ≡ false → Unit {0})))
   told (server.Proceeding reliable set last) owes sorted = sorted
@@ -225,11 +242,13 @@ module _ (p : Times) where
   told (server.Confirmed reliable set) owes sorted =
       All-weaker (λ o. o.must ≡ false) (λ o. (o.must ≡ true → ¬ (Unit {0})) × (o.must ≡ false → Unit {0})) (λ o may. (λ must. absurd (yes-must (sym must ∙ may)), λ is. tt)) owes sorted
 
+  -- a message that is sent keeps the debts sorted
   emits : (e : MachineEvent) (x y : Owing server.InviteServerPhase) → AreSorted x.phase x.owes → Emits server.invite_server p e x y → AreSorted y.phase y.owes
   emits e x y sorted (inl (row, is_row, to)) = rw to (sorted-sent x.phase e.kind e row x.owes sorted is_row)
   emits e x y sorted (inr (inl (left, pays, to))) = rw to (sorted-without _ x.phase x.owes left pays sorted)
   emits e x y sorted (inr (inr (stays, same))) = absurd stays
 
+  -- a step keeps the debts sorted
   steps : (a : Action) (e : MachineEvent) (x y : Owing server.InviteServerPhase) → AreSorted x.phase x.owes → Steps server.invite_server p a e x y → AreSorted y.phase y.owes
   steps Received e x y sorted (inl (row, is_row, to)) = rw to (sorted-received x.phase e.kind e row x.owes sorted is_row)
   steps Received e x y sorted (inr (none, same)) = rw same sorted
@@ -239,6 +258,7 @@ module _ (p : Times) where
   steps Restart e x y sorted (inl (idle, to)) = rw to refl
   steps Restart e x y sorted (inr (other, to)) = rw to refl
 
+  -- a run keeps the debts sorted
   server-kept : IsKept server.invite_server p (λ es m y. AreSorted y.phase y.owes)
   server-kept = record {
     as_it_waits = λ es h m x sorted low lasts. sorted;
@@ -254,7 +274,7 @@ module _ (p : Times) where
   both-pay x (Request method) e a b one other = absurd one
   both-pay x (Response code) e a b one other = other ∙ sym one
 
-  -- the INVITE server by RFC 6026 is sorted by that
+  -- the INVITE server by RFC 6026 is sorted
   pub server-sorted : IsSorted server.invite_server p (λ es x message. MayIn x message)
   server-sorted = record {
     sorted = λ es m y one stands. told y.phase y.owes
@@ -263,23 +283,25 @@ module _ (p : Times) where
     alike = λ es x k e a b one other may. subst (MayIn x) (both-pay x k e a b one other) may;
   }
 
-  -- By RFC 3261 alone.
+  -- What follows is of the INVITE server by RFC 3261 alone.
 
   abbrev AreSorted3261 : server_3261.InviteServer3261Phase → List Owed → Type 0
   AreSorted3261 server_3261.Passed owes = owes ≡ []
   AreSorted3261 (server_3261.In x again) owes = AreSorted x owes
 
-  -- what only may be sent in a phase of the server by RFC 3261 alone
+  -- the message is one that only may be sent where it is owed in this phase of the server by RFC 3261 alone
   abbrev pub MayIn3261 : server_3261.InviteServer3261Phase → List ℕ → Type 0
   MayIn3261 server_3261.Passed message = Unit {0}
   MayIn3261 (server_3261.In x again) message = MayIn x message
 
+  -- the row of a received message keeps the debts sorted
   received-3261 : (x : server_3261.InviteServer3261Phase) (k : Kind) (e : MachineEvent) (row : server_3261.InviteServer3261Phase × Change) (owes : List Owed) → AreSorted3261 x owes → server_3261.Receives p x k e row
       → AreSorted3261 row.0 (changed p e.moment row.1 owes)
   received-3261 server_3261.Passed (Request Invite) e row owes sorted h = rw (h, sorted) (All-nil IsTold)
   received-3261 (server_3261.In x again) k e row owes sorted (after, is_row, to) = rw to (sorted-received x k e after owes sorted is_row)
   received-3261 server_3261.Passed k e row owes sorted h = absurd h
 
+  -- the row of a sent message keeps the debts sorted
   sent-3261 : (x : server_3261.InviteServer3261Phase) (k : Kind) (e : MachineEvent) (row : server_3261.InviteServer3261Phase × Change) (owes : List Owed) → AreSorted3261 x owes → server_3261.Sends p x k e row
       → AreSorted3261 row.0 (changed p e.moment row.1 owes)
   sent-3261 server_3261.Passed (Response code) e row owes sorted h = rw h.1 sorted
@@ -294,11 +316,13 @@ module _ (p : Times) where
   without-3261 P server_3261.Passed owes left pays sorted = absurd (nothing-to-pay P left (subst (λ os. IsWithoutFirst P os left) sorted pays))
   without-3261 P (server_3261.In x again) owes left pays sorted = sorted-without P x owes left pays sorted
 
+  -- a message that is sent keeps the debts sorted
   emits-3261 : (e : MachineEvent) (x y : Owing server_3261.InviteServer3261Phase) → AreSorted3261 x.phase x.owes → Emits server_3261.invite_server_3261 p e x y → AreSorted3261 y.phase y.owes
   emits-3261 e x y sorted (inl (row, is_row, to)) = rw to (sent-3261 x.phase e.kind e row x.owes sorted is_row)
   emits-3261 e x y sorted (inr (inl (left, pays, to))) = rw to (without-3261 _ x.phase x.owes left pays sorted)
   emits-3261 e x y sorted (inr (inr (stays, same))) = rw same sorted
 
+  -- a step keeps the debts sorted
   steps-3261 : (a : Action) (e : MachineEvent) (x y : Owing server_3261.InviteServer3261Phase) → AreSorted3261 x.phase x.owes → Steps server_3261.invite_server_3261 p a e x y → AreSorted3261 y.phase y.owes
   steps-3261 Received e x y sorted (inl (row, is_row, to)) = rw to (received-3261 x.phase e.kind e row x.owes sorted is_row)
   steps-3261 Received e x y sorted (inr (none, same)) = rw same sorted
@@ -312,6 +336,7 @@ module _ (p : Times) where
   left-3261 server_3261.Passed e owes test sorted = rw sorted refl
   left-3261 (server_3261.In x again) e owes test sorted = sorted-left x e owes test sorted
 
+  -- a run of the server by RFC 3261 alone keeps the debts sorted
   kept-3261 : IsKept server_3261.invite_server_3261 p (λ es m y. AreSorted3261 y.phase y.owes)
   kept-3261 = record {
     as_it_waits = λ es h m x sorted low lasts. sorted;
@@ -323,6 +348,7 @@ module _ (p : Times) where
   told-3261 server_3261.Passed owes sorted = rw sorted (All-nil (λ o. (o.must ≡ true → ¬ (Unit {0})) × (o.must ≡ false → Unit {0})))
   told-3261 (server_3261.In x again) owes sorted = told x owes sorted
 
+  -- a code is that of a 2xx, or it is not
   is-success : (code : ℕ) → Dec (IsSuccess code)
   is-success code = by (dec_le 200 code) (dec_le code 299)
     where
@@ -331,6 +357,7 @@ module _ (p : Times) where
       by (no never) high = no (λ h. never h.0)
       by (yes low) (no never) = no (λ h. never h.1)
 
+  -- a message is paid by a send, or it is not
   pays-3261 : (x : server_3261.InviteServer3261Phase) (k : Kind) (e : MachineEvent) (message : List ℕ) → Dec (server_3261.Satisfies x k e message)
   pays-3261 x (Request method) e message = no (λ h. h)
   pays-3261 x (Response code) e message = by (is-success code) (same-bytes message e.text)
@@ -344,7 +371,7 @@ module _ (p : Times) where
   both-pay-3261 x (Request method) e a b one other = absurd one
   both-pay-3261 x (Response code) e a b one other = other.1 ∙ sym one.1
 
-  -- the INVITE server by RFC 3261 alone is sorted by that
+  -- the INVITE server by RFC 3261 alone is sorted
   pub server-3261-sorted : IsSorted server_3261.invite_server_3261 p (λ es x message. MayIn3261 x message)
   server-3261-sorted = record {
     sorted = λ es m y one stands. told-3261 y.phase y.owes

@@ -1,4 +1,4 @@
--- What the non-INVITE server may send and has to send are not paid by one send, where the same bytes are the same message.
+-- What the non-INVITE server may send and must send are not paid by one send, where the same bytes are the same message.
 use Rattle.std.proofs.Common.{◌≡◌, inl, inr, ℕ, Bool, true, false, List, [], ◌∷◌, ◌++◌, All, filter, refl, sym, subst, ◌∙◌, arith}
 use Rattle.std.specs.List.{Any}
 use Rattle.std.proofs.lemmas.List.Elements.{All-nil, All-cons, All-head, All-tail, All-filter, All-push, All-weaker}
@@ -13,16 +13,17 @@ use Rattle.sip_standard.specs.Provisional.{Is100}
 use Rattle.sip_standard.specs.Debts.{Owed, softened, IsWithoutFirst}
 use Rattle.sip_standard.specs.Figure.{Change, Owing, changed, quiet, Emits, Steps}
 use Rattle.sip_standard.specs.PlainServer.{PlainServerPhase, Idle, Trying, Proceeding, Completed, Receives, Sends, plain_server}
+use Rattle.sip_machine.specs.inner.DebtLaws.{All-without}
 use Rattle.consequences.specs.Events.{IsResponse, SendsResponse}
 use Rattle.consequences.specs.Tolerance.{AreOneKind}
 use Rattle.consequences.proofs.lemmas.server.Asleep.{nothing-to-pay}
-use Rattle.consequences.proofs.lemmas.server.Said.{IsOut, IsSaid, said-later, all-without}
+use Rattle.consequences.proofs.lemmas.server.Said.{IsOut, IsSaid, said-later, codes-are-one}
 use Rattle.consequences.proofs.lemmas.run.Lists.{any-last, any-earlier}
 use Rattle.consequences.proofs.lemmas.run.Running.{IsKept, left_at, stands-run, run-keeps}
 use Rattle.consequences.proofs.lemmas.tolerance.Sorted.{same-bytes}
 use Rattle.consequences.proofs.lemmas.tolerance.Wider.{IsSorted}
 
--- a final response of these bytes was sent
+-- one of the events is of a final response with these bytes
 abbrev IsFinalSaid : List MachineEvent → List ℕ → Type 0
 IsFinalSaid es final = Any (λ g. IsResponse IsFinal g × (g.text ≡ final)) es
 
@@ -32,13 +33,14 @@ IsTold es o = (o.must ≡ true → ¬ (Is100 o.message)) × (o.must ≡ false �
 abbrev IsFinalOr : List MachineEvent → List ℕ → Owed → Type 0
 IsFinalOr es final o = (o.must ≡ true → o.message ≡ final) × (o.must ≡ false → IsSaid es o.message)
 
+-- the debts are sorted: exactly the 100s only may be sent in proceeding, and exactly the provisional responses in completed
 abbrev AreSorted : List MachineEvent → PlainServerPhase → List Owed → Type 0
 AreSorted es Idle owes = owes ≡ []
 AreSorted es (Trying reliable) owes = owes ≡ []
 AreSorted es (Proceeding reliable last) owes = IsSaid es last × All (IsTold es) owes
 AreSorted es (Completed reliable final set) owes = IsFinalSaid es final × All (IsFinalOr es final) owes
 
--- what only may be sent in a phase: in proceeding a 100, in completed a provisional response, elsewhere whatever is owed
+-- the message is one that only may be sent where it is owed in this phase: a 100 in proceeding, a provisional response in completed, and any elsewhere
 abbrev pub May : List MachineEvent → PlainServerPhase → List ℕ → Type 0
 May es (Proceeding reliable last) message = Is100 message
 May es (Completed reliable final set) message = IsSaid es message
@@ -50,6 +52,7 @@ no-must same = cc
 yes-must : ¬ (true ≡ false)
 yes-must same = cc
 
+-- debts stay sorted after more events
 sorted-later : (es more : List MachineEvent) (x : PlainServerPhase) (owes : List Owed) → AreSorted es x owes → AreSorted (es ++ more) x owes
 sorted-later es more Idle owes sorted = sorted
 sorted-later es more (Trying reliable) owes sorted = sorted
@@ -60,29 +63,34 @@ sorted-later es more (Completed reliable final set) owes sorted = (
   All-weaker (IsFinalOr es final) (IsFinalOr (es ++ more) final) (λ o told. (told.0, λ may. said-later es more o.message (told.1 may))) owes sorted.1,
 )
 
+-- debts stay sorted where some are left out
 sorted-left : (es : List MachineEvent) (x : PlainServerPhase) (owes : List Owed) (test : Owed → Bool) → AreSorted es x owes → AreSorted es x (filter test owes)
 sorted-left es Idle owes test sorted = rw sorted refl
 sorted-left es (Trying reliable) owes test sorted = rw sorted refl
 sorted-left es (Proceeding reliable last) owes test sorted = (sorted.0, All-filter test (IsTold es) owes sorted.1)
 sorted-left es (Completed reliable final set) owes test sorted = (sorted.0, All-filter test (IsFinalOr es final) owes sorted.1)
 
+-- debts stay sorted where one is paid
 sorted-without : (P : Owed → Type 0) (es : List MachineEvent) (x : PlainServerPhase) (owes left : List Owed) → IsWithoutFirst P owes left → AreSorted es x owes → AreSorted es x left
 sorted-without P es Idle owes left pays sorted = absurd (nothing-to-pay P left (subst (λ os. IsWithoutFirst P os left) sorted pays))
 sorted-without P es (Trying reliable) owes left pays sorted = absurd (nothing-to-pay P left (subst (λ os. IsWithoutFirst P os left) sorted pays))
-sorted-without P es (Proceeding reliable last) owes left pays sorted = (sorted.0, all-without P (IsTold es) owes left pays sorted.1)
-sorted-without P es (Completed reliable final set) owes left pays sorted = (sorted.0, all-without P (IsFinalOr es final) owes left pays sorted.1)
+sorted-without P es (Proceeding reliable last) owes left pays sorted = (sorted.0, All-without P (IsTold es) owes left pays sorted.1)
+sorted-without P es (Completed reliable final set) owes left pays sorted = (sorted.0, All-without P (IsFinalOr es final) owes left pays sorted.1)
 
+-- debts that were sent as provisional responses, once softened, only may be sent after the final response
 soft : (es : List MachineEvent) (final : List ℕ) (owes : List Owed) → All (λ o. IsSaid es o.message) owes → All (IsFinalOr es final) (softened owes)
 soft es final [] all = All-nil (IsFinalOr es final)
 soft es final (o ∷ os) all =
     All-cons (IsFinalOr es final) (record { message = o.message; deadline = o.deadline; must = false }) (softened os) (λ must. absurd (no-must must), λ may. All-head (λ o. IsSaid es o.message) o os all)
     (soft es final os (All-tail (λ o. IsSaid es o.message) o os all))
 
+-- What follows is of the non-INVITE server.
 module _ (p : Times) where
   module _ (es : List MachineEvent) (e : MachineEvent) where
     abbrev Now : List MachineEvent
     Now = es ++ e ∷ []
 
+    -- the row of a received message keeps the debts sorted
     received : (x : PlainServerPhase) (k : Kind) (row : PlainServerPhase × Change) (owes : List Owed) → AreSorted es x owes → Receives p x k e row → AreSorted Now row.0 (changed p e.moment row.1 owes)
     received Idle (Request method) row owes sorted h = rw h sorted
     received (Proceeding reliable last) (Request method) row owes sorted (inl h) =
@@ -102,6 +110,7 @@ module _ (p : Times) where
     final-now : (code : ℕ) → e.kind ≡ Response code → IsFinal code → IsFinalSaid Now e.text
     final-now code kind is_final = any-last (λ g. IsResponse IsFinal g × (g.text ≡ e.text)) es e ((code, kind, is_final), refl)
 
+    -- the row of a sent message keeps the debts sorted
     sent : (x : PlainServerPhase) (k : Kind) (row : PlainServerPhase × Change) (owes : List Owed) → IsOut e → e.kind ≡ k → AreSorted es x owes → Sends p x k e row → AreSorted Now row.0 (changed p e.moment row.1 owes)
     sent (Trying reliable) (Response code) row owes out kind sorted (inl h) = rw (h.1, sorted) (said-now code out kind h.0, All-nil (IsTold Now))
     sent (Trying reliable) (Response code) row owes out kind sorted (inr h) = rw (h.1, sorted) (final-now code kind h.0, All-nil (IsFinalOr Now e.text))
@@ -116,6 +125,7 @@ module _ (p : Times) where
     emits x y out sorted (inr (inl (left, pays, to))) = rw to (sorted-without _ Now x.phase x.owes left pays (sorted-later es (e ∷ []) x.phase x.owes sorted))
     emits x y out sorted (inr (inr (stays, same))) = absurd stays
 
+    -- a step keeps the debts sorted
     steps : (a : Action) (x y : Owing PlainServerPhase) → e.action ≡ a → AreSorted es x.phase x.owes → Steps plain_server p a e x y → AreSorted Now y.phase y.owes
     steps Received x y was sorted (inl (row, is_row, to)) = rw to (received x.phase e.kind row x.owes sorted is_row)
     steps Received x y was sorted (inr (none, same)) = rw same (sorted-later es (e ∷ []) x.phase x.owes sorted)
@@ -125,6 +135,7 @@ module _ (p : Times) where
     steps Restart x y was sorted (inl (idle, to)) = rw to refl
     steps Restart x y was sorted (inr (other, to)) = rw to refl
 
+  -- a run keeps the debts sorted
   kept : IsKept plain_server p (λ es m y. AreSorted es y.phase y.owes)
   kept = record {
     as_it_waits = λ es h m x sorted low lasts. sorted;
@@ -132,7 +143,7 @@ module _ (p : Times) where
     as_it_takes = λ es e x y sorted take. steps es e e.action (record { phase = x.phase; owes = left_at e x }) y refl (sorted-left es x.phase x.owes _ sorted) take;
   }
 
-  -- the final response is no provisional one that was sent
+  -- the final response is not also a provisional one that was sent, where the same bytes are the same message
   not-said : (es : List MachineEvent) (final : List ℕ) → AreOneKind es → IsFinalSaid es final → ¬ (IsSaid es final)
   not-said es final one (i, g, i-low, i-at, (is_final, g-text)) (j, h, j-low, j-at, (sends, h-text)) =
       by is_final.0 sends.1.0 is_final.1 sends.1.1 is_final.2 sends.1.2
@@ -140,13 +151,11 @@ module _ (p : Times) where
       same : g.kind ≡ h.kind
       same = one g h (i, i-low, i-at) (j, j-low, j-at) (g-text ∙ sym h-text)
 
-      codes-are-one : (a b : ℕ) → Response a ≡ Response b → a ≡ b
-      codes-are-one a b is = cc
-
       by : (a b : ℕ) → g.kind ≡ Response a → h.kind ≡ Response b → IsFinal a → ¬ (IsProvisional b)
       by a b g-kind h-kind final_code provisional_code =
           let codes : a ≡ b = codes-are-one a b (sym g-kind ∙ same ∙ h-kind) in absurd (omega (arith, codes, final_code.0, provisional_code.1))
 
+  -- the bytes of a debt tell whether it must be sent, where the debts are sorted
   told : (es : List MachineEvent) (x : PlainServerPhase) (owes : List Owed) → AreOneKind es → AreSorted es x owes → All (λ o. (o.must ≡ true → ¬ (May es x o.message)) × (o.must ≡ false → May es x o.message)) owes
   told es Idle owes one sorted = rw sorted (All-nil (λ o. (o.must ≡ true → ¬ (Unit {0})) × (o.must ≡ false → Unit {0})))
   told es (Trying reliable) owes one sorted = rw sorted (All-nil (λ o. (o.must ≡ true → ¬ (Unit {0})) × (o.must ≡ false → Unit {0})))
@@ -156,7 +165,7 @@ module _ (p : Times) where
       All-weaker (IsFinalOr es final) (λ o. (o.must ≡ true → ¬ (IsSaid es o.message)) × (o.must ≡ false → IsSaid es o.message))
       (λ o is. (λ must said. not-said es final one sorted.0 (subst (IsSaid es) (is.0 must) said), is.1)) owes sorted.1
 
-  -- the non-INVITE server is sorted by that
+  -- the non-INVITE server is sorted
   pub plain-server-sorted : IsSorted plain_server p May
   plain-server-sorted = record {
     sorted = λ es m y one stands. told es y.phase y.owes one (run-keeps plain_server p (λ es h x. AreSorted es x.phase x.owes) kept es (quiet Idle) 0 m y refl (stands-run plain_server p es m y stands));

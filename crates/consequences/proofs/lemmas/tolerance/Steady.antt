@@ -1,4 +1,4 @@
--- The figures by a wider tolerance: their rows stand, and their windows open earlier and close later.
+-- The figures by a wider tolerance: their rows stay, and their windows open earlier and close later.
 use Rattle.std.proofs.Common.{◌≤◌, ◌*◌, ℕ, Bool, true, false, Some, None, IsSomeAnd, IfSome, List, [], ◌∷◌, All, arith, if◌then◌else◌}
 use Rattle.std.proofs.lemmas.List.Elements.{All-nil, All-cons, All-head}
 use Rattle.sip_standard.specs.declared.kind.Kind.{Kind}
@@ -18,6 +18,7 @@ use Rattle.sip_standard.specs.PlainServer as plain_server
 use Rattle.consequences.specs.Tolerance.{tolerant}
 use Rattle.consequences.proofs.lemmas.tolerance.Wider.{IsSteady}
 
+-- What follows is of the times p, and of q, the same with a wider tolerance.
 module _ (p : Times) (early late : ℕ) (earlier : p.early ≤ early) (later : p.late ≤ late) where
   abbrev q : Times
   q = tolerant early late p
@@ -31,13 +32,15 @@ module _ (p : Times) (early late : ℕ) (earlier : p.early ≤ early) (later : p
   closes-later : (set duration h : ℕ) → h ≤ close_at p set duration → h ≤ close_at q set duration
   closes-later set duration h closing = omega (arith, closing, later)
 
+  -- what must be sent again by the times p need not be sent again earlier by the wider times q
   repeats-later : (reliable : Bool) (set interval h : ℕ) → All (λ last. h ≤ last) (if reliable then [] else close_at p set interval ∷ []) → All (λ last. h ≤ last) (if reliable then [] else close_at q set interval ∷ [])
   repeats-later true set interval h all = All-nil (λ last. h ≤ last)
   repeats-later false set interval h all =
       All-cons (λ last. h ≤ last) (close_at q set interval) [] (closes-later set interval h (All-head (λ last. h ≤ last) (close_at p set interval) [] all)) (All-nil (λ last. h ≤ last))
 
-  -- The INVITE clients.
+  -- What follows is of the INVITE clients.
 
+  -- a row of a message that is sent by the times p is one by the wider times q
   client-sent : (x : client.InviteClientPhase) (k : Kind) (e : MachineEvent) (row : client.InviteClientPhase × Change) → client.Sends p x k e row → client.Sends q x k e row
   client-sent client.Idle (Request Invite) e row h = h
   client-sent client.Idle (Request Ack) e row h = h
@@ -50,6 +53,7 @@ module _ (p : Times) (early late : ℕ) (earlier : p.early ≤ early) (later : p
   client-sent client.Ended (Request Cancel) e row h = h
   client-sent x k e row h = absurd h
 
+  -- a window that has opened by the times p has opened by the wider times q
   client-opens : (x : client.InviteClientPhase) (h : ℕ) → IsSomeAnd (client.timer_window p x) (λ w. w.0 ≤ h) → IsSomeAnd (client.timer_window q x) (λ w. w.0 ≤ h)
   client-opens (client.Calling w) h opening = opens-earlier w.start (64 * p.t1) h opening
   client-opens (client.Proceeding reliable request (Some first)) h opening = opens-earlier first (64 * p.t1) h opening
@@ -58,6 +62,7 @@ module _ (p : Times) (early late : ℕ) (earlier : p.early ≤ early) (later : p
   client-opens (client.Completed false request set) h opening = opens-earlier set 32000 h opening
   client-opens x h opening = absurd opening
 
+  -- a window that has not closed by the times p has not closed by the wider times q
   client-closes : (x : client.InviteClientPhase) (h : ℕ) → IfSome (client.timer_window p x) (λ w. IfSome w.1 (λ close. h ≤ close)) → IfSome (client.timer_window q x) (λ w. IfSome w.1 (λ close. h ≤ close))
   client-closes (client.Calling w) h closing = closes-later w.start (64 * p.t1) h closing
   client-closes (client.Accepted set) h closing = closes-later set (64 * p.t1) h closing
@@ -68,6 +73,7 @@ module _ (p : Times) (early late : ℕ) (earlier : p.early ≤ early) (later : p
   client-closes client.Idle h closing = tt
   client-closes client.Ended h closing = tt
 
+  -- what must be sent by the times p need not be sent earlier by the wider times q
   client-sends-by : (x : client.InviteClientPhase) (h : ℕ) → All (λ last. h ≤ last) (client.sends_by p x) → All (λ last. h ≤ last) (client.sends_by q x)
   client-sends-by (client.Calling w) h all = repeats-later w.reliable w.set w.interval h all
   client-sends-by client.Idle h all = all
@@ -76,7 +82,7 @@ module _ (p : Times) (early late : ℕ) (earlier : p.early ≤ early) (later : p
   client-sends-by (client.Accepted set) h all = all
   client-sends-by (client.Completed reliable request set) h all = all
 
-  -- the INVITE client by RFC 6026 is steady
+  -- the INVITE client by RFC 6026 is steady: what the times p allow, the wider times q allow
   pub client-steady : IsSteady client.invite_client p q
   client-steady = record {
     received = λ x k e row h. h;
@@ -87,7 +93,7 @@ module _ (p : Times) (early late : ℕ) (earlier : p.early ≤ early) (later : p
     sends_by = client-sends-by;
   }
 
-  -- the INVITE client by RFC 3261 alone is steady
+  -- the INVITE client by RFC 3261 alone is steady: what the times p allow, the wider times q allow
   pub client-3261-steady : IsSteady client_3261.invite_client_3261 p q
   client-3261-steady = record {
     received = λ x k e row h. h;
@@ -98,20 +104,23 @@ module _ (p : Times) (early late : ℕ) (earlier : p.early ≤ early) (later : p
     sends_by = client-sends-by;
   }
 
-  -- The client of any other method.
+  -- What follows is of the client of any other method.
 
+  -- a row of a message that is sent by the times p is one by the wider times q
   plain-sent : (x : plain.PlainClientPhase) (k : Kind) (e : MachineEvent) (row : plain.PlainClientPhase × Change) → plain.Sends p x k e row → plain.Sends q x k e row
   plain-sent plain.Idle (Request method) e row h = h
   plain-sent (plain.Trying w) (Request method) e row h = (retransmits w.reliable w.request w.set w.interval e h.0, h.1)
   plain-sent (plain.Proceeding w) (Request method) e row h = (retransmits w.reliable w.request w.set w.interval e h.0, h.1)
   plain-sent x k e row h = absurd h
 
+  -- a window that has opened by the times p has opened by the wider times q
   plain-opens : (x : plain.PlainClientPhase) (h : ℕ) → IsSomeAnd (plain.timer_window p x) (λ w. w.0 ≤ h) → IsSomeAnd (plain.timer_window q x) (λ w. w.0 ≤ h)
   plain-opens (plain.Trying w) h opening = opens-earlier w.start (64 * p.t1) h opening
   plain-opens (plain.Proceeding w) h opening = opens-earlier w.start (64 * p.t1) h opening
   plain-opens (plain.Completed reliable set) h opening = opens-earlier set (if reliable then 0 else p.t4) h opening
   plain-opens x h opening = absurd opening
 
+  -- a window that has not closed by the times p has not closed by the wider times q
   plain-closes : (x : plain.PlainClientPhase) (h : ℕ) → IfSome (plain.timer_window p x) (λ w. IfSome w.1 (λ close. h ≤ close)) → IfSome (plain.timer_window q x) (λ w. IfSome w.1 (λ close. h ≤ close))
   plain-closes (plain.Trying w) h closing = closes-later w.start (64 * p.t1) h closing
   plain-closes (plain.Proceeding w) h closing = closes-later w.start (64 * p.t1) h closing
@@ -119,6 +128,7 @@ module _ (p : Times) (early late : ℕ) (earlier : p.early ≤ early) (later : p
   plain-closes plain.Idle h closing = tt
   plain-closes plain.Ended h closing = tt
 
+  -- what must be sent by the times p need not be sent earlier by the wider times q
   plain-sends-by : (x : plain.PlainClientPhase) (h : ℕ) → All (λ last. h ≤ last) (plain.sends_by p x) → All (λ last. h ≤ last) (plain.sends_by q x)
   plain-sends-by (plain.Trying w) h all = repeats-later w.reliable w.set w.interval h all
   plain-sends-by (plain.Proceeding w) h all = repeats-later w.reliable w.set w.interval h all
@@ -126,7 +136,7 @@ module _ (p : Times) (early late : ℕ) (earlier : p.early ≤ early) (later : p
   plain-sends-by plain.Ended h all = all
   plain-sends-by (plain.Completed reliable set) h all = all
 
-  -- the non-INVITE client is steady
+  -- the non-INVITE client is steady: what the times p allow, the wider times q allow
   pub plain-client-steady : IsSteady plain.plain_client p q
   plain-client-steady = record {
     received = λ x k e row h. h;
@@ -137,20 +147,23 @@ module _ (p : Times) (early late : ℕ) (earlier : p.early ≤ early) (later : p
     sends_by = plain-sends-by;
   }
 
-  -- The INVITE servers.
+  -- What follows is of the INVITE servers.
 
+  -- a row of a message that is sent by the times p is one by the wider times q
   server-sent : (x : server.InviteServerPhase) (k : Kind) (e : MachineEvent) (row : server.InviteServerPhase × Change) → server.Sends p x k e row → server.Sends q x k e row
   server-sent (server.Proceeding reliable set last) (Response code) e row h = h
   server-sent (server.Accepted set) (Response code) e row h = h
   server-sent (server.Completed reliable final set repeat interval) (Response code) e row h = (retransmits reliable final repeat interval e h.0, h.1)
   server-sent x k e row h = absurd h
 
+  -- a window that has opened by the times p has opened by the wider times q
   server-opens : (x : server.InviteServerPhase) (h : ℕ) → IsSomeAnd (server.timer_window p x) (λ w. w.0 ≤ h) → IsSomeAnd (server.timer_window q x) (λ w. w.0 ≤ h)
   server-opens (server.Accepted set) h opening = opens-earlier set (64 * p.t1) h opening
   server-opens (server.Completed reliable final set repeat interval) h opening = opens-earlier set (64 * p.t1) h opening
   server-opens (server.Confirmed reliable set) h opening = opens-earlier set (if reliable then 0 else p.t4) h opening
   server-opens x h opening = absurd opening
 
+  -- a window that has not closed by the times p has not closed by the wider times q
   server-closes : (x : server.InviteServerPhase) (h : ℕ) → IfSome (server.timer_window p x) (λ w. IfSome w.1 (λ close. h ≤ close)) → IfSome (server.timer_window q x) (λ w. IfSome w.1 (λ close. h ≤ close))
   server-closes (server.Accepted set) h closing = closes-later set (64 * p.t1) h closing
   server-closes (server.Completed reliable final set repeat interval) h closing = closes-later set (64 * p.t1) h closing
@@ -158,6 +171,7 @@ module _ (p : Times) (early late : ℕ) (earlier : p.early ≤ early) (later : p
   server-closes server.Idle h closing = tt
   server-closes (server.Proceeding reliable set last) h closing = tt
 
+  -- what must be sent by the times p need not be sent earlier by the wider times q
   server-sends-by : (x : server.InviteServerPhase) (h : ℕ) → All (λ last. h ≤ last) (server.sends_by p x) → All (λ last. h ≤ last) (server.sends_by q x)
   server-sends-by (server.Proceeding reliable set None) h all =
       All-cons (λ last. h ≤ last) (close_at q set 200) [] (closes-later set 200 h (All-head (λ last. h ≤ last) (close_at p set 200) [] all)) (All-nil (λ last. h ≤ last))
@@ -167,7 +181,7 @@ module _ (p : Times) (early late : ℕ) (earlier : p.early ≤ early) (later : p
   server-sends-by (server.Accepted set) h all = all
   server-sends-by (server.Confirmed reliable set) h all = all
 
-  -- the INVITE server by RFC 6026 is steady
+  -- the INVITE server by RFC 6026 is steady: what the times p allow, the wider times q allow
   pub server-steady : IsSteady server.invite_server p q
   server-steady = record {
     received = λ x k e row h. h;
@@ -178,6 +192,7 @@ module _ (p : Times) (early late : ℕ) (earlier : p.early ≤ early) (later : p
     sends_by = server-sends-by;
   }
 
+  -- a row of a message that the server by RFC 3261 alone sends by the times p is one by the wider times q
   server-3261-sent : (x : server_3261.InviteServer3261Phase) (k : Kind) (e : MachineEvent) (row : server_3261.InviteServer3261Phase × Change) → server_3261.Sends p x k e row → server_3261.Sends q x k e row
   server-3261-sent server_3261.Passed (Response code) e row h = h
   server-3261-sent (server_3261.In (server.Proceeding reliable set last) again) (Response code) e row h = h
@@ -197,7 +212,7 @@ module _ (p : Times) (early late : ℕ) (earlier : p.early ≤ early) (later : p
   server-3261-sends-by server_3261.Passed h all = all
   server-3261-sends-by (server_3261.In x again) h all = server-sends-by x h all
 
-  -- the INVITE server by RFC 3261 alone is steady
+  -- the INVITE server by RFC 3261 alone is steady: what the times p allow, the wider times q allow
   pub server-3261-steady : IsSteady server_3261.invite_server_3261 p q
   server-3261-steady = record {
     received = λ x k e row h. h;
@@ -208,19 +223,20 @@ module _ (p : Times) (early late : ℕ) (earlier : p.early ≤ early) (later : p
     sends_by = server-3261-sends-by;
   }
 
-  -- The server of any other method.
+  -- What follows is of the server of any other method.
 
   plain-server-opens : (x : plain_server.PlainServerPhase) (h : ℕ) → IsSomeAnd (plain_server.timer_window p x) (λ w. w.0 ≤ h) → IsSomeAnd (plain_server.timer_window q x) (λ w. w.0 ≤ h)
   plain-server-opens (plain_server.Completed reliable final set) h opening = opens-earlier set (if reliable then 0 else 64 * p.t1) h opening
   plain-server-opens x h opening = absurd opening
 
+  -- a window that has not closed by the times p has not closed by the wider times q
   plain-server-closes : (x : plain_server.PlainServerPhase) (h : ℕ) → IfSome (plain_server.timer_window p x) (λ w. IfSome w.1 (λ close. h ≤ close)) → IfSome (plain_server.timer_window q x) (λ w. IfSome w.1 (λ close. h ≤ close))
   plain-server-closes (plain_server.Completed reliable final set) h closing = closes-later set (if reliable then 0 else 64 * p.t1) h closing
   plain-server-closes plain_server.Idle h closing = tt
   plain-server-closes (plain_server.Trying reliable) h closing = tt
   plain-server-closes (plain_server.Proceeding reliable last) h closing = tt
 
-  -- the non-INVITE server is steady
+  -- the non-INVITE server is steady: what the times p allow, the wider times q allow
   pub plain-server-steady : IsSteady plain_server.plain_server p q
   plain-server-steady = record {
     received = λ x k e row h. h;

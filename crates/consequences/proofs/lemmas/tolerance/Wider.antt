@@ -1,4 +1,4 @@
--- A run by a tolerance is one by a wider one: in the same phase, with what is owed owed for longer, and perhaps more that may be sent.
+-- A run has one with a wider tolerance, in the same phase, whose debts are owed for longer, and with perhaps more debts that only may be sent.
 use Rattle.std.proofs.Common.{◌≡◌, ◌≤◌, ◌||◌, inl, inr, ℕ, Bool, true, false, IsSomeAnd, IfSome, List, [], ◌∷◌, ◌++◌, All, Contains, filter, refl, sym, ap, subst, ◌∙◌, arith, if◌then◌else◌}
 use Rattle.std.specs.Prelude.{nat_le}
 use Rattle.std.specs.List.{list_any}
@@ -13,21 +13,24 @@ use Rattle.sip_standard.specs.MachineEvent.{MachineEvent}
 use Rattle.sip_standard.specs.Debts.{Owed, softened, IsWithoutFirst}
 use Rattle.sip_standard.specs.Figure.{Figure, Change, keeps, softens, drops, gains, Owing, changed, quiet, Emits, Fails, Steps, Takes, Lasts, MayEnd}
 use Rattle.sip_standard.specs.Stands.{Stands, begins, waits, ends, takes}
+use Rattle.sip_states.proofs.lists.Listed.{Contains-there}
 use Rattle.consequences.specs.Tolerance.{tolerant, AreOneKind}
-use Rattle.consequences.proofs.lemmas.run.Lists.{contains-here, contains-later}
+use Rattle.consequences.proofs.lemmas.run.Lists.{contains-here}
 use Rattle.consequences.proofs.lemmas.run.Running.{left_at}
 
--- the second list holds the debts of the first, later, and perhaps more that may be sent
+-- the second list has the debts of the first, with deadlines that are no earlier, and perhaps more that only may be sent
 data Later : List Owed → List Owed → Type 0 where
   nothing : Later [] []
   both : (o n : Owed) (os ns : List Owed) → n.message ≡ o.message → n.must ≡ o.must → o.deadline ≤ n.deadline → Later os ns → Later (o ∷ os) (n ∷ ns)
   extra : (n : Owed) (os ns : List Owed) → n.must ≡ false → Later os ns → Later os (n ∷ ns)
 
+-- Later stays true where later debts are added after those of both lists
 later-append : (os ns more others : List Owed) → Later os ns → Later more others → Later (os ++ more) (ns ++ others)
 later-append _ _ more others nothing later = later
 later-append _ _ more others (both o n os ns message must deadline rest) later = both o n (os ++ more) (ns ++ others) message must deadline (later-append os ns more others rest later)
 later-append _ _ more others (extra n os ns may rest) later = extra n (os ++ more) (ns ++ others) may (later-append os ns more others rest later)
 
+-- Later stays true where both lists are softened
 later-softened : (os ns : List Owed) → Later os ns → Later (softened os) (softened ns)
 later-softened _ _ nothing = nothing
 later-softened _ _ (both o n os ns message must deadline rest) =
@@ -35,13 +38,14 @@ later-softened _ _ (both o n os ns message must deadline rest) =
     (later-softened os ns rest)
 later-softened _ _ (extra n os ns may rest) = extra (record { message = n.message; deadline = n.deadline; must = false }) (softened os) (softened ns) refl (later-softened os ns rest)
 
--- a test of a moment
+-- the debt is still owed at this moment: it must be sent, or its deadline is not past
 abbrev keep_at : ℕ → Owed → Bool
 keep_at t = λ o. o.must || nat_le t o.deadline
 
 nat-le-weaker : (t a b : ℕ) → a ≤ b → nat_le t a ≡ true → nat_le t b ≡ true
 nat-le-weaker t a b low is = let before = leb-true t a is in le-leb t b (omega (arith, low, before))
 
+-- Later stays true where the debts that are past are left out of both lists
 later-left : (t : ℕ) (os ns : List Owed) → Later os ns → Later (filter (keep_at t) os) (filter (keep_at t) ns)
 later-left t _ _ nothing = nothing
 later-left t _ _ (both o n os ns message must deadline rest) = by (keep_at t o) refl (keep_at t n) refl (later-left t os ns rest)
@@ -77,7 +81,7 @@ later-left t _ _ (extra n os ns may rest) = by (keep_at t n) (later-left t os ns
     by true later = extra n (filter (keep_at t) os) (filter (keep_at t) ns) may later
     by false later = later
 
--- what has to be sent is due no earlier
+-- where no debt that must be sent is past in the first list, none is in the second
 later-due : (t : ℕ) (os ns : List Owed) → Later os ns → All (λ o. o.must ≡ true → t ≤ o.deadline) os → All (λ o. o.must ≡ true → t ≤ o.deadline) ns
 later-due t _ _ nothing due = due
 later-due t _ _ (both o n os ns message must deadline rest) due =
@@ -88,19 +92,20 @@ later-due t _ _ (extra n os ns may rest) due = All-cons (λ o. o.must ≡ true �
     true-false : ¬ (true ≡ false)
     true-false same = cc
 
--- something must be sent by the one tolerance exactly where something must by the other
+-- some debt must be sent in the second list exactly where some must in the first
 later-must : (os ns : List Owed) → Later os ns → list_any (λ o. o.must) ns ≡ list_any (λ o. o.must) os
 later-must _ _ nothing = refl
 later-must _ _ (both o n os ns message must deadline rest) = rw (must, later-must os ns rest) refl
 later-must _ _ (extra n os ns may rest) = rw (may, later-must os ns rest) refl
 
--- Paying.
+-- What follows is of paying.
 
--- a list without the first element of which P holds, element by element
+-- the second list is the first one without its first element of which P holds
 data Without (P : Owed → Type 0) : List Owed → List Owed → Type 0 where
   here : (o : Owed) (os : List Owed) → P o → Without P (o ∷ os) os
   passes : (o : Owed) (os left : List Owed) → ¬ (P o) → Without P os left → Without P (o ∷ os) (o ∷ left)
 
+-- Without holds where IsWithoutFirst holds
 to-without : (P : Owed → Type 0) (os left : List Owed) → IsWithoutFirst P os left → Without P os left
 to-without P os left pays =
     subst (λ xs. Without P xs left) (sym pays.whole) (subst (Without P (pays.before ++ pays.first ∷ pays.after)) (sym pays.rest) (by pays.before pays.none_before))
@@ -109,6 +114,7 @@ to-without P os left pays =
     by [] none = here pays.first pays.after pays.holds
     by (o ∷ os) none = passes o (os ++ pays.first ∷ pays.after) (os ++ pays.after) (All-head (λ o. ¬ (P o)) o os none) (by os (All-tail (λ o. ¬ (P o)) o os none))
 
+-- IsWithoutFirst holds where Without holds
 from-without : (P : Owed → Type 0) (os left : List Owed) → Without P os left → IsWithoutFirst P os left
 from-without P _ _ (here o os holds) = record { before = []; first = o; after = os; whole = refl; holds = holds; none_before = All-nil (λ o. ¬ (P o)); rest = refl }
 from-without P _ _ (passes o os left never rest) =
@@ -123,11 +129,12 @@ from-without P _ _ (passes o os left never rest) =
       rest = ap (λ xs. o ∷ xs) more.rest;
     }
 
+-- What follows is of the messages that a send satisfies, and its moment.
 module _ (S : List ℕ → Type 0) (t : ℕ) where
   abbrev Pays : Owed → Type 0
   Pays = λ o. S o.message × (t ≤ o.deadline)
 
-  -- what one list pays may stay in the other, where it need not be sent
+  -- where the first list pays a debt, the second stays later without paying, if none that the send satisfies must be sent
   stays-extra : (os left ns : List Owed) → Without Pays os left → Later os ns → All (λ n. S n.message → n.must ≡ false) ns → Later left ns
   stays-extra _ left _ without nothing may = elim without [ ]
   stays-extra _ _ _ (here o os pays) (both o' n os' ns message must deadline rest) may =
@@ -136,7 +143,8 @@ module _ (S : List ℕ → Type 0) (t : ℕ) where
   stays-extra _ _ _ (passes o os left never without) (both o' n os' ns message must deadline rest) may =
       both o n left ns message must deadline (stays-extra os left ns without rest (All-tail (λ n. S n.message → n.must ≡ false) n ns may))
 
-  -- where the debts of one are not past, the other pays too: what may be sent is told from what is not for this message, and where it pays, what has to be sent does not
+  -- where no debt is past, the second list pays as well and stays later, if it is decided which of the debts that only may be sent
+  -- the send satisfies, and it never satisfies one of them together with one that must be sent
   also-pays : (os left ns : List Owed) → Without Pays os left → Later os ns → All (λ o. t ≤ o.deadline) os → All (λ n. t ≤ n.deadline) ns
       → All (λ n. n.must ≡ false → Dec (S n.message)) ns → ((n : Owed) → Contains ns n → n.must ≡ false → S n.message → All (λ k. S k.message → k.must ≡ false) ns)
       → (others : List Owed) × Without Pays ns others × Later left others
@@ -145,11 +153,11 @@ module _ (S : List ℕ → Type 0) (t : ℕ) where
       let low = pays.1 in (ns, here n ns (subst S (sym message) pays.0, omega (arith, low, deadline)), rest)
   also-pays _ _ _ (passes o os left never without) (both o' n os' ns message must deadline rest) fresh opens tell apart =
       let more = also-pays os left ns without rest (All-tail (λ o. t ≤ o.deadline) o os fresh) (All-tail (λ n. t ≤ n.deadline) n ns opens) (All-tail (λ n. n.must ≡ false → Dec (S n.message)) n ns tell)
-      (λ k among may pays. All-tail (λ j. S j.message → j.must ≡ false) n ns (apart k (contains-later n ns k among) may pays)) in
+      (λ k among may pays. All-tail (λ j. S j.message → j.must ≡ false) n ns (apart k (Contains-there n ns k among) may pays)) in
       (n ∷ more.0, passes n ns more.0 (λ pays. never (subst S message pays.0, All-head (λ o. t ≤ o.deadline) o os fresh)) more.1, both o n left more.0 message must deadline more.2)
   also-pays os left _ without (extra n os' ns may rest) fresh opens tell apart = by (All-head (λ n. n.must ≡ false → Dec (S n.message)) n ns tell may) (also-pays os left ns without rest fresh
       (All-tail (λ n. t ≤ n.deadline) n ns opens) (All-tail (λ n. n.must ≡ false → Dec (S n.message)) n ns tell)
-      (λ k among may pays. All-tail (λ j. S j.message → j.must ≡ false) n ns (apart k (contains-later n ns k among) may pays)))
+      (λ k among may pays. All-tail (λ j. S j.message → j.must ≡ false) n ns (apart k (Contains-there n ns k among) may pays)))
     where
       by : Dec (S n.message) → (others : List Owed) × Without Pays ns others × Later left others → (others : List Owed) × Without Pays (n ∷ ns) others × Later left others
       by (yes pays) more = (
@@ -159,9 +167,9 @@ module _ (S : List ℕ → Type 0) (t : ℕ) where
       )
       by (no never) more = (n ∷ more.0, passes n ns more.0 (λ pays. never pays.0) more.1, extra n left more.0 may more.2)
 
--- The runs.
+-- What follows is of runs.
 
--- the rows, windows and send-bys of a figure by a wider tolerance
+-- the figure is steady: each row of the times p is one of q, windows open no later and close no earlier, and nothing must be sent earlier
 pub record IsSteady {X : Type 0} (f : Figure X) (p q : Times) : Type 0 where
   pub received : (x : X) (k : Kind) (e : MachineEvent) (row : X × Change) → f.Receives p x k e row → f.Receives q x k e row
   pub received_only : (x : X) (k : Kind) (e : MachineEvent) (row : X × Change) → f.Receives q x k e row → f.Receives p x k e row
@@ -170,7 +178,7 @@ pub record IsSteady {X : Type 0} (f : Figure X) (p q : Times) : Type 0 where
   pub closes : (x : X) (h : ℕ) → IfSome (f.window p x) (λ w. IfSome w.1 (λ close. h ≤ close)) → IfSome (f.window q x) (λ w. IfSome w.1 (λ close. h ≤ close))
   pub sends_by : (x : X) (h : ℕ) → All (λ last. h ≤ last) (f.sends_by p x) → All (λ last. h ≤ last) (f.sends_by q x)
 
--- what may be sent is told by its bytes from what has to be sent, and one send does not pay both
+-- `May` holds of exactly the debts that only may be sent, it is decided which of them a send satisfies, and it satisfies no other with them
 pub record IsSorted {X : Type 0} (f : Figure X) (q : Times) (May : List MachineEvent → X → List ℕ → Type 0) : Type 0 where
   pub sorted : (es : List MachineEvent) (m : ℕ) (y : Owing X) → AreOneKind es → Stands f q es m y →
       All (λ o. (o.must ≡ true → ¬ (May es y.phase o.message)) × (o.must ≡ false → May es y.phase o.message)) y.owes
@@ -180,7 +188,7 @@ pub record IsSorted {X : Type 0} (f : Figure X) (q : Times) (May : List MachineE
 all-both : {A : Type 0} (P Q R : A → Type 0) (xs : List A) → ((x : A) → P x → Q x → R x) → All P xs → All Q xs → All R xs
 all-both P Q R xs by ps qs k d low = by _ (ps k d low) (qs k d low)
 
--- what is still owed at its moment is not past
+-- a debt that is still owed when an event comes is not past, where none that must be sent was
 fresh-at : {X : Type 0} (e : MachineEvent) (x : Owing X) → All (λ o. o.must ≡ true → e.moment ≤ o.deadline) x.owes → All (λ o. e.moment ≤ o.deadline) (left_at e x)
 fresh-at e x due =
     all-both (λ o. o.must ≡ true → e.moment ≤ o.deadline) (λ o. keep_at e.moment o ≡ true) (λ o. e.moment ≤ o.deadline) (left_at e x) (λ o is_due kept. by o o.must refl is_due kept)
@@ -194,6 +202,7 @@ module _ {X : Type 0} (f : Figure X) (p : Times) (early late : ℕ) (wider : p.l
   abbrev q : Times
   q = tolerant early late p
 
+  -- Later stays true where both lists are changed in the same way
   later-changed : (t : ℕ) (c : Change) (os ns : List Owed) → Later os ns → Later (changed p t c os) (changed q t c ns)
   later-changed t keeps os ns later = later
   later-changed t softens os ns later = later-softened os ns later
@@ -202,14 +211,14 @@ module _ {X : Type 0} (f : Figure X) (p : Times) (early late : ℕ) (wider : p.l
       later-append os ns (record { message = message; deadline = close_at p t 0; must = must } ∷ []) (record { message = message; deadline = close_at q t 0; must = must } ∷ []) later
       (both (record { message = message; deadline = close_at p t 0; must = must }) (record { message = message; deadline = close_at q t 0; must = must }) [] [] refl refl (omega (arith, wider)) nothing)
 
-  -- a state by the wider tolerance beside one by the other
+  -- the two states have one phase, and the debts of the second are later
   abbrev IsNear : Owing X → Owing X → Type 0
   IsNear x y = (y.phase ≡ x.phase) × Later x.owes y.owes
 
   near : (x y z : Owing X) → z ≡ x → IsNear x y → IsNear z y
   near x y z same is_near = subst (λ w. IsNear w y) (sym same) is_near
 
-  -- it lasts and may end as the other
+  -- the second state lasts as long as the first
   near-lasts : (m : ℕ) (phase : X) (os ns : List Owed) → Later os ns → Lasts f p (record { phase = phase; owes = os }) m → Lasts f q (record { phase = phase; owes = ns }) m
   near-lasts m phase os ns later lasts = (steady.closes phase m lasts.0, steady.sends_by phase m lasts.1, later-due m os ns later lasts.2)
 
@@ -231,6 +240,7 @@ module _ {X : Type 0} (f : Figure X) (p : Times) (early late : ℕ) (wider : p.l
     row-near : (z : Owing X) (row : X × Change) → z ≡ record { phase = row.0; owes = changed p e.moment row.1 os } → IsNear z (record { phase = row.0; owes = changed q e.moment row.1 ns })
     row-near z row to = near (record { phase = row.0; owes = changed p e.moment row.1 os }) (record { phase = row.0; owes = changed q e.moment row.1 ns }) z to (refl, later-changed e.moment row.1 os ns later)
 
+    -- where a send leads from the first state to z, it leads from the second to a state near z
     emits-near : (z : Owing X) → Emits f p e before_it z → Follow-near z (Emits f q e beside_it)
     emits-near z (inl (row, is_row, to)) = (record { phase = row.0; owes = changed q e.moment row.1 ns }, inl (row, steady.sent phase e.kind e row is_row, refl), row-near z row to)
     emits-near z (inr (inl (left, paid, to))) =
@@ -242,6 +252,7 @@ module _ {X : Type 0} (f : Figure X) (p : Times) (early late : ℕ) (wider : p.l
     fails-near true z ((w, emits), to) = let (v, also, is_near) = emits-near w emits in (quiet f.ended, ((v, also), refl), near (quiet f.ended) (quiet f.ended) z to (refl, nothing))
     fails-near false z emits = emits-near z emits
 
+    -- where a step leads from the first state to z, one leads from the second to a state near z
     steps-near : (a : Action) (z : Owing X) → Steps f p a e before_it z → Follow-near z (Steps f q a e beside_it)
     steps-near Received z (inl (row, is_row, to)) =
         (record { phase = row.0; owes = changed q e.moment row.1 ns }, inl (row, steady.received phase e.kind e row is_row, refl), row-near z row to)
@@ -259,9 +270,10 @@ module _ {X : Type 0} (f : Figure X) (p : Times) (early late : ℕ) (wider : p.l
   one-kind-front : (es more : List MachineEvent) → AreOneKind (es ++ more) → AreOneKind es
   one-kind-front es more one a b in-a in-b same = one a b (Contains-append_left es more a in-a) (Contains-append_left es more b in-b) same
 
+  -- What follows is of a figure that is steady and whose debts are sorted.
   module _ (May : List MachineEvent → X → List ℕ → Type 0) (is_sorted : IsSorted f q May)
       (lasts : (es : List MachineEvent) (m : ℕ) (x : Owing X) → Stands f p es m x → Lasts f p x m) (lasts-too : (es : List MachineEvent) (m : ℕ) (x : Owing X) → Stands f q es m x → Lasts f q x m) where
-    -- a run by the tolerance has one beside it by the wider one
+    -- a state by the wider tolerance, with the same phase and later debts, stands where this one stands
     abbrev HasNear : List MachineEvent → ℕ → Owing X → Type 0
     HasNear es m x = (phase : X) × (ns : List Owed) × (x.phase ≡ phase) × Stands f q es m (record { phase = phase; owes = ns }) × Later x.owes ns
 
@@ -277,6 +289,7 @@ module _ {X : Type 0} (f : Figure X) (p : Times) (early late : ℕ) (wider : p.l
       abbrev Sorts : Owed → Type 0
       Sorts o = (o.must ≡ true → ¬ (May es y.phase o.message)) × (o.must ≡ false → May es y.phase o.message)
 
+      -- where a send satisfies a debt that only may be sent, each debt that it satisfies only may be sent
       apart : All Sorts (left_at e y) → (n : Owed) → Contains (left_at e y) n → n.must ≡ false → S n.message → All (λ k. S k.message → k.must ≡ false) (left_at e y)
       apart sorted n among may pays = All-weaker Sorts (λ k. S k.message → k.must ≡ false) (λ k sorts also. by k sorts also k.must refl) (left_at e y) sorted
         where
@@ -287,6 +300,7 @@ module _ {X : Type 0} (f : Figure X) (p : Times) (early late : ℕ) (wider : p.l
           by k sorts also true is = absurd (sorts.0 is (is_sorted.alike es y.phase e.kind e k.message n.message also pays is_may))
           by k sorts also false is = is
 
+      -- where a send pays a debt of the first state, it pays one of the second, and what is left there is later
       also-pays-here : AreOneKind es → Stands f p es e.moment x → Stands f q es e.moment y → Later x.owes y.owes → (left : List Owed)
           → IsWithoutFirst (λ o. f.Satisfies y.phase e.kind e o.message × (e.moment ≤ o.deadline)) (left_at e x) left
           → (others : List Owed) × IsWithoutFirst (λ o. f.Satisfies y.phase e.kind e o.message × (e.moment ≤ o.deadline)) (left_at e y) others × Later left others
@@ -297,6 +311,7 @@ module _ {X : Type 0} (f : Figure X) (p : Times) (early late : ℕ) (wider : p.l
           (All-weaker Sorts (λ n. n.must ≡ false → Dec (S n.message)) (λ n sorts may. is_sorted.decides es y.phase e.kind e n.message (sorts.1 may)) (left_at e y) sorted) (apart sorted) in
           (others, from-without (λ o. S o.message × (e.moment ≤ o.deadline)) (left_at e y) others without, less)
 
+    -- where an event leads from a state that has one near it, it leads to a state that has one near it
     also-takes : (es : List MachineEvent) (e : MachineEvent) (x z : Owing X) → AreOneKind es → Stands f p es e.moment x → Takes f p x e z → HasNear es e.moment x → HasNear (es ++ e ∷ []) e.moment z
     also-takes es e x z one stands take (phase, ns, is_phase, beside, later) =
         let y : Owing X = record { phase = phase; owes = ns } in
@@ -304,6 +319,7 @@ module _ {X : Type 0} (f : Figure X) (p : Times) (early late : ℕ) (wider : p.l
         (subst (λ a. Steps f p e.action e (record { phase = a; owes = left_at e x }) z) is_phase take) in
         (w.phase, w.owes, sym is_near.0, takes es e y w beside steps, is_near.1)
 
+    -- where a run stands in a state, a run by the wider tolerance stands in a state near it
     has-near : (es : List MachineEvent) (m : ℕ) (x : Owing X) → AreOneKind es → Stands f p es m x → HasNear es m x
     has-near _ _ _ one begins = (f.idle, [], refl, begins, nothing)
     has-near _ _ _ one (waits es h m x stands low lasting) =
@@ -315,6 +331,6 @@ module _ {X : Type 0} (f : Figure X) (p : Times) (early late : ℕ) (wider : p.l
     has-near _ _ _ one (takes es e x z stands take) =
         let before = one-kind-front es (e ∷ []) one in also-takes es e x z before stands take (has-near es e.moment x before stands)
 
-    -- in the same phase
+    -- where a run stands, a run by the wider tolerance stands in the same phase
     pub wider-keeps : (es : List MachineEvent) (m : ℕ) (x : Owing X) → AreOneKind es → Stands f p es m x → (y : Owing X) × Stands f q es m y × (y.phase ≡ x.phase)
     wider-keeps es m x one stands = let found = has-near es m x one stands in (record { phase = found.0; owes = found.1 }, found.3, sym found.2)

@@ -1,5 +1,5 @@
 use Rattle.sip_standard.specs.KeyMachine.{OfPlainClient}
-use Rattle.consequences.proofs.lemmas.run.Lasting.{what_stands_lasts}
+use Rattle.sip_states.proofs.runs.StandsLemmas.{what_stands_lasts}
 use Rattle.consequences.proofs.lemmas.client.TimerF.{over-by-timer-f, silent-after-timer-f}
 use Rattle.consequences.proofs.plain_client.an_unanswered_request_ends_by_timer_f.Goals as goal
 

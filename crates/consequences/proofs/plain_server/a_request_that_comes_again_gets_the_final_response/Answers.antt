@@ -1,5 +1,5 @@
 use Rattle.sip_standard.specs.KeyMachine.{OfPlainServer}
-use Rattle.consequences.proofs.lemmas.run.Lasting.{what_stands_lasts}
+use Rattle.sip_states.proofs.runs.StandsLemmas.{what_stands_lasts}
 use Rattle.consequences.proofs.lemmas.server.PlainServers.{answered-again}
 use Rattle.consequences.proofs.plain_server.a_request_that_comes_again_gets_the_final_response.Goals as goal
 

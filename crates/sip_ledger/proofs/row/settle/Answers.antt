@@ -6,7 +6,7 @@ use Rattle.sip_ledger.proofs.grids.RowLemmas.{stays-open, moved-open, moved-debt
 use Rattle.sip_ledger.proofs.row.settle.Goals as goal
 use Rattle.sip_ledger.proofs.row.settle.Goals.{then-to-at, else-to-at}
 
--- what holds of words holds of the same ones
+-- what holds of two lists and a number holds of equal ones
 along : (P : List ℕ → List ℕ → ℕ → Type 0) (a a' b b' : List ℕ) (h h' : ℕ) → a ≡ a' → b ≡ b' → h ≡ h' → P a' b' h' → P a b h
 along P a a' b b' h h' same_a same_b same_h p =
     subst (λ x. P x b h) (sym same_a) (subst (λ y. P a' y h) (sym same_b) (subst (λ n. P a' b' n) (sym same_h) p))

@@ -1,33 +1,55 @@
-use Rattle.std.proofs.Common.{◌+◌}
+use Rattle.std.proofs.Common.{◌≡◌, ◌∷◌, ◌++◌, List, ℕ, take, drop, subst, sym, ap, ◌∙◌, refl}
+use mathlib.Core.Bool.{true≢false}
+use Rattle.std.proofs.lemmas.List.{take_rest, take-append-drop}
+use Rattle.std.specs.Str.Parse.{digits_value}
+use Rattle.sip_log.specs.inner.Number.{IsNumber, IsPlain}
 use Rattle.sip_log.specs.inner.Spelling.{space}
-use Rattle.std.proofs.lemmas.List.{take_rest}
-use Rattle.sip_log.proofs.lines.SplitLemmas.{first-cut, first-none, Lacks-cut}
-use Rattle.sip_log.proofs.lines.LineLemmas.{Numbers-parts, Numbers-of}
+use Rattle.sip_log.proofs.numbers.DigitLemmas.{digits-front}
 use Rattle.sip_log.proofs.line.read_numbers.Goals as goal
 
-pub returns-in_err-blank : goal.returns-in_err-blank
-returns-in_err-blank c =
-    rw c.from_residual.ensures
-    (λ moment len is. Lacks-cut space c.args.text.now is.moment_text is.len_text (first-none space _ c.in_err-blank.ensures) is.whole)
+pub returns-then-not-is_plain : goal.returns-then-not-is_plain
+returns-then-not-is_plain c = λ moment len is.
+    let read = c.digits-moment.ensures in
+    let parts = digits-front c.args.text.now is.moment_text is.len_text c.digits-moment.result.1 is.whole is.moment_is.digits.1 read.within read.run read.end in
+    true≢false (sym (c.if-not-is_plain.ensures.1 (subst IsPlain (sym parts.0) (is.moment_is.digits.0, is.moment_is.plain))))
 
-pub returns-in_err-moment : goal.returns-in_err-moment
-returns-in_err-moment c =
-    let text = c.args.text.now in
-    let at = first-cut space text c.in_ok-blank.blank c.in_ok-blank.ensures in
-    rw c.from_residual-in_err-moment.ensures
-    (λ moment len is. c.in_err-moment.ensures moment (Numbers-parts text _ _ moment len at is).0)
+pub returns-in_err-rest : goal.returns-in_err-rest
+returns-in_err-rest c =
+    rw c.from_residual.ensures
+    (λ moment len is.
+    let read = c.digits-moment.ensures in
+    let parts = digits-front c.args.text.now is.moment_text is.len_text c.digits-moment.result.1 is.whole is.moment_is.digits.1 read.within read.run read.end in
+    (rw (take_rest c.args.text.now c.digits-moment.result.1) at c.in_err-rest.ensures) is.len_text parts.1)
 
 pub returns-in_err-len : goal.returns-in_err-len
 returns-in_err-len c =
     let text = c.args.text.now in
-    let at = first-cut space text c.in_ok-blank.blank c.in_ok-blank.ensures in
+    let at = c.digits-moment.result.1 in
+    let rest : drop at text ≡ space ∷ c.in_ok-rest.rest.now = rw (take_rest text at) at c.in_ok-rest.ensures in
     rw c.from_residual-in_err-len.ensures
-    (λ moment len is. (rw (take_rest text (c.in_ok-blank.blank + 1)) at c.in_err-len.ensures) len (Numbers-parts text _ _ moment len at is).1)
+    (λ moment len is.
+    let read = c.digits-moment.ensures in
+    let parts = digits-front text is.moment_text is.len_text at is.whole is.moment_is.digits.1 read.within read.run read.end in
+    let same : is.len_text ≡ c.in_ok-rest.rest.now = cc in
+    c.in_err-len.ensures len (subst (λ t. IsNumber t len) same is.len_is))
 
 pub returns : goal.returns
 returns c =
     let text = c.args.text.now in
-    let at = first-cut space text c.in_ok-blank.blank c.in_ok-blank.ensures in
-    let moment = c.in_ok-moment.ensures in
-    let len = rw (take_rest text (c.in_ok-blank.blank + 1)) at c.in_ok-len.ensures in
-    (moment.0, len.0, Numbers-of text _ _ _ _ at moment.1 len.1, moment.2, len.2)
+    let at = c.digits-moment.result.1 in
+    let rest : drop at text ≡ space ∷ c.in_ok-rest.rest.now = rw (take_rest text at) at c.in_ok-rest.ensures in
+    let plain = c.if-not-is_plain.ensures.0 refl in
+    let len = c.in_ok-len.ensures in
+    let moment_is : IsNumber (take at text) (digits_value 10 (take at text)) = record { digits = (plain.0, c.digits-moment.ensures.run); plain = plain.1; value = refl } in (
+      digits_value 10 (take at text),
+      len.0,
+      record {
+        moment_text = take at text;
+        len_text = c.in_ok-rest.rest.now;
+        moment_is = moment_is;
+        len_is = len.1;
+        whole = sym (take-append-drop at text) ∙ ap (λ (t : List ℕ). take at text ++ t) rest;
+      },
+      c.digits-moment.ensures.value,
+      len.2,
+    )

@@ -1,22 +1,26 @@
-use Rattle.std.proofs.Common.{arith}
-use Rattle.std.proofs.lemmas.Int.Digits.{digits_value_more, digits_more}
-use Rattle.std.proofs.lemmas.Str.{digit_value_digit}
+use Rattle.std.proofs.Common.{◌≡◌, length, take, subst, sym, ap, ◌∙◌, refl, arith}
+use mathlib.Core.Bool.{true≢false}
+use Rattle.std.proofs.Math.Seq.{take-length}
+use Rattle.std.specs.Str.Parse.{AllDigits, digits_value}
 use Rattle.std.proofs.lemmas.Str.Parse.{digit_at}
+use Rattle.sip_log.specs.inner.Number.{cut}
 use Rattle.sip_log.proofs.number.number.Goals as goal
 
-pub returns-then-not-is_ascii_digit : goal.returns-then-not-is_ascii_digit
-returns-then-not-is_ascii_digit c = λ n is.
-    let digit = digit_at c.args.text.now c.loop-byte.byte-index is.digits.1 c.loop-byte-test.true in
-    omega (arith, digit, c.if-not-is_ascii_digit.ensures.cases)
+pub returns-then-not-is_plain : goal.returns-then-not-is_plain
+returns-then-not-is_plain c = λ n is. true≢false (sym (c.if-not-is_plain.ensures.1 (is.digits.0, is.plain)))
 
-pub loop-byte-preserved : goal.loop-byte-preserved
-loop-byte-preserved c =
-    let i = c.loop-byte.byte-index in
+pub returns-then-len-text : goal.returns-then-len-text
+returns-then-len-text c = λ n is.
+    let digit = digit_at c.args.text.now c.digits-value.result.1 is.digits.1 (omega arith) in
+    omega (arith, digit, c.digits-value.ensures.end (omega arith))
+
+pub returns : goal.returns
+returns c =
     let text = c.args.text.now in
-    let inside = c.loop-byte-test.true in
-    let digit = c.if-not-is_ascii_digit.ensures in
-    let more = digits_value_more 10 text i inside in
-    record {
-      digits = digits_more 10 text i inside c.loop-byte.invariant.digits digit.bound;
-      value = omega (arith, more, digit_value_digit _ digit.cases, c.loop-byte.invariant.value);
-    }
+    let plain = c.if-not-is_plain.ensures.0 refl in
+    let same : c.digits-value.result.1 ≡ length text = omega (arith, c.digits-value.ensures.within) in
+    let whole : take c.digits-value.result.1 text ≡ text = ap (λ n. take n text) same ∙ take-length text in (
+      digits_value 10 text,
+      record { digits = (plain.0, subst (AllDigits 10) whole c.digits-value.ensures.run); plain = plain.1; value = refl },
+      c.digits-value.ensures.value ∙ ap (λ t. cut (digits_value 10 t)) whole,
+    )

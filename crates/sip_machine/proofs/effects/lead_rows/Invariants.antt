@@ -4,6 +4,6 @@ use Rattle.sip_machine.specs.Owing.{changed_debts}
 use Rattle.sip_ledger.proofs.lists.EachLemmas.{changing}
 use Rattle.sip_machine.proofs.effects.lead_rows.Given as goal
 
--- the rows so far are led
+-- the rows from `from` up to `row` owe what the change makes of what has not expired, and the others owe what they did
 abbrev pub invariant-loop-row : goal.invariant-loop-row
 invariant-loop-row l = (l.from ≤ l.row) × (l.dues ≡ changing (λ owes. changed_debts l.params l.moment l.change (filter (counts_at l.moment) owes)) l.from l.row l.initial.dues)

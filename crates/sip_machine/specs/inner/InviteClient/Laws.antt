@@ -20,7 +20,7 @@ use Rattle.sip_machine.specs.inner.WaitingLaws.{waiting_exact, waiting_apart, wa
 
 -- Laws of the INVITE client's phases.
 
--- equal phases of the code are the same one
+-- phases of the code that the test finds equal are the same one
 pub invite_client_exact : (x y : CodePhase) → derived.ghosts.eq x y ≡ true → x ≡ y
 invite_client_exact code.Idle code.Idle e = refl
 invite_client_exact (code.Calling w) (code.Calling w') e = ap code.Calling (waiting_exact w w' e)
@@ -50,7 +50,7 @@ invite_client_by_names a b (code.Proceeding reliable request cancel) agree = ap 
 invite_client_by_names a b (code.Completed reliable request set) agree = ap (λ text. Completed reliable text set) (agree request (0, omega arith, refl))
 invite_client_by_names a b x agree = refl
 
--- its timers do not depend on the book
+-- the timers of a phase of the code are the same beside each book
 pub invite_client_window_same : SameWindow invite_client invite_client_seen
 invite_client_window_same a b p (code.Proceeding reliable request None) = refl
 invite_client_window_same a b p x = refl
@@ -59,12 +59,12 @@ pub invite_client_closes_same : SameCloses invite_client invite_client_seen
 invite_client_closes_same a b p code.Idle = refl
 invite_client_closes_same a b p x = refl
 
--- timer D, where it has to fire, is not past as it starts
+-- timer D is not past as it starts: over a reliable transport it must fire at once, and over another one at no certain moment
 pub timer_d_starts : (p : Times) (reliable : Bool) (t : ℕ) → All (λ m. t ≤ m) (closes_of (if reliable then window_at p t 0 else Some (open_at p t 32000, None)) ++ [])
 timer_d_starts p true t = timer_starts p t 0
 timer_d_starts p false t = All-nil (λ m. t ≤ m)
 
--- a row leads to a phase whose timers are not past
+-- the row of a received message leads to a phase whose timers are not past
 received : LeadOn invite_client Receives
 received p (Calling w) (Response code) e y running (inl provisional) = rw provisional.1 (All-nil (λ m. e.moment ≤ m))
 received p (Calling w) (Response code) e y running (inr (inl success)) = rw success.1 (timer_starts p e.moment (64 * p.t1))
@@ -74,6 +74,7 @@ received p (Proceeding reliable request cancel) (Response code) e y running (inr
 received p (Completed reliable request set) (Response code) e y running h = rw h.1 running
 received p x k e y running h = absurd h
 
+-- the row of a sent message leads to a phase whose timers are not past
 sent : LeadOn invite_client Sends
 sent p Idle (Request Invite) e y running h = rw h (repeat_starts p e.moment (close_at p e.moment (64 * p.t1)) p.t1 e.reliable (omega arith))
 sent p Idle (Request Ack) e y running h = rw h running
@@ -84,7 +85,7 @@ sent p (Proceeding reliable request None) (Request Cancel) e y running h = rw h 
 sent p x (Request Cancel) e y running h = rw h running
 sent p x k e y running h = absurd h
 
--- a row that is sent does not drop the debts
+-- a sent message whose row drops the debts, or that may leave the state as it is, leads to another phase; here there is no such message
 leaves : LeadAway invite_client
 leaves p Idle (Request Invite) e y h (inl drop) = absurd (keeps_them h drop)
 leaves p Idle (Request Ack) e y h (inl drop) = absurd (keeps_them h drop)
@@ -95,6 +96,7 @@ leaves p x (Request Cancel) e y h (inl drop) = absurd (keeps_them h drop)
 leaves p x k e y h (inl drop) = absurd h
 leaves p x k e y h (inr stays) = absurd stays
 
+-- the INVITE client keeps what a figure keeps
 pub invite_client_is_figure : IsFigure invite_client
 invite_client_is_figure =
     record {
@@ -108,13 +110,13 @@ invite_client_is_figure =
       stays_unpaid = λ x k e message stays. absurd stays;
     }
 
--- what a phase names is what its words tell
+-- the messages that a phase of the code names are those that its words tell
 invite_client_named : TellNames invite_client_seen invite_client_names invite_client_told
 invite_client_named texts code.Idle = refl
 invite_client_named texts x = refl
 
--- the code has it as it is
-pub invite_client_is_coded : IsCoded invite_client invite_client_coded
+-- the code has the phases of the INVITE client as they are
+pub invite_client_is_coded : IsCoded invite_client invite_client_told invite_client_coded
 invite_client_is_coded =
     record {
       is_figure = invite_client_is_figure;

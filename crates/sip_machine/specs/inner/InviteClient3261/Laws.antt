@@ -7,19 +7,20 @@ use Rattle.sip_standard.specs.Kind.{IsSuccess}
 use Rattle.sip_machine.specs.FigureRules.{IsFigure}
 use Rattle.sip_standard.specs.InviteClient.{InviteClientPhase, Calling, Proceeding, Completed}
 use Rattle.sip_standard.specs.InviteClient3261.{Receives, invite_client_3261}
+use Rattle.sip_standard.specs.PhaseWords.{invite_client_told}
 use Rattle.sip_machine.specs.inner.InviteClient3261.{invite_client_3261_coded}
 use Rattle.sip_machine.specs.inner.Coded.{IsCoded, LeadOn}
 use Rattle.sip_machine.specs.inner.InviteClient.Laws.{timer_d_starts, invite_client_is_figure, invite_client_is_coded}
 
 -- Laws of the INVITE client of RFC 3261.
 
--- the phase waits for a final response, and the message is a 2xx
+-- the phase waits for a final response, and the message is a 2xx, which ends it
 abbrev pub IsEndedBy : InviteClientPhase → Kind → Type 0
 IsEndedBy (Calling w) (Response code) = IsSuccess code
 IsEndedBy (Proceeding reliable request cancel) (Response code) = IsSuccess code
 IsEndedBy x k = ⊥
 
--- a row leads to a phase whose timers are not past
+-- the row of a received message leads to a phase whose timers are not past
 received : LeadOn invite_client_3261 Receives
 received p (Calling w) (Response code) e y running (inl provisional) = rw provisional.1 (All-nil (λ m. e.moment ≤ m))
 received p (Calling w) (Response code) e y running (inr (inl success)) = rw success.1 (All-nil (λ m. e.moment ≤ m))
@@ -29,6 +30,7 @@ received p (Proceeding reliable request cancel) (Response code) e y running (inr
 received p (Completed reliable request set) (Response code) e y running h = rw h.1 running
 received p x k e y running h = absurd h
 
+-- the INVITE client of RFC 3261 keeps what a figure keeps
 pub invite_client_3261_is_figure : IsFigure invite_client_3261
 invite_client_3261_is_figure =
     record {
@@ -42,8 +44,8 @@ invite_client_3261_is_figure =
       stays_unpaid = invite_client_is_figure.stays_unpaid;
     }
 
--- the code has it as it is
-pub invite_client_3261_is_coded : IsCoded invite_client_3261 invite_client_3261_coded
+-- the code has the phases of the INVITE client of RFC 3261 as they are
+pub invite_client_3261_is_coded : IsCoded invite_client_3261 invite_client_told invite_client_3261_coded
 invite_client_3261_is_coded =
     record {
       is_figure = invite_client_3261_is_figure;

@@ -29,11 +29,11 @@ use Rattle.sip_machine.specs.inner.InviteServer.Laws.{invite_server_exact, invit
 
 -- Laws of the phases of the INVITE server of RFC 3261.
 
--- where a row of InviteServer leads in the code
+-- a turn of `InviteServer` as one of the INVITE server of RFC 3261
 abbrev pub turn_within : Bool → Turn CodeCorrected → Turn CodePhase
 turn_within again turn = record { phase = code.In turn.phase again; change = turn.change }
 
--- equal phases of the code are the same one
+-- phases of the code that the test finds equal are the same one
 pub invite_server_3261_exact : (x y : CodePhase) → derived.ghosts.eq x y ≡ true → x ≡ y
 invite_server_3261_exact code.Passed code.Passed e = refl
 invite_server_3261_exact code.Passed (code.In phase again) e = cc
@@ -64,7 +64,7 @@ pub invite_server_3261_by_names : StandByNames invite_server_3261_seen invite_se
 invite_server_3261_by_names a b code.Passed agree = refl
 invite_server_3261_by_names a b (code.In phase again) agree = ap (λ x. In x again) (invite_server_by_names a b phase agree)
 
--- its timers do not depend on the book
+-- the timers of a phase of the code are the same beside each book
 pub invite_server_3261_window_same : SameWindow invite_server_3261 invite_server_3261_seen
 invite_server_3261_window_same a b p code.Passed = refl
 invite_server_3261_window_same a b p (code.In phase again) = invite_server_window_same a b p phase
@@ -73,12 +73,13 @@ pub invite_server_3261_closes_same : SameCloses invite_server_3261 invite_server
 invite_server_3261_closes_same a b p code.Passed = refl
 invite_server_3261_closes_same a b p (code.In phase again) = invite_server_closes_same a b p phase
 
--- a row leads to a phase whose timers are not past
+-- the row of a received message leads to a phase whose timers are not past
 received : LeadOn invite_server_3261 Receives
 received p Passed (Request Invite) e y running h = rw h (timer_starts p e.moment 200)
 received p Passed k e y running h = absurd h
 received p (In x again) k e y running (after, row, is) = rw is (invite_server_is_figure.received_waits p x k e after running row)
 
+-- the row of a sent message leads to a phase whose timers are not past
 sent : LeadOn invite_server_3261 Sends
 sent p Passed (Response code) e y running h = rw h.1 (All-nil (λ m. e.moment ≤ m))
 sent p (In (Proceeding reliable set last) again) (Response code) e y running (inl success) = rw success.1 (All-nil (λ m. e.moment ≤ m))
@@ -88,14 +89,14 @@ sent p (In (Completed reliable final set repeat interval) again) (Response code)
     rw within.2 (invite_server_is_figure.sent_waits p (Completed reliable final set repeat interval) (Response code) e within.0 running within.1)
 sent p x k e y running h = absurd h
 
--- no row of InviteServer drops the debts
+-- the row of a sent message in `InviteServer` does not drop the debts and stay in its phase
 within_keeps : (p : Times) (x : InviteServerPhase) (k : Kind) (e : MachineEvent) (after : After InviteServerPhase) → corrected.Sends p x k e after → after.1 ≡ drops → after.0 ≡ x → ⊥
 within_keeps p x k e after row drop same = invite_server_is_figure.sent_leaves p x k e after row (inl drop) same
 
 in_same : (a b : InviteServerPhase) (again : Bool) → In a again ≡ In b again → a ≡ b
 in_same a b again same = cc
 
--- a row that drops the debts, or of a send that may leave the state as it is, leads to another phase
+-- the row of a sent message that drops the debts, or may leave the state as it is, leads to another phase
 leaves : LeadAway invite_server_3261
 leaves p Passed (Response code) e y h (inl drop) = absurd (keeps_them h.1 drop)
 leaves p Passed (Response code) e y h (inr stays) = absurd stays
@@ -110,11 +111,12 @@ leaves p (In (Completed reliable final set repeat interval) again) (Response cod
 leaves p (In (Completed reliable final set repeat interval) again) (Response code) e y (other, within) (inr stays) = absurd (other stays.2)
 leaves p x k e y h other = absurd h
 
--- what may leave a state as it is pays nothing
+-- a send that may leave a state as it is pays nothing
 unpaid : (x : InviteServer3261Phase) (k : Kind) (e : MachineEvent) (message : List ℕ) → Stays x k → ¬ (Satisfies x k e message)
 unpaid (In x again) (Response code) e message stays = λ pays. pays.0 stays.2
 unpaid x k e message stays = absurd stays
 
+-- the INVITE server of RFC 3261 keeps what a figure keeps
 pub invite_server_3261_is_figure : IsFigure invite_server_3261
 invite_server_3261_is_figure =
     record {
@@ -128,14 +130,14 @@ invite_server_3261_is_figure =
       stays_unpaid = unpaid;
     }
 
--- what a phase names is what its words tell
+-- the messages that a phase of the code names are those that its words tell
 invite_server_3261_named : TellNames invite_server_3261_seen invite_server_3261_names invite_server_3261_told
 invite_server_3261_named texts code.Passed = refl
 invite_server_3261_named texts (code.In (code_phase.Proceeding reliable set None) again) = refl
 invite_server_3261_named texts (code.In phase again) = refl
 
--- the code has it as it is
-pub invite_server_3261_is_coded : IsCoded invite_server_3261 invite_server_3261_coded
+-- the code has the phases of the INVITE server of RFC 3261 as they are
+pub invite_server_3261_is_coded : IsCoded invite_server_3261 invite_server_3261_told invite_server_3261_coded
 invite_server_3261_is_coded =
     record {
       is_figure = invite_server_3261_is_figure;

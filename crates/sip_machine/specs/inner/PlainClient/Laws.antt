@@ -16,7 +16,7 @@ use Rattle.sip_machine.specs.inner.WaitingLaws.{waiting_exact, waiting_apart, wa
 
 -- Laws of the non-INVITE client's phases.
 
--- equal phases of the code are the same one
+-- phases of the code that the test finds equal are the same one
 pub plain_client_exact : (x y : CodePhase) → derived.ghosts.eq x y ≡ true → x ≡ y
 plain_client_exact code.Idle code.Idle e = refl
 plain_client_exact (code.Trying w) (code.Trying w') e = ap code.Trying (waiting_exact w w' e)
@@ -40,7 +40,7 @@ plain_client_by_names a b (code.Trying w) agree = ap Trying (waiting_by_names a 
 plain_client_by_names a b (code.Proceeding w) agree = ap Proceeding (waiting_by_names a b w agree)
 plain_client_by_names a b x agree = refl
 
--- its timers do not depend on the book
+-- the timers of a phase of the code are the same beside each book
 pub plain_client_window_same : SameWindow plain_client plain_client_seen
 plain_client_window_same a b p code.Idle = refl
 plain_client_window_same a b p x = refl
@@ -49,13 +49,14 @@ pub plain_client_closes_same : SameCloses plain_client plain_client_seen
 plain_client_closes_same a b p code.Idle = refl
 plain_client_closes_same a b p x = refl
 
--- a row leads to a phase whose timers are not past
+-- the row of a received message leads to a phase whose timers are not past
 received : LeadOn plain_client Receives
 received p (Trying w) (Response code) e y running h =
     elim h [ inl provisional ↦ rw provisional.1 running | inr final ↦ rw final.1 (timer_starts p e.moment (if w.reliable then 0 else p.t4)) ]
 received p (Proceeding w) (Response code) e y running h = rw h.1 (timer_starts p e.moment (if w.reliable then 0 else p.t4))
 received p x k e y running h = absurd h
 
+-- the row of a sent message leads to a phase whose timers are not past
 sent : LeadOn plain_client Sends
 sent p Idle (Request method) e y running h = rw h (repeat_starts p e.moment (close_at p e.moment (64 * p.t1)) p.t1 e.reliable (omega arith))
 sent p (Trying w) (Request method) e y running h =
@@ -64,7 +65,7 @@ sent p (Proceeding w) (Request method) e y running h =
     rw h.1 (repeat_starts p e.moment (close_at p w.start (64 * p.t1)) p.t2 w.reliable (patience_lasts p w e.moment (64 * p.t1) running))
 sent p x k e y running h = absurd h
 
--- a row that is sent does not drop the debts
+-- a sent message whose row drops the debts, or that may leave the state as it is, leads to another phase; here there is no such message
 leaves : LeadAway plain_client
 leaves p Idle (Request method) e y h (inl drop) = absurd (keeps_them h drop)
 leaves p (Trying w) (Request method) e y h (inl drop) = absurd (keeps_them h.1 drop)
@@ -72,6 +73,7 @@ leaves p (Proceeding w) (Request method) e y h (inl drop) = absurd (keeps_them h
 leaves p x k e y h (inl drop) = absurd h
 leaves p x k e y h (inr stays) = absurd stays
 
+-- the non-INVITE client keeps what a figure keeps
 pub plain_client_is_figure : IsFigure plain_client
 plain_client_is_figure =
     record {
@@ -85,13 +87,13 @@ plain_client_is_figure =
       stays_unpaid = λ x k e message stays. absurd stays;
     }
 
--- what a phase names is what its words tell
+-- the messages that a phase of the code names are those that its words tell
 plain_client_named : TellNames plain_client_seen plain_client_names plain_client_told
 plain_client_named texts code.Idle = refl
 plain_client_named texts x = refl
 
--- the code has it as it is
-pub plain_client_is_coded : IsCoded plain_client plain_client_coded
+-- the code has the phases of the non-INVITE client as they are
+pub plain_client_is_coded : IsCoded plain_client plain_client_told plain_client_coded
 plain_client_is_coded =
     record {
       is_figure = plain_client_is_figure;

@@ -14,7 +14,7 @@ swizzle-low c = low_ok c.args.v c.fits-v
 pub swizzle-high : goal.swizzle-high
 swizzle-high c = high_ok c.args.v c.fits-v
 
--- neither plain nor a control
+-- the byte is neither plain nor a control
 abbrev is_neither : ℕ → Bool
 is_neither byte = is_other byte && not (is_control byte)
 

@@ -6,7 +6,7 @@ use Rattle.sip_masks.specs.Marks.{is_control, is_other, BitsTell, words_for}
 use Rattle.sip_masks.proofs.WordLemmas.{marks-more, ones-past, front-ends}
 use Rattle.sip_masks.proofs.masks.mark.Goals as goal
 
--- the last two words
+-- where a text ends in word k, which w tells, the words with w at place k and a word of ones after it are the masks of the text
 last-two : (p : ℕ → Bool) (text words : List ℕ) (k w : ℕ) → p 0 ≡ true → k + 1 < length words → length text < 64 * (k + 1) → 64 * k ≤ length text → BitsTell p text words (64 * k)
     → ((i : ℕ) → i < 64 → test w i ≡ p (get_or text (64 * k + i) 0)) → BitsTell p text (set (set words k w) (k + 1) 18446744073709551615) (64 * words_for (length text))
 last-two p text words k w nul room past there before now i below =

@@ -4,7 +4,7 @@ use Rattle.sip_message.specs.inner.MessageText.{found_from}
 use Rattle.sip_message.specs.inner.Views.{field_parts}
 use Rattle.sip_message.proofs.field.cut_value.Given as goal
 
--- no field of the name was passed over
+-- no field of the name stands between the place from which they are looked for and the index
 abbrev pub invariant-loop-at : goal.invariant-loop-at
 invariant-loop-at l = record {
   values : values l.name (drop l.fn.from (map field_parts l.fields)) ≡ values l.name (drop l.at (map field_parts l.fields));

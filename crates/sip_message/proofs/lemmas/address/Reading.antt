@@ -1,4 +1,4 @@
--- An address is read step by step, and what is read is the grammar's text.
+-- An address is read step by step, and what is read is what the grammar has.
 use Rattle.std.proofs.Common.{◌≡◌, ℕ, zero, suc, ◌<◌, ◌≤◌, Bool, true, false, ◌||◌, not, nat_eq, nat_lt, List, [], ◌∷◌, ◌++◌, Option, Some, None, IfSome, length, take, drop, get_or, slice_index, refl, sym, ap, ◌∙◌, subst, inl, inr, arith}
 use Rattle.std.specs.Bool.{Decides}
 use Rattle.std.specs.List.{prefix_len}
@@ -34,11 +34,12 @@ use Rattle.sip_message.proofs.lemmas.front.OneWay.{AtMostOne, read-one, one-seq,
 use Rattle.sip_message.proofs.WordLemmas.{one-words, longest-stops}
 use Rattle.sip_message.proofs.lemmas.address.Uri.{uri-scheme, uri-lacks, one-uri}
 
--- the longest token at the front, or nothing
+-- all bytes of the longest token at the front of a text are bytes of tokens, also where there is none
 token-all : (text : List ℕ) (n : ℕ) → IsLongestFront Token text n → All is_token_byte (take n text)
 token-all text zero longest = tt
 token-all text (suc n) longest = each-token _ (token-cut text (suc n) longest (λ none. absurd (omega (arith, none)))).0
 
+-- where a text begins with a scheme, a colon stands after its longest token
 scheme-behind : (text : List ℕ) (n : ℕ) → IsLongestFront Token text n → HasScheme text → (rest : List ℕ) × (drop n text ≡ colon ∷ rest)
 scheme-behind text n longest (scheme, rest, all, whole) =
     let same = same_front is_token_byte scheme (colon ∷ rest) (take n text) (drop n text) all (token-all text n longest) refl (longest-stops text n longest) (sym whole ∙ sym (take-append-drop n text)) in
@@ -56,14 +57,14 @@ decides-scheme text n longest within = (
       eq-eqb (get_or text n 0) colon byte,
 )
 
--- a token that reaches the end has no scheme after it
+-- where the longest token reaches the end of the text, the text begins with no scheme
 pub scheme-short : (text : List ℕ) (n : ℕ) → IsLongestFront Token text n → length text ≤ n → Decides (nat_lt n (length text)) (HasScheme text)
 scheme-short text n longest short = (
   λ less. absurd (omega (arith, ltb-true n (length text) less, short)),
   λ has. absurd (omega (arith, ap length (scheme-behind text n longest has).1, length-drop n text, short)),
 )
 
--- a text that begins with another byte has no scheme
+-- a text that begins with a byte that is neither of a token nor a colon begins with no scheme
 no_scheme : (b : ℕ) (t : List ℕ) → is_token_byte b ≡ false → nat_eq b colon ≡ false → HasScheme (b ∷ t) → ⊥
 no_scheme b t token apart ([], rest, all, whole) = let byte : b ≡ colon = cc in both_ways (nat_eq b colon) apart (eq-eqb b colon byte)
 no_scheme b t token apart (c ∷ s, rest, all, whole) =
@@ -81,7 +82,7 @@ fails-more : (test : ℕ → Bool) (u v : List ℕ) → Fails test u → Fails t
 fails-more test [] v fails = absurd fails
 fails-more test (b ∷ u) v fails = fails
 
--- after a word stand blanks or "<"
+-- where "<" follows words after blanks, what follows a word begins with no byte of a token and no colon
 after-word : (more rest inner : List ℕ) → Many (Blanks then Token) more → Behind rest (left_angle ∷ inner) → Fails is_scheme_front (more ++ rest)
 after-word more rest inner many (stops, (k, y, sws, y_is, r_is)) = elim (some-many (Blanks then Token) more many) [
   | inl none ↦ subst (Fails is_scheme_front) (sym (ap (λ t. t ++ rest) none ∙ r_is ∙ ap (λ t. k ++ t) y_is)) (at sws)
@@ -98,6 +99,7 @@ fails-token : (u : List ℕ) → Fails is_scheme_front u → Stops is_token_byte
 fails-token [] fails = absurd fails
 fails-token (b ∷ u) fails = (or_parts (is_token_byte b) (nat_eq b colon) fails).0
 
+-- words that "<" follows after blanks do not begin with a scheme
 words_no_scheme : (w rest inner : List ℕ) → Words w → Behind rest (left_angle ∷ inner) → HasScheme (w ++ rest) → ⊥
 words_no_scheme w rest inner (t, more, token, many, w_is) behind (scheme, r, all, whole) =
     let fails = after-word more rest inner many behind in
@@ -105,7 +107,7 @@ words_no_scheme w rest inner (t, more, token, many, w_is) behind (scheme, r, all
     (sym whole ∙ ap (λ x. x ++ rest) w_is ∙ append_assoc t more rest) in
     both_ways true (subst (Fails is_scheme_front) (sym same.1) fails) refl
 
--- after a scheme there is no display name
+-- a text that begins with a scheme does not begin with a display name and "<"
 pub no-display : (text : List ℕ) → HasScheme text → NotRead (DisplayFront text)
 no-display text has (None, inner) is = no_scheme left_angle inner refl refl (subst HasScheme is has)
 no-display text has (Some name, inner) (rest, inl (q, whole), behind) =
@@ -113,7 +115,7 @@ no-display text has (Some name, inner) (rest, inl (q, whole), behind) =
 no-display text has (Some name, inner) (rest, inr (words, no_word, whole), behind) =
     words_no_scheme name rest inner words behind (subst HasScheme whole has)
 
--- words begin with a byte of a token
+-- where words are read at the front of a text, its first byte is of a token
 words-first_byte : (text : List ℕ) (x : List ℕ × List ℕ) → WordsFront text x → is_token_byte (slice_index text 0) ≡ true
 words-first_byte text (w, r) ((t, more, token, many, w_is), no_word, whole) =
     ap (λ x. is_token_byte (slice_index x 0)) (whole ∙ ap (λ x. x ++ r) w_is ∙ append_assoc t more r)
@@ -126,12 +128,12 @@ one-name text x y (inl a) (inr b) = absurd (first-fails is_token_byte (slice_ind
 one-name text x y (inr a) (inl b) = absurd (first-fails is_token_byte (slice_index text 0) dquote refl (quoted-first text y b) (words-first_byte text x a))
 one-name text x y (inr a) (inr b) = one-words text x y a b
 
--- it begins with no "<"
+-- where a display name is read at the front of a text, the text does not begin with "<"
 name-angle : (text : List ℕ) (x : List ℕ × List ℕ) → NameFront text x → slice_index text 0 ≡ left_angle → ⊥
 name-angle text x (inl is) angle = absurd (omega (arith, quoted-first text x is, angle))
 name-angle text x (inr is) angle = first-fails is_token_byte (slice_index text 0) left_angle refl angle (words-first_byte text x is)
 
--- the front up to the angle is read in one way
+-- the display name, if there is one, and "<" at the front of a text are read in one way
 pub one-display : (text : List ℕ) → AtMostOne (DisplayFront text)
 one-display text (None, i) (None, j) a b =
     let wholes : left_angle ∷ i ≡ left_angle ∷ j = sym a ∙ b in
@@ -145,21 +147,21 @@ one-display text (Some m, i) (Some n, j) (r, name, behind) (s, name_too, behind_
     let inner : i ≡ j = cc in
     ap (λ x. (Some (x.0), i)) same ∙ ap (λ x. (Some n, x)) inner
 
--- "<" at once
+-- a text that begins with "<" is read as no display name and what follows "<"
 pub display-none : (text inner : List ℕ) → past left_angle text ≡ Some inner → ReadAs (DisplayFront text) (None, inner)
 display-none text inner found = read-one (DisplayFront text) (None, inner) (one-display text) (past-some left_angle text inner found)
 
--- a name, and "<" after it
+-- a text that begins with a display name, and with "<" after the blanks that follow, is read as that name and what follows "<"
 pub display-some : (text name rest stop inner : List ℕ) → ReadAs (NameFront text) (name, rest) → IsOnlyBehind rest stop → past left_angle stop ≡ Some inner → ReadAs (DisplayFront text) (Some name, inner)
 display-some text name rest stop inner is behind found =
     read-one (DisplayFront text) (Some name, inner) (one-display text) (rest, is.0, subst (Behind rest) (past-some left_angle stop inner found) behind.0)
 
--- neither
+-- a text that begins with neither "<" nor a display name is not read as one that opens a URI in angles
 pub display-no_name : (text : List ℕ) → past left_angle text ≡ None → NotRead (NameFront text) → NotRead (DisplayFront text)
 display-no_name text missing none (None, inner) is = let found : past left_angle text ≡ Some inner = ap (past left_angle) is in cc
 display-no_name text missing none (Some name, inner) (rest, is, behind) = none (name, rest) is
 
--- without an angle after the name there is no such front
+-- a text that begins with a display name after whose blanks no "<" stands is not read as one that opens a URI in angles
 pub display-no_angle : (text name rest stop : List ℕ) → past left_angle text ≡ None → ReadAs (NameFront text) (name, rest) → IsOnlyBehind rest stop → past left_angle stop ≡ None → NotRead (DisplayFront text)
 display-no_angle text name rest stop missing is behind no_angle (None, inner) begins = let found : past left_angle text ≡ Some inner = ap (past left_angle) begins in cc
 display-no_angle text name rest stop missing is behind no_angle (Some m, inner) (r, name_is, angle) =
@@ -168,7 +170,7 @@ display-no_angle text name rest stop missing is behind no_angle (Some m, inner) 
     let found : past left_angle stop ≡ Some inner = ap (past left_angle) (sym stop_is) in
     cc
 
--- cuts of these parts
+-- the cut of an address into these parts
 abbrev make : Option (List ℕ) → List ℕ → List ℕ → CutParts
 make d u r = record { display = d; uri = u; rest = r }
 
@@ -176,6 +178,7 @@ cut_same : (c d : CutParts) → c.display ≡ d.display → c.uri ≡ d.uri → 
 cut_same c d displays uris rests =
     ap (λ x. make x c.uri c.rest) displays ∙ ap (λ x. make d.display x c.rest) uris ∙ ap (λ x. make d.display d.uri x) rests
 
+-- an address is cut in one way
 one-cut : (text : List ℕ) → AtMostOne (AddressCut text)
 one-cut text c d (named i display uri rest) (named j display_too uri_too rest_too) =
     let same : ◌≡◌ {A = Option (List ℕ) × List ℕ} (c.display, i) (d.display, j) = one-display text (c.display, i) (d.display, j) display display_too in
@@ -189,24 +192,24 @@ one-cut text c d (plain has none all stops whole) (plain has_too none_too all_to
     let same = same_front is_unmarked_byte c.uri c.rest d.uri d.rest all all_too stops stops_too (sym whole ∙ whole_too) in
     cut_same c d (none ∙ sym none_too) same.0 same.1
 
--- a URI without "<"
+-- a text that begins with a scheme is cut after the bytes that a URI without "<" may hold
 pub cut-plain : (text rest : List ℕ) (n : ℕ) → HasScheme text → n ≡ prefix_len is_unmarked_byte text → rest ≡ drop n text → ReadAs (AddressCut text) (make None (take n text) rest)
 cut-plain text rest n has n_is rest_is =
     let cut = prefix-at is_unmarked_byte text n n_is in
     read-one (AddressCut text) (make None (take n text) rest) (one-cut text)
     (plain has refl cut.0 (subst (Stops is_unmarked_byte) (sym rest_is) cut.1) (sym (take-append-drop n text) ∙ ap (λ t. take n text ++ t) (sym rest_is)))
 
--- a URI in "<" and ">"
+-- a text that opens a URI in angles is cut at the first ">" after that
 pub cut-named : (text inner uri rest : List ℕ) (d : Option (List ℕ)) → ReadAs (DisplayFront text) (d, inner) → uri ≡ before right_angle inner → Some rest ≡ behind right_angle inner → ReadAs (AddressCut text) (make d uri rest)
 cut-named text inner uri rest d is uri_is rest_is =
     read-one (AddressCut text) (make d uri rest) (one-cut text) (named inner is.0 uri_is (sym rest_is))
 
--- a text that is neither a URI nor has a display name is no address
+-- a text that neither begins with a scheme nor opens a URI in angles is not cut
 pub cut-no_display : (text : List ℕ) → (HasScheme text → ⊥) → NotRead (DisplayFront text) → NotRead (AddressCut text)
 cut-no_display text no_has none c (named inner display uri rest) = none (c.display, inner) display
 cut-no_display text no_has none c (plain has is all stops whole) = no_has has
 
--- an address whose angle is not closed is not read
+-- a text that opens a URI in angles, but has no ">" after that, is not cut
 pub cut-open : (text inner : List ℕ) (d : Option (List ℕ)) → (HasScheme text → ⊥) → ReadAs (DisplayFront text) (d, inner) → None ≡ behind right_angle inner → NotRead (AddressCut text)
 cut-open text inner d no_has is missing c (named i display uri rest) =
     let same : ◌≡◌ {A = Option (List ℕ) × List ℕ} (c.display, i) (d, inner) = is.1 (c.display, i) display in
@@ -214,7 +217,7 @@ cut-open text inner d no_has is missing c (named i display uri rest) =
     cc
 cut-open text inner d no_has is missing c (plain has none all stops whole) = no_has has
 
--- the parameters stand after the blanks
+-- the parameters after an address are what is left after its blanks
 tail-behind : (text params : List ℕ) → TailText text params → Behind text params
 tail-behind text [] (is, part) = (refl, ([], [], inl refl, refl, is))
 tail-behind text (b ∷ params) (is, (ps, (opens, whole))) = (stops-byte b params opens, is)
@@ -223,7 +226,7 @@ tail-behind text (b ∷ params) (is, (ps, (opens, whole))) = (stops-byte b param
 pub one-tail : (text : List ℕ) → AtMostOne (TailText text)
 one-tail text p q a b = same-behind text p q (tail-behind text p a) (tail-behind text q b)
 
--- parameters that are there follow it
+-- where what is left after the blanks is not empty and is parameters, the parameters after the address are read as these
 pub tail-is : (text params : List ℕ) → IsOnlyBehind text params → nat_eq (length params) 0 ≡ false → ((ps : List (List ℕ × Option (List ℕ))) × ParamsPart params ps) → ReadAs (TailText text) params
 tail-is text params behind some part = read-one (TailText text) params (one-tail text) (at params behind.0 some, part)
   where
@@ -231,7 +234,7 @@ tail-is text params behind some part = read-one (TailText text) params (one-tail
     at [] is full = absurd (both_ways true full refl)
     at (b ∷ p) is full = is.1
 
--- blanks alone do not
+-- blanks after an address that nothing follows are not read as parameters
 pub tail-empty : (text params : List ℕ) → IsOnlyBehind text params → nat_eq (length text) 0 ≡ false → nat_eq (length params) 0 ≡ true → NotRead (TailText text)
 tail-empty text params behind some none p is =
     let p_is : p ≡ params = behind.1 p (tail-behind text p is) in
@@ -242,12 +245,12 @@ tail-empty text params behind some none p is =
     at [] e whole = both_ways (nat_eq (length text) 0) some (ap (λ t. nat_eq (length t) 0) whole)
     at (b ∷ q) e whole = absurd (omega (arith, e))
 
--- a text that is no parameters is no tail
+-- where what is left after the blanks is no parameters, nothing is read after the address
 pub tail-no_params : (text params : List ℕ) → IsOnlyBehind text params → (((ps : List (List ℕ × Option (List ℕ))) × ParamsPart params ps) → ⊥) → NotRead (TailText text)
 tail-no_params text params behind none p is =
     none (is.1.0, subst (λ t. ParamsPart t is.1.0) (behind.1 p (tail-behind text p is)) is.1.1)
 
--- where the grammar's text begins with a display name, it is read
+-- where the grammar has a display name, or none, before a URI in angles, the reader cuts it off there
 before-display : (display : Option (List ℕ)) (d text inner : List ℕ) → IfSome display DisplayName → BeforeUri display d → text ≡ d ++ inner → DisplayFront text (display, inner)
 before-display None d text inner fits is whole = whole ∙ ap (λ t. t ++ inner) is
 before-display (Some name) d text inner fits (e, t, e_is, (s, l, sws, l_is, t_is), d_is) whole = (
@@ -268,7 +271,7 @@ before-display (Some name) d text inner fits (e, t, e_is, (s, l, sws, l_is, t_is
     at (inl quoted) = inl (quoted, flat)
     at (inr words) = inr (words, (left_angle ∷ inner, behind_is, refl), flat)
 
--- a display name that is read at the front stands before the URI
+-- a display name, or none, that the reader cuts off stands before a URI in angles by the grammar
 display-before : (display : Option (List ℕ)) (text inner : List ℕ) → DisplayFront text (display, inner) → (d : List ℕ) × BeforeUri display d × (text ≡ d ++ inner)
 display-before None text inner is = (left_angle ∷ [], refl, is)
 display-before (Some name) text inner (rest, is, (stops, (s, y, sws, y_is, rest_is))) = (
@@ -281,12 +284,13 @@ display-before (Some name) text inner (rest, is, (stops, (s, y, sws, y_is, rest_
     front (inl quoted) = quoted.1
     front (inr words) = words.2
 
+-- a display name that the reader cuts off is one of the grammar
 display-fits : (display : Option (List ℕ)) (text inner : List ℕ) → DisplayFront text (display, inner) → IfSome display DisplayName
 display-fits None text inner is = tt
 display-fits (Some name) text inner (rest, inl quoted, behind) = inl quoted.0
 display-fits (Some name) text inner (rest, inr words, behind) = inr words.0
 
--- a byte of a URI without "<"
+-- a blank may not stand in a URI without "<"
 not-plain : (b : ℕ) → is_lws_byte b ≡ true → is_unmarked_byte b ≡ false
 not-plain = blank_is (λ b. is_unmarked_byte b ≡ false) refl refl refl refl
 
@@ -302,7 +306,7 @@ fails-plain : (u : List ℕ) → Fails is_unmarked_byte u → Stops is_unmarked_
 fails-plain [] fails = absurd fails
 fails-plain (b ∷ u) fails = fails
 
--- such a URI ends where the parameters begin, or their blanks
+-- the parameters after an address, or their blanks, begin with a byte that may not stand in a URI without "<"
 tail-stops : (text params : List ℕ) → TailText text params → Stops is_unmarked_byte text
 tail-stops text [] (is, part) = subst (Stops is_unmarked_byte) (sym is) tt
 tail-stops text (b ∷ params) ((k, y, sws, y_is, whole), ([], (opens, part))) = absurd (omega (arith, ap length part))
@@ -316,7 +320,7 @@ tail-stops text (b ∷ params) ((k, y, sws, y_is, whole), (p ∷ ps, (opens, par
     at (inl none) = subst (λ t. Fails is_unmarked_byte (t ++ (b ∷ params))) (sym none) begins
     at (inr blanks) = fails-more is_unmarked_byte k (b ∷ params) (fail-blanks is_unmarked_byte not-plain k blanks)
 
--- the grammar's text is read by the steps
+-- an address of the grammar is what the steps of the reader read
 pub address-steps : (text : List ℕ) (a : AddressParts) → AddressText text a → AddressSteps text (text, a)
 address-steps text a (name_addr fits (d, w1, before_is, (u, w2, u_is, (g, w3, g_is, tail, w2_is), w1_is), whole)) =
     both (make a.display a.uri_text w3)
@@ -343,7 +347,7 @@ address-steps text a (addr_spec fits none plain_is (u, w, u_is, tail, whole)) =
     has : HasScheme a.uri_text
     has = uri-scheme a.uri_text a.uri fits.uri
 
--- what the steps read is the grammar's
+-- what the steps of the reader read is an address of the grammar
 pub steps-address : (text : List ℕ) (x : List ℕ × AddressParts) → AddressSteps text x → AddressValue text x
 steps-address text x (both c (named inner display uri_is rest_is) (both uri is_uri (both params tail is))) =
     subst (AddressValue text) (sym is) (
@@ -372,17 +376,17 @@ one-steps text =
     one-seq (TailText c.rest) _ (one-tail c.rest) (λ params.
     one-last (text, record { display = c.display; uri_text = c.uri; uri = uri; params = params }))))
 
--- the grammar gives an address in one way
+-- a text is an address of the grammar in one way
 pub one-address : (text : List ℕ) (a b : AddressParts) → AddressText text a → AddressText text b → a ≡ b
 one-address text a b one other = ap (λ x. x.1) (one-steps text (text, a) (text, b) (address-steps text a one) (address-steps text b other))
 
--- what the steps read, the grammar has
+-- where the steps of the reader read an address alone, it is the only one that the grammar has
 pub read-address : (text : List ℕ) (x : List ℕ × AddressParts) → ReadAs (AddressSteps text) x → ReadAs (AddressValue text) x
 read-address text x is = (steps-address text x is.0, (λ y value. is.1 y (value-steps y value)))
   where
     value-steps : (y : List ℕ × AddressParts) → AddressValue text y → AddressSteps text y
     value-steps (whole, a) (value, whole_is) = subst (λ w. AddressSteps text (w, a)) (sym whole_is) (address-steps text a value)
 
--- where the steps read nothing, there is no address
+-- where the steps of the reader read no address, the grammar has none
 pub no-address : (text : List ℕ) → NotRead (AddressSteps text) → NotRead (AddressValue text)
 no-address text none (whole, a) (value, whole_is) = none (text, a) (address-steps text a value)

@@ -57,6 +57,7 @@ pub name-token : (secure : Bool) → All is_token_byte (folded (scheme_name secu
 name-token true = (refl, (refl, (refl, (refl, tt))))
 name-token false = (refl, (refl, (refl, tt)))
 
+-- a byte of a scheme is a byte of a token
 scheme-token : (b : ℕ) → is_scheme_byte b ≡ true → is_token_byte b ≡ true
 scheme-token b is = elim (or_cases (is_ascii_alphanumeric b) (is_among "+-." b) is) [
   | inl alnum ↦ or_left (is_ascii_alphanumeric b) (is_among "-.!%*_+`'~" b) alnum
@@ -72,27 +73,27 @@ scheme-token b is = elim (or_cases (is_ascii_alphanumeric b) (is_among "+-." b) 
   ]
 ]
 
--- all bytes of a scheme are those of a token
+-- all bytes of a scheme are bytes of tokens
 pub each-scheme : Each is_token_byte Scheme
 each-scheme =
     each-then is_token_byte _ _
     (each-one is_token_byte is_ascii_alphabetic (λ b is. or_left (is_ascii_alphanumeric b) (is_among "-.!%*_+`'~" b) (alphanumeric-alphabetic b is)))
     (each-many is_token_byte _ (each-one is_token_byte is_scheme_byte scheme-token))
 
--- a URI begins with a scheme
+-- the text of a URI begins with a scheme and a colon
 abbrev pub uri-scheme : (text : List ℕ) (u : UriParts) → UriText text u → HasScheme text
 uri-scheme text (sip p) (scheme, same, fits, whole) =
     (scheme, sip_text p, folded-token scheme (subst (All is_token_byte) (sym same) (name-token p.secure)), whole)
 uri-scheme text (other scheme rest) (is_scheme, neither, some, whole) = (scheme, rest, each-scheme scheme is_scheme, whole)
 
--- the only one
+-- a text begins with one scheme alone
 scheme-one : (text : List ℕ) (a b : HasScheme text) → (a.0 ≡ b.0) × (a.1 ≡ b.1)
 scheme-one text (s, r, s_all, whole) (t, q, t_all, whole_too) =
     let same = same_front is_token_byte s (colon ∷ r) t (colon ∷ q) s_all t_all refl refl (sym whole ∙ whole_too) in
     let tails : colon ∷ r ≡ colon ∷ q = same.1 in
     (same.0, cc)
 
--- no ">" stands in a URI
+-- the byte ">" stands in no host
 angle-foreign : IsForeign right_angle
 angle-foreign = record { label = refl; alphanumeric = refl; alphabetic = refl; hexdigit = refl; digit = refl; of_colon = refl; of_dot = refl; of_left = refl; of_right = refl }
 
@@ -112,17 +113,20 @@ lack-port_text u fits = lack-between right_angle 1 5 (One is_ascii_digit) (lack-
 lack-parameters : AllLack right_angle UriParameters
 lack-parameters = lack-many right_angle _ (lack-then right_angle _ _ (lack-byte right_angle semicolon refl) (lack-param right_angle refl refl))
 
+-- headers lack ">"
 lack-headers : AllLack right_angle Headers
 lack-headers =
     lack-joined right_angle ampersand Header refl
     (lack-then right_angle _ _ (lack-some right_angle _ (lack-char right_angle is_hnv_unreserved refl))
     (lack-then right_angle _ _ (lack-byte right_angle equals refl) (lack-many right_angle _ (lack-char right_angle is_hnv_unreserved refl))))
 
+-- a userinfo lacks ">"
 userinfo-lacks : (user password : Option (List ℕ)) → IfSome user User → IfSome password Password → Lacks right_angle (userinfo_text user password)
 userinfo-lacks None password u p = tt
 userinfo-lacks (Some user) password u p =
     lacks-append right_angle (user ++ led colon password) (at_sign ∷ []) (lacks-append right_angle user (led colon password) (lack-user user u) (lacks-led colon Password password refl lack-password p)) (refl, tt)
 
+-- a SIP URI lacks ">"
 sip-lacks : (p : SipParts) → SipFits p → Lacks right_angle (sip_text p)
 sip-lacks p fits =
     lacks-append right_angle (userinfo_text p.user p.password) (hostport_text p.host p.port ++ p.params ++ led question p.headers) (userinfo-lacks p.user p.password fits.user fits.password)
@@ -132,7 +136,7 @@ sip-lacks p fits =
     (lack-parameters p.params fits.params))
     (lacks-led question Headers p.headers refl lack-headers fits.headers))
 
--- a URI holds no closing angle
+-- a URI lacks ">"
 pub uri-lacks : (text : List ℕ) (u : UriParts) → UriText text u → Lacks right_angle text
 uri-lacks text u is = subst (Lacks right_angle) (sym has.3) (lacks-append right_angle has.0 (colon ∷ has.1) (all-lacks is_token_byte right_angle has.0 refl has.2) (refl, rest u is))
   where
@@ -157,7 +161,7 @@ decide-port v = at (nat_le 1 (length v)) (nat_le (length v) 5) (list_all is_asci
         inl (port-end v (length v) (digits_value 10 v) (leb-true 1 (length v) low) (leb-true (length v) 5 high) (omega arith)
         (record { all = ap (list_all is_ascii_digit) whole ∙ all; value = ap (digits_value 10) (sym whole); small = leb-true (digits_value 10 v) 65535 small }))
 
--- any text is cut
+-- any text is cut into a host and an optional port, which need not be a host
 port-cut : (text : List ℕ) → (host : List ℕ) × (port : Option (List ℕ)) × IsPortCut text host port
 port-cut text = at (before_last colon text) refl
   where
@@ -171,6 +175,7 @@ port-cut text = at (before_last colon text) refl
       | inr none ↦ (text, None, no-port text (λ v some port. none port))
     ]
 
+-- any text is cut into an optional userinfo and a rest
 info-cut : (text : List ℕ) → (user : Option (List ℕ)) × (password : Option (List ℕ)) × (rest : List ℕ) × IsInfoCut text user password rest
 info-cut text = at (behind at_sign text) refl
   where
@@ -178,6 +183,7 @@ info-cut text = at (behind at_sign text) refl
     at None is = (None, None, text, (is, refl, refl))
     at (Some rest) is = (Some (before colon (before at_sign text)), behind colon (before at_sign text), rest, (is, refl, refl))
 
+-- any text is cut into the parts of a SIP URI, which need not be texts of their productions
 any-cut : (text : List ℕ) → (cut : CutParts) × IsSipCut text cut
 any-cut text =
     let info = info-cut text in
@@ -187,7 +193,7 @@ any-cut text =
     let cut : CutParts = record { user = info.0; password = info.1; host = port.0; port = port.1; params = drop (length hostport) front; headers = behind question info.2 } in
     (cut, sip-cut text cut info.2 front hostport info.3 refl refl refl port.2 refl)
 
--- the parts of a SIP URI are the only ones
+-- a SIP URI has its parts in one way
 same-sip : (text : List ℕ) (p q : SipParts) → p.secure ≡ q.secure → SipFits p → SipFits q → text ≡ sip_text p → text ≡ sip_text q → sip p ≡ sip q
 same-sip text p q secure p_fits q_fits p_is q_is =
     let found = any-cut text in
@@ -196,6 +202,7 @@ same-sip text p q secure p_fits q_fits p_is q_is =
     parts-only q.secure text found.0 p.host (sip p) found.1 only (secure, p_fits, p_is)
     ∙ sym (parts-only q.secure text found.0 p.host (sip q) found.1 only (refl, q_fits, q_is))
 
+-- a scheme is "sip" or "sips", and not both
 same-name : (scheme : List ℕ) (a b : Bool) → SameText scheme (scheme_name a) → SameText scheme (scheme_name b) → a ≡ b
 same-name scheme true true same also = refl
 same-name scheme false false same also = refl

@@ -25,7 +25,7 @@ use Rattle.sip_message.specs.inner.ElementFronts.{FirstVia}
 use Rattle.sip_message.specs.inner.Asked.{OnceSays, FirstSays, Itself, AsksMore}
 use Rattle.sip_message.proofs.lemmas.asked.Parts.{row-of, first-value}
 
--- what is found with a further field
+-- the fields of a name that are found among some fields and a further one are those among the former, and the further one if it has the name
 found-more : (n : ℕ) (k : Known) (fields : List Field) (f : Field) → (line : ℕ) × (found_from n k (fields ++ f ∷ []) ≡ found_from n k fields ++ found_from line k (f ∷ []))
 found-more n k [] f = (n, refl)
 found-more n k (g ∷ fields) f = let later = found-more (n + 1) k fields f in (later.0, at (is_name_of k g.name) _ _ _ later.1)
@@ -35,7 +35,7 @@ found-more n k (g ∷ fields) f = let later = found-more (n + 1) k fields f in (
     at false xs ys zs is = is
 
 module _ {X : Type 0} (R : List ℕ → X → Type 0) (k : Known) (fields : List Field) (f : Field) where
-  -- a field of another name
+  -- a further field of another name adds nothing to the fields of the name that are found
   found-passed : is_name_of k f.name ≡ false → found k (fields ++ f ∷ []) ≡ found k fields
   found-passed other =
       let more = found-more 1 k fields f in
@@ -49,16 +49,18 @@ module _ {X : Type 0} (R : List ℕ → X → Type 0) (k : Known) (fields : List
   first-passed None other none = found-passed other ∙ none
   first-passed (Some x) other (one, (more, is), says) = (one, (more, found-passed other ∙ is), says)
 
-  -- a field of the name
+  -- a further field of the name is the last of the fields of the name that are found
   found-also : is_name_of k f.name ≡ true → (line : ℕ) × (found k (fields ++ f ∷ []) ≡ found k fields ++ (line, f.value) ∷ [])
   found-also named = let more = found-more 1 k fields f in (more.0, more.1 ∙ ap (λ b. found k fields ++ cond b ((more.0, f.value) ∷ []) []) named)
 
+  -- where no field of the name was there, a further one with the name is the one field, and what it says is said
   once-also : (old new : Option X) (x : X) → is_name_of k f.name ≡ true → R f.value x → old ≡ None → new ≡ Some x → OnceSays R k fields old → OnceSays R k (fields ++ f ∷ []) new
   once-also old new x named says none some so =
       let also = found-also named in
       let before : found k fields ≡ [] = subst (OnceSays R k fields) none so in
       subst (OnceSays R k (fields ++ f ∷ [])) (sym some) ((also.0, f.value), also.1 ∙ ap (λ t. t ++ (also.0, f.value) ∷ []) before, says)
 
+  -- what the first field of a name says stays with a further one, and is what that says where there was none
   first-also : (old new : Option X) (x : X) → is_name_of k f.name ≡ true → R f.value x → new ≡ option_or old (Some x) → FirstSays R k fields old → FirstSays R k (fields ++ f ∷ []) new
   first-also old new x named says is so = subst (FirstSays R k (fields ++ f ∷ [])) (sym is) (at old so)
     where
@@ -66,7 +68,7 @@ module _ {X : Type 0} (R : List ℕ → X → Type 0) (k : Known) (fields : List
       at None none = let also = found-also named in ((also.0, f.value), ([], also.1 ∙ ap (λ t. t ++ (also.0, f.value) ∷ []) none), says)
       at (Some y) (one, (more, found_is), says_y) = let also = found-also named in (one, (more ++ (also.0, f.value) ∷ [], also.1 ∙ ap (λ t. t ++ (also.0, f.value) ∷ []) found_is), says_y)
 
--- a field that is not asked for
+-- a field whose name is not asked for changes nothing of what is kept
 pub asks-other : (f : Field) (a : Asked) → (is_name_of known_name.Via f.name ≡ false) × (is_name_of known_name.From f.name ≡ false) × (is_name_of known_name.To f.name ≡ false)
     × (is_name_of known_name.CallId f.name ≡ false) × (is_name_of known_name.CSeq f.name ≡ false) × (is_name_of known_name.ContentLength f.name ≡ false) → AsksMore f a a
 asks-other f a (via, from, to, call_id, cseq, content_length) fields of = record {
@@ -82,7 +84,7 @@ map-or : {A X : Type 0} (parts : A → X) (o p : Option A) → option_map parts 
 map-or parts None p = refl
 map-or parts (Some a) p = refl
 
--- what is kept already stays, and else what is said is kept
+-- a value that is there stays where a second one is offered only if none is there
 pub or-kept : {X : Type 0} (o p : Option X) → is_some o ≡ true → o ≡ option_or o p
 or-kept None p some = absurd (false≢true some)
 or-kept (Some x) p some = refl
@@ -91,7 +93,7 @@ pub or-none : {X : Type 0} (o p : Option X) → is_some o ≡ false → p ≡ op
 or-none None p none = refl
 or-none (Some x) p none = absurd (false≢true (sym none))
 
--- a Via
+-- where a Via says something, what the first Via says is kept with it
 pub asks-via : (f : Field) (a : Asked) (r via : Option Via) (b : Bool) → f.name ≡ known known_name.Via → b ≡ is_some r → IsOnlyValue FirstVia element f.value r → via ≡ option_or a.via r → IsTrue b
     → AsksMore f a (record { via = via; from = a.from; to = a.to; call_id = a.call_id; cseq = a.cseq; content_length = a.content_length })
 asks-via f a None via b named is none via_is so fields of = absurd (false≢true (sym is ∙ so))
@@ -104,7 +106,7 @@ asks-via f a (Some v) via b named is read via_is so fields of = record {
   content_length = once-passed Itself known_name.ContentLength fields f (option_copied a.content_length) (ap (is_name_of known_name.ContentLength) named) of.content_length;
 }
 
--- a CSeq
+-- where a CSeq says something, and none is kept yet, what it says is kept
 pub asks-cseq : (f : Field) (a : Asked) (r cseq : Option CSeq) → f.name ≡ known known_name.CSeq → IsSome r → IsOnlyValue CSeqValue cseq_parts f.value r → (a.cseq ≡ None) × (cseq ≡ r)
     → AsksMore f a (record { via = a.via; from = a.from; to = a.to; call_id = a.call_id; cseq = cseq; content_length = a.content_length })
 asks-cseq f a None cseq named some none is fields of = absurd (false≢true some)
@@ -118,7 +120,7 @@ asks-cseq f a (Some c) cseq named some read (none, is) fields of = record {
 }
 
 module _ (f : Field) (a : Asked) (value : Bor (List ℕ)) (kept : Option (Bor (List ℕ))) (value_is : value.now ≡ f.value) (is : kept ≡ Some value) where
-  -- a From
+  -- the value of a From is kept where none is kept yet
   pub asks-from : f.name ≡ known known_name.From → a.from ≡ None → AsksMore f a (record { via = a.via; from = kept; to = a.to; call_id = a.call_id; cseq = a.cseq; content_length = a.content_length })
   asks-from named none fields of = record {
     via = first-passed FirstVia known_name.Via fields f (option_map element a.via) (ap (is_name_of known_name.Via) named) of.via;
@@ -129,7 +131,7 @@ module _ (f : Field) (a : Asked) (value : Bor (List ℕ)) (kept : Option (Bor (L
     content_length = once-passed Itself known_name.ContentLength fields f (option_copied a.content_length) (ap (is_name_of known_name.ContentLength) named) of.content_length;
   }
 
-  -- a To
+  -- the value of a To is kept where none is kept yet
   pub asks-to : f.name ≡ known known_name.To → a.to ≡ None → AsksMore f a (record { via = a.via; from = a.from; to = kept; call_id = a.call_id; cseq = a.cseq; content_length = a.content_length })
   asks-to named none fields of = record {
     via = first-passed FirstVia known_name.Via fields f (option_map element a.via) (ap (is_name_of known_name.Via) named) of.via;
@@ -140,7 +142,7 @@ module _ (f : Field) (a : Asked) (value : Bor (List ℕ)) (kept : Option (Bor (L
     content_length = once-passed Itself known_name.ContentLength fields f (option_copied a.content_length) (ap (is_name_of known_name.ContentLength) named) of.content_length;
   }
 
-  -- a Call-ID
+  -- the value of a Call-ID is kept where none is kept yet
   pub asks-call_id : f.name ≡ known known_name.CallId → a.call_id ≡ None → AsksMore f a (record { via = a.via; from = a.from; to = a.to; call_id = kept; cseq = a.cseq; content_length = a.content_length })
   asks-call_id named none fields of = record {
     via = first-passed FirstVia known_name.Via fields f (option_map element a.via) (ap (is_name_of known_name.Via) named) of.via;
@@ -151,7 +153,7 @@ module _ (f : Field) (a : Asked) (value : Bor (List ℕ)) (kept : Option (Bor (L
     content_length = once-passed Itself known_name.ContentLength fields f (option_copied a.content_length) (ap (is_name_of known_name.ContentLength) named) of.content_length;
   }
 
-  -- a Content-Length
+  -- the value of a Content-Length is kept where none is kept yet
   pub asks-content_length : f.name ≡ known known_name.ContentLength → a.content_length ≡ None → AsksMore f a (record { via = a.via; from = a.from; to = a.to; call_id = a.call_id; cseq = a.cseq; content_length = kept })
   asks-content_length named none fields of = record {
     via = first-passed FirstVia known_name.Via fields f (option_map element a.via) (ap (is_name_of known_name.Via) named) of.via;
@@ -162,7 +164,7 @@ module _ (f : Field) (a : Asked) (value : Bor (List ℕ)) (kept : Option (Bor (L
     content_length = once-also Itself known_name.ContentLength fields f (option_copied a.content_length) (option_copied kept) value.now (ap (is_name_of known_name.ContentLength) named) value_is (ap option_copied none) (ap option_copied is) of.content_length;
   }
 
--- what is said of the one field of a name
+-- where something is kept of a name that stands once, it is what the one field of the name says
 pub once-one : {A X : Type 0} (R : List ℕ → X → Type 0) (k : Known) (fields : List Field) (parts : A → X) (o : Option A) (a : A) → o ≡ Some a → OnceSays R k fields (option_map parts o)
     → (one : ℕ × List ℕ) × (found k fields ≡ one ∷ []) × R (one.1) (parts a)
 once-one R k fields parts o a is so = subst (λ p. OnceSays R k fields (option_map parts p)) is so
@@ -175,7 +177,7 @@ pub first-one : {A X : Type 0} (R : List ℕ → X → Type 0) (k : Known) (fiel
     → (one : ℕ × List ℕ) × IsFirstFound k fields one × R (one.1) (parts a)
 first-one R k fields parts o a is so = subst (λ p. FirstSays R k fields (option_map parts p)) is so
 
--- the value of Content-Length is digits, and the length is what they write
+-- where fields are of their rows, the value of the one Content-Length, if there is one, is digits
 pub said-digits : (fields : List Field) (o : Option (List ℕ)) → AllByRecursion (λ f. Row f.name f.value) fields → OnceSays Itself known_name.ContentLength fields o → IfSome o Digits
 said-digits fields None rows none = tt
 said-digits fields (Some x) rows (one, is, says) = subst Digits (sym says) (row-of known_name.ContentLength fields (one.1) rows (first-value known_name.ContentLength fields one ([], is)))

@@ -1,4 +1,4 @@
--- Fields have their parts in one way, since their rows are read in one way.
+-- Fields have their parts in one way: each value of a name is read in one way.
 use Rattle.std.proofs.Common.{◌≡◌, ℕ, List, [], ◌∷◌, ◌++◌, refl, sym, ap, ◌∙◌, subst}
 use Rattle.sip_message.specs.declared.name.Known.{Known}
 use Rattle.sip_message.specs.declared.name.Known.TheVariants as known_name
@@ -18,7 +18,7 @@ use Rattle.sip_message.proofs.lemmas.via.Steps.{one-via}
 use Rattle.sip_message.proofs.lemmas.address.Reading.{one-address}
 use Rattle.sip_standard.specs.Says.{IsFirstOf}
 
--- after a comma stands one text
+-- where a comma begins a text, what follows it and its blanks is one text
 same-mark : (text r s : List ℕ) → MarkFront comma text r → MarkFront comma text s → r ≡ s
 same-mark text r s one other =
     let a = mark-parts comma text r refl one in
@@ -27,10 +27,11 @@ same-mark text r s one other =
     let inner : a.0 ≡ b.0 = cc in
     same-behind b.0 r s (subst (λ t. Behind t r) inner a.2) b.2
 
--- parts of these
+-- the parts of named fields, made of these
 abbrev make : Element → List Element → List ℕ × AddressParts → List ℕ × AddressParts → List ℕ → ℕ × List ℕ → Parts
 make v o f t i c = record { via = v; others = o; from = f; to = t; call_id = i; cseq = c }
 
+-- further elements of Via, each after a comma, are read in one way
 same-more : (es fs : List Element) (rest : List ℕ) → MoreElements es rest → MoreElements fs rest → es ≡ fs
 same-more [] [] rest a b = refl
 same-more [] (f ∷ fs) rest a b = let m = more-mark f fs rest b in absurd (no_mark-nil comma m.0 (subst (λ t. MarkFront comma t m.0) a m.1))
@@ -47,6 +48,7 @@ same-more (e ∷ es) (f ∷ fs) rest a b =
         let others : es ≡ fs = later x more (subst (MoreElements fs) (sym (ap (λ p. p.1) same)) more_too) in
         cc
 
+-- the elements of a value of Via are read in one way
 same-now : (text : List ℕ) (es fs : List Element) → ElementsText text es → ElementsText text fs → es ≡ fs
 same-now text [] fs a b = absurd a
 same-now text (e ∷ es) [] a b = absurd b
@@ -56,11 +58,13 @@ same-now text (e ∷ es) (f ∷ fs) (via, (u, x, u_is, more, is)) (via_too, (w, 
     let others : es ≡ fs = same-more es fs x more (subst (MoreElements fs) (sym (ap (λ p. p.1) same)) more_too) in
     cc
 
+-- the elements of several values of Via are read in one way
 same-elements : (texts : List (List ℕ)) (es fs : List Element) → AreElements texts es → AreElements texts fs → es ≡ fs
 same-elements [] es fs a b = a ∙ sym b
 same-elements (text ∷ texts) es fs (now, more, is, are, whole) (now_too, more_too, is_too, are_too, whole_too) =
     whole ∙ ap (λ t. t ++ more) (same-now text now now_too is is_too) ∙ ap (λ t. now_too ++ t) (same-elements texts more more_too are are_too) ∙ sym whole_too
 
+-- the address of the first field of a name is read in one way
 same-address : (known : Known) (fields : List Field) (a b : List ℕ × AddressParts) → (text : List ℕ) × IsFirstOf (values known fields) text × AddressValue text a → (text : List ℕ) × IsFirstOf (values known fields) text × AddressValue text b → a ≡ b
 same-address known fields (w, a) (x, b) (t, t_is, (a_is, w_is)) (u, u_is, (b_is, x_is)) =
     let same : u ≡ t = same-value known fields u_is t_is in

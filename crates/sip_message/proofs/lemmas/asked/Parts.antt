@@ -1,4 +1,4 @@
--- A message has parts: its fields are of their rows.
+-- A message has the parts of its named fields, since each field has a value that its name may have.
 use Rattle.std.proofs.Common.{◌≡◌, ℕ, ◌+◌, Bool, true, false, List, [], ◌∷◌, ◌++◌, map, cond, refl, sym, ap, ◌∙◌, subst}
 use Rattle.std.specs.List.{AllByRecursion}
 use Rattle.std.proofs.lemmas.Slice.Eq.{bytes_eq-Decides}
@@ -33,12 +33,12 @@ spelled-known known_name.Subject = refl
 spelled-known known_name.Supported = refl
 spelled-known known_name.Route = refl
 
--- a field of the name has the name
+-- a field name that is this known one is it
 pub named-known : (k : Known) (n : FieldName) → is_name_of k n ≡ true → n ≡ known k
 named-known k (known j) is = sym (spelled-known j) ∙ ap name_of (sym ((bytes_eq-Decides (long_name k) (long_name j)).0 is)) ∙ spelled-known k
 named-known k (other text) is = absurd (both_ways false refl is)
 
--- the values of a name are of its row
+-- where each field is of its row, the values of a name are of the row of the name
 pub row-values : (k : Known) (fs : List Field) → AllByRecursion (λ f. Row f.name f.value) fs → AllByRecursion (Row (known k)) (values k fs)
 row-values k [] rows = tt
 row-values k (f ∷ fs) rows = at (is_name_of k f.name) refl (row-values k fs rows.1)
@@ -47,7 +47,7 @@ row-values k (f ∷ fs) rows = at (is_name_of k f.name) refl (row-values k fs ro
     at true is later = (subst (λ n. Row n f.value) (named-known k f.name is) rows.0, later)
     at false is later = later
 
--- the values of a name are those that were found
+-- the values of a name are those of the fields of the name that are found
 pub found-values : (n : ℕ) (k : Known) (fs : List Field) → values k fs ≡ map (λ x. x.1) (found_from n k fs)
 found-values n k [] = refl
 found-values n k (f ∷ fs) = at (is_name_of k f.name) (found-values (n + 1) k fs)
@@ -56,24 +56,24 @@ found-values n k (f ∷ fs) = at (is_name_of k f.name) (found-values (n + 1) k f
     at true later = ap (λ t. f.value ∷ t) later
     at false later = later
 
--- the first field of a name has its first value
+-- the value of the first field of a name is the first value of the name
 pub first-value : (k : Known) (fs : List Field) (one : ℕ × List ℕ) → IsFirstFound k fs one → IsFirstOf (values k fs) (one.1)
 first-value k fs one first = (map (λ x. x.1) first.0, found-values 1 k fs ∙ ap (map (λ x. x.1)) first.1)
 
--- further elements of the grammar
+-- further elements of Via by their parts are further elements with their texts
 pub more-elements : (vias : List ViaParts) (text : List ℕ) → MoreVias vias text → (es : List Element) × MoreElements es text
 more-elements [] text is = ([], is)
 more-elements (v ∷ vias) text (u, w, mark, (x, y, via, more, w_is), text_is) =
     let later = more-elements vias y more in
     ((x, v) ∷ later.0, (via, (u, w, mark, (x, y, refl, later.1, w_is), text_is)))
 
--- the elements of a value of its row
+-- a value of Via is elements, at least one
 via-elements : (text : List ℕ) → Row (known known_name.Via) text → (e : Element) × (es : List Element) × ElementsText text (e ∷ es)
 via-elements text (v, vias, (x, y, via, more, text_is)) =
     let later = more-elements vias y more in
     ((x, v), later.0, (via, (x, y, refl, later.1, text_is)))
 
--- the elements of the values
+-- values of Via, one after another, are elements
 are-elements : (texts : List (List ℕ)) → AllByRecursion (Row (known known_name.Via)) texts → (es : List Element) × AreElements texts es
 are-elements [] rows = ([], refl)
 are-elements (text ∷ texts) rows =
@@ -81,17 +81,18 @@ are-elements (text ∷ texts) rows =
     let later = are-elements texts rows.1 in
     ((now.0 ∷ now.1) ++ later.0, (now.0 ∷ now.1, later.0, now.2, later.1, refl))
 
+-- one value of Via or more, one after another, are elements, at least one
 first-elements : (text : List ℕ) (texts : List (List ℕ)) → AllByRecursion (Row (known known_name.Via)) (text ∷ texts) → (e : Element) × (es : List Element) × AreElements (text ∷ texts) (e ∷ es)
 first-elements text texts rows =
     let now = via-elements text rows.0 in
     let later = are-elements texts rows.1 in
     (now.0, now.1 ++ later.0, (now.0 ∷ now.1, later.0, now.2, later.1, refl))
 
--- a value of the name, of its row
+-- where each field is of its row, the first value of a name is of the row of the name
 pub row-of : (k : Known) (fs : List Field) (text : List ℕ) → AllByRecursion (λ f. Row f.name f.value) fs → IsFirstOf (values k fs) text → Row (known k) text
 row-of k fs text rows is = (subst (AllByRecursion (Row (known k))) is.1 (row-values k fs rows)).0
 
--- a message has parts
+-- a message has the parts of its named fields
 pub has-parts : (bytes : List ℕ) (m : Message) → MessageText bytes m → (p : Parts) × HasParts m.fields p
 has-parts bytes m text =
     let rows = fields-rows text.others m.fields text.are_fields in

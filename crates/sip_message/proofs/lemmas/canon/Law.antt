@@ -48,31 +48,35 @@ use Rattle.sip_message.proofs.RowLemmas.{unfolded-solid, unfolded-cseq, unfolded
 use Rattle.sip_message.proofs.lemmas.canon.Spelling.{Inner, AreInner, unfolded-inner, unfolded-twice, solid-inner, lines-head, inner-folds, inner-no_bare}
 use Rattle.sip_message.proofs.lemmas.message.Faults.{same_message}
 
--- solid texts have no line end
+-- a text without blanks has no CR and no LF
 solid-inners : (text : List ℕ) → All is_solid text → Inner text
 solid-inners [] all = tt
 solid-inners (b ∷ text) all = (solid-inner b (solid_is b all.0), solid-inners text all.1)
 
--- trimmed texts
+-- the text neither begins nor ends with a blank
 abbrev Trimmed : List ℕ → Type 0
 Trimmed text = OpensSolid text × EndsSolid text
 
+-- where a text does not end with a blank, no text that ends with it does
 ends-append : (u : List ℕ) (b : ℕ) (z : List ℕ) → EndsSolid (b ∷ z) → EndsSolid (u ++ b ∷ z)
 ends-append [] b z ends = ends
 ends-append (a ∷ []) b z ends = ends
 ends-append (a ∷ c ∷ u) b z ends = ends-append (c ∷ u) b z ends
 
+-- where a text does not end with a blank, none of its ends that is not empty does
 ends-part : (u : List ℕ) (b : ℕ) (z : List ℕ) → EndsSolid (u ++ b ∷ z) → EndsSolid (b ∷ z)
 ends-part [] b z ends = ends
 ends-part (a ∷ []) b z ends = ends
 ends-part (a ∷ c ∷ u) b z ends = ends-part (c ∷ u) b z ends
 
+-- a text that does not end with a blank does not end with blanks
 ends_no_blank : (u : List ℕ) (b : ℕ) (z : List ℕ) → EndsSolid (u ++ b ∷ z) → All is_lws_byte (b ∷ z) → ⊥
 ends_no_blank [] b [] ends all = both_ways (is_lws_byte b) ends all.0
 ends_no_blank [] b (c ∷ z) ends all = ends_no_blank [] c z ends all.1
 ends_no_blank (a ∷ []) b z ends all = ends_no_blank [] b z ends all
 ends_no_blank (a ∷ c ∷ u) b z ends all = ends_no_blank (c ∷ u) b z ends all
 
+-- the set of texts that neither begin nor end with a blank is closed under making one SP of a blank run
 closed-trimmed : Closed Trimmed
 closed-trimmed [] v b w ends opens blanks is = absurd (both_ways (is_lws_byte b) is.0 blanks.0)
 closed-trimmed (a ∷ u) [] b w ends opens blanks is =
@@ -83,7 +87,7 @@ closed-trimmed (a ∷ u) (c ∷ v) b w ends opens blanks is =
     tail : EndsSolid (((a ∷ u) ++ (b ∷ w)) ++ c ∷ v) → EndsSolid (space ∷ c ∷ v)
     tail e = ends-part ((a ∷ u) ++ (b ∷ w)) c v e
 
--- each known name is spelled by its long form
+-- the long form of a known name spells that name
 name-known : (k : Known) → name_of (long_name k) ≡ known k
 name-known known_name.Via = refl
 name-known known_name.From = refl
@@ -98,7 +102,7 @@ name-known known_name.Subject = refl
 name-known known_name.Supported = refl
 name-known known_name.Route = refl
 
--- another name is as it is spelled
+-- a text that spells no known name by a list is kept as it is spelled
 name-other : (xs : List (List ℕ × Known)) (text t : List ℕ) → name_by xs text ≡ other t → text ≡ t
 name-other [] text t is = ap text_in is
   where
@@ -115,12 +119,13 @@ name-other (x ∷ xs) text t is = at (name-other xs text t) (bytes_eq (folded te
     at later true e = absurd (both_ways false refl (ap is_other e))
     at later false e = later e
 
--- bytes of a token are a token
+-- one byte of a token or more are a token
 token_text : (b : ℕ) (text : List ℕ) → list_all is_token_byte (b ∷ text) ≡ true → Token (b ∷ text)
 token_text b text all =
     let parts = and_parts (is_token_byte b) (list_all is_token_byte text) all in
     (b ∷ [], text, (b, parts.0, refl), list_all-run is_token_byte text parts.1, refl)
 
+-- the long form of a known name is a token
 long-token : (k : Known) → Token (long_name k)
 long-token known_name.Via = token_text _ _ refl
 long-token known_name.From = token_text _ _ refl
@@ -135,7 +140,7 @@ long-token known_name.Subject = token_text _ _ refl
 long-token known_name.Supported = token_text _ _ refl
 long-token known_name.Route = token_text _ _ refl
 
--- a name that a token spells is spelled by its text, a token
+-- the name that a token spells is written as a token, which spells the same name
 name-text : (n : FieldName) (spelled : List ℕ) → Token spelled → n ≡ name_of spelled → Token (name_text n) × (n ≡ name_of (name_text n))
 name-text (known k) spelled token is = (long-token k, sym (name-known k))
 name-text (other t) spelled token is =
@@ -170,7 +175,7 @@ code-decimal text code is =
         let same : digits_value 10 (a ∷ b ∷ c ∷ []) ≡ digits_value 10 (b ∷ c ∷ []) = ap (λ x. digits_value 10 (x ∷ b ∷ c ∷ [])) zero_first in
         omega (arith, small, same, low)
 
--- the start line's canonical form is the start line
+-- the canonical form of a start line is a start line of the same parts
 start-canon : (line : List ℕ) (s : StartLine) → StartText line s → StartText (start_text s) s
 start-canon line (request method uri) (token, is_uri, whole) =
     (token, is_uri, (method, space ∷ (uri ++ space ∷ codes "SIP/2.0"), refl, (space ∷ [], uri ++ space ∷ codes "SIP/2.0", refl, (uri, space ∷ codes "SIP/2.0", refl, (space ∷ [], codes "SIP/2.0", refl, refl, refl), refl), refl), refl))
@@ -192,7 +197,7 @@ start-canon line (status code reason) (bytes, whole) =
       ),
     )
 
--- a class without CR and LF
+-- a byte of a class without CR and LF is neither
 inner_class : (class : ℕ → Bool) → class carriage_return ≡ false → class line_feed ≡ false → (b : ℕ) → class b ≡ true → is_inner_byte b ≡ true
 inner_class class cr lf b is = at (nat_eq b carriage_return) (nat_eq b line_feed) refl refl
   where
@@ -204,7 +209,7 @@ inner_class class cr lf b is = at (nat_eq b carriage_return) (nat_eq b line_feed
 version-inner : Inner (codes "SIP/2.0")
 version-inner = (refl, (refl, (refl, (refl, (refl, (refl, (refl, tt)))))))
 
--- it has no line end, and is not empty
+-- the canonical form of a start line has no CR and no LF, and is not empty
 start-inner : (line : List ℕ) (s : StartLine) → StartText line s → Inner (start_text s) × (start_text s ≡ [] → ⊥)
 start-inner line (request method uri) (token, is_uri, whole) = (
   all_both is_inner_byte method (space ∷ (uri ++ space ∷ codes "SIP/2.0")) (solid-inners method (solid-token method token))
@@ -219,7 +224,7 @@ start-inner line (status code reason) (bytes, whole) =
       (λ none. absurd (omega (arith, ap length none))),
     )
 
--- a field's canonical form is the field with its value unfolded
+-- the canonical form of a field is a line that is the field with its value unfolded
 field-canon : (line : List ℕ) (f : Field) → FieldText line f → FieldText (field_text (unfolded_field f)) (unfolded_field f)
 field-canon line f is =
     let spelled = name-text f.name is.named.spelled is.named.is_token is.named.name_is in
@@ -240,7 +245,7 @@ field-canon line f is =
       row = unfolded-row f.name f.value is.row;
     }
 
--- it has no line end, is not empty, and begins with no blank
+-- the canonical form of a field has no CR and no LF, and is not empty
 field-inner : (line : List ℕ) (f : Field) → FieldText line f → Inner (field_text (unfolded_field f)) × (field_text (unfolded_field f) ≡ [] → ⊥)
 field-inner line f is =
     let spelled = name-text f.name is.named.spelled is.named.is_token is.named.name_is in (
@@ -248,6 +253,7 @@ field-inner line f is =
       (λ none. absurd (omega (arith, ap length none, length-append (name_text f.name) (colon ∷ space ∷ unfolded f.value)))),
     )
 
+-- the canonical form of a field begins with no blank
 field-cut : (line : List ℕ) (f : Field) → FieldText line f → OpensBlank (field_text (unfolded_field f)) → ⊥
 field-cut line f is =
     at (name_text f.name) (name-text f.name is.named.spelled is.named.is_token is.named.name_is).0
@@ -257,33 +263,36 @@ field-cut line f is =
     at (b ∷ name) token begins =
         both_ways (is_token_byte b) (blank-token b (wsp-blank b begins)) (each-token (b ∷ name) token).0
 
--- the canonical lines of fields spell the fields, unfolded
+-- the canonical forms of fields, one after another, are lines that are the fields with their values unfolded
 fields-canon : (lines : List (List ℕ)) (fs : List Field) → FieldsText lines fs → FieldsText (map field_text (map unfolded_field fs)) (map unfolded_field fs)
 fields-canon [] fs is = subst (λ gs. FieldsText (map field_text (map unfolded_field gs)) (map unfolded_field gs)) (sym is) refl
 fields-canon (line ∷ lines) fs (f, more, is, are, whole) =
     subst (λ gs. FieldsText (map field_text (map unfolded_field gs)) (map unfolded_field gs)) (sym whole)
     (unfolded_field f, map unfolded_field more, field-canon line f is, fields-canon lines more are, refl)
 
+-- the canonical forms of fields have no CR and no LF, and none is empty
 fields-inner : (lines : List (List ℕ)) (fs : List Field) → FieldsText lines fs → AreInner (map field_text (map unfolded_field fs))
 fields-inner [] fs is = subst (λ gs. AreInner (map field_text (map unfolded_field gs))) (sym is) tt
 fields-inner (line ∷ lines) fs (f, more, is, are, whole) =
     subst (λ gs. AreInner (map field_text (map unfolded_field gs))) (sym whole) (field-inner line f is, fields-inner lines more are)
 
+-- no canonical form of a field begins with a blank
 fields-cut : (lines : List (List ℕ)) (fs : List Field) → FieldsText lines fs → AllByRecursion (λ line. ¬ (OpensBlank line)) (map field_text (map unfolded_field fs))
 fields-cut [] fs is = subst (λ gs. AllByRecursion (λ line. ¬ (OpensBlank line)) (map field_text (map unfolded_field gs))) (sym is) tt
 fields-cut (line ∷ lines) fs (f, more, is, are, whole) =
     subst (λ gs. AllByRecursion (λ line. ¬ (OpensBlank line)) (map field_text (map unfolded_field gs))) (sym whole) (field-cut line f is, fields-cut lines more are)
 
--- the fields of lines are of their rows
+-- where lines are fields, each field has a value of its row
 pub fields-rows : (lines : List (List ℕ)) (fs : List Field) → FieldsText lines fs → AllByRecursion (λ f. Row f.name f.value) fs
 fields-rows [] fs is = subst (AllByRecursion (λ f. Row f.name f.value)) (sym is) tt
 fields-rows (line ∷ lines) fs (f, more, is, are, whole) =
     subst (AllByRecursion (λ g. Row g.name g.value)) (sym whole) (is.row, fields-rows lines more are)
 
--- the fields of a name, unfolded
+-- a value that was found with the number of its line, unfolded
 abbrev unfolded_found : ℕ × List ℕ → ℕ × List ℕ
 unfolded_found x = (x.0, unfolded x.1)
 
+-- the values of a name in unfolded fields are its values, unfolded, with the same numbers of lines
 found-unfolded : (n : ℕ) (name : Known) (fs : List Field) → found_from n name (map unfolded_field fs) ≡ map unfolded_found (found_from n name fs)
 found-unfolded n name [] = refl
 found-unfolded n name (f ∷ fs) = at (is_name_of name f.name) (found-unfolded (n + 1) name fs)
@@ -299,7 +308,7 @@ once-unfolded : (name : Known) (fs : List Field) → IsNotTwice name fs → IsNo
 once-unfolded name fs few =
     omega (arith, few, ap length (found-unfolded 1 name fs), length-map (found_from 1 name fs) unfolded_found)
 
--- the number of Content-Length stays
+-- a field name that is Content-Length is the known name
 named-length : (n : FieldName) → is_name_of known_name.ContentLength n ≡ true → n ≡ known known_name.ContentLength
 named-length (known known_name.Via) is = absurd (both_ways false refl is)
 named-length (known known_name.From) is = absurd (both_ways false refl is)
@@ -315,6 +324,7 @@ named-length (known known_name.Supported) is = absurd (both_ways false refl is)
 named-length (known known_name.Route) is = absurd (both_ways false refl is)
 named-length (other t) is = absurd (both_ways false refl is)
 
+-- where each field is of its row, the values of Content-Length are digits
 found-digits : (n : ℕ) (fs : List Field) → AllByRecursion (λ f. Row f.name f.value) fs → AllByRecursion (λ x. Digits (x.1)) (found_from n known_name.ContentLength fs)
 found-digits n [] rows = tt
 found-digits n (f ∷ fs) rows = at (is_name_of known_name.ContentLength f.name) refl (found-digits (n + 1) fs rows.1)
@@ -323,6 +333,7 @@ found-digits n (f ∷ fs) rows = at (is_name_of known_name.ContentLength f.name)
     at true is later = (subst (λ m. Row m f.value) (named-length f.name is) rows.0, later)
     at false is later = later
 
+-- where each field is of its row, the number of Content-Length stays when the fields are unfolded
 length-unfolded : (fs : List Field) → AllByRecursion (λ f. Row f.name f.value) fs → content_length (map unfolded_field fs) ≡ content_length fs
 length-unfolded fs rows =
     ap length_in (found-unfolded 1 known_name.ContentLength fs) ∙ at (found known_name.ContentLength fs) (found-digits 1 fs rows)
@@ -331,6 +342,7 @@ length-unfolded fs rows =
     at [] all = refl
     at (x ∷ xs) all = ap (λ t. Some (digits_value 10 t)) (unfolded-solid x.1 (solid-digits x.1 all.0))
 
+-- a field name that is Via is the known name
 named-via : (n : FieldName) → is_name_of known_name.Via n ≡ true → n ≡ known known_name.Via
 named-via (known known_name.Via) is = refl
 named-via (known known_name.From) is = absurd (both_ways false refl is)
@@ -346,7 +358,7 @@ named-via (known known_name.Supported) is = absurd (both_ways false refl is)
 named-via (known known_name.Route) is = absurd (both_ways false refl is)
 named-via (other t) is = absurd (both_ways false refl is)
 
--- the first Via is of its row
+-- where each field is of its row, the values of Via are of its row
 found-vias : (n : ℕ) (fs : List Field) → AllByRecursion (λ f. Row f.name f.value) fs → AllByRecursion (λ x. Row (known known_name.Via) (x.1)) (found_from n known_name.Via fs)
 found-vias n [] rows = tt
 found-vias n (f ∷ fs) rows = at (is_name_of known_name.Via f.name) refl (found-vias (n + 1) fs rows.1)
@@ -359,7 +371,7 @@ first-via : (n : ℕ) (fs : List Field) → AllByRecursion (λ f. Row f.name f.v
 first-via n fs rows one more is =
     (subst (AllByRecursion (λ x. Row (known known_name.Via) (x.1))) is (found-vias n fs rows)).0
 
--- the body, cut once, is cut no more
+-- a body that was cut at the length is long enough for it
 body-enough : (len : Option ℕ) (rest : List ℕ) → IsEnough len rest → IsEnough len (cut_body len rest)
 body-enough None rest enough = tt
 body-enough (Some n) rest enough = omega (arith, length-take-le n rest enough)
@@ -368,12 +380,13 @@ body-no_more : (stream : List ℕ) (len : Option ℕ) (rest : List ℕ) → IsEn
 body-no_more stream None rest enough is = tt
 body-no_more stream (Some n) rest enough is = omega (arith, length-take-le n rest enough)
 
+-- a body that was cut at the length stays as it is when it is cut again
 body-twice : (len : Option ℕ) (rest : List ℕ) → IsEnough len rest → cut_body len rest ≡ cut_body len (cut_body len rest)
 body-twice None rest enough = refl
 body-twice (Some n) rest enough =
     sym (ap (λ m. take m (take n rest)) (sym (length-take-le n rest enough)) ∙ take-length (take n rest))
 
--- what fits, fits unfolded
+-- what a message demands of its fields and its body holds of the unfolded fields and the cut body where it holds of the former
 fits-unfolded : (start : StartLine) (fs : List Field) (rest : List ℕ) → AllByRecursion (λ f. Row f.name f.value) fs → MessageFits start fs rest → MessageFits start (map unfolded_field fs) (cut_body (content_length fs) rest)
 fits-unfolded start fs rest rows fits = record {
   via = stands-unfolded known_name.Via fs fits.via;
@@ -407,7 +420,7 @@ fits-unfolded start fs rest rows fits = record {
     method (request m uri) is = (is.0, unfolded-cseq fits.cseq.0.1 is.0 m is.1)
     method (status code reason) is = tt
 
--- the canonical form is spelled by the message itself
+-- the canonical form of a message is its bytes, with its values unfolded
 pub canon-text : (bytes : List ℕ) (s : Message) → MessageText bytes s → MessageText (canon (message_of s)) (message_of s)
 canon-text bytes s text =
     let start = start-inner text.first s.start text.is_start in
@@ -428,20 +441,20 @@ canon-text bytes s text =
           ∙ ap (cut_body (content_length (map unfolded_field s.fields))) (sym text.body_is);
     }
 
--- a message is unfolded
+-- fields that are unfolded twice are those that are unfolded once
 message-twice : (fs : List Field) → map unfolded_field (map unfolded_field fs) ≡ map unfolded_field fs
 message-twice [] = refl
 message-twice (f ∷ fs) =
     ap (λ v. record { name = f.name; value = v } ∷ map unfolded_field (map unfolded_field fs)) (unfolded-twice f.value)
     ∙ ap (λ gs. unfolded_field f ∷ gs) (message-twice fs)
 
--- the canonical form of a message spells it
+-- where bytes spell a message, so does its canonical form
 pub canon-spells : (bytes : List ℕ) (m : Message) → Spells bytes m → Spells (canon m) m
 canon-spells bytes m (s, text, is) =
     subst (λ n. Spells (canon n) n) (sym is)
     (message_of s, canon-text bytes s text, ap (λ fs. record { start = s.start; fields = fs; body = s.body }) (sym (message-twice s.fields)))
 
--- messages of one canonical form are one
+-- messages that bytes spell, and that have the same canonical form, are the same
 pub same_canon : (b c : List ℕ) (m n : Message) → Spells b m → Spells c n → canon m ≡ canon n → m ≡ n
 same_canon b c m n one two same =
     same_message (canon n) m n (subst (λ t. Spells t m) same (canon-spells b m one)) (canon-spells c n two)

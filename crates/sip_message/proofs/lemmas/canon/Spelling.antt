@@ -12,11 +12,11 @@ use Rattle.sip_standard.specs.Field.{is_lws_byte}
 use Rattle.sip_standard.specs.Canonical.{is_end_byte, unfolded_run, unfolded_from, unfolded}
 use Rattle.sip_message.proofs.lemmas.text.Cuts.{Cuts, first_longer, same_length, second_longer, two_cuts, All, all_right, all_both}
 
--- bytes that are no line ends
+-- no byte of the text is CR or LF
 abbrev pub Inner : List ℕ → Type 0
 Inner = All is_inner_byte
 
--- an unfolded run has no line end
+-- a run of blanks that is unfolded has no CR and no LF
 run-inner : (run : List ℕ) → Inner (unfolded_run run)
 run-inner run = at (list_any is_end_byte run) refl
   where
@@ -42,7 +42,7 @@ run-inner run = at (list_any is_end_byte run) refl
     at true is = (refl, tt)
     at false is = each run is
 
--- a solid byte is no line end
+-- a byte that is no blank is neither CR nor LF
 pub solid-inner : (b : ℕ) → is_lws_byte b ≡ false → is_inner_byte b ≡ true
 solid-inner b is = at (is_wsp b) (nat_eq b carriage_return) (nat_eq b line_feed) is
   where
@@ -52,7 +52,7 @@ solid-inner b is = at (is_wsp b) (nat_eq b carriage_return) (nat_eq b line_feed)
     at false false true e = absurd (both_ways true e refl)
     at false false false e = refl
 
--- an unfolded text has no line end
+-- what is written of a run of blanks and a text, unfolded, has no CR and no LF
 from-inner : (text run : List ℕ) → Inner (unfolded_from run text)
 from-inner [] run = run-inner run
 from-inner (b ∷ text) run = at (is_lws_byte b) refl (from-inner text (run ++ b ∷ [])) (from-inner text [])
@@ -61,11 +61,11 @@ from-inner (b ∷ text) run = at (is_lws_byte b) refl (from-inner text (run ++ b
     at true is left right = left
     at false is left right = all_both is_inner_byte (unfolded_run run) (b ∷ unfolded_from [] text) (run-inner run) (solid-inner b is, right)
 
--- an unfolded text has single spaces alone
+-- a text that is unfolded has no CR and no LF
 pub unfolded-inner : (text : List ℕ) → Inner (unfolded text)
 unfolded-inner text = from-inner text []
 
--- a run without a line end is as it is
+-- a run without CR and LF stays as it is when it is unfolded
 inner-run : (run : List ℕ) → Inner run → unfolded_run run ≡ run
 inner-run run inner = ap (λ folds. cond folds (space ∷ []) run) (none run inner)
   where
@@ -78,7 +78,7 @@ inner-run run inner = ap (λ folds. cond folds (space ∷ []) run) (none run inn
     none [] all = refl
     none (b ∷ text) all = ap (λ x. x || list_any is_end_byte text) (no_end (nat_eq b carriage_return) (nat_eq b line_feed) all.0) ∙ none text all.1
 
--- a text without a line end is as it is
+-- what is written of a run and a text without CR and LF is the run and the text
 from-same : (text run : List ℕ) → Inner run → Inner text → unfolded_from run text ≡ run ++ text
 from-same [] run inner all = inner-run run inner ∙ sym (append-nil run)
 from-same (b ∷ text) run inner all = at (is_lws_byte b) (from-same text (run ++ b ∷ []) (all_both is_inner_byte run (b ∷ []) inner (all.0, tt)) all.1) (from-same text [] tt all.1)
@@ -87,19 +87,19 @@ from-same (b ∷ text) run inner all = at (is_lws_byte b) (from-same text (run +
     at true left right = left ∙ append_assoc run (b ∷ []) text
     at false left right = ap (λ t. t ++ b ∷ unfolded_from [] text) (inner-run run inner) ∙ ap (λ t. run ++ b ∷ t) right
 
--- a text without line ends stays as it is when it is unfolded
+-- a text without CR and LF stays as it is when it is unfolded
 pub unfolded-same : (text : List ℕ) → Inner text → unfolded text ≡ text
 unfolded-same text inner = from-same text [] tt inner
 
--- unfolding twice is unfolding once
+-- a text that is unfolded twice is the one that is unfolded once
 pub unfolded-twice : (text : List ℕ) → unfolded (unfolded text) ≡ unfolded text
 unfolded-twice text = unfolded-same (unfolded text) (unfolded-inner text)
 
--- lines that are not empty and have no line end
+-- no line is empty, and no line has CR or LF in it
 abbrev pub AreInner : List (List ℕ) → Type 0
 AreInner = AllByRecursion (λ line. Inner line × (line ≡ [] → ⊥))
 
--- no empty line comes before the one after the lines
+-- in lines without CR and LF, none of them empty, no empty line stands before the one after them
 no_empty : (lines : List (List ℕ)) (u v body : List ℕ) → AreInner lines → flat_map with_end lines ++ (crlf ++ body) ≡ u ++ (crlf ++ (crlf ++ v)) → length (flat_map with_end lines) ≤ length u + 2
 no_empty [] u v body inner is = omega arith
 no_empty (l ∷ ls) u v body inner is = at (λ z z_is. no_empty ls z v body inner.1 z_is) (two_cuts l (crlf ++ (flat_map with_end ls ++ (crlf ++ body))) u (crlf ++ (crlf ++ v)) whole)
@@ -133,7 +133,7 @@ no_empty (l ∷ ls) u v body inner is = at (λ z z_is. no_empty ls z v body inne
         let tails : carriage_return ∷ line_feed ∷ (flat_map with_end ls ++ (crlf ++ body)) ≡ c ∷ d ∷ (z ++ (crlf ++ (crlf ++ v))) = back in
         omega (arith, size, later z (cc), ap length longer, length-append l (c ∷ d ∷ z))
 
--- lines and an empty line are a head
+-- lines without CR and LF, none of them empty, and an empty line after them are a head, and what follows is the body
 pub lines-head : (l : List ℕ) (ls : List (List ℕ)) (body : List ℕ) → AreInner (l ∷ ls) → CutSays (flat_map with_end (l ∷ ls) ++ (crlf ++ body)) (flat_map with_end (l ∷ ls), body)
 lines-head l ls body inner =
     let cut = last_end l ls in
@@ -148,22 +148,22 @@ lines-head l ls body inner =
     last_end m [] = (m, append-nil (with_end m))
     last_end m (n ∷ ms) = let later = last_end n ms in (with_end m ++ later.0, ap (λ t. with_end m ++ t) later.1 ∙ sym (append_assoc (with_end m) later.0 crlf))
 
--- a line without line ends is folded nowhere
+-- a line without CR and LF has no fold
 inner-folded : (line : List ℕ) → Inner line → IsFolded line
 inner-folded line inner u v is =
     absurd (both_ways (is_inner_byte carriage_return) refl (all_right is_inner_byte u (crlf ++ v) (subst Inner is inner)).0)
 
--- lines of such texts have no fold in them
+-- lines without CR and LF have no folds
 pub inner-folds : (lines : List (List ℕ)) → AreInner lines → AllByRecursion IsFolded lines
 inner-folds [] inner = tt
 inner-folds (l ∷ ls) inner = (inner-folded l inner.0.0, inner-folds ls inner.1)
 
--- lines have no bare ends
+-- a line without CR and LF has no bare line end
 inner-many : (line : List ℕ) → Inner line → HasNoBareEnd line
 inner-many [] inner = many-nil _
 inner-many (b ∷ line) inner = many-cons _ (b ∷ []) line (inr (b, inner.0, refl)) (inner-many line inner.1)
 
--- lines without line ends in them have no bare one together
+-- lines without CR and LF have, with their ends, no bare line end
 pub inner-no_bare : (lines : List (List ℕ)) → AreInner lines → HasNoBareEnd (flat_map with_end lines)
 inner-no_bare [] inner = many-nil _
 inner-no_bare (l ∷ ls) inner =

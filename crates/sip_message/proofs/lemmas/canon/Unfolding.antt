@@ -11,24 +11,24 @@ use Rattle.sip_message.specs.inner.StartLine.{CodeText}
 use Rattle.sip_message.specs.inner.Canon.{Appends}
 use Rattle.sip_message.proofs.lemmas.canon.Law.{code-decimal}
 
--- what was written, with what is left unfolded, is the text unfolded
+-- the output is the old text and what was written; that, the run from `from` up to the index and the rest, unfolded, are the text unfolded
 pub record Unfolding (old text : List ℕ) (from at : ℕ) (out : List ℕ) : Type 0 where
   pub done : List ℕ
   pub appended : out ≡ old ++ done
   pub within : from ≤ at
   pub rest : done ++ unfolded_from (take (at - from) (drop from text)) (drop at text) ≡ unfolded text
 
--- at first nothing is written
+-- at the start, where nothing is written, nothing was done
 pub unfold-start : (old text : List ℕ) → Unfolding old text 0 0 old
 unfold-start old text = record { done = []; appended = sym (append-nil old); within = omega arith; rest = refl }
 
--- the run with one more byte
+-- the run up to the place after a byte is the run up to the byte, and the byte
 run-more : (text : List ℕ) (from at : ℕ) → from ≤ at → at < length text → take (at + 1 - from) (drop from text) ≡ take (at - from) (drop from text) ++ get_or text at 0 ∷ []
 run-more text from at low below =
     ap (λ n. take n (drop from text)) (omega (arith, low)) ∙ take_more (drop from text) (at - from) 0 (omega (arith, low, below, length-drop from text))
     ∙ ap (λ b. take (at - from) (drop from text) ++ b ∷ []) (get_or-drop from text (at - from) 0 ∙ ap (λ n. get_or text n 0) (omega (arith, low)))
 
--- a blank joins the run
+-- where a blank stands at the index, the run goes on, and nothing is written
 pub unfold-blank : (old text out : List ℕ) (from at : ℕ) → at < length text → is_lws_byte (get_or text at 0) ≡ true → Unfolding old text from at out → Unfolding old text from (at + 1) out
 unfold-blank old text out from at below blank u = record {
   done = u.done;
@@ -45,7 +45,7 @@ unfold-blank old text out from at below blank u = record {
         ap (unfolded_from run) (drop_more text at 0 below)
         ∙ ap (λ b. cond b (unfolded_from (run ++ get_or text at 0 ∷ []) (drop (at + 1) text)) (unfolded_run run ++ get_or text at 0 ∷ unfolded_from [] (drop (at + 1) text))) blank
 
--- another byte is written after the run
+-- where another byte stands at the index, the run, unfolded, and the byte are written
 pub unfold-solid : (old text out mid new : List ℕ) (from at : ℕ) → at < length text → is_lws_byte (get_or text at 0) ≡ false → Unfolding old text from at out → mid ≡ out ++ unfolded_run (take (at - from) (drop from text)) → new ≡ mid ++ get_or text at 0 ∷ [] → Unfolding old text (at + 1) (at + 1) new
 unfold-solid old text out mid new from at below solid u mid_is new_is = record {
   done = u.done ++ (unfolded_run run ++ get_or text at 0 ∷ []);
@@ -70,20 +70,20 @@ unfold-solid old text out mid new from at below solid u mid_is new_is = record {
         ap (unfolded_from run) (drop_more text at 0 below)
         ∙ ap (λ b. cond b (unfolded_from (run ++ get_or text at 0 ∷ []) (drop (at + 1) text)) (unfolded_run run ++ get_or text at 0 ∷ unfolded_from [] (drop (at + 1) text))) solid
 
--- where memory is refused some part is written
+-- where memory is refused, some part of the text was appended
 pub unfold-part : {A E : Type 0} (old text out new goal : List ℕ) (from at : ℕ) (r : Result A E) → IsErr r → Unfolding old text from at out → (part : List ℕ) × (new ≡ out ++ part) → Appends old new goal r
 unfold-part old text out new goal from at (Ok a) err u is = absurd (both_ways false refl err)
 unfold-part old text out new goal from at (Err e) err u is = (u.done ++ is.0, is.1 ∙ ap (λ x. x ++ is.0) u.appended ∙ append_assoc old u.done is.0)
 
--- one after the other
+-- a part that is appended after a front is, with the front, a part that is appended
 pub part-more : (out mid new front : List ℕ) → mid ≡ out ++ front → (part : List ℕ) × (new ≡ mid ++ part) → (part : List ℕ) × (new ≡ out ++ part)
 part-more out mid new front mid_is is = (front ++ is.0, is.1 ∙ ap (λ x. x ++ is.0) mid_is ∙ append_assoc out front is.0)
 
--- a digit
+-- '0' and a number below ten make a digit
 digit-is : (a : ℕ) → a < 10 → is_ascii_digit (48 + a) ≡ true
 digit-is a small = and_from _ _ (le-leb 48 (48 + a) (omega arith)) (le-leb (48 + a) 57 (omega (arith, small)))
 
--- a code in its three digits
+-- the three digits of a status code are its decimal
 pub three-digits : (code : ℕ) → 100 ≤ code → code < 700 → ◌≡◌ {A = List ℕ} ((48 + code / 100) ∷ (48 + code / 10 % 10) ∷ (48 + code % 10) ∷ []) (decimal code)
 three-digits code low high = sym (code-decimal ((48 + code / 100) ∷ (48 + code / 10 % 10) ∷ (48 + code % 10) ∷ []) code is)
   where

@@ -9,12 +9,12 @@ use Rattle.sip_message.specs.declared.name.Known.{Known}
 use Rattle.sip_message.specs.Name.{known, other, spellings, name_by, name_of}
 use Rattle.sip_message.proofs.lemmas.start_line.OneWay.{length-folded}
 
--- the spellings of n bytes
+-- the spellings of a list that have n bytes
 abbrev pub of_length : ℕ → List (List ℕ × Known) → List (List ℕ × Known)
 of_length n [] = []
 of_length n (s ∷ more) = cond (nat_eq (length (s.0)) n) (s ∷ of_length n more) (of_length n more)
 
--- a text of n bytes that is none of them
+-- a text of n bytes whose lower case is no spelling of n bytes in a list has no known name by the list
 other-by : (list : List (List ℕ × Known)) (text : List ℕ) (n : ℕ) → length text ≡ n → AllByRecursion (λ s. folded text ≡ s.0 → ⊥) (of_length n list) → name_by list text ≡ other text
 other-by [] text n len none = refl
 other-by ((s, k) ∷ more) text n len none = at (nat_eq (length s) n) (bytes_eq (folded text) s) refl refl none (other-by more text n len)
@@ -28,6 +28,6 @@ other-by ((s, k) ∷ more) text n len none = at (nat_eq (length s) n) (bytes_eq 
         let same : length s ≡ n = sym (ap length ((bytes_eq-Decides (folded text) s).0 is)) ∙ length-folded text ∙ len in
         absurd (both_ways (nat_eq (length s) n) long (eq-eqb (length s) n same))
 
--- spells no known name
+-- a text of n bytes whose lower case is no spelling of n bytes has no known name
 pub unknown : (text : List ℕ) (n : ℕ) → length text ≡ n → AllByRecursion (λ s. folded text ≡ s.0 → ⊥) (of_length n spellings) → other text ≡ name_of text
 unknown text n len none = sym (other-by spellings text n len none)

@@ -15,7 +15,7 @@ use Rattle.sip_message.proofs.lemmas.text.Cuts.{All}
 use Rattle.sip_message.proofs.lemmas.front.Cuts.{ReadAs, NotRead}
 use Rattle.sip_message.proofs.lemmas.field.OneWay.{name_whole, each-wsp, name_stops, same_name}
 
--- what is passed is SP and HTAB
+-- a text is SP and HTAB, and what is left past these
 wsp-front : (t : List ℕ) → (u : List ℕ) × Many (One is_wsp) u × (t ≡ u ++ past_wsp t)
 wsp-front [] = ([], many-nil (One is_wsp), refl)
 wsp-front (b ∷ t) = at (is_wsp b) refl (wsp-front t)
@@ -24,27 +24,27 @@ wsp-front (b ∷ t) = at (is_wsp b) refl (wsp-front t)
     at false is later = ([], many-nil (One is_wsp), refl)
     at true is (u, many, whole) = (b ∷ u, many-cons (One is_wsp) (b ∷ []) u (b, is, refl) many, ap (λ x. b ∷ x) whole)
 
--- before a colon all of it is passed
+-- SP and HTAB before a colon are passed up to the colon
 past-colon : (u rest : List ℕ) → All is_wsp u → past_wsp (u ++ colon ∷ rest) ≡ colon ∷ rest
 past-colon [] rest all = refl
 past-colon (b ∷ u) rest all = ap (λ x. cond x (past_wsp (u ++ colon ∷ rest)) (b ∷ (u ++ colon ∷ rest))) all.0 ∙ past-colon u rest all.1
 
--- the name's token stands at the front
+-- where a line has a name, the token that spells it stands at the front, and SP and HTAB and a colon follow
 name-token : (line rest : List ℕ) (name : FieldName) (n : NameText line name rest) → TokenFront line (n.spelled, n.whole.3.0 ++ colon ∷ rest)
 name-token line rest name n =
     (n.is_token, name_stops n.whole.3.0 rest (each-wsp n.whole.3.0 n.whole.3.2), (n.spelled, n.whole.3.0 ++ colon ∷ rest, refl, refl, name_whole line rest name n))
 
--- without a token there is no name
+-- a line without a token at its front has no name
 pub named-no_token : (line : List ℕ) → NotRead (TokenFront line) → NotRead (HasName line)
 named-no_token line none (name, rest) n = none (n.spelled, n.whole.3.0 ++ colon ∷ rest) (name-token line rest name n)
 
--- a line without a colon after its token has no name
+-- a line whose token no colon follows after SP and HTAB has no name
 pub named-no_colon : (line token rest : List ℕ) → ReadAs (TokenFront line) (token, rest) → past colon (past_wsp rest) ≡ None → NotRead (HasName line)
 named-no_colon line token rest read none (name, more) n =
     let same : n.whole.3.0 ++ colon ∷ more ≡ rest = ap (λ x. x.1) (read.1 (n.spelled, n.whole.3.0 ++ colon ∷ more) (name-token line more name n)) in
     none-some more (sym none ∙ ap (λ t. past colon (past_wsp t)) (sym same) ∙ ap (past colon) (past-colon n.whole.3.0 more (each-wsp n.whole.3.0 n.whole.3.2)))
 
--- with both there is one
+-- a line whose token a colon follows after SP and HTAB has the name that the token spells
 pub named-read : (line token rest more : List ℕ) → ReadAs (TokenFront line) (token, rest) → past colon (past_wsp rest) ≡ Some more → ReadAs (HasName line) (name_of token, more)
 named-read line token rest more read found = (is, (λ x other. let same = same_name line x.1 more x.0 (name_of token) other is in ap (λ n. (n, x.1)) same.0 ∙ ap (λ r. (name_of token, r)) same.1))
   where

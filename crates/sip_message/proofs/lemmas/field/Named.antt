@@ -17,7 +17,7 @@ use Rattle.sip_message.specs.inner.Views.{name_parts, field_parts}
 use Rattle.sip_message.specs.inner.Settles.{outcome_of}
 use Rattle.sip_message.proofs.lemmas.message.Outcome.{given-then}
 
--- the fields from a place on, by the field that stands there
+-- the fields of a name from place i on are the field at i, if it has the name, and those after it
 found-suc : (known : Known) (xs : List Code) (n i : ℕ) (d : Code) → i < length xs → found_from n known (drop i (map field_parts xs)) ≡ cond (is_name_of known (name_parts (slice_index_or xs i d).name)) ((n, (slice_index_or xs i d).value.now) ∷ found_from (n + 1) known (drop (suc i) (map field_parts xs))) (found_from (n + 1) known (drop (suc i) (map field_parts xs)))
 found-suc known [] n i d below = absurd (omega (arith, below))
 found-suc known (x ∷ xs) n zero d below = refl
@@ -27,24 +27,24 @@ found-at : (known : Known) (xs : List Code) (i : ℕ) (d : Code) → i < length 
 found-at known xs i d below =
     subst (λ k. found_from (i + 1) known (drop i (map field_parts xs)) ≡ cond (is_name_of known (name_parts (slice_index_or xs i d).name)) ((i + 1, (slice_index_or xs i d).value.now) ∷ found_from (i + 1 + 1) known (drop k (map field_parts xs))) (found_from (i + 1 + 1) known (drop k (map field_parts xs)))) (sym (add-one i)) (found-suc known xs (i + 1) i d below)
 
--- a field of the name
+-- where the field at place i has the name, the fields of the name from there on are it and those after it
 pub found-here : (known : Known) (xs : List Code) (i : ℕ) (d : Code) → i < length xs → is_name_of known (name_parts (slice_index_or xs i d).name) ≡ true → found_from (i + 1) known (drop i (map field_parts xs)) ≡ (i + 1, (slice_index_or xs i d).value.now) ∷ found_from (i + 1 + 1) known (drop (i + 1) (map field_parts xs))
 found-here known xs i d below is =
     found-at known xs i d below ∙ ap (λ z. cond z ((i + 1, (slice_index_or xs i d).value.now) ∷ found_from (i + 1 + 1) known (drop (i + 1) (map field_parts xs))) (found_from (i + 1 + 1) known (drop (i + 1) (map field_parts xs)))) is
 
--- a field of another name
+-- where the field at place i has another name, the fields of the name from there on are those after it
 pub found-passed : (known : Known) (xs : List Code) (i : ℕ) (d : Code) → i < length xs → is_name_of known (name_parts (slice_index_or xs i d).name) ≡ false → found_from (i + 1) known (drop i (map field_parts xs)) ≡ found_from (i + 1 + 1) known (drop (i + 1) (map field_parts xs))
 found-passed known xs i d below is =
     found-at known xs i d below ∙ ap (λ z. cond z ((i + 1, (slice_index_or xs i d).value.now) ∷ found_from (i + 1 + 1) known (drop (i + 1) (map field_parts xs))) (found_from (i + 1 + 1) known (drop (i + 1) (map field_parts xs)))) is
 
--- past the last field there is none
+-- from the end of the fields on there is no field of the name
 found-past : (known : Known) (xs : List Code) (n i : ℕ) → (i < length xs → ⊥) → found_from n known (drop i (map field_parts xs)) ≡ []
 found-past known [] n zero past = refl
 found-past known [] n (suc i) past = refl
 found-past known (x ∷ xs) n zero past = absurd (past (omega arith))
 found-past known (x ∷ xs) n (suc i) past = found-past known xs n i (λ below. past (omega (arith, below)))
 
--- after the last field none is found
+-- from the end of the fields on no field of a name is found, whatever the number of the line
 pub found-end : (known : Known) (xs : List Code) (i : ℕ) → (i < length xs → ⊥) → found_from (i + 1) known (drop i (map field_parts xs)) ≡ []
 found-end known xs i past = found-past known xs (i + 1) i past
 
@@ -52,12 +52,12 @@ found-end known xs i past = found-past known xs (i + 1) i past
 pub once-first : (name : Known) (fields : List Field) (one : ℕ × List ℕ) → OneOf (found name fields) (gives one) → IsFirstFound name fields one
 once-first name fields one is = (given-then is).2
 
--- a fault of a step
+-- a step that fails with a fault stops with that fault
 pub stops-there : {A X : Type 0} (parts : A → X) (S : Outcome X → Type 0) (r : Result A Fault) (fault : Fault) → IsErr r → IsErrAnd r (λ e. e ≡ fault) → S (stops fault) → S (outcome_of parts r)
 stops-there parts S (Ok a) fault err same is = absurd (both_ways false refl err)
 stops-there parts S (Err e) fault err same is = subst (λ f. S (stops f)) (sym same) is
 
--- no field of a name, two, and one
+-- where a name has no field, the demand for its one field stops with the fault that it is missing
 pub once-absent : (name : Known) (fields : List Field) (fault : Fault) → FirstOf (found name fields) (stops fault) → OneOf (found name fields) (stops fault)
 once-absent name fields fault none = passes tt (few (found name fields) none.0) none
   where
@@ -65,13 +65,13 @@ once-absent name fields fault none = passes tt (few (found name fields) none.0) 
     few [] none_is = omega arith
     few (f ∷ fs) none_is = absurd (none_is f (fs, refl))
 
--- a field that is found twice is one too many
+-- where a name has two fields, the demand for its one field stops at the line of the second
 pub once-twice : (name : Known) (fields : List Field) (one two : ℕ × List ℕ) → IsFound name 0 fields (Some one) → IsFound name (one.0) fields (Some two) → OneOf (found name fields) (stops (fault_in_line (two.0) reason.Repeated))
 once-twice name fields one two first second =
     let both = first ∙ ap (λ fs. one ∷ fs) second in
     stopped (fault_in_line (two.0) reason.Repeated) ((λ _ few. absurd (omega (arith, ap length both, few))), ap (λ fs. fault_in_line (second_line fs) reason.Repeated) (sym both)) refl
 
--- one that is found and no further is there once
+-- where a name has a field and no further one after it, the demand for its one field gives it
 pub once-one : (name : Known) (fields : List Field) (one : ℕ × List ℕ) → IsFound name 0 fields (Some one) → IsFound name (one.0) fields None → OneOf (found name fields) (gives one)
 once-one name fields one first none =
     let both = first ∙ ap (λ fs. one ∷ fs) none in

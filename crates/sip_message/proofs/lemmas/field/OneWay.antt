@@ -12,7 +12,7 @@ use Rattle.sip_standard.specs.Field.{is_lws_byte}
 use Rattle.sip_message.proofs.lemmas.text.Cuts.{Cuts, first_longer, same_length, second_longer, two_cuts, same_front, Stops, All, all_left, all_right, all_both}
 use Rattle.sip_message.proofs.lemmas.text.Each.{Each, each-one, each-some, each-many, each-sws, blank_is, wsp-blank}
 
--- a token's bytes
+-- all bytes of a token are bytes of tokens
 pub each-token : Each is_token_byte Token
 each-token = each-some is_token_byte _ (each-one is_token_byte is_token_byte (λ b is. is))
 
@@ -20,18 +20,18 @@ each-token = each-some is_token_byte _ (each-one is_token_byte is_token_byte (λ
 pub blank-token : (b : ℕ) → is_lws_byte b ≡ true → is_token_byte b ≡ false
 blank-token = blank_is (λ b. is_token_byte b ≡ false) refl refl refl refl
 
--- WSP in a row
+-- all bytes of WSP in a row are WSP
 pub each-wsp : Each is_wsp (Many (One is_wsp))
 each-wsp = each-many is_wsp _ (each-one is_wsp is_wsp (λ b is. is))
 
--- a field line, its parts one after the other
+-- a line with a name is the token that spells it, blanks, a colon and the rest
 pub name_whole : (line rest : List ℕ) (name : FieldName) (n : NameText line name rest) → line ≡ n.spelled ++ (n.whole.3.0 ++ colon ∷ rest)
 name_whole line rest name n =
     let w = n.whole in
     w.4 ∙ ap (λ t. t ++ w.1) w.2
     ∙ ap (λ t. n.spelled ++ t) (w.3.4 ∙ ap (λ t. w.3.0 ++ t) (w.3.3.4 ∙ ap (λ t. t ++ w.3.3.1) w.3.3.2 ∙ ap (λ t. colon ∷ t) w.3.3.3))
 
--- a name ends where blanks and a colon stand
+-- SP and HTAB with a colon after them begin with no byte of a token
 pub name_stops : (blanks rest : List ℕ) → All is_wsp blanks → Stops is_token_byte (blanks ++ colon ∷ rest)
 name_stops [] rest all = refl
 name_stops (b ∷ blanks) rest all = blank-token b (wsp-blank b all.0)
@@ -49,14 +49,14 @@ same_name line r s n m one other =
     let tails : colon ∷ r ≡ colon ∷ s = rests.1 in
     (one.name_is ∙ ap name_of names.0 ∙ sym other.name_is, cc)
 
--- a text that ends with a blank does not end solid
+-- a text that does not end with a blank does not end with blanks
 pub ends_blank : (u : List ℕ) (b : ℕ) (z : List ℕ) → EndsSolid (u ++ b ∷ z) → All is_lws_byte (b ∷ z) → ⊥
 ends_blank [] b [] ends all = both_ways (is_lws_byte b) ends all.0
 ends_blank [] b (c ∷ z) ends all = ends_blank [] c z ends all.1
 ends_blank (a ∷ []) b z ends all = ends_blank [] b z ends all
 ends_blank (a ∷ c ∷ u) b z ends all = ends_blank (c ∷ u) b z ends all
 
--- texts that end solid, before blanks, are the same
+-- where two texts that do not end with blanks make the same text with blanks after them, they are the same
 pub same_solid : (u v x y : List ℕ) → EndsSolid u → EndsSolid x → All is_lws_byte v → All is_lws_byte y → u ++ v ≡ x ++ y → u ≡ x
 same_solid u v x y us xs vs ys same = at (two_cuts u v x y same)
   where
@@ -67,13 +67,13 @@ same_solid u v x y us xs vs ys same = at (two_cuts u v x y same)
     at (second_longer b z longer is) =
         absurd (ends_blank u b z (subst EndsSolid longer xs) (all_left is_lws_byte (b ∷ z) y (subst (All is_lws_byte) is vs)))
 
--- a value between blanks
+-- what follows the colon is blanks, the value, and blanks
 value_whole : (rest value : List ℕ) (v : ValueText rest value) → rest ≡ v.whole.0 ++ (value ++ v.whole.3.1)
 value_whole rest value v =
     let w = v.whole in
     w.4 ∙ ap (λ t. w.0 ++ t) (w.3.4 ∙ ap (λ t. t ++ w.3.1) w.3.2)
 
--- the value is what stands between the longest blank runs
+-- what follows the colon has one value: what stands between the longest blank runs at its ends
 pub same_value : (rest value other : List ℕ) → ValueText rest value → ValueText rest other → value ≡ other
 same_value rest value other one two =
     at value other one.opens one.ends two.opens two.ends (sym (value_whole rest value one) ∙ value_whole rest other two)

@@ -20,12 +20,12 @@ use Rattle.sip_message.proofs.lemmas.field.OneWay.{each-token}
 use Rattle.sip_message.proofs.lemmas.via.Transport.{some-blanks}
 use Rattle.sip_message.proofs.lemmas.params.Closed.{some-run}
 
--- the front and what it leaves
+-- the first n bytes of a text, which are a front of P, are the text of that front
 front-take : (P : List ℕ → Type 0) (text : List ℕ) (n : ℕ) (front : HasFront P text n) → take n text ≡ front.0
 front-take P text n front =
     ap (λ m. take m text) front.4 ∙ ap (take (length front.0)) front.3 ∙ take-append_seam front.0 front.1
 
--- the longest token, and what is left
+-- where the longest token at the front of a text is not empty, the text is read as that token and what is left after it
 pub token-cut : (text : List ℕ) (n : ℕ) → IsLongestFront Token text n → (n ≡ 0 → ⊥) → TokenFront text (take n text, drop n text)
 token-cut text n longest some = at longest.front
   where
@@ -55,7 +55,7 @@ token-cut text n longest some = at longest.front
           (take n text, drop n text, refl, refl, front.3 ∙ ap (λ t. t ++ front.1) (sym front_is) ∙ ap (λ t. take n text ++ t) (sym rest_is)),
         )
 
--- without a token none is cut
+-- where the longest token at the front of a text is empty, no token is read there
 pub no-token : (text : List ℕ) → IsLongestFront Token text 0 → (t r : List ℕ) → TokenFront text (t, r) → ⊥
 no-token text longest t r front =
     let is = front.2 in
@@ -67,13 +67,13 @@ no-token text longest t r front =
     at [] token short = some-run is_token_byte [] token refl
     at (b ∷ u) token short = absurd (omega (arith, short))
 
--- one token is cut
+-- the token at the front of a text, and what is left after it, are read in one way
 pub same-token : (text : List ℕ) (t r u s : List ℕ) → TokenFront text (t, r) → TokenFront text (u, s) → (t ≡ u) × (r ≡ s)
 same-token text t r u s one other =
     same_front is_token_byte t r u s (each-token t one.0) (each-token u other.0) one.1 other.1
     (sym (one.2.4 ∙ ap (λ x. x ++ one.2.1) one.2.2 ∙ ap (λ x. t ++ x) one.2.3) ∙ (other.2.4 ∙ ap (λ x. x ++ other.2.1) other.2.2 ∙ ap (λ x. u ++ x) other.2.3))
 
--- what is after the blanks
+-- what is left after the blanks at the front of a text is one text
 pub same-behind : (text r s : List ℕ) → Behind text r → Behind text s → r ≡ s
 same-behind text r s (r_stops, (u, v, u_is, v_is, whole)) (s_stops, (x, y, x_is, y_is, whole_too)) =
     (same_many Blank blank_len u r x s blank-step (many u u_is) (many x x_is)
@@ -83,7 +83,7 @@ same-behind text r s (r_stops, (u, v, u_is, v_is, whole)) (s_stops, (x, y, x_is,
     many t (inl none) = subst (Many Blank) (sym none) (many-nil Blank)
     many t (inr blanks) = units-blanks t blanks
 
--- what is after the longest run of blanks is after them in one way
+-- what is left after the longest run of blanks is the one rest after the blanks
 pub longest-behind : (text : List ℕ) (n : ℕ) → IsLongestFront Blanks text n → IsOnlyBehind text (drop n text)
 longest-behind text n longest =
     let blanks = blanks-longest text n longest in
@@ -92,13 +92,13 @@ longest-behind text n longest =
     let behind : Behind text (drop n text) = (blanks.1, (front.0, front.1, blanks-units front.0 front.2, sym rest_is, front.3)) in
     (behind, (λ other is. same-behind text other (drop n text) is behind))
 
--- where no blank run stands nothing is passed
+-- where no blank run stands at the front of a text, the text is what is left after its blanks
 pub stops-behind : (text : List ℕ) → StopsBlank text → IsOnlyBehind text text
 stops-behind text stops =
     let behind : Behind text text = (stops, ([], text, inl refl, refl, refl)) in
     (behind, (λ other is. same-behind text other text is behind))
 
--- after a byte that is no blank stands no blank run
+-- a text whose first byte is no blank begins with no blank run
 pub stops-byte : (b : ℕ) (text : List ℕ) → is_lws_byte b ≡ false → StopsBlank (b ∷ text)
 stops-byte b text solid = at (is_wsp b) (nat_eq b carriage_return) solid
   where
@@ -107,7 +107,7 @@ stops-byte b text solid = at (is_wsp b) (nat_eq b carriage_return) solid
     at false true is = absurd (both_ways true is refl)
     at false false is = refl
 
--- a mark at the front: blanks, the byte, and blanks
+-- where a mark is read at the front of a text, its byte stands after blanks, and what is left stands after further blanks
 pub mark-parts : (mark : ℕ) (text rest : List ℕ) → is_lws_byte mark ≡ false → MarkFront mark text rest → (inner : List ℕ) × Behind text (mark ∷ inner) × Behind inner rest
 mark-parts mark text rest solid (stops, (m, r, (s, t, sws, (byte, after, byte_is, after_is, t_is), m_is), r_is, whole)) =
     (after ++ rest, (stops-byte mark (after ++ rest) solid, (s, mark ∷ (after ++ rest), sws, refl, flat)), (stops, (after, rest, after_is, refl, refl)))
@@ -117,7 +117,7 @@ mark-parts mark text rest solid (stops, (m, r, (s, t, sws, (byte, after, byte_is
         whole ∙ ap (λ x. m ++ x) r_is ∙ ap (λ x. x ++ rest) (m_is ∙ ap (λ x. s ++ x) (t_is ∙ ap (λ x. x ++ after) byte_is))
         ∙ append_assoc s (mark ∷ after) rest
 
--- a byte with the blanks around it is its mark
+-- where a byte stands after the blanks at the front of a text, its mark is read there, up to the end of the blanks after it
 pub parts-mark : (mark : ℕ) (text inner rest : List ℕ) → Behind text (mark ∷ inner) → Behind inner rest → MarkFront mark text rest
 parts-mark mark text inner rest (front_stops, (s, t, sws, t_is, whole)) (stops, (after, r, after_is, r_is, inner_is)) = (
   stops,
@@ -133,13 +133,13 @@ parts-mark mark text inner rest (front_stops, (s, t, sws, t_is, whole)) (stops, 
 past-cons : (mark : ℕ) (rest : List ℕ) → past mark (mark ∷ rest) ≡ Some rest
 past-cons mark rest = ap (λ same. cond same (Some rest) None) (eq-eqb mark mark refl)
 
--- without the byte after the blanks there is no mark
+-- where another byte stands after the blanks at the front of a text, the mark is not read there
 pub no-mark : (mark : ℕ) (text rest : List ℕ) → is_lws_byte mark ≡ false → IsOnlyBehind text rest → past mark rest ≡ None → (r : List ℕ) → MarkFront mark text r → ⊥
 no-mark mark text rest solid behind missing r front =
     let parts = mark-parts mark text r solid front in
     none-some parts.0 (sym missing ∙ ap (past mark) (sym (behind.1 (mark ∷ parts.0) parts.1)) ∙ past-cons mark parts.0)
 
--- with it there is one
+-- where the byte stands after the blanks at the front of a text, its mark is read there, and leaves one text
 pub one-mark : (mark : ℕ) (text rest inner r : List ℕ) → is_lws_byte mark ≡ false → IsOnlyBehind text rest → past mark rest ≡ Some inner → IsOnlyBehind inner r → MarkFront mark text r × ((other : List ℕ) → MarkFront mark text other → other ≡ r)
 one-mark mark text rest inner r solid behind found inside = (
   parts-mark mark text inner r (subst (Behind text) (past-some mark rest inner found) behind.0) inside.0,
@@ -150,39 +150,39 @@ one-mark mark text rest inner r solid behind found inside = (
       inside.1 other (subst (λ t. Behind t other) inners parts.2)),
 )
 
--- what follows a blank run
+-- what is left after a blank run at the front of a text is one text
 pub same-blanks : (text r s : List ℕ) → BlanksFront text r → BlanksFront text s → r ≡ s
 same-blanks text r s one other =
     same-behind text r s (one.0, (one.1.0, one.1.1, inr one.1.2, one.1.3, one.1.4)) (other.0, (other.1.0, other.1.1, inr other.1.2, other.1.3, other.1.4))
 
--- R gives this value alone, or none
+-- R holds of this value and of no other
 abbrev pub ReadAs : {X : Type 0} → (X → Type 0) → X → Type 0
 ReadAs {X = X} R a = R a × ((x : X) → R x → x ≡ a)
 
 abbrev pub NotRead : {X : Type 0} → (X → Type 0) → Type 0
 NotRead {X = X} R = (x : X) → ¬ (R x)
 
--- a step that gives nothing
+-- where the first of two steps gives nothing, both together give nothing
 pub stop : {X Y : Type 0} {R : X → Type 0} {S : X → Y → Type 0} → NotRead R → NotRead (Seq R S)
 stop none y (both x r s) = none x r
 
--- a step that gives a value, and the later ones nothing
+-- where the first of two steps gives one value, and the second nothing after it, both together give nothing
 pub go-stop : {X Y : Type 0} {R : X → Type 0} {S : X → Y → Type 0} {a : X} → ReadAs R a → NotRead (S a) → NotRead (Seq R S)
 go-stop {S = S} one none y (both x r s) = none y (subst (λ z. S z y) (one.1 x r) s)
 
--- and a value
+-- where the first of two steps gives one value, and the second one after it, both together give no other value
 go-only : {X Y : Type 0} {R : X → Type 0} {S : X → Y → Type 0} {a : X} {b : Y} → ReadAs R a → ReadAs (S a) b → (y : Y) → Seq R S y → y ≡ b
 go-only {S = S} one two y (both x r s) = two.1 y (subst (λ z. S z y) (one.1 x r) s)
 
--- two steps that are read, one after another, are read
+-- where the first of two steps gives one value, and the second one after it, both together give that one
 pub go : {X Y : Type 0} {R : X → Type 0} {S : X → Y → Type 0} {a : X} {b : Y} → ReadAs R a → ReadAs (S a) b → ReadAs (Seq R S) b
 go {a = a} one two = (both a one.0 two.0, go-only one two)
 
--- the last step
+-- the last step gives the value that was made of the others
 pub last : {X : Type 0} (a : X) → ReadAs (λ x. x ≡ a) a
 last a = (refl, (λ x is. is))
 
--- without a blank run there is none
+-- where the longest blank run at the front of a text is empty, none is read there
 pub no-blanks : (text : List ℕ) → IsLongestFront Blanks text 0 → NotRead (BlanksFront text)
 no-blanks text longest rest (stops, (u, v, blanks, rest_is, whole)) =
     at u (longest.longest (length u) (u, v, blanks, whole, refl)) blanks
@@ -191,7 +191,7 @@ no-blanks text longest rest (stops, (u, v, blanks, rest_is, whole)) =
     at [] short is = some-blanks [] is refl
     at (b ∷ t) short is = absurd (omega (arith, short))
 
--- the longest blank run, and what is left
+-- where the longest blank run at the front of a text is not empty, it is read there, and leaves what follows it
 pub longest-blanks_front : (text : List ℕ) (n : ℕ) → IsLongestFront Blanks text n → (n ≡ 0 → ⊥) → ReadAs (BlanksFront text) (drop n text)
 longest-blanks_front text n longest some = at longest.front
   where

@@ -1,4 +1,4 @@
--- A part after its mark, and what follows a part.
+-- An optional part after its mark, and what may follow a part.
 use Rattle.std.proofs.Common.{◌≡◌, ℕ, ◌<◌, ◌≤◌, ◌⊎◌, Bool, true, false, List, [], ◌∷◌, ◌++◌, Some, None, length, refl, sym, ap, ◌∙◌, subst, inl, inr, arith}
 use Rattle.std.proofs.lemmas.Bool.{both_ways}
 use Rattle.std.proofs.lemmas.List.{append_assoc, length-append}
@@ -13,26 +13,26 @@ use Rattle.sip_message.proofs.lemmas.front.Cuts.{ReadAs, NotRead, mark-parts, sa
 use Rattle.sip_message.proofs.lemmas.via.Elements.{no_mark-nil}
 use Rattle.sip_message.proofs.lemmas.front.OneWay.{AtMostOne, read-one, one-led}
 
--- without the mark there is no part
+-- where the mark does not stand at the front of a text, an optional part is read as missing
 pub led-none : (mark : ℕ) (Part : List ℕ → List ℕ × List ℕ → Type 0) (text : List ℕ) → is_lws_byte mark ≡ false → ((t : List ℕ) → AtMostOne (Part t)) → NotRead (MarkFront mark text) → ReadAs (LedFront mark Part text) (None, text)
 led-none mark Part text solid one none = read-one (LedFront mark Part text) (None, text) (one-led mark Part text solid one) (none, refl)
 
--- with it there is the part after it
+-- where the mark stands at the front of a text, and a part after it, an optional part is read as that part
 pub led-some : (mark : ℕ) (Part : List ℕ → List ℕ × List ℕ → Type 0) (text inner part rest : List ℕ) → is_lws_byte mark ≡ false → ((t : List ℕ) → AtMostOne (Part t)) → ReadAs (MarkFront mark text) inner → Part inner (part, rest) → ReadAs (LedFront mark Part text) (Some part, rest)
 led-some mark Part text inner part rest solid one found is =
     read-one (LedFront mark Part text) (Some part, rest) (one-led mark Part text solid one) (inner, found.0, is)
 
--- where nothing is read after the mark, nothing is read with it
+-- where the mark stands at the front of a text, and no part after it, an optional part is not read
 pub no-led : (mark : ℕ) (Part : List ℕ → List ℕ × List ℕ → Type 0) (text inner : List ℕ) → ReadAs (MarkFront mark text) inner → NotRead (Part inner) → NotRead (LedFront mark Part text)
 no-led mark Part text inner found none (None, rest) (no_mark, is) = no_mark inner found.0
 no-led mark Part text inner found none (Some part, rest) (t, mark_too, is) =
     none (part, rest) (subst (λ x. Part x (part, rest)) (found.1 t mark_too) is)
 
--- the text ends, or after blanks there stands a byte of these
+-- the text is empty, or after its blanks stands a byte of these
 abbrev pub Next : (ℕ → Bool) → List ℕ → Type 0
 Next these text = (text ≡ []) ⊎ ((b : ℕ) × (inner : List ℕ) × (these b ≡ true) × Behind text (b ∷ inner))
 
--- where neither these nor blanks pass, a run stops there
+-- where no byte of these passes the test, and no blank does, a text that begins with them after blanks begins with no byte that passes
 pub next-stops : (these test : ℕ → Bool) (text : List ℕ) → ((b : ℕ) → is_lws_byte b ≡ true → test b ≡ false) → ((b : ℕ) → these b ≡ true → test b ≡ false) → Next these text → Stops test text
 next-stops these test text blank other (inl none) = subst (Stops test) (sym none) tt
 next-stops these test text blank other (inr (b, inner, is, (stops, (u, v, sws, v_is, whole)))) =
@@ -42,7 +42,7 @@ next-stops these test text blank other (inr (b, inner, is, (stops, (u, v, sws, v
     at [] all = other b is
     at (c ∷ t) all = blank c all.0
 
--- no other mark stands there
+-- where one of these bytes stands after the blanks at the front of a text, the mark of another byte does not stand there
 pub next-other : (these : ℕ → Bool) (mark : ℕ) (text : List ℕ) → is_lws_byte mark ≡ false → these mark ≡ false → Next these text → NotRead (MarkFront mark text)
 next-other these mark text solid fails (inl none) rest is = no_mark-nil mark rest (subst (λ t. MarkFront mark t rest) none is)
 next-other these mark text solid fails (inr (b, inner, pass, behind)) rest is =
@@ -51,7 +51,7 @@ next-other these mark text solid fails (inr (b, inner, pass, behind)) rest is =
     let bytes : mark ≡ b = cc in
     both_ways (these mark) fails (ap these bytes ∙ pass)
 
--- a mark's byte stands after blanks
+-- the byte of a mark stands after the blanks at its front
 pub mark-behind : (mark : ℕ) (m z : List ℕ) → is_lws_byte mark ≡ false → Mark mark m → (inner : List ℕ) × Behind (m ++ z) (mark ∷ inner)
 mark-behind mark m z solid (s, t, sws, (byte, after, byte_is, after_is, t_is), m_is) =
     (after ++ z, (stops-byte mark (after ++ z) solid, (s, mark ∷ (after ++ z), sws, refl, whole)))
@@ -59,18 +59,18 @@ mark-behind mark m z solid (s, t, sws, (byte, after, byte_is, after_is, t_is), m
     whole : m ++ z ≡ s ++ (mark ∷ (after ++ z))
     whole = ap (λ x. x ++ z) (m_is ∙ ap (λ x. s ++ x) (t_is ∙ ap (λ x. x ++ after) byte_is)) ∙ append_assoc s (mark ∷ after) z
 
--- a mark is what may come next
+-- a text that begins with the mark of one of these bytes begins with one of these after its blanks
 pub mark-next : (these : ℕ → Bool) (mark : ℕ) (m z : List ℕ) → is_lws_byte mark ≡ false → these mark ≡ true → Mark mark m → Next these (m ++ z)
 mark-next these mark m z solid pass is = let behind = mark-behind mark m z solid is in inr (mark, behind.0, pass, behind.1)
 
--- an element ends where these follow, if a comma is of them
+-- where an element ends, nothing follows or a comma after blanks
 pub ends-next : (these : ℕ → Bool) (text : List ℕ) → these comma ≡ true → EndsElement text → Next these text
 ends-next these text pass (inl none) = inl none
 ends-next these text pass (inr (next, mark)) =
     let parts = mark-parts comma text next refl mark in
     inr (comma, parts.0, pass, parts.1)
 
--- what is after a mark is shorter
+-- what is left after a mark is shorter than the text
 pub mark-shorter : (mark : ℕ) (text rest : List ℕ) → is_lws_byte mark ≡ false → MarkFront mark text rest → length rest < length text
 mark-shorter mark text rest solid is =
     let parts = mark-parts mark text rest solid is in
@@ -78,7 +78,7 @@ mark-shorter mark text rest solid is =
     let inner = parts.2.1 in
     omega (arith, ap length outer.4, length-append outer.0 outer.1, ap length outer.3, ap length inner.4, length-append inner.0 inner.1, ap length inner.3)
 
--- a token leaves no more than there was
+-- what is left after a token is no longer than the text
 pub token-shorter : (text token rest : List ℕ) → TokenFront text (token, rest) → length rest ≤ length text
 token-shorter text token rest (is, stops, (u, v, u_is, v_is, whole)) =
     omega (arith, ap length whole, length-append u v, ap length v_is)

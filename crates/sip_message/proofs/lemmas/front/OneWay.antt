@@ -1,4 +1,4 @@
--- What is read from the front of a text is read in one way: laws over lists, for each step.
+-- What is read from the front of a text is read in one way: a law for each step of the readers.
 use Rattle.std.proofs.Common.{◌≡◌, ℕ, ◌≤◌, Bool, true, false, ◌||◌, nat_eq, nat_le, List, [], ◌∷◌, ◌++◌, Some, None, length, slice_index, refl, sym, ap, ◌∙◌, subst, inl, inr, arith}
 use Rattle.std.specs.Int.{is_in_range}
 use Rattle.std.specs.Char.{is_ascii_alphabetic, is_ascii_alphanumeric, is_ascii_digit, is_ascii_hexdigit}
@@ -36,25 +36,25 @@ use Rattle.sip_message.proofs.lemmas.front.Cuts.{ReadAs, mark-parts, same-token,
 abbrev pub AtMostOne : {X : Type 0} → (X → Type 0) → Type 0
 AtMostOne {X = X} R = (a b : X) → R a → R b → a ≡ b
 
--- a value that is read is the only one
+-- where R holds of a value, and of one value at most, it holds of that value and of no other
 pub read-one : {X : Type 0} (R : X → Type 0) (a : X) → AtMostOne R → R a → ReadAs R a
 read-one R a one is = (is, (λ x r. one x a r is))
 
--- two steps
+-- where each of two steps gives one value at most, both together do
 pub one-seq : {X Y : Type 0} (R : X → Type 0) (S : X → Y → Type 0) → AtMostOne R → ((x : X) → AtMostOne (S x)) → AtMostOne (Seq R S)
 one-seq R S one two a b (both x r s) (both y t u) = two y a b (subst (λ z. S z a) (one x y r t) s) u
 
--- the last step
+-- the last step, which makes a value of the others, gives one value
 pub one-last : {X : Type 0} (c : X) → AtMostOne (λ x. x ≡ c)
 one-last c a b a_is b_is = a_is ∙ sym b_is
 
--- a token
+-- a token at the front of a text is read in one way
 pub one-token : (text : List ℕ) → AtMostOne (TokenFront text)
 one-token text (t, r) (u, s) one other =
     let same = same-token text t r u s one other in
     ap (λ x. (x, r)) same.0 ∙ ap (λ x. (u, x)) same.1
 
--- a mark
+-- a mark at the front of a text is read in one way
 pub one-mark : (mark : ℕ) (text : List ℕ) → is_lws_byte mark ≡ false → AtMostOne (MarkFront mark text)
 one-mark mark text solid r s one other =
     let a = mark-parts mark text r solid one in
@@ -63,11 +63,11 @@ one-mark mark text solid r s one other =
     let inner : a.0 ≡ b.0 = cc in
     same-behind b.0 r s (subst (λ t. Behind t r) inner a.2) b.2
 
--- a blank run
+-- a blank run at the front of a text is read in one way
 pub one-blanks : (text : List ℕ) → AtMostOne (BlanksFront text)
 one-blanks text r s one other = same-blanks text r s one other
 
--- [ mark part ]
+-- [ mark part ] at the front of a text is read in one way where the part is
 pub one-led : (mark : ℕ) (Part : List ℕ → List ℕ × List ℕ → Type 0) (text : List ℕ) → is_lws_byte mark ≡ false → ((t : List ℕ) → AtMostOne (Part t)) → AtMostOne (LedFront mark Part text)
 one-led mark Part text solid one (None, r) (None, s) a b = ap (λ x. (None, x)) (a.1 ∙ sym b.1)
 one-led mark Part text solid one (None, r) (Some w, s) a b = absurd (a.0 b.0 b.1)
@@ -77,11 +77,11 @@ one-led mark Part text solid one (Some v, r) (Some w, s) a b =
     let same : ◌≡◌ {A = List ℕ × List ℕ} (v, r) (w, s) = one b.0 (v, r) (w, s) (subst (λ t. Part t (v, r)) inner a.2) b.2 in
     ap (λ x. (Some (x.0), x.1)) same
 
--- sets of bare bytes
+-- the test of a byte of a value that is neither quoted nor in brackets, which is called bare
 abbrev B : ℕ → Bool
 B = is_bare_byte
 
--- a byte of a token is one of a bare value
+-- a byte of a token is a bare byte
 pub bare-token : (b : ℕ) → is_token_byte b ≡ true → is_bare_byte b ≡ true
 bare-token b is = or_left (is_token_byte b) (nat_eq b colon) is
 
@@ -89,7 +89,7 @@ bare-token b is = or_left (is_token_byte b) (nat_eq b colon) is
 pub bare-byte : (b : ℕ) → is_bare_byte b ≡ true → Each B (Byte b)
 bare-byte b is u text = subst (All B) (sym text) (is, tt)
 
--- a wider range has what a narrower one has
+-- a byte in a range is in each wider range
 wider : (low high lower higher b : ℕ) → lower ≤ low → high ≤ higher → is_in_range low high b ≡ true → is_in_range lower higher b ≡ true
 wider low high lower higher b l h is =
     let both = and_parts (nat_le low b) (nat_le b high) is in
@@ -108,12 +108,14 @@ token-digit b is = token-alnum b (or_left (is_in_range 48 57 b || is_in_range 65
 token-alpha : (b : ℕ) → is_ascii_alphabetic b ≡ true → is_token_byte b ≡ true
 token-alpha b is = token-alnum b (alphanumeric-alphabetic b is)
 
+-- a byte of a label is a byte of a token
 token-label : (b : ℕ) → is_label_byte b ≡ true → is_token_byte b ≡ true
 token-label b is = elim (or_cases (is_ascii_alphanumeric b) (nat_eq b hyphen) is) [
   | inl alnum ↦ token-alnum b alnum
   | inr same ↦ subst (λ x. is_token_byte x ≡ true) (sym (eqb-true b hyphen same)) refl
 ]
 
+-- a hexadecimal digit is a bare byte
 bare-hex : (b : ℕ) → is_ascii_hexdigit b ≡ true → is_bare_byte b ≡ true
 bare-hex b is = bare-token b (elim (or_cases (is_in_range 48 57 b || is_in_range 65 70 b) (is_in_range 97 102 b) is) [
   | inl more ↦ elim (or_cases (is_in_range 48 57 b) (is_in_range 65 70 b) more) [
@@ -123,14 +125,14 @@ bare-hex b is = bare-token b (elim (or_cases (is_in_range 48 57 b || is_in_range
   | inr lower ↦ token-alnum b (or_right (is_in_range 48 57 b || is_in_range 65 90 b) (is_in_range 97 122 b) (wider 97 102 97 122 b (omega arith) (omega arith) lower))
 ])
 
--- the bytes of hostnames and of IPv4 addresses are bytes of tokens
+-- the test of a byte of a token
 abbrev T : ℕ → Bool
 T = is_token_byte
 
 token-byte : (b : ℕ) → is_token_byte b ≡ true → Each T (Byte b)
 token-byte b is u text = subst (All T) (sym text) (is, tt)
 
--- a host name has bytes of a token alone
+-- all bytes of a hostname are bytes of tokens
 pub each-hostname : Each T Hostname
 each-hostname =
     each-then T _ _ (each-many T _ (each-then T _ _ (each-or T _ _ alnum (each-then T _ _ alnum (each-then T _ _ labels alnum))) (token-byte dot refl)))
@@ -154,12 +156,12 @@ each-v4 =
     group : Each T DecimalGroup
     group = each-between T 1 3 _ (each-one T is_ascii_digit token-digit)
 
--- those of a token are bare
+-- bytes of tokens are bare bytes
 pub bare-all : (u : List ℕ) → All T u → All B u
 bare-all [] all = tt
 bare-all (b ∷ u) all = (bare-token b all.0, bare-all u all.1)
 
--- all bytes of an IPv6 address are bytes of tokens or colons
+-- all bytes of an IPv6 address are bare: bytes of tokens, or colons
 pub each-v6 : Each B Ipv6
 each-v6 =
     each-or B _ _ (each-then B _ _ hexpart (each-optional B _ (each-then B _ _ (bare-byte colon refl) v4_bare)))
@@ -180,32 +182,32 @@ each-v6 =
     hexpart : Each B Hexpart
     hexpart = each-or B _ _ hexseq (each-or B _ _ (each-then B _ _ hexseq (each-then B _ _ double (each-optional B _ hexseq))) (each-then B _ _ double (each-optional B _ hexseq)))
 
--- a token or an IPv6 address has bare bytes alone
+-- all bytes of a token or of an IPv6 address are bare
 pub each-bare : Each B (Token or Ipv6)
 each-bare = each-or B _ _ (λ u is. bare-all u (each-token u is)) each-v6
 
--- a bare value is not empty
+-- a token or an IPv6 address is not empty
 pub some-bare : (u : List ℕ) → (Token or Ipv6) u → u ≡ [] → ⊥
 some-bare u (inl token) none = some-run is_token_byte u token none
 some-bare u (inr address) none = both_ways (is_v6 u) (ap is_v6 none) (v6-is u address)
 
--- what a class has is not the byte that it lacks
+-- where all bytes of a text are of a class without the mark, the text lacks the mark
 pub all-lacks : (test : ℕ → Bool) (mark : ℕ) (u : List ℕ) → test mark ≡ false → All test u → Lacks mark u
 all-lacks test mark [] fails all = tt
 all-lacks test mark (b ∷ u) fails all = (other_byte test mark b fails all.0, all-lacks test mark u fails all.1)
 
--- a value without quotes and brackets
+-- a bare value at the front of a text is read in one way
 pub one-bare : (text : List ℕ) → AtMostOne (BareFront text)
 one-bare text (v, r) (w, s) a b =
     let same = same_front B v r w s (each-bare v a.0) (each-bare w b.0) a.1 b.1 (sym a.2 ∙ b.2) in
     ap (λ x. (x, r)) same.0 ∙ ap (λ x. (w, x)) same.1
 
--- fronts before one rest are one
+-- two fronts of one text that leave the same rest are the same
 same_pair : (v r w s text : List ℕ) → text ≡ v ++ r → text ≡ w ++ s → r ≡ s → ◌≡◌ {A = List ℕ × List ℕ} (v, r) (w, s)
 same_pair v r w s text v_is w_is rest =
     ap (λ x. (x, r)) (same_by_end v r w s (ap length rest) (sym v_is ∙ w_is)).0 ∙ ap (λ x. (w, x)) rest
 
--- the contents of a quoted string are pieces
+-- the contents of a quoted string are pieces of it
 pub items-contents : (text : List ℕ) → Many (Qdtext or QuotedPair) text → Many QuotedItem text
 items-contents text many = many-flat (Qdtext or QuotedPair) QuotedItem text each many
   where
@@ -214,13 +216,13 @@ items-contents text many = many-flat (Qdtext or QuotedPair) QuotedItem text each
     each u (inl (inr byte)) = many-one QuotedItem u (inl byte)
     each u (inr pair) = many-one QuotedItem u (inr (inl pair))
 
--- a quoted string, its parts one after the other
+-- a quoted string and what follows it are a quote, the contents, a quote and what follows
 pub quoted-whole : (value rest : List ℕ) → (q : Quoted value) → value ++ rest ≡ dquote ∷ (q.3.0 ++ dquote ∷ rest)
 quoted-whole value rest q =
     ap (λ x. x ++ rest) (q.4 ∙ ap (λ x. x ++ q.1) q.2 ∙ ap (λ x. dquote ∷ x) (q.3.4 ∙ ap (λ x. q.3.0 ++ x) q.3.3))
     ∙ ap (λ x. dquote ∷ x) (append_assoc q.3.0 (dquote ∷ []) rest)
 
--- a quoted string
+-- a quoted string at the front of a text is read in one way
 pub one-quoted : (text : List ℕ) → AtMostOne (QuotedFront text)
 one-quoted text (v, r) (w, s) (q, v_is) (p, w_is) = same_pair v r w s text v_is w_is (rests q.3.0 p.3.0 q.3.2 p.3.2 wholes)
   where
@@ -233,7 +235,7 @@ one-quoted text (v, r) (w, s) (q, v_is) (p, w_is) = same_pair v r w s text v_is 
         let tails : dquote ∷ r ≡ dquote ∷ s = (same_many QuotedItem item_len i (dquote ∷ r) j (dquote ∷ s) item-step (items-contents i is) (items-contents j js) inners refl refl).1 in
         cc
 
--- what stands in brackets
+-- what stands at the front of a text from "[" to the first "]" is read in one way
 pub one-bracket : (text : List ℕ) → AtMostOne (BracketFront text)
 one-bracket text (v, r) (w, s) (i, i_lacks, v_is, v_whole) (j, j_lacks, w_is, w_whole) = same_pair v r w s text v_whole w_whole (rests both_whole)
   where
@@ -249,24 +251,24 @@ one-bracket text (v, r) (w, s) (i, i_lacks, v_is, v_whole) (j, j_lacks, w_is, w_
         let found : Some r ≡ Some s = sym (behind-led right_bracket i (Some r) i_lacks) ∙ ap (behind right_bracket) inners ∙ behind-led right_bracket j (Some s) j_lacks in
         cc
 
--- an IPv6 address in brackets stands in brackets
+-- an IPv6 address in brackets at the front of a text is what stands there from "[" to the first "]"
 pub reference-bracket : (text : List ℕ) (x : List ℕ × List ℕ) → ReferenceFront text x → BracketFront text x
 reference-bracket text (v, r) ((o, t, o_is, (inner, c, address, c_is, t_is), v_is), whole) =
     (inner, all-lacks B right_bracket inner refl (each-v6 inner address), v_is ∙ ap (λ x. x ++ t) o_is ∙ ap (λ x. left_bracket ∷ x) (t_is ∙ ap (λ x. inner ++ x) c_is), whole)
 
--- an IPv6 reference is read in one way
+-- an IPv6 address in brackets at the front of a text is read in one way
 pub one-reference : (text : List ℕ) → AtMostOne (ReferenceFront text)
 one-reference text a b is other = one-bracket text a b (reference-bracket text a is) (reference-bracket text b other)
 
--- the first byte tells them apart
+-- a text that begins with a quoted string has a quote as its first byte
 pub quoted-first : (text : List ℕ) (x : List ℕ × List ℕ) → QuotedFront text x → slice_index text 0 ≡ dquote
 quoted-first text (v, r) (q, whole) = ap (λ t. slice_index t 0) (whole ∙ quoted-whole v r q)
 
--- what is in brackets begins with one
+-- a text that begins with something in brackets has "[" as its first byte
 pub bracket-first : (text : List ℕ) (x : List ℕ × List ℕ) → BracketFront text x → slice_index text 0 ≡ left_bracket
 bracket-first text (v, r) (i, lacks, v_is, whole) = ap (λ t. slice_index t 0) (whole ∙ ap (λ t. t ++ r) v_is)
 
--- a text that is not empty begins with a byte that passes
+-- the first byte of a text that is not empty, all bytes of which pass, passes, whatever follows the text
 pub first-all : (test : ℕ → Bool) (u v : List ℕ) → All test u → (u ≡ [] → ⊥) → test (slice_index (u ++ v) 0) ≡ true
 first-all test [] v all some = absurd (some refl)
 first-all test (b ∷ u) v all some = all.0
@@ -276,16 +278,16 @@ pub bare-first : (text : List ℕ) (x : List ℕ × List ℕ) → BareFront text
 bare-first text (v, r) (kind, stops, whole) =
     ap (λ t. is_bare_byte (slice_index t 0)) whole ∙ first-all B v r (each-bare v kind) (some-bare v kind)
 
--- a token begins with a byte of one
+-- a text that begins with a token has a byte of a token as its first byte
 pub token-first : (text : List ℕ) (x : List ℕ × List ℕ) → TokenFront text x → is_token_byte (slice_index text 0) ≡ true
 token-first text (t, r) (token, stops, (u, v, u_is, v_is, whole)) =
     ap (λ x. is_token_byte (slice_index x 0)) (whole ∙ ap (λ x. x ++ v) u_is) ∙ first-all T t v (each-token t token) (some-run is_token_byte t token)
 
--- a byte that does not pass is none that does
+-- a byte that passes is not one that does not pass
 pub first-fails : (test : ℕ → Bool) (b c : ℕ) → test c ≡ false → b ≡ c → test b ≡ true → ⊥
 first-fails test b c fails same pass = both_ways (test b) (ap test same ∙ fails) pass
 
--- a value
+-- a parameter's value at the front of a text is read in one way
 pub one-value : (text : List ℕ) → AtMostOne (ValueFront text)
 one-value text x y (inl a) (inl b) = one-quoted text x y a b
 one-value text x y (inl a) (inr (inl b)) = absurd (omega (arith, quoted-first text x a, bracket-first text y (reference-bracket text y b)))
@@ -297,7 +299,7 @@ one-value text x y (inr (inr a)) (inl b) = absurd (first-fails B (slice_index te
 one-value text x y (inr (inr a)) (inr (inl b)) = absurd (first-fails B (slice_index text 0) left_bracket refl (bracket-first text y (reference-bracket text y b)) (bare-first text x a))
 one-value text x y (inr (inr a)) (inr (inr b)) = one-bare text x y a b
 
--- the whole text as a host
+-- a text has the parts of one host at most
 pub same-host : (text : List ℕ) → AtMostOne (HostText text)
 same-host text a b one other = at (is_v6_reference text) (is_v4 text) (is_hostname text) refl refl refl
   where

@@ -15,11 +15,11 @@ use Rattle.sip_message.proofs.lemmas.text.Cuts.{All}
 use Rattle.sip_message.proofs.lemmas.front.Cuts.{ReadAs, NotRead}
 use Rattle.sip_message.proofs.lemmas.lines.OneWay.{same_head, no_blank}
 
--- the end of a line and an empty line
+-- CRLF CRLF: the end of a line, and an empty line
 abbrev pub double_end : List ℕ
 double_end = carriage_return ∷ line_feed ∷ carriage_return ∷ line_feed ∷ []
 
--- four bytes at the front
+-- a text whose first four bytes are a, b, c and d is these and what follows
 four : (t : List ℕ) (a b c d : ℕ) → 4 ≤ length t → get_or t 0 0 ≡ a → get_or t 1 0 ≡ b → get_or t 2 0 ≡ c → get_or t 3 0 ≡ d → t ≡ a ∷ b ∷ c ∷ d ∷ drop 4 t
 four [] a b c d long e f g h = absurd (omega (arith, long))
 four (x ∷ []) a b c d long e f g h = absurd (omega (arith, long))
@@ -28,48 +28,50 @@ four (x ∷ y ∷ z ∷ []) a b c d long e f g h = absurd (omega (arith, long))
 four (x ∷ y ∷ z ∷ w ∷ t) a b c d long e f g h =
     ap (λ o. o ∷ y ∷ z ∷ w ∷ t) e ∙ ap (λ o. a ∷ o ∷ z ∷ w ∷ t) f ∙ ap (λ o. a ∷ b ∷ o ∷ w ∷ t) g ∙ ap (λ o. a ∷ b ∷ c ∷ o ∷ t) h
 
--- the empty line is found there
+-- where CRLF CRLF occurs at place k, the text is its first k bytes, CRLF CRLF and what follows
 occurs-cut : (t : List ℕ) (k : ℕ) → OccursAt t double_end k → t ≡ take k t ++ (crlf ++ (crlf ++ drop 4 (drop k t)))
 occurs-cut t k at = sym (take-append-drop k t) ∙ ap (λ x. take k t ++ x) (four (drop k t) 13 10 13 10 (omega (arith, at.fits, length-drop k t)) (byte 0 (omega arith)) (byte 1 (omega arith)) (byte 2 (omega arith)) (byte 3 (omega arith)))
   where
     byte : (j : ℕ) → j < 4 → get_or (drop k t) j 0 ≡ get_or double_end j 0
     byte j below = get_or-drop k t j 0 ∙ at.reads j below
 
--- where it stands it is found
+-- where a text is u, CRLF CRLF and v, CRLF CRLF occurs at the length of u
 cut-occurs : (t u v : List ℕ) → t ≡ u ++ (crlf ++ (crlf ++ v)) → OccursAt t double_end (length u)
 cut-occurs t u v is = record {
   fits = omega (arith, ap length is, length-append u (crlf ++ (crlf ++ v)));
   reads = λ j below. ap (λ x. get_or x (length u + j) 0) is ∙ get_or-append-add u (crlf ++ (crlf ++ v)) j 0 ∙ get_or_append_left double_end v 0 j below;
 }
 
--- the LF, CR and LF within
+-- LF CR LF: what CRLF CRLF has after its first byte
 abbrev pub inner_end : List ℕ
 inner_end = line_feed ∷ carriage_return ∷ line_feed ∷ []
 
+-- where CRLF CRLF occurs at place k, LF CR LF occurs at place k + 1
 double-inner : (t : List ℕ) (k : ℕ) → OccursAt t double_end k → OccursAt t inner_end (k + 1)
 double-inner t k at = record {
   fits = omega (arith, at.fits);
   reads = λ j below. ap (λ i. get_or t i 0) (omega arith) ∙ at.reads (suc j) (omega (arith, below));
 }
 
--- no such place begins more than one byte before this one
+-- CRLF CRLF begins nowhere in the text before the byte that stands before `from`
 abbrev pub NoneSoFar : List ℕ → ℕ → Type 0
 NoneSoFar t from = (j : ℕ) → j + 1 < from → ¬ (OccursAt t double_end j)
 
--- from a rest to the text, and back
+-- where LF CR LF occurs in a text at place from + k, it occurs in the rest from `from` on at place k
 inner-rest : (t rest : List ℕ) (from k : ℕ) → from ≤ length t → rest ≡ drop from t → OccursAt t inner_end (from + k) → OccursAt rest inner_end k
 inner-rest t rest from k within is at = record {
   fits = omega (arith, at.fits, ap length is, length-drop from t, within);
   reads = λ j below. ap (λ r. get_or r (k + j) 0) is ∙ get_or-drop from t (k + j) 0 ∙ ap (λ i. get_or t i 0) (omega arith) ∙ at.reads j below;
 }
 
+-- where LF CR LF occurs in the rest from `from` on at place k, it occurs in the text at place from + k
 rest-inner : (t rest : List ℕ) (from k : ℕ) → from ≤ length t → rest ≡ drop from t → OccursAt rest inner_end k → OccursAt t inner_end (from + k)
 rest-inner t rest from k within is at = record {
   fits = omega (arith, at.fits, ap length is, length-drop from t, within);
   reads = λ j below. ap (λ i. get_or t i 0) (omega arith) ∙ sym (get_or-drop from t (k + j) 0) ∙ sym (ap (λ r. get_or r (k + j) 0) is) ∙ at.reads j below;
 }
 
--- such a place lies in what is after
+-- where CRLF CRLF does not begin early, each place where it occurs has its LF CR LF in the rest
 double-rest : (t rest : List ℕ) (from j : ℕ) → from ≤ length t → rest ≡ drop from t → NoneSoFar t from → OccursAt t double_end j → (from ≤ j + 1) × OccursAt rest inner_end (j + 1 - from)
 double-rest t rest from j within is none at =
     elim (cases_lt (j + 1) from) [
@@ -79,19 +81,19 @@ double-rest t rest from j within is none at =
           (omega (arith, high), inner-rest t rest from (j + 1 - from) within is (subst (OccursAt t inner_end) back (double-inner t j at)))
     ]
 
--- without a LF, CR and LF after there is none
+-- where LF CR LF occurs nowhere in the rest, and CRLF CRLF does not begin early, CRLF CRLF occurs nowhere in the text
 pub nowhere-double : (t rest : List ℕ) (from : ℕ) → from ≤ length t → rest ≡ drop from t → NoneSoFar t from → Nowhere (OccursAt rest inner_end) 0 (length rest + 1) → Nowhere (OccursAt t double_end) 0 (length t + 1)
 nowhere-double t rest from within is none nowhere k low high at =
     let there = double-rest t rest from k within is none at in
     nowhere (k + 1 - from) (omega arith) (omega (arith, there.1.fits)) there.1
 
--- the first of these stands after no such place
+-- up to the first LF CR LF of the rest, CRLF CRLF begins nowhere in the text
 pub none-before : (t rest : List ℕ) (from k : ℕ) → from ≤ length t → rest ≡ drop from t → NoneSoFar t from → NoneBefore (OccursAt rest inner_end) 0 (length rest + 1) k → NoneSoFar t (from + k)
 none-before t rest from k within is none first j below at =
     let there = double-rest t rest from j within is none at in
     first.before (j + 1 - from) (omega arith) (omega (arith, below, there.0)) there.1
 
--- after a CR it is one
+-- where a CR stands before the first LF CR LF of the rest, the first CRLF CRLF of the text begins at that CR
 pub first-double : (t rest : List ℕ) (from k : ℕ) → from ≤ length t → rest ≡ drop from t → NoneSoFar t from → NoneBefore (OccursAt rest inner_end) 0 (length rest + 1) k → OccursAt rest inner_end k → 0 < from + k → get_or t (from + k - 1) 0 ≡ carriage_return → NoneBefore (OccursAt t double_end) 0 (length t + 1) (from + k - 1) × OccursAt t double_end (from + k - 1)
 first-double t rest from k within is none first at some cr = (
   record {
@@ -109,7 +111,7 @@ first-double t rest from k within is none first at some cr = (
     reads zero below = ap (λ i. get_or t i 0) (omega arith) ∙ cr
     reads (suc j) below = ap (λ i. get_or t i 0) (omega (arith, some)) ∙ there.reads j (omega (arith, below))
 
--- after another byte it is none
+-- where no CR stands before the LF CR LF at a place, CRLF CRLF does not begin there either
 pub none-more : (t : List ℕ) (at : ℕ) → NoneSoFar t at → ((0 < at) × (get_or t (at - 1) 0 ≡ carriage_return) → ⊥) → NoneSoFar t (at + 1)
 none-more t at none other j below double =
     elim (cases_lt (j + 1) at) [
@@ -117,11 +119,11 @@ none-more t at none other j below double =
       | inr high ↦ other (omega (arith, below, high), ap (λ i. get_or t i 0) (omega (arith, below, high)) ∙ double.reads zero (omega arith))
     ]
 
--- without it there is no head
+-- where CRLF CRLF occurs nowhere in the bytes, they have no head
 pub no-head : (t : List ℕ) → Nowhere (OccursAt t double_end) 0 (length t + 1) → NotRead (CutSays t)
 no-head t none (head, body) is = none (length is.front) (omega arith) (omega (arith, (cut-occurs t is.front body is.whole).fits)) (cut-occurs t is.front body is.whole)
 
--- at the first place of it the head is cut
+-- where CRLF CRLF occurs first at place k, the head ends after its first CRLF, and the body begins after its second
 pub one-head : (t : List ℕ) (k : ℕ) → NoneBefore (OccursAt t double_end) 0 (length t + 1) k → OccursAt t double_end k → ReadAs (CutSays t) (take (k + 2) t, drop (k + 4) t)
 one-head t k first at = (is, (λ x other. let same = same_head t x.0 x.1 (take (k + 2) t) (drop (k + 4) t) other is in ap (λ h. (h, x.1)) same.0 ∙ ap (λ b. (take (k + 2) t, b)) same.1))
   where
@@ -150,13 +152,13 @@ one-head t k first at = (is, (λ x other. let same = same_head t x.0 x.1 (take (
     is : CutSays t (take (k + 2) t, drop (k + 4) t)
     is = record { front = take k t; head_is = head_is; whole = cut ∙ ap (λ r. take k t ++ (crlf ++ (crlf ++ r))) (sym rest_is); first = least }
 
--- each byte before a place passes
+-- where each byte before place k passes a test, the first k bytes of the text do
 all-take : (test : ℕ → Bool) (t : List ℕ) (k : ℕ) → k ≤ length t → ((j : ℕ) → j < k → test (get_or t j 0) ≡ true) → All test (take k t)
 all-take test t zero within each = tt
 all-take test [] (suc k) within each = tt
 all-take test (b ∷ t) (suc k) within each = (each 0 (omega arith), all-take test t k (omega (arith, within)) (λ j below. each (suc j) (omega (arith, below))))
 
--- a byte that is neither CR nor LF
+-- a byte that is not CR or LF is neither
 inner-byte : (b : ℕ) → ((nat_eq b carriage_return || nat_eq b line_feed) ≡ true → ⊥) → is_inner_byte b ≡ true
 inner-byte b none = at (nat_eq b carriage_return) (nat_eq b line_feed) none
   where
@@ -165,19 +167,19 @@ inner-byte b none = at (nat_eq b carriage_return) (nat_eq b line_feed) none
     at false true none = absurd (none refl)
     at false false none = refl
 
--- no CR and no LF before a place
+-- where neither CR nor LF stands before place k, the first k bytes of the text have neither
 inner-take : (t : List ℕ) (n k : ℕ) → k ≤ length t → k ≤ n → Nowhere (Passes (is_byte2 carriage_return line_feed) t) 0 k → All is_inner_byte (take k t)
 inner-take t n k within low none = all-take is_inner_byte t k within (λ j below. inner-byte (get_or t j 0) (none j (omega arith) below))
 
--- where neither is found, each byte is neither
+-- where neither CR nor LF stands in a text, each byte is neither
 pub inner-none : (t : List ℕ) → Nowhere (Passes (is_byte2 carriage_return line_feed) t) 0 (length t) → All is_inner_byte t
 inner-none t none = subst (All is_inner_byte) (take-length t) (inner-take t (length t) (length t) (omega arith) (omega arith) none)
 
--- CRLF or a byte between ends
+-- CRLF, or a byte that is neither CR nor LF
 abbrev CleanPiece : List ℕ → Type 0
 CleanPiece = Exactly crlf or One is_inner_byte
 
--- the first piece
+-- a text without a bare line end begins with a byte that is neither CR nor LF, or with CRLF, and its rest has none
 clean-first : (b : ℕ) (t : List ℕ) → HasNoBareEnd (b ∷ t) → ((is_inner_byte b ≡ true) × HasNoBareEnd t) ⊎ ((v : List ℕ) × (b ∷ t ≡ crlf ++ v) × HasNoBareEnd v)
 clean-first b t ([], all, whole) = absurd (omega (arith, ap length whole))
 clean-first b t (u ∷ us, (inl is, all), whole) = inr (concat us, whole ∙ ap (λ x. x ++ concat us) is, (us, all, refl))
@@ -187,34 +189,36 @@ clean-first b t (u ∷ us, (inr (c, inner, is), all), whole) =
     let tail : t ≡ concat us = cc in
     inl (ap is_inner_byte (sym head) ∙ inner, (us, all, tail))
 
--- after each byte stands a LF exactly if it is a CR, where a stands before the text
+-- after a and each byte of the text a LF stands exactly if the byte is a CR
 abbrev Paired : ℕ → List ℕ → Type 0
 Paired a [] = nat_eq a carriage_return ≡ false
 Paired a (b ∷ t) = (nat_eq a carriage_return ≡ nat_eq b line_feed) × Paired b t
 
--- one place on, after one byte more
+-- a LF stands rightly after the byte at place k + 1 of a and a text where one does after the byte at place k of the text
 pair-on : (a : ℕ) (t : List ℕ) (k : ℕ) → IsPaired t k → IsPaired (a ∷ t) (suc k)
 pair-on a t k paired =
     let next : suc (k + 1) ≡ suc k + 1 = omega arith in
     subst (λ j. nat_eq (get_or (a ∷ t) (suc k) 0) carriage_return ≡ nat_eq (get_or (a ∷ t) j 0) line_feed) next paired
 
+-- a LF stands rightly after the byte at place k of a text where one does after the byte at place k + 1 of a and the text
 pair-back : (a : ℕ) (t : List ℕ) (k : ℕ) → IsPaired (a ∷ t) (suc k) → IsPaired t k
 pair-back a t k paired =
     let next : suc k + 1 ≡ suc (k + 1) = omega arith in
     subst (λ j. nat_eq (get_or (a ∷ t) (suc k) 0) carriage_return ≡ nat_eq (get_or (a ∷ t) j 0) line_feed) next paired
 
--- place by place
+-- where a LF stands rightly at each place of a and a text, it does so byte by byte
 paired-each : (a : ℕ) (t : List ℕ) → ((k : ℕ) → k ≤ length t → IsPaired (a ∷ t) k) → Paired a t
 paired-each a [] each = each 0 (omega arith)
 paired-each a (b ∷ t) each = (each 0 (omega arith), paired-each b t (λ k within. pair-back a (b ∷ t) k (each (suc k) (omega (arith, within)))))
 
+-- where a LF stands rightly after a and each byte of a text, it does so at each place
 each-paired : (a : ℕ) (t : List ℕ) → Paired a t → (k : ℕ) → k ≤ length t → IsPaired (a ∷ t) k
 each-paired a [] paired zero within = paired
 each-paired a [] paired (suc k) within = absurd (omega (arith, within))
 each-paired a (b ∷ t) paired zero within = paired.0
 each-paired a (b ∷ t) paired (suc k) within = pair-on a (b ∷ t) k (each-paired b t paired.1 k (omega (arith, within)))
 
--- a byte between ends is neither CR nor LF
+-- a byte that is neither CR nor LF is no CR, and is no LF
 inner-parts : (b : ℕ) → is_inner_byte b ≡ true → (nat_eq b carriage_return ≡ false) × (nat_eq b line_feed ≡ false)
 inner-parts b inner =
     let both = and_parts (not (nat_eq b carriage_return)) (not (nat_eq b line_feed)) inner in
@@ -223,7 +227,7 @@ inner-parts b inner =
 parts-inner : (b : ℕ) → nat_eq b carriage_return ≡ false → nat_eq b line_feed ≡ false → is_inner_byte b ≡ true
 parts-inner b no_end no_feed = ap₂ (λ x y. not x && not y) no_end no_feed
 
--- a text without a bare end is so, after a byte that is no CR
+-- in a text without a bare line end, after a byte that is no CR, a LF stands after each CR and after no other byte
 clean-paired : (a : ℕ) (t : List ℕ) → nat_eq a carriage_return ≡ false → HasNoBareEnd t → Paired a t
 clean-paired a [] no_end clean = no_end
 clean-paired a (b ∷ []) no_end clean = at (clean-first b [] clean)
@@ -266,12 +270,12 @@ paired-clean a (b ∷ c ∷ t) no_end paired = at (nat_eq b carriage_return) ref
         subst HasNoBareEnd (sym (ap (λ x. x ∷ c ∷ t) b_is ∙ ap (λ x. carriage_return ∷ x ∷ t) c_is))
         (many-cons CleanPiece crlf t (inl refl) (two (ap (λ x. nat_eq x carriage_return) c_is) paired.1.1))
 
--- at each place of a text without a bare end it is so
+-- in a text without a bare line end, a LF stands after the byte at each place exactly if the byte is a CR
 pub clean-each : (t : List ℕ) → HasNoBareEnd t → (k : ℕ) → k < length t → IsPaired t k
 clean-each [] clean k below = absurd (omega (arith, below))
 clean-each (b ∷ t) clean k below = each-paired b t (clean-paired 0 (b ∷ t) refl clean).1 k (omega (arith, below))
 
--- what is not so
+-- a test that does not hold fails
 pub is_not : (b : Bool) → (b ≡ true → ⊥) → not b ≡ true
 is_not true none = absurd (none refl)
 is_not false none = refl
@@ -281,7 +285,7 @@ pub clean-opens : (t : List ℕ) → HasNoBareEnd t → BeginsWithFeed t → ⊥
 clean-opens [] clean feed = absurd (omega (arith, feed))
 clean-opens (b ∷ t) clean feed = both_ways (nat_eq b line_feed) (sym (clean-paired 0 (b ∷ t) refl clean).0) (eq-eqb b line_feed feed)
 
--- by these two a text has none
+-- a text in which a LF stands after each CR, and after no other byte, and which does not begin with a LF, has no bare line end
 pub each-clean : (t : List ℕ) → ArePaired t 0 (length t) → (BeginsWithFeed t → ⊥) → HasNoBareEnd t
 each-clean [] each opens = many-nil CleanPiece
 each-clean (b ∷ t) each opens =
@@ -291,16 +295,16 @@ each-clean (b ∷ t) each opens =
     at true is = absurd (opens (eqb-true b line_feed is))
     at false is = sym is
 
--- the first line of lines, and the text of the others
+-- the first line of a head, and the text of the others, stand at its front
 lines-front : (head first : List ℕ) (others : List (List ℕ)) → LinesSay head first others → LineFront head (first, flat_map with_end others)
 lines-front head first others are = (are.folded.0, no_blank others are.cut, are.whole)
 
--- the first line that is cut is the first of the head
+-- the line that is read at the front of a head is its first line, and the rest is the text of the others
 pub first-cut : (head line rest : List ℕ) → ReadAs (LineFront head) (line, rest) → (first : List ℕ) (others : List (List ℕ)) → LinesSay head first others → (first ≡ line) × AreLines rest others
 first-cut head line rest read first others are =
     let same = read.1 (first, flat_map with_end others) (lines-front head first others are) in
     (ap (λ x. x.0) same, record { whole = sym (ap (λ x. x.1) same); folded = are.folded.1; cut = are.cut })
 
--- where none can be cut, the head has no lines
+-- where no line is read at the front of a head, the head has no lines
 pub first-none : (head : List ℕ) → NotRead (LineFront head) → (first : List ℕ) (others : List (List ℕ)) → LinesSay head first others → ⊥
 first-none head none first others are = none (first, flat_map with_end others) (lines-front head first others are)

@@ -23,12 +23,12 @@ no_blank [] none begins = begins
 no_blank ([] ∷ lines) none begins = both_ways (is_wsp carriage_return) refl begins
 no_blank ((b ∷ line) ∷ lines) none begins = none.0 begins
 
--- what begins with a blank does so whatever follows
+-- a text that begins with a blank does so whatever follows it
 pub begins-append : (u v : List ℕ) → OpensBlank u → OpensBlank (u ++ v)
 begins-append [] v begins = absurd begins
 begins-append (b ∷ u) v begins = begins
 
--- no line is longer than the other, where both begin one text
+-- where two lines with their ends begin one text, and no blank follows, the first is not longer than the second
 no_longer : (z line other rest more : List ℕ) (b : ℕ) → IsFolded line → (OpensBlank more → ⊥) → line ≡ other ++ b ∷ z → crlf ++ more ≡ b ∷ z ++ (crlf ++ rest) → ⊥
 no_longer [] line other rest more b folded none longer is =
     let tails : line_feed ∷ more ≡ carriage_return ∷ (line_feed ∷ rest) = cc in
@@ -42,7 +42,7 @@ no_longer (c ∷ z) line other rest more b folded none longer is =
     none (subst OpensBlank (sym more_is) (begins-append z (crlf ++ rest) (folded other z
     (longer ∙ ap (λ x. other ++ x ∷ c ∷ z) (sym b_is) ∙ ap (λ x. other ++ carriage_return ∷ x ∷ z) (sym c_is)))))
 
--- the first line ends where the other first line ends
+-- where two lines with their ends begin one text, and no blank follows either, they are the same line with the same rest
 pub same_first : (l m rest more : List ℕ) → IsFolded l → IsFolded m → (OpensBlank rest → ⊥) → (OpensBlank more → ⊥) → with_end l ++ rest ≡ with_end m ++ more → (l ≡ m) × (rest ≡ more)
 same_first l m rest more l_folded m_folded l_cut m_cut same = at (two_cuts l (crlf ++ rest) m (crlf ++ more) whole)
   where
@@ -56,15 +56,15 @@ same_first l m rest more l_folded m_folded l_cut m_cut same = at (two_cuts l (cr
     at (first_longer b z longer is) = absurd (no_longer z l m rest more b l_folded m_cut longer is)
     at (second_longer b z longer is) = absurd (no_longer z m l more rest b m_folded l_cut longer is)
 
--- with_end's text is not empty
+-- a line with its end is not empty
 end_some : (l rest : List ℕ) → [] ≡ with_end l ++ rest → ⊥
 end_some l rest is = absurd (omega (arith, ap length is, length-append (with_end l) rest, length-append l crlf))
 
--- no text of the lines begins with a blank
+-- no line begins with a blank
 abbrev pub AreCut : List (List ℕ) → Type 0
 AreCut = AllByRecursion (λ line. ¬ (OpensBlank line))
 
--- lines that begin with no blank are those of their text
+-- lines that have no line end in them but folds, and do not begin with a blank, are told by their text
 pub same_later : (ls ms : List (List ℕ)) → AllByRecursion IsFolded ls → AllByRecursion IsFolded ms → AreCut ls → AreCut ms → flat_map with_end ls ≡ flat_map with_end ms → ls ≡ ms
 same_later [] [] lf mf lc mc same = refl
 same_later [] (m ∷ ms) lf mf lc mc same = absurd (end_some m _ same)
@@ -79,16 +79,16 @@ same_lines head l m ls ms one other =
     let first = same_first l m _ _ one.folded.0 other.folded.0 (no_blank ls one.cut) (no_blank ms other.cut) (sym one.whole ∙ other.whole) in
     (first.0, same_later ls ms one.folded.1 other.folded.1 one.cut other.cut first.1)
 
--- a line without its first byte is folded
+-- a line without its first byte has its folds
 folded-tail : (b : ℕ) (l : List ℕ) → IsFolded (b ∷ l) → IsFolded l
 folded-tail b l folded u v is = folded (b ∷ u) v (ap (λ t. b ∷ t) is)
 
--- a byte before a line, where no line ends
+-- a byte before a line makes a line where the byte does not make a line end that no blank follows
 folded-cons : (b : ℕ) (l : List ℕ) → IsFolded l → ((v : List ℕ) → b ∷ l ≡ carriage_return ∷ line_feed ∷ v → OpensBlank v) → IsFolded (b ∷ l)
 folded-cons b l folded first [] v is = first v is
 folded-cons b l folded first (a ∷ u) v is = let tails : l ≡ u ++ (crlf ++ v) = cc in folded u v tails
 
--- a byte more at the front of a text of lines
+-- where a text is lines, a byte before it makes lines, too
 lines-cons : (b : ℕ) (text l : List ℕ) (ls : List (List ℕ)) → LinesSay text l ls → (m : List ℕ) × (ms : List (List ℕ)) × LinesSay (b ∷ text) m ms
 lines-cons b text [] ls is =
     (b ∷ [], ls, record { whole = ap (λ t. b ∷ t) is.whole; folded = (folded-cons b [] is.folded.0 (λ v e. absurd (omega (arith, ap length e))), is.folded.1); cut = is.cut })
@@ -118,7 +118,7 @@ lines-cons b text (a ∷ l) ls is = at l refl (nat_eq b carriage_return) (nat_eq
         blank true z_is = longer (λ v e. let rest : l ≡ v = cc in subst OpensBlank (same ∙ rest) z_is)
         blank false z_is = ends (eqb-true b carriage_return x_is) (eqb-true a line_feed y_is) (λ begins. both_ways (is_wsp c) z_is (subst OpensBlank (sym same) begins))
 
--- each head has lines
+-- any text with a CRLF after it is lines
 pub front-lines : (front : List ℕ) → (l : List ℕ) × (ls : List (List ℕ)) × LinesSay (front ++ crlf) l ls
 front-lines [] = ([], [], record { whole = refl; folded = ((λ u v e. absurd (omega (arith, ap length e, length-append u (crlf ++ v)))), tt); cut = tt })
 front-lines (b ∷ front) = let more = front-lines front in lines-cons b (front ++ crlf) more.0 more.1 more.2

@@ -19,7 +19,7 @@ use Rattle.sip_message.proofs.lemmas.lines.OneWay.{no_blank}
 use Rattle.sip_message.proofs.lemmas.front.Cuts.{ReadAs, NotRead}
 use Rattle.sip_message.proofs.lemmas.message.Faults.{read-fields, fields-read}
 
--- the lines are those done, which are the fields so far, and those of the rest
+-- the lines are those done, which are the fields so far, and those that are left, which the rest is
 pub record SoFar (lines : List (List ℕ)) (rest : List ℕ) (fields : List Field) : Type 0 where
   pub done : List (List ℕ)
   pub left : List (List ℕ)
@@ -27,16 +27,16 @@ pub record SoFar (lines : List (List ℕ)) (rest : List ℕ) (fields : List Fiel
   pub lines_left : AreLines rest left
   pub are : FieldsText done fields
 
--- as many fields as lines
+-- lines that are fields are as many as the fields
 length-fields : (lines : List (List ℕ)) (fields : List Field) → FieldsText lines fields → length fields ≡ length lines
 length-fields [] fields are = ap length are
 length-fields (line ∷ lines) fields (f, fs, is, are, whole) = omega (arith, ap length whole, length-fields lines fs are)
 
--- the first of lines
+-- where the rest is some lines, the first stands at its front, and what is left is the others
 lines-front : (rest line : List ℕ) (left : List (List ℕ)) → AreLines rest (line ∷ left) → LineFront rest (line, flat_map with_end left) × AreLines (flat_map with_end left) left
 lines-front rest line left are = ((are.folded.0, no_blank left are.cut.1, are.whole), record { whole = refl; folded = are.folded.1; cut = are.cut.1 })
 
--- without a further line all are done
+-- where no further line is read of the rest, the fields so far are those of all lines
 pub so_far-all : (lines : List (List ℕ)) (rest : List ℕ) (fields : List Field) → SoFar lines rest fields → NotRead (LineFront rest) → FieldsOf 1 lines (gives fields)
 so_far-all lines rest fields so none = at so.left so.whole so.lines_left
   where
@@ -44,7 +44,7 @@ so_far-all lines rest fields so none = at so.left so.whole so.lines_left
     at [] whole are = subst (λ ls. FieldsOf 1 ls (gives fields)) (sym (whole ∙ append-nil so.done)) (fields-read 1 so.done fields so.are)
     at (line ∷ left) whole are = absurd (none (line, flat_map with_end left) (lines-front rest line left are).0)
 
--- the next line is the one that is cut
+-- where a line is read at the front of the rest, it is the next of the lines that are left
 next-line : (rest line more : List ℕ) (left : List (List ℕ)) → AreLines rest left → ReadAs (LineFront rest) (line, more) → (others : List (List ℕ)) × (left ≡ line ∷ others) × AreLines more others
 next-line rest line more [] are read =
     absurd (omega (arith, ap length (sym are.whole ∙ read.0.2), length-append (with_end line) more, length-append line (13 ∷ 10 ∷ [])))
@@ -53,13 +53,13 @@ next-line rest line more (l ∷ ls) are read =
     let same = read.1 (l, flat_map with_end ls) front.0 in
     (ls, ap (λ x. x.0 ∷ ls) same, subst (λ t. AreLines t ls) (ap (λ x. x.1) same) front.1)
 
--- a field more
+-- where lines are fields, and a further line is a further field, they are fields together
 pub fields-push : (lines : List (List ℕ)) (fields : List Field) (line : List ℕ) (f : Field) → FieldsText lines fields → FieldText line f → FieldsText (lines ++ line ∷ []) (fields ++ f ∷ [])
 fields-push [] fields line f are is = (f, [], is, refl, ap (λ fs. fs ++ f ∷ []) are)
 fields-push (l ∷ lines) fields line f (g, gs, one, are, whole) is =
     (g, gs ++ f ∷ [], one, fields-push lines gs line f are is, ap (λ fs. fs ++ f ∷ []) whole)
 
--- a line that is a field is done
+-- where the next line is a field, it is done, and its field is the last of the fields so far
 pub so_far-more : (lines : List (List ℕ)) (rest line more : List ℕ) (fields : List Field) (f : Field) (n : ℕ) → SoFar lines rest fields → ReadAs (LineFront rest) (line, more) → FieldOf n line (gives f) → SoFar lines more (fields ++ f ∷ [])
 so_far-more lines rest line more fields f n so read is =
     let next = next-line rest line more so.left so.lines_left read in
@@ -82,7 +82,7 @@ so_far-more lines rest line more fields f n so read is =
             first_of [] = f
             first_of (h ∷ hs) = h
 
--- a fault after fields
+-- where a fault is in a line after lines that are fields, the reading of all lines stops with it
 stops-behind : (n : ℕ) (done left : List (List ℕ)) (fields : List Field) (line : List ℕ) (k : ℕ) (fault : Fault) → FieldsText done fields → k ≡ n + length done → FieldOf k line (stops fault) → FieldsOf n (done ++ line ∷ left) (stops fault)
 stops-behind n [] left fields line k fault are number is =
     stopped fault (subst (λ m. FieldOf m line (stops fault)) (omega (arith, number)) is) refl
@@ -90,14 +90,14 @@ stops-behind n (l ∷ done) left fields line k fault (f, fs, is_field, are, whol
     passes f (passes (f.name, is_field.rest) is_field.named (passes f.value (is_field.valued, is_field.row) refl))
     (stopped fault (stops-behind (n + 1) done left fs line k fault are (omega (arith, number)) is) refl)
 
--- the first fault of the lines
+-- where the next line has a fault, the reading of all lines stops with it
 pub so_far-stops : (lines : List (List ℕ)) (rest line more : List ℕ) (fields : List Field) (fault : Fault) → SoFar lines rest fields → ReadAs (LineFront rest) (line, more) → FieldOf (length fields + 1) line (stops fault) → FieldsOf 1 lines (stops fault)
 so_far-stops lines rest line more fields fault so read is =
     let next = next-line rest line more so.left so.lines_left read in
     subst (λ ls. FieldsOf 1 ls (stops fault)) (sym (so.whole ∙ ap (λ ls. so.done ++ ls) next.1))
     (stops-behind 1 so.done next.0 fields line (length fields + 1) fault so.are (omega (arith, length-fields so.done fields so.are)) is)
 
--- an error that is a fault settles a step that stops there
+-- where a result is an error that a step stops with, the result is what the step comes to
 pub settles-fault : {A X : Type 0} (S : Outcome X → Type 0) (parts : A → X) (r : Result A ReadError) (fault : Fault) → IsErr r → IsErrAnd r (λ e. e ≡ error.Fault fault) → S (stops fault) → Settles S parts r
 settles-fault S parts (Ok a) fault is same stop = absurd (both_ways false refl is)
 settles-fault S parts (Err e) fault is same stop = subst (λ x. Settles S parts (Err x)) (sym same) stop

@@ -18,12 +18,12 @@ use Rattle.sip_message.proofs.lemmas.text.Cuts.{Cuts, first_longer, same_length,
 use Rattle.sip_message.proofs.lemmas.lines.OneWay.{same_first}
 use Rattle.sip_message.proofs.lemmas.front.Cuts.{ReadAs, NotRead}
 
--- what was scanned holds no line's end, and does not end within one
+-- no line ends in what was scanned, and its last byte is not the CR of a line end
 pub record Scanned (done rest : List ℕ) : Type 0 where
   pub apart : (u : List ℕ) → done ≡ u ++ carriage_return ∷ [] → ⊥
   pub folded : (u v : List ℕ) → done ≡ u ++ (crlf ++ v) → OpensBlank (v ++ rest)
 
--- a CRLF is followed by a blank, or is not yet scanned
+-- after what was scanned, each CRLF that no blank follows lies in the rest
 pub unscanned : (done rest u v : List ℕ) → Scanned done rest → done ++ rest ≡ u ++ (crlf ++ v) → OpensBlank v ⊎ ((w : List ℕ) × (u ≡ done ++ w) × (rest ≡ w ++ (crlf ++ v)))
 unscanned done rest u v scanned same = at (two_cuts done rest u (crlf ++ v) same)
   where
@@ -40,7 +40,7 @@ unscanned done rest u v scanned same = at (two_cuts done rest u (crlf ++ v) same
         let v_is : v ≡ z ++ rest = cc in
         inl (subst OpensBlank (sym v_is) (scanned.folded u z (longer ∙ ap (λ x. u ++ x ∷ d ∷ z) (sym c_is) ∙ ap (λ x. u ++ carriage_return ∷ x ∷ z) (sym d_is))))
 
--- a text that lacks LF has none within
+-- a text with a LF in it does not lack it
 no_lf : (u v : List ℕ) → Lacks line_feed (u ++ line_feed ∷ v) → ⊥
 no_lf [] v lacks = both_ways true lacks.0 refl
 no_lf (b ∷ u) v lacks = no_lf u v lacks.1
@@ -49,7 +49,7 @@ no_crlf : (t u v : List ℕ) → Lacks line_feed t → t ≡ u ++ (crlf ++ v) �
 no_crlf t u v lacks is =
     no_lf (u ++ carriage_return ∷ []) v (subst (Lacks line_feed) (is ∙ sym (append_assoc u (carriage_return ∷ []) (line_feed ∷ v))) lacks)
 
--- without a further LF there is no line
+-- where no LF stands in the rest, no line is read of the text
 pub scan-none : (done rest : List ℕ) → Scanned done rest → Lacks line_feed rest → NotRead (LineFront (done ++ rest))
 scan-none done rest scanned lacks (line, more) (folded, cut, whole) =
     elim (unscanned done rest line more scanned (whole ∙ append_assoc line crlf more)) [
@@ -57,12 +57,12 @@ scan-none done rest scanned lacks (line, more) (folded, cut, whole) =
       | inr found ↦ no_crlf rest found.0 more lacks found.2
     ]
 
--- what begins with a blank before CR is not empty
+-- a text that begins with a blank and goes on with a CR after u has the blank in u
 begins-left : (u v : List ℕ) → OpensBlank (u ++ carriage_return ∷ v) → OpensBlank u
 begins-left [] v begins = both_ways (is_wsp carriage_return) refl begins
 begins-left (b ∷ u) v begins = begins
 
--- a line ends at the next LF, after CR and before no blank
+-- where the next LF stands after a CR and before no blank, the line ends there
 pub scan-line : (done f more : List ℕ) → Scanned done (f ++ (crlf ++ more)) → Lacks line_feed f → (OpensBlank more → ⊥) → ReadAs (LineFront (done ++ (f ++ (crlf ++ more)))) (done ++ f, more)
 scan-line done f more scanned lacks cut = (is, (λ x other. only x.0 x.1 other))
   where
@@ -82,7 +82,7 @@ scan-line done f more scanned lacks cut = (is, (λ x other. only x.0 x.1 other))
         let same = same_first l (done ++ f) m more l_folded folded m_cut cut (sym whole ∙ is.2) in
         ap (λ t. (t, m)) same.0 ∙ ap (λ t. (done ++ f, t)) same.1
 
--- any other LF is scanned
+-- where the next LF does not end a line, what was scanned goes on up to it
 pub scan-more : (done front more : List ℕ) → Scanned done (front ++ line_feed ∷ more) → Lacks line_feed front → ((f : List ℕ) → front ≡ f ++ carriage_return ∷ [] → OpensBlank more) → Scanned (done ++ (front ++ line_feed ∷ [])) more
 scan-more done front more scanned lacks blank = record { apart = apart; folded = folded }
   where
@@ -112,14 +112,14 @@ scan-more done front more scanned lacks blank = record { apart = apart; folded =
               ∙ sym (append_assoc found.0 (carriage_return ∷ []) (line_feed ∷ v))))
         ]
 
--- a text cut at its first LF
+-- a text that is cut at its first LF is the front, which lacks LF, the LF and the rest
 cut-lf : (t front rest : List ℕ) → front ≡ before line_feed t → Some rest ≡ behind line_feed t → (t ≡ front ++ line_feed ∷ rest) × Lacks line_feed front
 cut-lf t front rest front_is rest_is = (
   cut-whole line_feed t ∙ ap (λ x. x ++ led line_feed (behind line_feed t)) (sym front_is) ∙ ap (λ o. front ++ led line_feed o) (sym rest_is),
   subst (Lacks line_feed) (sym front_is) (lacks-before line_feed t),
 )
 
--- a text without a LF has no line at its front
+-- where what is left of a text has no LF, no line is read of the text
 pub cut-none : (text : List ℕ) (at : ℕ) → Scanned (take at text) (drop at text) → None ≡ behind line_feed (drop at text) → NotRead (LineFront text)
 cut-none text at scanned none =
     subst (λ t. NotRead (LineFront t)) (take-append-drop at text)
@@ -128,12 +128,13 @@ cut-none text at scanned none =
     whole : drop at text ≡ before line_feed (drop at text)
     whole = cut-whole line_feed (drop at text) ∙ ap (λ o. before line_feed (drop at text) ++ led line_feed o) (sym none) ∙ append-nil _
 
--- a text that ends with CR
+-- a text that ends with CR is some text and a CR
 ends-cr : (text : List ℕ) → ends_cr text ≡ true → (f : List ℕ) × (text ≡ f ++ carriage_return ∷ [])
 ends-cr text is =
     let found : up_to carriage_return text ≡ Some (take (length text - 1) text) = ap (λ x. cond x (Some (take (length text - 1) text)) None) is in
     (take (length text - 1) text, up_to-some carriage_return text (take (length text - 1) text) found)
 
+-- a text and a CR end with CR
 cr-ends : (f : List ℕ) → ends_cr (f ++ carriage_return ∷ []) ≡ true
 cr-ends f = at (ends_cr (f ++ carriage_return ∷ [])) refl
   where
@@ -150,7 +151,7 @@ wsp-begins : (text : List ℕ) → begins_wsp text ≡ true → OpensBlank text
 wsp-begins [] is = both_ways false refl is
 wsp-begins (b ∷ text) is = is
 
--- the LF ends a line
+-- where the next LF ends a line, the line is read up to the CR before it
 pub line-found : (text front rest : List ℕ) (at : ℕ) → at ≤ length text → Scanned (take at text) (drop at text) → front ≡ before line_feed (drop at text) → Some rest ≡ behind line_feed (drop at text) → is_line front rest ≡ true → ReadAs (LineFront text) (take (at + length front - 1) text, rest)
 line-found text front rest at within scanned front_is rest_is line =
     subst (λ t. ReadAs (LineFront text) (t, rest)) line_is
@@ -188,7 +189,7 @@ line-found text front rest at within scanned front_is rest_is line =
         ∙ ap (take (length (take at text ++ f.0))) (append_assoc (take at text) f.0 (crlf ++ rest) ∙ sym whole)
         ∙ ap (λ n. take n text) (omega (arith, length-append (take at text) f.0, length-take-le at text within, ap length f.1, length-append f.0 (carriage_return ∷ [])))
 
--- a line end that is none is passed, and the scan goes on
+-- where the next LF does not end a line, the scan goes on after it
 pub line-on : (text front rest : List ℕ) (at : ℕ) → at ≤ length text → Scanned (take at text) (drop at text) → front ≡ before line_feed (drop at text) → Some rest ≡ behind line_feed (drop at text) → is_line front rest ≡ false → (at + length front + 1 ≤ length text) × Scanned (take (at + length front + 1) text) (drop (at + length front + 1) text)
 line-on text front rest at within scanned front_is rest_is line = (
   omega (arith, size, ap length whole, length-append (take at text ++ (front ++ line_feed ∷ [])) rest),
@@ -222,14 +223,14 @@ line-on text front rest at within scanned front_is rest_is line = (
     drop_is =
         sym (drop-append_seam (take at text ++ (front ++ line_feed ∷ [])) rest) ∙ ap (drop (length (take at text ++ (front ++ line_feed ∷ [])))) (sym whole) ∙ ap (λ n. drop n text) size
 
--- nothing is scanned at first
+-- at the start nothing is scanned
 pub scan-nothing : (text : List ℕ) → Scanned [] text
 scan-nothing text = record {
   apart = λ u is. absurd (omega (arith, ap length is, length-append u (carriage_return ∷ [])));
   folded = λ u v is. absurd (omega (arith, ap length is, length-append u (crlf ++ v)));
 }
 
--- the LF lies within the text
+-- the first LF after the index lies within the text
 pub lf-within : (text front rest : List ℕ) (at : ℕ) → at ≤ length text → front ≡ before line_feed (drop at text) → Some rest ≡ behind line_feed (drop at text) → at + length front + 1 ≤ length text
 lf-within text front rest at within front_is rest_is =
     omega (

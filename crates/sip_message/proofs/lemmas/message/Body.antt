@@ -27,7 +27,7 @@ use Rattle.sip_message.proofs.lemmas.asked.Parts.{more-elements}
 use Rattle.sip_message.proofs.lemmas.via.Elements.{ends-more}
 use Rattle.sip_message.proofs.lemmas.via.Steps.{one-via}
 
--- a CSeq that was read fits by its method
+-- the method of a CSeq fits a request exactly if it is equal to the request's method
 pub method-some : (start : Code) (m u : Bor (List ℕ)) (cseq : List ℕ) (n : ℕ) (k : List ℕ) (r : Bool) → start ≡ variant.Request m u → ReadAs (CSeqValue cseq) (n, k) → r ≡ bytes_eq k m.now → IsTrue r ↔ MethodFits (start_parts start) cseq
 method-some start m u cseq n k r is read r_is = subst (λ s. IsTrue r ↔ MethodFits s cseq) (sym (ap start_parts is)) (to, from)
   where
@@ -37,11 +37,11 @@ method-some start m u cseq n k r is read r_is = subst (λ s. IsTrue r ↔ Method
     from : MethodFits (request m.now u.now) cseq → IsTrue r
     from (number, text) = r_is ∙ (bytes_eq-Decides k m.now).1 (sym (ap (λ x. x.1) (read.1 (number, m.now) text)))
 
--- the first element stands at the front
+-- the first element of a value of Via stands at its front
 vias-front : (text : List ℕ) (v : ViaParts) (vias : List ViaParts) → ViasText text v vias → (x : List ℕ) × (rest : List ℕ) × ViaFront text ((x, v), rest)
 vias-front text v vias (x, y, via, more, text_is) = let later = more-elements vias y more in (x, y, (via, text_is, ends-more later.0 y later.1))
 
--- the top transport is that of the first element
+-- the transport of the top Via is a stream exactly if that of the first element is
 pub stream-first : (text : List ℕ) (e : Element) (r : Bool) → FirstVia text e → r ≡ is_stream e.1.transport → IsTrue r ↔ IsStream text
 stream-first text e r ((v, vias, is), (rest, front)) r_is = (to, from)
   where
@@ -54,7 +54,7 @@ stream-first text e r ((v, vias, is), (rest, front)) r_is = (to, from)
     from : IsStream text → IsTrue r
     from (transport, (w, others, are, same), so) = r_is ∙ ap (λ x. is_stream x.transport) (top w others are) ∙ ap is_stream (sym same) ∙ so
 
--- the number of Content-Length
+-- fields without Content-Length have no length
 pub length-none : (fields : List Field) → found known_name.ContentLength fields ≡ [] → content_length fields ≡ None
 length-none fields is = ap length_in is
 
@@ -63,15 +63,15 @@ pub length-some : (fields : List Field) (one : ℕ × List ℕ) (more : List (�
 length-some fields one more is = ap length_in is
 
 module _ (start : StartLine) (cseq : ℕ × List ℕ) (via : List ℕ) (len : Option ℕ) (rest : List ℕ) where
-  -- another method
+  -- where the method does not fit, the reading stops with that fault at the line of CSeq
   pub body-method : (MethodFits start (cseq.1) → ⊥) → BodyOf start cseq via len rest (stops (fault_in_line (cseq.0) reason.MethodMismatch))
   body-method none = stopped _ ((λ _ fits. none fits), refl) refl
 
-  -- a stream without Content-Length
+  -- where a stream has no Content-Length, the reading stops with that fault
   pub body-no_length : MethodFits start (cseq.1) → len ≡ None → IsStream via → BodyOf start cseq via len rest (stops (fault_in_body reason.NoLength))
   body-no_length fits none stream = passes tt fits (stopped _ ((λ _ has. both_ways false refl (sym (ap is_some none) ∙ has stream)), refl) refl)
 
-  -- a datagram without it
+  -- where a datagram has no Content-Length, the body is all that follows the head
   pub body-all : MethodFits start (cseq.1) → len ≡ None → (IsStream via → ⊥) → BodyOf start cseq via len rest (gives rest)
   body-all fits none datagram =
       passes tt fits (passes tt (λ stream. absurd (datagram stream)) (passes tt (subst (λ l. IsEnough l rest) (sym none) tt) (passes tt (λ stream. absurd (datagram stream)) (ap (λ l. gives (cut_body l rest)) (sym none)))))
@@ -80,22 +80,22 @@ module _ (start : StartLine) (cseq : ℕ × List ℕ) (via : List ℕ) (len : Op
     has : HasLength via len
     has stream = ap is_some some
 
-    -- fewer bytes
+    -- where fewer bytes follow the head than Content-Length says, the reading stops with that fault
     pub body-short : MethodFits start (cseq.1) → length rest < n → BodyOf start cseq via len rest (stops (fault_in_body reason.ShortBody))
     body-short fits short = passes tt fits (passes tt has (stopped _ ((λ _ enough. let e : n ≤ length rest = subst (λ l. IsEnough l rest) some enough in absurd (omega (arith, e, short))), refl) refl))
 
-    -- more bytes in a stream
+    -- where more bytes follow the head in a stream than Content-Length says, the reading stops with that fault
     pub body-long : MethodFits start (cseq.1) → n ≤ length rest → (n ≡ length rest → ⊥) → IsStream via → BodyOf start cseq via len rest (stops (fault_in_body reason.LongBody))
     body-long fits enough other stream =
         passes tt fits (passes tt has (passes tt (subst (λ l. IsEnough l rest) (sym some) enough)
         (stopped _ ((λ _ no_more. let e : length rest ≤ n = subst (λ l. IfSome l (λ k. length rest ≤ k)) some (no_more stream) in other (omega (arith, e, enough))), refl) refl)))
 
-    -- more bytes in a datagram
+    -- where more bytes follow the head in a datagram than Content-Length says, the body is as many as it says
     pub body-cut : MethodFits start (cseq.1) → n ≤ length rest → (IsStream via → ⊥) → BodyOf start cseq via len rest (gives (take n rest))
     body-cut fits enough datagram =
         passes tt fits (passes tt has (passes tt (subst (λ l. IsEnough l rest) (sym some) enough) (passes tt (λ stream. absurd (datagram stream)) (ap (λ l. gives (cut_body l rest)) (sym some)))))
 
-    -- as many
+    -- where as many bytes follow the head as Content-Length says, the body is all of them
     pub body-whole : MethodFits start (cseq.1) → n ≡ length rest → BodyOf start cseq via len rest (gives rest)
     body-whole fits same =
         passes tt fits (passes tt has (passes tt (subst (λ l. IsEnough l rest) (sym some) (omega (arith, same)))

@@ -18,7 +18,7 @@ use Rattle.sip_message.proofs.lemmas.start_line.OneWay.{same_start}
 use Rattle.sip_message.proofs.lemmas.field.OneWay.{same_name, same_value}
 use Rattle.sip_message.proofs.lemmas.message.Outcome.{IsOne, given, one-gives, one-demand, one-holds, one-then, given-then}
 
--- each step of reading a message has at most one outcome: what it reads, or the first fault
+-- the reading of a field line has one outcome: the field, or its first fault
 one-field : (n : ℕ) (line : List ℕ) → IsOne (FieldOf n line)
 one-field n line =
     one-then (one-demand (HasName line) _ (λ x y one other. let same = same_name line x.1 y.1 x.0 y.0 one other in ap (λ m. (m, x.1)) same.0 ∙ ap (λ r. (y.0, r)) same.1)) (λ named.
@@ -43,6 +43,7 @@ one-present name fields =
 one-once : (name : Known) (fields : List Field) → IsOne (OneOf (found name fields))
 one-once name fields = one-then (one-holds _ _) (λ _. one-present name fields)
 
+-- the reading of the named fields has one outcome
 one-names : (fields : List Field) → IsOne (NamesOf fields)
 one-names fields =
     one-then (one-present known_name.Via fields) (λ via. one-then (one-once known_name.From fields) (λ _. one-then (one-once known_name.To fields) (λ _.
@@ -52,17 +53,19 @@ one-body : (start : StartLine) (cseq : ℕ × List ℕ) (via : List ℕ) (len : 
 one-body start cseq via len rest =
     one-then (one-holds _ _) (λ _. one-then (one-holds _ _) (λ _. one-then (one-holds _ _) (λ _. one-then (one-holds _ _) (λ _. one-gives (cut_body len rest)))))
 
+-- the reading of the lines of a head, and of its body, has one outcome
 one-lines : (rest first : List ℕ) (others : List (List ℕ)) → IsOne (LinesOf rest first others)
 one-lines rest first others =
     one-then (one-demand (StartText first) _ (same_start first)) (λ start. one-then (one-fields 1 others) (λ fields. one-then (one-names fields) (λ names.
     one-then (one-body start names.1 names.0.1 (content_length fields) rest) (λ body. one-gives _))))
 
+-- the reading of a head has one outcome
 one-head : (head rest : List ℕ) → IsOne (HeadOf head rest)
 one-head head rest a b one other =
     let lines = same_lines head one.0 other.0 one.1 other.1 one.2 other.2 in
     one-lines rest other.0 other.1 a b (subst (λ ls. LinesOf rest other.0 ls a) lines.1 (subst (λ l. LinesOf rest l one.1 a) lines.0 one.3)) other.3
 
--- bytes are read as one message or one fault
+-- the reading of bytes has one outcome: a message, or its first fault
 pub one-read : (bytes : List ℕ) → IsOne (ReadOf bytes)
 one-read bytes =
     one-then (one-demand (CutSays bytes) _ (λ x y one other. let same = same_head bytes x.0 x.1 y.0 y.1 one other in ap (λ h. (h, x.1)) same.0 ∙ ap (λ r. (y.0, r)) same.1)) (λ cut.
@@ -90,7 +93,7 @@ fields-read n [] fields is = ap (λ fs. gives fs) is
 fields-read n (line ∷ lines) fields (f, fs, is, are, whole) =
     passes f (passes (f.name, is.rest) is.named (passes f.value (is.valued, is.row) refl)) (passes fs (fields-read (n + 1) lines fs are) (ap (λ gs. gives gs) whole))
 
--- names that are read fit, with a method and a body that are read
+-- where the names and the body are read, what a message demands of its fields and its body holds
 read-fits : (start : StartLine) (fields : List Field) (rest body : List ℕ) (names : (ℕ × List ℕ) × (ℕ × List ℕ)) → NamesOf fields (gives names) → BodyOf start (names.1) (names.0.1) (content_length fields) rest (gives body) → MessageFits start fields rest × (body ≡ cut_body (content_length fields) rest)
 read-fits start fields rest body names is read =
     let via = given-then is in
@@ -127,7 +130,7 @@ read-fits start fields rest body names is read =
       given no_more.2,
     )
 
--- bytes that are read are the message
+-- where bytes are read as a message, they are its bytes
 pub read-text : (bytes : List ℕ) (m : Message) → ReadOf bytes (gives m) → MessageText bytes m
 read-text bytes m is =
     let cut = given-then is in
@@ -152,7 +155,7 @@ read-text bytes m is =
       body_is = fits.1;
     })
 
--- the bytes of a message are read as it
+-- where bytes are those of a message, they are read as it
 pub text-read : (bytes : List ℕ) (m : Message) → MessageText bytes m → ReadOf bytes (gives m)
 text-read bytes m text =
     let fits = text.fits in

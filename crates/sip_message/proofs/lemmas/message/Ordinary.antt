@@ -27,7 +27,7 @@ use Rattle.sip_message.proofs.lemmas.asked.Parts.{first-value}
 use Rattle.sip_message.proofs.lemmas.message.Faults.{fields-read}
 use Rattle.sip_message.proofs.lemmas.message.Stages.{Found}
 
--- a message with what is kept of it
+-- the bytes are a message, and these are the first element of Via, the values of From, To and Call-ID, and the CSeq that are kept of it
 pub record IsWhole (bytes rest : List ℕ) (start : StartLine) (fields : List Field) (body : List ℕ) (e : Element) (f t i : List ℕ) (s : ℕ × List ℕ) : Type 0 where
   pub first : List ℕ
   pub via : ℕ × List ℕ
@@ -36,19 +36,20 @@ pub record IsWhole (bytes rest : List ℕ) (start : StartLine) (fields : List Fi
   pub says_cseq : CSeqValue (cseq.1) s
   pub found : Found bytes rest first start fields (record { via = via; from = f; to = t; call_id = i; cseq = cseq }) body
 
--- the one field of a name
+-- where one field of a name is found, the demand for the one field of the name gives it
 once-is : (k : Known) (fields : List Field) (one : ℕ × List ℕ) → found k fields ≡ one ∷ [] → OneOf (found k fields) (gives one)
 once-is k fields one is = passes tt (omega (arith, ap length is)) ([], is)
 
--- a name that stands at most once
+-- where something is kept of a name that stands at most once, the name stands at most once
 not-twice : (k : Known) (fields : List Field) (o : Option (List ℕ)) → OnceSays Itself k fields o → IsNotTwice k fields
 not-twice k fields None none = omega (arith, ap length none)
 not-twice k fields (Some x) (one, is, says) = omega (arith, ap length is)
 
--- a value of a name
+-- where one field of a name is found, its value is the first value of the name
 value-is : (k : Known) (fields : List Field) (text : List ℕ) (one : ℕ × List ℕ) → found k fields ≡ one ∷ [] → text ≡ one.1 → IsFirstOf (values k fields) text
 value-is k fields text one is same = subst (IsFirstOf (values k fields)) (sym same) (first-value k fields one ([], is))
 
+-- an ordinary head of whose fields all that is asked for is kept, and a body, are a message
 pub ordinary-whole : {bytes rest body : List ℕ} {fields : List Field} (start : Code) (a : Asked) (via : Via) (from to call_id : Bor (List ℕ)) (cseq : CSeq) → IsOrdinary bytes (start_parts start) fields rest → AskedOf fields a
     → a.via ≡ Some via → a.from ≡ Some from → a.to ≡ Some to → a.call_id ≡ Some call_id → a.cseq ≡ Some cseq → HasBody start via cseq (option_copied a.content_length) rest body
     → IsWhole bytes rest (start_parts start) fields body (element via) from.now to.now call_id.now (cseq_parts cseq)

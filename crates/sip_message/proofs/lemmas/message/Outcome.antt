@@ -1,14 +1,14 @@
--- A reading comes to one outcome.
+-- A reading has one outcome: a value, or a fault.
 use Rattle.std.proofs.Common.{◌≡◌, refl, sym, ap, ◌∙◌, subst}
 use Rattle.std.specs.Prelude.{⊤}
 use Rattle.sip_standard.specs.declared.fault.Fault.{Fault}
 use Rattle.sip_standard.specs.Outcome.{Outcome, gives, stops, Gives, Demand, Holds, Then, passes, stopped}
 
--- at most one outcome
+-- S holds of one outcome at most
 abbrev pub IsOne : {X : Type 0} → (Outcome X → Type 0) → Type 0
 IsOne {X = X} S = (a b : Outcome X) → S a → S b → a ≡ b
 
--- a value that is given is one
+-- outcomes that give the same give the same value
 pub given : {X : Type 0} {x y : X} → gives x ≡ gives y → x ≡ y
 given {X = X} {x = x} is = ap value is
   where
@@ -16,7 +16,7 @@ given {X = X} {x = x} is = ap value is
     value (gives z) = z
     value (stops f) = x
 
--- a fault gives nothing
+-- an outcome that gives a value is not one that stops with a fault
 pub no_value : {X : Type 0} {x : X} {f : Fault} → gives x ≡ stops f → ⊥
 no_value {X = X} {x = x} {f = f} is = subst tells is tt
   where
@@ -24,7 +24,7 @@ no_value {X = X} {x = x} {f = f} is = subst tells is tt
     tells (gives z) = ⊤
     tells (stops g) = ⊥
 
--- two faults that stop a reading at once are one
+-- outcomes that stop alike stop with the same fault
 pub fault_is : {X : Type 0} {f g : Fault} → ◌≡◌ {A = Outcome X} (stops f) (stops g) → f ≡ g
 fault_is {X = X} {f = f} is = ap fault is
   where
@@ -32,22 +32,22 @@ fault_is {X = X} {f = f} is = ap fault is
     fault (gives z) = f
     fault (stops h) = h
 
--- an outcome that is given is one
+-- the step that gives x has one outcome
 pub one-gives : {X : Type 0} (x : X) → IsOne (Gives x)
 one-gives x a b a_is b_is = a_is ∙ sym b_is
 
--- a demand that one value meets
+-- a demand that one value at most meets has one outcome
 pub one-demand : {X : Type 0} (R : X → Type 0) (fault : Fault) → ((x y : X) → R x → R y → x ≡ y) → IsOne (Demand R fault)
 one-demand R fault same (gives x) (gives y) one other = ap (λ z. gives z) (same x y one other)
 one-demand R fault same (gives x) (stops g) one other = absurd (other.0 x one)
 one-demand R fault same (stops f) (gives y) one other = absurd (one.0 y other)
 one-demand R fault same (stops f) (stops g) one other = ap (λ z. stops z) (one.1 ∙ sym other.1)
 
--- a demand has one outcome, kept or not
+-- the demand that A holds has one outcome, where it holds and where it does not
 pub one-holds : (A : Type 0) (fault : Fault) → IsOne (Holds A fault)
 one-holds A fault = one-demand (λ _. A) fault (λ x y _ _. refl)
 
--- two steps
+-- where each of two steps has one outcome, both together have
 pub one-then : {X Y : Type 0} {S : Outcome X → Type 0} {T : X → Outcome Y → Type 0} → IsOne S → ((x : X) → IsOne (T x)) → IsOne (Then S T)
 one-then {T = T} first second a b (passes x s t) (passes y s_too t_too) =
     second y a b (subst (λ z. T z a) (given (first (gives x) (gives y) s s_too)) t) t_too
@@ -56,7 +56,7 @@ one-then first second a b (stopped f s is) (passes y s_too t_too) = absurd (no_v
 one-then first second a b (stopped f s is) (stopped g s_too is_too) =
     is ∙ ap (λ z. stops z) (fault_is (first (stops f) (stops g) s s_too)) ∙ sym is_too
 
--- a step that gives comes from steps that give
+-- where two steps together give a value, the first gives a value, and the second after it
 pub given-then : {X Y : Type 0} {S : Outcome X → Type 0} {T : X → Outcome Y → Type 0} {y : Y} → Then S T (gives y) → (x : X) × S (gives x) × T x (gives y)
 given-then (passes x s t) = (x, s, t)
 given-then (stopped f s is) = absurd (no_value is)

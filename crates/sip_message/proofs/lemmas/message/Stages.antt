@@ -32,17 +32,17 @@ use Rattle.sip_message.proofs.lemmas.via.Steps.{one-via}
 use Rattle.sip_message.proofs.lemmas.value.CSeq.{same-cseq}
 use Rattle.sip_message.proofs.lemmas.says.Reading.{text-reads, fault-says}
 
--- the head is clean, and these are its first line and the others
+-- the bytes have this head and this rest, the head has no bare line end, and these are its first line and the others
 pub record IsBegun (bytes head rest first : List ℕ) (others : List (List ℕ)) : Type 0 where
   pub head_is : CutSays bytes (head, rest)
   pub clean : HasNoBareEnd head
   pub are_lines : LinesSay head first others
 
--- what the lines are read as, the bytes are
+-- where the head and its lines are found, what the lines are read as is what the bytes are read as
 pub begun : {bytes head rest first : List ℕ} {others : List (List ℕ)} {out : Outcome Message} → IsBegun bytes head rest first others → LinesOf rest first others out → ReadOf bytes out
 begun {head = head} {rest = rest} {first = first} {others = others} b of_lines = passes (head, rest) b.head_is (passes tt b.clean (first, others, b.are_lines, of_lines))
 
--- the first line and the others of a head
+-- where the head is found and has no bare line end, it has a first line and others, as the reader cuts them
 pub begins : {bytes head rest first text : List ℕ} → CutSays bytes (head, rest) → HasNoBareEnd head → ((line : List ℕ) (others : List (List ℕ)) → LinesSay head line others → (line ≡ first) × AreLines text others)
     → (others : List (List ℕ)) × IsBegun bytes head rest first others × AreLines text others
 begins {bytes = bytes} {head = head} {rest = rest} head_is clean cut =
@@ -50,7 +50,7 @@ begins {bytes = bytes} {head = head} {rest = rest} head_is clean cut =
     let parts = cut lines.0 lines.1 lines.2 in
     (lines.1, record { head_is = head_is; clean = clean; are_lines = subst (λ l. LinesSay head l lines.1) parts.0 lines.2 }, parts.1)
 
--- an error of a stage that takes memory
+-- where a stage that takes memory fails, and the reading of the bytes stops with each fault of the stage, the bytes are read as its error
 pub settled : {A X : Type 0} (parts : A → X) (S : Outcome X → Type 0) (bytes : List ℕ) (e : ReadError) (r : Result Reading ReadError) → IsErr r → IsErrAnd r (λ x. x ≡ e) → Settles S parts (Err e) → ((fault : Fault) → S (stops fault) → ReadOf bytes (stops fault)) → ReadsTo bytes r
 settled parts S bytes e (Ok m) err same settles go = absurd (both_ways false refl err)
 settled parts S bytes e (Err x) err same settles go = at x (subst (λ y. Settles S parts (Err y)) (sym same) settles)
@@ -59,12 +59,12 @@ settled parts S bytes e (Err x) err same settles go = at x (subst (λ y. Settles
     at error.Memory is = tt
     at (error.Fault fault) is = fault-says bytes fault (go fault is)
 
--- a fault
+-- where the reading of the bytes stops with a fault, and the result is that fault, the bytes are read as it
 pub faulted : (bytes : List ℕ) (fault : Fault) (r : Result Reading ReadError) → IsErr r → IsErrAnd r (λ x. x ≡ error.Fault fault) → ReadOf bytes (stops fault) → ReadsTo bytes r
 faulted bytes fault (Ok m) err same is = absurd (both_ways false refl err)
 faulted bytes fault (Err x) err same is = subst (λ y. ReadsTo bytes (Err y)) (sym same) (fault-says bytes fault is)
 
--- all stages give what they find
+-- each stage of reading gives this: the start line, the fields, the named fields, and the body
 pub record Found (bytes rest first : List ℕ) (start : StartLine) (fields : List Field) (n : Names) (body : List ℕ) : Type 0 where
   pub head : List ℕ
   pub others : List (List ℕ)
@@ -75,7 +75,7 @@ pub record Found (bytes rest first : List ℕ) (start : StartLine) (fields : Lis
   pub is_body : BodyOf start n.cseq (n.via.1) (content_length fields) rest (gives body)
   pub stand : Stand fields n
 
--- the bytes are the message
+-- where each stage gives something, the bytes are the message that is made of it
 pub found-text : {bytes rest first body : List ℕ} {start : StartLine} {fields : List Field} {n : Names} → Found bytes rest first start fields n body → MessageText bytes (record { start = start; fields = fields; body = body })
 found-text {bytes = bytes} {body = body} {start = start} {fields = fields} {n = n} f =
     read-text bytes _ (begun f.is_begun (passes start f.is_start (passes fields f.are_fields (passes (n.via, n.cseq) f.are_names (passes body f.is_body refl)))))

@@ -1,4 +1,4 @@
--- Bytes come to something: none are without a reading and without a fault.
+-- Each bytes have a reading or a fault: it cannot be that they have neither.
 use Rattle.std.specs.Prelude.{ℕ, ◌+◌, List, [], ◌∷◌}
 use Rattle.std.proofs.Common.{refl}
 use Rattle.sip_standard.specs.declared.fault.Fault.{Fault}
@@ -18,18 +18,18 @@ use Rattle.sip_message.proofs.lemmas.asked.OneWay.{parts-one}
 use Rattle.sip_message.proofs.lemmas.says.Reading.{text-reads, fault-says}
 use Rattle.sip_standard.specs.Says.{Says}
 
--- it cannot be that nothing comes of it
+-- it cannot be that S holds of no outcome
 abbrev Comes : {X : Type 0} → (Outcome X → Type 0) → Type 0
 Comes {X = X} S = ¬ ((out : Outcome X) → ¬ (S out))
 
--- of a demand comes a value, or its fault
+-- a demand comes to a value of which R holds, or to its fault
 comes-demand : {X : Type 0} (R : X → Type 0) (fault : Fault) → Comes (Demand R fault)
 comes-demand R fault never = never (stops fault) ((λ x is. never (gives x) is), refl)
 
 comes-gives : {X : Type 0} (x : X) → Comes (Gives x)
 comes-gives x never = never (gives x) refl
 
--- of two steps in a row, what comes of the second, or the fault of the first
+-- two steps, one after the other, come to an outcome of the second, or to the fault of the first
 comes-then : {X Y : Type 0} (S : Outcome X → Type 0) (T : X → Outcome Y → Type 0) → Comes S → ((x : X) → S (gives x) → Comes (T x)) → Comes (Then S T)
 comes-then {X = X} S T first later never = first at
   where
@@ -47,12 +47,13 @@ comes-fields n (line ∷ lines) = comes-then _ _ (comes-field n line) (λ f _. c
 comes-once : (name : Known) (fields : List Field) → Comes (OneOf (found name fields))
 comes-once name fields = comes-then _ _ (comes-demand _ _) (λ _ _. comes-demand _ _)
 
+-- the reading of the named fields of some fields comes to an outcome
 comes-names : (fields : List Field) → Comes (NamesOf fields)
 comes-names fields =
     comes-then _ _ (comes-demand _ _) (λ via _. comes-then _ _ (comes-once _ fields) (λ _ _. comes-then _ _ (comes-once _ fields) (λ _ _.
     comes-then _ _ (comes-once _ fields) (λ _ _. comes-then _ _ (comes-once _ fields) (λ cseq _. comes-then _ _ (comes-demand _ _) (λ _ _. comes-gives _))))))
 
--- of bytes, a message or a fault
+-- the reading of bytes comes to an outcome
 comes-read : (bytes : List ℕ) → Comes (ReadOf bytes)
 comes-read bytes =
     comes-then _ _ (comes-demand _ _) (λ cut is. comes-then _ _ (comes-demand _ _) (λ _ _. λ never.
@@ -62,7 +63,7 @@ comes-read bytes =
     comes-then _ _ (comes-demand _ _) (λ _ _. comes-gives _))))) (λ body _. comes-gives _))))
     (λ out of_lines. never out (lines.0, lines.1, lines.2, of_lines))))
 
--- no bytes are without a reading and without a fault
+-- where no message is read of bytes, it cannot be that they say no fault
 pub reading-or-fault : (bytes : List ℕ) → ((r : Reading) → ¬ (Reads bytes r)) → ¬ ((fault : Fault) → ¬ (Says bytes (stops fault)))
 reading-or-fault bytes no_reading no_fault = comes-read bytes at
   where

@@ -1,4 +1,4 @@
--- The views of a message.
+-- What the code keeps of a message is what its contracts see of it.
 use Rattle.std.proofs.Common.{◌≡◌, ℕ, List, [], ◌∷◌, ◌++◌, Option, None, Some, refl, sym, ap, ◌∙◌, subst}
 use Rattle.std.specs.Prelude.{IsSome}
 use Rattle.sip_text.specs.Parts.{IsOnlyValue}
@@ -24,22 +24,22 @@ use Rattle.sip_message.proofs.lemmas.via.Elements.{first-front, One-is}
 use Rattle.sip_message.proofs.lemmas.says.Values.{said-value}
 use Rattle.sip_message.proofs.lemmas.says.Told.{tells-text}
 
--- what must be read is read
+-- where R relates a value to a text, the reader of R reads one of it
 pub some-read : {A X : Type 0} (R : List ℕ → X → Type 0) (parts : A → X) (text : List ℕ) {x : X} (r : Option A) → IsOnlyValue R parts text r → R text x → IsSome r
 some-read R parts text None none is = absurd (none _ is)
 some-read R parts text (Some a) read is = refl
 
--- what is read of a text that is of the form is what it must be
+-- what the reader of R reads of a text is the value that R relates to it
 pub read-is : {A X : Type 0} (R : List ℕ → X → Type 0) (parts : A → X) (text : List ℕ) {x : X} (r : Option A) (a : A) → r ≡ Some a → IsOnlyValue R parts text r → R text x → parts a ≡ x
 read-is R parts text {x = x} r a some read is = sym ((subst (IsOnlyValue R parts text) some read).1 x is)
 
--- a name has one first value
+-- a name has one first value in some fields
 pub same-value : (known : Known) (fields : List Field) {a b : List ℕ} → IsFirstOf (values known fields) a → IsFirstOf (values known fields) b → a ≡ b
 same-value known fields {a = a} {b = b} one other =
     let same : ◌≡◌ {A = List (List ℕ)} (a ∷ one.0) (b ∷ other.0) = sym one.1 ∙ other.1 in
     cc
 
--- the From that is kept is that of its value
+-- the value of the first From is an address, with the parts that the message has
 pub keeps-from : {m : Message} {p : Parts} {v f t i c : List ℕ} → Keeps m p v f t i c → AddressValue f p.from
 keeps-from {m = m} {p = p} k = subst (λ x. AddressValue x p.from) (same-value known_name.From m.fields k.parts.is.from.1 k.from) k.parts.is.from.2
 
@@ -47,7 +47,7 @@ keeps-from {m = m} {p = p} k = subst (λ x. AddressValue x p.from) (same-value k
 pub keeps-to : {m : Message} {p : Parts} {v f t i c : List ℕ} → Keeps m p v f t i c → AddressValue t p.to
 keeps-to {m = m} {p = p} k = subst (λ x. AddressValue x p.to) (same-value known_name.To m.fields k.parts.is.to.1 k.to) k.parts.is.to.2
 
--- the CSeq
+-- the value of the first CSeq is a CSeq, with the number and the method that the message has
 pub keeps-cseq : {m : Message} {p : Parts} {v f t i c : List ℕ} → Keeps m p v f t i c → CSeqValue c p.cseq
 keeps-cseq {m = m} {p = p} {c = c} k = said-value c p.cseq (subst (λ x. CSeqSays p.cseq x) (same-value known_name.CSeq m.fields k.parts.is.cseq.1 k.cseq) k.parts.is.cseq.2)
 
@@ -55,11 +55,11 @@ keeps-cseq {m = m} {p = p} {c = c} k = said-value c p.cseq (subst (λ x. CSeqSay
 pub keeps-call_id : {m : Message} {p : Parts} {v f t i c : List ℕ} → Keeps m p v f t i c → i ≡ p.call_id
 keeps-call_id {m = m} k = same-value known_name.CallId m.fields k.call_id k.parts.is.call_id
 
--- the top Via stands at the front of the first value
+-- the top Via of the message stands at the front of the value of the first Via
 pub keeps-via : {m : Message} {p : Parts} {v f t i c : List ℕ} → Keeps m p v f t i c → (rest : List ℕ) × ViaFront v (p.via, rest)
 keeps-via {p = p} {v = v} k = first-front v k.via.0 p.via p.others (subst (λ x. AreElements x (p.via ∷ p.others)) k.via.1 k.parts.is.vias)
 
--- the elements are the only ones
+-- the elements of all values of Via are in one way what they are
 pub only-elements : {m : Message} {p : Parts} {v f t i c : List ℕ} → Keeps m p v f t i c → (es : List Element) × IsOnly (AreElements (values known_name.Via m.fields)) es
 only-elements {m = m} {p = p} {v = v} k = (p.via ∷ p.others, record { is = k.parts.is.vias; only = same })
   where
@@ -78,11 +78,11 @@ only-elements {m = m} {p = p} {v = v} k = (p.via ∷ p.others, record { is = k.p
             let others : es ≡ p.others = ap (λ q. q.others) one in
             cc
 
--- the only elements of the same values are those of the message
+-- where es are the only elements of these values, and the values are those of the message's Via fields, es are the elements of the message
 pub same-elements : {m : Message} {p : Parts} {v f t i c : List ℕ} → Keeps m p v f t i c → (vals : List (List ℕ)) (es : List Element) → vals ≡ values known_name.Via m.fields → IsOnly (AreElements vals) es → es ≡ p.via ∷ p.others
 same-elements {p = p} k vals es same only = sym (only.only (p.via ∷ p.others) (subst (λ x. AreElements x (p.via ∷ p.others)) (sym same) k.parts.is.vias))
 
--- bytes are one message as it is spelled
+-- bytes are the text of one message, as it is spelled
 pub same_text : (bytes : List ℕ) (m n : Message) → MessageText bytes m → MessageText bytes n → m ≡ n
 same_text bytes m n one other =
     let same : ◌≡◌ {A = Outcome Message} (gives m) (gives n) = one-read bytes (gives m) (gives n) (text-read bytes m one) (text-read bytes n other) in
@@ -95,7 +95,7 @@ same_reading bytes r s one other =
     let parts : s.parts ≡ r.parts = one.parts.only s.parts (subst (λ m. HasParts m.fields s.parts) (sym message) other.parts.is) in
     ap (λ m. record { message = m; parts = r.parts }) message ∙ ap (λ p. record { message = s.message; parts = p }) (sym parts)
 
--- the parts are the only ones, by whatever name
+-- the parts of a message's fields, which are the only ones, keep what was read, whatever proves that they are
 pub kept-one : {m : Message} {p : Parts} {e : Element} {f t i : List ℕ} {s : ℕ × List ℕ} → KeepsRead m p e f t i s → (one : ExactlyOne (HasParts m.fields)) → KeepsRead m (the one) e f t i s
 kept-one {m = m} {p = p} {e = e} {f = f} {t = t} {i = i} {s = s} k one =
     subst (λ q. KeepsRead m q e f t i s) (sym (One-is parts_code (HasParts m.fields) one p k.keeps.parts.is)) k

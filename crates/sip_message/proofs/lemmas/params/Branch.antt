@@ -1,4 +1,4 @@
--- The branch of parameters, as it is found one after another.
+-- The branch of parameters, which are read one after another.
 use Rattle.std.proofs.Common.{◌≡◌, ◌↔◌, ℕ, ◌-◌, List, [], ◌∷◌, ◌++◌, Option, Some, None, Bor, option_copied, length, take, refl, sym, ap, ◌∙◌, subst, inl, inr}
 use Rattle.std.specs.Option.{option_or}
 use Rattle.sip_message.specs.Via.{IsBranch}
@@ -11,14 +11,14 @@ use Rattle.sip_message.proofs.lemmas.front.OneWay.{AtMostOne, read-one}
 use Rattle.sip_message.proofs.lemmas.params.Value.{front-is}
 use Rattle.sip_message.proofs.lemmas.params.Reading.{one-all_params, front-params}
 
--- a parameter is one branch at most
+-- a parameter has one branch at most
 one-branch_of : (p : Param) (a b : Option (List ℕ)) → BranchOf p a → BranchOf p b → a ≡ b
 one-branch_of (name, value) None None x y = refl
 one-branch_of (name, value) None (Some b) x y = absurd (x y.0)
 one-branch_of (name, value) (Some a) None x y = absurd (y x.0)
 one-branch_of (name, value) (Some a) (Some b) x y = sym x.2 ∙ y.2
 
--- the branch of a parameter and those after it
+-- the branch of a parameter and those after it is that of the parameter, or else that of the others
 branch-cons : (p : Param) (ps : List Param) (b : Option (List ℕ)) → IsBranch (p ∷ ps) b → (found : Option (List ℕ)) × BranchOf p found × (later : Option (List ℕ)) × IsBranch ps later × (b ≡ option_or found later)
 branch-cons (name, value) ps b (inl (same, v, token, value_is, b_is, later, more)) = (Some v, (same, token, value_is), later, more, b_is)
 branch-cons (name, value) ps b (inr (differs, more)) = (None, differs, b, more, refl)
@@ -42,15 +42,15 @@ one-branch text (b, r) (d, s) (ps, all, is) (qs, all_too, is_too) =
     let params : ps ≡ qs = ap (λ x. x.0) same in
     ap (λ x. (x, r)) (one-is_branch qs b d (subst (λ x. IsBranch x b) params is) is_too) ∙ ap (λ x. (d, x.1)) same
 
--- the branch where one was found before
+-- where `first` is the branch that was found before the rest, the branch is it, or else that of the rest
 abbrev pub After : Option (List ℕ) → List ℕ → Option (List ℕ) × List ℕ → Type 0
 After first rest (branch, left) = (later : Option (List ℕ)) × BranchFront rest (later, left) × (branch ≡ option_or first later)
 
--- what is still to be read decides
+-- the branch of the text is `first`, or else that of the rest which is still to be read
 abbrev pub Decides : List ℕ → List ℕ → Option (List ℕ) → Type 0
 Decides text rest first = (x : Option (List ℕ) × List ℕ) → BranchFront text x ↔ After first rest x
 
--- at first nothing was found
+-- at the start, where nothing was read, the branch of the text is that of all that is still to be read
 pub decides-none : (text : List ℕ) → Decides text text None
 decides-none text (b, r) = ((λ is. (b, is, refl)), (λ after. subst (λ x. BranchFront text (x, r)) (sym after.2) after.1))
 
@@ -58,14 +58,14 @@ pub or-assoc : (a b c : Option (List ℕ)) → option_or a (option_or b c) ≡ o
 or-assoc None b c = refl
 or-assoc (Some v) b c = refl
 
--- after a parameter stand the others
+-- where a parameter is read of the rest, all parameters of the rest are it and those after it
 behind-one : (rest more left : List ℕ) (p : Param) (ps : List Param) → ReadAs (ParamFront rest) (p, more) → AllParamsFront rest (ps, left) → (qs : List Param) × (ps ≡ p ∷ qs) × AllParamsFront more (qs, left)
 behind-one rest more left p [] read (is, ends) = absurd (ends (p, more) (subst (λ t. ParamFront t (p, more)) (sym is) read.0))
 behind-one rest more left p (q ∷ qs) read ((next, one, later), ends) =
     let same = read.1 (q, next) one in
     (qs, ap (λ x. x.0 ∷ qs) same, (subst (λ t. ParamsFront t qs left) (ap (λ x. x.1) same) later, ends))
 
--- a parameter more
+-- where a further parameter is read, the branch of the text is the one found before, that of the parameter, or that of the rest after it
 pub decides-more : (text rest more : List ℕ) (p : Param) (first found : Option (List ℕ)) → ReadAs (ParamFront rest) (p, more) → BranchOf p found → Decides text rest first → Decides text more (option_or first found)
 decides-more text rest more p first found read is so x = ((λ whole. to x ((so x).0 whole)), (λ after. (so x).1 (from x after)))
   where
@@ -79,7 +79,7 @@ decides-more text rest more p first found read is so x = ((λ whole. to x ((so x
     from (b, left) (later, (ps, all, branch), b_is) =
         (option_or found later, (p ∷ ps, ((more, read.0, all.0), all.1), cons-branch p ps found later is branch), b_is ∙ sym (or-assoc first found later))
 
--- a parameter named branch without a token
+-- where a parameter named branch has no token for value, the text has no parameters of a Via
 pub decides-not : (text rest more : List ℕ) (p : Param) (first : Option (List ℕ)) → ReadAs (ParamFront rest) (p, more) → NotRead (BranchOf p) → Decides text rest first → NotRead (BranchFront text)
 decides-not text rest more p first read none so (b, left) is =
     let after = (so (b, left)).0 is in
@@ -87,7 +87,7 @@ decides-not text rest more p first read none so (b, left) is =
     let cons = branch-cons p others.0 after.0 (subst (λ qs. IsBranch qs after.0) others.1 after.1.2) in
     none cons.0 cons.1
 
--- no further parameter
+-- where no further parameter is read, the branch of the text is the one that was found
 pub decides-all : (text rest : List ℕ) (first : Option (List ℕ)) → NotRead (ParamFront rest) → Decides text rest first → ReadAs (BranchFront text) (first, rest)
 decides-all text rest first none so =
     read-one (BranchFront text) (first, rest) (one-branch text) ((so (first, rest)).1 (None, ([], (refl, none), refl), or-none first))
@@ -101,11 +101,11 @@ pub copied-or : (a b : Option (Bor (List ℕ))) → option_copied (option_or a b
 copied-or None b = refl
 copied-or (Some v) b = refl
 
--- what is left after the parameters ends the text
+-- what is left after the parameters of a Via is the end of the text
 pub branch-whole : (text : List ℕ) (b : Option (List ℕ)) (rest : List ℕ) → BranchFront text (b, rest) → (u : List ℕ) × (text ≡ u ++ rest)
 branch-whole text b rest (ps, all, is) = let u = front-params ps text rest all.0 in (u.0, u.2)
 
--- with the text of the parameters
+-- the parameters of a Via, their branch and what is left are read in one way
 pub one-tail : (text : List ℕ) → AtMostOne (TailFront text)
 one-tail text ((p, b), r) ((q, d), s) (is, (u, u_is, behind)) (is_too, (w, w_is, behind_too)) =
     let same : ◌≡◌ {A = Option (List ℕ) × List ℕ} (b, r) (d, s) = one-branch text (b, r) (d, s) is is_too in
@@ -114,13 +114,13 @@ one-tail text ((p, b), r) ((q, d), s) (is, (u, u_is, behind)) (is_too, (w, w_is,
     let params : p ≡ q = same-behind w p q (subst (λ t. Behind t p) fronts behind) behind_too in
     ap (λ x. ((x, b), r)) params ∙ ap (λ x. ((q, x.0), x.1)) same
 
--- parameters after an element tell its branch
+-- where parameters are read with a branch, and the text of them is the one rest after its blanks, they are read with that text and that branch
 pub tail-found : (text params : List ℕ) (b : Option (List ℕ)) (rest : List ℕ) → ReadAs (BranchFront text) (b, rest) → IsOnlyBehind (take (length text - length rest) text) params → ReadAs (TailFront text) ((params, b), rest)
 tail-found text params b rest read behind =
     let whole = branch-whole text b rest read.0 in
     read-one (TailFront text) ((params, b), rest) (one-tail text)
     (read.0, (take (length text - length rest) text, whole.1 ∙ ap (λ t. t ++ rest) (sym (front-is text whole.0 rest whole.1)), behind.0))
 
--- what is no parameters tells none
+-- where no parameters of a Via are read with a branch, none are read with their text
 pub tail-missing : (text : List ℕ) → NotRead (BranchFront text) → NotRead (TailFront text)
 tail-missing text none x is = none (x.0.1, x.1) is.0

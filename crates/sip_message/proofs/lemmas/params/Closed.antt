@@ -1,4 +1,4 @@
--- Marks and parameters stay what they are when a run of blanks in them is unfolded.
+-- Marks and parameters stay marks and parameters when a run of blanks in them becomes one SP.
 use Rattle.std.proofs.Common.{◌≡◌, ℕ, ◌≤◌, Bool, true, List, [], ◌∷◌, ◌++◌, length, Option, Some, None, refl, sym, ap, ◌∙◌, subst, inl, inr, arith}
 use Rattle.std.specs.List.{AllByRecursion, concat}
 use Rattle.std.proofs.lemmas.Bool.{both_ways}
@@ -24,37 +24,37 @@ use Rattle.sip_message.proofs.lemmas.text.Ends.{Firm, AllFirm, AllEnd, AllOpen, 
 pub blanks-space : Blanks (space ∷ [])
 blanks-space = (space ∷ [], [], lws-space, many-nil Lws, refl)
 
--- blanks stay blanks
+-- the set of blank runs is closed under making one SP of a blank run
 pub closed-blanks : Closed Blanks
 closed-blanks = closed-blank Blanks each-blanks blanks-space
 
--- blanks that may be none stay so when a fold in them is unfolded
+-- the set of optional blank runs is closed under making one SP of a blank run
 pub closed-sws : Closed Sws
 closed-sws = closed-blank Sws each-sws (inr blanks-space)
 
--- one solid byte
+-- the set of one byte that is no blank has no blanks
 each-byte : (b : ℕ) → is_solid b ≡ true → Each is_solid (Byte b)
 each-byte b is u text = subst (All is_solid) (sym text) (is, tt)
 
--- a solid byte stays itself
+-- the set of one byte that is no blank is closed under making one SP of a blank run
 pub closed-byte : (b : ℕ) → is_solid b ≡ true → Closed (Byte b)
 closed-byte b is = closed-solid (Byte b) (each-byte b is)
 
--- it opens solid
+-- the text of one byte that is no blank does not begin with a blank
 pub open-byte : (b : ℕ) → is_solid b ≡ true → AllOpen (Byte b)
 open-byte b is u v text = subst (λ t. OpensSolid (t ++ v)) (sym text) (solid_is b is)
 
--- a byte that is no blank is firm
+-- the text of one byte that is no blank is not empty, and does not end with a blank
 pub firm-byte : (b : ℕ) → is_solid b ≡ true → AllFirm (Byte b)
 firm-byte b is u text = subst Firm (sym text) (solid_is b is)
 
--- blanks, and a set that begins with a byte
+-- the set of marks is closed under making one SP of a blank run
 pub closed-mark : (b : ℕ) → is_solid b ≡ true → Closed (Mark b)
 closed-mark b is =
     closed-then Sws (Byte b then Sws) (seam-right Sws (Byte b then Sws) (opens-then (Byte b) Sws (open-byte b is))) closed-sws
     (closed-then (Byte b) Sws (seam-left (Byte b) Sws (end-firm (Byte b) (firm-byte b is))) (closed-byte b is) closed-sws)
 
--- solid texts that are not empty
+-- a text without blanks that is not empty does not end with a blank
 pub firm-solid : (P : List ℕ → Type 0) → Each is_solid P → ((u : List ℕ) → P u → u ≡ [] → ⊥) → AllFirm P
 firm-solid P each some u is = at u (some u is) (ends-solid u (each u is))
   where
@@ -62,7 +62,7 @@ firm-solid P each some u is = at u (some u is) (ends-solid u (each u is))
     at [] none ends = none refl
     at (b ∷ t) none ends = ends
 
--- texts of solid bytes that are not empty open solid
+-- a text without blanks that is not empty does not begin with a blank
 pub open-solid : (P : List ℕ → Type 0) → Each is_solid P → ((u : List ℕ) → P u → u ≡ [] → ⊥) → AllOpen P
 open-solid P each some u v is = at u (some u is) (each u is)
   where
@@ -70,11 +70,11 @@ open-solid P each some u v is = at u (some u is) (each u is)
     at [] none all = absurd (none refl)
     at (b ∷ t) none all = solid_is b all.0
 
--- one byte of a class or more
+-- one byte of a class or more are not empty
 pub some-run : (class : ℕ → Bool) (u : List ℕ) → OneOrMore (One class) u → u ≡ [] → ⊥
 some-run class u run none = absurd (omega (arith, ap length none, ap length run.4, length-append run.0 run.1, ap length run.2.2))
 
--- a token ends solid
+-- a token is not empty, and does not end with a blank
 pub firm-token : AllFirm Token
 firm-token = firm-solid Token solid-token (some-run is_token_byte)
 
@@ -82,7 +82,7 @@ firm-token = firm-solid Token solid-token (some-run is_token_byte)
 pub open-token : AllOpen Token
 open-token = open-solid Token solid-token (some-run is_token_byte)
 
--- as many bytes as pieces
+-- pieces of one byte are as many as their bytes
 pub length-ones : (class : ℕ → Bool) (us : List (List ℕ)) → AllByRecursion (One class) us → length (concat us) ≡ length us
 length-ones class [] all = refl
 length-ones class (u ∷ us) all = omega (arith, length-ones class us all.1, ap length all.0.2, length-append u (concat us))
@@ -92,7 +92,7 @@ pub some-between : (class : ℕ → Bool) (low high : ℕ) (u : List ℕ) → 1 
 some-between class low high u least run none =
     absurd (omega (arith, least, run.3, ap length none, ap length run.2, length-ones class run.0 run.1))
 
--- a set that begins with one that is not empty is not empty
+-- a text of P and then Q is not empty where no text of P is
 pub some-left : (P Q : List ℕ → Type 0) → ((u : List ℕ) → P u → u ≡ [] → ⊥) → (u : List ℕ) → (P then Q) u → u ≡ [] → ⊥
 some-left P Q some u both none = some both.0 both.2 (nil both.0 both.1 (sym both.4 ∙ none))
   where
@@ -109,11 +109,13 @@ some-hexseq u = some-left Hex4 (Many (Byte colon then Hex4)) (λ t is. some-betw
 some-double : (u : List ℕ) → Exactly (colon ∷ colon ∷ []) u → u ≡ [] → ⊥
 some-double u is none = absurd (omega (arith, ap length is, ap length none))
 
+-- a hexpart is not empty
 some-hexpart : (u : List ℕ) → Hexpart u → u ≡ [] → ⊥
 some-hexpart u (inl seq) = some-hexseq u seq
 some-hexpart u (inr (inl both)) = some-left Hexseq _ some-hexseq u both
 some-hexpart u (inr (inr both)) = some-left (Exactly (colon ∷ colon ∷ [])) _ some-double u both
 
+-- an IPv6 address is not empty
 some-v6 : (u : List ℕ) → Ipv6 u → u ≡ [] → ⊥
 some-v6 u (inl both) = some-left Hexpart _ some-hexpart u both
 some-v6 u (inr both) = some-left _ _ begins u both
@@ -126,14 +128,14 @@ some-v6 u (inr both) = some-left _ _ begins u both
 pub some-v6_reference : (u : List ℕ) → Bracketed u → u ≡ [] → ⊥
 some-v6_reference u = some-left (Byte 91) _ (some-byte 91) u
 
--- a quoted string
+-- the set of quoted strings is closed under making one SP of a blank run
 pub closed-quoted : Closed Quoted
 closed-quoted =
     closed-then (Byte dquote) (Many (Qdtext or QuotedPair) then Byte dquote) (seam-left (Byte dquote) (Many (Qdtext or QuotedPair) then Byte dquote) (end-firm (Byte dquote) (firm-byte dquote refl)))
     (closed-byte dquote refl)
     (closed-then (Many (Qdtext or QuotedPair)) (Byte dquote) (seam-right (Many (Qdtext or QuotedPair)) (Byte dquote) (λ u is. subst OpensSolid (sym is) refl)) closed-contents (closed-byte dquote refl))
 
--- a quoted string ends solid
+-- a quoted string is not empty, and does not end with a blank
 pub firm-quoted : AllFirm Quoted
 firm-quoted =
     firm-then_right (Byte dquote) (Many (Qdtext or QuotedPair) then Byte dquote)
@@ -143,29 +145,29 @@ firm-quoted =
 pub open-quoted : (u : List ℕ) → Quoted u → OpensSolid u
 open-quoted u = opens-then (Byte dquote) (Many (Qdtext or QuotedPair) then Byte dquote) (open-byte dquote refl) u
 
--- a parameter's value
+-- a parameter's value is not empty, and does not end with a blank
 firm-value : AllFirm GenValue
 firm-value u (inl token) = firm-token u token
 firm-value u (inr (inl quoted)) = firm-quoted u quoted
 firm-value u (inr (inr (inl v6))) = firm-solid Ipv6 solid-v6 some-v6 u v6
 firm-value u (inr (inr (inr reference))) = firm-solid Bracketed solid-v6_reference some-v6_reference u reference
 
--- what may be asked of parameters: it is of the name alone, where the value is a quoted string
+-- Ok asks something of a parameter: of its name alone, where the value is a quoted string
 pub record IsDemand (Ok : List ℕ → Option (List ℕ) → Type 0) : Type 0 where
   pub quoted : (name value other : List ℕ) → Quoted value → Ok name (Some value) → Ok name (Some other)
 
--- the parameters of which this holds
+-- the text is a parameter of which Ok holds
 abbrev pub ParamSet : (List ℕ → Option (List ℕ) → Type 0) → List ℕ → Type 0
 ParamSet Ok text = (name : List ℕ) × (value : Option (List ℕ)) × Ok name value × ParamText text (name, value)
 
--- a name and a value of one set
+-- the set of texts of a name, "=" and a value of V is closed under making one SP of a blank run where V is
 with_value : (V : List ℕ → Type 0) (name : List ℕ) → All is_solid name → ((u : List ℕ) → V u → OpensSolid u) → Closed V → Closed (Exactly name then Mark equals then V)
 with_value V name solid opens closed =
     closed-then (Exactly name) (Mark equals then V) (seam-left (Exactly name) (Mark equals then V) (λ u is. subst EndsSolid (sym is) (ends-solid name solid)))
     (closed-solid (Exactly name) (λ u is. subst (All is_solid) (sym is) solid))
     (closed-then (Mark equals) V (seam-right (Mark equals) V opens) (closed-mark equals refl) closed)
 
--- a parameter stays one
+-- the set of parameters of which Ok holds is closed under making one SP of a blank run
 pub closed-param : (Ok : List ℕ → Option (List ℕ) → Type 0) → IsDemand Ok → Closed (ParamSet Ok)
 closed-param Ok demand u v b w ends opens blanks (name, None, ok, (token, is)) =
     (name, None, ok, (token, closed-solid (Exactly name) (λ t same. subst (All is_solid) (sym same) (solid-token name token)) u v b w ends opens blanks is))
@@ -183,61 +185,62 @@ closed-param Ok demand u v b w ends opens blanks (name, Some value, ok, (token, 
         (whole.0, whole.1, whole.2, (whole.3.0, whole.3.1, whole.3.2, subst Quoted (sym whole.3.3) quoted, whole.3.4), whole.4) in
         (name, Some is.3.1, demand.quoted name value is.3.1 quoted ok, (token, inr (inl is.3.3), (is.0, is.1, is.2, (is.3.0, is.3.1, is.3.2, refl, is.3.4), is.4)))
 
--- a parameter ends solid
+-- a parameter is not empty, and does not end with a blank
 firm-param : (Ok : List ℕ → Option (List ℕ) → Type 0) → AllFirm (ParamSet Ok)
 firm-param Ok u (name, None, ok, (token, is)) = subst Firm (sym is) (firm-token name token)
 firm-param Ok u (name, Some value, ok, (token, kind, whole)) =
     firm-then_right (Exactly name) (Mark equals then Exactly value)
     (firm-then_right (Mark equals) (Exactly value) (λ t is. subst Firm (sym is) (firm-value value kind))) u whole
 
--- *( SEMI param ), each of which this holds
+-- *( SEMI param ): the text is parameters, of each of which Ok holds
 abbrev pub ParamsSet : (List ℕ → Option (List ℕ) → Type 0) → List ℕ → Type 0
 ParamsSet Ok = Many (Mark semicolon then ParamSet Ok)
 
--- parameters end solid, if there are any
+-- parameters do not end with a blank
 pub end-params : (Ok : List ℕ → Option (List ℕ) → Type 0) → AllEnd (ParamsSet Ok)
 end-params Ok = end-many _ (end-firm _ (firm-then_right (Mark semicolon) (ParamSet Ok) (firm-param Ok)))
 
+-- a parameter does not begin with a blank
 open-param : (Ok : List ℕ → Option (List ℕ) → Type 0) → (u : List ℕ) → ParamSet Ok u → OpensSolid u
 open-param Ok u (name, None, ok, (token, is)) = subst OpensSolid (sym is) (opens-solid name (solid-token name token))
 open-param Ok u (name, Some value, ok, (token, kind, (m, t, m_is, rest, whole))) =
     subst OpensSolid (sym (whole ∙ ap (λ x. x ++ t) m_is)) (open-token name t token)
 
--- parameters stay parameters
+-- the set of parameters, of each of which Ok holds, is closed under making one SP of a blank run
 pub closed-params : (Ok : List ℕ → Option (List ℕ) → Type 0) → IsDemand Ok → Closed (ParamsSet Ok)
 closed-params Ok demand =
     closed-many (Mark semicolon then ParamSet Ok) (end-firm _ (firm-then_right (Mark semicolon) (ParamSet Ok) (firm-param Ok)))
     (closed-then (Mark semicolon) (ParamSet Ok) (seam-right (Mark semicolon) (ParamSet Ok) (open-param Ok)) (closed-mark semicolon refl) (closed-param Ok demand))
 
--- each parameter of a list is as asked
+-- Ok holds of each parameter of a list
 abbrev pub AllOk : (List ℕ → Option (List ℕ) → Type 0) → List (List ℕ × Option (List ℕ)) → Type 0
 AllOk Ok params = AllByRecursion (λ p. Ok (p.0) (p.1)) params
 
--- a text of parameters with its list
+-- where Ok holds of each parameter of a list, the text of the list is parameters of which Ok holds
 pub params-set : (Ok : List ℕ → Option (List ℕ) → Type 0) (ps : List (List ℕ × Option (List ℕ))) (text : List ℕ) → AllOk Ok ps → ParamsText text ps → ParamsSet Ok text
 params-set Ok [] text all is = subst (ParamsSet Ok) (sym is) (many-nil _)
 params-set Ok (p ∷ ps) text all (m, t, mark, (x, y, param, more, t_is), whole) =
     subst (ParamsSet Ok) (sym (whole ∙ ap (λ z. m ++ z) t_is ∙ sym (append_assoc m x y)))
     (many-cons _ (m ++ x) y (m, x, mark, (p.0, p.1, all.0, param), refl) (params-set Ok ps y all.1 more))
 
--- texts of such parameters are parameters
+-- texts that are each ";" and a parameter of which Ok holds are the text of a list of such parameters
 pub set-params : (Ok : List ℕ → Option (List ℕ) → Type 0) (us : List (List ℕ)) → AllByRecursion (Mark semicolon then ParamSet Ok) us → (ps : List (List ℕ × Option (List ℕ))) × AllOk Ok ps × ParamsText (concat us) ps
 set-params Ok [] all = ([], tt, refl)
 set-params Ok (u ∷ us) ((m, x, mark, (name, value, ok, param), u_is), all) =
     let more = set-params Ok us all in
     ((name, value) ∷ more.0, (ok, more.1), (m, x ++ concat us, mark, (x, concat us, param, more.2, refl), ap (λ z. z ++ concat us) u_is ∙ append_assoc m x (concat us)))
 
--- the parameters with the blanks before them
+-- the text is optional blanks, and parameters that begin with no blank, of each of which Ok holds
 abbrev pub TailSet : (List ℕ → Option (List ℕ) → Type 0) → List ℕ → Type 0
 TailSet Ok text =
     (part : List ℕ) × (ps : List (List ℕ × Option (List ℕ))) × ParamsPart part ps × AllOk Ok ps × BehindBlanks part text
 
--- blanks before what begins solid are none
+-- blanks before a text, where both together begin with no blank, are none
 no_blanks : (u v : List ℕ) → All is_lws_byte u → OpensSolid (u ++ v) → u ≡ []
 no_blanks [] v all opens = refl
 no_blanks (b ∷ u) v all opens = absurd (both_ways (is_lws_byte b) opens all.0)
 
--- the blanks are those of the first mark
+-- optional blanks and parameters are parameters: the blanks are those of the first mark
 pub tail-set : (Ok : List ℕ → Option (List ℕ) → Type 0) (text : List ℕ) → TailSet Ok text → ParamsSet Ok text
 tail-set Ok text ([], ps, part, all, is) = subst (ParamsSet Ok) (sym is) (many-nil _)
 tail-set Ok text (b ∷ rest, [], part, all, is) = absurd (omega (arith, ap length part.1))
@@ -251,7 +254,7 @@ tail-set Ok text (b ∷ rest, p ∷ ps, (opens, (m, t, (blanks, c, is_blanks, ma
     none : blanks ≡ []
     none = no_blanks blanks (c ++ t) (each-sws blanks is_blanks) (subst OpensSolid flat opens)
 
--- the parameters of a text, after their blanks
+-- parameters are optional blanks, and parameters that begin with no blank
 pub set-tail : (Ok : List ℕ → Option (List ℕ) → Type 0) (text : List ℕ) → ParamsSet Ok text → TailSet Ok text
 set-tail Ok text ([], all, is) = ([], [], (tt, refl), tt, is)
 set-tail Ok text (u ∷ us, ((m, x, (sws, c, is_sws, (byte, after, is_byte, is_after, c_is), m_is), (name, value, ok, param), u_is), all), is) =

@@ -1,4 +1,4 @@
--- Parameters are read one after another, and what is read is the grammar's text.
+-- Parameters are read one after another, and what is read is what the grammar has.
 use Rattle.std.proofs.Common.{◌≡◌, ◌↔◌, IsTrue, ℕ, ◌<◌, ◌≤◌, Bool, true, false, nat_eq, cond, ◌||◌, List, [], ◌∷◌, ◌++◌, Option, Some, None, length, refl, sym, ap, ◌∙◌, subst, inl, inr, arith}
 use Rattle.std.proofs.lemmas.Bool.{both_ways, or_cases, eqb-true, eq-eqb}
 use Rattle.std.proofs.lemmas.Option.{none-some}
@@ -22,7 +22,7 @@ use Rattle.sip_message.proofs.lemmas.via.Protocol.{token-stops}
 use Rattle.sip_message.proofs.lemmas.front.OneWay.{AtMostOne, one-seq, one-last, one-mark, one-token, one-led, one-value, each-bare, some-bare, quoted-whole, reference-bracket}
 use Rattle.sip_message.proofs.lemmas.front.Led.{Next, next-stops, next-other, mark-next, mark-shorter, token-shorter}
 
--- a parameter is read in one way
+-- a parameter at the front of a text is read in one way
 pub one-param : (text : List ℕ) → AtMostOne (ParamFront text)
 one-param text =
     one-seq (MarkFront semicolon text) _ (one-mark semicolon text refl) (λ inner.
@@ -30,13 +30,13 @@ one-param text =
     one-seq (LedFront equals ValueFront (name.1)) _ (one-led equals ValueFront (name.1) refl one-value) (λ value.
     one-last ((name.0, value.0), value.1))))
 
--- a value and its rest are the text
+-- where a value is read at the front of a text, the value and what is left are the text
 pub value-whole : (text value rest : List ℕ) → ValueFront text (value, rest) → text ≡ value ++ rest
 value-whole text value rest (inl is) = is.1
 value-whole text value rest (inr (inl is)) = is.1
 value-whole text value rest (inr (inr is)) = is.2
 
--- what is after a parameter is shorter
+-- what is left after a parameter is shorter than the text
 pub param-shorter : (text : List ℕ) (p : Param) (rest : List ℕ) → ParamFront text (p, rest) → length rest < length text
 param-shorter text p rest (both inner mark (both (name, r) token (both (value, s) led is))) =
     let same : rest ≡ s = ap (λ x. x.1) is in
@@ -47,12 +47,12 @@ param-shorter text p rest (both inner mark (both (name, r) token (both (value, s
     at (Some w) (t, equal, of) =
         omega (arith, mark-shorter equals r t refl equal, ap length (value-whole t w s of), length-append w s)
 
--- a parameter more
+-- where parameters are read at the front of a text, and a further one of what is left, all of them are read at the front
 pub params-more : (text : List ℕ) (ps : List Param) (r : List ℕ) (p : Param) (more : List ℕ) → ParamsFront text ps r → ParamFront r (p, more) → ParamsFront text (ps ++ p ∷ []) more
 params-more text [] r p more so is = (more, subst (λ t. ParamFront t (p, more)) so is, refl)
 params-more text (q ∷ ps) r p more (next, one, so) is = (next, one, params-more next ps r p more so is)
 
--- all parameters are read in one way
+-- two readings of parameters at the front of a text, after which no parameter is read, are the same
 same-params : (ps qs : List Param) (text r s : List ℕ) → ParamsFront text ps r → NotRead (ParamFront r) → ParamsFront text qs s → NotRead (ParamFront s) → (ps ≡ qs) × (r ≡ s)
 same-params [] [] text r s a a_ends b b_ends = (refl, a ∙ sym b)
 same-params [] (q ∷ qs) text r s a a_ends (more, is, b) b_ends = absurd (a_ends (q, more) (subst (λ t. ParamFront t (q, more)) (sym a) is))
@@ -70,7 +70,7 @@ one-all_params text (ps, r) (qs, s) a b =
     let same = same-params ps qs text r s a.0 a.1 b.0 b.1 in
     ap (λ x. (x, r)) same.0 ∙ ap (λ x. (qs, x)) same.1
 
--- what may follow a parameter
+-- the byte may follow a parameter, after blanks: it is a comma or a semicolon
 abbrev pub is_separator : ℕ → Bool
 is_separator b = nat_eq b semicolon || nat_eq b comma
 
@@ -81,6 +81,7 @@ separator-token b is = elim (or_cases (nat_eq b semicolon) (nat_eq b comma) is) 
   | inr same ↦ subst (λ x. is_token_byte x ≡ false) (sym (eqb-true b comma same)) refl
 ]
 
+-- a separator is no bare byte
 separator-bare : (b : ℕ) → is_separator b ≡ true → is_bare_byte b ≡ false
 separator-bare b is = elim (or_cases (nat_eq b semicolon) (nat_eq b comma) is) [
   | inl same ↦ subst (λ x. is_bare_byte x ≡ false) (sym (eqb-true b semicolon same)) refl
@@ -90,7 +91,7 @@ separator-bare b is = elim (or_cases (nat_eq b semicolon) (nat_eq b comma) is) [
 blank-bare : (b : ℕ) → is_lws_byte b ≡ true → is_bare_byte b ≡ false
 blank-bare = blank_is (λ b. is_bare_byte b ≡ false) refl refl refl refl
 
--- no blank run begins a value
+-- a token or an IPv6 address does not begin with a blank
 bare-stops : (v rest : List ℕ) → (Token or Ipv6) v → StopsBlank (v ++ rest)
 bare-stops v rest kind = at v (some-bare v kind) (each-bare v kind)
   where
@@ -102,6 +103,7 @@ bare-stops v rest kind = at v (some-bare v kind) (each-bare v kind)
     at [] some all = absurd (some refl)
     at (b ∷ u) some all = stops-byte b (u ++ rest) (solid b (is_lws_byte b) refl all.0)
 
+-- a parameter's value does not begin with a blank
 value-stops : (v rest : List ℕ) → GenValue v → StopsBlank (v ++ rest)
 value-stops v rest (inl token) = bare-stops v rest (inl token)
 value-stops v rest (inr (inl quoted)) = subst StopsBlank (sym (quoted-whole v rest quoted)) (stops-byte dquote (quoted.3.0 ++ dquote ∷ rest) refl)
@@ -110,14 +112,14 @@ value-stops v rest (inr (inr (inr reference))) =
     let bracket = reference-bracket (v ++ rest) (v, rest) (reference, refl) in
     subst (λ t. StopsBlank (t ++ rest)) (sym bracket.2) (stops-byte left_bracket ((bracket.0 ++ right_bracket ∷ []) ++ rest) refl)
 
--- a value is read before what may follow it
+-- where nothing or a separator follows a value, the value is read at the front of both
 value-front : (v rest : List ℕ) → GenValue v → Next is_separator rest → ValueFront (v ++ rest) (v, rest)
 value-front v rest (inl token) next = inr (inr (inl token, next-stops is_separator is_bare_byte rest blank-bare separator-bare next, refl))
 value-front v rest (inr (inl quoted)) next = inl (quoted, refl)
 value-front v rest (inr (inr (inl v6))) next = inr (inr (inr v6, next-stops is_separator is_bare_byte rest blank-bare separator-bare next, refl))
 value-front v rest (inr (inr (inr reference))) next = inr (inl (reference, refl))
 
--- what is read is a value
+-- what is read as a value at the front of a text is a value
 front-value : (text v rest : List ℕ) → ValueFront text (v, rest) → GenValue v
 front-value text v rest (inl is) = inr (inl is.0)
 front-value text v rest (inr (inl is)) = inr (inr (inr is.0))
@@ -130,7 +132,7 @@ is_equals b = nat_eq b equals
 equals-token : (b : ℕ) → is_equals b ≡ true → is_token_byte b ≡ false
 equals-token b is = subst (λ x. is_token_byte x ≡ false) (sym (eqb-true b equals is)) refl
 
--- a parameter is read before what may follow it
+-- where nothing or a separator follows a parameter, the parameter is read at the front of both
 param-front : (m x rest : List ℕ) (p : Param) → Mark semicolon m → ParamText x p → Next is_separator rest → ParamFront ((m ++ x) ++ rest) (p, rest)
 param-front m x rest (name, None) mark (token, x_is) next =
     both (name ++ rest) (token-stops name rest token, (m, name ++ rest, mark, refl, append_assoc m x rest ∙ ap (λ t. m ++ (t ++ rest)) x_is))
@@ -146,13 +148,13 @@ param-front m x rest (name, Some value) mark (token, kind, (u, w, u_is, (e, v, e
         ap (λ t. t ++ rest) (x_is ∙ ap (λ t. t ++ w) u_is ∙ ap (λ t. name ++ t) (w_is ∙ ap (λ t. e ++ t) v_is))
         ∙ append_assoc name (e ++ value) rest ∙ ap (λ t. name ++ t) (append_assoc e value rest)
 
--- what follows a parameter is a further one, or what follows them all
+-- where nothing or a separator follows parameters, a separator or nothing stands at the front of both
 pub params-next : (ps : List Param) (u rest : List ℕ) → ParamsText u ps → Next is_separator rest → Next is_separator (u ++ rest)
 params-next [] u rest is next = subst (λ t. Next is_separator (t ++ rest)) (sym is) next
 params-next (p ∷ ps) u rest (m, t, mark, more, whole) next =
     subst (Next is_separator) (sym (ap (λ x. x ++ rest) whole ∙ append_assoc m t rest)) (mark-next is_separator semicolon m (t ++ rest) refl refl mark)
 
--- parameters are read before what may follow them
+-- where nothing or a separator follows parameters, they are read at the front of both
 pub params-front : (ps : List Param) (u rest : List ℕ) → ParamsText u ps → Next is_separator rest → ParamsFront (u ++ rest) ps rest
 params-front [] u rest is next = sym (ap (λ t. t ++ rest) is)
 params-front (p ∷ ps) u rest (m, t, mark, (x, y, param, more, t_is), whole) next =
@@ -161,7 +163,7 @@ params-front (p ∷ ps) u rest (m, t, mark, (x, y, param, more, t_is), whole) ne
     flat : u ++ rest ≡ (m ++ x) ++ (y ++ rest)
     flat = ap (λ z. z ++ rest) (whole ∙ ap (λ z. m ++ z) t_is ∙ sym (append_assoc m x y)) ∙ append_assoc (m ++ x) y rest
 
--- the text of a parameter that is read
+-- where a parameter is read at the front of a text, the text begins with ";" and the text of the parameter
 front-param : (text : List ℕ) (p : Param) (rest : List ℕ) → ParamFront text (p, rest) → (m : List ℕ) × (x : List ℕ) × Mark semicolon m × ParamText x p × (text ≡ m ++ (x ++ rest))
 front-param text p rest (both inner mark (both (name, r) token (both (value, s) led is))) =
     let last : rest ≡ s = ap (λ x. x.1) is in
@@ -187,7 +189,7 @@ front-param text p rest (both inner mark (both (name, r) token (both (value, s) 
           ∙ sym (append_assoc name (equal.1.0 ++ w) s),
     )
 
--- the text of parameters that are read
+-- where parameters are read at the front of a text, the text begins with the text of these parameters
 pub front-params : (ps : List Param) (text rest : List ℕ) → ParamsFront text ps rest → (u : List ℕ) × ParamsText u ps × (text ≡ u ++ rest)
 front-params [] text rest is = ([], refl, sym is)
 front-params (p ∷ ps) text rest (more, is, later) =
@@ -198,24 +200,24 @@ front-params (p ∷ ps) text rest (more, is, later) =
       one.4 ∙ ap (λ z. one.0 ++ (one.1 ++ z)) others.2 ∙ ap (λ z. one.0 ++ z) (sym (append_assoc one.1 others.0 rest)) ∙ sym (append_assoc one.0 (one.1 ++ others.0) rest),
     )
 
--- where these do not begin a parameter, none is read
+-- where one of some bytes stands after the blanks of a text, and ";" is none of them, no parameter is read
 pub no-param : (these : ℕ → Bool) (text : List ℕ) → these semicolon ≡ false → Next these text → NotRead (ParamFront text)
 no-param these text fails next x (both inner mark more) = next-other these semicolon text refl fails next inner mark
 
--- a whole text of parameters
+-- where parameters are read at the front of a text, and nothing is left, the text is these parameters
 pub params-yes : (text : List ℕ) (ps : List Param) → ParamsFront text ps [] → ParamsText text ps
 params-yes text ps so =
     let is = front-params ps text [] so in
     subst (λ t. ParamsText t ps) (sym (is.2 ∙ append-nil is.0)) is.1
 
--- where a text is parameters, nothing is left after those at its front
+-- where a text is parameters, nothing is left after all that are read at its front
 pub params-is : (text : List ℕ) (ps qs : List Param) (rest : List ℕ) → AllParamsFront text (ps, rest) → ParamsText text qs → rest ≡ []
 params-is text ps qs rest all is =
     let front : ParamsFront text qs [] = subst (λ t. ParamsFront t qs []) (append-nil text) (params-front qs text [] is (inl refl)) in
     let none : NotRead (ParamFront []) = no-param (λ _. false) [] refl (inl refl) in
     ap (λ x. x.1) (one-all_params text (ps, rest) (qs, []) all (front, none))
 
--- a text of parameters that begins solid begins with ";", if it is not empty
+-- a text of parameters that is not empty, and begins with no blank, begins with ";"
 pub params-open : (b : ℕ) (text : List ℕ) (ps : List Param) → ParamsPart (b ∷ text) ps → b ≡ semicolon
 params-open b text [] (opens, is) = absurd (omega (arith, ap length is))
 params-open b text (p ∷ ps) (opens, (m, t, (s, c, sws, (byte, after, byte_is, after_is, c_is), m_is), more, whole)) = at s (each-sws s sws) flat
@@ -229,21 +231,21 @@ params-open b text (p ∷ ps) (opens, (m, t, (s, c, sws, (byte, after, byte_is, 
         let first : b ≡ a = cc in
         absurd (both_ways (is_lws_byte b) opens (ap is_lws_byte first ∙ all.0))
 
--- without a semicolon only the empty text is parameters
+-- a text of parameters that begins with no blank and not with ";" is empty
 pub params-closed : (text : List ℕ) (ps : List Param) → past semicolon text ≡ None → ParamsPart text ps → text ≡ []
 params-closed [] ps none is = refl
 params-closed (b ∷ text) ps none is =
     absurd (none-some text (sym none ∙ ap (λ same. cond same (Some text) None) (eq-eqb b semicolon (params-open b text ps is))))
 
--- a text that begins with a semicolon opens solid
+-- a text that begins with ";" begins with no blank
 pub opens-semicolon : (text rest : List ℕ) → past semicolon text ≡ Some rest → OpensSolid text
 opens-semicolon text rest found = subst OpensSolid (sym (past-some semicolon text rest found)) refl
 
--- the text is parameters
+-- the text is parameters, from their first ";" on
 abbrev pub AreParams : List ℕ → Type 0
 AreParams text = (ps : List Param) × ParamsPart text ps
 
--- a text that begins with ";" is, exactly if nothing is left after them
+-- a text that begins with ";" is parameters exactly if nothing is left after all that are read at its front
 pub params-some : (text inner rest : List ℕ) → past semicolon text ≡ Some inner → (ps : List Param) × AllParamsFront text (ps, rest) → IsTrue (nat_eq (length rest) 0) ↔ AreParams text
 params-some text inner rest found all = (to rest all.0 all.1, from)
   where
@@ -254,7 +256,7 @@ params-some text inner rest found all = (to rest all.0 all.1, from)
     from : AreParams text → IsTrue (nat_eq (length rest) 0)
     from are = ap (λ t. nat_eq (length t) 0) (params-is text all.0 are.0 rest all.1 are.1.1)
 
--- a text without a semicolon is parameters exactly if it is empty
+-- a text that does not begin with ";" is parameters exactly if it is empty
 pub params-none : (text : List ℕ) → past semicolon text ≡ None → IsTrue (nat_eq (length text) 0) ↔ AreParams text
 params-none text none = (to text, (λ are. ap (λ t. nat_eq (length t) 0) (params-closed text are.0 none are.1)))
   where
@@ -262,7 +264,7 @@ params-none text none = (to text, (λ are. ap (λ t. nat_eq (length t) 0) (param
     to [] is = ([], (tt, refl))
     to (b ∷ t) is = absurd (omega (arith, eqb-true (length (b ∷ t)) 0 is))
 
--- parameters after blanks
+-- where a part is parameters, the part with blanks before it is these parameters
 pub behind-params : (part : List ℕ) (ps : List Param) (q : List ℕ) → ParamsPart part ps → BehindBlanks part q → ParamsText q ps
 behind-params [] ps q is q_is = subst (λ t. ParamsText t ps) (sym q_is) is.1
 behind-params (b ∷ part) [] q is blanks = absurd (omega (arith, ap length is.1))

@@ -21,7 +21,7 @@ use Rattle.sip_message.proofs.lemmas.field.OneWay.{each-token}
 use Rattle.sip_message.proofs.lemmas.front.Cuts.{ReadAs, NotRead, token-cut}
 use Rattle.sip_message.proofs.lemmas.front.OneWay.{read-one, bare-all, each-bare, each-hostname, each-v4, one-bare, one-quoted, one-bracket, one-reference, one-value, quoted-whole, reference-bracket}
 
--- the front that stands before a rest
+-- where a text is u and r, it is u without its last `length r` bytes
 pub front-is : (text u r : List ℕ) → text ≡ u ++ r → take (length text - length r) text ≡ u
 front-is text u r whole =
     ap (λ n. take n text) len ∙ ap (take (length u)) whole ∙ take-append_seam u r
@@ -29,11 +29,11 @@ front-is text u r whole =
     len : length text - length r ≡ length u
     len = omega (arith, ap length whole, length-append u r)
 
--- a rest is no longer than the text
+-- where a text is u and r, r is no longer than the text
 pub rest-short : (text u r : List ℕ) → text ≡ u ++ r → length r ≤ length text
 rest-short text u r whole = omega (arith, ap length whole, length-append u r)
 
--- without a token at the front, no byte of one stands there
+-- where the longest token at the front of a text is empty, the text begins with no byte of a token
 no-token-stops : (text : List ℕ) → IsLongestFront Token text 0 → Stops is_token_byte text
 no-token-stops [] longest = tt
 no-token-stops (b ∷ text) longest = at (is_token_byte b) refl
@@ -42,7 +42,7 @@ no-token-stops (b ∷ text) longest = at (is_token_byte b) refl
     at false is = is
     at true is = absurd (omega (arith, longest.longest 1 (b ∷ [], text, (b ∷ [], [], (b, is, refl), ([], tt, refl), refl), refl, refl)))
 
--- the longest token, or nothing
+-- where n is the length of the longest token at the front of a text, what is left after n bytes is what stands after its bytes of tokens
 pub past-token : (text : List ℕ) (n : ℕ) → IsLongestFront Token text n → PastRun is_token_byte text (drop n text)
 past-token text n longest = at n refl
   where
@@ -54,15 +54,15 @@ past-token text n longest = at n refl
         let front = token-cut text n longest (λ none. absurd (omega (arith, none, some))) in
         (front.1, (take n text, each-token (take n text) front.0, front.2.4 ∙ ap (λ x. x ++ front.2.1) front.2.2 ∙ ap (λ x. take n text ++ x) front.2.3))
 
--- bytes of tokens and colons, and then no byte of a token
+-- the rest stands after bytes of tokens and colons, and does not begin with a byte of a token
 abbrev pub BareSoFar : List ℕ → List ℕ → Type 0
 BareSoFar text rest = Stops is_token_byte rest × ((run : List ℕ) × All is_bare_byte run × (text ≡ run ++ rest))
 
--- a run of a token's bytes is bare so far
+-- what stands after the bytes of tokens at the front stands after bytes of tokens and colons
 pub bare-none : (text rest : List ℕ) → PastRun is_token_byte text rest → BareSoFar text rest
 bare-none text rest (stops, (run, all, whole)) = (stops, (run, bare-all run all, whole))
 
--- a colon and a further run are too
+-- where a colon follows, and then bytes of tokens, what stands after these stands after bytes of tokens and colons
 pub bare-more : (text rest more next : List ℕ) → BareSoFar text rest → past colon rest ≡ Some more → PastRun is_token_byte more next → BareSoFar text next
 bare-more text rest more next (s, (run, all, whole)) found (stops, (token, token_all, more_is)) = (
   stops,
@@ -73,11 +73,12 @@ bare-more text rest more next (s, (run, all, whole)) found (stops, (token, token
   ),
 )
 
--- which leaves less
+-- what stands after a colon and the bytes of tokens that follow it is shorter
 pub bare-smaller : (rest more next : List ℕ) → past colon rest ≡ Some more → PastRun is_token_byte more next → length next < length rest
 bare-smaller rest more next found (stops, (token, all, whole)) =
     omega (arith, ap length (past-some colon rest more found), ap length whole, length-append token next)
 
+-- a text that begins neither with a byte of a token nor with a colon does not begin with a bare byte
 stops-bare : (rest : List ℕ) → Stops is_token_byte rest → past colon rest ≡ None → Stops is_bare_byte rest
 stops-bare [] stops none = tt
 stops-bare (b ∷ rest) stops none = at (nat_eq b colon) refl
@@ -86,23 +87,23 @@ stops-bare (b ∷ rest) stops none = at (nat_eq b colon) refl
     at false other = or_from (is_token_byte b) (nat_eq b colon) stops other
     at true same = absurd (none-some rest (sym none ∙ ap (λ x. cond x (Some rest) None) same))
 
--- without a further colon the bare run ends
+-- where the rest begins with no colon, it stands after all bare bytes at the front
 pub bare-end : (text rest : List ℕ) → BareSoFar text rest → past colon rest ≡ None → PastRun is_bare_byte text rest
 bare-end text rest (stops, run) none = (stops-bare rest stops none, run)
 
--- a token that no colon follows
+-- where no colon follows the token at the front of a text, the text is read as that token as a bare value
 pub bare-token_front : (text token rest : List ℕ) → ReadAs (TokenFront text) (token, rest) → past colon rest ≡ None → ReadAs (BareFront text) (token, rest)
 bare-token_front text token rest ((is, stops, whole), only) none =
     read-one (BareFront text) (token, rest) (one-bare text)
     (inl is, stops-bare rest stops none, whole.4 ∙ ap (λ x. x ++ whole.1) whole.2 ∙ ap (λ x. token ++ x) whole.3)
 
--- a bare value that is cut is one, or there is none
+-- where the bare bytes at the front of a text are a token or an IPv6 address, the text is read as that as a bare value
 pub bare-found : (text rest value : List ℕ) → PastRun is_bare_byte text rest → value ≡ take (length text - length rest) text → (Token or Ipv6) value → ReadAs (BareFront text) (value, rest)
 bare-found text rest value (stops, (run, all, whole)) is kind =
     let same : value ≡ run = is ∙ front-is text run rest whole in
     read-one (BareFront text) (value, rest) (one-bare text) (kind, stops, whole ∙ ap (λ x. x ++ rest) (sym same))
 
--- a bare run that is neither a token nor an IPv6 address is no value
+-- where the bare bytes at the front of a text are neither a token nor an IPv6 address, no bare value is read
 pub bare-missing : (text rest value : List ℕ) → PastRun is_bare_byte text rest → value ≡ take (length text - length rest) text → ((Token or Ipv6) value → ⊥) → NotRead (BareFront text)
 bare-missing text rest value (stops, (run, all, whole)) is other (v, r) (kind, v_stops, v_whole) =
     let same = same_front is_bare_byte v r run rest (each-bare v kind) all v_stops stops (sym v_whole ∙ whole) in
@@ -129,34 +130,34 @@ pub whole-token : (text : List ℕ) (n : ℕ) → IsLongestFront Token text n �
 whole-token text n longest within token =
     omega (arith, longest.longest (length text) (text, [], token, sym (append-nil text), refl))
 
--- a text begins with the byte that is past
+-- the text past a mark at the front of the mark and a rest is the rest
 past-here : (mark : ℕ) (rest : List ℕ) → past mark (mark ∷ rest) ≡ Some rest
 past-here mark rest = ap (λ same. cond same (Some rest) None) (eq-eqb mark mark refl)
 
--- brackets, their parts one after the other
+-- what stands in brackets at the front of a text is "[", bytes without "]", "]" and what is left
 bracket-whole : (text : List ℕ) (x : List ℕ × List ℕ) → (b : BracketFront text x) → text ≡ left_bracket ∷ (b.0 ++ right_bracket ∷ (x.1))
 bracket-whole text (v, r) (i, lacks, v_is, whole) =
     whole ∙ ap (λ x. x ++ r) v_is ∙ ap (λ x. left_bracket ∷ x) (append_assoc i (right_bracket ∷ []) r)
 
--- without an opening bracket nothing is in brackets
+-- where a text does not begin with "[", nothing in brackets is read
 pub no-bracket : (text : List ℕ) → past left_bracket text ≡ None → NotRead (BracketFront text)
 no-bracket text none x bracket =
     none-some (bracket.0 ++ right_bracket ∷ (x.1)) (sym none ∙ ap (past left_bracket) (bracket-whole text x bracket) ∙ past-here left_bracket _)
 
--- a value with an open bracket and no closing one is not read as one in brackets
+-- where a text begins with "[", and no "]" follows, nothing in brackets is read
 pub no-close : (text inner : List ℕ) → past left_bracket text ≡ Some inner → behind right_bracket inner ≡ None → NotRead (BracketFront text)
 no-close text inner found none x bracket =
     let both : left_bracket ∷ inner ≡ left_bracket ∷ (bracket.0 ++ right_bracket ∷ (x.1)) = sym (past-some left_bracket text inner found) ∙ bracket-whole text x bracket in
     let inner_is : inner ≡ bracket.0 ++ right_bracket ∷ (x.1) = cc in
     none-some (x.1) (sym none ∙ ap (behind right_bracket) inner_is ∙ behind-led right_bracket bracket.0 (Some (x.1)) bracket.1)
 
--- what stands before the rest after "]"
+-- where a text begins with "[", and "]" follows, the text is "[", what stands before "]", "]" and the rest
 closed : (text inner rest : List ℕ) → past left_bracket text ≡ Some inner → behind right_bracket inner ≡ Some rest → text ≡ (left_bracket ∷ (before right_bracket inner ++ right_bracket ∷ [])) ++ rest
 closed text inner rest found ends =
     past-some left_bracket text inner found
     ∙ ap (λ x. left_bracket ∷ x) (cut-whole right_bracket inner ∙ ap (λ o. before right_bracket inner ++ led right_bracket o) ends ∙ sym (append_assoc (before right_bracket inner) (right_bracket ∷ []) rest))
 
--- with both, what is between them is
+-- where a text begins with "[", and "]" follows, what stands from the one to the other is read
 pub one-closed : (text inner rest : List ℕ) → past left_bracket text ≡ Some inner → behind right_bracket inner ≡ Some rest → ReadAs (BracketFront text) (take (length text - length rest) text, rest)
 one-closed text inner rest found ends =
     let whole = closed text inner rest found ends in
@@ -170,7 +171,7 @@ pub closed-short : (text inner rest : List ℕ) → past left_bracket text ≡ S
 closed-short text inner rest found ends =
     rest-short text (left_bracket ∷ (before right_bracket inner ++ right_bracket ∷ [])) rest (closed text inner rest found ends)
 
--- a host in brackets is an IPv6 address in brackets
+-- what stands in brackets, and is a host, is an IPv6 address in brackets
 pub bracket-host : (text part rest : List ℕ) (h : HostParts) → BracketFront text (part, rest) → HostText part h → Bracketed part
 bracket-host text part rest (v6 x) bracket is = is.0
 bracket-host text part rest (name x) (i, lacks, part_is, whole) is =
@@ -178,19 +179,19 @@ bracket-host text part rest (name x) (i, lacks, part_is, whole) is =
 bracket-host text part rest (v4 x) (i, lacks, part_is, whole) is =
     absurd (both_ways (is_token_byte left_bracket) refl (subst (All is_token_byte) part_is (each-v4 part is.0)).0)
 
--- a host in brackets is an IPv6 reference
+-- where what is read in brackets is a host, it is read as an IPv6 address in brackets
 pub one-host_reference : (text part rest : List ℕ) (h : HostParts) → ReadAs (BracketFront text) (part, rest) → HostText part h → ReadAs (ReferenceFront text) (part, rest)
 one-host_reference text part rest h bracket host =
     read-one (ReferenceFront text) (part, rest) (one-reference text) (bracket-host text part rest h bracket.0 host, bracket.0.3)
 
--- what is none in brackets is not
+-- where what is read in brackets is no host, no IPv6 address in brackets is read
 pub no-host_reference : (text part rest : List ℕ) → ReadAs (BracketFront text) (part, rest) → ((h : HostParts) → HostText part h → ⊥) → NotRead (ReferenceFront text)
 no-host_reference text part rest bracket none x reference =
     let same : x ≡ (part, rest) = bracket.1 x (reference-bracket text x reference) in
     let is : Bracketed part = subst Bracketed (ap (λ y. y.0) same) reference.0 in
     none (v6 part) (is, refl)
 
--- a quoted string at the front
+-- where a text does not begin with a quote, no quoted string is read
 pub no-open : (text : List ℕ) → past dquote text ≡ None → NotRead (QuotedFront text)
 no-open text none (v, r) (q, whole) =
     none-some (q.3.0 ++ dquote ∷ r) (sym none ∙ ap (past dquote) (whole ∙ quoted-whole v r q) ∙ past-here dquote _)
@@ -198,11 +199,11 @@ no-open text none (v, r) (q, whole) =
 quoted-string : (text : List ℕ) (x : List ℕ × List ℕ) → QuotedFront text x → HasFront (Sws then Quoted) text (length (x.0))
 quoted-string text (v, r) (q, whole) = (v, r, ([], v, inl refl, q, refl), whole, refl)
 
--- where no quoted string stands at the front, none is read
+-- where no quoted string stands at the front of a text, none is read
 pub no-quoted : (text : List ℕ) → IsOnlyFront (Sws then Quoted) text None → NotRead (QuotedFront text)
 no-quoted text none x quoted = none (length (x.0)) (quoted-string text x quoted)
 
--- where one does, it is read
+-- where a quoted string of n bytes alone stands at the front of a text that begins with a quote, it is read
 pub one-quoted_string : (text inner : List ℕ) (n : ℕ) → past dquote text ≡ Some inner → IsOnlyFront (Sws then Quoted) text (Some n) → ReadAs (QuotedFront text) (take n text, drop n text)
 one-quoted_string text inner n found ((u, v, (blanks, q, sws, quoted, u_is), whole, len), only) =
     read-one (QuotedFront text) (take n text, drop n text) (one-quoted text)
@@ -223,15 +224,15 @@ one-quoted_string text inner n found ((u, v, (blanks, q, sws, quoted, u_is), who
         let first : dquote ≡ c = cc in
         absurd (both_ways (is_lws_byte dquote) refl (subst (λ x. is_lws_byte x ≡ true) (sym first) (each-sws (c ∷ b) is).0))
 
--- a value of one of the three kinds is the only one
+-- where a quoted string is read, a parameter's value is read as it
 pub value-quoted : (text value rest : List ℕ) → ReadAs (QuotedFront text) (value, rest) → ReadAs (ValueFront text) (value, rest)
 value-quoted text value rest is = read-one (ValueFront text) (value, rest) (one-value text) (inl is.0)
 
--- an IPv6 reference is a value
+-- where an IPv6 address in brackets is read, a parameter's value is read as it
 pub value-reference : (text value rest : List ℕ) → ReadAs (ReferenceFront text) (value, rest) → ReadAs (ValueFront text) (value, rest)
 value-reference text value rest is = read-one (ValueFront text) (value, rest) (one-value text) (inr (inl is.0))
 
--- a value that is neither quoted nor in brackets is read as a bare one
+-- where neither a quoted string nor an IPv6 address in brackets is read, a parameter's value is read as a bare one, or not at all
 pub value-bare : {A : Type 0} (parts : A → List ℕ × List ℕ) (text : List ℕ) (r : Option A) → NotRead (QuotedFront text) → NotRead (ReferenceFront text) → IsOnlyValue BareFront parts text r → IsOnlyValue ValueFront parts text r
 value-bare parts text None quoted reference none = at
   where

@@ -1,25 +1,26 @@
--- Two readings that come to the same.
+-- Two readings that come to the same: to values that belong together, or to one fault.
 use Rattle.std.proofs.Common.{◌≡◌, refl, sym, subst}
 use Rattle.std.specs.Prelude.{⊤}
 use Rattle.sip_standard.specs.declared.fault.Fault.{Fault}
 use Rattle.sip_standard.specs.Outcome.{Outcome, gives, stops, Gives, Demand, Holds, Then, passes, stopped}
 
--- both give values that Q relates, or stop at one fault
+-- both outcomes give values that Q relates, or both stop with one fault
 abbrev pub Alike : {X Y : Type 0} → (X → Y → Type 0) → Outcome X → Outcome Y → Type 0
 Alike Q (gives x) (gives y) = Q x y
 Alike Q (stops f) (stops g) = f ≡ g
 Alike Q (gives x) (stops g) = ⊥
 Alike Q (stops f) (gives y) = ⊥
 
--- what comes of the one comes of the other
+-- for each outcome of S there is one of T that is alike, and for each of T one of S
 pub record Same {X Y : Type 0} (Q : X → Y → Type 0) (S : Outcome X → Type 0) (T : Outcome Y → Type 0) : Type 0 where
   pub to : (a : Outcome X) → S a → (b : Outcome Y) × T b × Alike Q a b
   pub back : (b : Outcome Y) → T b → (a : Outcome X) × S a × Alike Q a b
 
--- the values are equal
+-- the two values are equal
 abbrev pub Equal : {X : Type 0} → X → X → Type 0
 Equal x y = x ≡ y
 
+-- demands with one fault come to the same where each value that meets the one has a value that meets the other, and Q relates them
 pub same-demand : {X Y : Type 0} (Q : X → Y → Type 0) (R : X → Type 0) (P : Y → Type 0) (fault : Fault) → ((x : X) → R x → (y : Y) × P y × Q x y) → ((y : Y) → P y → (x : X) × R x × Q x y) → Same Q (Demand R fault) (Demand P fault)
 same-demand {X = X} {Y = Y} Q R P fault go come = record { to = to; back = back }
   where
@@ -34,13 +35,14 @@ same-demand {X = X} {Y = Y} Q R P fault go come = record { to = to; back = back 
 pub same-holds : (A B : Type 0) (fault : Fault) → (A → B) → (B → A) → Same {X = ⊤} {Y = ⊤} Equal (Holds A fault) (Holds B fault)
 same-holds A B fault go come = same-demand Equal (λ _. A) (λ _. B) fault (λ x a. (x, go a, refl)) (λ y b. (y, come b, refl))
 
+-- the steps that give x and y come to the same where Q relates x and y
 pub same-gives : {X Y : Type 0} (Q : X → Y → Type 0) (x : X) (y : Y) → Q x y → Same Q (Gives x) (Gives y)
 same-gives Q x y q = record {
   to = λ a a_is. (gives y, refl, subst (λ o. Alike Q o (gives y)) (sym a_is) q);
   back = λ b b_is. (gives x, refl, subst (λ o. Alike Q (gives x) o) (sym b_is) q);
 }
 
--- a reading comes to what it comes to
+-- each reading comes to the same as itself
 pub same-self : {X : Type 0} (S : Outcome X → Type 0) → Same Equal S S
 same-self {X = X} S = record { to = to; back = back }
   where
@@ -52,7 +54,7 @@ same-self {X = X} S = record { to = to; back = back }
     back (gives x) s = (gives x, s, refl)
     back (stops f) s = (stops f, s, refl)
 
--- two steps in a row
+-- two steps come to the same as two others where the first ones do, and the second ones do after values that Q relates
 pub same-then : {X Y U V : Type 0} (Q : X → Y → Type 0) (W : U → V → Type 0) {S : Outcome X → Type 0} {T : Outcome Y → Type 0} (A : X → Outcome U → Type 0) (B : Y → Outcome V → Type 0)
     → Same Q S T → ((x : X) (y : Y) → Q x y → Same W (A x) (B y)) → Same W (Then S A) (Then T B)
 same-then {X = X} {Y = Y} {U = U} {V = V} Q W {S = S} {T = T} A B first later = record { to = to; back = back }
@@ -81,7 +83,7 @@ same-then {X = X} {Y = Y} {U = U} {V = V} Q W {S = S} {T = T} A B first later = 
     back out (passes y t b) = let m = first.back (gives y) t in back-gives y out b m.0 m.1 m.2
     back out (stopped f t out_is) = let m = first.back (stops f) t in back-stops f out out_is m.0 m.1 m.2
 
--- where the first gives the same value
+-- two steps come to the same as two others where the first ones do, with equal values, and the second ones do after each value
 pub same-next : {X U V : Type 0} (W : U → V → Type 0) {S T : Outcome X → Type 0} (A : X → Outcome U → Type 0) (B : X → Outcome V → Type 0)
     → Same Equal S T → ((x : X) → Same W (A x) (B x)) → Same W (Then S A) (Then T B)
 same-next W A B first later = same-then Equal W A B first (λ x y x_is. subst (λ z. Same W (A x) (B z)) x_is (later x))

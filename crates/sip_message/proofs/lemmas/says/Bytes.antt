@@ -1,4 +1,4 @@
--- What bytes are read as, and what they say: the start line and the fields are the same.
+-- What bytes are read as is what they say by the definitions: the start line, the fields and the body are the same.
 use Rattle.std.proofs.Common.{◌≡◌, ℕ, ◌+◌, ◌≤◌, Bool, true, false, cond, ◌||◌, List, [], ◌∷◌, ◌++◌, length, map, Option, inl, inr, refl, sym, ap, ◌∙◌, subst, arith}
 use Rattle.std.specs.Prelude.{⊤, ◌==◌, codes, bytes_eq, filter, IfSome, is_some}
 use Prim.Native.String.{String}
@@ -36,7 +36,7 @@ use Rattle.sip_message.proofs.lemmas.says.Via.{vias-said, said-vias, elements-fi
 use Rattle.sip_message.proofs.lemmas.says.Values.{start-said, said-start, cseq-said, said-cseq}
 use Rattle.sip_message.proofs.lemmas.says.Names.{row-said, named-via, named-from, named-to, named-call-id, named-cseq, named-content-length}
 
--- a text that opens solid begins with no byte of a blank run
+-- a text whose first byte is no blank does not begin with a byte of a blank run, as the definitions say it
 opens-trimmed : (t : List ℕ) → OpensSolid t → ¬ ((One is_lws_byte then (λ behind. ⊤)) t)
 opens-trimmed [] opens (u, v, (b, blank, u_is), any, whole) = absurd (omega (arith, ap length whole, length-append u v, ap length u_is))
 opens-trimmed (c ∷ t) opens (u, v, (b, blank, u_is), any, whole) =
@@ -44,6 +44,7 @@ opens-trimmed (c ∷ t) opens (u, v, (b, blank, u_is), any, whole) =
     let first : c ≡ b = cc in
     both_ways (is_lws_byte c) opens (subst (λ x. is_lws_byte x ≡ true) (sym first) blank)
 
+-- a text that does not begin with a byte of a blank run, as the definitions say it, has no blank as its first byte
 trimmed-opens : (t : List ℕ) → ¬ ((One is_lws_byte then (λ behind. ⊤)) t) → OpensSolid t
 trimmed-opens [] none = tt
 trimmed-opens (c ∷ t) none = at (is_lws_byte c) refl
@@ -52,6 +53,7 @@ trimmed-opens (c ∷ t) none = at (is_lws_byte c) refl
     at true is = absurd (none (c ∷ [], t, (c, is, refl), tt, refl))
     at false is = is
 
+-- where a text does not end with a blank, its last byte is no blank
 last-solid : (u : List ℕ) (b : ℕ) → EndsSolid (u ++ b ∷ []) → is_lws_byte b ≡ false
 last-solid [] b ends = ends
 last-solid (c ∷ []) b ends = ends
@@ -61,6 +63,7 @@ ends-trimmed : (t : List ℕ) → EndsSolid t → ¬ (((λ before. ⊤) then One
 ends-trimmed t ends (u, v, any, (b, blank, v_is), whole) =
     both_ways (is_lws_byte b) (last-solid u b (subst EndsSolid (whole ∙ ap (λ z. u ++ z) v_is) ends)) blank
 
+-- a text that does not end with a byte of a blank run, as the definitions say it, has no blank as its last byte
 trimmed-ends : (t : List ℕ) → ¬ (((λ before. ⊤) then One is_lws_byte) t) → EndsSolid t
 trimmed-ends [] none = tt
 trimmed-ends (c ∷ []) none = at (is_lws_byte c) refl
@@ -71,24 +74,26 @@ trimmed-ends (c ∷ []) none = at (is_lws_byte c) refl
 trimmed-ends (c ∷ d ∷ t) none =
     trimmed-ends (d ∷ t) (λ last. none (c ∷ last.0, last.1, tt, last.3, ap (λ z. c ∷ z) last.4))
 
--- a field, and what it says
+-- a field as it is kept is what a line says, whose number is n
 abbrev pub IsField : ℕ → Field → SaidField → Type 0
 IsField n f g =
     (f.name ≡ name_of g.spelled) × (g.name ≡ full_name (folded g.spelled)) × (g.line ≡ n) × (g.value ≡ f.value)
 
+-- fields as they are kept are what lines say, which are numbered from n
 abbrev pub AreFields : ℕ → List Field → List SaidField → Type 0
 AreFields n [] [] = ⊤
 AreFields n (f ∷ fs) (g ∷ gs) = IsField n f g × AreFields (n + 1) fs gs
 AreFields n [] (g ∷ gs) = ⊥
 AreFields n (f ∷ fs) [] = ⊥
 
--- a name and what follows its colon
+-- the line is a token, SP and HTAB, a colon, and what follows it, by the definitions
 abbrev SaidName : List ℕ → List ℕ × List ℕ → Type 0
 SaidName line y = ((λ t. Token t × (y.0 ≡ t)) then (Many (One (λ byte. byte == 0x20 || byte == 0x09)) then (Byte 58 then Exactly y.1))) line
 
 abbrev IsSame : FieldName × List ℕ → List ℕ × List ℕ → Type 0
 IsSame x y = (x.0 ≡ name_of y.0) × (x.1 ≡ y.1)
 
+-- the demand for a name and a colon is the same by the readers and by the definitions
 same-named : (n : ℕ) (line : List ℕ) → Same IsSame (Demand (HasName line) (fault_in_line n reason.FieldLine)) (Demand (SaidName line) (fault_in_line n reason.FieldLine))
 same-named n line = same-demand IsSame (HasName line) (SaidName line) (fault_in_line n reason.FieldLine) to back
   where
@@ -101,10 +106,11 @@ same-named n line = same-demand IsSame (HasName line) (SaidName line) (fault_in_
     back y (u, v, (token, same), rest, whole) =
         ((name_of y.0, y.1), record { spelled = y.0; is_token = subst Token (sym same) token; name_is = refl; whole = (u, v, sym same, rest, whole) }, (refl, refl))
 
--- a value
+-- the value of a line by the definitions: without blanks at its ends, and of the row of the name
 abbrev SaidValue : List ℕ × List ℕ → List ℕ → Type 0
 SaidValue y value = (IsTrimmed value × (Sws then Exactly value then Sws) y.1) × RowSays (full_name (folded y.0)) value
 
+-- the demand for a value is the same by the readers and by the definitions
 same-value : (n : ℕ) (x : FieldName × List ℕ) (y : List ℕ × List ℕ) → IsSame x y → Same Equal (Demand (IsValue x) (fault_in_line n reason.Value)) (Demand (SaidValue y) (fault_in_line n reason.Value))
 same-value n x y same = same-demand Equal (IsValue x) (SaidValue y) (fault_in_line n reason.Value) to back
   where
@@ -116,12 +122,14 @@ same-value n x y same = same-demand Equal (IsValue x) (SaidValue y) (fault_in_li
     back w (((first, last), whole), row) =
         (w, (record { opens = trimmed-opens w first; ends = trimmed-ends w last; whole = subst (Sws then Exactly w then Sws) (sym same.1) whole }, subst (λ n. Row n w) (sym same.0) ((row-said y.0 w).1 row)), refl)
 
+-- the reading of a field line is the same by the readers and by the definitions
 same-field : (n : ℕ) (line : List ℕ) → Same (IsField n) (FieldOf n line) (FieldSays n line)
 same-field n line =
     same-then IsSame (IsField n) _ _ (same-named n line) (λ x y same.
     same-then Equal (IsField n) _ _ (same-value n x y same) (λ v w v_is.
     same-gives (IsField n) _ _ (same.0, refl, refl, sym v_is)))
 
+-- the reading of field lines is the same by the readers and by the definitions
 same-fields : (n : ℕ) (lines : List (List ℕ)) → Same (AreFields n) (FieldsOf n lines) (FieldsSay n lines)
 same-fields n [] = same-gives (AreFields n) [] [] tt
 same-fields n (line ∷ lines) =
@@ -129,7 +137,7 @@ same-fields n (line ∷ lines) =
     same-then (AreFields (n + 1)) (AreFields n) _ _ (same-fields (n + 1) lines) (λ fs gs more.
     same-gives (AreFields n) _ _ (one, more)))
 
--- the fields of a name
+-- the fields of a name, with the numbers of their lines, are the same as they are kept and as they are said
 pub all-found : (k : Known) (key : String) → ((token : List ℕ) → is_name_of k (name_of token) ≡ bytes_eq (full_name (folded token)) (codes key)) → (n : ℕ) (fs : List Field) (gs : List SaidField) → AreFields n fs gs → found_from n k fs ≡ all key gs
 all-found k key same n [] [] are = refl
 all-found k key same n [] (g ∷ gs) are = absurd are
@@ -147,11 +155,12 @@ all-found k key same n (f ∷ fs) (g ∷ gs) ((f_is, g_is, line_is, value_is), a
     at true false b_is later = absurd (both_ways true b_is refl)
     at false true b_is later = absurd (both_ways true (sym b_is) refl)
 
--- the names, by their fields
+-- the demands on the fields of the six names, by the fields of each
 abbrev NamesIn : (v f t i c l : List (ℕ × List ℕ)) → Outcome ((ℕ × List ℕ) × (ℕ × List ℕ)) → Type 0
 NamesIn v f t i c l =
     Then (FirstOf v) (λ via. Then (OneOf f) (λ _. Then (OneOf t) (λ _. Then (OneOf i) (λ _. Then (OneOf c) (λ cseq. Then (NoSecond l) (λ _. Gives (via, cseq)))))))
 
+-- the demands on the named fields are the same by the readers and by the definitions
 same-names : (fs : List Field) (gs : List SaidField) → AreFields 1 fs gs → Same Equal (NamesOf fs) (NamesSay gs)
 same-names fs gs are =
     let v = all-found known_name.Via "via" named-via 1 fs gs are in
@@ -168,7 +177,7 @@ same-names fs gs are =
     (subst (λ x. Same Equal (NamesOf fs) (NamesIn (found known_name.Via fs) (found known_name.From fs) (found known_name.To fs) (found known_name.CallId fs) (found known_name.CSeq fs) x)) l
     (same-self (NamesOf fs)))))))
 
--- a transport that is a stream
+-- a transport that is a stream is TCP or TLS, in any case of its letters
 stream-kind : (t : List ℕ) → is_stream t ≡ true → (AnyCase "tcp" or AnyCase "tls") t
 stream-kind t is = elim (or_cases (bytes_eq (folded t) (codes "tcp")) (bytes_eq (folded t) (codes "tls")) is) [
   | inl tcp ↦ inl ((bytes_eq-Decides (folded t) (codes "tcp")).0 tcp)
@@ -179,11 +188,13 @@ kind-stream : (t : List ℕ) → (AnyCase "tcp" or AnyCase "tls") t → is_strea
 kind-stream t (inl tcp) = or_left (bytes_eq (folded t) (codes "tcp")) (bytes_eq (folded t) (codes "tls")) ((bytes_eq-Decides (folded t) (codes "tcp")).1 tcp)
 kind-stream t (inr tls) = or_right (bytes_eq (folded t) (codes "tcp")) (bytes_eq (folded t) (codes "tls")) ((bytes_eq-Decides (folded t) (codes "tls")).1 tls)
 
+-- where the top Via's transport is a stream by the readers, it is one by the definitions
 stream-said : (via : List ℕ) → IsStream via → StreamSays via
 stream-said via (transport, (v, vias, text, transport_is), stream) =
     let row = via-elements via v vias text in
     (said_via (row.0, v), map said_via row.1, vias-said ((row.0, v) ∷ row.1) via row.2, stream-kind v.transport (subst (λ t. is_stream t ≡ true) transport_is stream))
 
+-- where the top Via's transport is a stream by the definitions, it is one by the readers
 said-stream : (via : List ℕ) → StreamSays via → IsStream via
 said-stream via (s, more, said, kind) = let es = said-vias (s ∷ more) via said in at es.0 es.1 es.2
   where
@@ -194,7 +205,7 @@ said-stream via (s, more, said, kind) = let es = said-vias (s ∷ more) via said
         let row = elements-first via e es text in
         (e.1.transport, (e.1, row.0, row.1, refl), kind-stream e.1.transport (subst (AnyCase "tcp" or AnyCase "tls") (ap (λ x. x.transport) first) kind))
 
--- the method
+-- where the method of CSeq fits the start line by the readers, it fits by the definitions
 method-said : (start : StartLine) (cseq : List ℕ) → MethodFits start cseq → MethodSays start cseq
 method-said (request m u) cseq (n, text) = (n, cseq-said cseq n m text)
 method-said (status code why) cseq any = tt
@@ -203,7 +214,7 @@ said-method : (start : StartLine) (cseq : List ℕ) → MethodSays start cseq �
 said-method (request m u) cseq (n, says) = (n, said-cseq cseq n m says)
 said-method (status code why) cseq any = tt
 
--- the method and the body
+-- the demands on the method and the body are the same by the readers and by the definitions
 same-body : (start : StartLine) (cseq : ℕ × List ℕ) (via : List ℕ) (len : Option ℕ) (rest : List ℕ) → Same Equal (BodyOf start cseq via len rest) (BodySays start cseq via len rest)
 same-body start cseq via len rest =
     same-next Equal _ _ (same-holds (MethodFits start cseq.1) (MethodSays start cseq.1) _ (method-said start cseq.1) (said-method start cseq.1)) (λ _.
@@ -212,10 +223,11 @@ same-body start cseq via len rest =
     same-next Equal _ _ (same-holds (IsNoMore via len rest) (StreamSays via → IfSome len (λ n. length rest ≤ n)) _ (λ few stream. few (said-stream via stream)) (λ few stream. few (stream-said via stream))) (λ _.
     same-gives Equal (cut_body len rest) (cut_body len rest) refl))))
 
--- a message as it is read, and its start line, fields and body as they are said
+-- a message as it is kept, and its start line, fields and body as they are told, are the same
 abbrev pub IsTold : Message → StartLine × List SaidField × List ℕ → Type 0
 IsTold m told = (m.start ≡ told.0) × AreFields 1 m.fields told.1 × (m.body ≡ told.2)
 
+-- what the lines of a head are read as is what they tell
 same-told : (rest first : List ℕ) (others : List (List ℕ)) → Same IsTold (LinesOf rest first others) (LinesTell rest first others)
 same-told rest first others =
     same-next IsTold _ _ (same-demand Equal (StartText first) (StartSays first) (fault_in_line 0 reason.StartLine) (λ s text. (s, start-said first s text, refl)) (λ s says. (s, said-start first s says, refl))) (λ start.

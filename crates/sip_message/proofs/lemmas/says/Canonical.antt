@@ -26,17 +26,18 @@ use Rattle.sip_message.proofs.lemmas.start_line.OneWay.{status_parts}
 use Rattle.sip_message.proofs.lemmas.canon.Law.{canon-text, same_canon}
 use Rattle.sip_message.proofs.lemmas.says.Told.{text-tells, tells-text}
 
--- a name that has no compact form, and one that has
+-- where a name is written as a text, the choice of a known name or of it is written as the long form of the known one or as the text
 one : (b : Bool) (k : Known) (name : FieldName) {text : List ℕ} → name_text name ≡ text → name_text (cond b (known k) name) ≡ cond b (long_name k) text
 one true k name same = refl
 one false k name same = same
 
+-- a choice of a known name by one of two tests is written as the choice by both together
 two : (b c : Bool) (k : Known) (name : FieldName) {text : List ℕ} → name_text name ≡ text → name_text (cond b (known k) (cond c (known k) name)) ≡ cond (b || c) (long_name k) text
 two true c k name same = refl
 two false true k name same = refl
 two false false k name same = same
 
--- the names are written alike
+-- the name that a token spells is written as the definitions write it
 long-name : (token : List ℕ) → name_text (name_of token) ≡ form.long_name token
 long-name token =
     let has = λ (text : String). bytes_eq (folded token) (codes text) in
@@ -53,27 +54,27 @@ long-name token =
     (two (has "supported") (has "k") known_name.Supported _
     (one (has "route") known_name.Route _ refl)))))))))))
 
--- the canonical text of a field is the same, as it is read and as it is said
+-- the canonical text of fields as they are kept is that of the fields as they are told
 same-texts : (gs : List SaidField) → map field_text (map unfolded_field (map field_of gs)) ≡ map form.field_text gs
 same-texts [] = refl
 same-texts (g ∷ gs) = ap₂ (λ (t : List ℕ) (ts : List (List ℕ)). t ∷ ts) (ap (λ name. name ++ colon ∷ space ∷ unfolded g.value) (long-name g.spelled)) (same-texts gs)
 
--- the form of a message is that of what is told of it
+-- the canonical form of a message as it is kept is that of the message as it is told
 same-form : (m : Message) (gs : List SaidField) → m.fields ≡ map field_of gs → canon (message_of m) ≡ canonical (m.start, gs, m.body)
 same-form m gs are =
     ap (λ (texts : List (List ℕ)). flat_map with_end (start_text m.start ∷ texts) ++ (crlf ++ m.body))
     (ap (λ (fs : List Field). map field_text (map unfolded_field fs)) are ∙ same-texts gs)
 
--- the form of a message is that of all bytes that are read as it
+-- the canonical form of a message is that of all bytes that are read as the message
 pub reads-canonical : (r : Reading) → IsFormOf r (canon (message_of r.message))
 reads-canonical r bytes reads =
     ((r.message.start, reads.tells.0, r.message.body), reads.tells.1, same-form r.message reads.tells.0 reads.tells.2)
 
--- what is kept of a message that bytes tell
+-- the message that is kept of a start line, fields and a body that bytes tell
 abbrev kept : StartLine → List SaidField → List ℕ → Message
 kept start gs body = record { start = start; fields = map field_of gs; body = body }
 
--- a field by its name in full
+-- a field as its name in full and its value
 abbrev shown : Field → List ℕ × List ℕ
 shown f = (name_text f.name, f.value)
 
@@ -85,14 +86,14 @@ shown-in_full : (gs : List SaidField) → map shown (map unfolded_field (map fie
 shown-in_full [] = refl
 shown-in_full (g ∷ gs) = ap₂ (λ (name : List ℕ) (more : List (List ℕ × List ℕ)). (name, unfolded g.value) ∷ more) (long-name g.spelled) (shown-in_full gs)
 
--- the canonical form tells the message itself
+-- the canonical form of what bytes tell tells the same, each name in full and each value in one line
 pub canonical-tells : (bytes : List ℕ) (start : StartLine) (gs : List SaidField) (body : List ℕ) → BytesTell bytes (gives (start, gs, body)) → TellsInFull (start, gs, body) (canonical (start, gs, body))
 canonical-tells bytes start gs body tells =
     let m = kept start gs body in
     let again = text-tells (canon (message_of m)) (message_of m) (canon-text bytes m (tells-text bytes m (gs, tells, refl))) in
     (again.0, subst (λ t. BytesTell t (gives (start, again.0, body))) (same-form m gs refl) again.1, sym (shown-told again.0) ∙ ap (map shown) (sym again.2) ∙ shown-in_full gs)
 
--- a line of a field by its name in full
+-- the line of a field by its name in full: the name, ": " and the value
 abbrev line_of : List ℕ × List ℕ → List ℕ
 line_of f = f.0 ++ (codes ": " ++ f.1)
 
@@ -100,7 +101,7 @@ lines-in_full : (gs : List SaidField) → map form.field_text gs ≡ map line_of
 lines-in_full [] = refl
 lines-in_full (g ∷ gs) = ap (λ ts. form.field_text g ∷ ts) (lines-in_full gs)
 
--- messages have one canonical form exactly if they are the same with each name in full
+-- two messages that bytes tell have one canonical form exactly if they are the same with each name in full and each value in one line
 pub same-canonical : (a b : List ℕ) (x y : StartLine × List SaidField × List ℕ) → BytesTell a (gives x) → BytesTell b (gives y) → (canonical x ≡ canonical y) ↔ SameInFull x y
 same-canonical a b (s, gs, t) (r, hs, u) one other = (to, from)
   where

@@ -3,7 +3,7 @@ use Rattle.std.proofs.Common.{◌≡◌, ℕ, Bool, true, false, cond, ◌||◌,
 use Rattle.std.specs.Bool.{Decides}
 use Rattle.std.specs.Prelude.{bytes_eq, codes}
 use Rattle.std.specs.List.{AllByRecursion}
-use Rattle.std.proofs.lemmas.Bool.{both_ways}
+use Rattle.std.proofs.lemmas.Bool.{both_ways, cond-false}
 use Rattle.std.proofs.lemmas.Slice.Eq.{bytes_eq-Decides}
 use Rattle.sip_standard.specs.Case.{folded}
 use Rattle.sip_message.specs.declared.name.Known.{Known}
@@ -28,7 +28,7 @@ by-name P ((s, k) ∷ more) text each none =
     at true is later = subst (λ f. P f (known k)) (sym (is.0 refl)) each.0
     at false is later = later (λ same. both_ways false refl (is.1 same))
 
--- two texts that differ
+-- where two texts differ, the test of equal bytes fails
 miss : (f s : List ℕ) → (f ≡ s → ⊥) → bytes_eq f s ≡ false
 miss f s differs = at (bytes_eq f s) (bytes_eq-Decides f s)
   where
@@ -36,13 +36,10 @@ miss f s differs = at (bytes_eq f s) (bytes_eq-Decides f s)
     at true is = absurd (differs (is.0 refl))
     at false is = refl
 
-skip : {X : Type 0} (b : Bool) (x y : X) → b ≡ false → cond b x y ≡ y
-skip b x y is = ap (λ z. cond z x y) is
-
 neither : (a b : Bool) → a ≡ false → b ≡ false → (a || b) ≡ false
 neither a b a_is b_is = ap (λ z. z || b) a_is ∙ b_is
 
--- the one way or the other
+-- A gives B, and B gives A
 abbrev Ways : Type 0 → Type 0 → Type 0
 Ways A B = (A → B) × (B → A)
 
@@ -50,17 +47,17 @@ skips : (b : Bool) (X Y : Type 0) → b ≡ false → Ways (cond b X Y) Y
 skips true X Y is = absurd (both_ways true is refl)
 skips false X Y is = ((λ y. y), (λ y. y))
 
--- a text that is no spelling
+-- the text is no spelling of a known name
 abbrev IsForeign : List ℕ → Type 0
 IsForeign f = AllByRecursion (λ s. f ≡ s.0 → ⊥) spellings
 
--- is a name in full
+-- a text that is no spelling of a known name is a name in full
 foreign-name : (f : List ℕ) → IsForeign f → full_name f ≡ f
 foreign-name f (via, (v, (from, (f_, (to, (t, (call_id, (i, (cseq, (content_length, (l, (contact, (m, (content_encoding, (e, (content_type, (c, (subject, (s, (supported, (k, (route, end)))))))))))))))))))))) =
-    skip (bytes_eq f (codes "v")) _ _ (miss f _ v) ∙ skip (bytes_eq f (codes "f")) _ _ (miss f _ f_) ∙ skip (bytes_eq f (codes "t")) _ _ (miss f _ t)
-    ∙ skip (bytes_eq f (codes "i")) _ _ (miss f _ i) ∙ skip (bytes_eq f (codes "l")) _ _ (miss f _ l)
+    cond-false (bytes_eq f (codes "v")) _ _ (miss f _ v) ∙ cond-false (bytes_eq f (codes "f")) _ _ (miss f _ f_) ∙ cond-false (bytes_eq f (codes "t")) _ _ (miss f _ t)
+    ∙ cond-false (bytes_eq f (codes "i")) _ _ (miss f _ i) ∙ cond-false (bytes_eq f (codes "l")) _ _ (miss f _ l)
 
--- the value of a field with a foreign name is not looked into
+-- a value is one of a foreign name's row exactly if the definitions let a field of that name have it
 foreign-row : (f v : List ℕ) → IsForeign f → Ways (Row (other f) v) (RowSays f v)
 foreign-row f value (via, (v, (from, (f_, (to, (t, (call_id, (i, (cseq, (content_length, (l, (contact, (m, (content_encoding, (e, (content_type, (c, (subject, (s, (supported, (k, (route, end)))))))))))))))))))))) =
     let one = skips (bytes_eq f (codes "via")) _ _ (miss f _ via) in
@@ -70,6 +67,7 @@ foreign-row f value (via, (v, (from, (f_, (to, (t, (call_id, (i, (cseq, (content
     let five = skips (bytes_eq f (codes "content-length")) _ _ (miss f _ content_length) in
     ((λ is. one.1 (two.1 (three.1 (four.1 (five.1 is))))), (λ is. five.0 (four.0 (three.0 (two.0 (one.0 is))))))
 
+-- a value is one of Via's row exactly if it says elements of Via by the definitions
 via-row : (v : List ℕ) → Ways (Row (known known_name.Via) v) ((vias : List SaidVia) × ViasSay vias v)
 via-row v = (
   (λ row. let es = via-elements v row.0 row.1 row.2 in (map said_via ((es.0, row.0) ∷ es.1), vias-said ((es.0, row.0) ∷ es.1) v es.2)),
@@ -79,6 +77,7 @@ via-row v = (
 address-row : (v : List ℕ) → Ways (Row (known known_name.From) v) (Address v)
 address-row v = ((λ row. address-said v row.0 row.1), said-address v)
 
+-- a value is one of CSeq's row exactly if it says a number and a method by the definitions
 cseq-row : (v : List ℕ) → Ways (Row (known known_name.CSeq) v) ((said : ℕ × List ℕ) × CSeqSays said v)
 cseq-row v = ((λ row. ((row.0, row.1), cseq-said v row.0 row.1 row.2)), at)
   where
@@ -88,14 +87,14 @@ cseq-row v = ((λ row. ((row.0, row.1), cseq-said v row.0 row.1 row.2)), at)
 same-row : (X : Type 0) → Ways X X
 same-row X = ((λ is. is), (λ is. is))
 
--- the rows are the same
+-- a value is one of the row of the name that a token spells exactly if the definitions let a field of that name have it
 pub row-said : (token v : List ℕ) → Ways (Row (name_of token) v) (RowSays (full_name (folded token)) v)
 row-said token v =
     by-name (λ f name. Ways (Row name v) (RowSays (full_name f) v)) spellings token
     (via-row v, (via-row v, (address-row v, (address-row v, (address-row v, (address-row v, (same-row _, (same-row _, (cseq-row v, (same-row _, (same-row _, (same-row _, (same-row _, (same-row _, (same-row _, (same-row _, (same-row _, (same-row _, (same-row _, (same-row _, (same-row _, (same-row _, tt))))))))))))))))))))))
     (λ foreign. let row = foreign-row (folded token) v foreign in subst (λ f. Ways (Row (other token) v) (RowSays f v)) (sym (foreign-name (folded token) foreign)) row)
 
--- a name is the one that is asked for exactly if its full form has these bytes
+-- the name that a token spells is the known name k exactly if its full form has the bytes `key`
 named : (k : Known) (key : List ℕ) → AllByRecursion (λ s. is_name_of k (known (s.1)) ≡ bytes_eq (full_name (s.0)) key) spellings → ((f : List ℕ) → IsForeign f → f ≡ key → ⊥)
     → (token : List ℕ) → is_name_of k (name_of token) ≡ bytes_eq (full_name (folded token)) key
 named k key each differs token =

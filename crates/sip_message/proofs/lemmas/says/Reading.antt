@@ -36,7 +36,7 @@ use Rattle.sip_message.proofs.lemmas.says.Names.{named-via, named-from, named-to
 use Rattle.sip_message.proofs.lemmas.says.Bytes.{AreFields, IsTold, all-found, same-read}
 use Rattle.sip_message.proofs.lemmas.says.Told.{text-tells, tells-text}
 
--- the values of a name are those that are said
+-- the values of a name in fields as they are kept are its values in the fields as they are said
 values-said : (k : Known) (key : String) → ((token : List ℕ) → is_name_of k (name_of token) ≡ bytes_eq (full_name (folded token)) (codes key)) → (fs : List Field) (gs : List SaidField) → AreFields 1 fs gs → values k fs ≡ said_values key gs
 values-said k key same fs gs are = found-values 1 k fs ∙ ap (map (λ found. found.1)) (all-found k key same 1 fs gs are)
 
@@ -46,7 +46,7 @@ one-first vs a b (more, first) (later, other) = let same : a ∷ more ≡ b ∷ 
 whole-of : (a : List ℕ × AddressParts) (text : List ℕ) → AddressValue text a → text ≡ a.0
 whole-of (whole, a) text (address, same) = sym same
 
--- the parts of fields are what they say
+-- the parts that fields as they are kept have are what the fields as they are said tell
 parts-tell : (m : Message) (start : StartLine) (gs : List SaidField) (body : List ℕ) (p : Parts) → IsTold m (start, gs, body) → HasParts m.fields p → FieldsTell start gs (said_of (record { message = m; parts = p }))
 parts-tell m start gs body p (start_is, are, body_is) parts =
     let via = values-said known_name.Via "via" named-via m.fields gs are in
@@ -65,7 +65,7 @@ parts-tell m start gs body p (start_is, are, body_is) parts =
       route_is = ap (join_with_byte comma) route;
     }
 
--- what fields say are the parts that they have
+-- what the fields as they are said tell is what fields as they are kept have as their parts, once these are theirs
 tell-parts : (m : Message) (start : StartLine) (gs : List SaidField) (body : List ℕ) (p : Parts) (s : Said) → IsTold m (start, gs, body) → HasParts m.fields p → FieldsTell start gs s
     → (q : Parts) × HasParts m.fields q × (s ≡ said_of (record { message = m; parts = q }))
 tell-parts m start gs body p s (start_is, are, body_is) parts tells = at es.0 es.1 es.2
@@ -96,7 +96,7 @@ tell-parts m start gs body p s (start_is, are, body_is) parts tells = at es.0 es
           (λ i. record { start = start_same i; via = via i; others = others i; from = from i; to = to i; call_id = s.call_id; cseq = s.cseq; route = route i }),
         )
 
--- bytes say what the message that they are says
+-- where bytes are the text of a message, they say what the message says
 pub text-says : (bytes : List ℕ) (r : Reading) → MessageText bytes r.message → HasParts r.message.fields r.parts → Says bytes (gives (said_of r))
 text-says bytes r text parts = let told = (same-read bytes).to (gives r.message) (text-read bytes r.message text) in at told.0 told.1 told.2
   where
@@ -104,11 +104,11 @@ text-says bytes r text parts = let told = (same-read bytes).to (gives r.message)
     at (gives y) tells is_told = passes y tells (said_of r, parts-tell r.message y.0 y.1 y.2 r.parts is_told parts, refl)
     at (stops f) tells is_told = absurd is_told
 
--- bytes that spell a message are read as it
+-- where bytes are the text of a message, and its parts are the only ones, the bytes are read as it
 pub text-reads : (bytes : List ℕ) (r : Reading) → MessageText bytes r.message → IsOnly (HasParts r.message.fields) r.parts → Reads bytes r
 text-reads bytes r text parts = record { says = text-says bytes r text parts.is; tells = text-tells bytes r.message text; parts = parts }
 
--- what is kept of a message is read from some bytes
+-- what is kept of a message is read of some bytes
 pub keeps-reads : {m : Message} {p : Parts} {v f t i c : List ℕ} → Keeps m p v f t i c → (bytes : List ℕ) × Reads bytes (record { message = m; parts = p })
 keeps-reads {m = m} {p = p} k = (k.spelled.0, text-reads k.spelled.0 (record { message = m; parts = p }) k.spelled.1 k.parts)
 
@@ -128,7 +128,7 @@ says-reads bytes s (passes y tells (t, fields, is)) = let read = (same-read byte
           q.2,
         )
 
--- the first fault with which bytes are not read is the one that they say
+-- the fault with which the reading of bytes stops is the one that they say
 pub fault-says : (bytes : List ℕ) (f : Fault) → ReadOf bytes (stops f) → Says bytes (stops f)
 fault-says bytes f read = let told = (same-read bytes).to (stops f) read in at told.0 told.1 told.2
   where
@@ -136,6 +136,7 @@ fault-says bytes f read = let told = (same-read bytes).to (stops f) read in at t
     at (gives y) tells is_told = absurd is_told
     at (stops g) tells same = stopped g tells (ap (λ z. stops z) same)
 
+-- the fault that bytes say is the one with which their reading stops
 pub says-fault : (bytes : List ℕ) (f : Fault) → Says bytes (stops f) → ReadOf bytes (stops f)
 says-fault bytes f (passes y tells (t, fields, is)) = absurd (no_value (sym is))
 says-fault bytes f (stopped g tells is) = let read = (same-read bytes).back (stops g) tells in at read.0 read.1 read.2
@@ -164,6 +165,10 @@ says-one bytes (stops f) (gives s) one other =
 says-one bytes (stops f) (stops g) one other =
     ap (λ x. stops x) (fault_is (one-read bytes (stops f) (stops g) (says-fault bytes f one) (says-fault bytes g other)))
 
--- a message and a fault are not said of the same bytes
+-- bytes say one message
+pub said-one : (bytes : List ℕ) (s t : Said) → Says bytes (gives s) → Says bytes (gives t) → s ≡ t
+said-one bytes s t one other = given (says-one bytes (gives s) (gives t) one other)
+
+-- bytes that say a message say no fault
 pub says-no_fault : (bytes : List ℕ) (s : Said) (f : Fault) → Says bytes (gives s) → Says bytes (stops f) → ⊥
 says-no_fault bytes s f one other = no_value (says-one bytes (gives s) (stops f) one other)

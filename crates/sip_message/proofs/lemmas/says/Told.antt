@@ -1,4 +1,4 @@
--- Bytes tell a message exactly if they are one by the readers' definitions.
+-- Bytes tell a message by the definitions exactly if they are its text by the readers.
 use Rattle.std.proofs.Common.{◌≡◌, ℕ, ◌+◌, List, [], ◌∷◌, map, refl, sym, ap₂, ◌∙◌, subst}
 use Rattle.sip_standard.specs.Outcome.{Outcome, gives, stops}
 use Rattle.sip_standard.specs.StartLine.{StartLine}
@@ -12,7 +12,7 @@ use Rattle.sip_message.proofs.lemmas.message.Faults.{read-text, text-read}
 use Rattle.sip_message.proofs.lemmas.says.Alike.{Alike}
 use Rattle.sip_message.proofs.lemmas.says.Bytes.{AreFields, IsTold, same-read}
 
--- the fields that are kept are those that are told
+-- where fields as they are kept are what lines say, they are made of what the lines say
 fields-told : (n : ℕ) (fs : List Field) (gs : List SaidField) → AreFields n fs gs → fs ≡ map field_of gs
 fields-told n [] [] are = refl
 fields-told n [] (g ∷ gs) are = absurd are
@@ -21,6 +21,7 @@ fields-told n (f ∷ fs) (g ∷ gs) ((f_is, g_is, line_is, value_is), are) =
     let first : f ≡ field_of g = λ i. record { name = f_is i; value = sym value_is i } in
     ap₂ (λ (x : Field) (xs : List Field). x ∷ xs) first (fields-told (n + 1) fs gs are)
 
+-- bytes that are the text of a message tell it
 pub text-tells : (bytes : List ℕ) (m : Message) → MessageText bytes m → TellMessage bytes m
 text-tells bytes m text = let told = (same-read bytes).to (gives m) (text-read bytes m text) in at told.0 told.1 told.2
   where
@@ -30,6 +31,7 @@ text-tells bytes m text = let told = (same-read bytes).to (gives m) (text-read b
         let same : ◌≡◌ {A = StartLine × List SaidField × List ℕ} (start, gs, body) (m.start, gs, m.body) = λ i. (sym start_is i, gs, sym body_is i) in
         (gs, subst (λ told. BytesTell bytes (gives told)) same tells, fields-told 1 m.fields gs are)
 
+-- bytes that tell a message are its text
 pub tells-text : (bytes : List ℕ) (m : Message) → TellMessage bytes m → MessageText bytes m
 tells-text bytes m (gs, tells, same) = let read = (same-read bytes).back (gives (m.start, gs, m.body)) tells in at read.0 read.1 read.2
   where

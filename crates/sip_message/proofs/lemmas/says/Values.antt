@@ -1,4 +1,4 @@
--- What start lines, addresses and CSeq say, and their parts.
+-- What start lines, addresses and CSeq say by the definitions is what the readers read of them.
 use Rattle.std.proofs.Common.{ℕ, List, [], ◌∷◌, ◌++◌, Option, None, Some, IfSome, inl, inr, refl, sym, ap, ◌∙◌, subst}
 use Rattle.std.specs.Prelude.{⊤, not}
 use Rattle.std.specs.Str.Parse.{digits_value}
@@ -19,20 +19,21 @@ use Rattle.sip_message.specs.inner.Values.{Digits, CSeqText, CSeqValue}
 use Rattle.sip_standard.specs.Values.{Address, CSeqSays}
 use Rattle.sip_message.proofs.lemmas.params.Closed.{ParamSet, AllOk, TailSet, tail-set, set-tail}
 
--- start lines
+-- a start line of the readers is one of the definitions
 pub start-said : (line : List ℕ) (start : StartLine) → StartText line start → StartSays line start
 start-said line (request m u) (token, (parts, uri), (a, w1, a_is, (s1, w2, s1_is, (b, w3, b_is, (s2, v, s2_is, version, w3_is), w2_is), w1_is), whole)) =
     (a, w1, (subst Token (sym a_is) token, sym a_is), (s1, w2, s1_is, (b, w3, (subst profile.Uri (sym b_is) (parts-uri u parts uri), sym b_is), (s2, v, s2_is, version, w3_is), w2_is), w1_is), whole)
 start-said line (status code why) (bytes, (v, w1, version, (s1, w2, s1_is, (c, w3, c_is, (s2, r, s2_is, r_is, w3_is), w2_is), w1_is), whole)) =
     (v, w1, version, (s1, w2, s1_is, (c, w3, (c_is.digits, c_is.code_is, c_is.low, c_is.high), (s2, r, s2_is, (subst (Many (One is_reason_byte)) (sym r_is) bytes, sym r_is), w3_is), w2_is), w1_is), whole)
 
+-- a start line of the definitions is one of the readers
 pub said-start : (line : List ℕ) (start : StartLine) → StartSays line start → StartText line start
 said-start line (request m u) (a, w1, (token, m_is), (s1, w2, s1_is, (b, w3, (uri, u_is), (s2, v, s2_is, version, w3_is), w2_is), w1_is), whole) =
     (subst Token (sym m_is) token, uri-parts u (subst profile.Uri (sym u_is) uri), (a, w1, sym m_is, (s1, w2, s1_is, (b, w3, sym u_is, (s2, v, s2_is, version, w3_is), w2_is), w1_is), whole))
 said-start line (status code why) (v, w1, version, (s1, w2, s1_is, (c, w3, (digits, code_is, low, high), (s2, r, s2_is, (bytes, r_is), w3_is), w2_is), w1_is), whole) =
     (subst (Many (One is_reason_byte)) (sym r_is) bytes, (v, w1, version, (s1, w2, s1_is, (c, w3, record { digits = digits; code_is = code_is; low = low; high = high }, (s2, r, s2_is, sym r_is, w3_is), w2_is), w1_is), whole))
 
--- of a parameter nothing is asked
+-- each parameter may have each value
 abbrev Any : List ℕ → Option (List ℕ) → Type 0
 Any name value = ⊤
 
@@ -43,6 +44,7 @@ any-params (p ∷ ps) = (tt, any-params ps)
 abbrev Generic : List ℕ → Type 0
 Generic = Token then Optional (Mark equals then GenValue)
 
+-- a parameter of the readers is one of the definitions
 generic-param : (x : List ℕ) → ParamSet Any x → Generic x
 generic-param x (n, None, ok, (token, x_is)) = (x, [], subst Token (sym x_is) token, inl refl, sym (append-nil x))
 generic-param x (n, Some v, ok, (token, kind, (a, b, a_is, (c, d, mark, d_is, b_is), whole))) =
@@ -55,18 +57,20 @@ param-generic x (a, r, token, inr (c, d, mark, kind, r_is), whole) = (a, Some d,
 abbrev Params : List ℕ → Type 0
 Params = Many (profile.Mark ";" then Generic)
 
+-- optional blanks and parameters are parameters of the definitions
 params-of : (text : List ℕ) → TailSet Any text → Params text
 params-of text tail =
     many-map (profile.Mark ";" then ParamSet Any) (profile.Mark ";" then Generic) text
     (λ u piece. (piece.0, piece.1, piece.2, generic-param piece.1 piece.3, piece.4)) (tail-set Any text tail)
 
+-- parameters of the definitions are optional blanks and parameters
 of-params : (text : List ℕ) → Params text → TailSet Any text
 of-params text params =
     set-tail Any text
     (many-map (profile.Mark ";" then Generic) (profile.Mark ";" then ParamSet Any) text
     (λ u piece. (piece.0, piece.1, piece.2, param-generic piece.1 piece.3, piece.4)) params)
 
--- what stands before the URI
+-- the text before the URI of a name-addr: an optional display name and "<"
 abbrev Before : List ℕ → Type 0
 Before = Byte left_angle or (DisplayName then Sws then Byte left_angle)
 
@@ -81,7 +85,7 @@ uri-before text (inr (x, y, fits, rest, whole)) = (Some x, fits, (x, y, refl, re
 abbrev Bare : List ℕ → Type 0
 Bare = Many (One (λ byte. not (is_among ",?;" byte)))
 
--- addresses
+-- an address of the readers is one of the definitions
 pub address-said : (text : List ℕ) (a : AddressParts) → AddressText text a → Address text
 address-said text a (name_addr fits (b, w1, before, (u, w2, u_is, (g, t, angle, tail, w2_is), w1_is), whole)) =
     inl (
@@ -100,6 +104,7 @@ address-said text a (addr_spec fits none bare (u, t, u_is, tail, whole)) =
       whole,
     )
 
+-- an address of the definitions is one of the readers, with its parts
 pub said-address : (text : List ℕ) → Address text → (a : AddressParts) × AddressText text a
 said-address text (inl (b, w1, before, (u, w2, uri, (g, t, angle, params, w2_is), w1_is), whole)) =
     let tail = of-params t params in
@@ -115,7 +120,7 @@ said-address text (inr (u, t, (uri, bare), params, whole)) =
       addr_spec (record { display = tt; uri = parts.1; params = (tail.1, tail.2) }) refl bare (u, t, refl, tail.4, whole),
     )
 
--- CSeq
+-- a CSeq of the readers says its number and its method by the definitions
 pub cseq-said : (text : List ℕ) (n : ℕ) (m : List ℕ) → CSeqText text n m → CSeqSays (n, m) text
 cseq-said text n m c = at c.whole
   where
@@ -123,6 +128,7 @@ cseq-said text n m c = at c.whole
     at (d, w, d_is, (s, word, blanks, m_is, w_is), whole) =
         (c.low, (d, w, (subst Digits (sym d_is) c.are_digits, c.number_is ∙ ap (digits_value 10) (sym d_is)), (s, word, blanks, (subst Token (sym m_is) c.is_method, sym m_is), w_is), whole))
 
+-- a number and a method that a CSeq says by the definitions are those that the readers read
 pub said-cseq : (text : List ℕ) (n : ℕ) (m : List ℕ) → CSeqSays (n, m) text → CSeqText text n m
 said-cseq text n m (low, (d, w, (digits, n_is), (s, word, blanks, (token, m_is), w_is), whole)) = record {
   digits = d;

@@ -1,4 +1,4 @@
--- What the values of Via say, and their parts.
+-- What the values of Via say by the definitions is what the readers read of them.
 use Rattle.std.proofs.Common.{◌≡◌, ℕ, List, [], ◌∷◌, ◌++◌, length, map, Option, None, Some, IfSome, inl, inr, refl, sym, ap, ◌∙◌, subst, arith}
 use Rattle.std.specs.Prelude.{codes}
 use Rattle.std.proofs.lemmas.Bool.{both_ways}
@@ -27,12 +27,12 @@ use Rattle.sip_message.proofs.lemmas.asked.Parts.{more-elements}
 abbrev Params : Type 0
 Params = List (List ℕ × Option (List ℕ))
 
--- blanks before what begins solid are none
+-- blanks before a text, where both together begin with no blank, are none
 no-blanks : (u v : List ℕ) → All is_lws_byte u → OpensSolid (u ++ v) → u ≡ []
 no-blanks [] v all opens = refl
 no-blanks (b ∷ u) v all opens = absurd (both_ways (is_lws_byte b) opens all.0)
 
--- the blanks before the parameters are those of the first mark
+-- parameters with blanks before them are parameters: the blanks are those of the first mark
 tail-params : (text part : List ℕ) (ps : Params) → ParamsPart part ps → BehindBlanks part text → ParamsText text ps
 tail-params text [] ps part behind = subst (λ t. ParamsText t ps) (sym behind) part.1
 tail-params text (b ∷ rest) [] part behind = absurd (omega (arith, ap length part.1))
@@ -45,6 +45,7 @@ tail-params text (b ∷ rest) (p ∷ ps) (opens, (m, t, (blanks, c, is_blanks, m
     none : blanks ≡ []
     none = no-blanks blanks (c ++ t) (each-sws blanks is_blanks) (subst OpensSolid flat opens)
 
+-- parameters are blanks, and parameters that begin with no blank
 params-tail : (text : List ℕ) (ps : Params) → ParamsText text ps → (part : List ℕ) × ParamsPart part ps × BehindBlanks part text
 params-tail text [] none = ([], (tt, refl), none)
 params-tail text (p ∷ ps) (m, x, (sws, c, is_sws, (byte, after, is_byte, is_after, c_is), m_is), others, whole) =
@@ -55,7 +56,7 @@ params-tail text (p ∷ ps) (m, x, (sws, c, is_sws, (byte, after, is_byte, is_af
       (sws, part, is_sws, refl, whole ∙ ap (λ t. t ++ x) (m_is ∙ ap (λ t. sws ++ t) c_whole) ∙ append_assoc sws (semicolon ∷ after) x),
     )
 
--- a branch
+-- a parameter named branch whose value is a token says that branch
 branch-said : (x n v : List ℕ) → SameText n (codes "branch") → Token v → ParamText x (n, Some v) → ParamSays (Some v) x
 branch-said x n v same token (named, kind, (a, b, a_is, (c, d, mark, d_is, b_is), whole)) =
     (a, b, (subst Token (sym a_is) named, ap folded a_is ∙ same), (c, d, mark, (subst Token (sym d_is) token, sym d_is), b_is), whole)
@@ -64,7 +65,7 @@ said-branch : (x b : List ℕ) → ParamSays (Some b) x → (n : List ℕ) × (v
 said-branch x b (a, r, (token, any), (c, d, mark, (word, b_is), r_is), whole) =
     (a, d, any, word, (token, inl word, (a, r, refl, (c, d, mark, refl, r_is), whole)), b_is)
 
--- another parameter
+-- a parameter of another name says no branch
 other-said : (x n : List ℕ) (value : Option (List ℕ)) → ¬ (SameText n (codes "branch")) → ParamText x (n, value) → ParamSays None x
 other-said x n None differs (named, x_is) =
     (x, [], (subst Token (sym x_is) named, (λ same. differs (ap folded (sym x_is) ∙ same))), inl refl, sym (append-nil x))
@@ -78,7 +79,7 @@ said-other x (a, r, (token, none), inr (c, d, mark, kind, r_is), whole) = (a, So
 abbrev SaidParams : List (Option (List ℕ)) → List ℕ → Type 0
 SaidParams = EachSays (λ param. profile.Mark ";" then ParamSays param)
 
--- parameters, with the branch
+-- parameters of which a branch counts say it: it is the first that one of them says
 params-said : (ps : Params) (branch : Option (List ℕ)) (text : List ℕ) → ParamsText text ps → IsBranch ps branch → (os : List (Option (List ℕ))) × SaidParams os text × (branch ≡ first_some os)
 params-said [] branch text none branch_is = ([], none, branch_is)
 params-said ((n, value) ∷ ps) branch text (m, t, mark, (x, y, param, more, t_is), whole) (inl (same, v, token, value_is, branch_is, later, others)) =
@@ -94,6 +95,7 @@ params-said ((n, value) ∷ ps) branch text (m, t, mark, (x, y, param, more, t_i
       rest.2,
     )
 
+-- parameters that say branches are parameters of a Via, and the first branch that one of them says counts
 said-params : (os : List (Option (List ℕ))) (text : List ℕ) → SaidParams os text → (ps : Params) × ParamsText text ps × IsBranch ps (first_some os)
 said-params [] text none = ([], none, refl)
 said-params (Some b ∷ os) text (u, y, (m, x, mark, said, u_is), more, whole) =
@@ -111,7 +113,7 @@ said-params (None ∷ os) text (u, y, (m, x, mark, said, u_is), more, whole) =
       inr (one.2, rest.2),
     )
 
--- a port
+-- an optional port with its colon says the port
 port-said : (port : Option (List ℕ)) (text : List ℕ) → IfSome port Port → ColonPort port text → PortSays port text
 port-said None text fits none = none
 port-said (Some p) text fits (m, t, mark, t_is, whole) = (m, t, mark, (subst Port (sym t_is) fits, sym t_is), whole)
@@ -120,7 +122,7 @@ said-port : (port : Option (List ℕ)) (text : List ℕ) → PortSays port text 
 said-port None text none = (tt, none)
 said-port (Some p) text (m, t, mark, (fits, p_is), whole) = (subst Port (sym p_is) fits, (m, t, mark, sym p_is, whole))
 
--- an element
+-- an element of Via of the readers says its parts by the definitions
 via-said : (text : List ℕ) (v : ViaParts) → ViaText text v → ViaSays (said_via (text, v)) text
 via-said text v (fits, (a, w1, a_is, (s, w2, slash1, (b, w3, b_is, (r, w4, slash2, (c, w5, c_is, (sp, w6, blanks, (h, w7, h_is, (p, q, port, params, w7_is), w6_is), w5_is), w4_is), w3_is), w2_is), w1_is), whole)) =
     let ps = params-said fits.params.0 v.branch q (tail-params q v.params fits.params.0 fits.params.1 params) fits.params.2 in
@@ -139,6 +141,7 @@ via-said text v (fits, (a, w1, a_is, (s, w2, slash1, (b, w3, b_is, (r, w4, slash
       ),
     )
 
+-- an element of Via that the definitions say is one of the readers, with the same parts
 said-via : (text : List ℕ) (via : SaidVia) → ViaSays via text → (v : ViaParts) × ViaText text v × (via ≡ said_via (text, v))
 said-via text via (os, branch_is, whole_is, (a, w1, a_is, (s, w2, slash1, (b, w3, b_is, (r, w4, slash2, (c, w5, (c_is, t_is), (sp, w6, blanks, (h, w7, (host, h_is), (p, q, port, params, w7_is), w6_is), w5_is), w4_is), w3_is), w2_is), w1_is), whole)) =
     let tail = said-params os q params in
@@ -158,17 +161,19 @@ said-via text via (os, branch_is, whole_is, (a, w1, a_is, (s, w2, slash1, (b, w3
 abbrev SaidMore : List SaidVia → List ℕ → Type 0
 SaidMore = EachSays (λ v. profile.Mark "," then ViaSays v)
 
+-- further elements of Via of the readers are further ones of the definitions
 more-said : (es : List Element) (text : List ℕ) → MoreElements es text → SaidMore (map said_via es) text
 more-said [] text none = none
 more-said (e ∷ es) text (via, (m, w, mark, (x, y, x_is, more, w_is), whole)) =
     (m ++ x, y, (m, x, mark, subst (ViaSays (said_via e)) (sym x_is) (via-said e.0 e.1 via), refl), more-said es y more, whole ∙ ap (λ z. m ++ z) w_is ∙ sym (append_assoc m x y))
 
--- the elements of a value
+-- the elements of a value of Via are what the value says
 pub vias-said : (es : List Element) (text : List ℕ) → ElementsText text es → ViasSay (map said_via es) text
 vias-said [] text none = none
 vias-said (e ∷ es) text (via, (x, y, x_is, more, whole)) =
     (x, y, subst (ViaSays (said_via e)) (sym x_is) (via-said e.0 e.1 via), more-said es y more, whole)
 
+-- further elements that the definitions say are further elements of the readers
 said-more : (vias : List SaidVia) (text : List ℕ) → SaidMore vias text → (es : List Element) × MoreElements es text × (vias ≡ map said_via es)
 said-more [] text none = ([], none, refl)
 said-more (v ∷ vias) text (u, y, (m, x, mark, said, u_is), more, whole) =
@@ -179,6 +184,7 @@ said-more (v ∷ vias) text (u, y, (m, x, mark, said, u_is), more, whole) =
       ap (λ z. z ∷ vias) one.2 ∙ ap (λ z. said_via (x, one.0) ∷ z) rest.2,
     )
 
+-- the elements that a value of Via says are its elements
 pub said-vias : (vias : List SaidVia) (text : List ℕ) → ViasSay vias text → (es : List Element) × ElementsText text es × (vias ≡ map said_via es)
 said-vias [] text none = absurd none
 said-vias (v ∷ vias) text (x, y, said, more, whole) =
@@ -190,12 +196,13 @@ map-append : (es fs : List Element) → map said_via (es ++ fs) ≡ map said_via
 map-append [] fs = refl
 map-append (e ∷ es) fs = ap (λ z. said_via e ∷ z) (map-append es fs)
 
--- those of the values, one after another
+-- the elements of several values of Via are what the values tell, one after another
 pub are-said : (texts : List (List ℕ)) (es : List Element) → AreElements texts es → ViasTell texts (map said_via es)
 are-said [] es none = ap (map said_via) none
 are-said (text ∷ texts) es (now, more, one, are, whole) =
     (map said_via now, map said_via more, vias-said now text one, are-said texts more are, ap (map said_via) whole ∙ map-append now more)
 
+-- the elements that several values of Via tell are their elements
 pub said-are : (texts : List (List ℕ)) (vias : List SaidVia) → ViasTell texts vias → (es : List Element) × AreElements texts es × (vias ≡ map said_via es)
 said-are [] vias none = ([], refl, none)
 said-are (text ∷ texts) vias (now, more, one, are, whole) =
@@ -206,13 +213,14 @@ said-are (text ∷ texts) vias (now, more, one, are, whole) =
       whole ∙ ap (λ z. z ++ more) first.2 ∙ ap (λ z. map said_via first.0 ++ z) rest.2 ∙ sym (map-append first.0 rest.0),
     )
 
--- the elements of a value are those of its row
+-- further elements of Via with their texts are further elements by their parts
 more-vias : (es : List Element) (text : List ℕ) → MoreElements es text → (vias : List ViaParts) × MoreVias vias text
 more-vias [] text none = ([], none)
 more-vias (e ∷ es) text (via, (m, w, mark, (x, y, x_is, more, w_is), whole)) =
     let later = more-vias es y more in
     (e.1 ∷ later.0, (m, w, mark, (x, y, subst (λ t. ViaText t e.1) (sym x_is) via, later.1, w_is), whole))
 
+-- where a value has elements with their texts, it has them by their parts, and the first is the same
 pub elements-first : (text : List ℕ) (e : Element) (es : List Element) → ElementsText text (e ∷ es) → (vias : List ViaParts) × ViasText text e.1 vias
 elements-first text e es (via, (x, y, x_is, more, whole)) =
     let later = more-vias es y more in
@@ -222,7 +230,7 @@ pub elements-via : (text : List ℕ) (es : List Element) → ElementsText text e
 elements-via text [] none = absurd none
 elements-via text (e ∷ es) are = let row = elements-first text e es are in (e.1, row.0, row.1)
 
--- the Vias of a text are its elements
+-- a value of Via by the parts of its elements has elements with their texts, and the first has the same parts
 pub via-elements : (text : List ℕ) (v : ViaParts) (vias : List ViaParts) → ViasText text v vias → (x : List ℕ) × (es : List Element) × ElementsText text ((x, v) ∷ es)
 via-elements text v vias (x, y, via, more, whole) =
     let later = more-elements vias y more in

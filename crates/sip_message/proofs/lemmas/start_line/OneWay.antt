@@ -13,7 +13,7 @@ use Rattle.sip_message.specs.inner.StartLine.{Version, CodeText, StartText}
 use Rattle.sip_message.proofs.lemmas.text.Cuts.{same_front, same_by_front, same_by_end, All}
 use Rattle.sip_message.proofs.lemmas.field.OneWay.{each-token}
 
--- folding keeps the length
+-- a text in lower case is as long as the text
 pub length-folded : (text : List ℕ) → length (folded text) ≡ length text
 length-folded [] = refl
 length-folded (b ∷ text) = omega (arith, length-folded text)
@@ -22,17 +22,17 @@ length-folded (b ∷ text) = omega (arith, length-folded text)
 pub length-version : (text : List ℕ) → Version text → length text ≡ 7
 length-version text is = omega (arith, ap length is, length-folded text)
 
--- one byte n times
+-- digits that are pieces of one byte are as many as their bytes
 pub length-digits : (us : List (List ℕ)) → AllByRecursion (One is_ascii_digit) us → length (concat us) ≡ length us
 length-digits [] all = refl
 length-digits (u ∷ us) all = omega (arith, length-digits us all.1, ap length all.0.2, length-append u (concat us))
 
--- a status code has three
+-- a status code has three bytes
 pub length-code : (text : List ℕ) (code : ℕ) → CodeText text code → length text ≡ 3
 length-code text code is =
     omega (arith, is.digits.3, is.digits.4, ap length is.digits.2, length-digits is.digits.0 is.digits.1)
 
--- a request line, its parts one after the other
+-- the line is a method, a SP, a URI, a SP and a version
 pub record RequestParts (line method uri : List ℕ) : Type 0 where
   pub version : List ℕ
   pub is_version : Version version
@@ -46,7 +46,7 @@ request_parts line method uri (token, is_uri, (m, t, m_is, (s, t2, s_is, (u, t3,
   whole = line_is ∙ ap (λ x. x ++ t) m_is ∙ ap (λ x. method ++ x) (t_is ∙ ap (λ x. x ++ t2) s_is ∙ ap (λ x. space ∷ x) (t2_is ∙ ap (λ x. x ++ t3) u_is ∙ ap (λ x. uri ++ x) (t3_is ∙ ap (λ x. x ++ version) s2_is)));
 }
 
--- a status line, its parts one after the other
+-- the line is a version, a SP, a status code, a SP and a reason phrase
 pub record StatusParts (line : List ℕ) (code : ℕ) (reason : List ℕ) : Type 0 where
   pub version : List ℕ
   pub digits : List ℕ
@@ -64,7 +64,7 @@ status_parts line code reason (bytes, (version, t, is_version, (s, t2, s_is, (di
   whole = line_is ∙ ap (λ x. version ++ x) (t_is ∙ ap (λ x. x ++ t2) s_is ∙ ap (λ x. space ∷ x) (t2_is ∙ ap (λ x. digits ++ x) (t3_is ∙ ap (λ x. x ++ r) s2_is ∙ ap (λ x. space ∷ x) r_is)));
 }
 
--- only "/" folds to "/"
+-- a byte whose lower case is "/" is "/"
 slash_is : (b : ℕ) → to_ascii_lowercase b ≡ 47 → b ≡ 47
 slash_is b is = at (nat_lt b 65) (nat_lt b 91) refl refl
   where
@@ -76,7 +76,7 @@ slash_is b is = at (nat_lt b 65) (nat_lt b 91) refl refl
         let small : b ≡ 15 = omega (arith, sum) in
         absurd (both_ways (nat_lt b 65) low_is (ap (λ x. nat_lt x 65) small))
 
--- a token and a space are not SIP/2.0
+-- no text is a token and a SP and then more, and also a version and then more
 no_token : (x y m v : List ℕ) → All is_token_byte m → Version v → m ++ space ∷ x ≡ v ++ y → ⊥
 no_token x y m [] token version same = absurd (omega (arith, ap length version))
 no_token x y m (a ∷ []) token version same = absurd (omega (arith, ap length version))
@@ -93,7 +93,7 @@ no_token x y (k ∷ l ∷ m ∷ []) (a ∷ b ∷ c ∷ d ∷ v) token version sa
 no_token x y (k ∷ l ∷ m ∷ n ∷ more) (a ∷ b ∷ c ∷ d ∷ v) token version same =
     both_ways (is_token_byte n) (ap is_token_byte (ap (λ t. slice_index t 3) same ∙ slash_is d (ap (λ t. slice_index t 3) version))) token.1.1.1.0
 
--- no line is both
+-- no line is both a request line and a status line
 no_both : (line method uri reason : List ℕ) (code : ℕ) → StartText line (request method uri) → StartText line (status code reason) → ⊥
 no_both line method uri reason code one other =
     let r = request_parts line method uri one in

@@ -1,5 +1,5 @@
--- How a start line is read: a token and its SP from the front, the version from the end; or the version, the
--- code and the reason from the front.
+-- How a start line is read: of a request line a token and its SP from the front, and the version from the end; of a status line the
+-- version, the code and the reason from the front.
 use Rattle.std.proofs.Common.{◌≡◌, ℕ, ◌+◌, ◌≤◌, ◌<◌, Bool, true, false, nat_lt, cond, List, [], ◌∷◌, ◌++◌, length, take, drop, Some, None, refl, sym, ap, ◌∙◌, subst, arith}
 use Rattle.std.specs.Prelude.{codes}
 use Rattle.std.specs.List.{AllByRecursion, concat, list_all}
@@ -26,7 +26,7 @@ use Rattle.sip_message.proofs.lemmas.text.Cuts.{same_by_front, same_by_end}
 use Rattle.sip_message.proofs.lemmas.front.Cuts.{ReadAs, NotRead}
 use Rattle.sip_message.proofs.lemmas.start_line.OneWay.{length-version, length-digits, length-code, RequestParts, request_parts, status_parts, same_start}
 
--- a byte that folds to one below the letters is that byte
+-- a byte whose lower case is below the letters is that lower case itself
 kept_is : (b k : ℕ) → k < 65 → to_ascii_lowercase b ≡ k → b ≡ k
 kept_is b k small is = at (nat_lt b 65) (nat_lt b 91) refl refl
   where
@@ -37,24 +37,25 @@ kept_is b k small is = at (nat_lt b 65) (nat_lt b 91) refl refl
         let sum : b + 32 ≡ k = sym (ap (λ x. cond x b (cond (nat_lt b 91) (b + 32) b)) low_is ∙ ap (λ x. cond x (b + 32) b) high_is) ∙ is in
         absurd (omega (arith, sum, ltb-false b 65 low_is))
 
--- a request line, cut at its first token
+-- the rest after the first token of a request line is a SP, the URI, a SP and a version
 pub record RequestCut (token rest uri : List ℕ) : Type 0 where
   pub version : List ℕ
   pub is_version : Version version
   pub is_uri : (parts : UriParts) × UriText uri parts
   pub whole : rest ≡ space ∷ (uri ++ space ∷ version)
 
--- the first token is the method
+-- the method of a request line is the token that is read at its front
 token-first : (line method uri : List ℕ) (p : RequestParts line method uri) → Token method → TokenFront line (method, space ∷ (uri ++ space ∷ p.version))
 token-first line method uri p token = (token, refl, (method, space ∷ (uri ++ space ∷ p.version), refl, refl, p.whole))
 
+-- where a token is read at the front of a request line, it is the method, and the rest is the URI and the version
 request-cut : (line token rest method uri : List ℕ) → ReadAs (TokenFront line) (token, rest) → RequestLine line (method, uri) → (method ≡ token) × RequestCut token rest uri
 request-cut line token rest method uri read is =
     let p = request_parts line method uri is in
     let same = read.1 (method, space ∷ (uri ++ space ∷ p.version)) (token-first line method uri p is.0) in
     (ap (λ x. x.0) same, record { version = p.version; is_version = p.is_version; is_uri = is.1; whole = sym (ap (λ x. x.1) same) })
 
--- without a token there is no request line
+-- a line without a token at its front is no request line
 pub request-no_token : (line : List ℕ) → NotRead (TokenFront line) → NotRead (RequestLine line)
 request-no_token line none (method, uri) is =
     let p = request_parts line method uri is in none (method, space ∷ (uri ++ space ∷ p.version)) (token-first line method uri p is.0)
@@ -65,7 +66,7 @@ request-no_space line token rest read none (method, uri) is =
     let r = request-cut line token rest method uri read is in
     none-some (uri ++ space ∷ r.1.version) (sym none ∙ ap (past space) r.1.whole)
 
--- what is after the SP
+-- what follows the token and the SP of a request line is the URI, a SP and a version
 behind-space : (line token rest more method uri : List ℕ) → ReadAs (TokenFront line) (token, rest) → past space rest ≡ Some more → (is : RequestLine line (method, uri)) → (v : List ℕ) × Version v × (more ≡ uri ++ space ∷ v)
 behind-space line token rest more method uri read found is =
     let r = request-cut line token rest method uri read is in
@@ -79,7 +80,7 @@ request-short line token rest more read found short (method, uri) is =
     let b = behind-space line token rest more method uri read found is in
     absurd (omega (arith, short, ap length b.2, length-append uri (space ∷ b.0), length-version b.0 b.1))
 
--- the eight bytes at the end
+-- where a text is a URI, a SP and a version, its last eight bytes are the SP and the version, and those before them the URI
 at-end : (more uri v : List ℕ) (at : ℕ) → at + 8 ≡ length more → Version v → more ≡ uri ++ space ∷ v → (take at more ≡ uri) × (drop at more ≡ space ∷ v)
 at-end more uri v at len version is =
     same_by_end (take at more) (drop at more) uri (space ∷ v) (omega (arith, length-drop at more, len, length-version v version)) (take-append-drop at more ∙ is)
@@ -98,7 +99,7 @@ request-no_uri line token rest more at read found len none (method, uri) is =
     let e = at-end more uri b.0 at len b.1 b.2 in
     none is.1.0 (subst (λ t. UriText t is.1.0) (sym e.0) is.1.1)
 
--- a text that is SP and the version
+-- eight bytes that are " SIP/2.0" without case are a SP and a version
 space-version : (t : List ℕ) → SameText t (codes " SIP/2.0") → (v : List ℕ) × (t ≡ space ∷ v) × Version v
 space-version [] same = absurd (omega (arith, ap length same))
 space-version (b ∷ t) same =
@@ -107,7 +108,7 @@ space-version (b ∷ t) same =
     let tail : folded t ≡ folded (codes "SIP/2.0") = cc in
     (t, ap (λ x. x ∷ t) (kept_is b space (omega arith) head), tail)
 
--- with all of them there is one
+-- a line with a token, a SP, a URI, and a SP and the version at its end is read as a request line of that method and that URI
 pub request-read : (line token rest more : List ℕ) (at : ℕ) (parts : UriParts) → ReadAs (TokenFront line) (token, rest) → past space rest ≡ Some more → SameText (drop at more) (codes " SIP/2.0") → UriText (take at more) parts → ReadAs (RequestLine line) (token, take at more)
 request-read line token rest more at parts read found version uri = (is, only)
   where
@@ -152,37 +153,37 @@ code-digits d n is = at is.digits.0 is.digits.1 is.digits.2 is.digits.3
     at [] all whole three = absurd (omega (arith, three))
     at (u ∷ us) all whole three = (u, concat us, all.0, (us, all.1, refl), whole)
 
--- what a code at the front is
+-- a status code that is read at the front is the first three bytes, and a SP and the rest follow
 code-front : (text : List ℕ) (code : ℕ) (reason : List ℕ) → CodeFront text (code, reason) → CodeText (take 3 text) code × (drop 3 text ≡ space ∷ reason)
 code-front text code reason (d, t, is, (s, r, s_is, r_is, t_is), whole) =
     let flat : text ≡ d ++ space ∷ reason = whole ∙ ap (λ x. d ++ x) (t_is ∙ ap (λ x. x ++ r) s_is ∙ ap (λ x. space ∷ x) r_is) in
     let same = same_by_front (take 3 text) (drop 3 text) d (space ∷ reason) (omega (arith, length-code d code is, ap length flat, length-append d (space ∷ reason), length-take-le 3 text (omega (arith, length-code d code is, ap length flat, length-append d (space ∷ reason))))) (take-append-drop 3 text ∙ flat) in
     (subst (λ x. CodeText x code) (sym same.0) is, same.1)
 
--- without three bytes there is none
+-- a text of fewer than three bytes has no status code at its front
 pub code-short : (text : List ℕ) → length text < 3 → NotRead (CodeFront text)
 code-short text short (code, reason) is =
     let f = code-front text code reason is in absurd (omega (arith, short, length-code (take 3 text) code f.0, length-take 3 text))
 
--- without a SP after it no status code is read
+-- a text without a SP after its first three bytes has no status code at its front
 pub code-no_space : (text : List ℕ) → past space (drop 3 text) ≡ None → NotRead (CodeFront text)
 code-no_space text none (code, reason) is = none-some reason (sym none ∙ ap (past space) (code-front text code reason is).1)
 
--- without three digits no status code is read
+-- a text whose first three bytes are not all digits has no status code at its front
 pub code-no_digits : (text : List ℕ) → (Digits (take 3 text) → ⊥) → NotRead (CodeFront text)
 code-no_digits text none (code, reason) is = none (code-digits (take 3 text) code (code-front text code reason is).0)
 
--- a number above 699 is no status code
+-- where the first three digits write a number above 699, they are no status code
 pub code-high : (text : List ℕ) → Digits (take 3 text) → (Digits (take 3 text) → 699 < digits_value 10 (take 3 text)) → NotRead (CodeFront text)
 code-high text digits high (code, reason) is =
     let f = code-front text code reason is in absurd (omega (arith, high digits, f.0.high, f.0.code_is))
 
--- a number below 100 is no status code
+-- where the first three digits write a number below 100, they are no status code
 pub code-low : (text : List ℕ) (n : ℕ) → n ≡ digits_value 10 (take 3 text) → n < 100 → NotRead (CodeFront text)
 code-low text n value low (code, reason) is =
     let f = code-front text code reason is in absurd (omega (arith, value, low, f.0.low, f.0.code_is))
 
--- else there is one
+-- three digits that write a number from 100 to 699, with a SP after them, are read as that status code
 pub code-read : (text rest : List ℕ) (n : ℕ) → 3 ≤ length text → past space (drop 3 text) ≡ Some rest → Digits (take 3 text) → n ≡ digits_value 10 (take 3 text) → n ≤ 699 → 100 ≤ n → ReadAs (CodeFront text) (n, rest)
 code-read text rest n long found digits value high low = (is, only)
   where
@@ -203,7 +204,7 @@ code-read text rest n long found digits value high low = (is, only)
         let codes : code ≡ n = f.0.code_is ∙ sym value in
         cc
 
--- a text that is the version and SP
+-- eight bytes that are "SIP/2.0 " without case are a version and a SP
 version-space : (t : List ℕ) → SameText t (codes "SIP/2.0 ") → (v : List ℕ) × Version v × (t ≡ v ++ space ∷ [])
 version-space t same = (take 7 t, sym (take-map to_ascii_lowercase 7 t) ∙ ap (take 7) same, sym (take-append-drop 7 t) ∙ ap (λ x. take 7 t ++ x) (last (drop 7 t) (sym (drop-map to_ascii_lowercase 7 t) ∙ ap (drop 7) same)))
   where
@@ -214,7 +215,7 @@ version-space t same = (take 7 t, sym (take-map to_ascii_lowercase 7 t) ∙ ap (
         let head : to_ascii_lowercase b ≡ space = cc in
         ap (λ x. x ∷ []) (kept_is b space (omega arith) head)
 
--- what a status line is
+-- a status line is "SIP/2.0 " without case, and then a status code with its SP and a reason phrase
 status-line : (line : List ℕ) (code : ℕ) (reason : List ℕ) → StatusLine line (code, reason) → SameText (take 8 line) (codes "SIP/2.0 ") × CodeFront (drop 8 line) (code, reason) × (8 ≤ length line)
 status-line line code reason is =
     let p = status_parts line code reason is in
@@ -228,7 +229,7 @@ status-line line code reason is =
       long,
     )
 
--- without room for the version there is no status line
+-- a line of fewer than eight bytes is no status line
 pub status-short : (line : List ℕ) → length line < 8 → NotRead (StatusLine line)
 status-short line short (code, reason) is = absurd (omega (arith, short, (status-line line code reason is).2))
 
@@ -240,13 +241,13 @@ status-no_version line none (code, reason) is = none (status-line line code reas
 pub status-no_code : (line : List ℕ) → NotRead (CodeFront (drop 8 line)) → NotRead (StatusLine line)
 status-no_code line none (code, reason) is = none (code, reason) (status-line line code reason is).1
 
--- a line with a byte that no reason has is no status line
+-- a line whose reason has a byte that no reason phrase has is no status line
 pub status-no_reason : (line : List ℕ) (n : ℕ) (rest : List ℕ) → ReadAs (CodeFront (drop 8 line)) (n, rest) → list_all is_reason_byte rest ≡ false → NotRead (StatusLine line)
 status-no_reason line n rest read none (code, reason) is =
     let same = read.1 (code, reason) (status-line line code reason is).1 in
     both_ways (list_all is_reason_byte rest) none (run-list_all is_reason_byte rest (subst (Many (One is_reason_byte)) (ap (λ x. x.1) same) is.0))
 
--- else there is one
+-- a line with the version, a status code and a reason phrase is read as a status line of that code and that reason
 pub status-read : (line : List ℕ) (n : ℕ) (rest : List ℕ) → SameText (take 8 line) (codes "SIP/2.0 ") → ReadAs (CodeFront (drop 8 line)) (n, rest) → list_all is_reason_byte rest ≡ true → ReadAs (StatusLine line) (n, rest)
 status-read line n rest version read all = (
   (list_all-run is_reason_byte rest all, (v.0, space ∷ drop 8 line, v.1, (space ∷ [], drop 8 line, refl, read.0, refl), sym (take-append-drop 8 line) ∙ ap (λ t. t ++ drop 8 line) v.2 ∙ append_assoc v.0 (space ∷ []) (drop 8 line))),
@@ -264,7 +265,7 @@ start-request line method uri read = (read.0, (λ x is. same_start line x (reque
 pub start-status : (line : List ℕ) (code : ℕ) (reason : List ℕ) → ReadAs (StatusLine line) (code, reason) → ReadAs (StartText line) (status code reason)
 start-status line code reason read = (read.0, (λ x is. same_start line x (status code reason) is read.0))
 
--- a line that is neither is none
+-- a line that is neither a request line nor a status line is no start line
 pub start-none : (line : List ℕ) → NotRead (RequestLine line) → NotRead (StatusLine line) → NotRead (StartText line)
 start-none line no_request no_status (request method uri) is = no_request (method, uri) is
 start-none line no_request no_status (status code reason) is = no_status (code, reason) is

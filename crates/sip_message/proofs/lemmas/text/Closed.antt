@@ -1,5 +1,5 @@
 -- Sets that stay themselves when a longest run of blanks in a text becomes one SP. A set that is made
--- of sets is such a set if they are, and if no run crosses their seams.
+-- of sets is such a set where they are, and where no run of blanks crosses the seams between them.
 use Rattle.std.proofs.Common.{◌≡◌, ℕ, ◌⊎◌, Bool, true, false, not, List, [], ◌∷◌, ◌++◌, cond, refl, sym, ap, ◌∙◌, subst, inl, inr}
 use Rattle.std.specs.List.{AllByRecursion, concat, list_any}
 use Rattle.std.proofs.lemmas.Bool.{both_ways}
@@ -15,11 +15,11 @@ use Rattle.sip_message.proofs.lemmas.text.Cuts.{Cuts, first_longer, same_length,
 use Rattle.sip_message.proofs.lemmas.text.Each.{Each, is_solid}
 use Rattle.sip_message.proofs.lemmas.field.OneWay.{ends_blank}
 
--- a longest run of blanks may become one SP
+-- where a text of P has a longest run of blanks, the text with one SP in its place is of P
 abbrev pub Closed : (List ℕ → Type 0) → Type 0
 Closed P = (u v : List ℕ) (b : ℕ) (w : List ℕ) → EndsSolid u → OpensSolid v → All is_lws_byte (b ∷ w) → P (u ++ ((b ∷ w) ++ v)) → P (u ++ space ∷ v)
 
--- a byte is not both
+-- no byte is both solid and a blank
 pub not_both : (b : ℕ) → is_solid b ≡ true → is_lws_byte b ≡ true → ⊥
 not_both b solid blank = both_ways true (sym solid ∙ ap not blank) refl
 
@@ -31,22 +31,22 @@ solid_is b solid = at (is_lws_byte b) solid
     at false is = refl
     at true is = absurd (both_ways true (sym is) refl)
 
--- solid texts have no run
+-- a set whose texts have no blanks is closed: they have no run
 pub closed-solid : (P : List ℕ → Type 0) → Each is_solid P → Closed P
 closed-solid P each u v b w ends opens blanks is =
     absurd (not_both b (all_right is_solid u ((b ∷ w) ++ v) (each _ is)).0 blanks.0)
 
--- a text of blanks that is solid at its ends is empty
+-- blanks that do not end with a blank are none
 blank_ends : (u : List ℕ) → EndsSolid u → All is_lws_byte u → u ≡ []
 blank_ends [] ends all = refl
 blank_ends (b ∷ u) ends all = absurd (ends_blank [] b u ends all)
 
--- blanks that open solid are none
+-- blanks that do not begin with a blank are none
 pub blank_opens : (v : List ℕ) → OpensSolid v → All is_lws_byte v → v ≡ []
 blank_opens [] opens all = refl
 blank_opens (b ∷ v) opens all = absurd (both_ways (is_lws_byte b) opens all.0)
 
--- blank runs, if one SP is such a run
+-- a set of blank runs that has one SP is closed
 pub closed-blank : (P : List ℕ → Type 0) → Each is_lws_byte P → P (space ∷ []) → Closed P
 closed-blank P each one u v b w ends opens blanks is =
     let all = each _ is in
@@ -54,7 +54,7 @@ closed-blank P each one u v b w ends opens blanks is =
     let back = blank_opens v opens (all_right is_lws_byte (b ∷ w) v (all_right is_lws_byte u ((b ∷ w) ++ v) all)) in
     subst P (ap (λ t. space ∷ t) (sym back) ∙ ap (λ t. t ++ space ∷ v) (sym front)) one
 
--- P / Q
+-- P / Q is closed where P and Q are
 pub closed-or : (P Q : List ℕ → Type 0) → Closed P → Closed Q → Closed (P or Q)
 closed-or P Q left right u v b w ends opens blanks (inl is) = inl (left u v b w ends opens blanks is)
 closed-or P Q left right u v b w ends opens blanks (inr is) = inr (right u v b w ends opens blanks is)
@@ -63,13 +63,13 @@ closed-or P Q left right u v b w ends opens blanks (inr is) = inr (right u v b w
 abbrev pub Seam : (List ℕ → Type 0) → (List ℕ → Type 0) → Type 0
 Seam P Q = (p q : List ℕ) → P p → Q q → EndsSolid p ⊎ OpensSolid q
 
--- what stands at the end of a text that ends solid
+-- where a text that ends with b and z does not end with a blank, b and z do not
 pub ends-right : (u : List ℕ) (b : ℕ) (z : List ℕ) → EndsSolid (u ++ b ∷ z) → EndsSolid (b ∷ z)
 ends-right [] b z ends = ends
 ends-right (a ∷ []) b z ends = ends
 ends-right (a ∷ c ∷ u) b z ends = ends-right (c ∷ u) b z ends
 
--- P Q
+-- P Q is closed where P and Q are, and no run of blanks crosses the seam between them
 pub closed-then : (P Q : List ℕ → Type 0) → Seam P Q → Closed P → Closed Q → Closed (P then Q)
 closed-then P Q seam left right u v b w ends opens blanks (p, q, is_p, is_q, whole) =
     at (two_cuts p q u ((b ∷ w) ++ v) (sym whole))
@@ -108,12 +108,12 @@ closed-then P Q seam left right u v b w ends opens blanks (p, q, is_p, is_q, who
       ap (λ t. t ++ space ∷ v) u_is ∙ append_assoc p (c ∷ z) (space ∷ v),
     )
 
--- as many texts of P as the list has items
+-- the text is as many texts of P as the list has elements
 abbrev pub Times : {X : Type 0} → (List ℕ → Type 0) → List X → List ℕ → Type 0
 Times P [] = Exactly []
 Times P (x ∷ xs) = P then Times P xs
 
--- they are many
+-- as many texts of P as a list has elements are any number of texts of P
 times-many : {X : Type 0} (P : List ℕ → Type 0) (xs : List X) (text : List ℕ) → Times P xs text → Many P text
 times-many P [] text is = subst (Many P) (sym is) (many-nil P)
 times-many P (x ∷ xs) text is =
@@ -123,18 +123,18 @@ many-times : (P : List ℕ → Type 0) (us : List (List ℕ)) → AllByRecursion
 many-times P [] all = refl
 many-times P (u ∷ us) all = (u, concat us, all.0, many-times P us all.1, refl)
 
--- *P, where each text of P ends solid
+-- as many texts of P as a list has elements are a closed set where P is closed, and no text of P ends with a blank
 pub closed-times : {X : Type 0} (P : List ℕ → Type 0) (xs : List X) → ((u : List ℕ) → P u → EndsSolid u) → Closed P → Closed (Times P xs)
 closed-times P [] ends closed = closed-solid (Exactly []) (λ u is. subst (All is_solid) (sym is) tt)
 closed-times P (x ∷ xs) ends closed = closed-then P (Times P xs) (λ p q is_p is_q. inl (ends p is_p)) closed (closed-times P xs ends closed)
 
--- a repetition of texts that end solid stays one
+-- *P is closed where P is, and no text of P ends with a blank
 pub closed-many : (P : List ℕ → Type 0) → ((u : List ℕ) → P u → EndsSolid u) → Closed P → Closed (Many P)
 closed-many P ends closed u v b w u_ends opens blanks many =
     times-many P many.0 _ (closed-times P many.0 ends closed u v b w u_ends opens blanks
     (subst (Times P many.0) (sym many.2) (many-times P many.0 many.1)))
 
--- a run in a text of a closed set, unfolded
+-- a text of a closed set is of the set when a run of blanks in it is unfolded
 unfolds-run : (P : List ℕ → Type 0) → Closed P → (u run v : List ℕ) → EndsSolid u → All is_lws_byte run → OpensSolid v → P (u ++ (run ++ v)) → P (u ++ (unfolded_run run ++ v))
 unfolds-run P closed u [] v ends blanks opens is = is
 unfolds-run P closed u (b ∷ w) v ends blanks opens is = at (list_any is_end_byte (b ∷ w)) refl
@@ -143,13 +143,13 @@ unfolds-run P closed u (b ∷ w) v ends blanks opens is = at (list_any is_end_by
     at true folds = closed u v b w ends opens blanks is
     at false folds = is
 
--- what ends with a solid byte
+-- a text whose last byte is no blank does not end with a blank
 ends-byte : (u : List ℕ) (b : ℕ) → is_lws_byte b ≡ false → EndsSolid (u ++ b ∷ [])
 ends-byte [] b solid = solid
 ends-byte (a ∷ []) b solid = solid
 ends-byte (a ∷ c ∷ u) b solid = ends-byte (c ∷ u) b solid
 
--- a text of a closed set, unfolded after its front
+-- a text of a closed set is of the set when it is unfolded from the end of a front on that does not end with a blank
 unfolds-from : (P : List ℕ → Type 0) → Closed P → (text u run : List ℕ) → EndsSolid u → All is_lws_byte run → P (u ++ (run ++ text)) → P (u ++ unfolded_from run text)
 unfolds-from P closed [] u run ends blanks is =
     subst P (ap (λ t. u ++ t) (append-nil (unfolded_run run))) (unfolds-run P closed u run [] ends blanks tt is)
@@ -169,6 +169,6 @@ unfolds-from P closed (b ∷ text) u run ends blanks is = at (unfolds-from P clo
         (later (u ++ (unfolded_run run ++ b ∷ [])) [] (subst EndsSolid (append_assoc u (unfolded_run run) (b ∷ [])) (ends-byte (u ++ unfolded_run run) b solid)) tt
         (subst P (shape text) (unfolds-run P closed u run (b ∷ text) ends blanks solid is)))
 
--- a text of a closed set, unfolded, is one
+-- a text of a closed set is of the set when it is unfolded
 pub closed-unfolded : (P : List ℕ → Type 0) → Closed P → (text : List ℕ) → P text → P (unfolded text)
 closed-unfolded P closed text is = unfolds-from P closed text [] [] tt tt is

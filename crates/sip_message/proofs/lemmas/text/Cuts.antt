@@ -5,13 +5,13 @@ use Rattle.std.specs.List.{AllByRecursion}
 use Rattle.std.proofs.lemmas.List.{length-append}
 use Rattle.std.proofs.lemmas.Bool.{both_ways}
 
--- the front of one cut begins the front of the other
+-- of the fronts u and x of one text, the one is the other, or begins it
 pub data Cuts (u v x y : List ℕ) : Type 0 where
   first_longer : (b : ℕ) (z : List ℕ) → u ≡ x ++ b ∷ z → y ≡ b ∷ z ++ v → Cuts u v x y
   same_length : u ≡ x → v ≡ y → Cuts u v x y
   second_longer : (b : ℕ) (z : List ℕ) → x ≡ u ++ b ∷ z → v ≡ b ∷ z ++ y → Cuts u v x y
 
--- two cuts of one text
+-- where u and v make the same text as x and y, the one front is the other, or begins it
 pub two_cuts : (u v x y : List ℕ) → u ++ v ≡ x ++ y → Cuts u v x y
 two_cuts [] v [] y same = same_length refl same
 two_cuts [] v (a ∷ x) y same = second_longer a x refl same
@@ -29,16 +29,16 @@ two_cuts (a ∷ u) v (b ∷ x) y same = more (two_cuts u v x y tails)
     more (same_length left right) = same_length (ap (λ t. t ∷ u) heads ∙ ap (λ t. b ∷ t) left) right
     more (second_longer c z longer is) = second_longer c z (ap (λ t. t ∷ x) (sym heads) ∙ ap (λ t. a ∷ t) longer) is
 
--- no byte of the text passes the test at its front
+-- the text does not begin with a byte that passes the test
 abbrev pub Stops : (ℕ → Bool) → List ℕ → Type 0
 Stops test [] = ⊤
 Stops test (b ∷ text) = test b ≡ false
 
--- each byte passes the test
+-- each byte of the text passes the test
 abbrev pub All : (ℕ → Bool) → List ℕ → Type 0
 All test text = AllByRecursion (λ b. test b ≡ true) text
 
--- what holds of a text holds of its pieces
+-- where all bytes of two texts in a row pass the test, those of the first do
 pub all_left : (test : ℕ → Bool) (u v : List ℕ) → All test (u ++ v) → All test u
 all_left test [] v all = tt
 all_left test (b ∷ u) v all = (all.0, all_left test u v all.1)
@@ -64,7 +64,7 @@ same_front test u v x y us xs v_stops y_stops same = at (two_cuts u v x y same)
     at (second_longer b z longer is) =
         absurd (both_ways (test b) (subst (Stops test) is v_stops) (all_right test u (b ∷ z) (subst (All test) longer xs)).0)
 
--- texts of one length at the front, or at the end
+-- where u and v make the same text as x and y, and u is as long as x, u is x and v is y
 pub same_by_front : (u v x y : List ℕ) → length u ≡ length x → u ++ v ≡ x ++ y → (u ≡ x) × (v ≡ y)
 same_by_front u v x y lens same = at (two_cuts u v x y same)
   where
@@ -73,7 +73,7 @@ same_by_front u v x y lens same = at (two_cuts u v x y same)
     at (first_longer b z longer is) = absurd (omega (arith, ap length longer, length-append x (b ∷ z), lens))
     at (second_longer b z longer is) = absurd (omega (arith, ap length longer, length-append u (b ∷ z), lens))
 
--- cuts with ends of one length are the same
+-- where u and v make the same text as x and y, and v is as long as y, u is x and v is y
 pub same_by_end : (u v x y : List ℕ) → length v ≡ length y → u ++ v ≡ x ++ y → (u ≡ x) × (v ≡ y)
 same_by_end u v x y lens same =
     same_by_front u v x y (omega (arith, ap length same, length-append u v, length-append x y, lens)) same

@@ -1,4 +1,4 @@
--- Texts that end solid, and are not empty.
+-- Texts that are not empty, and do not end with a blank.
 use Rattle.std.proofs.Common.{ℕ, List, [], ◌∷◌, ◌++◌, sym, subst, inl, inr}
 use Rattle.std.specs.List.{AllByRecursion, concat}
 use Rattle.std.proofs.lemmas.List.{append-nil}
@@ -9,80 +9,81 @@ use Rattle.sip_message.proofs.lemmas.text.Cuts.{All}
 use Rattle.sip_message.proofs.lemmas.text.Each.{Each, is_solid}
 use Rattle.sip_message.proofs.lemmas.text.Closed.{solid_is, Seam}
 
--- the text is not empty and ends solid
+-- the text is not empty, and does not end with a blank
 abbrev pub Firm : List ℕ → Type 0
 Firm [] = ⊥
 Firm (b ∷ text) = EndsSolid (b ∷ text)
 
+-- where b and z do not end with a blank, no text that ends with b and z does
 ends-onto : (u : List ℕ) (b : ℕ) (z : List ℕ) → EndsSolid (b ∷ z) → EndsSolid (u ++ b ∷ z)
 ends-onto [] b z ends = ends
 ends-onto (a ∷ []) b z ends = ends
 ends-onto (a ∷ c ∷ u) b z ends = ends-onto (c ∷ u) b z ends
 
--- by the end
+-- a text whose end is firm is firm
 pub firm-right : (p q : List ℕ) → Firm q → Firm (p ++ q)
 firm-right p [] firm = absurd firm
 firm-right [] (b ∷ z) firm = firm
 firm-right (a ∷ p) (b ∷ z) firm = ends-onto (a ∷ p) b z firm
 
--- a text is firm if its front is and its end, which may be empty, ends without a blank
+-- a text whose front is firm, and whose end is empty or does not end with a blank, is firm
 pub firm-left : (p q : List ℕ) → Firm p → EndsSolid q → Firm (p ++ q)
 firm-left p [] firm ends = subst Firm (sym (append-nil p)) firm
 firm-left p (b ∷ z) firm ends = firm-right p (b ∷ z) ends
 
--- a firm text ends solid
+-- a firm text does not end with a blank
 pub ends-firm : (u : List ℕ) → Firm u → EndsSolid u
 ends-firm [] firm = absurd firm
 ends-firm (b ∷ u) firm = firm
 
--- both ends solid, if the text is not empty
+-- where p and q do not end with a blank, p and then q do not
 pub ends-both : (p q : List ℕ) → EndsSolid p → EndsSolid q → EndsSolid (p ++ q)
 ends-both p [] left right = subst EndsSolid (sym (append-nil p)) left
 ends-both p (b ∷ z) left right = ends-onto p b z right
 
--- solid bytes
+-- a text without blanks does not end with a blank
 pub ends-solid : (u : List ℕ) → All is_solid u → EndsSolid u
 ends-solid [] all = tt
 ends-solid (b ∷ []) all = solid_is b all.0
 ends-solid (b ∷ c ∷ u) all = ends-solid (c ∷ u) all.1
 
--- a text of solid bytes opens solid
+-- a text without blanks does not begin with a blank
 pub opens-solid : (u : List ℕ) → All is_solid u → OpensSolid u
 opens-solid [] all = tt
 opens-solid (b ∷ u) all = solid_is b all.0
 
--- sets whose texts end solid, and are not empty
+-- no text of the set is empty or ends with a blank
 abbrev pub AllFirm : (List ℕ → Type 0) → Type 0
 AllFirm P = (u : List ℕ) → P u → Firm u
 
 abbrev pub AllEnd : (List ℕ → Type 0) → Type 0
 AllEnd P = (u : List ℕ) → P u → EndsSolid u
 
--- sets whose texts begin solid, and are not empty
+-- no text of the set is empty or begins with a blank
 abbrev pub AllOpen : (List ℕ → Type 0) → Type 0
 AllOpen P = (u v : List ℕ) → P u → OpensSolid (u ++ v)
 
--- two texts are firm if the second is
+-- P Q is firm where Q is
 pub firm-then_right : (P Q : List ℕ → Type 0) → AllFirm Q → AllFirm (P then Q)
 firm-then_right P Q firm u both = subst Firm (sym both.4) (firm-right both.0 both.1 (firm both.1 both.3))
 
--- texts of two sets in a row are firm if the first are and the second end without a blank
+-- P Q is firm where P is, and no text of Q ends with a blank
 pub firm-then_left : (P Q : List ℕ → Type 0) → AllFirm P → AllEnd Q → AllFirm (P then Q)
 firm-then_left P Q firm ends u both = subst Firm (sym both.4) (firm-left both.0 both.1 (firm both.0 both.2) (ends both.1 both.3))
 
--- two that end solid do so together
+-- no text of P Q ends with a blank where none of P and none of Q does
 pub end-then : (P Q : List ℕ → Type 0) → AllEnd P → AllEnd Q → AllEnd (P then Q)
 end-then P Q left right u both = subst EndsSolid (sym both.4) (ends-both both.0 both.1 (left both.0 both.2) (right both.1 both.3))
 
--- firm texts end solid
+-- no text of a firm set ends with a blank
 pub end-firm : (P : List ℕ → Type 0) → AllFirm P → AllEnd P
 end-firm P firm u is = ends-firm u (firm u is)
 
--- texts of solid bytes do
+-- no text of a set whose texts have no blanks ends with a blank
 pub end-each : (P : List ℕ → Type 0) → Each is_solid P → AllEnd P
 end-each P each u is = ends-solid u (each u is)
 
--- repetitions of texts that end without a blank end without one
+-- no text of *P ends with a blank where none of P does
 pub end-many : (P : List ℕ → Type 0) → AllEnd P → AllEnd (Many P)
 end-many P ends u many = subst EndsSolid (sym many.2) (go many.0 many.1)
   where
@@ -90,14 +91,14 @@ end-many P ends u many = subst EndsSolid (sym many.2) (go many.0 many.1)
     go [] all = tt
     go (p ∷ us) all = ends-both p (concat us) (ends p all.0) (go us all.1)
 
--- seams
+-- no run of blanks crosses the seam between P and Q where no text of P ends with a blank
 pub seam-left : (P Q : List ℕ → Type 0) → AllEnd P → Seam P Q
 seam-left P Q ends p q is_p is_q = inl (ends p is_p)
 
--- where the second opens solid, the seam holds
+-- no run of blanks crosses the seam between P and Q where no text of Q begins with a blank
 pub seam-right : (P Q : List ℕ → Type 0) → ((u : List ℕ) → Q u → OpensSolid u) → Seam P Q
 seam-right P Q opens p q is_p is_q = inr (opens q is_q)
 
--- a set that begins with one that is not empty begins as that one
+-- no text of P Q begins with a blank where no text of P is empty or begins with one
 pub opens-then : (P Q : List ℕ → Type 0) → AllOpen P → (u : List ℕ) → (P then Q) u → OpensSolid u
 opens-then P Q opens u both = subst OpensSolid (sym both.4) (opens both.0 both.1 both.2)

@@ -1,4 +1,4 @@
--- Repetitions of texts that may hold blanks: quoted strings, and the values that are not looked into.
+-- Repetitions of texts in which blanks may stand: quoted strings, and the values that are not looked into.
 use Rattle.std.proofs.Common.{◌≡◌, ℕ, Bool, true, false, not, List, [], ◌∷◌, ◌++◌, length, refl, sym, ap, ◌∙◌, subst, inl, inr, arith}
 use Rattle.std.specs.List.{AllByRecursion, concat}
 use Rattle.std.proofs.lemmas.Bool.{both_ways}
@@ -19,7 +19,7 @@ use Rattle.sip_message.proofs.lemmas.text.Each.{each-lws, is_solid, solid_class}
 use Rattle.sip_message.proofs.lemmas.field.OneWay.{ends_blank}
 use Rattle.sip_message.proofs.lemmas.text.Closed.{Closed, not_both, ends-right}
 
--- a text of P is solid bytes, and after them blanks, in whose place one SP may stand
+-- the text is bytes that are no blanks, and then blanks; where there are any, the text with one SP in their place is of P
 pub record IsItem (P : List ℕ → Type 0) (text : List ℕ) : Type 0 where
   pub front : List ℕ
   pub back : List ℕ
@@ -28,7 +28,7 @@ pub record IsItem (P : List ℕ → Type 0) (text : List ℕ) : Type 0 where
   pub joins : (b : ℕ) (w : List ℕ) → back ≡ b ∷ w → P (front ++ space ∷ [])
   pub whole : text ≡ front ++ back
 
--- an item that begins with a blank is blanks
+-- an item that begins with a blank is blanks alone
 item_blanks : (P : List ℕ → Type 0) (b : ℕ) (u : List ℕ) → is_lws_byte b ≡ true → IsItem P (b ∷ u) → All is_lws_byte (b ∷ u)
 item_blanks P b u blank item = at item.front item.solid item.whole
   where
@@ -38,7 +38,7 @@ item_blanks P b u blank item = at item.front item.solid item.whole
         let head : b ≡ c = cc in
         absurd (not_both c solid.0 (subst (λ x. is_lws_byte x ≡ true) head blank))
 
--- blanks at the front of items are items, and so is what follows them
+-- where items are blanks and then v, which does not begin with a blank, v is items
 skip : (P : List ℕ → Type 0) → ((u : List ℕ) → P u → IsItem P u) → (us : List (List ℕ)) (w v : List ℕ) → AllByRecursion P us → All is_lws_byte w → OpensSolid v → concat us ≡ w ++ v → Many P v
 skip P item us [] v all blanks opens is = (us, all, sym is)
 skip P item [] (b ∷ w) v all blanks opens is = absurd (omega (arith, ap length is))
@@ -55,7 +55,7 @@ skip P item ((a ∷ p) ∷ us) (b ∷ w) v all blanks opens is =
     at later (second_longer d y longer us_is) =
         later d y (all_right is_lws_byte (a ∷ p) (d ∷ y) (subst (All is_lws_byte) longer blanks)) us_is
 
--- where a run begins within an item, its solid bytes end there
+-- where blanks that end an item begin after u, u with one SP after it is of P, and the item is u and blanks
 item_cut : (P : List ℕ → Type 0) (p u : List ℕ) (c : ℕ) (z : List ℕ) → EndsSolid u → is_lws_byte c ≡ true → p ≡ u ++ c ∷ z → IsItem P p → P (u ++ space ∷ []) × All is_lws_byte (c ∷ z)
 item_cut P p u c z ends blank p_is item = at (two_cuts item.front item.back u (c ∷ z) (sym item.whole ∙ p_is))
   where
@@ -68,7 +68,7 @@ item_cut P p u c z ends blank p_is item = at (two_cuts item.front item.back u (c
     at (second_longer d y longer is) =
         absurd (ends_blank item.front d y (subst EndsSolid longer ends) (all_left is_lws_byte (d ∷ y) (c ∷ z) (subst (All is_lws_byte) is item.blank)))
 
--- what follows the blanks of an item in a run
+-- where a run of blanks begins within an item and goes on into the items after it, what follows the run is items
 behind_run : (P : List ℕ → Type 0) → ((u : List ℕ) → P u → IsItem P u) → (us : List (List ℕ)) (v : List ℕ) (b : ℕ) (w : List ℕ) (c : ℕ) (z : List ℕ) → OpensSolid v → All is_lws_byte (b ∷ w) → AllByRecursion P us → All is_lws_byte (c ∷ z) → Cuts (b ∷ w) v (c ∷ z) (concat us) → Many P v
 behind_run P item us v b w c z opens blanks all run (same_length front back) = (us, all, back)
 behind_run P item us v b w c z opens blanks all run (first_longer d y longer is) =
@@ -76,7 +76,7 @@ behind_run P item us v b w c z opens blanks all run (first_longer d y longer is)
 behind_run P item us v b w c z opens blanks all run (second_longer d y longer is) =
     absurd (both_ways (is_lws_byte d) (subst OpensSolid is opens) (all_right is_lws_byte (b ∷ w) (d ∷ y) (subst (All is_lws_byte) longer run)).0)
 
--- a run in items
+-- items in which a run of blanks is replaced by one SP are items
 items_run : (P : List ℕ → Type 0) → ((u : List ℕ) → P u → IsItem P u) → (us : List (List ℕ)) (x v : List ℕ) (b : ℕ) (w : List ℕ) → EndsSolid x → OpensSolid v → All is_lws_byte (b ∷ w) → AllByRecursion P us → concat us ≡ x ++ ((b ∷ w) ++ v) → Many P (x ++ space ∷ v)
 items_run P item [] x v b w ends opens blanks all is = absurd (omega (arith, ap length is, length-append x ((b ∷ w) ++ v)))
 items_run P item (p ∷ us) x v b w ends opens blanks all is =
@@ -94,7 +94,7 @@ items_run P item (p ∷ us) x v b w ends opens blanks all is =
         subst (Many P) (append_assoc x (space ∷ []) v)
         (many-cons P (x ++ space ∷ []) v cut.0 (behind_run P item us v b w c z opens blanks all.1 cut.1 (two_cuts (b ∷ w) v (c ∷ z) (concat us) back)))
 
--- *P, where the texts of P are items
+-- *P is closed where the texts of P are items
 pub closed-items : (P : List ℕ → Type 0) → ((u : List ℕ) → P u → IsItem P u) → Closed (Many P)
 closed-items P item u v b w ends opens blanks many =
     items_run P item many.0 u v b w ends opens blanks many.1 (sym many.2)
@@ -103,11 +103,11 @@ closed-items P item u v b w ends opens blanks many =
 pub lws-space : Lws (space ∷ [])
 lws-space = ([], space ∷ [], inl refl, (space ∷ [], [], (space, refl, refl), many-nil (One is_wsp), refl), refl)
 
--- an LWS is an item
+-- an LWS is an item where P has one SP
 item-lws : (P : List ℕ → Type 0) → P (space ∷ []) → (u : List ℕ) → Lws u → IsItem P u
 item-lws P one u lws = record { front = []; back = u; solid = tt; blank = each-lws u lws; joins = λ b w is. one; whole = refl }
 
--- solid bytes are an item
+-- a text without blanks is an item
 item-solid : (P : List ℕ → Type 0) (u : List ℕ) → All is_solid u → IsItem P u
 item-solid P u solid = record { front = u; back = []; solid = solid; blank = tt; joins = λ b w is. absurd (omega (arith, ap length is)); whole = sym (append-nil u) }
 
@@ -115,7 +115,7 @@ item-solid P u solid = record { front = u; back = []; solid = solid; blank = tt;
 item-one : (P : List ℕ → Type 0) (class : ℕ → Bool) → ((b : ℕ) → class b ≡ true → is_solid b ≡ true) → (u : List ℕ) → One class u → IsItem P u
 item-one P class solid u one = item-solid P u (subst (All is_solid) (sym one.2) (solid one.0 one.1, tt))
 
--- a quoted pair is an item: its blank, if it has one, may be any
+-- a quoted pair is an item where P has a quoted pair with SP: its second byte may be a blank
 item-pair : (P : List ℕ → Type 0) → P (backslash ∷ space ∷ []) → (u : List ℕ) → QuotedPair u → IsItem P u
 item-pair P one u (p, q, is_p, (b, escaped, q_is), whole) = at (is_lws_byte b) refl
   where
@@ -126,7 +126,7 @@ item-pair P one u (p, q, is_p, (b, escaped, q_is), whole) = at (is_lws_byte b) r
     at true blank = record { front = backslash ∷ []; back = b ∷ []; solid = (refl, tt); blank = (blank, tt); joins = λ c w is. one; whole = text }
     at false blank = item-solid P u (subst (All is_solid) (sym text) (refl, (ap not blank, tt)))
 
--- the contents of a quoted string
+-- the set of contents of quoted strings is closed under making one SP of a blank run
 pub closed-contents : Closed (Many (Qdtext or QuotedPair))
 closed-contents = closed-items (Qdtext or QuotedPair) item
   where
@@ -135,7 +135,7 @@ closed-contents = closed-items (Qdtext or QuotedPair) item
     item u (inl (inr one)) = item-one (Qdtext or QuotedPair) is_quoted_byte (solid_class is_quoted_byte refl refl refl refl) u one
     item u (inr pair) = item-pair (Qdtext or QuotedPair) (inr (backslash ∷ [], space ∷ [], refl, (space, refl, refl), refl)) u pair
 
--- a value that is not looked into
+-- the set of values that are not looked into is closed under making one SP of a blank run
 pub closed-other : Closed OtherText
 closed-other = closed-items (Lws or One is_value_byte) item
   where

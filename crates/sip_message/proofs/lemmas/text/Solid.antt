@@ -1,4 +1,4 @@
--- The sets without a byte of a blank run: tokens, hosts, ports and URIs.
+-- The sets of texts without blanks: tokens, hosts, ports and URIs.
 use Rattle.std.proofs.Common.{◌≡◌, ℕ, Bool, true, false, List, [], ◌∷◌, ◌++◌, Option, Some, None, refl, sym, subst}
 use Rattle.std.specs.Char.{is_ascii_alphabetic, is_ascii_alphanumeric, is_ascii_digit, is_ascii_hexdigit, to_ascii_lowercase}
 use Rattle.std.specs.Prelude.{IfSome}
@@ -17,19 +17,19 @@ use Rattle.sip_message.proofs.lemmas.text.Each.{Each, each-one, each-exactly, ea
 abbrev S : ℕ → Bool
 S = is_solid
 
--- a class without the four bytes
+-- a class without SP, HTAB, CR and LF has no blanks
 solid-one : (class : ℕ → Bool) → class space ≡ false → class tab ≡ false → class carriage_return ≡ false → class line_feed ≡ false → Each S (One class)
 solid-one class sp ht cr lf = each-one S class (solid_class class sp ht cr lf)
 
--- one byte
+-- the set of one byte that is no blank has no blanks
 solid-byte : (b : ℕ) → is_solid b ≡ true → Each S (Byte b)
 solid-byte b is u text = subst (All S) (sym text) (is, tt)
 
--- a token is solid
+-- a token has no blanks
 pub solid-token : Each S Token
 solid-token = each-some S _ (solid-one is_token_byte refl refl refl refl)
 
--- digits are no blanks
+-- digits have no blanks
 pub solid-digits : Each S (OneOrMore (One is_ascii_digit))
 solid-digits = each-some S _ (solid-one is_ascii_digit refl refl refl refl)
 
@@ -42,6 +42,7 @@ solid-alpha = solid-one is_ascii_alphabetic refl refl refl refl
 solid-label_bytes : Each S (Many (One is_label_byte))
 solid-label_bytes = each-many S _ (solid-one is_label_byte refl refl refl refl)
 
+-- a hostname has no blanks
 solid-hostname : Each S Hostname
 solid-hostname =
     each-then S _ _ (each-many S _ (each-then S _ _ (each-or S _ _ solid-alnum (each-then S _ _ solid-alnum (each-then S _ _ solid-label_bytes solid-alnum))) (solid-byte 46 refl)))
@@ -50,11 +51,13 @@ solid-hostname =
 solid-group : Each S DecimalGroup
 solid-group = each-between S 1 3 _ (solid-one is_ascii_digit refl refl refl refl)
 
+-- an IPv4 address has no blanks
 solid-v4 : Each S Ipv4
 solid-v4 =
     each-then S _ _ solid-group (each-then S _ _ (solid-byte 46 refl) (each-then S _ _ solid-group (each-then S _ _ (solid-byte 46 refl)
     (each-then S _ _ solid-group (each-then S _ _ (solid-byte 46 refl) solid-group)))))
 
+-- a hexseq has no blanks
 solid-hexseq : Each S Hexseq
 solid-hexseq = each-then S _ _ hex (each-many S _ (each-then S _ _ (solid-byte colon refl) hex))
   where
@@ -64,12 +67,13 @@ solid-hexseq = each-then S _ _ hex (each-many S _ (each-then S _ _ (solid-byte c
 solid-double : Each S (Exactly (colon ∷ colon ∷ []))
 solid-double = each-exactly S _ (refl, (refl, tt))
 
+-- a hexpart has no blanks
 solid-hexpart : Each S Hexpart
 solid-hexpart =
     each-or S _ _ solid-hexseq (each-or S _ _ (each-then S _ _ solid-hexseq (each-then S _ _ solid-double (each-optional S _ solid-hexseq)))
     (each-then S _ _ solid-double (each-optional S _ solid-hexseq)))
 
--- an IPv6 address is
+-- an IPv6 address has no blanks
 pub solid-v6 : Each S Ipv6
 solid-v6 =
     each-or S _ _ (each-then S _ _ solid-hexpart (each-optional S _ (each-then S _ _ (solid-byte colon refl) solid-v4)))
@@ -79,13 +83,13 @@ solid-v6 =
 pub solid-v6_reference : Each S Bracketed
 solid-v6_reference = each-then S _ _ (solid-byte 91 refl) (each-then S _ _ solid-v6 (solid-byte 93 refl))
 
--- a host
+-- a host has no blanks
 pub solid-host : (text : List ℕ) (h : HostParts) → HostText text h → All S text
 solid-host text (name t) is = solid-hostname text is.0
 solid-host text (v4 t) is = solid-v4 text is.0
 solid-host text (v6 t) is = solid-v6_reference text is.0
 
--- a port
+-- a port has no blanks
 pub solid-port : Each S Port
 solid-port u is = each-between S 1 5 _ (solid-one is_ascii_digit refl refl refl refl) u is.0
 
@@ -102,12 +106,14 @@ solid-user = each-some S _ (each-or S _ _ (solid-one is_user_unreserved refl ref
 solid-password : Each S Password
 solid-password = each-many S _ (each-or S _ _ (solid-one is_password_unreserved refl refl refl refl) (each-or S _ _ solid-unreserved solid-escaped))
 
+-- the parameters of a URI have no blanks
 solid-params : Each S UriParameters
 solid-params = each-many S _ (each-then S _ _ (solid-byte 59 refl) (each-then S _ _ word (each-optional S _ (each-then S _ _ (solid-byte 61 refl) word))))
   where
     word : Each S ParamWord
     word = each-some S _ (each-or S _ _ (solid-one is_param_unreserved refl refl refl refl) (each-or S _ _ solid-unreserved solid-escaped))
 
+-- the headers of a URI have no blanks
 solid-headers : Each S Headers
 solid-headers = each-then S _ _ header (each-many S _ (each-then S _ _ (solid-byte 38 refl) header))
   where
@@ -117,16 +123,18 @@ solid-headers = each-then S _ _ header (each-many S _ (each-then S _ _ (solid-by
     header : Each S Header
     header = each-then S _ _ (each-some S _ char) (each-then S _ _ (solid-byte 61 refl) (each-many S _ char))
 
--- an optional part after its mark
+-- an optional part with its mark has no blanks where the parts have none, and the mark is none
 solid-led : (mark : ℕ) (P : List ℕ → Type 0) (part : Option (List ℕ)) → is_solid mark ≡ true → Each S P → IfSome part P → All S (led mark part)
 solid-led mark P None is each fits = tt
 solid-led mark P (Some part) is each fits = (is, each part fits)
 
+-- a userinfo has no blanks
 solid-userinfo : (user password : Option (List ℕ)) → IfSome user User → IfSome password Password → All S (userinfo_text user password)
 solid-userinfo None password u p = tt
 solid-userinfo (Some user) password u p =
     all_both S (user ++ led colon password) (at_sign ∷ []) (all_both S user (led colon password) (solid-user user u) (solid-led colon Password password refl solid-password p)) (refl, tt)
 
+-- a SIP URI has no blanks
 solid-sip : (p : SipParts) → SipFits p → All S (sip_text p)
 solid-sip p fits =
     all_both S (userinfo_text p.user p.password) (hostport_text p.host p.port ++ p.params ++ led question p.headers) (solid-userinfo p.user p.password fits.user fits.password)
@@ -134,13 +142,13 @@ solid-sip p fits =
     (all_both S (hostport_text p.host p.port) p.params (all_both S (host_text p.host) (led colon p.port) (solid-host (host_text p.host) p.host fits.host) (solid-led colon Port p.port refl solid-port fits.port)) (solid-params p.params fits.params))
     (solid-led question Headers p.headers refl solid-headers fits.headers))
 
--- folding keeps blanks, so a text that is solid when it is folded is solid
+-- lower case leaves blanks, so that a text whose lower case has none has none
 solid-folded : (text : List ℕ) → All S (folded text) → All S text
 solid-folded [] all = tt
 solid-folded (b ∷ text) all =
     (solid_class (λ c. is_solid (to_ascii_lowercase c)) refl refl refl refl b all.0, solid-folded text all.1)
 
--- a URI
+-- a URI has no blanks
 pub solid-uri : (text : List ℕ) (parts : UriParts) → UriText text parts → All S text
 solid-uri text (sip p) (scheme, same, fits, whole) =
     subst (All S) (sym whole) (all_both S scheme (colon ∷ sip_text p) (solid-folded scheme (subst (All S) (sym same) (at p.secure))) (refl, solid-sip p fits))

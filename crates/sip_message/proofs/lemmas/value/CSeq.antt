@@ -28,11 +28,11 @@ fails_stops : (u : List ℕ) → Fails is_ascii_digit u → Stops is_ascii_digit
 fails_stops [] fails = absurd fails
 fails_stops (b ∷ u) fails = fails
 
--- after the digits stands no digit
+-- blanks and a method begin with no digit
 digits-stop : (method v : List ℕ) → (Blanks then Exactly method) v → Stops is_ascii_digit v
 digits-stop method v is = fails_stops v (fail-then is_ascii_digit Blanks (Exactly method) (fail-blanks is_ascii_digit blank-digit) v is)
 
--- what stands after the digits
+-- the method of a CSeq is what is left after the blanks that follow its digits
 method-behind : (text v : List ℕ) (number : ℕ) (method : List ℕ) (c : CSeqText text number method) → (Blanks then Exactly method) v → Behind v method
 method-behind text v number method c is = (subst StopsBlank (append-nil method) (token-stops method [] c.is_method), (is.0, is.1, inr is.2, is.3, is.4))
 
@@ -55,29 +55,29 @@ cseq-parts text rest n n_is rest_is x c =
     (ap (λ t. t ++ c.whole.1) (sym c.whole.2) ∙ sym c.whole.4 ∙ sym (take-append-drop n text)) in
     (same.0, (subst StopsBlank (append-nil (x.1)) (token-stops (x.1) [] c.is_method), subst (Blanks then Exactly (x.1)) (same.1 ∙ sym rest_is) c.whole.3))
 
--- too large a number
+-- digits that write a number above 2147483647 are at the front of no CSeq
 pub cseq-large : (text : List ℕ) (n : ℕ) → n ≡ prefix_len is_ascii_digit text → (Digits (take n text) → 2147483647 < digits_value 10 (take n text)) → (x : ℕ × List ℕ) → CSeqValue text x → ⊥
 cseq-large text n n_is large x c =
     let parts = cseq-parts text (drop n text) n n_is refl x c in
     let above = large (subst Digits parts.0 c.are_digits) in
     absurd (omega (arith, above, c.low, c.number_is, ap (digits_value 10) parts.0))
 
--- no digit
+-- a text that does not begin with a digit is no CSeq
 pub cseq-no_digit : (text : List ℕ) (n : ℕ) → n ≡ prefix_len is_ascii_digit text → n ≡ 0 → (x : ℕ × List ℕ) → CSeqValue text x → ⊥
 cseq-no_digit text n n_is none x c =
     some-run is_ascii_digit c.digits c.are_digits ((cseq-parts text (drop n text) n n_is refl x c).0 ∙ ap (λ m. take m text) none)
 
--- no blank
+-- a text without a blank after its digits is no CSeq
 pub cseq-no_blank : (text rest : List ℕ) (n b : ℕ) → n ≡ prefix_len is_ascii_digit text → rest ≡ drop n text → IsLongestFront Blanks rest b → b ≡ 0 → (x : ℕ × List ℕ) → CSeqValue text x → ⊥
 cseq-no_blank text rest n b n_is rest_is longest none x c =
     no-blanks rest (subst (IsLongestFront Blanks rest) none longest) (x.1) (cseq-parts text rest n n_is rest_is x c).1
 
--- the method is what stands after the blanks
+-- what stands after the digits and the blanks of a CSeq is a token, its method
 pub cseq-method : (text rest method : List ℕ) (n b : ℕ) → n ≡ prefix_len is_ascii_digit text → rest ≡ drop n text → method ≡ drop b rest → IsLongestFront Blanks rest b → (b ≡ 0 → ⊥) → (x : ℕ × List ℕ) → CSeqValue text x → Token method
 cseq-method text rest method n b n_is rest_is method_is longest some x c =
     subst Token ((longest-blanks_front rest b longest some).1 (x.1) (cseq-parts text rest n n_is rest_is x c).1 ∙ sym method_is) c.is_method
 
--- the parts are a CSeq
+-- digits that write a number up to 2147483647, blanks and a token are a CSeq of that number and that method
 pub cseq-is : (text rest method : List ℕ) (n b number : ℕ) → n ≡ prefix_len is_ascii_digit text → n ≤ length text → rest ≡ drop n text → method ≡ drop b rest → (n ≡ 0 → ⊥) → IsLongestFront Blanks rest b → (b ≡ 0 → ⊥) → Token method → number ≡ digits_value 10 (take n text) → number ≤ 2147483647 → CSeqText text number method
 cseq-is text rest method n b number n_is within rest_is method_is some longest blanks token number_is small = record {
   digits = take n text;

@@ -22,7 +22,7 @@ use Rattle.sip_message.specs.inner.Values.{is_word_byte, Word}
 lack-word : AllLack at_sign Word
 lack-word = lack-some at_sign (One is_word_byte) (lack-one at_sign is_word_byte refl)
 
--- what decides its two words decides a Call-ID
+-- what decides whether the word before the first "@", and the one after it if there is one, are words decides whether a text is a Call-ID
 pub decides-call_id : (text word : List ℕ) (more : Option (List ℕ)) (r : Bool) → word ≡ before at_sign text → more ≡ behind at_sign text → Decides r (Word word × IfSome more Word) → Decides r (CallId text)
 decides-call_id text word more r word_is more_is =
     Decides-like r
@@ -31,18 +31,19 @@ decides-call_id text word more r word_is more_is =
     let both = cut-optional at_sign Word Word text lack-word whole in
     (subst Word (sym word_is) both.0, subst (λ o. IfSome o Word) (sym more_is) both.1))
 
--- a byte of a token is one of a word
+-- a byte of a token may stand in a word
 token-word : (b : ℕ) → b < 256 → is_token_byte b ≡ true → is_word_byte b ≡ true
 token-word b below is =
     (and_parts (is_token_byte b) (is_word_byte b) (agree_below_at (λ x. is_token_byte x && is_word_byte x) is_token_byte 256 b refl below ∙ is)).1
 
+-- bytes of a text that are bytes of tokens may stand in a word
 token-words : (u v : List ℕ) → Each1 (Fits w8) (u ++ v) → list_all is_token_byte u ≡ true → list_all is_word_byte u ≡ true
 token-words [] v fits all = refl
 token-words (b ∷ u) v fits all =
     let both = and_parts (is_token_byte b) (list_all is_token_byte u) all in
     and_from _ _ (token-word b fits.0.fits both.0) (token-words u v fits.1 both.1)
 
--- the bytes of a token at the front need not be looked at
+-- all bytes of a text may stand in a word exactly if those after its longest token may
 pub words-behind : (text : List ℕ) (n : ℕ) → ((k : ℕ) → Fits w8 (get_or text k 0)) → IsLongestFront Token text n → list_all is_word_byte (drop n text) ≡ list_all is_word_byte text
 words-behind text n fits longest =
     elim longest.front [

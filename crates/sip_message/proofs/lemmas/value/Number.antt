@@ -14,27 +14,27 @@ use Rattle.sip_text.proofs.texts.RunLemmas.{run-list_all, list_all-run}
 use Rattle.sip_text.proofs.uris.UriPortLemmas.{digit-above}
 use Rattle.sip_message.specs.inner.Values.{Digits}
 
--- the digits before the index write the number
+-- the digits before the index write the number, which is at most `most`
 pub record ReadsNumber (text : List ℕ) (at number most : ℕ) : Type 0 where
   pub value : number ≡ digits_value 10 (take at text)
   pub small : number ≤ most
 
--- a byte that is no digit stands in no digits
+-- a text with a byte that is no digit is no digits
 pub digits-at : (text : List ℕ) (k : ℕ) → Digits text → k < length text → is_ascii_digit (get_or text k 0) ≡ false → ⊥
 digits-at text k digits within other =
     both_ways (list_all is_ascii_digit text) (list_all_at is_ascii_digit text k 0 within other)
     (run-list_all is_ascii_digit text (many-some (One is_ascii_digit) text digits))
 
--- one digit more
+-- where the digits before the index write a number, and the byte at the index is a digit, those up to it write ten times as much and it
 pub number-more : (text : List ℕ) (at number most : ℕ) → at < length text → ReadsNumber text at number most → is_ascii_digit (get_or text at 0) ≡ true → number * 10 + (get_or text at 0 - 48) ≡ digits_value 10 (take (at + 1) text)
 number-more text at number most within reads is =
     let digit = digit-above (get_or text at 0) is in
     omega (arith, digits_value_more 10 text at within, reads.value, digit.2, digit.0)
 
--- digits that write a larger number write a larger one with all that follow
+-- where the digits before the index write a number above `most`, all digits of the text write one above it
 pub number-large : (text : List ℕ) (at number most : ℕ) → number ≡ digits_value 10 (take at text) → most < number → most < digits_value 10 text
 number-large text at number most is large = omega (arith, is, large, digits_value-take-le 10 text at (omega arith))
 
--- what decides each byte decides a run
+-- what decides whether all bytes pass a test decides whether the text is any number of bytes that do
 pub all-decides : (test : ℕ → Bool) (text : List ℕ) (r : Bool) → r ≡ list_all test text → Decides r (Many (One test) text)
 all-decides test text r is = (λ all. list_all-run test text (sym is ∙ all), λ many. is ∙ run-list_all test text many)

@@ -16,20 +16,21 @@ use Rattle.sip_message.specs.inner.Values.{is_value_byte, OtherText, is_plain_by
 use Rattle.sip_message.proofs.lemmas.text.Cuts.{Stops}
 use Rattle.sip_message.proofs.lemmas.front.Prefix.{prefix-at}
 
--- CRLF WSP
+-- a fold: CRLF WSP
 abbrev Fold : List ℕ → Type 0
 Fold = Exactly crlf then One is_wsp
 
 abbrev pub OtherItem : List ℕ → Type 0
 OtherItem = One is_plain_byte or Fold
 
--- the length of the piece at the front
+-- the length of the piece at the front of the text, and 0 if there is none
 abbrev pub other_len : List ℕ → ℕ
 other_len text = if is_plain_byte (slice_index text 0) then 1 else (if begins_with_fold text then 3 else 0)
 
 fold-text : (u : List ℕ) → Fold u → (b : ℕ) × (is_wsp b ≡ true) × (u ≡ crlf ++ (b ∷ []))
 fold-text u (f, b, is_f, one, whole) = (one.0, one.1, whole ∙ ap (λ t. t ++ b) is_f ∙ ap (λ t. crlf ++ t) one.2)
 
+-- where a piece stands at the front of a text, `other_len` gives its length
 other-at_front : (u v : List ℕ) → OtherItem u → other_len (u ++ v) ≡ length u
 other-at_front u v (inl one) =
     ap (λ t. other_len (t ++ v)) one.2 ∙ ap (λ w. cond w 1 (cond (begins_with_fold (one.0 ∷ v)) 3 0)) one.1 ∙ sym (ap length one.2)
@@ -41,7 +42,7 @@ other-moves : (u : List ℕ) → OtherItem u → 0 < length u
 other-moves u (inl one) = omega (arith, ap length one.2)
 other-moves u (inr fold) = omega (arith, ap length (fold-text u fold).2)
 
--- a text that begins with a fold
+-- where CRLF and a WSP stand at the front of a text, a piece of three bytes stands there
 fold-front : (text : List ℕ) → begins_with_fold text ≡ true → HasFront OtherItem text 3
 fold-front text is =
     let both = and_parts _ _ is in
@@ -63,6 +64,7 @@ fold-front text is =
 abbrev fold_len : Bool → ℕ
 fold_len fold = cond fold 3 0
 
+-- `other_len` gives 0, or a piece of that length stands at the front of the text
 other-piece : (text : List ℕ) → (other_len text ≡ 0) ⊎ HasFront OtherItem text (other_len text)
 other-piece [] = inl refl
 other-piece (a ∷ text) = at (is_plain_byte a) refl
@@ -78,12 +80,12 @@ other-piece (a ∷ text) = at (is_plain_byte a) refl
 other-step : IsStep OtherItem other_len
 other-step = record { at_piece = other-at_front; moves = other-moves; piece = other-piece }
 
--- a blank is a piece
+-- a blank, with the CRLF of a fold before it or without, is a piece
 blank-item : (u : List ℕ) → Blank u → OtherItem u
 blank-item u (front, b, inl none, one, whole) = inl (one.0, or_right (is_value_byte one.0) (is_wsp one.0) one.1, whole ∙ ap (λ t. t ++ b) none ∙ one.2)
 blank-item u (front, b, inr fold, one, whole) = inr (front, b, fold, one, whole)
 
--- the value is pieces
+-- a value that is not looked into is pieces
 other-items : (text : List ℕ) → OtherText text → Many OtherItem text
 other-items text many = many-flat (Lws or One is_value_byte) OtherItem text each many
   where
@@ -91,7 +93,7 @@ other-items text many = many-flat (Lws or One is_value_byte) OtherItem text each
     each u (inl lws) = many-map Blank OtherItem u blank-item (blanks-lws u lws)
     each u (inr (b, is, u_is)) = many-one OtherItem u (inl (b, or_left (is_value_byte b) (is_wsp b) is, u_is))
 
--- a text of such pieces is a value of any other field
+-- pieces are a value that is not looked into
 items-other : (text : List ℕ) → Many OtherItem text → OtherText text
 items-other text many = many-map OtherItem (Lws or One is_value_byte) text each many
   where
@@ -102,7 +104,7 @@ items-other text many = many-map OtherItem (Lws or One is_value_byte) text each 
     ]
     each u (inr (f, b, is_f, one, whole)) = inl (lws-blank u (f, b, inr is_f, one, whole))
 
--- pieces after pieces
+-- where pieces stand at the front of a text, and further ones after these, all of them stand at the front
 front-more : (text : List ℕ) (n k : ℕ) → HasFront (Many OtherItem) text n → HasFront (Many OtherItem) (drop n text) k → HasFront (Many OtherItem) text (n + k)
 front-more text n k front next = (
   front.0 ++ next.0,
@@ -112,7 +114,7 @@ front-more text n k front next = (
   omega (arith, front.4, next.4, length-append front.0 next.0),
 )
 
--- past the bytes and blanks
+-- where pieces stand at the front, and then bytes of a value or blanks, these are pieces as well
 pub other-run : (text rest : List ℕ) (n k : ℕ) → HasFront (Many OtherItem) text n → rest ≡ drop n text → k ≡ prefix_len is_plain_byte rest → HasFront (Many OtherItem) text (n + k)
 other-run text rest n k front rest_is k_is =
     let run = run-front is_plain_byte (drop n text) in
@@ -120,13 +122,13 @@ other-run text rest n k front rest_is k_is =
     front-more text n k front
     (subst (HasFront (Many OtherItem) (drop n text)) len (run.0, run.1, many-map (One is_plain_byte) OtherItem run.0 (λ u one. inl one) run.2, run.3, run.4))
 
--- a fold after the front is one piece more
+-- where pieces stand at the front, and then a fold, it is a piece as well
 pub other-fold : (text rest : List ℕ) (n : ℕ) → HasFront (Many OtherItem) text n → rest ≡ drop n text → begins_with_fold rest ≡ true → HasFront (Many OtherItem) text (n + 3)
 other-fold text rest n front rest_is fold =
     let one = subst (λ t. HasFront OtherItem t 3) rest_is (fold-front rest fold) in
     front-more text n 3 front (one.0, one.1, many-one OtherItem one.0 one.2, one.3, one.4)
 
--- where neither follows, the text is such a value exactly if it ends there
+-- where neither a byte of a value, nor a blank, nor a fold follows the pieces, the text is a value that is not looked into exactly if it ends there
 pub other-end : (text rest : List ℕ) (n : ℕ) → HasFront (Many OtherItem) text n → rest ≡ drop n text → Stops is_plain_byte rest → begins_with_fold rest ≡ false → Decides (nat_eq n (length text)) (OtherText text)
 other-end text rest n front rest_is stops no_fold = (
   λ all. items-other text (front-whole (Many OtherItem) text n front (eqb-true n (length text) all)),
@@ -143,7 +145,7 @@ other-end text rest n front rest_is stops no_fold = (
     none : other_len (drop n text) ≡ 0
     none = subst (λ t. other_len t ≡ 0) rest_is (at rest stops no_fold)
 
--- after the bytes and blanks stands none
+-- after the longest run of bytes of a value and blanks stands none of them
 pub stops-run : (text rest more : List ℕ) (n k : ℕ) → rest ≡ drop n text → more ≡ drop (n + k) text → k ≡ prefix_len is_plain_byte rest → Stops is_plain_byte more
 stops-run text rest more n k rest_is more_is k_is =
     subst (Stops is_plain_byte) (ap (drop k) rest_is ∙ drop-drop k n text ∙ sym more_is) (prefix-at is_plain_byte rest k k_is).1

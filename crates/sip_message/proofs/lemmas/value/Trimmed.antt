@@ -21,12 +21,12 @@ use Rattle.sip_message.proofs.lemmas.field.OneWay.{same_solid}
 use Rattle.sip_message.proofs.lemmas.text.Closed.{blank_opens}
 use Rattle.sip_message.proofs.lemmas.front.Prefix.{prefix-at}
 
--- a text of no bytes
+-- a text of no bytes is the empty text
 pub length-none : (u : List ℕ) → length u ≡ 0 → u ≡ []
 length-none [] none = refl
 length-none (b ∷ u) none = absurd (omega (arith, none))
 
--- a text is a blank run, or empty, exactly if the longest at its front is all of it
+-- a text is an optional blank run exactly if the longest blank run at its front is all of it
 pub sws-whole : (text : List ℕ) (n : ℕ) → n ≤ length text → IsLongestFront Blanks text n → Decides (nat_eq n (length text)) (Sws text)
 sws-whole text n within longest = (
   λ same. elim longest.front [
@@ -41,7 +41,7 @@ sws-whole text n within longest = (
   ],
 )
 
--- blanks after blanks
+-- an optional blank run after another is an optional blank run
 sws-append : (u v : List ℕ) → Sws u → Sws v → Sws (u ++ v)
 sws-append u v left right = blanks-units (u ++ v) (many-append Blank u v (many u left) (many v right))
   where
@@ -49,7 +49,7 @@ sws-append u v left right = blanks-units (u ++ v) (many-append Blank u v (many u
     many t (inl none) = subst (Many Blank) (sym none) (many-nil Blank)
     many t (inr blanks) = units-blanks t blanks
 
--- what passes from an index on
+-- where each byte from place n on passes a test, the text without its first n bytes does
 all-from : (test : ℕ → Bool) (text : List ℕ) (n : ℕ) → ((k : ℕ) → n ≤ k → k < length text → test (get_or text k 0) ≡ true) → All test (drop n text)
 all-from test [] zero each = tt
 all-from test [] (suc n) each = tt
@@ -57,7 +57,7 @@ all-from test (b ∷ text) zero each =
     (each 0 (omega arith) (omega arith), all-from test text zero (λ k low high. each (suc k) (omega arith) (omega (arith, high))))
 all-from test (b ∷ text) (suc n) each = all-from test text n (λ k low high. each (suc k) (omega (arith, low)) (omega (arith, high)))
 
--- a text up to a solid byte ends solid
+-- a text up to a byte that is no blank does not end with a blank
 ends-take : (text : List ℕ) (n : ℕ) → n ≤ length text → ((k : ℕ) → n ≡ suc k → is_lws_byte (get_or text k 0) ≡ false) → EndsSolid (take n text)
 ends-take text zero within solid = tt
 ends-take [] (suc n) within solid = absurd (omega (arith, within))
@@ -70,12 +70,13 @@ stops-opens : (u : List ℕ) → Stops is_lws_byte u → OpensSolid u
 stops-opens [] stops = tt
 stops-opens (b ∷ u) stops = stops
 
+-- the first n bytes of a text that does not begin with a blank do not begin with one
 opens-take : (u : List ℕ) (n : ℕ) → Stops is_lws_byte u → OpensSolid (take n u)
 opens-take u zero stops = tt
 opens-take [] (suc n) stops = tt
 opens-take (b ∷ u) (suc n) stops = stops
 
--- a text in three: blank bytes, what neither begins nor ends with one, and blank bytes
+-- the text is blank bytes, a value that neither begins nor ends with one, and blank bytes
 pub record IsTrimmed (text front value back : List ℕ) : Type 0 where
   pub blanks : All is_lws_byte front
   pub stops : Stops is_lws_byte (value ++ back)
@@ -84,7 +85,7 @@ pub record IsTrimmed (text front value back : List ℕ) : Type 0 where
   pub spaces : All is_lws_byte back
   pub whole : text ≡ front ++ (value ++ back)
 
--- as the reader cuts it
+-- where n is the length of the blank bytes at the front of a text, and e that of the rest up to its last other byte, the reader's cuts trim it
 pub trimmed : (text rest : List ℕ) (n e : ℕ) → n ≡ prefix_len is_lws_byte text → rest ≡ drop n text → e ≤ length rest → ((k : ℕ) → e ≤ k → k < length rest → is_lws_byte (get_or rest k 0) ≡ true) → (0 < e → is_lws_byte (get_or rest (e - 1) 0) ≡ false) → IsTrimmed text (take n text) (take e rest) (drop e rest)
 trimmed text rest n e n_is rest_is within blank solid =
     let cut = prefix-at is_lws_byte text n n_is in
@@ -99,12 +100,12 @@ trimmed text rest n e n_is rest_is within blank solid =
       whole = sym (take-append-drop n text) ∙ ap (λ t. take n text ++ t) (sym rest_is ∙ sym again);
     }
 
--- with blank runs at its ends it is the value
+-- where a text is trimmed, and what stands before and after the value are blank runs, the value is that of the text
 pub trimmed-value : (text front value back : List ℕ) → IsTrimmed text front value back → Sws front → Sws back → ValueText text value
 trimmed-value text front value back is left right =
     record { opens = is.opens; ends = is.ends; whole = (front, value ++ back, left, (value, back, refl, right, refl), is.whole) }
 
--- a value has blank runs at both of its ends
+-- where a text is trimmed, and has a value, what stands before and after it are blank runs
 pub value-trimmed : (text front value back w : List ℕ) → IsTrimmed text front value back → ValueText text w → Sws front × Sws back
 value-trimmed text front value back w is of = at w of.opens of.ends (of.whole.4 ∙ ap (λ t. of.whole.0 ++ t) (of.whole.3.4 ∙ ap (λ t. t ++ b) of.whole.3.2))
   where
@@ -133,17 +134,17 @@ value-trimmed text front value back w is of = at w of.opens of.ends (of.whole.4 
         let backs : back ≡ b = append_cancel_left (c ∷ v) back b (ap (λ t. t ++ back) (sym values) ∙ cut.1) in
         (subst Sws (sym cut.0) of.whole.2, subst Sws (sym backs) of.whole.3.3)
 
--- what is read tells whether there is one
+-- where b says whether the reader of R read a value, b decides whether R relates a value to the text
 pub read-decides : {A X : Type 0} (R : List ℕ → X → Type 0) (parts : A → X) (text : List ℕ) (r : Option A) (b : Bool) → IsOnlyValue R parts text r → b ≡ is_some r → Decides b ((x : X) × R text x)
 read-decides R parts text None b none is = (λ yes_b. absurd (both_ways b is yes_b), λ x. absurd (none x.0 x.1))
 read-decides R parts text (Some a) b only is = (λ _. (parts a, only.0), λ _. is)
 
--- a last byte that is solid
+-- a text whose last byte is no blank does not end with a blank
 ends-solid : (b : ℕ) (u : List ℕ) → is_lws_byte (get_or (b ∷ u) (length u) 0) ≡ false → EndsSolid (b ∷ u)
 ends-solid b [] solid = solid
 ends-solid b (c ∷ u) solid = ends-solid c u solid
 
--- a value after one SP
+-- a text of one SP and a value that begins and ends with no blank has that value
 pub one-space : (value : List ℕ) → is_solid value ≡ true → ValueText (space ∷ value) value
 one-space [] solid = absurd (both_ways false refl solid)
 one-space (b ∷ value) solid =
@@ -163,7 +164,7 @@ one-space (b ∷ value) solid =
       );
     }
 
--- a value after nothing
+-- a text that begins and ends with no blank has itself as its value
 pub no-space : (value : List ℕ) → is_solid value ≡ true → ValueText value value
 no-space value solid =
     let behind = one-space value solid in

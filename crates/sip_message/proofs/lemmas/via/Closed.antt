@@ -1,4 +1,4 @@
--- Via values stay what they are when a run of blanks in them is unfolded, with the same top transport.
+-- Values of Via stay such, and keep the transport of their first element, when a run of blanks in them becomes one SP.
 use Rattle.std.proofs.Common.{◌≡◌, ℕ, ◌≤◌, Bool, true, false, List, [], ◌∷◌, ◌++◌, length, Option, Some, None, refl, sym, ap, ◌∙◌, subst, inl, inr, arith}
 use Rattle.std.specs.Bool.{Decides}
 use Rattle.std.specs.Prelude.{IfSome, codes, bytes_eq}
@@ -30,7 +30,7 @@ use Rattle.sip_message.proofs.lemmas.text.Closed.{Closed, closed-solid, closed-t
 use Rattle.sip_message.proofs.lemmas.text.Ends.{Firm, AllFirm, AllEnd, firm-then_right, firm-then_left, end-then, end-firm, end-each, opens-solid, seam-left, seam-right, opens-then}
 use Rattle.sip_message.proofs.lemmas.params.Closed.{closed-blanks, closed-mark, firm-solid, open-solid, open-token, some-between, some-left, some-run, IsDemand, ParamsSet, AllOk, closed-params, end-params, tail-set, set-tail}
 
--- a parameter named branch has a token for value
+-- a parameter may have this name and this value in a Via: where its name is branch, the value is a token
 abbrev pub BranchOk : List ℕ → Option (List ℕ) → Type 0
 BranchOk n value = SameText n (codes "branch") → (v : List ℕ) × Token v × (value ≡ Some v)
 
@@ -39,6 +39,7 @@ no_token : (u : List ℕ) → Quoted u → Token u → ⊥
 no_token u (d, t, d_is, rest, whole) token =
     both_ways (is_token_byte dquote) refl (subst (All is_token_byte) (whole ∙ ap (λ x. x ++ t) d_is) (each-token u token)).0
 
+-- options that hold equal values hold the same value
 some_is : {x y : List ℕ} → Some x ≡ Some y → x ≡ y
 some_is {x = x} is = ap (value_or x) is
   where
@@ -46,6 +47,7 @@ some_is {x = x} is = ap (value_or x) is
     value_or d None = d
     value_or d (Some v) = v
 
+-- what is asked of a parameter in a Via is of its name alone, where the value is a quoted string
 branch-demand : IsDemand BranchOk
 branch-demand = record {
   quoted = λ n value other quoted ok same.
@@ -53,12 +55,13 @@ branch-demand = record {
       absurd (no_token value quoted (subst Token (sym (some_is token.2)) token.1));
 }
 
--- parameters with a branch are as asked, and the other way round
+-- where a branch counts in parameters, each of them may stand in a Via
 branch-ok : (ps : List (List ℕ × Option (List ℕ))) (branch : Option (List ℕ)) → IsBranch ps branch → AllOk BranchOk ps
 branch-ok [] branch is = tt
 branch-ok ((n, value) ∷ ps) branch (inl (same, v, token, value_is, branch_is, later, more)) = ((λ _. (v, token, value_is)), branch-ok ps later more)
 branch-ok ((n, value) ∷ ps) branch (inr (differs, more)) = ((λ same. absurd (differs same)), branch-ok ps branch more)
 
+-- where each of some parameters may stand in a Via, a branch counts in them, or none
 ok-branch : (ps : List (List ℕ × Option (List ℕ))) → AllOk BranchOk ps → (branch : Option (List ℕ)) × IsBranch ps branch
 ok-branch [] all = (None, refl)
 ok-branch ((n, value) ∷ ps) all = at (ok-branch ps all.1) (bytes_eq (folded n) (folded (codes "branch"))) (bytes_eq-Decides (folded n) (folded (codes "branch")))
@@ -77,7 +80,7 @@ some-host t (name x) is none = absurd (omega (arith, ap length none, ap length i
 some-host t (v4 x) is none = some-left DecimalGroup _ (λ u group. some-between _ 1 3 u (omega arith) group) t is.0 none
 some-host t (v6 x) is none = some-left (Byte 91) _ (λ u byte empty. absurd (omega (arith, ap length byte, ap length empty))) t is.0 none
 
--- the parts as sets: a host, a port with its colon, the parameters
+-- the text is a host
 abbrev HostSet : List ℕ → Type 0
 HostSet text = (h : HostParts) × HostText (host_text h) h × (text ≡ host_text h)
 
@@ -87,7 +90,7 @@ PortSet text = (port : Option (List ℕ)) × IfSome port Port × ColonPort port 
 abbrev AfterTransport : List ℕ → Type 0
 AfterTransport = Blanks then (HostSet then (PortSet then ParamsSet BranchOk))
 
--- an element with this transport
+-- the text is an element of Via whose transport is of the set Transport
 abbrev ViaSet : (List ℕ → Type 0) → List ℕ → Type 0
 ViaSet Transport = Token then (Mark slash then (Token then (Mark slash then (Transport then AfterTransport))))
 
@@ -97,20 +100,21 @@ solid-host_set u is = subst (All is_solid) (sym is.2) (solid-host (host_text is.
 some-host_set : (u : List ℕ) → HostSet u → u ≡ [] → ⊥
 some-host_set u is none = some-host (host_text is.0) is.0 is.1 (sym is.2 ∙ none)
 
--- a port ends solid
+-- an optional port with its colon does not end with a blank
 end-port : AllEnd PortSet
 end-port u (None, fits, is) = subst EndsSolid (sym is) tt
 end-port u (Some port, fits, (m, t, mark, t_is, whole)) =
     end-firm (Mark colon then Exactly port) (firm-then_right (Mark colon) (Exactly port) (λ x is. subst Firm (sym is) (firm-solid Port solid-port (λ y p. some-between _ 1 5 y (omega arith) p.0) port fits)))
     u (m, t, mark, t_is, whole)
 
+-- the set of optional ports with their colon is closed under making one SP of a blank run
 closed-port : Closed PortSet
 closed-port u v b w ends opens blanks (None, fits, is) =
     (None, fits, closed-solid (Exactly []) (λ t same. subst (All is_solid) (sym same) tt) u v b w ends opens blanks is)
 closed-port u v b w ends opens blanks (Some port, fits, is) =
     (Some port, fits, closed-then (Mark colon) (Exactly port) (seam-right (Mark colon) (Exactly port) (λ t same. subst OpensSolid (sym same) (opens-solid port (solid-port port fits)))) (closed-mark colon refl) (closed-solid (Exactly port) (λ t same. subst (All is_solid) (sym same) (solid-port port fits))) u v b w ends opens blanks is)
 
--- what follows the transport
+-- the set of texts after the transport of an element is closed under making one SP of a blank run
 closed-after : Closed AfterTransport
 closed-after =
     closed-then Blanks (HostSet then (PortSet then ParamsSet BranchOk)) (seam-right Blanks (HostSet then (PortSet then ParamsSet BranchOk)) (opens-then HostSet (PortSet then ParamsSet BranchOk) (open-solid HostSet solid-host_set some-host_set)))
@@ -118,18 +122,20 @@ closed-after =
     (closed-then HostSet (PortSet then ParamsSet BranchOk) (seam-left HostSet (PortSet then ParamsSet BranchOk) (end-each HostSet solid-host_set)) (closed-solid HostSet solid-host_set)
     (closed-then PortSet (ParamsSet BranchOk) (seam-left PortSet (ParamsSet BranchOk) end-port) closed-port (closed-params BranchOk branch-demand)))
 
+-- what stands after the transport of an element is not empty, and does not end with a blank
 firm-after : AllFirm AfterTransport
 firm-after =
     firm-then_right Blanks (HostSet then (PortSet then ParamsSet BranchOk))
     (firm-then_left HostSet (PortSet then ParamsSet BranchOk) (firm-solid HostSet solid-host_set some-host_set)
     (end-then PortSet (ParamsSet BranchOk) end-port (end-params BranchOk)))
 
--- a token, SLASH, and what begins with a token
+-- a token, SLASH and a text of Q are a closed set where Q is, and no text of Q begins with a blank
 closed-slash : (Q : List ℕ → Type 0) → ((u : List ℕ) → Q u → OpensSolid u) → Closed Q → Closed (Token then (Mark slash then Q))
 closed-slash Q opens closed =
     closed-then Token (Mark slash then Q) (seam-left Token (Mark slash then Q) (end-each Token solid-token)) (closed-solid Token solid-token)
     (closed-then (Mark slash) Q (seam-right (Mark slash) Q opens) (closed-mark slash refl) closed)
 
+-- the set of elements whose transport is of T is closed where no text of T is empty or has blanks
 closed-via_set : (T : List ℕ → Type 0) → Each is_solid T → ((u : List ℕ) → T u → u ≡ [] → ⊥) → Closed (ViaSet T)
 closed-via_set T solid some =
     closed-slash (Token then (Mark slash then (T then AfterTransport))) (opens-then Token (Mark slash then (T then AfterTransport)) open-token)
@@ -140,7 +146,7 @@ firm-via_set : (T : List ℕ → Type 0) → AllFirm (ViaSet T)
 firm-via_set T =
     firm-then_right Token _ (firm-then_right (Mark slash) _ (firm-then_right Token _ (firm-then_right (Mark slash) _ (firm-then_right T AfterTransport firm-after))))
 
--- an element with its parts is one of the set
+-- an element of Via with a transport of T is of the set of such elements
 via-set : (T : List ℕ → Type 0) (text : List ℕ) (v : ViaParts) → T v.transport → ViaText text v → ViaSet T text
 via-set T text v t (fits, (a, w1, a_is, (s, w2, slash1, (b, w3, b_is, (r, w4, slash2, (c, w5, c_is, (sp, w6, blanks, (h, w7, h_is, (p, q, port, params, w7_is), w6_is), w5_is), w4_is), w3_is), w2_is), w1_is), whole)) = (
   a,
@@ -192,7 +198,7 @@ via-set T text v t (fits, (a, w1, a_is, (s, w2, slash1, (b, w3, b_is, (r, w4, sl
   whole,
 )
 
--- a text of the set has parts, with a transport of T
+-- an element whose transport is of T has parts, with a transport of T
 set-via : (T : List ℕ → Type 0) (text : List ℕ) → ((u : List ℕ) → T u → Token u) → ViaSet T text → (v : ViaParts) × ViaText text v × T v.transport
 set-via T text token (a, w1, a_is, (s, w2, slash1, (b, w3, b_is, (r, w4, slash2, (c, w5, c_is, (sp, w6, blanks, (h, w7, (host, host_fits, h_is), (p, q, (port, port_fits, port_is), params, w7_is), w6_is), w5_is), w4_is), w3_is), w2_is), w1_is), whole) =
     let tail = set-tail BranchOk q params in
@@ -206,13 +212,14 @@ set-via T text token (a, w1, a_is, (s, w2, slash1, (b, w3, b_is, (r, w4, slash2,
       c_is,
     )
 
--- elements after commas
+-- further elements by their parts are elements, each after a comma
 more-set : (vs : List ViaParts) (text : List ℕ) → MoreVias vs text → Many (Mark comma then ViaSet Token) text
 more-set [] text is = subst (Many (Mark comma then ViaSet Token)) (sym is) (many-nil (Mark comma then ViaSet Token))
 more-set (v ∷ vs) text (m, t, mark, (x, y, via, more, t_is), whole) =
     subst (Many (Mark comma then ViaSet Token)) (sym (whole ∙ ap (λ z. m ++ z) t_is ∙ sym (append_assoc m x y)))
     (many-cons (Mark comma then ViaSet Token) (m ++ x) y (m, x, mark, via-set Token x v via.0.transport via, refl) (more-set vs y more))
 
+-- elements, each after a comma, are further elements by their parts
 set-more : (us : List (List ℕ)) → AllByRecursion (Mark comma then ViaSet Token) us → (vs : List ViaParts) × MoreVias vs (concat us)
 set-more [] all = ([], refl)
 set-more (u ∷ us) ((m, x, mark, via, u_is), all) =
@@ -220,10 +227,11 @@ set-more (u ∷ us) ((m, x, mark, via, u_is), all) =
     let v = set-via Token x (λ t is. is) via in
     (v.0 ∷ more.0, (m, x ++ concat us, mark, (x, concat us, v.1, more.1, refl), ap (λ z. z ++ concat us) u_is ∙ append_assoc m x (concat us)))
 
--- elements whose first has this transport
+-- the text is elements of Via, of which the first has a transport of the set Transport
 abbrev ViasSet : (List ℕ → Type 0) → List ℕ → Type 0
 ViasSet T = ViaSet T then Many (Mark comma then ViaSet Token)
 
+-- the set of values of Via whose first element has a transport of T is closed where no text of T is empty or has blanks
 closed-vias_set : (T : List ℕ → Type 0) → Each is_solid T → ((u : List ℕ) → T u → u ≡ [] → ⊥) → Closed (ViasSet T)
 closed-vias_set T solid some =
     closed-then (ViaSet T) (Many (Mark comma then ViaSet Token)) (seam-left (ViaSet T) (Many (Mark comma then ViaSet Token)) (end-firm (ViaSet T) (firm-via_set T))) (closed-via_set T solid some)
@@ -231,7 +239,7 @@ closed-vias_set T solid some =
     (closed-then (Mark comma) (ViaSet Token) (seam-right (Mark comma) (ViaSet Token) (opens-then Token (Mark slash then (Token then (Mark slash then (Token then AfterTransport)))) open-token)) (closed-mark comma refl)
     (closed-via_set Token solid-token (some-run is_token_byte))))
 
--- a Via value, unfolded, is one with the same top transport
+-- a value of Via that is unfolded is a value of Via, and its first element has the same transport
 pub unfolded-via : (text transport : List ℕ) → TopTransport text transport → TopTransport (unfolded text) transport
 unfolded-via text transport (v, vs, (x, y, via, more, whole), is) =
     let token : Token transport = subst Token (sym is) via.0.transport in

@@ -1,5 +1,5 @@
 -- The elements of Via fields, one after another.
-use Rattle.std.proofs.Common.{◌≡◌, ℕ, zero, suc, ◌+◌, ◌<◌, List, [], ◌∷◌, ◌++◌, length, drop, map, cond, slice_index_or, add-one, Bool, true, false, Option, None, Some, inl, inr, refl, sym, ap, ◌∙◌, subst, arith}
+use Rattle.std.proofs.Common.{◌≡◌, ℕ, zero, suc, ◌+◌, ◌<◌, List, [], ◌∷◌, ◌++◌, length, drop, map, cond, slice_index_or, add-one, true, false, Option, None, Some, inl, inr, refl, sym, ap, ◌∙◌, subst, arith}
 use Rattle.std.proofs.Math.Logic.{∥∥₁_elim}
 use Rattle.std.specs.Coded.{Coded, Coded-set}
 use Rattle.std.proofs.lemmas.List.{append_assoc, length-append}
@@ -16,12 +16,13 @@ use Rattle.sip_message.specs.inner.Only.{ExactlyOne, the, One-prop}
 use Rattle.std.specs.Prelude.{MatchOption, ⊤}
 use Rattle.std.specs.Borrow.{Bor}
 use Rattle.std.specs.Iterator.{YieldsFirstBy, MakesProgress, item_count}
+use Rattle.std.proofs.lemmas.Bool.{cond-true, cond-false}
 use Rattle.sip_message.specs.Elements.{Element, values, MoreElements, ElementsText, AreElements}
 use Rattle.sip_message.specs.inner.ElementFronts.{AreLeft, NextText, EndsElement, ViaFront}
 use Rattle.sip_message.specs.inner.Codes.{elements_code}
 use Rattle.sip_message.specs.inner.Views.{name_parts, field_parts}
 
--- the values from a place on, by the field that stands there
+-- the values of a name from place i on are the value of the field at i, if it has the name, and those after it
 values-suc : (known : Known) (xs : List Code) (i : ℕ) (d : Code) → i < length xs → values known (drop i (map field_parts xs)) ≡ cond (is_name_of known (name_parts (slice_index_or xs i d).name)) ((slice_index_or xs i d).value.now ∷ values known (drop (suc i) (map field_parts xs))) (values known (drop (suc i) (map field_parts xs)))
 values-suc known [] i d below = absurd (omega (arith, below))
 values-suc known (x ∷ xs) zero d below = refl
@@ -30,28 +31,22 @@ values-suc known (x ∷ xs) (suc i) d below = values-suc known xs i d (omega (ar
 values-at : (known : Known) (xs : List Code) (i : ℕ) (d : Code) → i < length xs → values known (drop i (map field_parts xs)) ≡ cond (is_name_of known (name_parts (slice_index_or xs i d).name)) ((slice_index_or xs i d).value.now ∷ values known (drop (i + 1) (map field_parts xs))) (values known (drop (i + 1) (map field_parts xs)))
 values-at known xs i d below = rw add-one (values-suc known xs i d below)
 
-cond-true : {X : Type 0} (b : Bool) (x y : X) → b ≡ true → cond b x y ≡ x
-cond-true b x y is = ap (λ z. cond z x y) is
-
-cond-false : {X : Type 0} (b : Bool) (x y : X) → b ≡ false → cond b x y ≡ y
-cond-false b x y is = ap (λ z. cond z x y) is
-
--- a field of the name
+-- where the field at place i has the name, the values of the name from there on are its value and those after it
 pub values-found : (known : Known) (xs : List Code) (i : ℕ) (d : Code) → i < length xs → is_name_of known (name_parts (slice_index_or xs i d).name) ≡ true → values known (drop i (map field_parts xs)) ≡ (slice_index_or xs i d).value.now ∷ values known (drop (i + 1) (map field_parts xs))
 values-found known xs i d below is = values-at known xs i d below ∙ cond-true _ _ _ is
 
--- a field of another name
+-- where the field at place i has another name, the values of the name from there on are those after it
 pub values-passed : (known : Known) (xs : List Code) (i : ℕ) (d : Code) → i < length xs → is_name_of known (name_parts (slice_index_or xs i d).name) ≡ false → values known (drop i (map field_parts xs)) ≡ values known (drop (i + 1) (map field_parts xs))
 values-passed known xs i d below is = values-at known xs i d below ∙ cond-false _ _ _ is
 
--- past the last field there is none
+-- from the end of the fields on there is no value of the name
 pub values-end : (known : Known) (xs : List Code) (i : ℕ) → (i < length xs → ⊥) → values known (drop i (map field_parts xs)) ≡ []
 values-end known [] zero past = refl
 values-end known [] (suc i) past = refl
 values-end known (x ∷ xs) zero past = absurd (past (omega arith))
 values-end known (x ∷ xs) (suc i) past = values-end known xs i (λ below. past (omega (arith, below)))
 
--- the one value is this one
+-- a value of which R holds is the one value of which it holds
 pub One-is : {X : Type 0} → Coded X → (R : X → Type 0) (o : ExactlyOne R) (x : X) → R x → the o ≡ x
 unfolding the
 One-is c R o x is = ∥∥₁_elim o.1 (Coded-set c o.0 x) (λ p. sym (p.only x is))
@@ -61,19 +56,19 @@ element-stops : (text rest : List ℕ) (v : ViaParts) → ViaText text v → Sto
 element-stops text rest v is =
     subst StopsBlank (sym (ap (λ t. t ++ rest) (is.1.4 ∙ ap (λ t. t ++ is.1.1) is.1.2) ∙ append_assoc v.protocol is.1.1 rest)) (token-stops v.protocol (is.1.1 ++ rest) is.0.protocol)
 
--- more elements begin with a comma, and after it is the next
+-- further elements, at least one, begin with a comma, and a value of them stands after it
 pub more-mark : (e : Element) (es : List Element) (rest : List ℕ) → MoreElements (e ∷ es) rest → (next : List ℕ) × MarkFront comma rest next × ElementsText next (e ∷ es)
 more-mark e es rest (via, (u, v, mark, (w, x, w_is, more, v_is), whole)) = (v, (stops, (u, v, mark, refl, whole)), (via, (w, x, w_is, more, v_is)))
   where
     stops : StopsBlank v
     stops = subst StopsBlank (sym (v_is ∙ ap (λ t. t ++ x) w_is)) (element-stops e.0 x e.1 via)
 
--- nothing is no mark
+-- no mark stands at the front of the empty text
 pub no_mark-nil : (mark : ℕ) (next : List ℕ) → MarkFront mark [] next → ⊥
 no_mark-nil mark next (stops, (u, v, (s, t, sws, (b, w, b_is, w_is, t_is), u_is), v_is, whole)) =
     absurd (omega (arith, ap length whole, length-append u v, ap length u_is, length-append s t, ap length t_is, length-append b w, ap length b_is))
 
--- where no comma stands, the rest of the value is nothing
+-- where no comma stands at the front of what is left of a value, it is empty, and the elements that are left are those of the other values
 left-nothing : (rest : List ℕ) (values : List (List ℕ)) (es : List Element) → NotRead (MarkFront comma rest) → AreLeft rest values es → (rest ≡ []) × AreElements values es
 left-nothing rest values es none left = at left.now left.are_now left.whole
   where
@@ -81,7 +76,7 @@ left-nothing rest values es none left = at left.now left.are_now left.whole
     at [] is whole = (is, subst (AreElements values) (sym whole) left.are_more)
     at (e ∷ now) is whole = let mark = more-mark e now rest is in absurd (none mark.0 mark.1)
 
--- what is left of nothing is the values after it
+-- where what is left of a value is empty, the elements of the other values are those that are left
 pub nothing-left : (rest : List ℕ) (values : List (List ℕ)) (es : List Element) → rest ≡ [] → AreElements values es → AreLeft rest values es
 nothing-left rest values es none are = record { now = []; more = es; are_now = none; are_more = are; whole = refl }
 
@@ -89,7 +84,7 @@ nothing-left rest values es none are = record { now = []; more = es; are_now = n
 pub left-of_nothing : (values : List (List ℕ)) (es : List Element) → AreLeft [] values es → AreElements values es
 left-of_nothing values es left = (left-nothing [] values es (no_mark-nil comma) left).1
 
--- what is left from a comma on is what stands after it
+-- where a comma stands at the front of what is left of a value, the elements that are left are those of what follows it and of the other values
 left-behind : (rest text : List ℕ) (values : List (List ℕ)) (es : List Element) → ReadAs (MarkFront comma rest) text → AreLeft rest values es → AreElements (text ∷ values) es
 left-behind rest text values es mark left = at left.now left.are_now left.whole
   where
@@ -99,17 +94,18 @@ left-behind rest text values es mark left = at left.now left.are_now left.whole
         let next = more-mark e now rest is in
         (e ∷ now, left.more, subst (λ t. ElementsText t (e ∷ now)) (mark.1 next.0 next.1) next.2, left.are_more, whole)
 
+-- where a comma stands at the front of what is left of a value, the elements of what follows it and of the other values are those that are left
 behind-left : (rest text : List ℕ) (values : List (List ℕ)) (es : List Element) → MarkFront comma rest text → AreElements (text ∷ values) es → AreLeft rest values es
 behind-left rest text values es (stops, (u, v, mark, v_is, whole)) ([], more, now_text, are, es_is) = absurd now_text
 behind-left rest text values es (stops, (u, v, mark, v_is, whole)) (e ∷ now, more, (via, is), are, es_is) =
     record { now = e ∷ now; more = more; are_now = (via, (u, text, mark, is, whole ∙ ap (λ t. u ++ t) v_is)); are_more = are; whole = es_is }
 
--- the next element stands after the comma
+-- where a comma stands at the front of what is left of a value, the next element begins what follows it
 pub next-behind : (rest text : List ℕ) (vals : List (List ℕ)) → ReadAs (MarkFront comma rest) text → NextText rest vals text vals
 next-behind rest text vals mark =
     record { to = (λ es left. left-behind rest text vals es mark left); from = (λ es are. behind-left rest text vals es mark.0 are) }
 
--- without a comma it is the first of the next value
+-- where no comma stands at the front of what is left of a value, the next element begins the next value, and there is none if there is no value
 pub next-cut : (rest : List ℕ) (vals : List (List ℕ)) (behind : ℕ → List (List ℕ)) → NotRead (MarkFront comma rest) → (r : Option (Bor (List ℕ) × ℕ)) → MatchOption r (vals ≡ []) (λ cut. vals ≡ cut.0.now ∷ behind cut.1)
     → MatchOption r ((es : List Element) → AreLeft rest vals es → es ≡ []) (λ next. (es : List Element) → AreLeft rest vals es → NextText rest vals next.0.now (behind next.1))
 next-cut rest vals behind none None is = λ es left. subst (λ v. AreElements v es) is (left-nothing rest vals es none left).1
@@ -118,17 +114,18 @@ next-cut rest vals behind none (Some cut) is = λ es left. record {
   from = (λ fs are. nothing-left rest vals fs (left-nothing rest vals es none left).0 (subst (λ v. AreElements v fs) (sym is) are));
 }
 
--- an element of more ends before a comma, or where the text does
+-- where further elements follow an element, it ends before a comma, or with the text
 pub ends-more : (es : List Element) (rest : List ℕ) → MoreElements es rest → EndsElement rest
 ends-more [] rest is = inl is
 ends-more (e ∷ es) rest is = let mark = more-mark e es rest is in inr (mark.0, mark.1)
 
--- the element that is read is the first of those that are left
+-- the first of the elements is the one that was read, and the others are those that are left after it
 record FirstRead (e : Element) (rest : List ℕ) (more : List (List ℕ)) (es : List Element) : Type 0 where
   others : List Element
   first : es ≡ e ∷ others
   are_left : AreLeft rest more others
 
+-- where an element is read at the front of a value, it is the first of the elements of this value and the others
 first-read : (text : List ℕ) (e : Element) (rest : List ℕ) (more : List (List ℕ)) (es : List Element) → ReadAs (ViaFront text) (e, rest) → AreElements (text ∷ more) es → FirstRead e rest more es
 first-read text e rest more es read ([], later, now_text, are, es_is) = absurd now_text
 first-read text e rest more es read (f ∷ now, later, (via, (u, x, u_is, more_now, text_is)), are, es_is) =
@@ -141,13 +138,13 @@ read-first : (text : List ℕ) (e : Element) (rest : List ℕ) (more : List (Lis
 read-first text e rest more es front left =
     (e ∷ left.now, left.more, (front.0, (e.0, rest, refl, left.are_now, front.1)), left.are_more, ap (λ t. e ∷ t) left.whole)
 
--- a value that no element begins has none
+-- a value at whose front no element is read has no elements
 pub no-first : (text : List ℕ) (more : List (List ℕ)) (es : List Element) → NotRead (ViaFront text) → AreElements (text ∷ more) es → ⊥
 no-first text more es none ([], later, now_text, are, es_is) = now_text
 no-first text more es none (f ∷ now, later, (via, (u, x, u_is, more_now, text_is)), are, es_is) =
     none (f, x) (via, text_is ∙ ap (λ t. t ++ x) u_is, ends-more now x more_now)
 
--- what stands for the elements that are left, once the first is read
+-- where an element is read at the front of the next text, the elements that are left begin with it, and the others are the only ones left after it
 read-only : (rest text : List ℕ) (vals more : List (List ℕ)) (e : Element) (behind : List ℕ) (es : List Element) → NextText rest vals text more → ReadAs (ViaFront text) (e, behind) → IsOnly (AreLeft rest vals) es
     → (others : List Element) × (es ≡ e ∷ others) × IsOnly (AreLeft behind more) others
 read-only rest text vals more e behind es next read only = (first.others, first.first, record { is = first.are_left; only = same })
@@ -160,36 +157,36 @@ read-only rest text vals more e behind es next read only = (first.others, first.
         let eq : ◌≡◌ {A = List Element} (e ∷ ys) (e ∷ first.others) = only.only (e ∷ ys) (next.from (e ∷ ys) (read-first text e behind more ys read.0 left)) ∙ first.first in
         cc
 
--- those that are left then
+-- where an element is read at the front of the next text, there is one list of elements that are left after it
 pub One-next : (rest text : List ℕ) (vals more : List (List ℕ)) (e : Element) (behind : List ℕ) → ((es : List Element) → AreLeft rest vals es → NextText rest vals text more) → ReadAs (ViaFront text) (e, behind) → ExactlyOne (AreLeft rest vals) → ExactlyOne (AreLeft behind more)
 One-next rest text vals more e behind next read one =
     ∥∥₁_elim one.1 (One-prop elements_code (AreLeft behind more)) (λ p. let read_it = read-only rest text vals more e behind one.0 (next one.0 p.is) read p in (read_it.0, ∣ read_it.2 ∣₁))
 
--- the first element is the one that was read
+-- where an element is read at the front of the next text, the elements that are left are it and those that are left after it
 pub One-first : (rest text : List ℕ) (vals more : List (List ℕ)) (e : Element) (behind : List ℕ) → ((es : List Element) → AreLeft rest vals es → NextText rest vals text more) → ReadAs (ViaFront text) (e, behind) → (one : ExactlyOne (AreLeft rest vals)) (then : ExactlyOne (AreLeft behind more)) → the one ≡ e ∷ the then
 unfolding the
 One-first rest text vals more e behind next read one then =
     ∥∥₁_elim one.1 (Coded-set elements_code one.0 (e ∷ then.0))
     (λ p. let read_it = read-only rest text vals more e behind one.0 (next one.0 p.is) read p in read_it.1 ∙ ap (λ t. e ∷ t) (sym (One-is elements_code (AreLeft behind more) then read_it.0 read_it.2.is)))
 
--- nothing is left
+-- where nothing can be left, the list of the elements that are left is empty
 pub One-none : (rest : List ℕ) (vals : List (List ℕ)) (one : ExactlyOne (AreLeft rest vals)) → ((es : List Element) → AreLeft rest vals es → es ≡ []) → the one ≡ []
 unfolding the
 One-none rest vals one none = ∥∥₁_elim one.1 (Coded-set elements_code one.0 []) (λ p. none one.0 p.is)
 
--- what must be read is read
+-- where elements are left, an element is read at the front of the next text
 pub One-read : (rest text : List ℕ) (vals more : List (List ℕ)) → ((es : List Element) → AreLeft rest vals es → NextText rest vals text more) → NotRead (ViaFront text) → ExactlyOne (AreLeft rest vals) → ⊥
 One-read rest text vals more next none one = ∥∥₁_elim one.1 (λ a b. absurd a) (λ p. no-first text more one.0 none ((next one.0 p.is).to one.0 p.is))
 
--- at the end of an iterator nothing is left, and then too
+-- an iterator whose list is empty yields nothing, and its list stays empty
 pub yields-none : {A B : Type 0} (view : A → B) (r : Option A) (s : List B) → r ≡ None → s ≡ [] → YieldsFirstBy view (λ it. it) s r s
 yields-none view r s none nil = subst (λ o. YieldsFirstBy view (λ it. it) s o s) (sym none) (nil, nil)
 
--- a thing that all others are is the one
+-- a value of which R holds, and which all others of which it holds are, is the one value of which R holds
 pub One-of : {X : Type 0} (R : X → Type 0) (x : X) → R x → ((y : X) → R y → y ≡ x) → ExactlyOne R
 One-of R x is only = (x, ∣ record { is = is; only = only } ∣₁)
 
--- an iterator that gave the first of its list is nearer its end
+-- an iterator that yielded the first element of its list has a shorter list left
 pub yields-nearer : {A B : Type 0} (a : A) (s t : List B) (b : B) → s ≡ b ∷ t → MakesProgress (λ _. ⊤) (item_count (λ it. it)) s (Some a) t
 yields-nearer a s t b is = record { on = (λ fin. (tt, fin, omega (arith, ap length is))); keeps = tt; rests = (λ fin. tt) }
 

@@ -34,11 +34,11 @@ one-host_cut text x y (inl a) (inr b) = absurd (first-fails is_token_byte (slice
 one-host_cut text x y (inr a) (inl b) = absurd (first-fails is_token_byte (slice_index text 0) left_bracket refl (bracket-first text y b) (token-first text x a))
 one-host_cut text x y (inr a) (inr b) = one-token text x y a b
 
--- a host that begins with a bracket is cut after its close
+-- where something in brackets stands at the front of a text, it is what may be a host there
 pub host-bracket : (text part rest : List ℕ) → ReadAs (BracketFront text) (part, rest) → ReadAs (HostCut text) (part, rest)
 host-bracket text part rest is = read-one (HostCut text) (part, rest) (one-host_cut text) (inl is.0)
 
--- any other is cut after its token
+-- where nothing in brackets stands at the front of a text, the token there is what may be a host
 pub host-token : {A : Type 0} (parts : A → List ℕ × List ℕ) (text : List ℕ) (r : Option A) → NotRead (BracketFront text) → IsOnlyValue TokenFront parts text r → IsOnlyValue HostCut parts text r
 host-token parts text None bracket none = at
   where
@@ -47,28 +47,28 @@ host-token parts text None bracket none = at
     at x (inr is) = none x is
 host-token parts text (Some a) bracket read = read-one (HostCut text) (parts a) (one-host_cut text) (inr read.0)
 
--- a host with what is left
+-- the parts of a host, with what is left after it, are read in one way
 pub one-host_last : (part rest : List ℕ) → AtMostOne (λ (x : HostParts × List ℕ). HostText part (x.0) × (x.1 ≡ rest))
 one-host_last part rest (h, r) (k, s) (h_is, r_is) (k_is, s_is) =
     ap (λ x. (x, r)) (same-host part h k h_is k_is) ∙ ap (λ x. (k, x)) (r_is ∙ sym s_is)
 
--- the part that was cut is one host
+-- where the part that was cut is a host, it is read as that host, with what is left
 pub host-last : (part rest : List ℕ) (h : HostParts) → HostText part h → ReadAs (λ (x : HostParts × List ℕ). HostText part (x.0) × (x.1 ≡ rest)) (h, rest)
 host-last part rest h is = read-one (λ (x : HostParts × List ℕ). HostText part (x.0) × (x.1 ≡ rest)) (h, rest) (one-host_last part rest) (is, refl)
 
--- the host at the front is read in one way
+-- a host at the front of a text is read in one way
 pub one-host : (text : List ℕ) → AtMostOne (HostFront text)
 one-host text = one-seq (HostCut text) _ (one-host_cut text) (λ cut. one-host_last (cut.0) (cut.1))
 
--- a port
+-- a port at the front of a text is read in one way
 pub one-port : (text : List ℕ) → AtMostOne (PortFront text)
 one-port text x y a b = one-token text x y a.1 b.1
 
--- digits that are a port are it
+-- where the token at the front of a text is a port, it is read as the port
 pub port-found : (text port rest : List ℕ) → ReadAs (TokenFront text) (port, rest) → Port port → ReadAs (PortFront text) (port, rest)
 port-found text port rest token is = read-one (PortFront text) (port, rest) (one-port text) (is, token.0)
 
--- a token that is none is no port
+-- where the token at the front of a text is no port, no port is read
 pub port-missing : (text port rest : List ℕ) → ReadAs (TokenFront text) (port, rest) → (Port port → ⊥) → NotRead (PortFront text)
 port-missing text port rest token none x is = none (subst Port (ap (λ y. y.0) (token.1 x is.1)) is.0)
 
@@ -87,15 +87,17 @@ hostname-token u is = bytes-token u (each-hostname u is) (λ none. both_ways (is
 v4-token : (u : List ℕ) → Ipv4 u → Token u
 v4-token u is = bytes-token u (each-v4 u is) (λ none. both_ways (is_v4 u) (ap is_v4 none) (v4-is u is))
 
+-- a port is a token
 port-token : (u : List ℕ) → Port u → Token u
 port-token u is =
     bytes-token u (each-between is_token_byte 1 5 _ (each-one is_token_byte is_ascii_digit token-digit) u is.0)
     (λ none. omega (arith, ap length none, (port-length u is).0))
 
--- what may follow a host
+-- the byte may follow a host, after blanks: it is a colon, a comma or a semicolon
 abbrev pub is_after_host : ℕ → Bool
 is_after_host b = nat_eq b colon || is_separator b
 
+-- a byte that may follow a host is no byte of a token
 after-token : (b : ℕ) → is_after_host b ≡ true → is_token_byte b ≡ false
 after-token b is = elim (or_cases (nat_eq b colon) (is_separator b) is) [
   | inl same ↦ subst (λ x. is_token_byte x ≡ false) (sym (eqb-true b colon same)) refl
@@ -107,17 +109,17 @@ pub next-after_host : (text : List ℕ) → Next is_separator text → Next is_a
 next-after_host text (inl none) = inl none
 next-after_host text (inr (b, inner, is, behind)) = inr (b, inner, or_right (nat_eq b colon) (is_separator b) is, behind)
 
--- a token is cut before what may follow it
+-- where no byte of a token follows a token, it is read at the front of both
 token-front : (u rest : List ℕ) → Token u → Stops is_token_byte rest → TokenFront (u ++ rest) (u, rest)
 token-front u rest token stops = (token, stops, (u, rest, refl, refl, refl))
 
--- a host is read before what may follow it, and begins with no blank
+-- where nothing follows a host, or after blanks a byte that may, the host is read at the front of both
 pub host-front : (h : HostParts) (rest : List ℕ) → HostText (host_text h) h → Next is_after_host rest → HostFront (host_text h ++ rest) (h, rest)
 host-front (name x) rest is next = both (x, rest) (inr (token-front x rest (hostname-token x is.0) (next-stops is_after_host is_token_byte rest blank-token after-token next))) (is, refl)
 host-front (v4 x) rest is next = both (x, rest) (inr (token-front x rest (v4-token x is.0) (next-stops is_after_host is_token_byte rest blank-token after-token next))) (is, refl)
 host-front (v6 x) rest is next = both (x, rest) (inl (reference-bracket (x ++ rest) (x, rest) (is.0, refl))) (is, refl)
 
--- a host is not empty, so no blank opens it
+-- a host does not begin with a blank
 pub host-stops : (h : HostParts) (rest : List ℕ) → HostText (host_text h) h → StopsBlank (host_text h ++ rest)
 host-stops (name x) rest is = token-stops x rest (hostname-token x is.0)
 host-stops (v4 x) rest is = token-stops x rest (v4-token x is.0)
@@ -125,7 +127,7 @@ host-stops (v6 x) rest is =
     let bracket = reference-bracket (x ++ rest) (x, rest) (is.0, refl) in
     subst (λ t. StopsBlank (t ++ rest)) (sym bracket.2) (stops-byte left_bracket ((bracket.0 ++ right_bracket ∷ []) ++ rest) refl)
 
--- what is read is a host and its rest
+-- where a host is read at the front of a text, the text is the host and what is left
 pub front-host : (text : List ℕ) (h : HostParts) (rest : List ℕ) → HostFront text (h, rest) → HostText (host_text h) h × (text ≡ host_text h ++ rest)
 front-host text h rest (both (part, left) cut (is, rest_is)) =
     let spelled = same h is in
@@ -140,7 +142,7 @@ front-host text h rest (both (part, left) cut (is, rest_is)) =
     whole (inl bracket) = bracket.3
     whole (inr token) = token.2.4 ∙ ap (λ z. z ++ token.2.1) token.2.2 ∙ ap (λ z. part ++ z) token.2.3
 
--- a port is read before what may follow it
+-- where nothing follows an optional port, or after blanks a separator, the port is read at the front of both
 pub port-front : (port : Option (List ℕ)) (p rest : List ℕ) → IfSome port Port → ColonPort port p → Next is_separator rest → LedFront colon PortFront (p ++ rest) (port, rest)
 port-front None p rest fits p_is next =
     let whole : p ++ rest ≡ rest = ap (λ t. t ++ rest) p_is in
@@ -154,7 +156,7 @@ port-front (Some port) p rest fits (m, t, mark, t_is, p_is) next = (
   (fits, token-front port rest (port-token port fits) (next-stops is_separator is_token_byte rest blank-token separator-token next)),
 )
 
--- what is read after the colon is a port
+-- where an optional port is read at the front of a text, the text is the port with its colon, and what is left
 pub front-port : (port : Option (List ℕ)) (text rest : List ℕ) → LedFront colon PortFront text (port, rest) → (p : List ℕ) × ColonPort port p × IfSome port Port × (text ≡ p ++ rest)
 front-port None text rest (none, rest_is) = ([], refl, tt, sym rest_is)
 front-port (Some port) text rest (inner, mark, (fits, token)) =

@@ -1,4 +1,4 @@
--- The steps by which sent-protocol is read are its grammar.
+-- The steps by which sent-protocol is read read what the grammar has.
 use Rattle.std.proofs.Common.{ℕ, List, [], ◌∷◌, ◌++◌, refl, sym, ap, ◌∙◌, subst}
 use Rattle.sip_standard.specs.Text.{Exactly, ◌then◌}
 use Rattle.sip_standard.specs.Profile.{Token, Blanks}
@@ -12,12 +12,12 @@ use Rattle.sip_message.proofs.lemmas.via.Transport.{Fails, AllFail, fail-then, f
 use Rattle.sip_message.proofs.lemmas.params.Closed.{some-run}
 use Rattle.sip_message.proofs.lemmas.front.Cuts.{stops-byte}
 
--- sent-protocol LWS, with its parts
+-- sent-protocol LWS with these three parts, and then a text of Q
 abbrev pub ProtocolText : List ℕ → List ℕ → List ℕ → (List ℕ → Type 0) → List ℕ → Type 0
 ProtocolText protocol version transport Rest =
     Exactly protocol then Mark slash then Exactly version then Mark slash then Exactly transport then Blanks then Rest
 
--- the parts are tokens, no blank run stands after them, and the text is the grammar's
+-- the three parts are tokens, what is left begins with no blank, and the text is sent-protocol LWS and what is left
 pub record IsProtocol (text : List ℕ) (p : ProtocolParts) : Type 0 where
   pub protocol : Token p.protocol
   pub version : Token p.version
@@ -25,7 +25,7 @@ pub record IsProtocol (text : List ℕ) (p : ProtocolParts) : Type 0 where
   pub stops : StopsBlank p.rest
   pub whole : ProtocolText p.protocol p.version p.transport (Exactly p.rest) text
 
--- a set that begins with a byte of no token stops one
+-- a text of a set whose texts begin with no byte of a token begins with none
 fail-stops : (P : List ℕ → Type 0) → AllFail is_token_byte P → (u : List ℕ) → P u → Stops is_token_byte u
 fail-stops P fail u is = at u (fail u is)
   where
@@ -41,7 +41,7 @@ token-stops t rest token = at t token
     at [] is = absurd (some-run is_token_byte [] is refl)
     at (b ∷ u) is = stops-byte b (u ++ rest) (solid_is b (solid-token (b ∷ u) is).0)
 
--- the grammar's text is read by the steps
+-- sent-protocol LWS of the grammar is read by the steps
 pub protocol-steps : (text : List ℕ) (p : ProtocolParts) → IsProtocol text p → ProtocolFront text p
 protocol-steps text p is =
     let one = is.whole in
@@ -56,14 +56,14 @@ protocol-steps text p is =
     (both (p.transport, five.1) (is.transport, fail-stops _ (fail-then is_token_byte _ _ (fail-blanks is_token_byte blank-token)) five.1 five.3, (p.transport, five.1, refl, refl, five.4 ∙ ap (λ x. x ++ five.1) five.2))
     (both p.rest (is.stops, five.3) refl)))))
 
--- a token, and what follows it
+-- where a token is read at the front of a text, and what is left is of Q, the text is the token and a text of Q
 token-then : (x u y : List ℕ) (Q : List ℕ → Type 0) → TokenFront x (u, y) → Q y → (Exactly u then Q) x
 token-then x u y Q is rest = (u, y, refl, rest, is.2.4 ∙ ap (λ z. z ++ is.2.1) is.2.2 ∙ ap (λ z. u ++ z) is.2.3)
 
 mark-then : (x y : List ℕ) (Q : List ℕ → Type 0) → MarkFront slash x y → Q y → (Mark slash then Q) x
 mark-then x y Q is rest = (is.1.0, y, is.1.2, rest, is.1.4 ∙ ap (λ z. is.1.0 ++ z) is.1.3)
 
--- what the steps read is the grammar's
+-- what the steps read is sent-protocol LWS of the grammar
 pub steps-protocol : (text : List ℕ) (p : ProtocolParts) → ProtocolFront text p → IsProtocol text p
 steps-protocol text p (both (a, q) first (both r slash1 (both (b, s) second (both t slash2 (both (d, w) third (both rest blanks is)))))) =
     subst (IsProtocol text) (sym is) (record {

@@ -1,4 +1,4 @@
--- The steps by which an element of Via is read are its grammar, and read it in one way.
+-- The steps by which an element of Via is read read what the grammar has, and in one way.
 use Rattle.std.proofs.Common.{◌≡◌, ℕ, ◌-◌, ◌≤◌, nat_eq, List, [], ◌∷◌, ◌++◌, Option, Some, None, length, take, refl, sym, ap, ◌∙◌, subst, inl, arith}
 use Rattle.std.proofs.lemmas.List.{append_assoc}
 use Rattle.sip_standard.specs.Text.{Exactly, ◌then◌}
@@ -43,20 +43,20 @@ one-via_steps text =
     one-seq (LedFront colon PortFront (host.1)) _ (one-led colon PortFront (host.1) refl one-port) (λ port.
     one-seq (TailFront (port.1)) _ (one-tail (port.1)) (λ tail x y x_is y_is. x_is.1 ∙ sym y_is.1))))
 
--- a text in two parts, and what follows it
+-- where x is u and v, x and a rest are u, and then v and the rest
 onto : (x u v rest : List ℕ) → x ≡ u ++ v → x ++ rest ≡ u ++ (v ++ rest)
 onto x u v rest is = ap (λ t. t ++ rest) is ∙ append_assoc u v rest
 
--- what begins with what a text is split in
+-- where x is u and y, and y is z and a rest, x is u and z, and then the rest
 under : (x u y z rest : List ℕ) → x ≡ u ++ y → y ≡ z ++ rest → x ≡ (u ++ z) ++ rest
 under x u y z rest is y_is = is ∙ ap (λ t. u ++ t) y_is ∙ sym (append_assoc u z rest)
 
--- the parameters after their blanks
+-- the parameters are what is left of the text after its blanks
 behind-part : (part q : List ℕ) → OpensSolid part → BehindBlanks part q → Behind q part
 behind-part [] q opens q_is = subst (λ t. Behind t []) (sym q_is) (refl, ([], [], inl refl, refl, refl))
 behind-part (b ∷ part) q opens blanks = (stops-byte b part opens, blanks)
 
--- the parameters of a text are what is left after its blanks
+-- what is left of parameters after their blanks is the parameters from their first ";" on
 part-behind : (ps : List Param) (q part : List ℕ) → ParamsText q ps → Behind q part → ParamsPart part ps × BehindBlanks part q
 part-behind [] q part q_is (stops, (u, v, sws, v_is, whole)) = at part (none u v (sym whole ∙ q_is)) v_is
   where
@@ -77,13 +77,13 @@ part-behind (p ∷ ps) q part (m, t, (s, c, sws, (byte, after, byte_is, after_is
     part_is : part ≡ semicolon ∷ (after ++ t)
     part_is = same-behind q part (semicolon ∷ (after ++ t)) behind (stops-byte semicolon (after ++ t) refl, (s, semicolon ∷ (after ++ t), sws, refl, flat))
 
--- what follows a host is a port, or what follows that
+-- where a separator or nothing follows an optional port, a byte that may follow a host, or nothing, stands at the front of both
 port-next : (port : Option (List ℕ)) (p rest : List ℕ) → ColonPort port p → Next is_separator rest → Next is_after_host (p ++ rest)
 port-next None p rest p_is next = subst (λ t. Next is_after_host (t ++ rest)) (sym p_is) (next-after_host rest next)
 port-next (Some port) p rest (m, t, mark, t_is, p_is) next =
     subst (Next is_after_host) (sym (onto p m t rest p_is)) (mark-next is_after_host colon m (t ++ rest) refl refl mark)
 
--- the grammar's element is read by the steps
+-- an element of Via of the grammar is read by the steps
 pub via-steps : (text : List ℕ) (e : Element) (rest : List ℕ) → ViaFront text (e, rest) → ViaSteps text (e.1, rest)
 via-steps text (whole, v) rest ((fits, (a, w1, a_is, (s, w2, slash1, (b, w3, b_is, (r, w4, slash2, (c, w5, c_is, (sp, w6, blanks, (h, w7, h_is, (p, q, port, params, w7_is), w6_is), w5_is), w4_is), w3_is), w2_is), w1_is), whole_is)), text_is, ends) =
     subst (λ t. ViaSteps t (v, rest)) (sym text_is)
@@ -120,7 +120,7 @@ via-steps text (whole, v) rest ((fits, (a, w1, a_is, (s, w2, slash1, (b, w3, b_i
     after : Next is_after_host (w7 ++ rest)
     after = subst (Next is_after_host) (sym ported) (port-next v.port p (q ++ rest) port next)
 
--- a protocol's text, cut before what follows the element
+-- where what follows sent-protocol LWS is w and r, the text is a front and r, and the front is sent-protocol LWS and w
 protocol-before : (a b c text rest w r : List ℕ) → rest ≡ w ++ r → ProtocolText a b c (Exactly rest) text → (whole : List ℕ) × (text ≡ whole ++ r) × ((Q : List ℕ → Type 0) → Q w → ProtocolText a b c Q whole)
 protocol-before a b c text rest w r rest_is (a0, w1, a_is, (s, w2, slash1, (b0, w3, b_is, (r0, w4, slash2, (c0, w5, c_is, (sp, w6, blanks, w6_is, w5_is), w4_is), w3_is), w2_is), w1_is), whole_is) = (
   a0 ++ (s ++ (b0 ++ (r0 ++ (c0 ++ (sp ++ w))))),
@@ -128,7 +128,7 @@ protocol-before a b c text rest w r rest_is (a0, w1, a_is, (s, w2, slash1, (b0, 
   (λ Q is. (a0, s ++ (b0 ++ (r0 ++ (c0 ++ (sp ++ w)))), a_is, (s, b0 ++ (r0 ++ (c0 ++ (sp ++ w))), slash1, (b0, r0 ++ (c0 ++ (sp ++ w)), b_is, (r0, c0 ++ (sp ++ w), slash2, (c0, sp ++ w, c_is, (sp, w, blanks, is, refl), refl), refl), refl), refl), refl)),
 )
 
--- what the steps read is an element of the grammar
+-- what the steps read is an element of Via of the grammar
 pub steps-via : (text : List ℕ) (v : ViaParts) (rest : List ℕ) → ViaSteps text (v, rest) → (whole : List ℕ) × ViaFront text ((whole, v), rest)
 steps-via text v rest (both sent protocol (both (h, r1) host (both (port, r2) led (both ((params, branch), r3) (is_branch, (x, x_is, behind)) (ends, v_is))))) =
     subst (λ y. (whole : List ℕ) × ViaFront text ((whole, y.0), y.1)) (sym v_is) (
@@ -166,7 +166,7 @@ steps-via text v rest (both sent protocol (both (h, r1) host (both (port, r2) le
     begun : (whole : List ℕ) × (text ≡ whole ++ r3) × ((Q : List ℕ → Type 0) → Q (host_text h ++ (ported.0 ++ x)) → ProtocolText sent.protocol sent.version sent.transport Q whole)
     begun = protocol-before sent.protocol sent.version sent.transport text sent.rest (host_text h ++ (ported.0 ++ x)) r3 tail_is spelled.whole
 
--- an element at the front is read in one way
+-- an element of Via at the front of a text is read in one way
 pub one-via : (text : List ℕ) → AtMostOne (ViaFront text)
 one-via text ((w, v), r) ((x, y), s) a b =
     let same : ◌≡◌ {A = ViaParts × List ℕ} (v, r) (y, s) = one-via_steps text (v, r) (y, s) (via-steps text (w, v) r a) (via-steps text (x, y) s b) in
@@ -174,11 +174,11 @@ one-via text ((w, v), r) ((x, y), s) a b =
     let wholes : w ≡ x = (same_by_end w r x s (ap length rest) (sym a.1 ∙ b.1)).0 in
     ap (λ z. ((z, v), r)) wholes ∙ ap (λ z. ((x, z.0), z.1)) same
 
--- what the steps do not read is no element
+-- where the steps read nothing, no element of Via stands at the front
 pub via-missing : (text : List ℕ) → NotRead (ViaSteps text) → NotRead (ViaFront text)
 via-missing text none (e, rest) is = none (e.1, rest) (via-steps text e rest is)
 
--- what the steps read is the only element there
+-- what the steps read is the one element of Via at the front
 pub via-found : (text : List ℕ) (v : ViaParts) (rest : List ℕ) → ViaSteps text (v, rest) → ReadAs (ViaFront text) ((take (length text - length rest) text, v), rest)
 via-found text v rest steps =
     let is = steps-via text v rest steps in
@@ -194,7 +194,7 @@ abbrev pub parts_of : ProtocolParts → HostParts × List ℕ → Option (List �
 parts_of sent host port tail =
     record { protocol = sent.protocol; version = sent.version; transport = sent.transport; host = host.0; port = port.0; params = tail.0.0; branch = tail.0.1 }
 
--- the steps of an element, from those of its parts
+-- where the parts of an element are read one after another, and it ends after them, the steps read it
 pub via-steps_of : (text : List ℕ) (sent : ProtocolParts) (host : HostParts × List ℕ) (port : Option (List ℕ) × List ℕ) (tail : (List ℕ × Option (List ℕ)) × List ℕ) → ProtocolFront text sent → HostFront sent.rest host → LedFront colon PortFront (host.1) port → TailFront (port.1) tail → EndsElement (tail.1) → ViaSteps text (parts_of sent host port tail, tail.1)
 via-steps_of text sent host port tail is_sent is_host is_port is_tail ends =
     both sent is_sent (both host is_host (both port is_port (both tail is_tail (ends, refl))))

@@ -1,4 +1,4 @@
--- The top Via's transport is one.
+-- A value of Via has one transport of its first element.
 use Rattle.std.proofs.Common.{◌≡◌, ℕ, Bool, true, false, ◌||◌, nat_eq, List, [], ◌∷◌, ◌++◌, length, refl, sym, ap, ◌∙◌, subst, inl, inr, arith}
 use Rattle.std.proofs.lemmas.Bool.{both_ways, eqb-true}
 use Rattle.std.proofs.lemmas.List.{append_assoc, length-append}
@@ -21,7 +21,7 @@ Fails test (b ∷ text) = test b ≡ false
 abbrev pub AllFail : (ℕ → Bool) → (List ℕ → Type 0) → Type 0
 AllFail test P = (u : List ℕ) → P u → Fails test u
 
--- what fails, fails whatever follows
+-- a text whose first byte does not pass has such a first byte whatever follows it
 fails-append : (test : ℕ → Bool) (u v : List ℕ) → Fails test u → Fails test (u ++ v)
 fails-append test [] v fails = absurd fails
 fails-append test (b ∷ u) v fails = fails
@@ -30,27 +30,27 @@ fails-stops : (test : ℕ → Bool) (u v : List ℕ) → Fails test u → Stops 
 fails-stops test [] v fails = absurd fails
 fails-stops test (b ∷ u) v fails = fails
 
--- P Q, by P
+-- no text of P Q begins with a byte that passes where none of P does
 pub fail-then : (test : ℕ → Bool) (P Q : List ℕ → Type 0) → AllFail test P → AllFail test (P then Q)
 fail-then test P Q fail u both = subst (Fails test) (sym both.4) (fails-append test both.0 both.1 (fail both.0 both.2))
 
--- where P is of bytes that pass, and Q begins with one that does not, P is the same in two texts
+-- where two texts begin alike, each with bytes that pass and then one that does not, their fronts of bytes that pass are the same
 same_step : (test : ℕ → Bool) (P Q R S : List ℕ → Type 0) (u v w x : List ℕ) → Each test P → Each test R → AllFail test Q → AllFail test S → (one : (P then Q) u) → (other : (R then S) v) → u ++ w ≡ v ++ x → (one.0 ≡ other.0) × (one.1 ++ w ≡ other.1 ++ x)
 same_step test P Q R S u v w x ps rs qs ss one other same =
     same_front test one.0 (one.1 ++ w) other.0 (other.1 ++ x) (ps one.0 one.2) (rs other.0 other.2)
     (fails-stops test one.1 w (qs one.1 one.3)) (fails-stops test other.1 x (ss other.1 other.3))
     (sym (append_assoc one.0 one.1 w) ∙ ap (λ t. t ++ w) (sym one.4) ∙ same ∙ ap (λ t. t ++ x) other.4 ∙ append_assoc other.0 other.1 x)
 
--- a byte of a mark
+-- a byte of a mark: its own byte, or a blank
 abbrev is_mark_byte : ℕ → ℕ → Bool
 is_mark_byte mark b = is_lws_byte b || nat_eq b mark
 
--- a class that fails
+-- no text of one byte or more of a class begins with a byte that passes where no byte of the class does
 fail-class : (test class : ℕ → Bool) → ((b : ℕ) → class b ≡ true → test b ≡ false) → AllFail test (OneOrMore (One class))
 fail-class test class fail =
     fail-then test (One class) (Many (One class)) (λ u one. subst (Fails test) (sym one.2) (fail one.0 one.1))
 
--- what is not empty, and of a class that fails
+-- a text of a class that is not empty begins with no byte that passes where no byte of the class does
 fails-class : (test class : ℕ → Bool) (u : List ℕ) → ((b : ℕ) → class b ≡ true → test b ≡ false) → (u ≡ [] → ⊥) → All class u → Fails test u
 fails-class test class [] fail some all = some refl
 fails-class test class (b ∷ u) fail some all = fail b all.0
@@ -60,18 +60,18 @@ pub some-blanks : (u : List ℕ) → Blanks u → u ≡ [] → ⊥
 some-blanks u b none =
     absurd (omega (arith, ap length none, ap length b.4, length-append b.0 b.1, ap length b.2.4, length-append b.2.0 b.2.1, ap length b.2.3.4, length-append b.2.3.0 b.2.3.1, ap length b.2.3.2.2))
 
--- blanks, where blanks fail
+-- no blank run begins with a byte that passes where no blank does
 pub fail-blanks : (test : ℕ → Bool) → ((b : ℕ) → is_lws_byte b ≡ true → test b ≡ false) → AllFail test Blanks
 fail-blanks test fail u blanks = fails-class test is_lws_byte u fail (some-blanks u blanks) (each-blanks u blanks)
 
--- a mark, where blanks and its byte fail
+-- no mark begins with a byte that passes where no blank does, and its byte does not
 pub fail-mark : (test : ℕ → Bool) (mark : ℕ) → ((b : ℕ) → is_lws_byte b ≡ true → test b ≡ false) → test mark ≡ false → AllFail test (Mark mark)
 fail-mark test mark fail at_mark u (sws, v, inl none, (m, w, m_is, w_sws, v_is), u_is) =
     subst (Fails test) (sym (u_is ∙ ap (λ t. t ++ v) none ∙ v_is ∙ ap (λ t. t ++ w) m_is)) at_mark
 fail-mark test mark fail at_mark u (sws, v, inr blanks, rest, u_is) =
     subst (Fails test) (sym u_is) (fails-append test sws v (fail-blanks test fail sws blanks))
 
--- a mark's bytes
+-- all bytes of a mark are its own byte or blanks
 each-mark : (mark : ℕ) → nat_eq mark mark ≡ true → Each (is_mark_byte mark) (Mark mark)
 each-mark mark is =
     each-then (is_mark_byte mark) _ _ blanks
@@ -97,21 +97,21 @@ token-mark mark is b token = at (is_lws_byte b) (nat_eq b mark) refl refl
     at false true blank_is same_is = absurd (both_ways (is_token_byte b) (ap is_token_byte (eqb-true b mark same_is) ∙ is) token)
     at false false blank_is same_is = refl
 
--- a token's bytes, where a part is the token
+-- all bytes of a part that is a token are bytes of tokens
 each-part : (part : List ℕ) → Token part → Each is_token_byte (Exactly part)
 each-part part token = each-exactly is_token_byte part (each-token part token)
 
--- after SLASH stands a token
+-- a token and what follows it do not begin with a byte of SLASH
 fail-part : (part : List ℕ) (R : List ℕ → Type 0) → Token part → AllFail (is_mark_byte slash) (Exactly part then R)
 fail-part part R token =
     fail-then (is_mark_byte slash) (Exactly part) R
     (λ u is. subst (Fails (is_mark_byte slash)) (sym is) (fail-class (is_mark_byte slash) is_token_byte (token-mark slash refl) part token))
 
--- after a token stands SLASH
+-- SLASH and what follows it do not begin with a byte of a token
 pub fail-slash : (R : List ℕ → Type 0) → AllFail is_token_byte (Mark slash then R)
 fail-slash R = fail-then is_token_byte (Mark slash) R (fail-mark is_token_byte slash blank-token refl)
 
--- a text of Via elements has one top transport
+-- a value of Via has one transport of its first element
 pub same_transport : (value t u : List ℕ) → TopTransport value t → TopTransport value u → t ≡ u
 same_transport value t u (v, vs, (a, w, (fits, one), more, is), t_is) (x, xs, (b, y, (fits_too, other), more_too, is_too), u_is) =
     t_is ∙ sym one.3.3.3.3.2 ∙ step5.0 ∙ other.3.3.3.3.2 ∙ sym u_is

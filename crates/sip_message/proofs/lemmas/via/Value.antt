@@ -15,18 +15,18 @@ use Rattle.sip_message.proofs.lemmas.front.Led.{mark-shorter}
 abbrev pub AreVias : List ℕ → Type 0
 AreVias text = (v : ViaParts) × (vias : List ViaParts) × ViasText text v vias
 
--- no blank run begins an element
+-- an element of Via does not begin with a blank
 via-stops : (text rest : List ℕ) (v : ViaParts) → ViaText text v → StopsBlank (text ++ rest)
 via-stops text rest v (fits, (a, w, a_is, more, whole)) =
     subst (λ t. StopsBlank (t ++ rest)) (sym (whole ∙ ap (λ x. x ++ w) a_is))
     (subst StopsBlank (sym (append_assoc v.protocol w rest)) (token-stops v.protocol (w ++ rest) fits.protocol))
 
--- more elements begin with a comma, and after it they stand
+-- further elements, at least one, begin with a comma, and elements stand after it
 more-comma : (v : ViaParts) (vias : List ViaParts) (text : List ℕ) → MoreVias (v ∷ vias) text → (next : List ℕ) × MarkFront comma text next × ViasText next v vias
 more-comma v vias text (m, next, mark, (x, y, via, more, next_is), whole) =
     (next, (subst StopsBlank (sym next_is) (via-stops x y v via), (m, next, mark, refl, whole)), (x, y, via, more, next_is))
 
--- an element ends before more of them, or where there are none
+-- where further elements or nothing follow an element, it ends there
 more-ends : (vias : List ViaParts) (text : List ℕ) → MoreVias vias text → EndsElement text
 more-ends [] text is = inl is
 more-ends (v ∷ vias) text is = let found = more-comma v vias text is in inr (found.0, found.1)
@@ -35,7 +35,7 @@ more-ends (v ∷ vias) text is = let found = more-comma v vias text is in inr (f
 vias-first : (text : List ℕ) → (are : AreVias text) → ViaFront text ((are.2.0, are.0), are.2.1)
 vias-first text (v, vias, (x, y, via, more, whole)) = (via, whole, more-ends vias y more)
 
--- without an element at the front there are none
+-- where no element is read at the front of a text, the text is no elements
 pub vias-none : (text : List ℕ) → NotRead (ViaFront text) → AreVias text → ⊥
 vias-none text none are = none ((are.2.0, are.0), are.2.1) (vias-first text are)
 
@@ -43,7 +43,7 @@ vias-none text none are = none ((are.2.0, are.0), are.2.1) (vias-first text are)
 abbrev pub AreMore : List ℕ → Type 0
 AreMore text = (vias : List ViaParts) × MoreVias vias text
 
--- after an element the others decide
+-- where an element is read at the front of a text, the text is elements exactly if what is left is further ones
 pub vias-behind : (text more : List ℕ) (e : Element) → ReadAs (ViaFront text) (e, more) → AreVias text ↔ AreMore more
 vias-behind text more e read = (to, from)
   where
@@ -53,7 +53,7 @@ vias-behind text more e read = (to, from)
     from : AreMore more → AreVias text
     from (vias, are) = (e.1, vias, (e.0, more, read.0.0, are, read.0.1))
 
--- after a comma stand elements
+-- where a comma stands at the front of a text, the text is further elements exactly if what follows it is elements
 pub more-behind : (rest next : List ℕ) → ReadAs (MarkFront comma rest) next → AreMore rest ↔ AreVias next
 more-behind rest next read = (to, from)
   where
@@ -68,7 +68,7 @@ more-behind rest next read = (to, from)
         let mark = read.0.1 in
         (v ∷ vias, (mark.0, mark.1, mark.2, subst (λ t. ViasText t v vias) (sym mark.3) are, mark.4))
 
--- without a comma there are no more
+-- where no comma stands at the front of a text, the text is further elements exactly if it is empty
 pub more-none : (rest : List ℕ) → NotRead (MarkFront comma rest) → AreMore rest ↔ (rest ≡ [])
 more-none rest none = (to, λ is. ([], is))
   where
@@ -76,15 +76,15 @@ more-none rest none = (to, λ is. ([], is))
     to ([], is) = is
     to (v ∷ vias, is) = let found = more-comma v vias rest is in absurd (none found.0 found.1)
 
--- what is after a comma and an element is shorter
+-- what is left after a comma and an element is shorter than the text
 pub more-shorter : (rest next more : List ℕ) (e : Element) → ReadAs (MarkFront comma rest) next → ReadAs (ViaFront next) (e, more) → length more < length rest
 more-shorter rest next more e comma_read read =
     omega (arith, mark-shorter comma rest next refl comma_read.0, ap length read.0.1, length-append (e.0) more)
 
--- the first of the elements that a text is
+-- where an element is read at the front of a text that is elements, it is the first of them, and read as that alone
 pub first-is : (text more : List ℕ) (e : Element) → ReadAs (ViaFront text) (e, more) → AreVias text → ReadAs (FirstVia text) e
 first-is text more e read are = ((are, (more, read.0)), λ x is. ap (λ y. y.0) (read.1 (x, is.1.0) is.1.1))
 
--- elements have a first
+-- where no first element is read of a text, the text is no elements
 pub first-none : (text : List ℕ) → NotRead (FirstVia text) → AreVias text → ⊥
 first-none text none are = none (are.2.0, are.0) (are, (are.2.1, vias-first text are))

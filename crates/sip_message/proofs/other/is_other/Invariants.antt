@@ -4,7 +4,7 @@ use Rattle.sip_text.specs.Parts.{HasFront}
 use Rattle.sip_message.proofs.lemmas.value.Other.{OtherItem}
 use Rattle.sip_message.proofs.other.is_other.Given as goal
 
--- the front so far is pieces
+-- the text before the index is pieces of a value: bytes, blanks and folds
 abbrev pub invariant-folds : goal.invariant-folds
 invariant-folds l = record { within : l.at ≤ length l.text; front : HasFront (Many OtherItem) l.text l.at }
 

@@ -2,7 +2,7 @@ use Rattle.std.proofs.Common.{◌-◌, ◌≤◌, length}
 use Rattle.sip_message.specs.inner.Values.{ArePlain}
 use Rattle.sip_message.proofs.other.plain_len.Given as goal
 
--- the bytes so far are plain
+-- each byte of the text before the index is a byte of a value or a blank
 abbrev pub invariant-loop-at : goal.invariant-loop-at
 invariant-loop-at l = (l.at ≤ length l.text) × ArePlain l.text 0 l.at
 

@@ -2,7 +2,7 @@ use Rattle.std.proofs.Common.{length}
 use Rattle.sip_message.proofs.lemmas.params.Value.{BareSoFar}
 use Rattle.sip_message.proofs.params.past_bare.Given as goal
 
--- all bytes up to here are of tokens and colons
+-- all bytes before the rest are bytes of tokens or colons, and the rest begins with no byte of a token
 abbrev pub invariant-colons : goal.invariant-colons
 invariant-colons l = BareSoFar l.fn.text l.rest
 

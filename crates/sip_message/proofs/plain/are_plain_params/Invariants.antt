@@ -2,7 +2,7 @@ use Rattle.std.proofs.Common.{◌-◌, ◌≤◌}
 use Rattle.sip_message.specs.inner.Plain.{segment, SomeParams}
 use Rattle.sip_message.proofs.plain.are_plain_params.Given as goal
 
--- parameters from here on are parameters from the first place on
+-- where the bytes from `from` on are parameters, those from `at` on are
 abbrev pub invariant-params : goal.invariant-params
 invariant-params l = (l.from ≤ l.end) × (SomeParams (segment l.from l.end l.masks) → SomeParams (segment l.at l.end l.masks))
 

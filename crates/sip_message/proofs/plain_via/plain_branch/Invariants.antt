@@ -4,7 +4,7 @@ use Rattle.sip_message.specs.Via.{ViaParams}
 use Rattle.sip_message.specs.inner.Plain.{segment}
 use Rattle.sip_message.proofs.plain_via.plain_branch.Given as goal
 
--- parameters from here on are parameters from the first place on, and a branch that was found counts
+-- where the bytes from `from` on are parameters of a Via, those from `at` on are, and the branch that was found counts before theirs
 abbrev pub invariant-params : goal.invariant-params
 invariant-params l =
     (l.from ≤ l.end)

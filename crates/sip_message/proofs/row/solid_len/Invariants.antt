@@ -2,7 +2,7 @@ use Rattle.std.proofs.Common.{◌≡◌, ℕ, ◌<◌, ◌≤◌, true, length, 
 use Rattle.sip_standard.specs.Field.{is_lws_byte}
 use Rattle.sip_message.proofs.row.solid_len.Given as goal
 
--- each byte from there on is one of a blank run
+-- each byte of the text from `len` on is a byte of a blank run
 abbrev pub invariant-loop-len : goal.invariant-loop-len
 invariant-loop-len l = record {
   within : l.len ≤ length l.text;

@@ -2,7 +2,7 @@ use Rattle.std.proofs.Common.{◌-◌, ◌≤◌, length}
 use Rattle.sip_message.proofs.lemmas.lines.HeadEnd.{NoneSoFar}
 use Rattle.sip_message.proofs.stages.find_double_end.Given as goal
 
--- no empty line stands before
+-- no CRLF CRLF begins before the byte that stands before `from`
 abbrev pub invariant-feeds : goal.invariant-feeds
 invariant-feeds l = (l.from ≤ length l.bytes) × NoneSoFar l.bytes l.from
 

@@ -2,7 +2,7 @@ use Rattle.std.proofs.Common.{◌↔◌, length}
 use Rattle.sip_message.proofs.lemmas.via.Value.{AreMore}
 use Rattle.sip_message.proofs.via.are_more_vias.Given as goal
 
--- the rest decides
+-- the rest is further elements exactly if the whole text is
 abbrev pub invariant-elements : goal.invariant-elements
 invariant-elements l = AreMore l.rest ↔ AreMore l.fn.text
 

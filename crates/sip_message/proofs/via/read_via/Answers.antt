@@ -35,7 +35,7 @@ returns-then-not-ends_element c =
     via-missing c.args.text.now (go-stop c.in_ok-protocol.ensures (go-stop c.in_ok-host.ensures (go-stop c.in_ok-port.ensures (go-stop c.in_ok-params.ensures
     (λ y is. both_ways c.ends_element.result c.if-not-ends_element.true (c.ends_element.ensures.1 is.0))))))
 
--- what each step found
+-- the parts that each step found, as the steps of an element have them
 abbrev sent : goal.Else-not-ends_element → ProtocolParts
 sent c = record { protocol = c.in_ok-protocol.protocol.now; version = c.in_ok-protocol.version.now; transport = c.in_ok-protocol.transport.now; rest = c.in_ok-protocol.rest.now }
 
@@ -51,7 +51,7 @@ tail c = ((c.in_ok-params.params.now, option_copied c.in_ok-params.branch), c.in
 abbrev parts : goal.Else-not-ends_element → ViaParts
 parts c = parts_of (sent c) (host c) (port c) (tail c)
 
--- the steps that were read
+-- the steps of an element read these parts
 steps : (c : goal.Else-not-ends_element) → ViaSteps c.args.text.now (parts c, c.in_ok-params.rest.now)
 steps c =
     via-steps_of c.args.text.now (sent c) (host c) (port c) (tail c) c.in_ok-protocol.ensures.0 c.in_ok-host.ensures.0 c.in_ok-port.ensures.0

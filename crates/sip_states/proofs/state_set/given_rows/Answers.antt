@@ -15,7 +15,7 @@ use Rattle.sip_states.proofs.state_set.given_rows.Goals as goal
 use Rattle.sip_states.proofs.state_set.given_rows.Goals.{After-len}
 
 module _ (g : Over) (c : After-len g) where
-  -- each state found once, they are what the event gives
+  -- the states that were found, each once, stand for exactly what the event gives
   found_stand : (x : CodeOwing _) → StandFor g.M.Machine.names g.M.Machine.in_range g.M.Machine.seen c.args.book.now
       (GivesAfter g.M.Machine.seen c.args.book.now (g.M.Machine.rules c.args.machine.now) c.args.states.now c.args.from (event_in c.args.book.now c.args.event.now))
       (picked c.find_given.new.pool x c.in_ok-rows.rows.items)

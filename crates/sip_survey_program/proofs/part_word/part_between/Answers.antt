@@ -11,7 +11,7 @@ returns-in_err-number c = rw c.from_residual.ensures (λ part is one two. c.in_e
 pub returns-in_err-count : goal.returns-in_err-count
 returns-in_err-count c = rw c.from_residual-in_err-count.ensures (λ part is one two. c.in_err-count.ensures part.count (omega (arith, is)) two)
 
--- the part with these numbers, if there is one
+-- where two words are numbers, the part of these numbers is the part that the words name, if there is one
 made : (a b : List ℕ) (k n : ℕ) (r : Option PartOf) → k < 2 ^ 32 → n < 2 ^ 32 → a ≡ decimal k → b ≡ decimal n
     → MatchOption r (¬ ((0 < k) × (k ≤ n))) (λ part. (part ≡ record { number = k; count = n }) × (0 < k) × (k ≤ n)) → IsPartBetween a b r
 made a b k n None low high a_is b_is none = λ part is one two.

@@ -4,7 +4,7 @@ use Rattle.sip_text.specs.Parts.{HasFront}
 use Rattle.sip_text.specs.inner.Blanks.{Blank}
 use Rattle.sip_text.proofs.blanks.skip_lws.Given as goal
 
--- the front so far is blanks
+-- the bytes of the text before the index are blanks
 abbrev pub invariant-blanks : goal.invariant-blanks
 invariant-blanks l = record { within : l.at ≤ length l.text; front : HasFront (Many Blank) l.text l.at }
 

@@ -5,7 +5,7 @@ use Rattle.sip_text.specs.inner.HostTests.{is_double_at}
 use Rattle.sip_text.proofs.cuts.DoubleLemmas.{double-first, double-nowhere}
 use Rattle.sip_text.proofs.host.cut_double.Goals as goal
 
--- a "::" begins at the byte before
+-- where the loop returns, a "::" begins at the byte before the index
 found : (c : goal.After-result-1) → is_double_at c.args.text.now (c.loop-at.at - 1) ≡ true
 found c =
     let next : c.loop-at.at - 1 + 1 ≡ c.loop-at.at = omega arith in

@@ -4,7 +4,7 @@ use Rattle.sip_text.specs.inner.Cut.{parts}
 use Rattle.sip_text.specs.inner.HostTests.{are_labels}
 use Rattle.sip_text.proofs.host.is_name.Given as goal
 
--- the labels so far pass, so that the rest decides
+-- the labels so far pass, so that the whole text is a name exactly if the rest is one
 abbrev pub invariant-labels : goal.invariant-labels
 invariant-labels l = are_labels (parts dot l.rest) ≡ are_labels (parts dot l.text)
 

@@ -4,7 +4,7 @@ use Rattle.sip_text.specs.Parts.{HasFront}
 use Rattle.sip_text.specs.inner.Quoted.{QuotedItem}
 use Rattle.sip_text.proofs.quoted.contents_len.Given as goal
 
--- the front so far is pieces
+-- the bytes of the text before the index are pieces of a quoted string
 abbrev pub invariant-items : goal.invariant-items
 invariant-items l = record { within : l.at ≤ length l.text; front : HasFront (Many QuotedItem) l.text l.at }
 

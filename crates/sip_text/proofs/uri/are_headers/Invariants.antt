@@ -4,7 +4,7 @@ use Rattle.sip_text.specs.inner.Pieces.{Header}
 use Rattle.sip_text.proofs.uris.UriPartLemmas.{Each}
 use Rattle.sip_text.proofs.uri.are_headers.Given as goal
 
--- each part of the rest is one exactly if each of the whole text is
+-- each part of the rest is a header exactly if each part of the whole text is
 abbrev pub invariant-headers : goal.invariant-headers
 invariant-headers l = Each ampersand Header l.rest ↔ Each ampersand Header l.fn.text
 

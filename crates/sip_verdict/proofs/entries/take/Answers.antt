@@ -1,9 +1,10 @@
-use Rattle.std.proofs.Common.{None, ap, inl, refl, ◌∙◌, subst, arith}
+use Rattle.std.proofs.Common.{None, length, ap, inl, refl, ◌∙◌, subst, arith}
+use Rattle.std.proofs.lemmas.Option.{same_Some}
 use Rattle.sip_machine.specs.Texts.{Keeps}
 use Rattle.sip_log.specs.Told.{item}
 use Rattle.sip_verdict.specs.inner.Concerned.{each}
 use Rattle.sip_verdict.specs.inner.TablesTracking.{MayHear}
-use Rattle.sip_verdict.proofs.judges.StandingLemmas.{grown_may, few_keys, may_hear, may_next, same_some}
+use Rattle.sip_verdict.proofs.judges.StandingLemmas.{grown_may, few_keys, may_hear, may_next}
 use Rattle.sip_verdict.proofs.tables.TablesTouching.{touches_may}
 use Rattle.sip_verdict.proofs.verdicts.MessageUnique.{observes_one}
 use Rattle.sip_verdict.proofs.surveys.kept.Histories.{silent_histories, restart_histories, heard_histories, message_says, touched_low}
@@ -21,7 +22,7 @@ pub pass_each-requires-in-Heard-clause-hear : goal.pass_each-requires-in-Heard-c
 pass_each-requires-in-Heard-clause-hear g c =
     let e = c.args.entry.now in
     let is_heard = rw c.in-Heard.is at c.in_ok-told.ensures.heard in
-    λ h is. subst (MayHear c.observe.new.book c.touch_each.new.tables e.moment) (ap (λ b. b.now) (same_some _ h is))
+    λ h is. subst (MayHear c.observe.new.book c.touch_each.new.tables e.moment) (ap (λ b. b.now) (same_Some _ h is))
     (may_hear c.observe.new.book e.moment c.in-Heard.event c.in-Heard.concerned c.in_ok-concerned-in-Heard.concerned c.args.standing.now.tables c.touch_each.new.tables c.in_ok-concerned-in-Heard.ensures.touched
     is_heard.0 is_heard.1 is_heard.2 (c.in_ok-concerned-in-Heard.ensures.same ∙ is_heard.3))
 
@@ -131,3 +132,18 @@ returns-in_ok-pass_each-in-Heard-clause-taken g c = λ es fresh tracks late.
     s.tables c.touch_each.new.tables c.pass_each-in-Heard.new.tables c.args.troubled.now c.grow.new.self c.pass_each-in-Heard.new.troubled grown.deaf.0
     c.requires.watched.long c.requires.may.passes.long fresh grown.deaf.1 grown.deaf.2 grown.broken grown.wide c.in_ok-concerned-in-Heard.ensures.touched c.known-in-Heard.ensures.unique
     c.in_ok-pass_each-in-Heard.ensures.keys is_heard.1 (c.in_ok-concerned-in-Heard.ensures.same ∙ is_heard.3) (rw c.in-Heard.is at c.in_ok-told.ensures.observed) c.in_ok-pass_each-in-Heard.ensures.passed es tracks late
+
+pub returns-in_ok-pass_each-in-Unheard-clause-keys : goal.returns-in_ok-pass_each-in-Unheard-clause-keys
+returns-in_ok-pass_each-in-Unheard-clause-keys g c = let same = ap length c.in_ok-pass_each-in-Unheard.ensures.keys in omega arith
+
+pub returns-in_ok-pass_each-in-Fault-clause-keys : goal.returns-in_ok-pass_each-in-Fault-clause-keys
+returns-in_ok-pass_each-in-Fault-clause-keys g c = let same = ap length c.in_ok-pass_each-in-Fault.ensures.keys in omega arith
+
+pub returns-in_ok-pass_each-in-Restart-clause-keys : goal.returns-in_ok-pass_each-in-Restart-clause-keys
+returns-in_ok-pass_each-in-Restart-clause-keys g c = let same = ap length c.in_ok-pass_each-in-Restart.ensures.keys in omega arith
+
+pub returns-in_ok-pass_each-in-Heard-clause-keys : goal.returns-in_ok-pass_each-in-Heard-clause-keys
+returns-in_ok-pass_each-in-Heard-clause-keys g c =
+    let few = few_keys c.in-Heard.concerned (each c.in_ok-concerned-in-Heard.concerned) c.args.standing.now.tables c.touch_each.new.tables c.in_ok-concerned-in-Heard.ensures.touched in
+    let same = ap length c.in_ok-pass_each-in-Heard.ensures.keys in
+    omega arith

@@ -1,8 +1,8 @@
 use Rattle.std.proofs.Common.{◌∙◌, None, refl, sym, subst, rules, arith}
+use Rattle.std.proofs.lemmas.Option.{same_Some}
 use Rattle.sip_log.specs.Reading as log
 use Rattle.sip_log.specs.Reading.{beside_source}
 use Rattle.sip_verdict.specs.inner.SurveyingLogs.{SurveysRead}
-use Rattle.sip_verdict.proofs.judges.StandingLemmas.{same_some}
 use Rattle.sip_verdict.proofs.surveys.written.Gathering.{gathered_on, gathered_end, gathered_stop}
 use Rattle.sip_verdict.proofs.gathering.gather_entries.Goals as goal
 
@@ -13,6 +13,18 @@ loop-found-init g c = record {
   counts_are = sym c.requires.first;
   told = λ start reads. subst (λ fs. SurveysRead None c.args.survey.now fs start (beside_source c.args.progress.now (g.R.Source.left c.args.reader.now) (g.R.Source.has_failed c.args.reader.now))) (sym c.new-found.ensures.items) reads;
 }
+
+pub entry-requires : goal.entry-requires
+entry-requires g c = λ goes_on.
+    let l = c.loop-found in
+    let moves = rw c.in-Entry.is at c.in_ok-entry.ensures.moves in
+    let number = moves.1.number_is in
+    let counts = l.invariant.at.counts in
+    let newest = l.invariant.at.newest in
+    let order = moves.1.order in
+    let room = l.invariant.at.room in
+    let low = moves.4 in
+    record { next = omega (arith, number, counts); order = omega (arith, newest, order); limit = moves.1.moment_high; room = (omega (arith, counts, low), omega (arith, room, low)) }
 
 pub loop-found-preserved : goal.loop-found-preserved
 loop-found-preserved g c =
@@ -29,6 +41,7 @@ loop-found-preserved g c =
         counts = taken.newest.0 ∙ sym moves.2;
         newest = taken.newest.1 ∙ sym moves.3;
         few = (let number = moves.1.number_is in let count = moves.2 in let low = moves.4 in omega arith);
+        room = (let number = moves.1.number_is in let count = moves.2 in let more = taken.keys in let room = l.invariant.at.room in omega arith);
       };
       counts_are = sym taken.newest.0;
       told = λ start reads.
@@ -43,7 +56,7 @@ returns-in-End-clause-survey g c start reads =
     let old : log.ReaderState = beside_source l.progress (g.R.Source.left l.reader) (g.R.Source.has_failed l.reader) in
     let read = l.invariant.told start reads in
     let logs = (rw c.in-End.is at c.in_ok-entry.ensures.gives) start l.survey.tables.times read.items read.read in
-    gathered_end None start old l.survey l.found.items read c.unwrap.result (same_some _ _ (sym c.unwrap.ensures ∙ c.end.ensures.clean read.es read.follows)) logs
+    gathered_end None start old l.survey l.found.items read c.unwrap.result (same_Some _ _ (sym c.unwrap.ensures ∙ c.end.ensures.clean read.es read.follows)) logs
 
 pub returns-in-Fault-clause-survey : goal.returns-in-Fault-clause-survey
 returns-in-Fault-clause-survey g c start reads =

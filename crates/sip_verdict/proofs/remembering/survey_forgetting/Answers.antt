@@ -1,11 +1,11 @@
-use Rattle.std.proofs.Common.{◌≡◌, ◌∙◌, [], refl, subst, sym, rules}
+use Rattle.std.proofs.Common.{◌≡◌, ◌∙◌, Some, [], ap, refl, subst, sym, rules}
 use Rattle.std.specs.Option.{option_copied}
 use Rattle.sip_log.specs.Reading as log
 use Rattle.sip_log.specs.Reading.{ProgressState, beside_source}
 use Rattle.sip_standard.specs.declared.log_reason.LogReason.TheVariants.{Header}
 use Rattle.sip_verdict.specs.declared.survey_end.SurveyEnd.TheVariants.{LogFault}
 use Rattle.sip_verdict.specs.inner.ForgettingLogs.{RemembersRead}
-use Rattle.sip_verdict.specs.inner.Walking.{HasRead}
+use Rattle.sip_log.proofs.answers.StreamLemmas.{stands_streamed}
 use Rattle.sip_verdict.proofs.surveys.written.Remembering.{all_told_forgetting, remembers_header, remembers_none, told_forgetting}
 use Rattle.sip_verdict.proofs.surveys.written.Writing.{still_fine, summed}
 use Rattle.sip_verdict.proofs.remembering.survey_forgetting.Goals as goal
@@ -20,7 +20,8 @@ returns-in-Ok-clause-surveyed g c =
     let times : p ≡ c.in-Ok.params = search rules in
     all_told_forgetting c.args.age part _ c.write_on.result start (g.W.Sink.written c.args.writer.now) (g.W.Sink.written c.write_on.new.writer) c.write_on.ensures.surveyed
     (subst (λ place. RemembersRead c.args.age part p c.new-survey.result [] [] start (state place)) (search rules)
-    (remembers_none c.args.age part p c.new-survey.result start (state c.in-Ok.progress) refl c.new-survey.ensures.stands (subst (λ t. HasRead start t [] (state c.in-Ok.progress)) (sym times) read)))
+    (remembers_none c.args.age part p c.new-survey.result start (state c.in-Ok.progress) refl c.new-survey.ensures.stands
+    (stands_streamed start p [] (state c.in-Ok.progress) read.on (read.times_are ∙ ap Some (sym times)) read.stands)))
 
 pub returns-in-Ok-clause-fine : goal.returns-in-Ok-clause-fine
 returns-in-Ok-clause-fine g c =

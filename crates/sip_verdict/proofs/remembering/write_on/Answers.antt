@@ -1,15 +1,19 @@
-use Rattle.std.proofs.Common.{◌≡◌, ◌+◌, ◌∙◌, List, [], ◌++◌, refl, sym, subst, rules, arith}
+use Rattle.std.proofs.Common.{◌≡◌, ◌+◌, ◌∙◌, List, [], ◌++◌, length, false, refl, ap, sym, subst, rules, arith}
+use Rattle.std.specs.Prelude.{IsTrue}
+use Rattle.std.proofs.lemmas.Bool.{false≢true}
 use Rattle.std.specs.Io.KnownBytes.{Appends}
 use Rattle.std.specs.Option.{option_copied}
+use Rattle.std.proofs.lemmas.Option.{same_Some}
 use Rattle.sip_log.specs.Reading as log
 use Rattle.sip_log.specs.Reading.{beside_source}
 use Rattle.sip_verdict.specs.declared.finding.Finding.{Finding}
 use Rattle.sip_verdict.specs.declared.survey_end.SurveyEnd.TheVariants.{LogFault}
+use Rattle.sip_standard.specs.declared.log_reason.LogReason.TheVariants.{Limit}
+use Rattle.sip_verdict.specs.Room.{HasRoom}
 use Rattle.sip_verdict.specs.SurveyText.{end_text}
 use Rattle.sip_verdict.specs.inner.SurveyingLogs.{AreLinesBy}
-use Rattle.sip_verdict.proofs.surveys.written.Remembering.{remembers_on, remembers_end, remembers_stop}
+use Rattle.sip_verdict.proofs.surveys.written.Remembering.{remembers_on, remembers_end, remembers_full, remembers_stop}
 use Rattle.sip_verdict.proofs.surveys.written.Writing.{told_none, told_more, summed}
-use Rattle.sip_verdict.proofs.judges.StandingLemmas.{same_some}
 use Rattle.sip_verdict.proofs.remembering.write_on.Goals as goal
 
 pub loop-found-init : goal.loop-found-init
@@ -17,6 +21,7 @@ loop-found-init g c = record {
   read = refl;
   written = refl;
   at = c.requires.at;
+  few = omega arith;
   counts_are = sym c.requires.first;
   aged = c.new-horizon.ensures.age;
   told = (
@@ -27,13 +32,30 @@ loop-found-init g c = record {
   );
 }
 
+pub entry-requires : goal.entry-requires
+entry-requires g c = λ goes_on.
+    let l = c.loop-found in
+    let moves = rw c.in-Entry.is at c.in_ok-entry.ensures.moves in
+    let forgot = c.in_ok-forget_due-in-Entry.ensures in
+    let number = moves.1.number_is in
+    let same = c.in_ok-cut_to-in-Entry.ensures.number in
+    let moment = c.in_ok-cut_to-in-Entry.ensures.moment in
+    let counts = l.invariant.counts_are in
+    let kept = forgot.newest.0 in
+    let newest = l.invariant.at.newest in
+    let now = forgot.newest.1 in
+    let order = moves.1.order in
+    let high = moves.1.moment_high in
+    let is_room : IsTrue c.has_room.result = search rules in
+    record { next = omega (arith, number, same, counts, kept); order = omega (arith, newest, now, order, moment); limit = omega (arith, high, moment); room = c.has_room.ensures.0 is_room }
+
 pub loop-found-preserved : goal.loop-found-preserved
 loop-found-preserved g c =
     let l = c.loop-found in
     let part = option_copied c.args.part in
     let p = c.args.survey.now.tables.times in
     let old : log.ReaderState = beside_source l.progress (g.R.Source.left l.reader) (g.R.Source.has_failed l.reader) in
-    let new : log.ReaderState = beside_source c.read_next.new.progress (g.R.Source.left c.read_next.new.reader) (g.R.Source.has_failed c.read_next.new.reader) in
+    let new : log.ReaderState = beside_source c.read_on.new.progress (g.R.Source.left c.read_on.new.reader) (g.R.Source.has_failed c.read_on.new.reader) in
     let moves = rw c.in-Entry.is at c.in_ok-entry.ensures.moves in
     let forgot = c.in_ok-forget_due-in-Entry.ensures in
     let taken = c.in_ok-entry-in-Entry.ensures in
@@ -47,17 +69,18 @@ loop-found-preserved g c =
     let forgot_moment = forgot.newest.1 in
     let taken_moment = taken.newest.1 in
     let cut_moment = cut.moment in
+    let is_room : IsTrue c.has_room.result = search rules in
+    let has_room : HasRoom c.forget_due.new.survey.number (length c.forget_due.new.survey.tables.keys) = c.has_room.ensures.0 is_room in
     record {
       read = c.in_ok-entry.ensures.ok ∙ l.invariant.read;
       written = put.fine ∙ l.invariant.written;
       at = record {
         on = moves.0;
         goes_on = search rules;
-        counts = taken.newest.0 ∙ cut.number ∙ sym moves.2;
-        newest = taken.newest.1 ∙ cut.moment ∙ sym moves.3;
-        few = (let number = moves.1.number_is in let count = moves.2 in let low = moves.4 in omega arith);
+        newest = taken.newest.1 ∙ cut.moment ∙ sym moves.2;
       };
-      counts_are = sym (taken.newest.0 ∙ cut.number);
+      few = (let number = moves.1.number_is in let same = cut.number in let survey = forgot.newest.0 in let counts = l.invariant.counts_are in let room = has_room.0 in omega arith);
+      counts_are = sym taken.newest.0;
       aged = c.note.ensures.age ∙ forgot.age ∙ l.invariant.aged;
       told = (
         told.0 ++ items,
@@ -68,11 +91,34 @@ loop-found-preserved g c =
             let so = told.3 start reads in
             let more = (rw c.in-Entry.is at c.in_ok-entry.ensures.gives) start p so.0.items so.0.read in
             remembers_on c.args.age part p start old l.survey told.0 told.1 so.0 l.horizon so.1 l.invariant.aged c.in-Entry.entry c.cut_to.new.entry new more cut.cut
-            c.forget_due.new.survey c.entry.new.self c.forget_due.new.horizon c.note.new.self forgot.times taken.times (omega (arith, was, order, forgot_moment, taken_moment, cut_moment)) forgot.left items
+            c.forget_due.new.survey c.entry.new.self c.forget_due.new.horizon c.note.new.self forgot.times taken.times (omega (arith, was, order, forgot_moment, taken_moment, cut_moment)) forgot.left has_room items
             (rw c.clear.ensures.items at taken.found) put.text.0 (subst (λ fs. AreLinesBy c.entry.new.self fs put.text.0) lines put.text.2)
             (λ es horizon_is stands. c.note.ensures.horizon es horizon_is (sym taken.newest.0 ∙ stands.number) (sym taken.newest.1 ∙ stands.moment)),
       );
     }
+
+pub returns-then-not-has_room-clause-surveyed : goal.returns-then-not-has_room-clause-surveyed
+returns-then-not-has_room-clause-surveyed g c =
+    let l = c.loop-found in
+    let part = option_copied c.args.part in
+    let p = c.args.survey.now.tables.times in
+    let old : log.ReaderState = beside_source l.progress (g.R.Source.left l.reader) (g.R.Source.has_failed l.reader) in
+    let new : log.ReaderState = beside_source c.read_on.new.progress (g.R.Source.left c.read_on.new.reader) (g.R.Source.has_failed c.read_on.new.reader) in
+    let told = l.invariant.told in
+    let moves = rw c.in-Entry.is at c.in_ok-entry.ensures.moves in
+    let forgot = c.in_ok-forget_due-in-Entry.ensures in
+    let number = c.cut_to.new.entry.number in
+    let next : number ≡ c.forget_due.new.survey.number + 1 = c.in_ok-cut_to-in-Entry.ensures.number ∙ moves.1.number_is ∙ ap (λ n. n + 1) (l.invariant.counts_are ∙ sym forgot.newest.0) in
+    let off : c.has_room.result ≡ false = search rules in
+    let full : ¬ (HasRoom c.forget_due.new.survey.number (length c.forget_due.new.survey.tables.keys)) = λ room. absurd (false≢true (sym off ∙ c.has_room.ensures.1 room)) in
+    let before = g.W.Sink.written c.args.writer.now in
+    let mid = g.W.Sink.written l.writer in
+    let after = g.W.Sink.written c.finish.new.writer in
+    summed c.finish.result l.counts (LogFault number Limit) c.finish.ensures.sums c.finish.ensures.text (λ summary end findings undecided last start reads.
+    let so = told.3 start reads in
+    let more = (rw c.in-Entry.is at c.in_ok-entry.ensures.gives) start p so.0.items so.0.read in
+    remembers_full c.args.age part p start old l.survey told.0 told.1 so.0 l.counts summary before mid after told.2 findings undecided l.horizon so.1 l.invariant.aged c.in-Entry.entry new more
+    c.forget_due.new.survey c.forget_due.new.horizon forgot.left full number next end last)
 
 pub returns-in-End-clause-surveyed : goal.returns-in-End-clause-surveyed
 returns-in-End-clause-surveyed g c =
@@ -83,11 +129,11 @@ returns-in-End-clause-surveyed g c =
     let told = l.invariant.told in
     let before = g.W.Sink.written c.args.writer.now in
     let mid = g.W.Sink.written l.writer in
-    let after = g.W.Sink.written c.finish.new.writer in
-    summed c.finish.result l.counts c.unwrap.result c.finish.ensures.sums c.finish.ensures.text (λ summary end findings undecided last start reads.
+    let after = g.W.Sink.written c.finish-in-End.new.writer in
+    summed c.finish-in-End.result l.counts c.unwrap.result c.finish-in-End.ensures.sums c.finish-in-End.ensures.text (λ summary end findings undecided last start reads.
     let so = (told.3 start reads).0 in
     let logs = (rw c.in-End.is at c.in_ok-entry.ensures.gives) start p so.items so.read in
-    let is = same_some _ _ (sym c.unwrap.ensures ∙ c.end.ensures.clean so.es so.follows) in
+    let is = same_Some _ _ (sym c.unwrap.ensures ∙ c.end.ensures.clean so.es so.follows) in
     remembers_end c.args.age part p start old l.survey told.0 told.1 so l.counts summary before mid after told.2 findings undecided (end ∙ is) (subst (λ e. Appends mid after (end_text e l.counts.findings)) is last) logs)
 
 pub returns-in-Fault-clause-surveyed : goal.returns-in-Fault-clause-surveyed

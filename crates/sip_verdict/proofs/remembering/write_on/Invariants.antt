@@ -1,10 +1,10 @@
-use Rattle.std.proofs.Common.{◌≡◌, ◌-◌, [], Option, List, ℕ}
-use Rattle.sip_standard.specs.LogSays.{most_entries}
+use Rattle.std.proofs.Common.{◌≡◌, ◌≤◌, ◌-◌, [], Option, List, ℕ}
 use Rattle.std.specs.Option.{option_copied}
 use Rattle.sip_log.specs.Reading.{beside_source}
 use Rattle.sip_verdict.specs.declared.finding.Finding.{Finding}
-use Rattle.sip_verdict.specs.inner.ForgettingLogs.{IsHorizonOf, RemembersRead}
-use Rattle.sip_verdict.specs.inner.SurveyingLogs.{AreTold, IsSurveyAt}
+use Rattle.sip_verdict.specs.inner.ForgettingLogs.{IsHorizonOf, IsStreamAt, RemembersRead}
+use Rattle.sip_verdict.specs.inner.SurveyingLogs.{AreTold}
+use Rattle.sip_verdict.specs.Room.{most_surveyed}
 use Rattle.sip_verdict.proofs.remembering.write_on.Given as goal
 
 abbrev pub invariant-loop-found : goal.invariant-loop-found
@@ -14,7 +14,8 @@ invariant-loop-found g l =
     record {
       read : g.R.Source.has_failed l.reader ≡ g.R.Source.has_failed l.fn.reader;
       written : g.W.Sink.has_failed l.writer ≡ g.W.Sink.has_failed l.fn.writer;
-      at : IsSurveyAt l.survey l.progress;
+      at : IsStreamAt l.survey l.progress;
+      few : l.count ≤ most_surveyed;
       counts_are : l.count ≡ l.survey.number;
       aged : l.horizon.age ≡ l.fn.age;
       told : (found : List Finding) × (lines : List ℕ) × AreTold found lines l.counts (g.W.Sink.written l.fn.writer) (g.W.Sink.written l.writer)
@@ -23,4 +24,4 @@ invariant-loop-found g l =
     }
 
 abbrev pub decreases-loop-found : goal.decreases-loop-found
-decreases-loop-found g l = most_entries - l.progress.count
+decreases-loop-found g l = most_surveyed - l.count

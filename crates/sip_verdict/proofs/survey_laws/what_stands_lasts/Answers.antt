@@ -1,4 +1,4 @@
-use Rattle.sip_verdict.proofs.surveys.forgetting.Lasting.{what_stands_lasts}
+use Rattle.sip_states.proofs.runs.StandsLemmas.{what_stands_lasts}
 use Rattle.sip_verdict.proofs.survey_laws.what_stands_lasts.Goals as goal
 
 pub returns : goal.returns

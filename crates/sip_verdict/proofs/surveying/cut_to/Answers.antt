@@ -6,7 +6,7 @@ use Rattle.sip_log.specs.Told.{item}
 use Rattle.sip_part.specs.Part.{TellsBranch, falls_into}
 use Rattle.std.specs.Prelude.{is_none}
 use Rattle.sip_standard.specs.Observation.{direction_of}
-use Rattle.sip_verdict.specs.inner.SurveyingLogs.{IsTaken}
+use Rattle.sip_verdict.specs.SurveyParts.{IsTaken}
 use Rattle.sip_verdict.proofs.surveys.parts.Taking.{mark_of, part_item}
 use Rattle.sip_verdict.proofs.surveying.cut_to.Goals as goal
 

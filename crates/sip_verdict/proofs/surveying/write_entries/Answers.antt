@@ -1,6 +1,7 @@
 use Rattle.std.proofs.Common.{◌≡◌, ◌+◌, ◌∙◌, List, [], ◌++◌, refl, sym, subst, rules, arith}
 use Rattle.std.specs.Io.KnownBytes.{Appends}
 use Rattle.std.specs.Option.{option_copied}
+use Rattle.std.proofs.lemmas.Option.{same_Some}
 use Rattle.sip_log.specs.Reading as log
 use Rattle.sip_log.specs.Reading.{beside_source}
 use Rattle.sip_verdict.specs.declared.finding.Finding.{Finding}
@@ -8,7 +9,6 @@ use Rattle.sip_verdict.specs.declared.survey_end.SurveyEnd.TheVariants.{LogFault
 use Rattle.sip_verdict.specs.SurveyText.{end_text}
 use Rattle.sip_verdict.specs.inner.SurveyingLogs.{AreLinesBy}
 use Rattle.sip_verdict.proofs.surveys.written.Writing.{told_none, told_nothing, told_more, summed, surveys_on, surveys_end, surveys_stop}
-use Rattle.sip_verdict.proofs.judges.StandingLemmas.{same_some}
 use Rattle.sip_verdict.proofs.surveying.write_entries.Goals as goal
 
 pub loop-found-init : goal.loop-found-init
@@ -25,6 +25,21 @@ loop-found-init g c = record {
         told_nothing (option_copied c.args.part) c.args.survey.now start (beside_source c.args.progress.now (g.R.Source.left c.args.reader.now) (g.R.Source.has_failed c.args.reader.now)) reads,
   );
 }
+
+pub entry-requires : goal.entry-requires
+entry-requires g c = λ goes_on.
+    let l = c.loop-found in
+    let moves = rw c.in-Entry.is at c.in_ok-entry.ensures.moves in
+    let number = moves.1.number_is in
+    let same = c.in_ok-cut_to-in-Entry.ensures.number in
+    let moment = c.in_ok-cut_to-in-Entry.ensures.moment in
+    let counts = l.invariant.at.counts in
+    let newest = l.invariant.at.newest in
+    let order = moves.1.order in
+    let high = moves.1.moment_high in
+    let room = l.invariant.at.room in
+    let low = moves.4 in
+    record { next = omega (arith, number, same, counts); order = omega (arith, newest, order, moment); limit = omega (arith, high, moment); room = (omega (arith, counts, low), omega (arith, room, low)) }
 
 pub loop-found-preserved : goal.loop-found-preserved
 loop-found-preserved g c =
@@ -47,6 +62,7 @@ loop-found-preserved g c =
         counts = taken.newest.0 ∙ c.in_ok-cut_to-in-Entry.ensures.number ∙ sym moves.2;
         newest = taken.newest.1 ∙ c.in_ok-cut_to-in-Entry.ensures.moment ∙ sym moves.3;
         few = (let number = moves.1.number_is in let count = moves.2 in let low = moves.4 in omega arith);
+        room = (let number = moves.1.number_is in let count = moves.2 in let more = taken.keys in let room = l.invariant.at.room in omega arith);
       };
       counts_are = sym (taken.newest.0 ∙ c.in_ok-cut_to-in-Entry.ensures.number);
       told = (
@@ -76,7 +92,7 @@ returns-in-End-clause-surveyed g c =
     let so = told.3 start reads in
     let read = so.read in
     let logs = (rw c.in-End.is at c.in_ok-entry.ensures.gives) start l.survey.tables.times read.items read.read in
-    let is = same_some _ _ (sym c.unwrap.ensures ∙ c.end.ensures.clean read.es read.follows) in
+    let is = same_Some _ _ (sym c.unwrap.ensures ∙ c.end.ensures.clean read.es read.follows) in
     surveys_end part start old l.survey told.0 told.1 so l.counts summary before mid after told.2 findings undecided (end ∙ is) (subst (λ e. Appends mid after (end_text e l.counts.findings)) is last) logs)
 
 pub returns-in-Fault-clause-surveyed : goal.returns-in-Fault-clause-surveyed

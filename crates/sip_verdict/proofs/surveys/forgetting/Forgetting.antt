@@ -1,4 +1,4 @@
--- A transaction that is idle again can be forgotten: what is found of it later is what is found of a new one.
+-- A transaction that is idle again can be forgotten: what a survey finds of it later is what it finds of a new one.
 use Rattle.std.proofs.Common.{◌≡◌, ◌≤◌, ◌↔◌, ◌⊎◌, inl, inr, ℕ, List, [], ◌∷◌, ◌++◌, All, AllPairs, refl, sym, ap, ◌∙◌, subst, arith, append_assoc, append-nil}
 use Rattle.std.proofs.lemmas.List.Elements.{All-weaker}
 use Rattle.sip_standard.specs.Key.{KeyParts}
@@ -14,11 +14,12 @@ use Rattle.sip_verdict.specs.SurveyLaws.{IsIdleAgain}
 use Rattle.sip_verdict.proofs.keys.FewerEntries.{newest-to, newest-before, events-all, events-append}
 use Rattle.sip_verdict.proofs.keys.Keys.{newest_moment-push}
 use Rattle.sip_verdict.proofs.verdicts.Unique.{All-middle}
-use Rattle.sip_verdict.proofs.surveys.forgetting.IdleAgain.{idle_is_new, last_of_list}
+use Rattle.sip_verdict.proofs.verdicts.LegalRuns.{empty_or_last}
+use Rattle.sip_verdict.proofs.surveys.forgetting.IdleAgain.{idle_is_new}
 use Rattle.sip_verdict.proofs.surveys.found.Once.{ordered_front}
 use Rattle.sip_verdict.proofs.surveys.found.Sound.{sound_nil}
 
--- a split of two lists lies in the first or in the second
+-- a split of two lists, one after the other, lies in the first or in the second
 split_of : {A : Type 0} (xs ys front : List A) (x : A) (rest : List A) → xs ++ ys ≡ front ++ x ∷ rest
     → ((zs : List A) × (xs ≡ front ++ x ∷ zs)) ⊎ ((zs : List A) × (front ≡ xs ++ zs) × (ys ≡ zs ++ x ∷ rest))
 split_of [] ys front x rest is = inr (front, refl, is)
@@ -37,7 +38,7 @@ module _ (p : Times) (key : KeyParts) (old : List (Observation KeyParts)) (again
   abbrev order_of : List (Observation KeyParts) → Type 0
   order_of more = AllPairs (λ a b. a.event.moment ≤ b.event.moment) (old ++ more)
 
-  -- where a run stands over later entries
+  -- a run over the old and later events of the key stands where a run over the later events alone stands
   pub stands_new : (more : List (Observation KeyParts)) → order_of more → (k : ℕ) → newest_moment old ≤ k → (y : Owing (transaction_of (machine_of_key p.rules key)).Phase)
       → Stands (transaction_of (machine_of_key p.rules key)).figure p (events_for key (old ++ more)) k y ↔ Stands (transaction_of (machine_of_key p.rules key)).figure p (events_for key more) k y
   stands_new more order k high y =
@@ -50,16 +51,16 @@ module _ (p : Times) (key : KeyParts) (old : List (Observation KeyParts)) (again
         λ stands. subst (λ events. Stands f p events k y) (sym (events-append key old more)) (both.1 stands),
       )
 
-  -- the last of later entries is not before the older ones
+  -- the last of later entries in order is not before the newest of the old ones
   last_late : (front : List (Observation KeyParts)) (e : Observation KeyParts) (rest : List (Observation KeyParts)) → order_of (front ++ e ∷ rest) → newest_moment old ≤ e.event.moment
   last_late front e rest order =
       All-middle (λ f. newest_moment old ≤ f.event.moment) front rest e (newest-before 0 old (front ++ e ∷ rest) (λ i d within. omega arith) order)
 
-  -- the front of later entries in order is in order too
+  -- where later entries are in order, the first of them are in order
   order_front : (more rest : List (Observation KeyParts)) → order_of (more ++ rest) → order_of more
   order_front more rest order = ordered_front (λ a b. a.event.moment ≤ b.event.moment) (old ++ more) rest (subst (AllPairs (λ a b. a.event.moment ≤ b.event.moment)) (sym (append_assoc old more rest)) order)
 
-  -- a run over them all is one over the later ones
+  -- the key has a run over all entries exactly if it has one over the later ones
   runs_new : (front : List (Observation KeyParts)) (e : Observation KeyParts) → order_of (front ++ e ∷ []) → RunsOver p ((old ++ front) ++ e ∷ []) key ↔ RunsOver p (front ++ e ∷ []) key
   runs_new front e order =
       let f = (transaction_of (machine_of_key p.rules key)).figure in
@@ -77,7 +78,7 @@ module _ (p : Times) (key : KeyParts) (old : List (Observation KeyParts)) (again
             (runs.0, subst (λ m. Stands f p (events_for key ((old ++ front) ++ e ∷ [])) m runs.0) (sym whole) (subst (λ es. Stands f p (events_for key es) e.event.moment runs.0) (sym one) at)),
       )
 
-  -- it is too wide where a new one is
+  -- the key is too wide after all entries exactly if it is too wide after the later ones
   wide_new : (front : List (Observation KeyParts)) (e : Observation KeyParts) → order_of (front ++ e ∷ []) → IsWideAt p (old ++ front) e key ↔ IsWideAt p front e key
   wide_new front e order =
       let f = (transaction_of (machine_of_key p.rules key)).figure in
@@ -92,7 +93,7 @@ module _ (p : Times) (key : KeyParts) (old : List (Observation KeyParts)) (again
       )
 
   module _ (sound : IsSound p old key) where
-    -- it is sound where a new one is
+    -- the key is in no trouble over all entries exactly if it is in none over the later ones
     sound_new : (more : List (Observation KeyParts)) → order_of more → IsSound p (old ++ more) key ↔ IsSound p more key
     sound_new more order = (
       λ both. (runs_of more order both.0, λ front e rest is wide. both.1 (old ++ front) e rest (ap (λ xs. old ++ xs) is ∙ sym (append_assoc old front (e ∷ rest))) ((wide_new front e (order_at front e rest is)).1 wide)),
@@ -108,7 +109,7 @@ module _ (p : Times) (key : KeyParts) (old : List (Observation KeyParts)) (again
         narrow new front e rest wide (inr (zs, before, is)) = new.1 zs e rest is ((wide_new zs e (order_at zs e rest is)).0 (subst (λ xs. IsWideAt p xs e key) before wide))
 
         runs_of : (es : List (Observation KeyParts)) → order_of es → RunsOver p (old ++ es) key → RunsOver p es key
-        runs_of es order runs = by (last_of_list es)
+        runs_of es order runs = by (empty_or_last es)
           where
             by : (es ≡ []) ⊎ ((front : List (Observation KeyParts)) × (e : Observation KeyParts) × (es ≡ front ++ e ∷ [])) → RunsOver p es key
             by (inl none) = subst (λ xs. RunsOver p xs key) (sym none) (sound_nil p key).0
@@ -117,7 +118,7 @@ module _ (p : Times) (key : KeyParts) (old : List (Observation KeyParts)) (again
                 ((runs_new front e (subst order_of is order)).0 (subst (λ xs. RunsOver p xs key) (ap (λ xs. old ++ xs) is ∙ sym (append_assoc old front (e ∷ []))) runs))
 
         runs_both : (es : List (Observation KeyParts)) → order_of es → RunsOver p es key → RunsOver p (old ++ es) key
-        runs_both es order runs = by (last_of_list es)
+        runs_both es order runs = by (empty_or_last es)
           where
             by : (es ≡ []) ⊎ ((front : List (Observation KeyParts)) × (e : Observation KeyParts) × (es ≡ front ++ e ∷ [])) → RunsOver p (old ++ es) key
             by (inl none) = subst (λ xs. RunsOver p (old ++ xs) key) (sym none) (subst (λ xs. RunsOver p xs key) (sym (append-nil old)) sound.0)
@@ -125,7 +126,7 @@ module _ (p : Times) (key : KeyParts) (old : List (Observation KeyParts)) (again
                 subst (λ xs. RunsOver p xs key) (sym (ap (λ xs. old ++ xs) is ∙ sym (append_assoc old front (e ∷ []))))
                 ((runs_new front e (subst order_of is order)).1 (subst (λ xs. RunsOver p xs key) is runs))
 
-    -- what is found at a later entry of a transaction that was idle again is what is found of a new one
+    -- at a later entry the key breaks, or is followed no further, exactly where it does over the later entries alone
     pub found_new : (front : List (Observation KeyParts)) (e : Observation KeyParts) → order_of (front ++ e ∷ []) → (Breaks p (old ++ front) e key ↔ Breaks p front e key) × (Widens p (old ++ front) e key ↔ Widens p front e key)
     found_new front e order =
         let so_far = sound_new front (order_front front (e ∷ []) order) in

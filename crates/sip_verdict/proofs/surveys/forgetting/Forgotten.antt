@@ -1,5 +1,5 @@
--- What a survey keeps, where some of its transactions are forgotten.
-use Rattle.std.proofs.Common.{◌≡◌, ◌≢◌, ◌≤◌, ◌<◌, ◌↔◌, ◌+◌, ◌⊎◌, inl, inr, ℕ, zero, suc, Bool, true, false, cond, Option, Some, None, List, [], ◌∷◌, ◌++◌, All, AllPairs, Contains, length, map, slice_get, refl, sym, ap, ap₂, ◌∙◌, subst, arith, append-nil, append_assoc, length-append, true≢false}
+-- What a survey keeps where some of its transactions are forgotten.
+use Rattle.std.proofs.Common.{◌≡◌, ◌≢◌, ◌≤◌, ◌↔◌, ◌+◌, ◌⊎◌, inl, inr, ℕ, zero, suc, Bool, true, false, cond, Option, Some, None, List, [], ◌∷◌, ◌++◌, All, AllPairs, length, slice_get, refl, sym, ap, ◌∙◌, subst, arith, append-nil, append_assoc, length-append, true≢false}
 use Rattle.std.specs.Prelude.{filter, flat_map, max, not, IsTrue}
 use Rattle.std.specs.List.{list_any}
 use Rattle.std.proofs.lemmas.Bool.{false≢true}
@@ -19,12 +19,12 @@ use Rattle.sip_states.specs.Tables.{Tabled}
 use Rattle.sip_states.specs.Kept.{kept_of, kept_tables}
 use Rattle.sip_states.specs.declared.any_set.AnySet.{AnySet}
 use Rattle.sip_states.proofs.lists.Kept.{place_of, kept_at, kept_long, kept_few}
+use Rattle.sip_states.proofs.lists.Places.{push_place}
 use Rattle.sip_verdict.specs.declared.histories.Histories.{Histories}
 use Rattle.sip_verdict.specs.declared.histories.History.{History}
 use Rattle.sip_verdict.specs.declared.troubled.Troubled.{Troubled}
 use Rattle.sip_verdict.specs.Forgetting.{remembered, IsOver, ForgetsUpTo}
 use Rattle.sip_verdict.specs.Entries.{newest_moment}
-use Rattle.sip_verdict.specs.SurveyOf.{IsSound}
 use Rattle.sip_verdict.specs.SurveyText.{is_of, IsFirstOf, IsLastOf}
 use Rattle.sip_verdict.specs.Surveys.{IsHistoryOf, AreHistories}
 use Rattle.sip_verdict.specs.inner.Forgetting.{IsPast, AreFlags, AreQuietIfOver, TellsPast}
@@ -39,14 +39,14 @@ use Rattle.sip_verdict.proofs.surveys.forgetting.Remembered.{zip_remembered, ord
 use Rattle.sip_verdict.proofs.tables.TablesPassing.{at_place, All-place, All-places}
 use Rattle.sip_verdict.proofs.verdicts.Unique.{All-middle}
 
--- Which keys are kept, by a flag for each.
+-- whether a key is kept: as its flag says where it is among the keys, and kept where it is not or has no flag
 
 abbrev pub kept_by : List Bool → List KeyParts → KeyParts → Bool
 kept_by [] keys key = true
 kept_by (b ∷ flags) [] key = true
 kept_by (b ∷ flags) (k ∷ keys) key = cond (same_key key k) b (kept_by flags keys key)
 
--- one whose place is known
+-- where all keys differ, a key at a place is kept as the flag at the same place says
 pub kept_by_at : (flags : List Bool) (keys : List KeyParts) → AllPairs (λ a b. a ≢ b) keys → (n : ℕ) (key : KeyParts) (b : Bool) → slice_get keys n ≡ Some key → slice_get flags n ≡ Some b → kept_by flags keys key ≡ b
 kept_by_at [] keys apart n key b at flag = absurd cc
 kept_by_at (c ∷ flags) [] apart n key b at flag = absurd cc
@@ -61,7 +61,7 @@ kept_by_at (c ∷ flags) (k ∷ keys) apart (suc n) key b at flag =
     go true e rest = absurd (All-place (λ x. k ≢ x) keys n key at (AllPairs-head (λ a b. a ≢ b) k keys apart) (sym ((same_key-decides key k).0 e)))
     go false e rest = ap (λ t. cond t c (kept_by flags keys key)) e ∙ rest
 
--- one that is not kept has a place
+-- a key that is not kept stands at some place, and its flag is false
 pub kept_by_not : (flags : List Bool) (keys : List KeyParts) (key : KeyParts) → kept_by flags keys key ≡ false → (n : ℕ) × (slice_get keys n ≡ Some key) × (slice_get flags n ≡ Some false)
 kept_by_not [] keys key gone = absurd (true≢false gone)
 kept_by_not (b ∷ flags) [] key gone = absurd (true≢false gone)
@@ -72,7 +72,7 @@ kept_by_not (b ∷ flags) (k ∷ keys) key gone = go (same_key key k) refl (λ s
     go true e rest = (0, ap Some (sym ((same_key-decides key k).0 e)), ap Some (sym (ap (λ t. cond t b (kept_by flags keys key)) e) ∙ gone))
     go false e rest = let (n, at, flag) = rest (sym (ap (λ t. cond t b (kept_by flags keys key)) e) ∙ gone) in (suc n, at, flag)
 
--- a test that says what the flags say keeps what they keep
+-- where a test says of each key what its flag says, it keeps the keys that the flags keep
 filter_flags : (test : KeyParts → Bool) (flags : List Bool) (keys : List KeyParts) → length flags ≡ length keys
     → ((n : ℕ) (key : KeyParts) (b : Bool) → slice_get keys n ≡ Some key → slice_get flags n ≡ Some b → test key ≡ b) → filter test keys ≡ kept_of flags keys
 filter_flags test [] [] long says = refl
@@ -83,22 +83,11 @@ filter_flags test (true ∷ flags) (k ∷ keys) long says =
 filter_flags test (false ∷ flags) (k ∷ keys) long says =
     ap (λ t. cond t (k ∷ filter test keys) (filter test keys)) (says 0 k false refl refl) ∙ filter_flags test flags keys (omega (arith, long)) (λ n key b at flag. says (suc n) key b at flag)
 
--- the element after the others, or one of them
-pushed_at : {A : Type 0} (xs : List A) (x : A) (n : ℕ) (y : A) → slice_get (xs ++ x ∷ []) n ≡ Some y → (slice_get xs n ≡ Some y) ⊎ ((n ≡ length xs) × (x ≡ y))
-pushed_at [] x zero y at = inr (refl, cc)
-pushed_at [] x (suc n) y at = absurd cc
-pushed_at (z ∷ xs) x zero y at = inl at
-pushed_at {A} (z ∷ xs) x (suc n) y at = go (pushed_at xs x n y at)
-  where
-    go : (slice_get xs n ≡ Some y) ⊎ ((n ≡ length xs) × (x ≡ y)) → (slice_get xs n ≡ Some y) ⊎ ((suc n ≡ suc (length xs)) × (x ≡ y))
-    go (inl h) = inl h
-    go (inr h) = inr (ap suc h.0, h.1)
-
--- one flag more
+-- where each transaction so far has its flag, and the next one gets its own, all of them have
 pub flags_more : (until : ℕ) (t : Tabled) (b : Histories) (flags : List Bool) (is_past : Bool)
     → ((set : AnySet) (h : History) → slice_get t.sets (length flags) ≡ Some set → slice_get b.each.items (length flags) ≡ Some h → IsTrue is_past ↔ IsPast until b.restart set h)
     → TellsPast until t b flags → TellsPast until t b (flags ++ not is_past ∷ [])
-flags_more until t b flags is_past says each n is_kept set h flag at of = go (pushed_at flags (not is_past) n is_kept flag)
+flags_more until t b flags is_past says each n is_kept set h flag at of = go (push_place flags (not is_past) n is_kept flag)
   where
     turned : (past : Bool) → (not past ≡ false) ↔ IsTrue past
     turned true = (λ e. refl, λ e. refl)
@@ -110,7 +99,7 @@ flags_more until t b flags is_past says each n is_kept set h flag at of = go (pu
         let both = says set h (subst (λ k. slice_get t.sets k ≡ Some set) last at) (subst (λ k. slice_get b.each.items k ≡ Some h) last of) in
         (λ e. both.0 ((turned is_past).0 (is ∙ e)), λ past. sym is ∙ (turned is_past).1 (both.1 past))
 
--- what holds of all holds of what is kept
+-- what holds of all elements holds of those that are kept
 pub All-kept : {A : Type 0} (P : A → Type 0) (flags : List Bool) (xs : List A) → All P xs → All P (kept_of flags xs)
 All-kept P flags xs all = All-places P (kept_of flags xs) (λ n x at. All-place P xs (place_of flags n) x (kept_at flags xs n x at).0 all)
 
@@ -118,6 +107,7 @@ module _ (kept : KeyParts → Bool) (key : KeyParts) (is : kept key ≡ true) wh
   same_of : (e : Observation KeyParts) → is_of key (record { fault = e.fault; event = e.event; keys = filter kept e.keys }) ≡ is_of key e
   same_of e = among_chosen kept key is e.keys
 
+  -- where no entry is of the key, no entry as it is remembered is
   none_of : (es : List (Observation KeyParts)) → All (λ o. is_of key o ≡ false) es → All (λ o. is_of key o ≡ false) (remembered kept es)
   none_of [] all = All-nil (λ o. is_of key o ≡ false)
   none_of (e ∷ es) all =
@@ -127,7 +117,7 @@ module _ (kept : KeyParts → Bool) (key : KeyParts) (is : kept key ≡ true) wh
   abbrev one : Observation KeyParts → Observation KeyParts
   one e = record { fault = e.fault; event = e.event; keys = filter kept e.keys }
 
-  -- its first and its last entry are the same
+  -- where an entry is the first of the key, it is the first of the key as the entries are remembered
   first_kept : (es : List (Observation KeyParts)) (n : ℕ) (branch : List ℕ) → IsFirstOf es key n branch → IsFirstOf (remembered kept es) key n branch
   first_kept es n branch (before, e, after, whole, at, none, counts, says) =
       (remembered kept before, one e, remembered kept after, ap (remembered kept) whole ∙ map-append one before (e ∷ after), same_of e ∙ at, none_of before none, counts ∙ ap (λ k. k + 1) (sym (length-map before one)), says)
@@ -139,7 +129,7 @@ module _ (kept : KeyParts → Bool) (key : KeyParts) (is : kept key ≡ true) wh
   history_kept : (es : List (Observation KeyParts)) (restart : ℕ) (h : History) → IsHistoryOf es restart key h → IsHistoryOf (remembered kept es) restart key h
   history_kept es restart h told = record { first = first_kept es h.first h.branch.items told.first; last = last_kept es (max h.last restart) told.last }
 
-  -- its set follows what is left of the entries
+  -- a set that follows the entries for the key follows what is remembered of them
   followed_kept : (texts : Texts) (p : Times) (es : List (Observation KeyParts)) (set : AnySet) (d : Bool) → IsFollowed texts p es key set d → IsFollowed texts p (remembered kept es) key set d
   followed_kept texts p es set true (leads, unsound) =
       let zip = zip_remembered kept es in (
@@ -153,7 +143,7 @@ module _ (kept : KeyParts → Bool) (key : KeyParts) (is : kept key ≡ true) wh
         (sound_cut kept key is p es (remembered kept es) zip).0 sound,
       )
 
--- the last entry of a transaction has one number
+-- no entry of a transaction comes after its last one
 last_not_after : (es : List (Observation KeyParts)) (key : KeyParts) (m n : ℕ) → IsLastOf es key m → IsLastOf es key n → n ≤ m
 last_not_after es key m n (b, e, a, whole, is, none, counts) (c, f, d, other, at, last, number) = by (split_compare b a c d e f (sym whole ∙ other))
   where
@@ -165,7 +155,7 @@ last_not_after es key m n (b, e, a, whole, is, none, counts) (c, f, d, other, at
         absurd (false≢true (sym (All-middle (λ o. is_of key o ≡ false) zs d f (subst (All (λ o. is_of key o ≡ false)) after none)) ∙ at))
     by (inr (inr (zs, earlier))) = omega (arith, counts, number, simp length-append at (ap length earlier))
 
--- one that an entry concerns has a place among the keys
+-- a key that an entry concerns stands at some place among the keys of the entries
 key_of : (p : Times) (es : List (Observation KeyParts)) (key : KeyParts) (last : ℕ) → IsLastOf es key last → (n : ℕ) × (slice_get (keys_in es) n ≡ Some key)
 key_of p es key last (before, e, after, whole, is, none, counts) = by (list_any (same_key key) (keys_in es)) refl
   where
@@ -180,13 +170,13 @@ pub long_kept : (kept : KeyParts → Bool) (es : List (Observation KeyParts)) �
 long_kept kept [] = refl
 long_kept kept (e ∷ es) = ap suc (long_kept kept es)
 
--- the newest moment is the same
+-- the newest moment is the same where some transactions are forgotten
 pub newest_kept : (kept : KeyParts → Bool) (es : List (Observation KeyParts)) → newest_moment (remembered kept es) ≡ newest_moment es
 newest_kept kept es = newest_cut kept 0 es (remembered kept es) (zip_remembered kept es)
 
--- Tables whose sets have waited.
+-- What follows is of tables whose sets have waited.
 
--- the next entry may come
+-- where the sets have waited until a moment that may pass, the next entry may be taken as before
 pub take_waited : (old new : Texts) (t u : Tabled) (number moment : ℕ) → new ≡ old → u.keys ≡ t.keys → MayPass new u moment → AllAreOnRecord u → MayTake old t number moment → MayTake new u number moment
 take_waited old new t u number moment book keys passes recorded may = record {
   passes = passes;
@@ -210,11 +200,11 @@ module _ (flags : List Bool) (t : Tabled) (long : length flags ≡ length t.keys
   is_kept : (n : ℕ) (key : KeyParts) → slice_get (kept_of flags t.keys) n ≡ Some key → kept_by flags t.keys key ≡ true
   is_kept n key at = let (there, flag) = kept_at flags t.keys n key at in kept_by_at flags t.keys apart (place_of flags n) key true there flag
 
-  -- the keys of what is left of the entries
+  -- the keys that are left in the tables are the keys of what is remembered of the entries
   keys_left : (es : List (Observation KeyParts)) → t.keys ≡ keys_in es → kept_of flags t.keys ≡ keys_in (remembered kept es)
   keys_left es are = sym keys_kept ∙ ap (filter kept) are ∙ sym (keys_cut kept es (remembered kept es) (zip_remembered kept es))
 
-  -- what is left of the tables follows what is left of the entries
+  -- where tables survey the entries, what is left of the tables surveys what is remembered of the entries
   pub survey_kept : (texts : Texts) (es : List (Observation KeyParts)) (deaf : List Bool) → TablesSurvey texts es t deaf → TablesSurvey texts (remembered kept es) (kept_tables flags t) (kept_of flags deaf)
   survey_kept texts es deaf tracks = record {
     order = subst (AllPairs (λ a b. a.event.moment ≤ b.event.moment)) (append-nil (remembered kept es)) (order_kept kept es [] (subst (AllPairs (λ a b. a.event.moment ≤ b.event.moment)) (sym (append-nil es)) tracks.order));
@@ -225,7 +215,7 @@ module _ (flags : List Bool) (t : Tabled) (long : length flags ≡ length t.keys
         (tracks.each m key set d (kept_at flags t.keys n key at).0 (kept_at flags t.sets n set here).0 (kept_at flags deaf n d is).0);
   }
 
-  -- the histories of what is kept are those of what is remembered
+  -- the histories that are left are those of what is remembered of the entries
   pub histories_kept : (es : List (Observation KeyParts)) (b c : Histories) → t.keys ≡ keys_in es → c.each.items ≡ kept_of flags b.each.items → c.restart ≡ b.restart → AreHistories es b → AreHistories (remembered kept es) c
   histories_kept es b c are items restart h = record {
     long = ap length items ∙ kept_long flags b.each.items t.keys (h.long ∙ ap length (sym are)) ∙ ap length (keys_left es are);
@@ -238,7 +228,7 @@ module _ (flags : List Bool) (t : Tabled) (long : length flags ≡ length t.keys
         (h.each m key k (ap (λ ks. slice_get ks m) (sym are) ∙ (kept_at flags t.keys n key there).0) (kept_at flags b.each.items n k (subst (λ ks. slice_get ks n ≡ Some k) items here)).0));
   }
 
-  -- an entry may pass what is left
+  -- where an entry may pass the tables, it may pass what is left of them
   pub pass_kept : (texts : Texts) (moment : ℕ) → MayPass texts t moment → MayPass texts (kept_tables flags t) moment
   pass_kept texts moment may = record {
     order = All-kept (λ set. moment_of set ≤ moment) flags t.sets may.order;
@@ -246,7 +236,7 @@ module _ (flags : List Bool) (t : Tabled) (long : length flags ≡ length t.keys
     long = kept_long flags t.sets t.keys may.long;
   }
 
-  -- each last moment is on record
+  -- where each last moment of the tables is on record, each of what is left is
   pub recorded_kept : AllAreOnRecord t → AllAreOnRecord (kept_tables flags t)
   recorded_kept h = record {
     long = kept_long flags t.records t.keys h.long;
@@ -267,6 +257,7 @@ module _ (flags : List Bool) (t : Tabled) (long : length flags ≡ length t.keys
     few = (let low = kept_few flags t.keys in let few = may.few in omega (arith, low, few));
   }
 
+  -- where the tables are watched, what is left of them is watched, with the flags of trouble that are left
   pub watched_kept : (b c : Troubled) → c.deaf.items ≡ kept_of flags b.deaf.items → AreWatched [] t b → AreWatched [] (kept_tables flags t) c
   watched_kept b c deaf h = record {
     long = ap length deaf ∙ kept_long flags b.deaf.items t.keys h.long;
@@ -278,9 +269,10 @@ module _ (flags : List Bool) (t : Tabled) (long : length flags ≡ length t.keys
         at ∙ sym (kept_at flags t.records n recorded at).0 ∙ h.silent m was;
   }
 
-  -- what is forgotten is over
+  -- What follows is of the transactions that are forgotten, by their flags.
   module _ (texts : Texts) (es : List (Observation KeyParts)) (deaf : List Bool) (b : Histories) (until moment : ℕ) (says : AreFlags until t b flags) (tracks : TablesSurvey texts es t deaf)
       (as_many : length deaf ≡ length t.keys) (may : MayPass texts t moment) (newest : newest_moment es ≡ moment) (told : AreHistories es b) where
+    -- each key has a set, a flag of trouble and a history, and its set follows the entries
     at_key : (n : ℕ) (key : KeyParts) → slice_get t.keys n ≡ Some key → (set : AnySet) × (d : Bool) × (h : History) × (slice_get t.sets n ≡ Some set) × (slice_get deaf n ≡ Some d) × (slice_get b.each.items n ≡ Some h)
     at_key n key at =
         let inside = slice_get_within t.keys n key at in
@@ -293,6 +285,7 @@ module _ (flags : List Bool) (t : Tabled) (long : length flags ≡ length t.keys
     over_by key set true (leads, unsound) low quiet = inl unsound
     over_by key set false (leads, sound) low quiet = inr (quiet_over texts t.times (machine_of_key t.times.rules key) (events_for key es) (newest_moment es) set leads low quiet)
 
+    -- a key that is not kept is over, and its last entry has a number up to `until`
     forgotten : (key : KeyParts) → kept key ≡ false → IsOver t.times es key × ((last : ℕ) × IsLastOf es key last × (last ≤ until))
     forgotten key gone =
         let (n, at, flag) = kept_by_not flags t.keys key gone in
@@ -303,8 +296,9 @@ module _ (flags : List Bool) (t : Tabled) (long : length flags ≡ length t.keys
           (max h.last b.restart, (told.each n key h (ap (λ ks. slice_get ks n) (sym tracks.keys) ∙ at) of).last, past.1),
         )
 
-    -- a transaction that is over, and concerned no later entry, is not kept
+    -- What follows needs that the set of each transaction that is over is quiet: a transaction that is over, and has no later entry, is not kept.
     module _ (over_quiet : AreQuietIfOver es t) where
+      -- a key that is over, and whose last entry has a number up to `until`, is not kept
       remembers : (key : KeyParts) → IsOver t.times es key → (last : ℕ) → IsLastOf es key last → last ≤ until → kept key ≡ false
       remembers key over last is_last low =
           let (n, there) = key_of t.times es key last is_last in

@@ -1,14 +1,16 @@
 -- A transaction that is surely idle again is as new.
-use Rattle.std.proofs.Common.{◌≡◌, ◌≤◌, ◌<◌, ◌↔◌, ◌⊎◌, inl, inr, ℕ, List, [], ◌∷◌, ◌++◌, All, refl, sym, ap, ◌∙◌, subst, arith, append_assoc, append-nil, zero-le, length-append}
+use Rattle.std.proofs.Common.{◌≡◌, ◌≤◌, ◌<◌, ◌↔◌, ◌⊎◌, inl, inr, ℕ, List, [], ◌∷◌, ◌++◌, All, refl, sym, ap, ◌∙◌, subst, arith, append_assoc, append-nil, zero-le}
 use Rattle.std.proofs.Math.Decide.{dec_le}
-use Rattle.std.proofs.lemmas.List.{same_from_push, get_or_append_left}
+use Rattle.std.proofs.lemmas.List.{same_from_push}
 use Rattle.std.proofs.lemmas.List.Elements.{All-nil, All-weaker, All-push}
+use Rattle.sip_machine.specs.inner.DebtLaws.{All-front}
 use Rattle.sip_standard.specs.Times.{Times}
 use Rattle.sip_standard.specs.MachineEvent.{MachineEvent}
 use Rattle.sip_standard.specs.Figure.{Figure, Owing, quiet, Lasts, MayEnd}
 use Rattle.sip_standard.specs.Stands.{Stands, begins, waits, ends, takes}
 use Rattle.sip_standard.specs.KeyMachine.{MachineKind, transaction_of}
 use Rattle.sip_verdict.specs.SurveyLaws.{IsIdleAgain}
+use Rattle.sip_verdict.proofs.verdicts.LegalRuns.{empty_or_last}
 use Rattle.sip_verdict.proofs.verdicts.Unique.{All-middle}
 use Rattle.sip_verdict.proofs.surveys.forgetting.Lasting.{idle_lasts, idle_stays, lasts_earlier}
 
@@ -18,20 +20,8 @@ IsTo m e = e.moment ≤ m
 abbrev IsFrom : ℕ → MachineEvent → Type 0
 IsFrom m e = m ≤ e.moment
 
-All-front : {X : Type 0} (P : X → Type 0) (xs : List X) (x : X) → All P (xs ++ x ∷ []) → All P xs
-All-front P xs x all k d low = subst P (get_or_append_left xs (x ∷ []) d k low) (all k d (let long = length-append xs (x ∷ []) in omega (arith, low, long)))
-
--- a list is empty or has a last element
-pub last_of_list : {A : Type 0} (xs : List A) → (xs ≡ []) ⊎ ((front : List A) × (x : A) × (xs ≡ front ++ x ∷ []))
-last_of_list [] = inl refl
-last_of_list {A} (x ∷ xs) = go (last_of_list xs)
-  where
-    go : (xs ≡ []) ⊎ ((front : List A) × (y : A) × (xs ≡ front ++ y ∷ [])) → (x ∷ xs ≡ []) ⊎ ((front : List A) × (y : A) × (x ∷ xs ≡ front ++ y ∷ []))
-    go (inl e) = inr ([], x, ap (λ z. x ∷ z) e)
-    go (inr h) = inr (x ∷ h.0, h.1, ap (λ z. x ∷ z) h.2)
-
 module _ {X : Type 0} (f : Figure X) (p : Times) (lasts : (m : ℕ) → Lasts f p (quiet f.idle) m) (has_no_end : (m : ℕ) → ¬ (MayEnd f p (quiet f.idle) m)) where
-  -- no event of a run is after where it stands
+  -- no event of a run is after the moment at which the run stands
   events_to : (events : List MachineEvent) (m : ℕ) (y : Owing X) → Stands f p events m y → All (IsTo m) events
   events_to events m y begins = All-nil (IsTo 0)
   events_to events m y (waits evs h k x stands low lasting) = All-weaker (IsTo h) (IsTo k) (λ e to. omega (arith, to, low)) evs (events_to evs h x stands)
@@ -39,7 +29,7 @@ module _ {X : Type 0} (f : Figure X) (p : Times) (lasts : (m : ℕ) → Lasts f 
   events_to events m y (takes evs e x z stands does) = All-push (IsTo e.moment) evs e (events_to evs e.moment x stands) (omega arith)
 
   module _ (old : List MachineEvent) (m : ℕ) (idle : Stands f p old m (quiet f.idle)) where
-    -- a run over later events goes on after older ones, at whose end the transaction is idle; before their end it has not begun
+    -- where old events leave the transaction idle at m, a run over later events goes on after them; before m such a run has no event and stands in idle
     on : (more : List MachineEvent) (k : ℕ) (y : Owing X) → Stands f p more k y → All (IsFrom m) more → (m ≤ k → Stands f p (old ++ more) k y) × (k < m → (more ≡ []) × (y ≡ quiet f.idle))
     on more k y begins from = (λ high. subst (λ n. Stands f p (old ++ []) n (quiet f.idle)) (let same : m ≡ 0 = omega (arith, high) in same) (subst (λ es. Stands f p es m (quiet f.idle)) (sym (append-nil old)) idle), λ low. (refl, refl))
     on more k y (waits evs h n x stands low lasting) from = go (dec_le m h) (on evs h x stands from)
@@ -58,15 +48,15 @@ module _ {X : Type 0} (f : Figure X) (p : Times) (lasts : (m : ℕ) → Lasts f 
         go (no early) both = absurd (has_no_end h (subst (λ z. MayEnd f p z h) (both.1 (omega (arith, early))).1 may))
     on more k y (takes evs e x z stands does) from =
         let last : m ≤ e.moment = All-middle (IsFrom m) evs [] e from in
-        let before = (on evs e.moment x stands (All-front (IsFrom m) evs e from)).0 last in
+        let before = (on evs e.moment x stands (All-front (IsFrom m) evs (e ∷ []) from)).0 last in
         (λ high. subst (λ es. Stands f p es e.moment z) (append_assoc old evs (e ∷ [])) (takes (old ++ evs) e x z before does), λ low. absurd (omega (arith, low, last)))
 
   module _ (old : List MachineEvent) (m : ℕ) (only : (x : Owing X) → Stands f p old m x → x ≡ quiet f.idle) (past : All (IsTo m) old) where
-    -- idle stands at each moment, after no event
+    -- the transaction stands in idle at each moment, where there is no event
     new : (k : ℕ) → Stands f p [] k (quiet f.idle)
     new k = waits [] 0 k (quiet f.idle) begins zero-le (lasts k)
 
-    -- a run over them and later events is one over the later ones alone
+    -- where old events leave the transaction in idle alone, a run over them and later events is a run over the later ones alone
     off : (all : List MachineEvent) (k : ℕ) (y : Owing X) → Stands f p all k y → m ≤ k → (more : List MachineEvent) → all ≡ old ++ more → All (IsFrom m) more → Stands f p more k y
     off all k y begins high more is from = subst (λ es. Stands f p es 0 (quiet f.idle)) (second old more is) begins
       where
@@ -76,7 +66,7 @@ module _ {X : Type 0} (f : Figure X) (p : Times) (lasts : (m : ℕ) → Lasts f 
     off all k y (waits evs h n x stands low lasting) high more is from = go (dec_le m h) (λ late. off evs h x stands late more is from)
       where
         none : (ys : List MachineEvent) → evs ≡ old ++ ys → All (IsFrom m) ys → h < m → ys ≡ []
-        none ys are later early = by (last_of_list ys)
+        none ys are later early = by (empty_or_last ys)
           where
             by : (ys ≡ []) ⊎ ((front : List MachineEvent) × (e : MachineEvent) × (ys ≡ front ++ e ∷ [])) → ys ≡ []
             by (inl e) = e
@@ -93,7 +83,7 @@ module _ {X : Type 0} (f : Figure X) (p : Times) (lasts : (m : ℕ) → Lasts f 
             let here : Stands f p old m x = waits old h m x (subst (λ es. Stands f p es h x) (is ∙ ap (λ ys. old ++ ys) nil ∙ append-nil old) stands) (omega (arith, early)) (lasts_earlier f p x m n high lasting) in
             subst (λ es. Stands f p es n x) (sym nil) (subst (Stands f p [] n) (sym (only x here)) (new n))
     off all k y (ends evs h x stands may) high more is from = ends more h x (off evs h x stands high more is from) may
-    off all k y (takes evs e x z stands does) high more is from = go (last_of_list more) (λ front are later. off evs e.moment x stands high front are later)
+    off all k y (takes evs e x z stands does) high more is from = go (empty_or_last more) (λ front are later. off evs e.moment x stands high front are later)
       where
         go : (more ≡ []) ⊎ ((front : List MachineEvent) × (d : MachineEvent) × (more ≡ front ++ d ∷ [])) → ((front : List MachineEvent) → evs ≡ old ++ front → All (IsFrom m) front → Stands f p front e.moment x) → Stands f p more e.moment z
         go (inl nil) before =
@@ -104,10 +94,10 @@ module _ {X : Type 0} (f : Figure X) (p : Times) (lasts : (m : ℕ) → Lasts f 
             subst (λ es. Stands f p es e.moment z) (sym nil) (subst (Stands f p [] e.moment) (sym (only z here)) (new e.moment))
         go (inr (front, d, are)) before =
             let both = same_from_push evs (old ++ front) e d (is ∙ ap (λ ys. old ++ ys) are ∙ sym (append_assoc old front (d ∷ []))) in
-            let later : All (IsFrom m) front = All-front (IsFrom m) front d (subst (All (IsFrom m)) are from) in
+            let later : All (IsFrom m) front = All-front (IsFrom m) front (d ∷ []) (subst (All (IsFrom m)) are from) in
             subst (λ es. Stands f p es e.moment z) (sym are) (subst (λ g. Stands f p (front ++ g ∷ []) e.moment z) both.1 (takes front e x z (before front both.0 later) does))
 
--- a transaction that is idle again is as new
+-- where a transaction is idle again after old events, it stands over old and later events just where it stands over the later ones
 pub idle_is_new : (kind : MachineKind) (p : Times) (old more : List MachineEvent) (m k : ℕ) (y : Owing (transaction_of kind).Phase) → IsIdleAgain kind p old m → All (λ e. e.moment ≤ m) old → All (λ e. m ≤ e.moment) more
     → m ≤ k → Stands (transaction_of kind).figure p (old ++ more) k y ↔ Stands (transaction_of kind).figure p more k y
 idle_is_new kind p old more m k y again past from high =

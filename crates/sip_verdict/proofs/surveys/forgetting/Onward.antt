@@ -1,5 +1,5 @@
--- The same entries, as they are observed where nothing was forgotten and where transactions were. A restart concerns others then, and all the same is found of a
--- transaction that was kept, and of one that was idle again.
+-- The same items, as they are observed where nothing was forgotten and where transactions were. A restart concerns other keys then, and yet the same is
+-- found of a transaction that was kept, and of one that was forgotten when idle again.
 use Rattle.std.proofs.Common.{◌≡◌, ◌≢◌, ◌≤◌, ◌<◌, ◌↔◌, ◌⊎◌, inl, inr, ℕ, Bool, true, false, cond, List, [], ◌∷◌, ◌++◌, ◌||◌, All, AllPairs, length, map, get_or, append_assoc, append-nil, refl, sym, ap, ap₂, ◌∙◌, subst, arith, zero-le}
 use Rattle.std.specs.Prelude.{filter, fold, flat_map}
 use Rattle.std.specs.List.{list_any, AllZip}
@@ -42,12 +42,12 @@ use Rattle.sip_verdict.proofs.surveys.found.Sound.{sound_push}
 abbrev pub Entries : Type 0
 Entries = List (Observation KeyParts)
 
--- no entry is among none
+-- the empty list has no entry
 no_entry : {A : Type 0} (front : List A) (e : A) (rest : List A) → [] ≡ front ++ e ∷ rest → ⊥
 no_entry [] e rest is = cc
 no_entry (x ∷ front) e rest is = cc
 
--- the moments of entries are those of what was read
+-- the moments of entries are those of the items that were read
 seen_moments : (done : Entries) (items : List Item) (es : Entries) → AreSeen done items es → map (λ e. e.event.moment) es ≡ map (λ i. i.moment) items
 seen_moments done [] [] seen = refl
 seen_moments done [] (e ∷ es) seen = absurd seen
@@ -58,7 +58,7 @@ remembered_moments : (kept : KeyParts → Bool) (es : Entries) → map (λ e. e.
 remembered_moments kept [] = refl
 remembered_moments kept (e ∷ es) = ap (λ ms. e.event.moment ∷ ms) (remembered_moments kept es)
 
--- entries of the same moments are in the same order
+-- entries with the same moments, one by one, are in the same order
 order_by : (xs ys : Entries) → map (λ e. e.event.moment) xs ≡ map (λ e. e.event.moment) ys → IsOrdered xs → IsOrdered ys
 order_by xs ys same order i j d low high =
     let m : Observation KeyParts → ℕ = λ e. e.event.moment in
@@ -71,14 +71,14 @@ order_by xs ys same order i j d low high =
     omega (arith, first, second, was)
 
 module _ (key : KeyParts) where
-  -- the keys that are this one
+  -- those of the keys that are equal to `key`, the one key of which all that follows speaks
   abbrev own : List KeyParts → List KeyParts
   own keys = filter (same_key key) keys
 
   same_back : (k : KeyParts) → same_key key k ≡ true → k ≡ key
   same_back k e = sym ((same_key-decides key k).0 e)
 
-  -- among the keys of entries it is once, if it is there
+  -- a list that has the one key alone stays so when keys equal to it are added
   stays_one : (keys : List KeyParts) → fold with_key (key ∷ []) (own keys) ≡ key ∷ []
   stays_one [] = refl
   stays_one (k ∷ keys) = go (same_key key k) refl (stays_one keys)
@@ -91,6 +91,7 @@ module _ (key : KeyParts) where
       go true e rest =
           ap (λ b. fold with_key (key ∷ []) (cond b (k ∷ own keys) (own keys))) e ∙ ap (λ start. fold with_key start (own keys)) (known e) ∙ rest
 
+  -- where the key is among keys, the ones equal to it, each added where it is new, give a list of the key alone
   becomes_one : (keys : List KeyParts) → list_any (same_key key) keys ≡ true → fold with_key [] (own keys) ≡ key ∷ []
   becomes_one [] some = absurd (false≢true some)
   becomes_one (k ∷ keys) some = go (same_key key k) refl some (becomes_one keys)
@@ -106,7 +107,7 @@ module _ (key : KeyParts) where
   or_last true b e = refl
   or_last false b e = e
 
-  -- an entry that concerns it leaves it there once
+  -- after an entry that concerns the key, the key is once among the keys of all entries
   own_with : (es : Entries) (e : Observation KeyParts) → list_any (same_key key) e.keys ≡ true → own (keys_in (es ++ e ∷ [])) ≡ key ∷ []
   own_with es e some =
       let all = flat_map (λ f. f.keys) es in
@@ -114,7 +115,7 @@ module _ (key : KeyParts) where
       let any : list_any (same_key key) (all ++ e.keys) ≡ true = list_any-append (same_key key) all e.keys ∙ or_last (list_any (same_key key) all) (list_any (same_key key) e.keys) some in
       ap (λ keys. own (fold with_key [] keys)) whole ∙ sym (filter_keys (same_key key) [] (all ++ e.keys)) ∙ becomes_one (all ++ e.keys) any
 
-  -- what of an entry concerns it
+  -- the entry with no other key than the one
   abbrev cut_of : Observation KeyParts → Observation KeyParts
   cut_of e = record { fault = e.fault; event = e.event; keys = own e.keys }
 
@@ -122,14 +123,14 @@ module _ (key : KeyParts) where
   cut_self e = (refl, refl, λ some. refl)
 
   module _ (p : Times) where
-    -- one entry more
+    -- where the key is among the keys of two logs alike, and one entry more concerns it in both or in neither, it is among their keys alike still
     own_push : (done left : Entries) (e f : Observation KeyParts) → own (keys_in done) ≡ own (keys_in left) → own e.keys ≡ own f.keys → own (keys_in (done ++ e ∷ [])) ≡ own (keys_in (left ++ f ∷ []))
     own_push done left e f same here =
         ap own (keys_in-push done e) ∙ sym (filter_keys (same_key key) (keys_in done) e.keys)
         ∙ ap₂ (λ start keys. fold with_key start keys) same here
         ∙ filter_keys (same_key key) (keys_in left) f.keys ∙ sym (ap own (keys_in-push left f))
 
-    -- an entry as it is seen after others concerns it alike, if those do
+    -- where the key is among the keys of two logs alike, an item that is seen after each of them concerns the key in both alike
     alike : (done left : Entries) → own (keys_in done) ≡ own (keys_in left) → (item : Item) (e f : Observation KeyParts) (a : Action) → SeenAs done item e a → SeenAs left item f a → IsCutOf (same_key key) f (cut_of e)
     alike done left same item e f Sent sees saw = subst (λ g. IsCutOf (same_key key) g (cut_of e)) (message_one way.Sent item e f sees saw) (cut_self e)
     alike done left same item e f Received sees saw = subst (λ g. IsCutOf (same_key key) g (cut_of e)) (message_one way.Received item e f sees saw) (cut_self e)
@@ -141,10 +142,11 @@ module _ (key : KeyParts) where
       λ some. ap (λ g. g.event) sees ∙ sym (ap (λ g. g.event) saw),
     )
 
-    -- the entries of both logs are cut alike
+    -- both lists of entries, with no other key than the one, stand for the same entries
     abbrev AreAlike : Entries → Entries → Type 0
     AreAlike es fs = (cs : Entries) × AllZip (IsCutOf (same_key key)) es cs × AllZip (IsCutOf (same_key key)) fs cs
 
+    -- items that are seen after each of two logs which know the key alike give entries that are alike
     all_alike : (done left : Entries) → own (keys_in done) ≡ own (keys_in left) → (items : List Item) (es fs : Entries) → AreSeen done items es → AreSeen left items fs → AreAlike es fs
     all_alike done left same [] [] [] seen saw = ([], tt, tt)
     all_alike done left same [] [] (f ∷ fs) seen saw = absurd saw
@@ -156,7 +158,7 @@ module _ (key : KeyParts) where
         let more = all_alike (done ++ e ∷ []) (left ++ f ∷ []) (own_push done left e f same here.1) items es fs seen seen_left in
         (cut_of e ∷ more.0, (cut_self e, more.1), (here, more.2))
 
-    -- splits of both at the same place
+    -- what two logs have before an entry, and this entry, stand for the same where other keys are left out
     pub record SplitAlike (front back : Entries) (e f : Observation KeyParts) : Type 0 where
       pub mid : Entries
       pub cut : Observation KeyParts
@@ -165,6 +167,7 @@ module _ (key : KeyParts) where
       pub first : IsCutOf (same_key key) e cut
       pub second : IsCutOf (same_key key) f cut
 
+    -- two lists that are alike, split at the same place, are alike up to it and at it
     split_alike : (front back cs : Entries) (e f : Observation KeyParts) (rest more : Entries) → AllZip (IsCutOf (same_key key)) (front ++ e ∷ rest) cs → AllZip (IsCutOf (same_key key)) (back ++ f ∷ more) cs
         → length front ≡ length back → SplitAlike front back e f
     split_alike [] [] [] e f rest more one other long = absurd one
@@ -176,6 +179,7 @@ module _ (key : KeyParts) where
         let s = split_alike front back cs e f rest more one.1 other.1 (omega (arith, long)) in
         record { mid = c ∷ s.mid; cut = s.cut; fronts = (one.0, s.fronts); backs = (other.0, s.backs); first = s.first; second = s.second }
 
+    -- where two parts of entries stand for two parts of others, both parts together do
     zip_join : (xs ys us vs : Entries) → AllZip (IsCutOf (same_key key)) xs ys → AllZip (IsCutOf (same_key key)) us vs → AllZip (IsCutOf (same_key key)) (xs ++ us) (ys ++ vs)
     zip_join [] [] us vs zip more = more
     zip_join [] (y ∷ ys) us vs zip more = absurd zip
@@ -185,21 +189,22 @@ module _ (key : KeyParts) where
     here_same : same_key key key ≡ true
     here_same = (same_key-decides key key).1 refl
 
-    -- the same is found of the transaction at two entries, each after others
+    -- the key breaks, or is followed no further, at the entry e of the one log exactly if it does at the entry f of the other
     abbrev Alike : Entries → Observation KeyParts → Entries → Observation KeyParts → Type 0
     Alike front e back f = (Breaks p front e key ↔ Breaks p back f key) × (Widens p front e key ↔ Widens p back f key)
 
     through : (front mid back : Entries) (e c f : Observation KeyParts) → Alike front e mid c → Alike back f mid c → Alike front e back f
     through front mid back e c f a b = ((λ h. b.0.1 (a.0.0 h), λ h. a.0.1 (b.0.0 h)), (λ h. b.1.1 (a.1.0 h), λ h. a.1.1 (b.1.0 h)))
 
-    -- the same is found of it where both are cut to the same entries
+    -- where both logs stand for the same entries when other keys are left out, the same is found of the key
     alike_by : (front mid back : Entries) (e c f : Observation KeyParts) → AllZip (IsCutOf (same_key key)) front mid → AllZip (IsCutOf (same_key key)) back mid → IsCutOf (same_key key) e c → IsCutOf (same_key key) f c
         → Alike front e back f
     alike_by front mid back e c f fronts backs first second =
         through front mid back e c f (trouble_cut (same_key key) key here_same p front mid e c fronts first) (trouble_cut (same_key key) key here_same p back mid f c backs second)
 
-    -- A transaction that is kept.
+    -- What follows is of a transaction that is kept.
 
+    -- a kept key has the same trouble at the same entries, whether or not other transactions were forgotten
     pub later_kept : (kept : KeyParts → Bool) → kept key ≡ true → (old : Entries) (items : List Item) (es fs : Entries) → AreSeen old items es → AreSeen (remembered kept old) items fs
         → HasSameTroubleAfter p old (remembered kept old) es fs key
     later_kept kept is old items es fs seen saw front back e f rest more split other long =
@@ -211,21 +216,21 @@ module _ (key : KeyParts) where
         let s = split_alike front back cs e f rest more (subst (λ xs. AllZip (IsCutOf (same_key key)) xs cs) split ones) (subst (λ xs. AllZip (IsCutOf (same_key key)) xs cs) other others) long in
         alike_by (old ++ front) (only ++ s.mid) (remembered kept old ++ back) e s.cut f (zip_join old only front s.mid whole s.fronts) (zip_join (remembered kept old) only back s.mid left s.backs) s.first s.second
 
-    -- A transaction that is idle again.
+    -- What follows is of a transaction that is idle again.
 
     abbrev kind : MachineKind
     kind = machine_of_key p.rules key
 
-    -- the transaction is idle after the entries, and in no trouble
+    -- the transaction is idle again after the entries, and in no trouble
     pub record Rests (es : Entries) : Type 0 where
       pub again : IsIdleAgain kind p (events_for key es) (newest_moment es)
       pub sound : IsSound p es key
 
-    -- the entry does not concern it, or is a restart
+    -- the entry does not concern the key, or is a restart
     abbrev Passes : Observation KeyParts → Type 0
     Passes e = (list_any (same_key key) e.keys ≡ false) ⊎ (e.event.action ≡ Restart)
 
-    -- the events of one such entry are restarts
+    -- the key's events of an entry that does not concern it, or is a restart, are all restarts
     all_restarts : (e : Observation KeyParts) → Passes e → All (λ d. d.action ≡ Restart) (events_for key (e ∷ []))
     all_restarts e passes = go (list_any (same_key key) e.keys) refl passes
       where
@@ -234,7 +239,7 @@ module _ (key : KeyParts) where
         go true some (inl none) = absurd (false≢true (sym none ∙ some))
         go true some (inr is) = subst (λ b. All (λ d. d.action ≡ Restart) (map (λ f. f.event) (cond b (e ∷ []) []))) (sym some) (All-cons (λ d. d.action ≡ Restart) e.event [] is (All-nil (λ d. d.action ≡ Restart)))
 
-    -- over it alone the transaction is idle
+    -- over this one entry, which does not concern the key or is a restart, the transaction can stand in idle
     idle_here : (e : Observation KeyParts) → Passes e → Stands (transaction_of kind).figure p (events_for key (e ∷ [])) e.event.moment (quiet (transaction_of kind).figure.idle)
     idle_here e passes = go (list_any (same_key key) e.keys) refl passes
       where
@@ -247,14 +252,15 @@ module _ (key : KeyParts) where
             subst (λ b. Stands (transaction_of kind).figure p (map (λ g. g.event) (cond b (e ∷ []) [])) e.event.moment (quiet (transaction_of kind).figure.idle)) (sym some)
             (restart_stands (transaction_of kind).figure p (idle_lasts kind p) e.event is)
 
-    -- the moment of one entry more is not before the others
+    -- where entries are in order, the moment of the last one is not before the newest of the others
     late_push : (es : Entries) (e : Observation KeyParts) → IsOrdered (es ++ e ∷ []) → newest_moment es ≤ e.event.moment
     late_push es e order = All-middle (λ g. newest_moment es ≤ g.event.moment) [] [] e (newest-before 0 es (e ∷ []) (λ i d within. zero-le) order)
 
-    -- more than one state are not all the same one
+    -- more than 1,024 different states are not all the same one
     not_many : {X : Type 0} (q : X) (many : List X) → AllPairs (λ x y. x ≢ y) many → 1024 < length many → All (λ x. x ≡ q) many → ⊥
     not_many q many distinct long all = distinct 0 1 q (omega arith) (omega (arith, long)) (all 0 q (omega (arith, long)) ∙ sym (all 1 q (omega (arith, long))))
 
+    -- over an entry that does not concern it, or is a restart, a transaction that is idle again stays so
     rests_on : (es : Entries) (e : Observation KeyParts) → IsOrdered (es ++ e ∷ []) → Rests es → Passes e → Rests (es ++ e ∷ [])
     rests_on es e order r passes =
         let f = (transaction_of kind).figure in
@@ -276,11 +282,11 @@ module _ (key : KeyParts) where
             let (x, before, does) = all k d within in
             only (get_or many k d) (subst (λ events. Stands f p events e.event.moment (get_or many k d)) (sym (events_for-concerned key es e concerned)) (takes (events_for key es) e.event x (get_or many k d) before does)))
 
-    -- at such an entry nothing is found of it
+    -- where the transaction is idle again after an entry too, nothing is found of it there
     nothing_found : (es : Entries) (e : Observation KeyParts) → Rests (es ++ e ∷ []) → ¬ (Breaks p es e key) × ¬ (Widens p es e key)
     nothing_found es e r = (λ breaks. breaks.1 r.sound.0, λ widens. r.sound.1 es e [] refl widens.1)
 
-    -- an entry that comes: it is seen alike and concerns the transaction, or passes it by
+    -- an item that comes is seen alike after both logs and concerns the key; or in each it does not concern the key, or is a restart
     abbrev Comes : Observation KeyParts → Observation KeyParts → Type 0
     Comes e f = ((e ≡ f) × (list_any (same_key key) e.keys ≡ true)) ⊎ (Passes e × Passes f)
 
@@ -288,6 +294,7 @@ module _ (key : KeyParts) where
     message e f same true some = inl (same, some)
     message e f same false none = inr (inl none, inl (ap (λ g. list_any (same_key key) g.keys) (sym same) ∙ none))
 
+    -- an item that comes is a message that is seen alike after both logs, or a mark, or a restart
     comes : (done left : Entries) (item : Item) (e f : Observation KeyParts) (a : Action) → SeenAs done item e a → SeenAs left item f a → Comes e f
     comes done left item e f Sent sees saw = message e f (message_one way.Sent item e f sees saw) (list_any (same_key key) e.keys) refl
     comes done left item e f Received sees saw = message e f (message_one way.Received item e f sees saw) (list_any (same_key key) e.keys) refl
@@ -295,13 +302,13 @@ module _ (key : KeyParts) where
     comes done left item e f Mark sees saw = inr (inl (ap (λ g. list_any (same_key key) g.keys) sees), inl (ap (λ g. list_any (same_key key) g.keys) saw))
     comes done left item e f Restart sees saw = inr (inr (ap (λ g. g.event.action) sees), inr (ap (λ g. g.event.action) saw))
 
-    -- the front of entries in order, with one of them
+    -- where entries are in order, the old ones with the first of the later ones up to e are in order
     ordered_to : (old front : Entries) (e : Observation KeyParts) (rest : Entries) → IsOrdered (old ++ (front ++ e ∷ rest)) → IsOrdered (old ++ (front ++ e ∷ []))
     ordered_to old front e rest order =
         ordered_front (λ a b. a.event.moment ≤ b.event.moment) (old ++ (front ++ e ∷ [])) rest
         (subst IsOrdered (sym (append_assoc old (front ++ e ∷ []) rest ∙ ap (λ xs. old ++ xs) (append_assoc front (e ∷ []) rest))) order)
 
-    -- once an entry has come that concerns it, both are as a new one
+    -- once an entry concerns the key after both logs, the key has the trouble of a new one in both
     found_both : (old left : Entries) (g : Observation KeyParts) (es fs : Entries) → list_any (same_key key) g.keys ≡ true → IsOrdered (old ++ g ∷ es) → IsOrdered (left ++ g ∷ fs) → Rests old → Rests left
         → AreAlike es fs → HasSameTroubleAfter p old left (g ∷ es) (g ∷ fs) key
     found_both old left g es fs some order order_left r r_left (cs, ones, others) front back e f rest more split other long =
@@ -311,6 +318,7 @@ module _ (key : KeyParts) where
         let same = alike_by front s.mid back e s.cut f s.fronts s.backs s.first s.second in
         through (old ++ front) front (left ++ back) e e f new (through (left ++ back) back front f f e new_left same)
 
+    -- a key that is idle again after both logs has the same trouble at the same entries of what comes
     later_rests : (old left : Entries) (items : List Item) (es fs : Entries) → IsOrdered (old ++ es) → IsOrdered (left ++ fs) → Rests old → Rests left → AreSeen old items es → AreSeen left items fs → HasSameTroubleAfter p old left es fs key
     later_rests old left [] [] fs order order_left r r_left seen saw front back e f rest more split other long = absurd (no_entry front e rest split)
     later_rests old left [] (g ∷ es) fs order order_left r r_left seen saw front back e f rest more split other long = absurd seen
@@ -357,6 +365,7 @@ module _ (key : KeyParts) where
             let now_left = rests_on left h first_left r_left passes_left in
             at now now_left (on now now_left) front back e f rest more split other long
 
+    -- a key that is forgotten in no trouble and idle again has the same trouble at the same entries as if nothing were forgotten
     pub later_idle : (kept : KeyParts → Bool) → kept key ≡ false → (old : Entries) (items : List Item) (es fs : Entries) → IsOrdered (old ++ es)
         → IsIdleAgain (machine_of_key p.rules key) p (events_for key old) (newest_moment old) → IsSound p old key → AreSeen old items es → AreSeen (remembered kept old) items fs
         → HasSameTroubleAfter p old (remembered kept old) es fs key

@@ -26,19 +26,22 @@ module _ (texts : Texts) (p : Times) (machine : MachineKind) (events : List Mach
   not_later : held.moment ≤ n
   not_later = subst (λ m. m ≤ n) (ap moment_of leads.1 ∙ moment_is machine held) low
 
-  -- the runs stand in its one state alone
+  -- What follows is of a set with one state, which stays as it is: the runs stand in this state alone.
   module _ (x : StateOf machine) (q : Owing (transaction_of machine).Phase) (one : held.states ≡ x ∷ []) (still : IsStill p machine texts x) (is : (meaning_of machine).seen texts x ≡ q) where
+    -- what the states of the set wait to at n is q, and nothing else
     waits : (y : PhaseOf machine) → Wait ((meaning_of machine).rules p) (Contains (map ((meaning_of machine).seen texts) held.states)) held.moment n y ↔ (y ≡ q)
     waits y =
         subst (λ xs. Wait ((meaning_of machine).rules p) (Contains (map ((meaning_of machine).seen texts) xs)) held.moment n y ↔ (y ≡ q)) (sym one)
         (subst (λ z. Wait ((meaning_of machine).rules p) (Contains (map ((meaning_of machine).seen texts) (x ∷ []))) held.moment n y ↔ (y ≡ z)) is (waits_still p machine texts x still held.moment n not_later y))
 
+    -- the runs stand at n in the state q, and in no other
     stands : (y : Owing (transaction_of machine).Phase) → Stands (transaction_of machine).figure p events n y ↔ (y ≡ q)
     stands y =
         let runs = leads.2.leads.runs n y (omega arith) not_later in
         let by = stands-runs (transaction_of machine).figure (coded_holds machine).is_figure p events n y in
         (λ h. (waits y).0 (runs.1 (by.0 h)), λ same. by.1 (runs.0 ((waits y).1 same)))
 
+  -- a transaction whose set is quiet is idle again, or has ended
   pub quiet_over : IsQuietSet set → IsIdleAgain machine p events n ⊎ HasEnded machine p events n
   quiet_over quiet_set =
       let at_rest = quiet_in machine held (subst IsQuietSet leads.1 quiet_set) in

@@ -1,4 +1,4 @@
--- Entries without the transactions that are not kept: what is found of a kept one, and of one that is forgotten.
+-- What is found over entries without the transactions that are not kept: of a kept transaction, and of a forgotten one.
 use Rattle.std.proofs.Common.{◌≡◌, ◌≤◌, ◌↔◌, inl, inr, ℕ, Bool, true, false, cond, List, [], ◌∷◌, ◌++◌, ◌||◌, All, AllPairs, refl, sym, ap, ◌∙◌, subst, zero-le}
 use Rattle.std.specs.Prelude.{filter, map}
 use Rattle.std.specs.List.{AllZip, list_any}
@@ -27,7 +27,7 @@ use Rattle.sip_verdict.proofs.surveys.forgetting.Forgetting.{found_new}
 use Rattle.sip_verdict.proofs.surveys.forgetting.Lasting.{idle_lasts, idle_stays}
 use Rattle.sip_verdict.proofs.surveys.found.Sound.{idle_runs}
 
--- the same is found of the transaction at the two entries, each after the others
+-- the key breaks, or is followed no further, at the entry after the one list exactly if it does at the same entry after the other
 abbrev pub IsFoundAlike : Times → KeyParts → List (Observation KeyParts) → List (Observation KeyParts) → Observation KeyParts → Type 0
 IsFoundAlike p key front back e = (Breaks p front e key ↔ Breaks p back e key) × (Widens p front e key ↔ Widens p back e key)
 
@@ -54,17 +54,17 @@ stands_idle f p stays events m x (takes evs e y z stands does) all =
     let idle = stands_idle f p stays evs e.moment y stands (All-front (λ d. d.action ≡ Restart) evs (e ∷ []) all) in
     (restarted f p e z (All-middle (λ d. d.action ≡ Restart) evs [] e all)).0 (subst (λ w. Takes f p w e z) idle does)
 
--- a run over one restart alone stands in idle
+-- a run over one restart alone can stand in idle
 pub restart_stands : {X : Type 0} (f : Figure X) (p : Times) → ((m : ℕ) → Lasts f p (quiet f.idle) m) → (e : MachineEvent) → e.action ≡ Restart → Stands f p (e ∷ []) e.moment (quiet f.idle)
 restart_stands f p lasts e is = takes [] e (quiet f.idle) (quiet f.idle) (waits [] 0 e.moment (quiet f.idle) begins zero-le (lasts e.moment)) ((restarted f p e (quiet f.idle) is).1 refl)
 
--- a transaction without events is idle
+-- a transaction without events is idle again
 pub idle_begun : (kind : MachineKind) (p : Times) (m : ℕ) → IsIdleAgain kind p [] m
 idle_begun kind p m =
     let f = (transaction_of kind).figure in
     (waits [] 0 m (quiet f.idle) begins zero-le (idle_lasts kind p m), λ x stands. stands_idle f p (idle_stays kind p) [] m x stands (All-nil (λ e. e.action ≡ Restart)))
 
--- entries are cut to what is kept of them
+-- the entries as they are remembered stand for the entries, with the kept keys alone
 pub zip_remembered : (kept : KeyParts → Bool) (es : List (Observation KeyParts)) → AllZip (IsCutOf kept) es (remembered kept es)
 zip_remembered kept [] = tt
 zip_remembered kept (e ∷ es) = ((refl, refl, λ some. refl), zip_remembered kept es)
@@ -73,12 +73,13 @@ module _ (kept : KeyParts → Bool) where
   abbrev one_of : Observation KeyParts → Observation KeyParts
   one_of e = record { fault = e.fault; event = e.event; keys = filter kept e.keys }
 
-  -- they have the same moments
+  -- where no entry is before the moment m, none is before m as the entries are remembered
   moments_kept : (m : ℕ) (old more : List (Observation KeyParts)) → All (λ e. m ≤ e.event.moment) (old ++ more) → All (λ e. m ≤ e.event.moment) (remembered kept old ++ more)
   moments_kept m [] more all = all
   moments_kept m (e ∷ old) more all =
       All-cons (λ f. m ≤ f.event.moment) (one_of e) (remembered kept old ++ more) (All-head (λ f. m ≤ f.event.moment) e (old ++ more) all) (moments_kept m old more (All-tail (λ f. m ≤ f.event.moment) e (old ++ more) all))
 
+  -- entries in the order of their moments are so as they are remembered
   pub order_kept : (old more : List (Observation KeyParts)) → AllPairs (λ a b. a.event.moment ≤ b.event.moment) (old ++ more) → AllPairs (λ a b. a.event.moment ≤ b.event.moment) (remembered kept old ++ more)
   order_kept [] more order = order
   order_kept (e ∷ old) more order =
@@ -87,7 +88,7 @@ module _ (kept : KeyParts → Bool) where
       (order_kept old more (AllPairs-tail (λ a b. a.event.moment ≤ b.event.moment) e (old ++ more) order))
 
   module _ (key : KeyParts) (is : kept key ≡ true) where
-    -- of the keys that are kept, those that are this one are those of them all
+    -- the keys equal to a kept key among the kept keys are those among all keys
     same_left : (keys : List KeyParts) → filter (same_key key) (filter kept keys) ≡ filter (same_key key) keys
     same_left [] = refl
     same_left (k ∷ keys) = go (kept k) refl (same_key key k) refl (same_left keys)
@@ -100,18 +101,19 @@ module _ (kept : KeyParts → Bool) where
         go false e false same rest =
             ap (λ b. filter (same_key key) (cond b (k ∷ filter kept keys) (filter kept keys))) e ∙ rest ∙ ap (λ b. cond b (k ∷ filter (same_key key) keys) (filter (same_key key) keys)) (sym same)
 
-    -- the remembered entries and those of the key alone are cut to the same entries of this key
+    -- the remembered entries stand, for a kept key, for the entries without any other key
     pub zip_left : (es : List (Observation KeyParts)) → AllZip (IsCutOf (same_key key)) (remembered kept es) (remembered (same_key key) es)
     zip_left [] = tt
     zip_left (e ∷ es) = ((refl, sym (same_left e.keys), λ some. refl), zip_left es)
 
+    -- entries that are cut to the key alone are so with more entries after them that are cut to the key alone as well
     zip_append : (xs ys : List (Observation KeyParts)) → AllZip (IsCutOf (same_key key)) xs ys → (more : List (Observation KeyParts)) → AllZip (IsCutOf (same_key key)) (xs ++ more) (ys ++ remembered (same_key key) more)
     zip_append [] [] zip more = zip_remembered (same_key key) more
     zip_append [] (y ∷ ys) zip more = absurd zip
     zip_append (x ∷ xs) [] zip more = absurd zip
     zip_append (x ∷ xs) (y ∷ ys) zip more = (zip.0, zip_append xs ys zip.1 more)
 
-    -- what is found of it is what is found over all the entries
+    -- of a kept key the same is found after the remembered entries as after all entries
     pub found_kept : (p : Times) (old front : List (Observation KeyParts)) (e : Observation KeyParts) → IsFoundAlike p key (remembered kept old ++ front) (old ++ front) e
     found_kept p old front e =
         let c : Observation KeyParts = record { fault = e.fault; event = e.event; keys = filter (same_key key) e.keys } in
@@ -123,7 +125,7 @@ module _ (kept : KeyParts → Bool) where
         ((λ h. whole.0.1 (left.0.0 h), λ h. left.0.1 (whole.0.0 h)), (λ h. whole.1.1 (left.1.0 h), λ h. left.1.1 (whole.1.0 h)))
 
   module _ (key : KeyParts) (not : kept key ≡ false) where
-    -- a forgotten key is not among those that are kept
+    -- a forgotten key is not among the keys that are kept
     none_left : (keys : List KeyParts) → list_any (same_key key) (filter kept keys) ≡ false
     none_left [] = refl
     none_left (k ∷ keys) = go (kept k) refl (same_key key k) refl (none_left keys)
@@ -139,13 +141,14 @@ module _ (kept : KeyParts → Bool) where
     none_concerns [] = All-nil (λ e. list_any (same_key key) e.keys ≡ false)
     none_concerns (e ∷ es) = All-cons (λ f. list_any (same_key key) f.keys ≡ false) (one_of e) (remembered kept es) (none_left e.keys) (none_concerns es)
 
+    -- where no entry concerns the key, the key has no events
     no_events : (es : List (Observation KeyParts)) → All (λ e. list_any (same_key key) e.keys ≡ false) es → events_for key es ≡ []
     no_events [] all = refl
     no_events (e ∷ es) all =
         ap (λ b. map (λ f. f.event) (cond b (e ∷ filter (λ f. list_any (same_key key) f.keys) es) (filter (λ f. list_any (same_key key) f.keys) es))) (All-head (λ f. list_any (same_key key) f.keys ≡ false) e es all)
         ∙ no_events es (All-tail (λ f. list_any (same_key key) f.keys ≡ false) e es all)
 
-    -- the key is in no trouble over what is remembered
+    -- a forgotten key is in no trouble over the remembered entries
     pub sound_forgotten : (p : Times) (es : List (Observation KeyParts)) → IsSound p (remembered kept es) key
     sound_forgotten p es =
         let none = none_concerns es in (
@@ -154,19 +157,19 @@ module _ (kept : KeyParts → Bool) where
               false≢true (sym (All-middle (λ f. list_any (same_key key) f.keys ≡ false) front rest e (subst (All (λ f. list_any (same_key key) f.keys ≡ false)) is none)) ∙ wide.0),
         )
 
-    -- the key is idle again over what is remembered
+    -- a forgotten key is idle again after the remembered entries
     pub idle_forgotten : (p : Times) (es : List (Observation KeyParts)) → IsIdleAgain (machine_of_key p.rules key) p (events_for key (remembered kept es)) (newest_moment (remembered kept es))
     idle_forgotten p es =
         let kind = machine_of_key p.rules key in
         let m = newest_moment (remembered kept es) in
         subst (λ events. IsIdleAgain kind p events m) (sym (no_events (remembered kept es) (none_concerns es))) (idle_begun kind p m)
 
-    -- what is found of it is what is found of a new one
+    -- of a forgotten key the same is found after the remembered entries as of a new one
     pub found_forgotten : (p : Times) (old front : List (Observation KeyParts)) (e : Observation KeyParts) → AllPairs (λ a b. a.event.moment ≤ b.event.moment) (old ++ (front ++ e ∷ []))
         → IsFoundAlike p key (remembered kept old ++ front) front e
     found_forgotten p old front e order = found_new p key (remembered kept old) (idle_forgotten p old) (sound_forgotten p old) front e (order_kept old (front ++ e ∷ []) order)
 
-    -- which is what is found of it over all the entries, if it was idle again
+    -- of a key that was forgotten in no trouble and idle again, the same is found as after all entries
     pub found_idle : (p : Times) (old front : List (Observation KeyParts)) (e : Observation KeyParts) → AllPairs (λ a b. a.event.moment ≤ b.event.moment) (old ++ (front ++ e ∷ []))
         → IsIdleAgain (machine_of_key p.rules key) p (events_for key old) (newest_moment old) → IsSound p old key → IsFoundAlike p key (remembered kept old ++ front) (old ++ front) e
     found_idle p old front e order again sound = alike_through p key (remembered kept old ++ front) front (old ++ front) e (found_forgotten p old front e order) (found_new p key old again sound front e order)

@@ -1,4 +1,4 @@
--- Tables of a survey whose sets have all waited until the newest moment: they follow the same entries, and where a transaction is over its set is quiet.
+-- Tables of a survey whose sets have all waited until the newest moment: they follow the same entries, and a transaction that is over has a quiet set.
 use Rattle.std.proofs.Common.{◌≡◌, ◌≤◌, ◌+◌, ◌↔◌, inl, inr, ℕ, Bool, true, false, Option, Some, None, List, [], ◌∷◌, All, Contains, length, map, slice_get, refl, sym, ap, ◌∙◌, subst, arith}
 use Rattle.std.proofs.lemmas.List.Elements.{All-head}
 use Rattle.std.proofs.lemmas.Option.{slice_get_within}
@@ -38,10 +38,11 @@ use Rattle.sip_verdict.proofs.surveys.forgetting.Remembered.{idle_begun}
 use Rattle.sip_verdict.proofs.sweeps.SweptSets.{swept_agenda, waited_leads}
 use Rattle.sip_verdict.proofs.tables.TablesPassing.{at_place, All-place, All-places}
 
--- states that stand for one thing alone are one state
+-- What follows is of states that stand for one thing alone: they are one state.
 module _ {X S : Type 0} (names : S → List ℕ) (InRange : S → Type 0) (seen : Texts → S → X) (texts : Texts)
     (apart : (x y : S) → Knows names texts x → Knows names texts y → seen texts x ≡ seen texts y → x ≡ y) (P : X → Type 0) (y : S)
     (only : (z : X) → P z ↔ (z ≡ seen texts y)) (known : Knows names texts y) where
+  -- where a list of states stands for what y stands for and for nothing else, it is y alone
   alone : (xs : List S) → StandFor names InRange seen texts P xs → xs ≡ y ∷ []
   alone [] stand = absurd (Contains-none (seen texts y) ((stand.members (seen texts y)).1 ((only (seen texts y)).1 refl)))
   alone (x ∷ []) stand =
@@ -53,9 +54,9 @@ module _ {X S : Type 0} (names : S → List ℕ) (InRange : S → Type 0) (seen 
       = (only (seen texts z)).0 ((stand.members (seen texts z)).0 (Contains-there (seen texts x) (map (seen texts) (z ∷ xs)) (seen texts z) (Contains-here (seen texts z) (map (seen texts) xs)))) in
       absurd (stand.distinct 0 1 (seen texts x) (omega arith) (omega arith) (first ∙ sym second))
 
--- A set that has waited.
+-- What follows is of a set that has waited until a moment.
 
--- the book has what it names, and its moment is the one until which it waited
+-- the book keeps the messages that the set names, and the moment of the set is that until which it waited
 waited_known : (texts : Texts) → IsBook texts → (moment : ℕ) (old new : AnySet) → SetWaits moment old new → IsKnownSet texts old → IsKnownSet texts new × (moment_of new ≡ moment)
 waited_known texts book moment old new waits known =
     let (machine, s, is) = some_machine old in
@@ -65,13 +66,14 @@ waited_known texts book moment old new waits known =
 
 module _ (texts : Texts) (book : IsBook texts) (p : Times) (machine : MachineKind) (events : List MachineEvent) (from moment : ℕ) (late : from ≤ moment) (old new : AnySet)
     (low : moment_of old ≤ moment) (waits : SetWaits moment old new) where
-  -- its states are those of a set that leads to the runs, and stand for just where they stand at the moment
+  -- the states of the set that has waited stand for just where the runs stand at the moment, and the set leads to these runs
   pub record Stood : Type 0 where
     pub held : Held Times (StateOf machine)
     pub is : new ≡ set_of machine held
     pub leads : LeadsBy (meaning_of machine) texts p events from held
     pub stand : StandFor (meaning_of machine).names (meaning_of machine).in_range (meaning_of machine).seen texts (RuledRun (key_rules p machine) events moment) held.states
 
+  -- a set that leads to the runs and then waits stands for just where the runs stand at the moment
   stood : LeadsOf texts p machine events from old → Stood
   stood (s, is, leads) =
       let m = meaning_of machine in
@@ -91,11 +93,11 @@ module _ (texts : Texts) (book : IsBook texts) (p : Times) (machine : MachineKin
         };
       }
 
-  -- a set that has waited leads to the runs
+  -- a set that leads to the runs leads to them after it has waited
   waited_on : LeadsOf texts p machine events from old → LeadsOf texts p machine events from new
   waited_on leads = let s = stood leads in (s.held, s.is, s.leads)
 
-  -- where a run stands in a state and none in another, that state of the code is its one state
+  -- where a run stands in the state q and none stands in another, the set that has waited has the one state that stands for q
   one_state : (y : StateOf machine) (q : Owing (transaction_of machine).Phase) → (meaning_of machine).seen texts y ≡ q → Knows (meaning_of machine).names texts y
       → Stands (transaction_of machine).figure p events moment q × ((x : Owing (transaction_of machine).Phase) → Stands (transaction_of machine).figure p events moment x → x ≡ q)
       → (s : Stood) → s.held.states ≡ y ∷ []
@@ -108,21 +110,22 @@ module _ (texts : Texts) (book : IsBook texts) (p : Times) (machine : MachineKin
       (λ a b a_known b_known same. owing_apart (coded_of machine).names (coded_of machine).seen texts ((coded_holds machine).apart texts) a b book a_known b_known same)
       (RuledRun (key_rules p machine) events moment) y both known s.held.states s.stand
 
-  -- a set that has waited is quiet where the transaction is idle again, or has ended
+  -- a set that has waited is quiet where the transaction is idle again
   idle_quiet : LeadsOf texts p machine events from old → IsIdleAgain machine p events moment → IsQuietSet new
   idle_quiet leads again =
       let s = stood leads in
       subst IsQuietSet (sym s.is) (to_machine IsQuietIn machine s.held (inl (one_state (first_of machine) (quiet (transaction_of machine).figure.idle) (first_is_of machine texts p) (first_knows machine texts) again s)))
 
+  -- a set that has waited is quiet where the transaction has ended
   ended_quiet : LeadsOf texts p machine events from old → HasEnded machine p events moment → IsQuietSet new
   ended_quiet leads ended =
       let s = stood leads in
       subst IsQuietSet (sym s.is) (to_machine IsQuietIn machine s.held (inr (one_state (last_of machine) (quiet (transaction_of machine).figure.ended) (last_is_of machine texts p) (last_knows machine texts) ended s)))
 
--- All sets of the tables.
+-- What follows is of all sets of the tables.
 
 module _ (texts : Texts) (book : IsBook texts) (t u : Tabled) (moment : ℕ) (waited : ChangesSets (SetWaits moment) t u) (may : MayPass texts t moment) where
-  -- the set that was at a place
+  -- the set that stood at the place before the wait
   before : (n : ℕ) (new : AnySet) → slice_get u.sets n ≡ Some new → (old : AnySet) × (slice_get t.sets n ≡ Some old)
   before n new at = at_place t.sets n (let inside = slice_get_within u.sets n new at in let long = waited.long in omega (arith, inside, long))
 
@@ -135,6 +138,7 @@ module _ (texts : Texts) (book : IsBook texts) (t u : Tabled) (moment : ℕ) (wa
   one_known : (n : ℕ) (new : AnySet) → slice_get u.sets n ≡ Some new → IsKnownSet texts new × (moment_of new ≡ moment)
   one_known n new at = let (old, was) = before n new at in waited_known texts book moment old new (waited.each n old new was at) (known n old was)
 
+  -- an entry may pass the tables whose sets have waited
   pub waited_may : MayPass texts u moment
   waited_may = record {
     order = All-places (λ set. moment_of set ≤ moment) u.sets (λ n new at. (let is = (one_known n new at).1 in omega (arith, is)));
@@ -142,7 +146,7 @@ module _ (texts : Texts) (book : IsBook texts) (t u : Tabled) (moment : ℕ) (wa
     long = waited.long ∙ may.long ∙ sym (ap length waited.keys);
   }
 
-  -- each last moment on record stays that of its set
+  -- where each last moment is on record, it is so after the sets have waited
   pub waited_recorded : AllAreOnRecord t → AllAreOnRecord u
   waited_recorded recorded = record {
     long = ap length waited.records ∙ recorded.long ∙ sym (ap length waited.keys);
@@ -168,7 +172,7 @@ module _ (texts : Texts) (book : IsBook texts) (t u : Tabled) (moment : ℕ) (wa
     follows n old new was at key true (leads, unsound) = (on n old new was at (machine_of_key t.times.rules key) [] leads, unsound)
     follows n old new was at key false (leads, sound) = (on n old new was at (machine_of_key t.times.rules key) (events_for key es) leads, sound)
 
-    -- the tables follow the same entries
+    -- the tables whose sets have waited survey the same entries
     pub waited_survey : TablesSurvey texts es u deaf
     waited_survey = record {
       order = tracks.order;
@@ -179,7 +183,7 @@ module _ (texts : Texts) (book : IsBook texts) (t u : Tabled) (moment : ℕ) (wa
           (follows n old new was here key d (tracks.each n key old d (ap (λ ks. slice_get ks n) (sym waited.keys) ∙ at) was is));
     }
 
-    -- the set of a transaction that is over is quiet
+    -- after the wait a transaction that is over has a quiet set
     pub waited_over : AreQuietIfOver es u
     waited_over n key new at here over =
         let (old, was) = before n new here in

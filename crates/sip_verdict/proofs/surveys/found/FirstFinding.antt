@@ -21,7 +21,7 @@ use Rattle.sip_verdict.proofs.surveys.found.Ordered.{first_before}
 use Rattle.sip_verdict.proofs.surveys.found.OneSurvey.{says_same}
 use Rattle.sip_verdict.proofs.surveys.found.Sound.{AllSound, sound_nil, all_sound_push}
 
--- no key with a smaller number than the first has the property
+-- where P holds of each key of which Q does, the first key of which P holds has no larger number than a key of which Q holds
 first_least : (P Q : KeyParts → Type 0) (keys : List KeyParts) (n k : ℕ) → IsFirstKey P keys n → HoldsOf Q keys k → ((key : KeyParts) → Q key → P key) → n ≤ k
 first_least P Q keys n k (before, key, rest, is, holds, earlier, counts) (front, other, more, are, has, number) sub =
     by (split_compare before rest front more key other (sym is ∙ are))
@@ -31,7 +31,7 @@ first_least P Q keys n k (before, key, rest, is, holds, earlier, counts) (front,
     by (inr (inl h)) = omega (arith, counts, number, simp length-append at (ap length h.1))
     by (inr (inr h)) = absurd (All-middle (λ x. ¬ (P x)) front h.0 other (subst (All (λ x. ¬ (P x))) h.1 earlier) (sub other has))
 
--- no key has a number of which a fact holds that holds of none of them
+-- no key with a number satisfies Q, where all keys satisfy P and none satisfies both
 found_none : (P Q : KeyParts → Type 0) (keys : List KeyParts) (k : ℕ) → HoldsOf Q keys k → All P keys → ((key : KeyParts) → Q key → P key → ⊥) → ⊥
 found_none P Q keys k (front, key, rest, is, has, number) all not = not key has (All-middle P front rest key (subst (All P) is all))
 
@@ -39,7 +39,7 @@ module _ (p : Times) (es : List (Observation KeyParts)) (e : Observation KeyPart
   abbrev keys : List KeyParts
   keys = keys_in (es ++ e ∷ [])
 
-  -- a finding before which none comes is the first
+  -- a finding before which no other comes is the verdict in the list of findings
   least_first : (f : Finding) → Contains here f → ((g : Finding) → Contains here g → Precedes g f → ⊥) → (later : List Finding) (end : SurveyEnd) → verdict_in (here ++ later) end ≡ verdict_of f
   least_first f has least later end = by here at.0 has least
     where
@@ -51,7 +51,7 @@ module _ (p : Times) (es : List (Observation KeyParts)) (e : Observation KeyPart
           go (inl same) = ap verdict_of same
           go (inr rest) = absurd (none g (Contains-here g found) (first_before Precedes g found sorted f rest))
 
-  -- no fault is found at an entry without one
+  -- no fault is found at an entry whose message has none
   formed_none : (k : ℕ) (a : Fault) → e.fault ≡ None → Contains here (Malformed k a) → ⊥
   formed_none k a formed h = let both : None ≡ Some a = sym formed ∙ ((at.1 (Malformed k a)).0 h).1 in cc
 
@@ -72,14 +72,14 @@ module _ (p : Times) (es : List (Observation KeyParts)) (e : Observation KeyPart
   before_breach formed k t first (Breach m u) h low =
       let least = first_least (λ key. ¬ (RunsOver p (es ++ e ∷ []) key)) (Breaks p es e) keys t u first ((at.1 (Breach m u)).0 h).1 (λ key breaks. breaks.1) in omega (arith, least, low)
 
-  -- nothing comes before the first key that is too wide, where each key has a run
+  -- nothing comes before the finding that the first key which is too wide is followed no further, where each key has a run
   before_wide : e.fault ≡ None → All (RunsOver p (es ++ e ∷ [])) keys → (k t : ℕ) → IsFirstKey (IsWideAt p es e) keys t → (g : Finding) → Contains here g → Precedes g (Undecided k t) → ⊥
   before_wide formed runs k t first (Malformed m a) h low = formed_none m a formed h
   before_wide formed runs k t first (Breach m u) h low = whole_none runs m u h
   before_wide formed runs k t first (Undecided m u) h low =
       let least = first_least (IsWideAt p es e) (Widens p es e) keys t u first ((at.1 (Undecided m u)).0 h).1 (λ key widens. widens.1) in omega (arith, least, low)
 
-  -- the verdict of an entry in trouble is the first that is found there
+  -- where an entry is the first in trouble, its verdict is the first finding there
   trouble_first : AllSound p es → (v : Verdict) → HasTrouble p es e v → (later : List Finding) (end : SurveyEnd) → v ≡ verdict_in (here ++ later) end
   trouble_first sound (verdicts.Legal n t) trouble later end = absurd trouble
   trouble_first sound (verdicts.LogFault n r) trouble later end = absurd trouble
@@ -107,7 +107,7 @@ module _ (p : Times) (es : List (Observation KeyParts)) (e : Observation KeyPart
       by [] found = refl
       by (f ∷ found) is = absurd (none f ((at.1 f).1 ((is.1 f).0 (Contains-here f found))))
 
--- the verdict of entries is in their survey
+-- a verdict after entries without trouble is the one in their survey
 verdict_after : (p : Times) (es : List (Observation KeyParts)) (items : List Item) (close : LogEnd) (v : Verdict) (found : List Finding) (end : SurveyEnd) → AllSound p es →
     IsVerdictAfter p es items close v → IsSurveyAfter p es items close found end → v ≡ verdict_in found end
 verdict_after p es [] Clean v found end sound a b = a ∙ sym (ap₂ verdict_in b.0 b.1)

@@ -1,4 +1,4 @@
--- What is found at an entry, as it was appended.
+-- What is found at an entry is what was appended at it.
 use Rattle.std.proofs.Common.{◌≡◌, ◌+◌, ◌≤◌, ℕ, Option, Some, None, List, [], ◌∷◌, ◌++◌, length, append_assoc, refl, sym, ap, ◌∙◌, subst}
 use Rattle.sip_standard.specs.Key.{KeyParts}
 use Rattle.sip_standard.specs.Times.{Times}
@@ -21,7 +21,7 @@ same_fault : (entry : ℕ) (fault : Option Fault) → fault_found entry fault �
 same_fault entry None = refl
 same_fault entry (Some fault) = refl
 
--- all that is found at the entry was appended, and the tables follow it
+-- all that is found at the entry was appended to the findings, and tables and trouble follow the entry
 pub found_here : (texts : Texts) (p : Times) (es : List (Observation KeyParts)) (i : Item) (moment entry : ℕ) (fault : Option Fault) (t : Tabled) (b c : Troubled) (old mid new : List Finding)
     → IsOrdered es → newest_moment es ≤ moment → entry ≡ length es + 1 → length t.sets ≡ length t.keys → length b.deaf.items ≡ length t.keys → t.times ≡ p → c.deaf.items ≡ b.deaf.items
     → IsTaken texts p es i moment fault t b → mid ≡ old ++ fault_listing entry fault → AppendsTroubled entry b mid new

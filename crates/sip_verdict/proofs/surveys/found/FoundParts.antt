@@ -1,4 +1,4 @@
--- What is found at an entry, from its parts.
+-- What is found at an entry is its fault, the transactions that break, and those that are followed no further.
 use Rattle.std.proofs.Common.{◌≡◌, ◌<◌, ◌+◌, ◌⊎◌, inl, inr, ℕ, Option, Some, None, List, [], ◌∷◌, ◌++◌, AllPairs, Contains, length, map, refl, sym, ◌∙◌, subst, arith}
 use Rattle.std.proofs.lemmas.List.Elements.{Contains-append_left, Contains-append_right, Contains-append_cases}
 use Rattle.sip_standard.specs.declared.fault.Fault.{Fault}
@@ -13,7 +13,7 @@ use Rattle.sip_verdict.specs.SurveyOf.{Breaks, Widens, IsFoundAt, Precedes, AreF
 use Rattle.sip_verdict.proofs.surveys.found.Ordered.{ordered_append, ordered_map}
 use Rattle.sip_verdict.proofs.surveys.found.Numbers.{AreNumbers}
 
--- of two findings one comes first at most
+-- no two findings come each before the other
 pub precedes_once : (f g : Finding) → Precedes f g → Precedes g f → ⊥
 precedes_once (Malformed k a) (Malformed m b) up down = up
 precedes_once (Malformed k a) (Breach m u) up down = down
@@ -25,16 +25,16 @@ precedes_once (Undecided k t) (Malformed m b) up down = up
 precedes_once (Undecided k t) (Breach m u) up down = up
 precedes_once (Undecided k t) (Undecided m u) up down = omega (arith, up, down)
 
--- a fault, as it is found at the entry with this number
+-- the finding of the fault at the entry with this number, where it has one
 abbrev pub fault_found : ℕ → Option Fault → List Finding
 fault_found n None = []
 fault_found n (Some fault) = Malformed n fault ∷ []
 
--- what is found at the entry with this number: its fault, the transactions that break, and those that are followed no further, by number
+-- the findings at the entry with this number: its fault, the transactions that break, and those that are followed no further, by number
 abbrev pub listed : ℕ → Option Fault → List ℕ → List ℕ → List Finding
 listed n fault broken wide = fault_found n fault ++ (map (λ t. Breach n t) broken ++ map (λ t. Undecided n t) wide)
 
--- what is found of a fault is the fault
+-- a finding of the fault is the fault itself
 fault_is : (n : ℕ) (fault : Option Fault) (f : Finding) → Contains (fault_found n fault) f → (a : Fault) × (fault ≡ Some a) × (f ≡ Malformed n a)
 fault_is n None f h = absurd (Contains-none f h)
 fault_is n (Some a) f h = by (Contains-cons (Malformed n a) [] f h)
@@ -49,11 +49,11 @@ fault_alone n (Some a) = λ i j d low high. absurd (omega (arith, low, high))
 
 module _ (p : Times) (es : List (Observation KeyParts)) (e : Observation KeyParts) (n : ℕ) (is : n ≡ length es + 1) (broken wide : List ℕ)
     (breaks : AreNumbers (Breaks p es e) (keys_in (es ++ e ∷ [])) broken) (widens : AreNumbers (Widens p es e) (keys_in (es ++ e ∷ [])) wide) where
-  -- the transactions among them
+  -- the findings of transactions alone: those that break, and those that are followed no further
   abbrev others : List Finding
   others = map (λ t. Breach n t) broken ++ map (λ t. Undecided n t) wide
 
-  -- such a finding is of one of the transactions
+  -- a finding of a transaction is that one of the broken breaks, or that one of the wide is followed no further
   other_is : (f : Finding) → Contains others f → ((t : ℕ) × Contains broken t × (Breach n t ≡ f)) ⊎ ((t : ℕ) × Contains wide t × (Undecided n t ≡ f))
   other_is f h = by (Contains-append_cases (map (λ t. Breach n t) broken) (map (λ t. Undecided n t) wide) f h)
     where
@@ -61,18 +61,19 @@ module _ (p : Times) (es : List (Observation KeyParts)) (e : Observation KeyPart
       by (inl c) = inl (Contains-from_map (λ t. Breach n t) broken f c)
       by (inr c) = inr (Contains-from_map (λ t. Undecided n t) wide f c)
 
-  -- a fault comes before it
+  -- a fault comes before each finding of a transaction
   fault_first : (a : Fault) (f : Finding) → ((t : ℕ) × Contains broken t × (Breach n t ≡ f)) ⊎ ((t : ℕ) × Contains wide t × (Undecided n t ≡ f)) → Precedes (Malformed n a) f
   fault_first a f (inl (t, has, same)) = subst (Precedes (Malformed n a)) same tt
   fault_first a f (inr (t, has, same)) = subst (Precedes (Malformed n a)) same tt
 
-  -- what breaks comes before what is followed no further
+  -- a breach comes before each finding that a transaction is followed no further
   broken_first : (f g : Finding) → Contains (map (λ t. Breach n t) broken) f → Contains (map (λ t. Undecided n t) wide) g → Precedes f g
   broken_first f g h k =
       let a = Contains-from_map (λ t. Breach n t) broken f h in
       let b = Contains-from_map (λ t. Undecided n t) wide g k in
       subst (λ x. Precedes x g) a.2 (subst (Precedes (Breach n a.0)) b.2 tt)
 
+  -- where the numbers are in ascending order, the listed findings are in order
   in_order : (fault : Option Fault) → AllPairs Precedes (listed n fault broken wide)
   in_order fault =
       ordered_append Precedes (fault_found n fault) others (fault_alone n fault)
@@ -81,16 +82,17 @@ module _ (p : Times) (es : List (Observation KeyParts)) (e : Observation KeyPart
       (ordered_map (λ a b. a < b) Precedes (λ t. Undecided n t) (λ a b low. low) wide widens.0) broken_first)
       (λ f g h k. let a = fault_is n fault f h in subst (λ x. Precedes x g) (sym a.2) (fault_first a.0 g (other_is g k)))
 
+  -- a finding of a transaction in the list is found at the entry
   other_found : (f : Finding) → ((t : ℕ) × Contains broken t × (Breach n t ≡ f)) ⊎ ((t : ℕ) × Contains wide t × (Undecided n t ≡ f)) → IsFoundAt p es e f
   other_found f (inl (t, has, same)) = subst (IsFoundAt p es e) same (is, (breaks.1 t).0 has)
   other_found f (inr (t, has, same)) = subst (IsFoundAt p es e) same (is, (widens.1 t).0 has)
 
-  -- what is listed is found
+  -- what is in the list is found at the entry
   into : (f : Finding) → Contains (fault_found n e.fault) f ⊎ Contains others f → IsFoundAt p es e f
   into f (inl h) = let a = fault_is n e.fault f h in subst (IsFoundAt p es e) (sym a.2) (is, a.1)
   into f (inr h) = other_found f (other_is f h)
 
-  -- what is found is listed
+  -- what is found at the entry is in the list
   from : (f : Finding) → IsFoundAt p es e f → Contains (listed n e.fault broken wide) f
   from (Malformed k a) h =
       subst (λ fault. Contains (fault_found n fault ++ others) (Malformed k a)) (sym h.1)
@@ -104,6 +106,6 @@ module _ (p : Times) (es : List (Observation KeyParts)) (e : Observation KeyPart
       (Contains-append_right (fault_found n e.fault) others (Undecided n t)
       (Contains-append_right (map (λ u. Breach n u) broken) (map (λ u. Undecided n u) wide) (Undecided n t) (Contains-map (λ u. Undecided n u) wide t ((widens.1 t).1 h.1))))
 
-  -- just what is listed is found at the entry
+  -- the listed findings are just those that are found at the entry, in order
   pub listed_found : AreFoundAt p es e (listed n e.fault broken wide)
   listed_found = (in_order e.fault, λ f. (λ h. into f (Contains-append_cases (fault_found n e.fault) others f h), from f))

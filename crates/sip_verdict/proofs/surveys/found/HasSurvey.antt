@@ -16,7 +16,7 @@ use Rattle.sip_verdict.proofs.surveys.found.Numbers.{Weakly, numbers_some}
 use Rattle.sip_verdict.proofs.surveys.found.FoundParts.{listed, listed_found}
 use Rattle.sip_verdict.specs.declared.survey_end.SurveyEnd.TheVariants as ended
 
--- something is found at each entry, if only nothing
+-- at each entry some list of findings is found, which may be empty
 found_some : (p : Times) (es : List (Observation KeyParts)) (e : Observation KeyParts) → Weakly ((found : List Finding) × AreFoundAt p es e found)
 found_some p es e never =
     let keys = keys_in (es ++ e ∷ []) in
@@ -24,7 +24,7 @@ found_some p es e never =
     numbers_some (Widens p es e) keys (λ wide.
     never (listed (length es + 1) e.fault broken.0 wide.0, listed_found p es e (length es + 1) refl broken.0 wide.0 broken.1 wide.1)))
 
--- entries have a survey after others
+-- after any entries, the items that are left have a survey
 after_some : (p : Times) (es : List (Observation KeyParts)) (items : List Item) (close : LogEnd) → Weakly ((found : List Finding) × (end : SurveyEnd) × IsSurveyAfter p es items close found end)
 after_some p es [] Clean never = never ([], ended.Clean (length es) (length (keys_in es)), (refl, refl))
 after_some p es [] (Stops fault) never = never ([], ended.LogFault (length es + 1) fault, (refl, refl))

@@ -20,18 +20,18 @@ use Rattle.sip_verdict.proofs.verdicts.MessageUnique.{observes_one}
 use Rattle.sip_verdict.proofs.surveys.found.OneFinding.{some_finding}
 use Rattle.sip_verdict.proofs.surveys.found.Sound.{idle_runs, concerned-among}
 
--- what a list contains stands somewhere in it
+-- an element that a list contains stands at some place of it
 split_at : {A : Type 0} (xs : List A) (x : A) → Contains xs x → (before : List A) × (rest : List A) × (xs ≡ before ++ x ∷ rest)
 split_at [] x (k, low, is) = absurd (omega (arith, low))
 split_at (y ∷ ys) x (zero, low, is) = ([], ys, ap (λ z. z ∷ ys) is)
 split_at (y ∷ ys) x (suc k, low, is) = let more = split_at ys x (k, omega (arith, low), is) in (y ∷ more.0, more.1, ap (λ zs. y ∷ zs) more.2)
 
--- a fact holds of the number of a key of which it holds
+-- where P holds of a key among the keys, it holds of the key with some number
 pub numbered : (P : KeyParts → Type 0) (keys : List KeyParts) (key : KeyParts) → Contains keys key → P key → (n : ℕ) × HoldsOf (λ k. k ≡ key) keys n × HoldsOf P keys n
 numbered P keys key among holds =
     let at = split_at keys key among in (length at.0 + 1, (at.0, key, at.1, at.2, refl, refl), (at.0, key, at.1, at.2, holds, refl))
 
--- what is found at an entry of the log is in its survey
+-- what is found at an entry of the log is a finding of its survey
 pub found_at : (p : Times) (done : List (Observation KeyParts)) (items : List Item) (close : LogEnd) (es : List (Observation KeyParts)) (found : List Finding) (end : SurveyEnd) → AreSeen done items es →
     IsSurveyAfter p done items close found end → (front : List (Observation KeyParts)) (e : Observation KeyParts) (more : List (Observation KeyParts)) → es ≡ front ++ e ∷ more → (f : Finding) →
     IsFoundAt p (done ++ front) e f → Contains found f
@@ -52,7 +52,7 @@ found_at p done (item ∷ items) close (g ∷ es) found end (sees, seen) (h, her
     (found_at p (done ++ g ∷ []) items close es later end seen (subst (λ x. IsSurveyAfter p (done ++ x ∷ []) items close later end) known rest) front e more others f
     (subst (λ xs. IsFoundAt p xs e f) (sym (append_assoc done (g ∷ []) front)) (subst (λ x. IsFoundAt p (done ++ x ∷ front) e f) (sym first) at))))
 
--- what the survey has is found at an entry of the log
+-- each finding of the survey is found at an entry of the log
 pub found_is : (p : Times) (done : List (Observation KeyParts)) (items : List Item) (close : LogEnd) (es : List (Observation KeyParts)) (found : List Finding) (end : SurveyEnd) → AreSeen done items es →
     IsSurveyAfter p done items close found end → (f : Finding) → Contains found f → (front : List (Observation KeyParts)) × (e : Observation KeyParts) × (more : List (Observation KeyParts)) × (es ≡ front ++ e ∷ more)
     × IsFoundAt p (done ++ front) e f
@@ -73,7 +73,7 @@ found_is p done (item ∷ items) close (g ∷ es) found end (sees, seen) (h, her
     by (inl c) more = ([], g, es, refl, subst (λ xs. IsFoundAt p xs g f) (sym (append-nil done)) (subst (λ x. IsFoundAt p done x f) known ((are.1 f).0 c)))
     by (inr c) more = let (front, e, left, is, at) = more c in (g ∷ front, e, left, ap (λ xs. g ∷ xs) is, subst (λ xs. IsFoundAt p xs e f) (append_assoc done (g ∷ []) front) at)
 
--- a transaction that breaks at an entry is one of those so far
+-- a transaction without a run after an entry is among the transactions so far
 pub breaks_known : (p : Times) (front : List (Observation KeyParts)) (e : Observation KeyParts) (key : KeyParts) → ¬ (RunsOver p (front ++ e ∷ []) key) → Contains (keys_in (front ++ e ∷ [])) key
 breaks_known p front e key none = by (list_any (same_key key) (keys_in (front ++ e ∷ []))) refl
   where
@@ -81,7 +81,7 @@ breaks_known p front e key none = by (list_any (same_key key) (keys_in (front ++
     by true is = among-contains key (keys_in (front ++ e ∷ [])) is
     by false is = absurd (none (idle_runs p (front ++ e ∷ []) key (new_key key (front ++ e ∷ []) is)))
 
--- each transaction in trouble is named
+-- a finding of the survey names each transaction that is in trouble
 pub trouble_is_named : (p : Times) (items : List Item) (close : LogEnd) (es : List (Observation KeyParts)) (found : List Finding) (end : SurveyEnd) → AreSeen [] items es
     → IsSurveyAfter p [] items close found end → (key : KeyParts) → ¬ (IsSound p es key) → ¬ (¬ (AreAbout es found key))
 trouble_is_named p items close es found end seen survey key unsound never = some_finding p key es unsound by

@@ -8,7 +8,7 @@ use Rattle.sip_states.proofs.lists.Listed.{Contains-none, Contains-here, Contain
 use Rattle.sip_verdict.specs.SurveyOf.{HoldsOf}
 use Rattle.sip_verdict.proofs.keys.Splitting.{split_compare}
 
--- it is not false
+-- it is false that A is false
 abbrev pub Weakly : Type 0 → Type 0
 Weakly A = ¬ (¬ A)
 
@@ -16,7 +16,7 @@ Weakly A = ¬ (¬ A)
 abbrev pub AreNumbers : (KeyParts → Type 0) → List KeyParts → List ℕ → Type 0
 AreNumbers P keys ns = AllPairs (λ a b. a < b) ns × ((n : ℕ) → Contains ns n ↔ HoldsOf P keys n)
 
--- what holds of the key with a number holds of the key at that place
+-- P holds of the key at the place whose number is n, where P holds of the key with the number n
 pub same_place : (P : KeyParts → Type 0) (keys before : List KeyParts) (key : KeyParts) (rest : List KeyParts) (n : ℕ) → keys ≡ before ++ key ∷ rest → HoldsOf P keys n → n ≡ length before + 1 → P key
 same_place P keys before key rest n is (front, other, more, are, holds, number) place =
     by (split_compare front more before rest other key (sym are ∙ is))
@@ -27,11 +27,11 @@ same_place P keys before key rest n is (front, other, more, are, holds, number) 
     by (inr (inr h)) = absurd (omega (arith, number, place, simp length-append at (ap length h.1)))
 
 module _ (P : KeyParts → Type 0) (keys : List KeyParts) where
-  -- those of the keys after so many
+  -- the numbers above `low` of the keys of which P holds, each once and in order
   abbrev AreAbove : ℕ → List ℕ → Type 0
   AreAbove low ns = AllPairs (λ a b. a < b) ns × All (λ n. low < n) ns × ((n : ℕ) → Contains ns n ↔ (HoldsOf P keys n × (low < n)))
 
-  -- no number is above their count
+  -- no key has a number above the count of the keys
   none_above : AreAbove (length keys) []
   none_above = (λ i j d low high. absurd (omega (arith, high)), All-nil (λ n. length keys < n), λ n. (λ h. absurd (Contains-none n h), λ h. absurd (over n h.0 h.1)))
     where
@@ -39,7 +39,7 @@ module _ (P : KeyParts → Type 0) (keys : List KeyParts) where
       over n (front, key, rest, are, holds, number) low = omega (arith, low, number, simp length-append at (ap length are))
 
   module _ (before : List KeyParts) (key : KeyParts) (rest : List KeyParts) (is : keys ≡ before ++ key ∷ rest) where
-    -- the next key is one of which P holds
+    -- where P holds of the next key, its number comes before the numbers above it
     one_above : P key → (ns : List ℕ) → AreAbove (length before + 1) ns → AreAbove (length before) ((length before + 1) ∷ ns)
     one_above holds ns (sorted, high, are) = (
       AllPairs-cons (λ a b. a < b) (length before + 1) ns high sorted,
@@ -55,7 +55,7 @@ module _ (P : KeyParts → Type 0) (keys : List KeyParts) where
         from n has above (yes to) = let same : length before + 1 ≡ n = omega (arith, above, to) in subst (Contains ((length before + 1) ∷ ns)) same (Contains-here (length before + 1) ns)
         from n has above (no beyond) = Contains-there (length before + 1) ns n ((are n).1 (has, omega (arith, beyond)))
 
-    -- it is none
+    -- where P does not hold of the next key, the numbers above it are those from it on
     none_more : ¬ (P key) → (ns : List ℕ) → AreAbove (length before + 1) ns → AreAbove (length before) ns
     none_more not ns (sorted, high, are) = (
       sorted,
@@ -67,6 +67,7 @@ module _ (P : KeyParts → Type 0) (keys : List KeyParts) where
         from n has above (yes to) = absurd (not (same_place P keys before key rest n is has (omega (arith, above, to))))
         from n has above (no beyond) = (are n).1 (has, omega (arith, beyond))
 
+  -- the keys of which P holds after any first ones have numbers
   above_some : (before rest : List KeyParts) → keys ≡ before ++ rest → Weakly ((ns : List ℕ) × AreAbove (length before) ns)
   above_some before [] is never = never ([], subst (λ ks. AreAbove (length ks) []) (is ∙ append-nil before) none_above)
   above_some before (key ∷ rest) is never =
@@ -77,7 +78,7 @@ module _ (P : KeyParts → Type 0) (keys : List KeyParts) where
       either : (P key → ⊥) → (¬ (P key) → ⊥) → ⊥
       either holds not = not holds
 
-  -- there are such numbers
+  -- the keys of which P holds have numbers, each once and in order
   pub numbers_some : Weakly ((ns : List ℕ) × AreNumbers P keys ns)
   numbers_some never = above_some [] keys refl (λ one. never (one.0, (one.1.0, λ n. (λ h. ((one.1.2 n).0 h).0, λ h. (one.1.2 n).1 (h, positive n h)))))
     where

@@ -30,13 +30,13 @@ use Rattle.sip_verdict.proofs.surveys.found.Numbers.{same_place}
 use Rattle.sip_verdict.proofs.surveys.found.OneFinding.{one_finding}
 use Rattle.sip_verdict.proofs.surveys.passing.Wide.{wide_runs}
 
--- the first of a list in order are in order
+-- where two lists together are in order, the first is in order
 pub ordered_front : {A : Type 0} (R : A → A → Type 0) (xs ys : List A) → AllPairs R (xs ++ ys) → AllPairs R xs
 ordered_front R [] ys sorted = λ i j d low high. absurd (omega (arith, high))
 ordered_front R (x ∷ xs) ys sorted =
     AllPairs-cons R x xs (All-front (R x) xs ys (AllPairs-head R x (xs ++ ys) sorted)) (ordered_front R xs ys (AllPairs-tail R x (xs ++ ys) sorted))
 
--- what is observed of a log has its order
+-- the entries that are observed of a log are in the order of their moments
 pub observed_order : (format : Format) (last : ℕ) (done : List (Observation KeyParts)) (items : List Item) (es : List (Observation KeyParts)) → InOrder format last items → AreSeen done items es
     → All (λ e. last ≤ e.event.moment) es × AllPairs (λ a b. a.event.moment ≤ b.event.moment) es
 observed_order format last done [] [] order seen = (All-nil (λ e. last ≤ e.event.moment), λ i j d low high. absurd (omega (arith, high)))
@@ -49,14 +49,14 @@ observed_order format last done (item ∷ items) (e ∷ es) (low, entry, order) 
       AllPairs-cons (λ a b. a.event.moment ≤ b.event.moment) e es (All-weaker (λ f. item.moment ≤ f.event.moment) (λ f. e.event.moment ≤ f.event.moment) (λ f late. omega (arith, at, late)) es later) sorted,
     )
 
--- the entries of a survey
+-- a survey has entries that are observed of its items
 survey_observed : (p : Times) (done : List (Observation KeyParts)) (items : List Item) (close : LogEnd) (found : List Finding) (end : SurveyEnd) → IsSurveyAfter p done items close found end
     → (es : List (Observation KeyParts)) × AreSeen done items es
 survey_observed p done [] close found end survey = ([], tt)
 survey_observed p done (item ∷ items) close found end (e, here, later, sees, whole, at, more) =
     let rest = survey_observed p (done ++ e ∷ []) items close later end more in (e ∷ rest.0, (sees, rest.1))
 
--- keys stay where they are when others come
+-- keys keep their places when other keys are added
 keys_after : (keys more : List KeyParts) → (zs : List KeyParts) × (fold with_key keys more ≡ keys ++ zs)
 keys_after keys [] = ([], sym (append-nil keys))
 keys_after keys (k ∷ more) = by (list_any (same_key k) keys) (keys_after (cond (list_any (same_key k) keys) keys (keys ++ k ∷ [])) more)
@@ -66,7 +66,7 @@ keys_after keys (k ∷ more) = by (list_any (same_key k) keys) (keys_after (cond
     by true rest = rest
     by false rest = (k ∷ rest.0, rest.1 ∙ append_assoc keys (k ∷ []) rest.0)
 
--- and so when more entries come
+-- keys of entries keep their places when more entries come
 pub keys_more : (front more : List (Observation KeyParts)) → (zs : List KeyParts) × (keys_in (front ++ more) ≡ keys_in front ++ zs)
 keys_more front more =
     let after = keys_after (keys_in front) (flat_map (λ e. e.keys) more) in (
@@ -74,7 +74,7 @@ keys_more front more =
       ap (fold with_key []) (flat_map-append (λ e. e.keys) front more) ∙ fold-append with_key [] (flat_map (λ e. e.keys) front) (flat_map (λ e. e.keys) more) ∙ after.1,
     )
 
--- two facts of the key with one number
+-- where P and Q hold of the key with one number, before and after more keys came, they hold of one key
 of_one_number : (P Q : KeyParts → Type 0) (keys more : List KeyParts) (n : ℕ) → HoldsOf P keys n → HoldsOf Q (keys ++ more) n → (key : KeyParts) × P key × Q key
 of_one_number P Q keys more n (before, key, rest, are, holds, number) other =
     (key, holds, same_place Q (keys ++ more) before key (rest ++ more) n (ap (λ ks. ks ++ more) are ∙ append_assoc before (key ∷ rest) more) other number)
@@ -83,14 +83,14 @@ of_one_number P Q keys more n (before, key, rest, are, holds, number) other =
 abbrev IsTroubled : Times → List (Observation KeyParts) → Observation KeyParts → KeyParts → Type 0
 IsTroubled p front e key = Breaks p front e key ⊎ Widens p front e key
 
--- what is found of a transaction
+-- a finding of a transaction at the entry e says that the key with its number breaks there or is followed no further
 troubled : (p : Times) (front : List (Observation KeyParts)) (e : Observation KeyParts) (t : ℕ) (f : Finding) → IsOf t f → IsFoundAt p front e f → HoldsOf (IsTroubled p front e) (keys_in (front ++ e ∷ [])) t
 troubled p front e t (Malformed n a) is found = absurd is
 troubled p front e t (Breach n u) is (at, (before, key, rest, are, breaks, number)) = (before, key, rest, are, inl breaks, sym is ∙ number)
 troubled p front e t (Undecided n u) is (at, (before, key, rest, are, widens, number)) = (before, key, rest, are, inr widens, sym is ∙ number)
 
 module _ (p : Times) (es : List (Observation KeyParts)) (order : AllPairs (λ a b. a.event.moment ≤ b.event.moment) es) (t : ℕ) where
-  -- a transaction in trouble at an entry is in none at a later one
+  -- a transaction that comes into trouble at an entry does not come into it at a later one
   not_later : (front : List (Observation KeyParts)) (e : Observation KeyParts) (zs : List (Observation KeyParts)) (last : Observation KeyParts) (more : List (Observation KeyParts)) → es ≡ (front ++ e ∷ zs) ++ last ∷ more
       → HoldsOf (IsTroubled p front e) (keys_in (front ++ e ∷ [])) t → HoldsOf (IsTroubled p (front ++ e ∷ zs) last) (keys_in ((front ++ e ∷ zs) ++ last ∷ [])) t → ⊥
   not_later front e zs last more is first second =
@@ -102,12 +102,12 @@ module _ (p : Times) (es : List (Observation KeyParts)) (order : AllPairs (λ a 
       one_finding p both.0 front e zs last
       (ordered_front (λ a b. a.event.moment ≤ b.event.moment) (front ++ e ∷ zs) (last ∷ more) (subst (AllPairs (λ a b. a.event.moment ≤ b.event.moment)) is order)) both.1 both.2
 
-  -- what breaks at an entry is not followed no further from there
+  -- a transaction that breaks at an entry is not one that is followed no further from it
   not_both : (front : List (Observation KeyParts)) (e : Observation KeyParts) (u v : ℕ) → u ≡ v → HoldsOf (Breaks p front e) (keys_in (front ++ e ∷ [])) u → HoldsOf (Widens p front e) (keys_in (front ++ e ∷ [])) v → ⊥
   not_both front e u v same (before, key, rest, are, breaks, number) wide =
       breaks.1 (wide_runs p front e key (same_place (Widens p front e) (keys_in (front ++ e ∷ [])) before key rest v are wide (sym same ∙ number)).1)
 
-  -- at one entry one thing is found of it
+  -- two findings of one transaction at one entry are the same
   alike : (front : List (Observation KeyParts)) (e : Observation KeyParts) (f g : Finding) → IsOf t f → IsOf t g → IsFoundAt p front e f → IsFoundAt p front e g → f ≡ g
   alike front e (Malformed n a) g is so found other = absurd is
   alike front e (Breach n u) (Malformed k a) is so found other = absurd so
@@ -117,7 +117,7 @@ module _ (p : Times) (es : List (Observation KeyParts)) (order : AllPairs (λ a 
   alike front e (Breach n u) (Undecided k v) is so found other = absurd (not_both front e u v (is ∙ sym so) found.1 other.1)
   alike front e (Undecided n u) (Breach k v) is so found other = absurd (not_both front e v u (so ∙ sym is) other.1 found.1)
 
-  -- there is one finding of a transaction
+  -- two findings of one transaction in a log in order are the same
   pub one_of : (f g : Finding) → IsOf t f → IsOf t g
       → ((front : List (Observation KeyParts)) × (e : Observation KeyParts) × (more : List (Observation KeyParts)) × (es ≡ front ++ e ∷ more) × IsFoundAt p front e f)
       → ((front : List (Observation KeyParts)) × (e : Observation KeyParts) × (more : List (Observation KeyParts)) × (es ≡ front ++ e ∷ more) × IsFoundAt p front e g) → f ≡ g
@@ -136,7 +136,7 @@ module _ (p : Times) (es : List (Observation KeyParts)) (order : AllPairs (λ a 
       by (inr (inr h)) =
           absurd (not_later back c h.0 e more (split ∙ ap (λ xs. xs ++ e ∷ more) h.1) second (subst (λ xs. HoldsOf (IsTroubled p xs e) (keys_in (xs ++ e ∷ [])) t) h.1 first))
 
--- a survey names a transaction once
+-- two findings of one transaction in a survey are the same
 pub named_once : (input : List ℕ) (found : List Finding) (end : SurveyEnd) → IsSurveyOf input found end → (t : ℕ) (f g : Finding) → Contains found f → Contains found g → IsOf t f → IsOf t g → f ≡ g
 named_once input found end (inl lacks) t f g has also is so = absurd (Contains-none f (subst (λ fs. Contains fs f) lacks.1 has))
 named_once input found end (inr (p, items, close, says, survey)) t f g has also is so =

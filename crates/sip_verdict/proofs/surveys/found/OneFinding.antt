@@ -7,14 +7,14 @@ use Rattle.sip_verdict.specs.SurveyOf.{IsSound, Breaks, Widens}
 use Rattle.sip_verdict.proofs.keys.FewerEntries.{fewer-entries}
 use Rattle.sip_verdict.proofs.surveys.found.Sound.{sound_nil, sound_push}
 
--- what is in no trouble over entries in order is in none over the first of them
+-- where entries are in order, a transaction in no trouble over all of them is in none over the first of them
 pub sound_fewer : (p : Times) (key : KeyParts) (front more : List (Observation KeyParts)) → AllPairs (λ a b. a.event.moment ≤ b.event.moment) (front ++ more) → IsSound p (front ++ more) key → IsSound p front key
 sound_fewer p key front more order (runs, narrow) = (
   fewer-entries p key front more order runs,
   λ before e rest is. narrow before e (rest ++ more) (ap (λ xs. xs ++ more) is ∙ append_assoc before (e ∷ rest) more),
 )
 
--- a transaction that broke at an entry, or is followed no further, is in trouble after it, whatever comes
+-- a transaction that broke at an entry, or is followed no further from it, is in trouble after it, whatever entries come
 pub stays_in_trouble : (p : Times) (key : KeyParts) (front : List (Observation KeyParts)) (e : Observation KeyParts) (more : List (Observation KeyParts))
     → AllPairs (λ a b. a.event.moment ≤ b.event.moment) (front ++ e ∷ more) → Breaks p front e key ⊎ Widens p front e key → ¬ (IsSound p (front ++ e ∷ more) key)
 stays_in_trouble p key front e more order (inl breaks) sound =
@@ -22,14 +22,14 @@ stays_in_trouble p key front e more order (inl breaks) sound =
     breaks.1 (sound_fewer p key (front ++ e ∷ []) more (subst (AllPairs (λ a b. a.event.moment ≤ b.event.moment)) one order) (subst (λ es. IsSound p es key) one sound)).0
 stays_in_trouble p key front e more order (inr widens) sound = sound.1 front e more refl widens.1
 
--- a transaction has no second finding
+-- a transaction that broke at an entry, or is followed no further from it, has no finding at a later entry
 pub one_finding : (p : Times) (key : KeyParts) (front : List (Observation KeyParts)) (e : Observation KeyParts) (more : List (Observation KeyParts)) (last : Observation KeyParts)
     → AllPairs (λ a b. a.event.moment ≤ b.event.moment) (front ++ e ∷ more) → Breaks p front e key ⊎ Widens p front e key
     → ¬ (Breaks p (front ++ e ∷ more) last key ⊎ Widens p (front ++ e ∷ more) last key)
 one_finding p key front e more last order first (inl breaks) = stays_in_trouble p key front e more order first breaks.0
 one_finding p key front e more last order first (inr widens) = stays_in_trouble p key front e more order first widens.0
 
--- what is in no trouble and then in trouble breaks at the entry between, or is followed no further
+-- a transaction that is in no trouble before an entry, and in trouble after it, breaks there or is followed no further
 pub trouble_breaks : (p : Times) (key : KeyParts) (es : List (Observation KeyParts)) (e : Observation KeyParts) → IsSound p es key → ¬ (IsSound p (es ++ e ∷ []) key) → ¬ (¬ (Breaks p es e key ⊎ Widens p es e key))
 trouble_breaks p key es e sound unsound none = none (inl (sound, λ runs. unsound (sound_push p es e key sound runs (λ wide. none (inr (sound, wide))))))
 

@@ -13,11 +13,11 @@ use Rattle.sip_log.proofs.logs.Logs.{log_is_one}
 use Rattle.sip_verdict.proofs.surveys.found.Ordered.{ordered_one}
 use Rattle.sip_verdict.proofs.surveys.found.FoundParts.{precedes_once}
 
--- one list is found at an entry
+-- two lists of what is found at an entry are the same
 found_one : (p : Times) (es : List (Observation KeyParts)) (e : Observation KeyParts) (fs gs : List Finding) → AreFoundAt p es e fs → AreFoundAt p es e gs → fs ≡ gs
 found_one p es e fs gs a b = ordered_one Precedes precedes_once fs gs a.0 b.0 (λ f h. (b.1 f).1 ((a.1 f).0 h)) (λ f h. (a.1 f).1 ((b.1 f).0 h))
 
--- entries have one survey after others
+-- two surveys of the same items after the same entries are the same
 after_one : (p : Times) (es : List (Observation KeyParts)) (items : List Item) (close : LogEnd) (fs gs : List Finding) (end fin : SurveyEnd) → IsSurveyAfter p es items close fs end →
     IsSurveyAfter p es items close gs fin → (fs ≡ gs) × (end ≡ fin)
 after_one p es [] Clean fs gs end fin a b = (a.0 ∙ sym b.0, a.1 ∙ sym b.1)
@@ -28,14 +28,10 @@ after_one p es (item ∷ items) close fs gs end fin (e, here, later, sees, is, a
     let rest = after_one p (es ++ e ∷ []) items close later last end fin more (subst (λ g. IsSurveyAfter p (es ++ g ∷ []) items close last fin) (sym same) left) in
     (is ∙ ap₂ (λ xs ys. xs ++ ys) same_here rest.0 ∙ sym are, rest.1)
 
--- an input says one log
-pub says_one : (input : List ℕ) (p q : Times) (xs ys : List Item) (a b : LogEnd) → LogSays input p xs a → LogSays input q ys b → (p ≡ q) × (xs ≡ ys) × (a ≡ b)
-says_one input p q xs ys a b one other = log_is_one input p q xs ys a b one other
-
--- what is true of the one log of an input is true of the other
+-- what holds of one log that an input says holds of another that it says
 pub says_same : (P : Times → List Item → LogEnd → Type 0) (input : List ℕ) (p q : Times) (xs ys : List Item) (a b : LogEnd) → LogSays input p xs a → LogSays input q ys b → P q ys b → P p xs a
 says_same P input p q xs ys a b one other holds =
-    let same = says_one input p q xs ys a b one other in
+    let same = log_is_one input p q xs ys a b one other in
     subst (λ r. P r xs a) (sym same.0) (subst (λ r. P q r a) (sym same.1) (subst (P q ys) (sym same.2) holds))
 
 -- two surveys of an input are the same

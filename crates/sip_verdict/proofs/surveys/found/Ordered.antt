@@ -1,4 +1,4 @@
--- Lists in a strict order: two of them with the same elements are the same.
+-- Two lists in a strict order that have the same elements are the same.
 use Rattle.std.proofs.Common.{◌≡◌, ◌⊎◌, inl, inr, List, [], ◌∷◌, ◌++◌, AllPairs, Contains, get_or, map, refl, sym, ap₂, ◌∙◌, subst, arith}
 use Rattle.std.proofs.lemmas.List.Elements.{All-contains, All-append, All-map, All-weaker, Contains-get_or}
 use Rattle.std.proofs.lemmas.List.Kept.{AllPairs-cons}
@@ -6,7 +6,7 @@ use Rattle.sip_standard.proofs.Few.{AllPairs-head, AllPairs-tail}
 use Rattle.sip_states.proofs.lists.Listed.{Contains-none, Contains-here, Contains-there, Contains-cons}
 
 module _ {A : Type 0} (R : A → A → Type 0) where
-  -- a list in order, and after it one of which each element comes after each of the first
+  -- two lists in order, of which each element of the second comes after each of the first, are in order one after the other
   pub ordered_append : (xs ys : List A) → AllPairs R xs → AllPairs R ys → ((x y : A) → Contains xs x → Contains ys y → R x y) → AllPairs R (xs ++ ys)
   ordered_append [] ys a b across = b
   ordered_append (x ∷ xs) ys a b across =
@@ -14,11 +14,11 @@ module _ {A : Type 0} (R : A → A → Type 0) where
       (All-append (R x) xs ys (AllPairs-head R x xs a) (λ k d low. across x (get_or ys k d) (Contains-here x xs) (Contains-get_or ys k d low)))
       (ordered_append xs ys (AllPairs-tail R x xs a) b (λ u v h. across u v (Contains-there x xs u h)))
 
-  -- the first element comes before each of the others
+  -- the first element of a list in order comes before each of the others
   pub first_before : (x : A) (xs : List A) → AllPairs R (x ∷ xs) → (y : A) → Contains xs y → R x y
   first_before x xs sorted y h = All-contains (R x) xs y (AllPairs-head R x xs sorted) h
 
--- the image of a list in order, under a function that keeps the order
+-- the image of a list in order, under a function that keeps the order, is in order
 pub ordered_map : {A B : Type 0} (R : A → A → Type 0) (S : B → B → Type 0) (f : A → B) → ((a b : A) → R a b → S (f a) (f b)) → (xs : List A) → AllPairs R xs → AllPairs S (map f xs)
 ordered_map R S f keeps [] sorted = λ i j d low high. absurd (omega (arith, high))
 ordered_map R S f keeps (x ∷ xs) sorted =

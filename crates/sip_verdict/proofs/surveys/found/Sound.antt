@@ -1,4 +1,4 @@
--- A transaction in no trouble, with one entry more.
+-- A transaction stays in no trouble over one entry more.
 use Rattle.std.proofs.Common.{◌≡◌, ◌⊎◌, inl, inr, Bool, true, false, List, [], ◌∷◌, ◌++◌, All, Contains, length, length-append, refl, sym, ap, ◌∙◌, subst, arith, zero-le}
 use Rattle.std.specs.List.{list_any}
 use Rattle.std.proofs.lemmas.Bool.{false≢true}
@@ -23,7 +23,7 @@ idle_runs p es key none =
     let f = (transaction_of kind).figure in
     (quiet f.idle, subst (λ events. Stands f p events (newest_moment es) (quiet f.idle)) (sym none) (waits [] 0 (newest_moment es) (quiet f.idle) begins zero-le (idle_lasts kind p (newest_moment es))))
 
--- a key of the last entry is one of them all
+-- a key that the last entry concerns is among the keys of all entries
 pub concerned-among : (key : KeyParts) (es : List (Observation KeyParts)) (e : Observation KeyParts) → list_any (same_key key) e.keys ≡ true → Contains (keys_in (es ++ e ∷ [])) key
 concerned-among key es e h = by (list_any (same_key key) (keys_in (es ++ e ∷ []))) refl
   where
@@ -33,11 +33,11 @@ concerned-among key es e h = by (list_any (same_key key) (keys_in (es ++ e ∷ [
         let lacks = among-fold key (keys_in es) e.keys (ap (list_any (same_key key)) (sym (keys_in-push es e)) ∙ is) in
         absurd (false≢true (sym lacks.1 ∙ h))
 
--- each key, of the entries or not, is in no trouble
+-- each key, whether an entry concerns it or not, is in no trouble
 abbrev pub AllSound : Times → List (Observation KeyParts) → Type 0
 AllSound p es = (key : KeyParts) → IsSound p es key
 
--- before the first entry each is
+-- before the first entry each key is in no trouble
 pub sound_nil : (p : Times) → AllSound p []
 sound_nil p key = (idle_runs p [] key refl, λ front e rest is wide. absurd (splits front e rest is))
   where
@@ -45,7 +45,7 @@ sound_nil p key = (idle_runs p [] key refl, λ front e rest is wide. absurd (spl
     splits [] e rest is = cc
     splits (f ∷ front) e rest is = cc
 
--- one entry more, after which the key has a run and is not too wide
+-- a key in no trouble that has a run over one entry more, and is not too wide there, stays in no trouble
 pub sound_push : (p : Times) (es : List (Observation KeyParts)) (e : Observation KeyParts) (key : KeyParts) → IsSound p es key
     → RunsOver p (es ++ e ∷ []) key → ¬ (IsWideAt p es e key) → IsSound p (es ++ e ∷ []) key
 sound_push p es e key sound runs narrow = (runs, λ front f rest is. by front f rest is (split_compare es [] front rest e f is))
@@ -56,7 +56,7 @@ sound_push p es e key sound runs narrow = (runs, λ front f rest is. by front f 
     by front f rest is (inr (inl h)) wide = absurd (omega (arith, simp length-append at (ap length is), simp length-append at (ap length h.1)))
     by front f rest is (inr (inr h)) wide = sound.1 front f h.0 h.1 wide
 
--- one entry more, in no trouble
+-- where each key of the entries and e has a run and none is too wide at e, each key stays in no trouble
 pub all_sound_push : (p : Times) (es : List (Observation KeyParts)) (e : Observation KeyParts) → AllSound p es → All (RunsOver p (es ++ e ∷ [])) (keys_in (es ++ e ∷ []))
     → All (λ key. ¬ (IsWideAt p es e key)) (keys_in (es ++ e ∷ [])) → AllSound p (es ++ e ∷ [])
 all_sound_push p es e sound runs narrow key = sound_push p es e key (sound key) (by_key (list_any (same_key key) (keys_in (es ++ e ∷ []))) refl) not_wide

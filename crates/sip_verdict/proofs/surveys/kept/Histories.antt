@@ -1,4 +1,4 @@
--- The first and the last entry of each transaction, with one entry more.
+-- The first and the last entry of each transaction stay right when one entry more comes.
 use Rattle.std.proofs.Common.{◌≡◌, ◌≢◌, ◌≤◌, ◌<◌, ◌+◌, ◌-◌, ◌⊎◌, ◌||◌, inl, inr, ℕ, Bool, true, false, nat_eq, Option, Some, None, IfSome, MatchOption, List, [], ◌∷◌, ◌++◌, All, AllPairs, Contains, length, slice_get, length-append, append_assoc, refl, sym, ap, ◌∙◌, subst, arith}
 use Rattle.std.specs.Prelude.{bytes_eq, codes, fold, flat_map, max}
 use Rattle.std.specs.List.{list_any}
@@ -21,23 +21,25 @@ use Rattle.sip_standard.specs.Says.{Said, Says}
 use Rattle.sip_part.specs.Led.{led_branch}
 use Rattle.sip_part.proofs.Fields.{led_found}
 use Rattle.sip_states.specs.Tables.{Tabled, Touches}
+use Rattle.sip_states.proofs.lists.Places.{set_place, push_place}
 use Rattle.sip_verdict.specs.declared.histories.Histories.{Histories}
 use Rattle.sip_verdict.specs.declared.histories.History.{History}
 use Rattle.sip_standard.specs.Observation.{Observation, ObservesMessage, has_fault, has_no_cookie, is_heard, silent_observation}
 use Rattle.sip_verdict.specs.inner.Keyed.{with_key}
 use Rattle.sip_standard.specs.VerdictOf.{keys_in, Sees}
+use Rattle.sip_message.proofs.lemmas.says.Reading.{said-one}
 use Rattle.sip_verdict.specs.SurveyText.{is_of, IsFirstOf, IsLastOf}
 use Rattle.sip_verdict.specs.Surveys.{IsHistoryOf, AreHistories}
 use Rattle.sip_verdict.specs.inner.Histories.{SpellsBranch, Notes, NotesEach}
 use Rattle.sip_verdict.specs.inner.TablesTracking.{TouchesEach, is_among}
 use Rattle.sip_verdict.proofs.judges.ObservingLemmas.{no_keys, went}
 use Rattle.sip_verdict.proofs.keys.Keys.{among-fold, contains-among, not_among, or_false, keys_in-push, keys_in-none, keys_in-all}
-use Rattle.sip_verdict.proofs.verdicts.MessageUnique.{fault_says_none, one_said}
+use Rattle.sip_verdict.proofs.verdicts.MessageUnique.{fault_says_none}
 use Rattle.sip_verdict.proofs.surveys.passing.Begun.{AreMore, more_each, none_more, touched_keys}
-use Rattle.sip_verdict.proofs.tables.TablesPassing.{at_place, set-place}
-use Rattle.sip_verdict.proofs.tables.TablesTouching.{have_numbers, push-place, same_numbers}
+use Rattle.sip_verdict.proofs.tables.TablesPassing.{at_place}
+use Rattle.sip_verdict.proofs.tables.TablesTouching.{have_numbers, same_numbers}
 
--- what is observed of entries
+-- entries as they are observed
 abbrev pub Entries : Type 0
 Entries = List (Observation KeyParts)
 
@@ -49,11 +51,11 @@ or_some : (b : Bool) → (b || true) ≡ true
 or_some true = refl
 or_some false = refl
 
--- what holds of the element that is there
+-- where the option holds x, and P holds of x, P holds of what the option holds
 pub IfSome-at : {A : Type 0} (o : Option A) (P : A → Type 0) (x : A) → o ≡ Some x → P x → IfSome o P
 IfSome-at o P x is holds = subst (λ a. IfSome a P) (sym is) holds
 
--- what is looked up at a place is there
+-- the history that is looked up at a place stands there in the list
 pub history_at : (xs ys : List History) (i : ℕ) (r : Option (Bor History)) (b : Bor History) → IsItemAt xs i r → xs ≡ ys → r ≡ Some b → slice_get ys i ≡ Some b.now
 history_at xs ys i None b item same is = absurd cc
 history_at xs ys i (Some a) b item same is =
@@ -61,7 +63,7 @@ history_at xs ys i (Some a) b item same is =
     let alike : a ≡ b = cc in
     ap (λ zs. slice_get zs i) (sym same) ∙ slice_get-get_or xs i a.now low ∙ ap Some (sym item.1) ∙ ap (λ x. Some x.now) alike
 
--- what the first entry is stays so
+-- the first entry of a transaction stays the first when one entry more comes
 first_more : (es : Entries) (e : Observation KeyParts) (key : KeyParts) (n : ℕ) (branch : List ℕ) → IsFirstOf es key n branch → IsFirstOf (es ++ e ∷ []) key n branch
 first_more es e key n branch (before, o, after, whole, is, none, counts, says) =
     (before, o, after ++ e ∷ [], ap (λ xs. xs ++ e ∷ []) whole ∙ append_assoc before (o ∷ after) (e ∷ []), is, none, counts, says)
@@ -71,15 +73,15 @@ last_more : (es : Entries) (e : Observation KeyParts) (key : KeyParts) (n : ℕ)
 last_more es e key n other (before, o, after, whole, is, none, counts) =
     (before, o, after ++ e ∷ [], ap (λ xs. xs ++ e ∷ []) whole ∙ append_assoc before (o ∷ after) (e ∷ []), is, All-push (λ x. is_of key x ≡ false) after e none other, counts)
 
--- one that does is the last one
+-- an entry that concerns the transaction is its last entry, with the number after all others
 last_here : (es : Entries) (e : Observation KeyParts) (key : KeyParts) (n : ℕ) → is_of key e ≡ true → n ≡ length es + 1 → IsLastOf (es ++ e ∷ []) key n
 last_here es e key n is counts = (es, e, [], refl, is, All-nil (λ x. is_of key x ≡ false), counts)
 
--- there is no later number
+-- the number of a transaction's last entry is at most the count of the entries
 last_low : (es : Entries) (key : KeyParts) (n : ℕ) → IsLastOf es key n → n ≤ length es
 last_low es key n (before, o, after, whole, is, none, counts) = let long = ap length whole ∙ length-append before (o ∷ after) in omega (arith, long, counts)
 
--- no entry concerns a key that is not among theirs
+-- no entry concerns a key that is not among the keys of the entries
 pub none_in : (key : KeyParts) (es : Entries) → list_any (same_key key) (flat_map (λ e. e.keys) es) ≡ false → All (λ o. is_of key o ≡ false) es
 none_in key [] none = All-nil (λ o. is_of key o ≡ false)
 none_in key (e ∷ es) none =
@@ -90,11 +92,11 @@ none_of : (key : KeyParts) (es : Entries) → ¬ Contains (keys_in es) key → A
 none_of key es none =
     none_in key es (among-fold key [] (flat_map (λ e. e.keys) es) (not_among key (keys_in es) none)).1
 
--- before the first entry
+-- before the first entry, no histories are the histories of all transactions
 pub none_yet : (b : Histories) → b.each.items ≡ [] → b.restart ≡ 0 → AreHistories [] b
 none_yet b none restart = record { long = ap length none; restart = omega (arith, restart); each = λ n key k at. absurd cc }
 
--- an entry that concerns none
+-- an entry that concerns no transaction leaves the histories right as they are
 pub silent_histories : (es : Entries) (e : Observation KeyParts) (b : Histories) → e.keys ≡ [] → AreHistories es b → AreHistories (es ++ e ∷ []) b
 silent_histories es e b none h =
     let same = keys_in-none es e none in
@@ -106,7 +108,7 @@ silent_histories es e b none h =
           record { first = first_more es e key k.first k.branch.items one.first; last = last_more es e key (max k.last b.restart) (ap (list_any (same_key key)) none) one.last };
     }
 
--- a restart
+-- after a restart the histories are right with the restart's number in them
 pub restart_histories : (es : Entries) (e : Observation KeyParts) (b c : Histories) (number : ℕ) → e.keys ≡ keys_in es → number ≡ length es + 1 → c.each.items ≡ b.each.items → c.restart ≡ number
     → AreHistories es b → AreHistories (es ++ e ∷ []) c
 restart_histories es e b c number all counts kept newest h =
@@ -123,9 +125,9 @@ restart_histories es e b c number all counts kept newest h =
           record { first = first_more es e key k.first k.branch.items one.first; last = last_here es e key (max k.last c.restart) is (omega (arith, low, newest, counts)) };
     }
 
--- What one note leaves at a place.
+-- What follows is of what one note leaves at a place of the histories.
 
--- the history there is one that was noted, or one that was there before
+-- the history at the place i tells the entry as its last one, where the entry was noted there, and is the one that stood there where it was not
 abbrev IsAt : ℕ → List ℕ → List History → ℕ → History → Bool → Type 0
 IsAt entry text old i h true =
     (h.last ≡ entry)
@@ -133,7 +135,7 @@ IsAt entry text old i h true =
 IsAt entry text old i h false = slice_get old i ≡ Some h
 
 module _ (entry : ℕ) (text : List ℕ) where
-  -- a note of a transaction that was touched is of a known one, or of the next one
+  -- where a key was looked up and its number noted, there are as many histories as keys, and the number is at most one above those before
   note_long : (key : KeyParts) (n : ℕ) (t u : Tabled) (old new : List History) → Touches key n t u → length old ≡ length t.keys → Notes entry text n old new → (length new ≡ length u.keys) × (0 < n) × (n ≤ length old + 1)
   note_long key n t u old new (inl (has, same)) long (inl h) = (
     ap length h.is ∙ length-set old (n - 1) h.after ∙ long ∙ ap (λ x. length x.keys) (sym same),
@@ -148,8 +150,9 @@ module _ (entry : ℕ) (text : List ℕ) where
     omega (arith, counts, long),
   )
 
+  -- after a note under the number n, the history at each place is as `IsAt` says
   note_at : (n : ℕ) (old new : List History) → 0 < n → n ≤ length old + 1 → Notes entry text n old new → (i : ℕ) (h : History) → slice_get new i ≡ Some h → IsAt entry text old i h (nat_eq (i + 1) n)
-  note_at n old new low high (inl note) i h here = by (nat_eq (i + 1) n) refl (set-place old (n - 1) i note.after h (ap (λ hs. slice_get hs i) (sym note.is) ∙ here))
+  note_at n old new low high (inl note) i h here = by (nat_eq (i + 1) n) refl (set_place old (n - 1) i note.after h (ap (λ hs. slice_get hs i) (sym note.is) ∙ here))
     where
       by : (b : Bool) → nat_eq (i + 1) n ≡ b → ((i ≡ n - 1) × (note.after ≡ h)) ⊎ ((i ≢ n - 1) × (slice_get old i ≡ Some h)) → IsAt entry text old i h b
       by true same (inl (at, is)) = (
@@ -159,7 +162,7 @@ module _ (entry : ℕ) (text : List ℕ) where
       by true same (inr (other, was)) = absurd (other (omega (arith, (unsigned_Decides (i + 1) n).0 same)))
       by false other (inl (at, is)) = absurd (false≢true (sym other ∙ (unsigned_Decides (i + 1) n).1 (omega (arith, at, low))))
       by false other (inr (differs, was)) = was
-  note_at n old new low high (inr note) i h here = by (nat_eq (i + 1) n) refl (push-place old note.begun i h (ap (λ hs. slice_get hs i) (sym note.is) ∙ here))
+  note_at n old new low high (inr note) i h here = by (nat_eq (i + 1) n) refl (push_place old note.begun i h (ap (λ hs. slice_get hs i) (sym note.is) ∙ here))
     where
       by : (b : Bool) → nat_eq (i + 1) n ≡ b → (slice_get old i ≡ Some h) ⊎ ((i ≡ length old) × (note.begun ≡ h)) → IsAt entry text old i h b
       by true same (inl was) = (let within = slice_get_within old i h was in let beyond = note.beyond in absurd (omega (arith, (unsigned_Decides (i + 1) n).0 same)))
@@ -170,19 +173,19 @@ module _ (entry : ℕ) (text : List ℕ) where
       by false other (inl was) = was
       by false other (inr (at, is)) = (let beyond = note.beyond in absurd (false≢true (sym other ∙ (unsigned_Decides (i + 1) n).1 (omega (arith, at)))))
 
-  -- no history is lost
+  -- a note takes no history away
   long_note : (n : ℕ) (old new : List History) → Notes entry text n old new → length old ≤ length new
   long_note n old new (inl h) = (let long = ap length h.is ∙ length-set old (n - 1) h.after in omega arith)
   long_note n old new (inr h) = (let long = ap length h.is ∙ length-append old (h.begun ∷ []) in omega arith)
 
-  -- notes of several transactions leave as many histories as there are keys
+  -- notes of keys that were looked up, one after another, leave as many histories as there are keys
   pub notes_long : (ks : List KeyParts) (ns : List ℕ) (t u : Tabled) (old new : List History) → TouchesEach ks ns t u → length old ≡ length t.keys → NotesEach entry text ns old new → length new ≡ length u.keys
   notes_long [] [] t u old new same long is = ap length is ∙ long ∙ ap (λ x. length x.keys) (sym same)
   notes_long [] (n ∷ ns) t u old new touched long notes = absurd touched
   notes_long (k ∷ ks) [] t u old new touched long notes = absurd touched
   notes_long (k ∷ ks) (n ∷ ns) t u old new (between, one, rest) long (mid, note, notes) = notes_long ks ns between u mid new rest (note_long k n t between old mid one long note).0 notes
 
-  -- what stands at a place after the entry was noted, by what stood there before and whether it was among the numbers
+  -- after the entry was noted under numbers, the history at a place is the noted one if its number is among them, and else the old one
   pub notes_at : (ks : List KeyParts) (ns : List ℕ) (t u : Tabled) (old new : List History) → TouchesEach ks ns t u → length old ≡ length t.keys → NotesEach entry text ns old new
       → (i : ℕ) (h : History) → slice_get new i ≡ Some h → IsAt entry text old i h (is_among ns (i + 1))
   notes_at [] [] t u old new same long is i h here = ap (λ hs. slice_get hs i) (sym is) ∙ here
@@ -203,7 +206,7 @@ module _ (entry : ℕ) (text : List ℕ) where
       by true (last, inr (beyond, first, spells)) step =
           subst (IsAt entry text old i h) (sym (or_some (nat_eq (i + 1) n))) (last, inr ((let grows = long_note n old mid note in omega (arith, beyond)), first, spells))
 
--- Keys that an entry concerns.
+-- What follows is of an entry whose keys were looked up and whose numbers were noted.
 module _ (es : Entries) (e : Observation KeyParts) (b c : Histories) (number : ℕ) (text : List ℕ) (t w : Tabled) (ks : List KeyParts) (ns : List ℕ)
     (h : AreHistories es b) (t_keys : t.keys ≡ keys_in es) (sets : length t.sets ≡ length t.keys) (counts : number ≡ length es + 1) (touched : TouchesEach ks ns t w) (apart : AllPairs (λ x y. x ≢ y) w.keys)
     (notes : NotesEach number text ns b.each.items c.each.items) (same_restart : c.restart ≡ b.restart) (keys : e.keys ≡ ks)
@@ -214,24 +217,25 @@ module _ (es : Entries) (e : Observation KeyParts) (b c : Histories) (number : �
   t_long : length b.each.items ≡ length t.keys
   t_long = h.long ∙ ap length (sym t_keys)
 
-  -- a key is an old one, or none of those
+  -- each key of the new tables is an old one, or comes after the old ones and is none of them
   more : AreMore t w
   more = more_each t ks ns t w (none_more t sets) touched
 
+  -- a key at a place of the new tables is the old one there, or stands after the old ones and is none of them
   old_or_new : (n : ℕ) (key : KeyParts) → slice_get w.keys n ≡ Some key → (slice_get (keys_in es) n ≡ Some key) ⊎ ((length t.keys ≤ n) × ¬ Contains (keys_in es) key)
   old_or_new n key at =
       let within = slice_get_within w.keys n key at in
       let (s, there) = at_place w.sets n (let as_long = more.long in omega arith) in
       elim (more.each n key s at there) [ inl x ↦ inl (ap (λ xs. slice_get xs n) (sym t_keys) ∙ x.0) | inr x ↦ inr (x.0, λ has. x.2 (subst (λ xs. Contains xs key) (sym t_keys) has)) ]
 
-  -- the first entry of a key that came with it
+  -- the entry is the first one of a key that is new and that the entry concerns
   begun : (key : KeyParts) (branch : List ℕ) → ¬ Contains (keys_in es) key → is_of key e ≡ true → SpellsBranch text branch → (n : ℕ) → n ≡ number → IsFirstOf (es ++ e ∷ []) key n branch
   begun key branch none is spells n n_is =
       let (s, said, (there, has)) = says key is in
       let same : branch ≡ there = subst (λ o. IfSome o (λ x. branch ≡ x)) has (spells s said) in
       (es, e, [], refl, is, none_of key es none, n_is ∙ counts, (s, subst (λ x. Says x (gives s)) (sym told) said, has ∙ ap Some (sym same)))
 
-  -- the histories follow the entries with the one more that was noted
+  -- the histories tell the first and the last entry of each transaction, with the entry that was noted
   pub heard_histories : AreHistories (es ++ e ∷ []) c
   heard_histories = record {
     long = notes_long number text ks ns t w b.each.items c.each.items touched t_long notes ∙ ap length w_keys;
@@ -262,7 +266,7 @@ module _ (es : Entries) (e : Observation KeyParts) (b c : Histories) (number : �
       by n key k true is (last, inr (beyond, first, spells)) (inr (low, none)) =
           record { first = begun key k.branch.items none is spells k.first first; last = last_here es e key (max k.last c.restart) is (newest k last) }
 
--- The branch of a message that concerns a key.
+-- a message that concerns some key has a branch
 branch_of : (s : Said) (direction : Direction) (keys : List KeyParts) → Concerns s direction keys → keys ≢ [] → (branch : List ℕ) × (s.via.branch ≡ Some branch)
 branch_of s direction keys concerns some = by s.via.branch refl
   where
@@ -273,6 +277,7 @@ branch_of s direction keys concerns some = by s.via.branch refl
 some_keys : (key : KeyParts) (keys : List KeyParts) → list_any (same_key key) keys ≡ true → keys ≢ []
 some_keys key keys is none = false≢true (sym (ap (list_any (same_key key)) none) ∙ is)
 
+-- an entry whose message concerns a key has a message with a branch
 heard_says : (direction : Direction) (i : Item) (e : Observation KeyParts) → ObservesMessage direction i e → (key : KeyParts) → is_of key e ≡ true
     → (s : Said) × Says i.text (gives s) × ((branch : List ℕ) × (s.via.branch ≡ Some branch))
 heard_says direction i e (has_fault fault says is) key of = absurd (some_keys key e.keys of (ap (λ o. o.keys) is))
@@ -280,14 +285,14 @@ heard_says direction i e (has_no_cookie s says lacks is) key of = absurd (some_k
 heard_says direction i e (is_heard s keys says fine concerns is) key of =
     (s, says, branch_of s direction keys concerns (some_keys key keys (sym (ap (λ o. list_any (same_key key) o.keys) is) ∙ of)))
 
--- a message that concerns a key says a branch
+-- an entry with a message that concerns a key has a message with a branch
 pub message_says : (es : Entries) (i : Item) (e : Observation KeyParts) → has_message i.action ≡ true → Sees es i e → (key : KeyParts) → is_of key e ≡ true
     → (s : Said) × Says i.text (gives s) × ((branch : List ℕ) × (s.via.branch ≡ Some branch))
 message_says es i e says seen key of =
     let (direction, goes) = went i.action says in
     heard_says direction i e (subst (λ d. MatchOption d (e ≡ silent_observation i.action i.moment (keys_in es)) (λ way. ObservesMessage way i e)) goes seen) key of
 
--- numbers that were given are from 1
+-- the numbers that keys got when they were looked up are above 0
 pub touched_low : (ks : List KeyParts) (ns : List ℕ) (t u : Tabled) → TouchesEach ks ns t u → All (λ n. 0 < n) ns
 touched_low [] [] t u same = All-nil (λ n. 0 < n)
 touched_low [] (n ∷ ns) t u touched = absurd touched
@@ -298,17 +303,17 @@ touched_low (k ∷ ks) (n ∷ ns) t u (between, one, rest) = All-cons (λ i. 0 <
     low (inl known) = known.0.0
     low (inr (none, counts, is)) = omega (arith, counts)
 
--- The branch as it is spelled.
+-- where a text leads to a branch, it spells this branch
 pub led_spells : (text branch : List ℕ) → led_branch text ≡ Some branch → SpellsBranch text branch
 led_spells text branch led s says = subst (λ o. IfSome o (λ spelled. branch ≡ spelled)) (sym (led_found text branch s says led)) refl
 
 -- of a message that is read, the branch of its top Via is the one that it spells
 pub read_spells : (text : List ℕ) (r : Said) (branch : Option (List ℕ)) (spelled : List ℕ) → Says text (gives r) → r.via.branch ≡ branch → IfSome branch (λ b. spelled ≡ b) → SpellsBranch text spelled
-read_spells text r branch spelled says is told s other = by s.via.branch (ap (λ x. x.via.branch) (one_said text s r other says) ∙ is)
+read_spells text r branch spelled says is told s other = by s.via.branch (ap (λ x. x.via.branch) (said-one text s r other says) ∙ is)
   where
     by : (o : Option (List ℕ)) → o ≡ branch → IfSome o (λ b. spelled ≡ b)
     by o same = subst (λ x. IfSome x (λ b. spelled ≡ b)) (sym same) told
 
--- a message with a fault spells any branch: it says none
+-- a text with a fault spells any branch, since it is no message that has one
 pub fault_spells : (text : List ℕ) (fault : Fault) (spelled : List ℕ) → Says text (stops fault) → SpellsBranch text spelled
 fault_spells text fault spelled has s says = absurd (fault_says_none text fault s has says)

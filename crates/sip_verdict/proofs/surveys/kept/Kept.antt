@@ -1,4 +1,4 @@
--- How many messages a survey keeps, after an entry and a sweep.
+-- How many messages a survey keeps after an entry and after a sweep.
 use Rattle.std.proofs.Common.{◌≡◌, ◌≤◌, ◌+◌, ℕ, Bool, List, [], ◌∷◌, ◌++◌, length, append_assoc, append-nil, refl, sym, ap, ◌∙◌, subst, arith}
 use Rattle.sip_standard.specs.Key.{KeyParts}
 use Rattle.sip_standard.specs.Times.{Times}
@@ -12,17 +12,17 @@ use Rattle.sip_verdict.specs.Surveys.{IsStillNamed, WereStillNamed, AreSurveyed}
 use Rattle.sip_verdict.specs.inner.Surveying.{TablesSurvey}
 use Rattle.sip_verdict.proofs.tables.NamedTables.{no_events_silent}
 
--- what was named stays what was named
+-- a count of messages that transactions in no trouble named stays such a count when one entry more comes
 named_more : (p : Times) (es : List (Observation KeyParts)) (e : Observation KeyParts) (count : ℕ) → WereStillNamed p es count → WereStillNamed p (es ++ e ∷ []) count
 named_more p es e count h = record { front = h.front; rest = h.rest ++ e ∷ []; whole = ap (λ xs. xs ++ e ∷ []) h.whole ∙ append_assoc h.front h.rest (e ∷ []); many = h.many }
 
--- few enough are kept without a sweep
+-- where no sweep is due, the messages and sets that are left follow the entry too, and few messages are kept
 pub surveyed_kept : (texts mid : Texts) (t u : Tabled) (deaf now : List Bool) (left : ℕ) (es : List (Observation KeyParts)) (e : Observation KeyParts) → u.times ≡ t.times → AreSurveyed texts t deaf left es
     → length mid ≤ left + left + 64 → TablesSurvey mid (es ++ e ∷ []) u now → AreSurveyed mid u now left (es ++ e ∷ [])
 surveyed_kept texts mid t u deaf now left es e times h few tracks =
     record { tracks = tracks; named = subst (λ p. WereStillNamed p (es ++ e ∷ []) left) (sym times) (named_more t.times es e left h.named); few = few }
 
--- a sweep leaves the messages that transactions in no trouble name
+-- after a sweep just the messages are kept that transactions in no trouble name
 pub surveyed_swept : (new : Texts) (u v : Tabled) (now : List Bool) (left : ℕ) (es : List (Observation KeyParts)) → v.times ≡ u.times → left ≡ length new
     → TablesSurvey new es v now × AreMany (IsStillNamed u.times es) (length new) → AreSurveyed new v now left es
 surveyed_swept new u v now left es times is (tracks, many) = record {
@@ -31,7 +31,7 @@ surveyed_swept new u v now left es times is (tracks, many) = record {
   few = (let same = is in omega (arith, same));
 }
 
--- before the first entry none is
+-- before the first entry no message is kept and no transaction is known
 pub surveyed_none : (p : Times) → AreSurveyed [] (record { times = p; keys = []; sets = []; records = [] }) [] 0 []
 surveyed_none p = record {
   tracks = record { order = λ i j d low high. absurd (omega (arith, high)); keys = refl; each = λ n key set d at. absurd cc };

@@ -1,4 +1,4 @@
--- A sweep of what a survey keeps: the tables follow the same entries, and what is kept is what transactions in no trouble name.
+-- After a sweep of a survey the tables follow the same entries, and just the messages are kept that transactions in no trouble name.
 use Rattle.std.proofs.Common.{◌≡◌, ◌≤◌, ◌<◌, ◌↔◌, ℕ, Bool, true, false, Some, List, [], All, AllPairs, Contains, length, slice_get, refl, sym, ap, ◌∙◌, subst, arith}
 use Rattle.std.specs.List.{flat_map, list_any}
 use Rattle.std.proofs.lemmas.Option.{slice_get_within, get_or_from_slice_get, slice_get-get_or}
@@ -21,7 +21,8 @@ use Rattle.sip_verdict.specs.Surveys.{IsStillNamed}
 use Rattle.sip_verdict.specs.inner.TablesTracking.{LeadsOf, MayPass}
 use Rattle.sip_verdict.specs.inner.Surveying.{IsFollowed, TablesSurvey}
 use Rattle.sip_verdict.proofs.keys.Keys.{among-contains, new_key}
-use Rattle.sip_verdict.proofs.sweeps.NamedLemmas.{IsNumberOf, Contains-flat_map, Contains-from_flat_map}
+use Rattle.sip_states.proofs.keyed.NamesLemmas.{Contains-flat_map, Contains-from_flat_map}
+use Rattle.sip_verdict.proofs.sweeps.NamedLemmas.{IsNumberOf}
 use Rattle.sip_verdict.proofs.tables.NamedTables.{no_events_silent, key_named, many_texts, StandsNaming}
 use Rattle.sip_verdict.proofs.sweeps.SweptSets.{swept_leads}
 use Rattle.sip_verdict.proofs.sweeps.SweptTables.{before, within}
@@ -36,7 +37,7 @@ module _ (texts : Texts) (book : IsBook texts) (t u : Tabled) (moment : ℕ) (ad
   low : (n : ℕ) (old : AnySet) → slice_get t.sets n ≡ Some old → moment_of old ≤ moment
   low n old was = All-place (λ set. moment_of set ≤ moment) t.sets n old was may.order
 
-  -- the sets lead to the same runs
+  -- a set that has waited leads to the same runs beside the book with the kept messages alone
   leads : (n : ℕ) (old new : AnySet) → slice_get t.sets n ≡ Some old → slice_get u.sets n ≡ Some new → (key : KeyParts) (events : List MachineEvent)
       → LeadsOf texts p (machine_of_key p.rules key) events (newest_moment es) old → LeadsOf (only numbers texts) p (machine_of_key p.rules key) events (newest_moment es) new
   leads n old new was is key events h =
@@ -47,6 +48,7 @@ module _ (texts : Texts) (book : IsBook texts) (t u : Tabled) (moment : ℕ) (ad
   follows n old new was is key true (h, unsound) = (leads n old new was is key [] h, unsound)
   follows n old new was is key false (h, sound) = (leads n old new was is key (events_for key es) h, sound)
 
+  -- after the sweep the tables follow the same entries
   pub swept_survey : TablesSurvey (only numbers texts) es u deaf
   swept_survey = record {
     order = tracks.order;
@@ -57,14 +59,14 @@ module _ (texts : Texts) (book : IsBook texts) (t u : Tabled) (moment : ℕ) (ad
         (follows n old new was here key d (tracks.each n key old d (ap (λ ks. slice_get ks n) (sym advances.keys) ∙ at) was is));
   }
 
-  -- what a set names is named by the runs to which it leads
+  -- a set that has waited names just the messages that states name in which the runs stand
   names : (n : ℕ) (old new : AnySet) → slice_get t.sets n ≡ Some old → slice_get u.sets n ≡ Some new → (key : KeyParts) (events : List MachineEvent)
       → LeadsOf texts p (machine_of_key p.rules key) events (newest_moment es) old → (text : List ℕ)
       → StandsNaming p (machine_of_key p.rules key) events moment text ↔ IsNumberOf texts (numbers_of new) text
   names n old new was is key events h text =
       key_named texts book p moment (machine_of_key p.rules key) events (newest_moment es) old new h (omega (arith, newest)) (low n old was) text (advances.each n old new was is)
 
-  -- of each key
+  -- each key has its old set, its new set and its flag, and the old set follows the entries
   at_key : (n : ℕ) (key : KeyParts) → slice_get t.keys n ≡ Some key → (old : AnySet) × (new : AnySet) × (d : Bool) × (slice_get t.sets n ≡ Some old) × (slice_get u.sets n ≡ Some new) × IsFollowed texts p es key old d
   at_key n key at =
       let inside = slice_get_within t.keys n key at in
@@ -76,6 +78,7 @@ module _ (texts : Texts) (book : IsBook texts) (t u : Tabled) (moment : ℕ) (ad
   into : (n : ℕ) (new : AnySet) → slice_get u.sets n ≡ Some new → (text : List ℕ) → IsNumberOf texts (numbers_of new) text → IsNumberOf texts (flat_map numbers_of u.sets) text
   into n new is text (number, has, text_is) = (number, Contains-flat_map numbers_of u.sets new number (n, slice_get_within u.sets n new is, get_or_from_slice_get u.sets n new new is) has, text_is)
 
+  -- a message that a transaction in no trouble names is under a number that some set names
   from_sound : (h : (text : List ℕ) × IsStillNamed p es text) (b : Bool) → list_any (same_key h.1.key) (keys_in es) ≡ b → IsNumberOf texts (flat_map numbers_of u.sets) h.0
   from_sound (text, h) false none =
       absurd (no_events_silent p moment (machine_of_key p.rules h.key) (events_for h.key es) text (new_key h.key es none)
@@ -93,6 +96,7 @@ module _ (texts : Texts) (book : IsBook texts) (t u : Tabled) (moment : ℕ) (ad
           ((names n old new was there h.key (events_for h.key es) leads_it text).0
           (h.state, subst (λ m. Stands (transaction_of (machine_of_key p.rules h.key)).figure p (events_for h.key es) m h.state) newest h.stands, h.names))
 
+  -- a message under a number that some set names is named by a transaction in no trouble
   from_number : (text : List ℕ) → IsNumberOf texts (flat_map numbers_of u.sets) text → IsStillNamed p es text
   from_number text (number, has, text_is) =
       let (new, (n, inside, is), in_set) = Contains-from_flat_map numbers_of u.sets number has in

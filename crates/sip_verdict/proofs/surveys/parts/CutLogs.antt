@@ -8,51 +8,49 @@ use Rattle.sip_standard.specs.Times.{Times}
 use Rattle.sip_standard.specs.LogEntry.{Item}
 use Rattle.sip_standard.specs.declared.action.Action.{Action}
 use Rattle.sip_standard.specs.declared.action.Action.TheVariants.{Sent, Received, Failed, Mark, Restart}
-use Rattle.sip_standard.specs.declared.role.Direction.{Direction}
 use Rattle.sip_standard.specs.declared.role.Direction.TheVariants as way
-use Rattle.sip_standard.specs.Observation.{Observation, direction_of, silent_observation, ObservesMessage, has_fault, has_no_cookie, is_heard}
+use Rattle.sip_standard.specs.Observation.{Observation, direction_of, silent_observation, ObservesMessage}
 use Rattle.sip_standard.specs.Seen.{AreSeen}
 use Rattle.sip_standard.specs.VerdictOf.{keys_in, Sees}
 use Rattle.sip_verdict.specs.SurveyLaws.{IsCutOf, StaysOrIsMark, IsCutLog, Keeps}
 use Rattle.sip_verdict.proofs.surveys.parts.Cutting.{keys_cut, zip_push, same_trouble}
+use Rattle.sip_verdict.proofs.sweeps.FollowedLemmas.{heard_moment}
 
--- what is seen of an item with which this was done
+-- what is seen, after these entries, of an item whose action is a
 abbrev pub SeenAs : List (Observation KeyParts) → Item → Observation KeyParts → Action → Type 0
 SeenAs es item e a = MatchOption (direction_of a) (e ≡ silent_observation a item.moment (keys_in es)) (λ direction. ObservesMessage direction item e)
 
-observes_moment : (direction : Direction) (item : Item) (e : Observation KeyParts) → ObservesMessage direction item e → e.event.moment ≡ item.moment
-observes_moment direction item e (has_fault fault says is) = ap (λ f. f.event.moment) is
-observes_moment direction item e (has_no_cookie s says lacks is) = ap (λ f. f.event.moment) is
-observes_moment direction item e (is_heard s keys says has concerns is) = ap (λ f. f.event.moment) is
-
 -- an item is seen at its own moment
 pub seen_moment : (es : List (Observation KeyParts)) (item : Item) (e : Observation KeyParts) (a : Action) → SeenAs es item e a → e.event.moment ≡ item.moment
-seen_moment es item e Sent sees = observes_moment way.Sent item e sees
-seen_moment es item e Received sees = observes_moment way.Received item e sees
-seen_moment es item e Failed sees = observes_moment way.Sent item e sees
+seen_moment es item e Sent sees = heard_moment way.Sent item e sees
+seen_moment es item e Received sees = heard_moment way.Received item e sees
+seen_moment es item e Failed sees = heard_moment way.Sent item e sees
 seen_moment es item e Mark sees = ap (λ f. f.event.moment) sees
 seen_moment es item e Restart sees = ap (λ f. f.event.moment) sees
 
 module _ (chosen : KeyParts → Bool) where
+  -- where all keys are chosen, the chosen ones are all
   filter_all : (keys : List KeyParts) → All (λ key. chosen key ≡ true) keys → filter chosen keys ≡ keys
   filter_all [] all = refl
   filter_all (k ∷ keys) all =
       ap (λ b. cond b (k ∷ filter chosen keys) (filter chosen keys)) (All-head (λ key. chosen key ≡ true) k keys all)
       ∙ ap (λ ks. k ∷ ks) (filter_all keys (All-tail (λ key. chosen key ≡ true) k keys all))
 
+  -- where no key is chosen, the chosen ones are none
   filter_none : (keys : List KeyParts) → All (λ key. chosen key ≡ false) keys → filter chosen keys ≡ []
   filter_none [] all = refl
   filter_none (k ∷ keys) all =
       ap (λ b. cond b (k ∷ filter chosen keys) (filter chosen keys)) (All-head (λ key. chosen key ≡ false) k keys all)
       ∙ filter_none keys (All-tail (λ key. chosen key ≡ false) k keys all)
 
-  -- an entry that stays, as it is seen after the cut entries
+  -- an item that stays is seen after the cut entries as an entry that stands for e
   abbrev Cut : List (Observation KeyParts) → Item → Observation KeyParts → Action → Type 0
   Cut back item e a = (c : Observation KeyParts) × SeenAs back item c a × IsCutOf chosen e c
 
   heard_stays : (back : List (Observation KeyParts)) (item : Item) (e : Observation KeyParts) → All (λ key. chosen key ≡ true) e.keys → IsCutOf chosen e e
   heard_stays back item e all = (refl, sym (filter_all e.keys all), λ some. refl)
 
+  -- an item that stays, being a restart or having chosen keys alone, is seen after the cut entries as an entry that stands for e
   stays : (done back : List (Observation KeyParts)) → AllZip (IsCutOf chosen) done back → (item : Item) (e : Observation KeyParts) (a : Action) → SeenAs done item e a
       → (a ≡ Restart) ⊎ All (λ key. chosen key ≡ true) e.keys → Cut back item e a
   stays done back zip item e Sent sees (inl other) = absurd (cc)
@@ -65,6 +63,7 @@ module _ (chosen : KeyParts → Bool) where
   stays done back zip item e Restart sees either =
       (silent_observation Restart item.moment (keys_in back), refl, (sym (ap (λ f. f.event.moment) sees), keys_cut chosen done back zip ∙ sym (ap (λ f. filter chosen f.keys) sees), λ some. sym (ap (λ f. f.event) sees)))
 
+  -- an item of the cut log is seen after the cut entries as an entry that stands for e
   one_cut : (done back : List (Observation KeyParts)) → AllZip (IsCutOf chosen) done back → (item : Item) (e : Observation KeyParts) (cut : Item) → Sees done item e → StaysOrIsMark chosen item e cut
       → (c : Observation KeyParts) × Sees back cut c × IsCutOf chosen e c
   one_cut done back zip item e cut sees (inl (is, either)) =
@@ -73,7 +72,7 @@ module _ (chosen : KeyParts → Bool) where
       let c : Observation KeyParts = silent_observation Mark item.moment [] in
       (c, subst (λ i. Sees back i c) (sym is) refl, (sym (seen_moment done item e item.action sees), sym (filter_none e.keys none), λ some. absurd (some refl)))
 
-  -- what is seen of the cut log
+  -- the items of the cut log are seen as entries that stand for those of the whole log
   pub log_cut : (done back : List (Observation KeyParts)) → AllZip (IsCutOf chosen) done back → (items : List Item) (es : List (Observation KeyParts)) (cuts : List Item) → AreSeen done items es
       → IsCutLog chosen items es cuts → (cs : List (Observation KeyParts)) × AreSeen back cuts cs × AllZip (IsCutOf chosen) es cs
   log_cut done back zip [] [] [] seen cut = ([], tt, tt)
@@ -86,7 +85,7 @@ module _ (chosen : KeyParts → Bool) where
       let more = log_cut (done ++ e ∷ []) (back ++ one.0 ∷ []) (zip_push chosen done back e one.0 zip one.2) items es cuts seen cut in
       (one.0 ∷ more.0, (one.1, more.1), (one.2, more.2))
 
-  -- a log that is cut keeps each of the chosen transactions
+  -- a log that is cut keeps each of the chosen transactions, with its trouble
   pub cut_keeps : (p : Times) (items : List Item) (es : List (Observation KeyParts)) (cuts : List Item) → AreSeen [] items es → IsCutLog chosen items es cuts → Keeps p chosen es cuts
   cut_keeps p items es cuts seen cut =
       let all = log_cut [] [] tt items es cuts seen cut in

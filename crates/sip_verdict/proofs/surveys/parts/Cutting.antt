@@ -1,4 +1,4 @@
--- In the log of some keys each of them has the trouble that it has in the whole log.
+-- In the log of some keys each chosen key has the trouble that it has in the whole log.
 use Rattle.std.proofs.Common.{◌≡◌, ◌≢◌, ◌↔◌, ℕ, Bool, true, false, cond, ◌||◌, List, [], ◌∷◌, ◌++◌, All, length, map, refl, sym, ap, ap₂, ◌∙◌, subst, arith}
 use Rattle.std.specs.Prelude.{filter, fold, flat_map}
 use Rattle.std.specs.List.{list_any, AllZip}
@@ -31,11 +31,11 @@ module _ (chosen : KeyParts → Bool) where
       go false e false same rest =
           ap (λ b. list_any (same_key key) (cond b (k ∷ filter chosen keys) (filter chosen keys))) e ∙ rest ∙ ap (λ b. b || list_any (same_key key) keys) (sym same)
 
-  -- what that says, where it is known whether the key is chosen, and whether it is new
+  -- how the chosen keys grow by k, where b says whether k is chosen and t whether it is already among the keys
   abbrev OneMore : List KeyParts → KeyParts → Bool → Bool → Type 0
   OneMore keys k b t = filter chosen (cond t keys (keys ++ k ∷ [])) ≡ fold with_key (filter chosen keys) (cond b (k ∷ []) [])
 
-  -- the chosen ones of keys with one more
+  -- the chosen ones of the keys with k are the chosen keys with k, if k is chosen
   filter_with_key : (keys : List KeyParts) (k : KeyParts) → filter chosen (with_key keys k) ≡ fold with_key (filter chosen keys) (filter chosen (k ∷ []))
   filter_with_key keys k = go (chosen k) refl (list_any (same_key k) keys) refl
     where
@@ -54,7 +54,7 @@ module _ (chosen : KeyParts → Bool) where
       go : (b : Bool) → chosen k ≡ b → (t : Bool) → list_any (same_key k) keys ≡ t → OneMore keys k (chosen k) (list_any (same_key k) keys)
       go b e t f = subst (λ c. OneMore keys k c (list_any (same_key k) keys)) (sym e) (subst (λ c. OneMore keys k b c) (sym f) (by b t e f))
 
-  -- the chosen ones of several more
+  -- the chosen ones of keys with more keys added are the chosen keys with the chosen ones of the others added
   pub filter_keys : (keys more : List KeyParts) → fold with_key (filter chosen keys) (filter chosen more) ≡ filter chosen (fold with_key keys more)
   filter_keys keys [] = refl
   filter_keys keys (k ∷ more) =
@@ -67,24 +67,25 @@ module _ (chosen : KeyParts → Bool) where
       by false e = ap (λ b. fold with_key (filter chosen keys) (cond b (k ∷ filter chosen more) (filter chosen more))) e
           ∙ sym (ap (λ b. fold with_key (fold with_key (filter chosen keys) (cond b (k ∷ []) [])) (filter chosen more)) e)
 
+  -- the keys of the cut entries, one after another, are the chosen ones of the whole log's
   all_keys : (es cs : List (Observation KeyParts)) → AllZip (IsCutOf chosen) es cs → flat_map (λ c. c.keys) cs ≡ filter chosen (flat_map (λ e. e.keys) es)
   all_keys [] [] zip = refl
   all_keys [] (c ∷ cs) zip = absurd zip
   all_keys (e ∷ es) [] zip = absurd zip
   all_keys (e ∷ es) (c ∷ cs) (here, rest) = ap₂ (λ a b. a ++ b) here.1 (all_keys es cs rest) ∙ sym (filter-append chosen e.keys (flat_map (λ f. f.keys) es))
 
-  -- the keys of the cut log are the chosen ones of the log's
+  -- the keys of the cut log are the chosen keys of the whole log
   pub keys_cut : (es cs : List (Observation KeyParts)) → AllZip (IsCutOf chosen) es cs → keys_in cs ≡ filter chosen (keys_in es)
   keys_cut es cs zip = ap (fold with_key []) (all_keys es cs zip) ∙ filter_keys [] (flat_map (λ e. e.keys) es)
 
-  -- one entry more
+  -- entries that stand for entries do so with one entry more on both sides
   pub zip_push : (es cs : List (Observation KeyParts)) (e c : Observation KeyParts) → AllZip (IsCutOf chosen) es cs → IsCutOf chosen e c → AllZip (IsCutOf chosen) (es ++ e ∷ []) (cs ++ c ∷ [])
   zip_push [] [] e c zip here = (here, tt)
   zip_push [] (d ∷ cs) e c zip here = absurd zip
   zip_push (f ∷ es) [] e c zip here = absurd zip
   zip_push (f ∷ es) (d ∷ cs) e c zip here = (zip.0, zip_push es cs e c zip.1 here)
 
-  -- the newest moments are the same
+  -- the newest moment of the cut log is that of the whole log
   pub newest_cut : (last : ℕ) (es cs : List (Observation KeyParts)) → AllZip (IsCutOf chosen) es cs → fold (λ moment e. e.event.moment) last cs ≡ fold (λ moment e. e.event.moment) last es
   newest_cut last [] [] zip = refl
   newest_cut last [] (c ∷ cs) zip = absurd zip
@@ -99,11 +100,11 @@ module _ (chosen : KeyParts → Bool) where
     not_nil : (keys : List KeyParts) → list_any (same_key key) keys ≡ true → keys ≢ []
     not_nil keys any none = false≢true (sym (ap (list_any (same_key key)) none) ∙ any)
 
-    -- the events with one entry before them, where it is known whether it concerns the key
+    -- the key's events of f and the entries after it, where b says whether f concerns the key
     abbrev events_with : Bool → Observation KeyParts → List (Observation KeyParts) → List MachineEvent
     events_with b f fs = map (λ g. g.event) (cond b (f ∷ filter (concerns key) fs) (filter (concerns key) fs))
 
-    -- an entry that concerns the key has its event
+    -- an entry of the cut log that concerns the key has the event of the entry for which it stands
     event_cut : (e c : Observation KeyParts) → IsCutOf chosen e c → concerns key c ≡ true → c.event ≡ e.event
     event_cut e c cut any = cut.2 (not_nil c.keys any)
 
@@ -122,6 +123,7 @@ module _ (chosen : KeyParts → Bool) where
         go b any same = ap (λ t. events_with t c cs) any ∙ by b any same ∙ ap (λ t. events_with t e es) (sym any ∙ concerns_cut e c here)
 
     module _ (p : Times) where
+      -- a chosen key has a run over the entries of the whole log exactly if it has one over those of the cut log
       pub runs_cut : (es cs : List (Observation KeyParts)) → AllZip (IsCutOf chosen) es cs → RunsOver p es key ↔ RunsOver p cs key
       runs_cut es cs zip =
           let f = (transaction_of (machine_of_key p.rules key)).figure in (
@@ -129,6 +131,7 @@ module _ (chosen : KeyParts → Bool) where
             λ runs. (runs.0, subst (λ m. Stands f p (events_for key es) m runs.0) (newest_cut 0 es cs zip) (subst (λ events. Stands f p events (newest_moment cs) runs.0) (events_cut es cs zip) runs.1)),
           )
 
+      -- a chosen key is too wide at an entry exactly if it is too wide at the one that stands for it in the cut log
       pub wide_cut : (es cs : List (Observation KeyParts)) (e c : Observation KeyParts) → AllZip (IsCutOf chosen) es cs → IsCutOf chosen e c → IsWideAt p es e key ↔ IsWideAt p cs c key
       wide_cut es cs e c zip here =
           let f = (transaction_of (machine_of_key p.rules key)).figure in
@@ -153,7 +156,7 @@ module _ (chosen : KeyParts → Bool) where
             ),
           )
 
-      -- a split of one log is one of the other
+      -- where the cut log is split at an entry, the whole log is split at the entry for which it stands
       pub split_left : (es front : List (Observation KeyParts)) (c : Observation KeyParts) (rest : List (Observation KeyParts)) → AllZip (IsCutOf chosen) es (front ++ c ∷ rest)
           → (back : List (Observation KeyParts)) × (e : Observation KeyParts) × (more : List (Observation KeyParts)) × (es ≡ back ++ e ∷ more) × AllZip (IsCutOf chosen) back front × IsCutOf chosen e c
       split_left [] [] c rest zip = absurd zip
@@ -163,6 +166,7 @@ module _ (chosen : KeyParts → Bool) where
           let found = split_left es front c rest zip.1 in
           (e ∷ found.0, found.1, found.2, ap (λ xs. e ∷ xs) found.3, (zip.0, found.4), found.5)
 
+      -- where the whole log is split at an entry, the cut log is split at the one that stands for it
       pub split_right : (front cs : List (Observation KeyParts)) (e : Observation KeyParts) (rest : List (Observation KeyParts)) → AllZip (IsCutOf chosen) (front ++ e ∷ rest) cs
           → (back : List (Observation KeyParts)) × (c : Observation KeyParts) × (more : List (Observation KeyParts)) × (cs ≡ back ++ c ∷ more) × AllZip (IsCutOf chosen) front back × IsCutOf chosen e c
       split_right [] [] e rest zip = absurd zip
@@ -172,6 +176,7 @@ module _ (chosen : KeyParts → Bool) where
           let found = split_right front cs e rest zip.1 in
           (c ∷ found.0, found.1, found.2, ap (λ xs. c ∷ xs) found.3, (zip.0, found.4), found.5)
 
+      -- a chosen key is in no trouble over the entries of the whole log exactly if it is in none over those of the cut log
       pub sound_cut : (es cs : List (Observation KeyParts)) → AllZip (IsCutOf chosen) es cs → IsSound p es key ↔ IsSound p cs key
       sound_cut es cs zip = (
         λ sound. (
@@ -188,7 +193,7 @@ module _ (chosen : KeyParts → Bool) where
         ),
       )
 
-      -- splits at the same place
+      -- where both logs are split at the same place, the entries before it stand for one another, and so do the two at it
       split_same : (front back : List (Observation KeyParts)) (e c : Observation KeyParts) (rest others : List (Observation KeyParts)) → AllZip (IsCutOf chosen) (front ++ e ∷ rest) (back ++ c ∷ others)
           → length front ≡ length back → AllZip (IsCutOf chosen) front back × IsCutOf chosen e c
       split_same [] [] e c rest others zip long = (tt, zip.0)
@@ -208,6 +213,7 @@ module _ (chosen : KeyParts → Bool) where
             (λ widens. (sound.0 widens.0, wide.0 widens.1), λ widens. (sound.1 widens.0, wide.1 widens.1)),
           )
 
+      -- a chosen key has the same trouble at entries of the same number in both logs
       pub same_trouble : (es cs : List (Observation KeyParts)) → AllZip (IsCutOf chosen) es cs → HasSameTrouble p es cs key
       same_trouble es cs zip front back e c rest others split other long =
           let both = split_same front back e c rest others (subst (λ xs. AllZip (IsCutOf chosen) xs (back ++ c ∷ others)) split (subst (AllZip (IsCutOf chosen) es) other zip)) long in

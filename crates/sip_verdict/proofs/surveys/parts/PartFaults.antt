@@ -1,5 +1,5 @@
 -- A fault is found in the log of some transactions exactly where it is found in the whole and its message stays.
-use Rattle.std.proofs.Common.{◌≡◌, ◌↔◌, ◌<◌, ◌+◌, inl, inr, ℕ, zero, suc, Bool, Some, None, List, [], ◌∷◌, ◌++◌, Contains, length, refl, sym, ap, ◌∙◌, subst, arith, append_assoc, append-nil, MatchOption, length-append}
+use Rattle.std.proofs.Common.{◌≡◌, ◌↔◌, ◌<◌, ◌+◌, inl, inr, ℕ, zero, suc, Bool, Some, None, List, [], ◌∷◌, ◌++◌, Contains, length, refl, sym, ap, ◌∙◌, subst, arith, append_assoc, append-nil, length-append}
 use Rattle.sip_standard.specs.declared.fault.Fault.{Fault}
 use Rattle.sip_standard.specs.Key.{KeyParts}
 use Rattle.sip_standard.specs.declared.action.Action.{Action}
@@ -10,17 +10,17 @@ use Rattle.sip_standard.specs.LogSays.{LogEnd}
 use Rattle.sip_verdict.specs.declared.finding.Finding.{Finding}
 use Rattle.sip_verdict.specs.declared.finding.Finding.TheVariants.{Malformed}
 use Rattle.sip_verdict.specs.declared.survey_end.SurveyEnd.{SurveyEnd}
-use Rattle.sip_standard.specs.Observation.{Observation, direction_of, silent_observation, ObservesMessage}
+use Rattle.sip_standard.specs.Observation.{Observation}
 use Rattle.sip_standard.specs.Seen.{AreSeen}
-use Rattle.sip_standard.specs.VerdictOf.{keys_in, Sees}
+use Rattle.sip_standard.specs.VerdictOf.{Sees}
 use Rattle.sip_verdict.specs.SurveyOf.{IsFoundAt, IsSurveyAfter}
 use Rattle.sip_verdict.specs.SurveyLaws.{StaysOrIsMark, IsCutLog, StaysAt}
 use Rattle.sip_verdict.proofs.verdicts.MessageUnique.{observes_one}
-use Rattle.sip_verdict.proofs.surveys.parts.CutLogs.{log_cut}
+use Rattle.sip_verdict.proofs.surveys.parts.CutLogs.{SeenAs, log_cut}
 use Rattle.sip_verdict.proofs.surveys.found.Named.{found_at, found_is}
 use Rattle.sip_verdict.proofs.surveys.parts.Parts.{same_split}
 
--- an entry of a log and that which stands for it, with what is seen of both
+-- the entry with the number n of a log and the one that stands for it in the cut log, with what is seen of both
 record At (chosen : KeyParts → Bool) (done back : List (Observation KeyParts)) (items cuts : List Item) (es cs : List (Observation KeyParts)) (n : ℕ) : Type 0 where
   pub front : List Item
   pub item : Item
@@ -46,7 +46,7 @@ record At (chosen : KeyParts → Bool) (done back : List (Observation KeyParts))
   pub sees : Sees (done ++ so_far) item e
   pub saw : Sees (back ++ cut_so_far) cut c
 
--- there is one at each place
+-- at each place of a log that is cut there is an entry and one that stands for it
 at_place : (chosen : KeyParts → Bool) (done back : List (Observation KeyParts)) (items cuts : List Item) (es cs : List (Observation KeyParts)) → AreSeen done items es
     → AreSeen back cuts cs → IsCutLog chosen items es cuts → (n : ℕ) → n < length es → At chosen done back items cuts es cs n
 at_place chosen done back items cuts [] cs seen saw cut n low = absurd (omega (arith, low))
@@ -107,7 +107,7 @@ at_place chosen done back (item ∷ items) (i ∷ cuts) (e ∷ es) (c ∷ cs) se
       saw = subst (λ xs. Sees xs at.cut at.c) (append_assoc back (c ∷ []) at.cut_so_far) at.saw;
     }
 
--- a log that is cut has as many entries
+-- a log that is cut has as many entries as the whole log
 cut_long : (chosen : KeyParts → Bool) (done back : List (Observation KeyParts)) (items cuts : List Item) (es cs : List (Observation KeyParts)) → AreSeen done items es
     → AreSeen back cuts cs → IsCutLog chosen items es cuts → length cs ≡ length es
 cut_long chosen done back [] [] [] [] seen saw cut = refl
@@ -119,15 +119,11 @@ cut_long chosen done back (item ∷ items) [] (e ∷ es) cs seen saw cut = absur
 cut_long chosen done back (item ∷ items) (i ∷ cuts) (e ∷ es) [] seen saw cut = absurd saw
 cut_long chosen done back (item ∷ items) (i ∷ cuts) (e ∷ es) (c ∷ cs) seen saw cut = let rest = cut_long chosen (done ++ e ∷ []) (back ++ c ∷ []) items cuts es cs seen.1 saw.1 cut.1 in omega (arith, rest)
 
--- what is seen of an item with which this was done
-abbrev SeenAs : List (Observation KeyParts) → Item → Observation KeyParts → Action → Type 0
-SeenAs es item e a = MatchOption (direction_of a) (e ≡ silent_observation a item.moment (keys_in es)) (λ direction. ObservesMessage direction item e)
-
--- an item has one fault, whatever stands before it
+-- an item is seen with the same fault after any entries
 same_fault : (xs ys : List (Observation KeyParts)) (item : Item) (e c : Observation KeyParts) → Sees xs item e → Sees ys item c → e.fault ≡ c.fault
 same_fault xs ys item e c sees saw = by item.action refl sees saw
   where
-    -- an entry with a message is seen alike after any entries
+    -- an item with a message is seen alike after any entries, and a mark and a restart have no fault
     message : (a : Action) → item.action ≡ a → SeenAs xs item c a → e.fault ≡ c.fault
     message a is seen = ap (λ f. f.fault) (observes_one xs item e c sees (subst (SeenAs xs item c) (sym is) seen))
 
@@ -142,7 +138,7 @@ same_fault xs ys item e c sees saw = by item.action refl sees saw
 mark_whole : (ys : List (Observation KeyParts)) (item : Item) (c : Observation KeyParts) → Sees ys (record { action = Mark; moment = item.moment; text = [] }) c → c.fault ≡ None
 mark_whole ys item c saw = ap (λ f. f.fault) saw
 
--- what is found of the whole, and of the part
+-- a fault is found in the part exactly if it is found in the whole and its message stays
 faults_of : (p : Times) (chosen : KeyParts → Bool) (items cuts : List Item) (es cs : List (Observation KeyParts)) (close shut : LogEnd) (found part : List Finding) (end fin : SurveyEnd)
     → AreSeen [] items es → AreSeen [] cuts cs → IsCutLog chosen items es cuts → IsSurveyAfter p [] items close found end → IsSurveyAfter p [] cuts shut part fin
     → (n : ℕ) (fault : Fault) → Contains part (Malformed n fault) ↔ (Contains found (Malformed n fault) × StaysAt items cuts n)

@@ -1,4 +1,4 @@
--- The log of a part is that of the branches that fall into it.
+-- The log of a part is the log that is cut by the branches that fall into the part.
 use Rattle.std.proofs.Common.{◌≡◌, ◌∙◌, inl, inr, ℕ, Bool, true, false, Option, Some, None, MatchOption, List, [], ◌∷◌, ◌++◌, All, if◌then◌else◌, refl, sym, ap, subst}
 use Rattle.std.specs.Prelude.{codes, bytes_eq, take}
 use Rattle.std.proofs.lemmas.List.Elements.{All-nil, All-weaker}
@@ -11,15 +11,16 @@ use Rattle.sip_standard.specs.declared.action.Action.TheVariants.{Sent, Received
 use Rattle.sip_standard.specs.LogEntry.{Item}
 use Rattle.sip_part.specs.Part.{PartOf, TellsBranch, compared, falls_into}
 use Rattle.sip_part.proofs.Told.{told_branch}
-use Rattle.sip_standard.specs.Observation.{Observation, direction_of, silent_observation, ObservesMessage, has_fault, has_no_cookie, is_heard}
+use Rattle.sip_standard.specs.Observation.{Observation, direction_of, ObservesMessage, has_fault, has_no_cookie, is_heard}
 use Rattle.sip_standard.specs.Seen.{AreSeen}
-use Rattle.sip_standard.specs.VerdictOf.{keys_in, Sees}
+use Rattle.sip_standard.specs.VerdictOf.{Sees}
 use Rattle.sip_verdict.specs.SurveyLaws.{StaysOrIsMark, IsCutLog}
 use Rattle.sip_verdict.specs.SurveyParts.{IsPartItem, IsPartLog}
 use Rattle.sip_verdict.proofs.surveys.parts.ByBranch.{of_one_branch}
+use Rattle.sip_verdict.proofs.surveys.parts.CutLogs.{SeenAs}
 use Rattle.sip_verdict.proofs.surveys.parts.Taking.{mark_of}
 
--- a branch with the cookie is as it is compared
+-- a branch with the cookie is compared as it stands
 cookie_compared : (branch : Option (List ℕ)) (text : List ℕ) → cookie_branch branch ≡ Some text → compared branch ≡ text
 cookie_compared None text is = absurd (cc)
 cookie_compared (Some branch) text is = by (bytes_eq (take 7 (compared (Some branch))) (codes "z9hg4bk")) is
@@ -29,15 +30,16 @@ cookie_compared (Some branch) text is = by (bytes_eq (take 7 (compared (Some bra
     by false e = absurd (cc)
 
 module _ (part : PartOf) where
-  -- the keys whose branch falls into the part
+  -- whether the branch of a key falls into the part
   abbrev Chosen : KeyParts → Bool
   Chosen key = falls_into part key.branch
 
-  -- what was made of an item whose keys are all of the part, or none
+  -- an item whose keys are all of the part, or all not, stays or becomes a mark
   kept : (item cut : Item) (e : Observation KeyParts) (falls : Bool) → All (λ key. Chosen key ≡ falls) e.keys → cut ≡ (if falls then item else mark_of item) → StaysOrIsMark Chosen item e cut
   kept item cut e true all is = inl (is, inr all)
   kept item cut e false all is = inr (is, all)
 
+  -- an item with a message, as the log of the part has it, stays or becomes a mark as the branch of its message falls
   message_part : (direction : Direction) (item cut : Item) (e : Observation KeyParts) → ObservesMessage direction item e → (branch : List ℕ) → TellsBranch item.text branch
       → cut ≡ (if falls_into part branch then item else mark_of item) → StaysOrIsMark Chosen item e cut
   message_part direction item cut e (has_fault fault says is) branch tells same =
@@ -50,17 +52,15 @@ module _ (part : PartOf) where
       (λ key of. ap (falls_into part) (sym (told ∙ cookie_compared s.via.branch key.branch of))) keys (of_one_branch s direction keys concerns) in
       kept item cut e (falls_into part branch) (subst (All (λ key. Chosen key ≡ falls_into part branch)) (sym (ap (λ f. f.keys) is)) all) same
 
-  abbrev SeenSo : List (Observation KeyParts) → Item → Observation KeyParts → Action → Type 0
-  SeenSo es item e a = MatchOption (direction_of a) (e ≡ silent_observation a item.moment (keys_in es)) (λ direction. ObservesMessage direction item e)
-
   abbrev CutSo : Item → Item → Action → Type 0
   CutSo item cut a =
       MatchOption (direction_of a) (cut ≡ item) (λ direction. (branch : List ℕ) × TellsBranch item.text branch × (cut ≡ if falls_into part branch then item else mark_of item))
 
+  -- each item, as the log of the part has it, stays or becomes a mark by its keys
   item_part : (done : List (Observation KeyParts)) (item cut : Item) (e : Observation KeyParts) → Sees done item e → IsPartItem part item cut → StaysOrIsMark Chosen item e cut
   item_part done item cut e sees is_cut = by item.action refl sees is_cut
     where
-      by : (a : Action) → item.action ≡ a → SeenSo done item e a → CutSo item cut a → StaysOrIsMark Chosen item e cut
+      by : (a : Action) → item.action ≡ a → SeenAs done item e a → CutSo item cut a → StaysOrIsMark Chosen item e cut
       by Sent is seen (branch, tells, same) = message_part way.Sent item cut e seen branch tells same
       by Received is seen (branch, tells, same) = message_part way.Received item cut e seen branch tells same
       by Failed is seen (branch, tells, same) = message_part way.Sent item cut e seen branch tells same

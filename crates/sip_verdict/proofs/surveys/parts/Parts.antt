@@ -20,7 +20,7 @@ use Rattle.sip_verdict.proofs.surveys.found.Sound.{concerned-among}
 use Rattle.sip_verdict.proofs.surveys.parts.Cutting.{keys_cut, zip_push, split_left, split_right, trouble_cut}
 use Rattle.sip_verdict.proofs.surveys.parts.CutLogs.{log_cut}
 
--- two splits of a list at the same place are one
+-- two splits of a list at the same place are the same split
 pub same_split : {A : Type 0} (xs us ys vs : List A) (x y : A) → xs ++ x ∷ us ≡ ys ++ y ∷ vs → length xs ≡ length ys → (xs ≡ ys) × (x ≡ y)
 same_split {A} xs us ys vs x y is long = by (split_compare xs us ys vs x y is)
   where
@@ -29,7 +29,7 @@ same_split {A} xs us ys vs x y is long = by (split_compare xs us ys vs x y is)
     by (inr (inl h)) = absurd (omega (arith, long, simp length-append at (ap length h.1)))
     by (inr (inr h)) = absurd (omega (arith, long, simp length-append at (ap length h.1)))
 
--- lists whose elements stand for one another are of one length
+-- lists whose elements stand for one another, one by one, have the same length
 zip_long : {A B : Type 0} (R : A → B → Type 0) (xs : List A) (ys : List B) → AllZip R xs ys → length xs ≡ length ys
 zip_long R [] [] zip = refl
 zip_long R [] (y ∷ ys) zip = absurd zip
@@ -44,7 +44,7 @@ module _ (p : Times) (kind : ℕ → ℕ → Finding) (P : List (Observation Key
   abbrev Holds : List (Observation KeyParts) → KeyParts → ℕ → Type 0
   Holds es key n = (front : List (Observation KeyParts)) × (e : Observation KeyParts) × (more : List (Observation KeyParts)) × (es ≡ front ++ e ∷ more) × (n ≡ length front + 1) × P front e key
 
-  -- where the survey says so, it does
+  -- where the survey names the key at an entry, P holds of the key there
   named_holds : (items : List Item) (close : LogEnd) (es : List (Observation KeyParts)) (found : List Finding) (end : SurveyEnd) → AreSeen [] items es → IsSurveyAfter p [] items close found end →
       (key : KeyParts) (n : ℕ) → Names kind keys_in es found key n → Holds es key n
   named_holds items close es found end seen survey key n (front, e, more, t, is, entry, (before, k, rest, are, named, number), has) =
@@ -55,7 +55,7 @@ module _ (p : Times) (kind : ℕ → ℕ → Finding) (P : List (Observation Key
       subst (λ fs. HoldsOf (P fs e) (keys_in (fs ++ e ∷ [])) t) (sym same.0) (subst (λ d. HoldsOf (P back d) (keys_in (back ++ d ∷ [])) t) (sym same.1) both.1) in
       (front, e, more, is, entry, subst (P front e) named (same_place (P front e) (keys_in (front ++ e ∷ [])) before k rest t are mine number))
 
-  -- where a key has trouble, the survey names it
+  -- where P holds of the key at an entry, the survey names the key there
   holds_named : (items : List Item) (close : LogEnd) (es : List (Observation KeyParts)) (found : List Finding) (end : SurveyEnd) → AreSeen [] items es → IsSurveyAfter p [] items close found end →
       (key : KeyParts) (n : ℕ) → Holds es key n → Names kind keys_in es found key n
   holds_named items close es found end seen survey key n (front, e, more, is, entry, holds) =
@@ -64,7 +64,7 @@ module _ (p : Times) (kind : ℕ → ℕ → Finding) (P : List (Observation Key
 
   module _ (chosen : KeyParts → Bool) (key : KeyParts) (is_chosen : chosen key ≡ true)
       (same : (front back : List (Observation KeyParts)) (e c : Observation KeyParts) → AllZip (IsCutOf chosen) front back → IsCutOf chosen e c → P front e key ↔ P back c key) where
-    -- it holds at the same entries of the log of some transactions
+    -- P holds of a chosen key at the same entries of the whole log and of the cut log
     holds_cut : (es cs : List (Observation KeyParts)) (n : ℕ) → AllZip (IsCutOf chosen) es cs → Holds es key n ↔ Holds cs key n
     holds_cut es cs n zip = (
       λ holds.
@@ -77,7 +77,7 @@ module _ (p : Times) (kind : ℕ → ℕ → Finding) (P : List (Observation Key
           (front, e, rest, split, entry ∙ ap (λ n. n + 1) (sym (zip_long (IsCutOf chosen) front back zipped)), (same front back e c zipped here).1 at),
     )
 
-    -- the number of a key in the cut log is that among the chosen ones
+    -- the number of a chosen key in the cut log is its number among the chosen keys of the whole log
     named_among : (es cs : List (Observation KeyParts)) (part : List Finding) (n : ℕ) → AllZip (IsCutOf chosen) es cs → Names kind keys_in cs part key n ↔ Names kind (chosen_in chosen) es part key n
     named_among es cs part n zip = (
       λ names.
@@ -92,7 +92,7 @@ module _ (p : Times) (kind : ℕ → ℕ → Finding) (P : List (Observation Key
           (back, c, rest, t, split, entry ∙ ap (λ n. n + 1) (zip_long (IsCutOf chosen) front back zipped), subst (λ ks. HoldsOf (λ k. k ≡ key) ks t) (sym keys) named, has),
     )
 
-    -- both surveys name the key at the same entry
+    -- the surveys of the whole log and of the cut log name a chosen key at the same entries
     named_cut : (items cuts : List Item) (es cs : List (Observation KeyParts)) (close shut : LogEnd) (found part : List Finding) (end fin : SurveyEnd) → AreSeen [] items es → AreSeen [] cuts cs
         → AllZip (IsCutOf chosen) es cs → IsSurveyAfter p [] items close found end → IsSurveyAfter p [] cuts shut part fin → (n : ℕ) → Names kind keys_in es found key n ↔ Names kind (chosen_in chosen) es part key n
     named_cut items cuts es cs close shut found part end fin seen saw zip whole some n =

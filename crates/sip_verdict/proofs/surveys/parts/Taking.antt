@@ -8,11 +8,11 @@ use Rattle.sip_part.specs.Part.{PartOf, TellsBranch, falls_into}
 use Rattle.sip_standard.specs.Observation.{direction_of}
 use Rattle.sip_verdict.specs.SurveyParts.{IsPartItem}
 
--- a mark of its moment
+-- the item as a mark of its moment
 abbrev pub mark_of : Item → Item
 mark_of i = record { action = Mark; moment = i.moment; text = [] }
 
--- one with a message is itself if this falls into the part, and else a mark
+-- an item with a message is, in the log of a part, itself if its branch falls into the part, and else a mark
 pub part_item : (part : PartOf) (i cut : Item) (falls : Bool) → is_none (direction_of i.action) ≡ false → (branch : List ℕ) × TellsBranch i.text branch × (falls ≡ falls_into part branch)
     → cut ≡ (if falls then i else mark_of i) → IsPartItem part i cut
 part_item part i cut falls goes (branch, tells, same) is = by (direction_of i.action) goes

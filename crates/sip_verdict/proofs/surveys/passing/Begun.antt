@@ -1,10 +1,11 @@
--- The transactions of a survey before an entry.
+-- What is known of the transactions of a survey before they pass an entry.
 use Rattle.std.proofs.Common.{◌≡◌, ◌≢◌, ◌≤◌, ◌<◌, ◌+◌, ◌-◌, ◌⊎◌, inl, inr, ℕ, zero, suc, Bool, true, false, Some, List, [], ◌∷◌, ◌++◌, All, Contains, length, slice_get, length-append, refl, sym, ap, ◌∙◌, subst, arith}
 use Rattle.std.specs.Prelude.{fold}
 use Rattle.std.specs.List.{list_any}
 use Rattle.std.proofs.lemmas.Option.{slice_get_within, get_or_from_slice_get}
 use Rattle.std.proofs.lemmas.List.{append-nil}
 use Rattle.std.proofs.lemmas.List.Elements.{Contains-append_left}
+use Rattle.std.proofs.lemmas.Bool.{cond-true, cond-false}
 use Rattle.sip_standard.specs.Key.{KeyParts, same_key}
 use Rattle.sip_machine.specs.Texts.{Texts}
 use Rattle.sip_standard.specs.KeyMachine.{machine_of_key}
@@ -12,6 +13,7 @@ use Rattle.sip_states.specs.AnySet.{start_of}
 use Rattle.sip_states.specs.Tables.{Tabled, Touches}
 use Rattle.sip_states.specs.declared.any_set.AnySet.{AnySet}
 use Rattle.sip_states.proofs.lists.Listed.{Contains-none}
+use Rattle.sip_states.proofs.lists.Places.{push_place}
 use Rattle.sip_verdict.specs.declared.troubled.Troubled.{Troubled}
 use Rattle.sip_standard.specs.Observation.{Observation}
 use Rattle.sip_standard.specs.VerdictOf.{keys_in, events_for}
@@ -19,14 +21,14 @@ use Rattle.sip_verdict.specs.Entries.{newest_moment}
 use Rattle.sip_verdict.specs.inner.Keyed.{with_key}
 use Rattle.sip_verdict.specs.inner.TablesTracking.{LeadsOf, TouchesEach}
 use Rattle.sip_verdict.specs.inner.Surveying.{IsFresh, IsFollowed, TablesSurvey, IsPassing, ArePassing, any}
-use Rattle.sip_verdict.proofs.keys.Keys.{cond_true, cond_false, contains-among, not_among, new_key}
+use Rattle.sip_verdict.proofs.keys.Keys.{contains-among, not_among, new_key}
 use Rattle.sip_verdict.proofs.tables.TablesPassing.{All-place}
 use Rattle.sip_verdict.proofs.keys.QuietSets.{leads_later}
-use Rattle.sip_verdict.proofs.tables.TablesTouching.{starts, push-place}
+use Rattle.sip_verdict.proofs.tables.TablesTouching.{starts}
 use Rattle.sip_verdict.proofs.surveys.found.Sound.{idle_runs}
 use Rattle.sip_verdict.proofs.surveys.passing.Unheard.{unheard_narrow}
 
--- tables to which keys came: each key and set is an old one, or comes after them, is not among them and has the set that it starts with
+-- tables that have grown by keys: each key and set is an old one; or it comes after them, its key is none of theirs, and its set is the one it starts with
 pub record AreMore (old t : Tabled) : Type 0 where
   pub times : t.times ≡ old.times
   pub long : length t.sets ≡ length t.keys
@@ -35,15 +37,16 @@ pub record AreMore (old t : Tabled) : Type 0 where
   pub each : (n : ℕ) (key : KeyParts) (s : AnySet) → slice_get t.keys n ≡ Some key → slice_get t.sets n ≡ Some s
       → ((slice_get old.keys n ≡ Some key) × (slice_get old.sets n ≡ Some s)) ⊎ ((length old.keys ≤ n) × (s ≡ start_of old.times key) × ¬ Contains old.keys key)
 
--- tables have no more keys than themselves
+-- tables have grown from themselves by no key
 pub none_more : (t : Tabled) → length t.sets ≡ length t.keys → AreMore t t
 none_more t long = record { times = refl; long = long; few = omega arith; among = λ key has. has; each = λ n key s at here. inl (at, here) }
 
--- one key more
+-- What follows is of tables in which one key more was looked up.
 module _ (old t : Tabled) (h : AreMore old t) (k : KeyParts) (n : ℕ) where
   absent : (ks : List KeyParts) → All (λ key. key ≢ k) ks → ¬ Contains ks k
   absent ks all (i, low, is) = all i k low is
 
+  -- tables that have grown by keys have grown by them and by one more that was looked up
   one_more : (u : Tabled) → Touches k n t u → AreMore old u
   one_more u (inl known) = subst (AreMore old) (sym known.1) h
   one_more u (inr (new, counts, is)) = subst (AreMore old) (sym is) (record {
@@ -51,7 +54,7 @@ module _ (old t : Tabled) (h : AreMore old t) (k : KeyParts) (n : ℕ) where
     long = (let a = length-append t.sets (start_of t.times k ∷ []) in let b = length-append t.keys (k ∷ []) in let same = h.long in omega arith);
     few = (let b = length-append t.keys (k ∷ []) in let low = h.few in omega arith);
     among = λ key has. Contains-append_left t.keys (k ∷ []) key (h.among key has);
-    each = λ i key s at here. by i key s (push-place t.keys k i key at) (push-place t.sets (start_of t.times k) i s here);
+    each = λ i key s at here. by i key s (push_place t.keys k i key at) (push_place t.sets (start_of t.times k) i s here);
   })
     where
       by : (i : ℕ) (key : KeyParts) (s : AnySet) → (slice_get t.keys i ≡ Some key) ⊎ ((i ≡ length t.keys) × (k ≡ key)) → (slice_get t.sets i ≡ Some s) ⊎ ((i ≡ length t.sets) × (start_of t.times k ≡ s))
@@ -65,22 +68,22 @@ module _ (old t : Tabled) (h : AreMore old t) (k : KeyParts) (n : ℕ) where
         λ has. absent t.keys new (subst (Contains t.keys) (sym a.1) (h.among key has)),
       )
 
--- tables with more keys than old ones are so still after keys were looked up
+-- tables that have grown by keys have grown still after more keys were looked up
 pub more_each : (old : Tabled) (ks : List KeyParts) (ns : List ℕ) (t u : Tabled) → AreMore old t → TouchesEach ks ns t u → AreMore old u
 more_each old [] [] t u h same = subst (AreMore old) (sym same) h
 more_each old [] (n ∷ ns) t u h touched = absurd touched
 more_each old (k ∷ ks) [] t u h touched = absurd touched
 more_each old (k ∷ ks) (n ∷ ns) t u h (between, one, rest) = more_each old ks ns between u (one_more old t h k n between one) rest
 
--- the keys, once these came
+-- after a key was looked up, the keys are those that there were, with this one where it is new
 touched_key : (k : KeyParts) (n : ℕ) (t u : Tabled) → Touches k n t u → u.keys ≡ with_key t.keys k
 touched_key k n t u (inl (has, same)) =
     ap (λ x. x.keys) same
-    ∙ sym (cond_true (list_any (same_key k) t.keys) t.keys (t.keys ++ k ∷ [])
+    ∙ sym (cond-true (list_any (same_key k) t.keys) t.keys (t.keys ++ k ∷ [])
     (contains-among k t.keys (n - 1, slice_get_within t.keys (n - 1) k has.1, get_or_from_slice_get t.keys (n - 1) k k has.1)))
 touched_key k n t u (inr (new, counts, is)) =
     ap (λ x. x.keys) is
-    ∙ sym (cond_false (list_any (same_key k) t.keys) t.keys (t.keys ++ k ∷ []) (not_among k t.keys (λ (i, low, same). new i k low same)))
+    ∙ sym (cond-false (list_any (same_key k) t.keys) t.keys (t.keys ++ k ∷ []) (not_among k t.keys (λ (i, low, same). new i k low same)))
 
 -- after keys were looked up the keys are those that there were, and each new one once
 pub touched_keys : (ks : List KeyParts) (ns : List ℕ) (t u : Tabled) → TouchesEach ks ns t u → u.keys ≡ fold with_key t.keys ks
@@ -89,7 +92,7 @@ touched_keys [] (n ∷ ns) t u h = absurd h
 touched_keys (k ∷ ks) [] t u h = absurd h
 touched_keys (k ∷ ks) (n ∷ ns) t u (between, one, rest) = touched_keys ks ns between u rest ∙ ap (λ keys. fold with_key keys ks) (touched_key k n t between one)
 
--- an element of two lists, one after the other
+-- an element of two lists, one after the other, is that of the first list where its place lies within that list
 pub front_place : {A : Type 0} (xs ys : List A) (n : ℕ) (x : A) → n < length xs → slice_get (xs ++ ys) n ≡ Some x → slice_get xs n ≡ Some x
 front_place [] ys n x low at = absurd (omega (arith, low))
 front_place (u ∷ xs) ys zero x low at = at
@@ -103,7 +106,7 @@ back_place P (u ∷ xs) ys (suc n) x low all at = back_place P xs ys n x (omega 
 
 module _ (texts : Texts) (es : List (Observation KeyParts)) (e : Observation KeyParts) (old : Tabled) (deaf more : List Bool) (tracks : TablesSurvey texts es old deaf) (long : length deaf ≡ length old.keys)
     (false_all : All (λ d. d ≡ false) more) (late : newest_moment es ≤ e.event.moment) where
-  -- a key that is not among those of the entries is in no trouble, and its set leads on
+  -- a key that is none of the entries' is in no trouble, and the set that it starts with follows the entries
   new_follows : (key : KeyParts) (s : AnySet) → s ≡ start_of old.times key → ¬ Contains old.keys key → IsFollowed texts old.times es key s false
   new_follows key s is none =
       let p = old.times in
@@ -113,7 +116,7 @@ module _ (texts : Texts) (es : List (Observation KeyParts)) (e : Observation Key
         (idle_runs p es key silent, unheard_narrow p es key silent),
       )
 
-  -- before the entry, none has passed it
+  -- before the entry e passes, each transaction is still to hear it, and none has come into trouble at it
   pub begun : (u : Tabled) (b : Troubled) → AreMore old u → IsFresh b → b.deaf.items ≡ deaf ++ more → ArePassing texts old.times es e any u b
   begun u b h fresh deaf_is = record {
     broken = λ n has. absurd (Contains-none n (subst (λ ns. Contains ns n) fresh.broken has));
@@ -132,13 +135,13 @@ module _ (texts : Texts) (es : List (Observation KeyParts)) (e : Observation Key
       by n key s d is (inr (low, start, none)) =
           follows n key s d (subst (IsFollowed texts old.times es key s) (sym (back_place (λ x. x ≡ false) deaf more n d (omega arith) false_all is)) (new_follows key s start none))
 
--- where no key came
+-- where an entry brings no new key, each transaction is still to hear it
 pub begun_same : (texts : Texts) (es : List (Observation KeyParts)) (e : Observation KeyParts) (t : Tabled) (b : Troubled) → TablesSurvey texts es t b.deaf.items → length b.deaf.items ≡ length t.keys → length t.sets ≡ length t.keys
     → newest_moment es ≤ e.event.moment → IsFresh b → ArePassing texts t.times es e any t b
 begun_same texts es e t b tracks long sets late fresh =
     begun texts es e t b.deaf.items [] tracks long (λ k d low. absurd (omega (arith, low))) late t b (none_more t sets) fresh (sym (append-nil b.deaf.items))
 
--- where these came
+-- where the keys of an entry were looked up, each transaction is still to hear it
 pub begun_touched : (texts : Texts) (es : List (Observation KeyParts)) (e : Observation KeyParts) (t u : Tabled) (b c : Troubled) (more : List Bool) → TablesSurvey texts es t b.deaf.items → length b.deaf.items ≡ length t.keys
     → length t.sets ≡ length t.keys → newest_moment es ≤ e.event.moment → IsFresh b → c.deaf.items ≡ b.deaf.items ++ more → All (λ d. d ≡ false) more → c.broken.items ≡ b.broken.items → c.wide.items ≡ b.wide.items
     → (ks : List KeyParts) (ns : List ℕ) → TouchesEach ks ns t u → ArePassing texts t.times es e any u c

@@ -1,4 +1,4 @@
--- The transactions of a survey after an entry, and what is found at it.
+-- What is known of the transactions of a survey after they have passed an entry, and what is found at it.
 use Rattle.std.proofs.Common.{◌≡◌, ◌≤◌, ◌+◌, ◌-◌, ◌⊎◌, inl, inr, ℕ, zero, suc, Bool, true, false, Some, List, [], ◌∷◌, ◌++◌, Contains, length, slice_get, All, append-nil, refl, sym, ap, ◌∙◌, subst, arith}
 use Rattle.std.proofs.lemmas.Option.{slice_get_within}
 use Rattle.std.proofs.lemmas.List.Elements.{All-contains}
@@ -17,6 +17,7 @@ use Rattle.sip_verdict.specs.inner.TablesTracking.{LeadsOf, is_among}
 use Rattle.sip_verdict.specs.inner.Surveying.{IsNumberOf, IsFollowed, IsOrdered, TablesSurvey, IsPassing, ArePassing, AreAscending}
 use Rattle.sip_verdict.proofs.keys.Keys.{newest_moment-push}
 use Rattle.sip_states.proofs.lists.Listed.{Contains-none, Contains-cons}
+use Rattle.sip_states.proofs.lists.Places.{middle_place}
 use Rattle.sip_verdict.proofs.keys.FewerEntries.{newest-to}
 use Rattle.sip_verdict.proofs.tables.TablesPassing.{at_place}
 use Rattle.sip_verdict.proofs.surveys.found.Numbers.{AreNumbers}
@@ -27,7 +28,7 @@ use Rattle.sip_verdict.proofs.surveys.found.Sound.{sound_push}
 use Rattle.sip_verdict.proofs.surveys.passing.Wide.{wide_runs}
 use Rattle.sip_verdict.proofs.surveys.passing.Passing.{same_at}
 
--- entries in order, and one more that is not before the newest
+-- entries in order are in order with one more that is not before the newest
 pub ordered_push : (es : List (Observation KeyParts)) (e : Observation KeyParts) → IsOrdered es → newest_moment es ≤ e.event.moment → IsOrdered (es ++ e ∷ [])
 ordered_push es e order late = ordered_append (λ a b. a.event.moment ≤ b.event.moment) es (e ∷ []) order (λ i j d low high. absurd (omega (arith, low, high))) across
   where
@@ -43,30 +44,26 @@ ordered_push es e order late = ordered_append (λ a b. a.event.moment ≤ b.even
         let low = All-contains (λ a. a.event.moment ≤ newest_moment es) es x to h in
         subst (λ z. x.event.moment ≤ z.event.moment) (last y (Contains-cons e [] y g)) (omega (arith, low, late))
 
--- a list is split at a place
+-- a list with x at the place i is the elements before it, x, and the elements after it
 split_at : {A : Type 0} (xs : List A) (i : ℕ) (x : A) → slice_get xs i ≡ Some x → (before : List A) × (rest : List A) × (xs ≡ before ++ x ∷ rest) × (length before ≡ i)
 split_at [] i x at = absurd cc
 split_at (u ∷ xs) zero x at = ([], xs, (let same : u ≡ x = cc in ap (λ y. y ∷ xs) same), refl)
 split_at (u ∷ xs) (suc i) x at = let (before, rest, is, long) = split_at xs i x at in (u ∷ before, rest, ap (λ ys. u ∷ ys) is, ap suc long)
 
--- an element in the middle of a list stands at the place after those before it
-at_split : {A : Type 0} (before : List A) (x : A) (rest : List A) → slice_get (before ++ x ∷ rest) (length before) ≡ Some x
-at_split [] x rest = refl
-at_split (u ∷ before) x rest = at_split before x rest
-
 module _ (P : KeyParts → Type 0) (keys : List KeyParts) where
-  -- a number and its key
+  -- where P holds of the key that stands under the number n, it holds of the key with the number n
   number_holds : (n : ℕ) → IsNumberOf P keys n → HoldsOf P keys n
   number_holds n h = let (before, rest, is, long) = split_at keys (n - 1) h.key h.at in (before, h.key, rest, is, h.holds, (let low = h.low in omega (arith, low, long)))
 
+  -- where P holds of the key with the number n, that key stands under n
   holds_at : (n : ℕ) → HoldsOf P keys n → (key : KeyParts) × (slice_get keys (n - 1) ≡ Some key) × P key × (n - 1 + 1 ≡ n)
   holds_at n (before, key, rest, is, holds, number) =
       let place : length before ≡ n - 1 = omega (arith, number) in
-      (key, ap (λ ks. slice_get ks (n - 1)) is ∙ subst (λ i. slice_get (before ++ key ∷ rest) i ≡ Some key) place (at_split before key rest), holds, omega (arith, number))
+      (key, ap (λ ks. slice_get ks (n - 1)) is ∙ subst (λ i. slice_get (before ++ key ∷ rest) i ≡ Some key) place (middle_place before key rest), holds, omega (arith, number))
 
 module _ (texts : Texts) (es : List (Observation KeyParts)) (e : Observation KeyParts) (t : Tabled) (b : Troubled) (p : Times) (order : IsOrdered es) (late : newest_moment es ≤ e.event.moment)
     (keys : t.keys ≡ keys_in (es ++ e ∷ [])) (sets : length t.sets ≡ length t.keys) (long : length b.deaf.items ≡ length t.keys) (h : ArePassing texts p es e (is_among []) t b) where
-  -- a transaction in trouble is in trouble after the entry
+  -- a transaction that was in trouble, or came into it at the entry e, is in trouble over the entries and e
   unsound : (n : ℕ) (key : KeyParts) → slice_get t.keys n ≡ Some key → ¬ (IsSound p es key) ⊎ (Contains b.broken.items (n + 1) ⊎ Contains b.wide.items (n + 1)) → ¬ (IsSound p (es ++ e ∷ []) key)
   unsound n key at (inl before) sound = before (sound_fewer p key es (e ∷ []) (ordered_push es e order late) sound)
   unsound n key at (inr (inl has)) sound =
@@ -76,7 +73,7 @@ module _ (texts : Texts) (es : List (Observation KeyParts)) (e : Observation Key
       let own = h.wide (n + 1) has in
       sound.1 es e [] refl (subst (IsWideAt p es e) (sym (same_at t.keys n key own.key at (ap (slice_get t.keys) (omega arith) ∙ own.at))) own.holds.0.1)
 
-  -- the tables follow the entry too
+  -- after the entry e has passed, the tables survey the entries and e
   pub ended_tracks : t.times ≡ p → TablesSurvey texts (es ++ e ∷ []) t b.deaf.items
   ended_tracks times = record {
     order = ordered_push es e order late;
@@ -89,7 +86,7 @@ module _ (texts : Texts) (es : List (Observation KeyParts)) (e : Observation Key
       by n key s false at (sound, goes) =
           (goes.ready, sound_push p es e key sound goes.runs goes.narrow)
 
-  -- a key of all, with what is said of it
+  -- each key has a set and a flag, of which it is known how they passed the entry
   found_key : (n : ℕ) (key : KeyParts) → slice_get t.keys n ≡ Some key → (d : Bool) × (s : AnySet) × IsPassing texts p es e (is_among []) b (n + 1) key s d
   found_key n key at =
       let within = slice_get_within t.keys n key at in
@@ -97,10 +94,11 @@ module _ (texts : Texts) (es : List (Observation KeyParts)) (e : Observation Key
       let (d, is) = at_place b.deaf.items n (omega (arith, within, long)) in
       (d, s, h.each n key s d at here is)
 
-  -- a number that was found belongs to the key there
+  -- where P holds of the key with a number, it holds of each key that stands under it
   one_key : (P : KeyParts → Type 0) (n : ℕ) (key : KeyParts) → slice_get t.keys n ≡ Some key → IsNumberOf P t.keys (n + 1) → P key
   one_key P n key at own = subst P (sym (same_at t.keys n key own.key at (ap (slice_get t.keys) (omega arith) ∙ own.at))) own.holds
 
+  -- a key that breaks at the entry is among those that came into trouble so
   all_broken : (n : ℕ) (key : KeyParts) → slice_get t.keys n ≡ Some key → Breaks p es e key → Contains b.broken.items (n + 1)
   all_broken n key at (sound, none) = let (d, s, g) = found_key n key at in by d s g
     where
@@ -110,6 +108,7 @@ module _ (texts : Texts) (es : List (Observation KeyParts)) (e : Observation Key
       by true s (leads, inr (inr has)) = absurd (none (one_key (λ k. Widens p es e k × RunsOver p (es ++ e ∷ []) k) n key at (h.wide (n + 1) has)).1)
       by false s (still, goes) = absurd (none goes.runs)
 
+  -- a key that is followed no further from the entry is among those that came into trouble so
   all_wide : (n : ℕ) (key : KeyParts) → slice_get t.keys n ≡ Some key → Widens p es e key → Contains b.wide.items (n + 1)
   all_wide n key at (sound, wide) = let (d, s, g) = found_key n key at in by d s g
     where
@@ -120,6 +119,7 @@ module _ (texts : Texts) (es : List (Observation KeyParts)) (e : Observation Key
       by false s (still, goes) = absurd (goes.narrow wide)
 
   module _ (broken wide : List ℕ) (broken_is : AreAscending b.broken.items broken) (wide_is : AreAscending b.wide.items wide) where
+    -- the numbers of the broken are those of the keys that break at the entry, each once and in order
     breaks : AreNumbers (Breaks p es e) t.keys broken
     breaks = (
       broken_is.0,
@@ -129,6 +129,7 @@ module _ (texts : Texts) (es : List (Observation KeyParts)) (e : Observation Key
       ),
     )
 
+    -- the numbers of the wide are those of the keys that are followed no further, each once and in order
     widens : AreNumbers (Widens p es e) t.keys wide
     widens = (
       wide_is.0,
@@ -138,7 +139,7 @@ module _ (texts : Texts) (es : List (Observation KeyParts)) (e : Observation Key
       ),
     )
 
-    -- just these are found at it
+    -- just what came into trouble, with the fault of the entry, is found at the entry
     pub ended_found : (entry : ℕ) → entry ≡ length es + 1 → AreFoundAt p es e (listed entry e.fault broken wide)
     ended_found entry counts =
         listed_found p es e entry counts broken wide (subst (λ ks. AreNumbers (Breaks p es e) ks broken) keys breaks) (subst (λ ks. AreNumbers (Widens p es e) ks wide) keys widens)

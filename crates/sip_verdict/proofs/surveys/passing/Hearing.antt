@@ -12,8 +12,9 @@ use Rattle.sip_states.specs.Agenda.{is_overdue}
 use Rattle.sip_states.specs.AnySet.{moment_of, start_of}
 use Rattle.sip_states.specs.Tables.{Tabled, IsGiven}
 use Rattle.sip_states.specs.declared.any_set.AnySet.{AnySet}
-use Rattle.sip_verdict.specs.declared.passing.Fate.{Fate}
-use Rattle.sip_verdict.specs.declared.passing.Fate.TheVariants.{Runs, NoRun, TooWide}
+use Rattle.sip_states.proofs.lists.Places.{set_place}
+use Rattle.sip_verdict.specs.declared.passing.Outcome.{Outcome}
+use Rattle.sip_verdict.specs.declared.passing.Outcome.TheVariants as all
 use Rattle.sip_verdict.specs.declared.troubled.Troubled.{Troubled}
 use Rattle.sip_standard.specs.Observation.{Observation}
 use Rattle.sip_standard.specs.VerdictOf.{RunsOver}
@@ -24,17 +25,17 @@ use Rattle.sip_verdict.specs.inner.Tracking.{Keeping, IsReady, GoesOn, IsPassed}
 use Rattle.sip_verdict.specs.inner.TablesTracking.{LeadsOf, StandsOf, key_keeping, is_among, MayPass}
 use Rattle.sip_verdict.specs.inner.Surveying.{AreWatched, IsPassing, ArePassing, AreConcerned, any}
 use Rattle.sip_verdict.proofs.keys.KeyPassing.{heard_left, overdue_breaks}
-use Rattle.sip_verdict.proofs.tables.TablesPassing.{at_place, All-place, set-place, among_first}
+use Rattle.sip_verdict.proofs.tables.TablesPassing.{at_place, All-place, among_first}
 use Rattle.sip_verdict.proofs.tables.TablesTouching.{starts}
 use Rattle.sip_verdict.proofs.surveys.passing.Passing.{among_cons, same_at, passed_on, released_broken, released_wide, stays}
 
--- the sets of tables of which one key's starts anew
+-- What follows is of tables in which the set of one key has started anew.
 module _ (texts : Texts) (p q : Times) (moment : ℕ) (t u : Tabled) (number : ℕ) (own : KeyParts) (at : slice_get t.keys (number - 1) ≡ Some own) (rules : q ≡ p)
     (sets : u.sets ≡ slice_set t.sets (number - 1) (start_of q own)) where
-  -- the set at a place is the one that starts anew, or the one that was there
+  -- the set at a place of the new tables is the one that started anew, which leads to the runs over no event, or it is the set that was there
   pub begins_anew : (n : ℕ) (s : AnySet) → slice_get u.sets n ≡ Some s → ((n ≡ number - 1) × ((key : KeyParts) → slice_get t.keys (number - 1) ≡ Some key → LeadsOf texts p (machine_of_key p.rules key) [] moment s))
       ⊎ ((n ≢ number - 1) × (slice_get t.sets n ≡ Some s))
-  begins_anew n s here = by (set-place t.sets (number - 1) n (start_of q own) s (ap (λ xs. slice_get xs n) (sym sets) ∙ here))
+  begins_anew n s here = by (set_place t.sets (number - 1) n (start_of q own) s (ap (λ xs. slice_get xs n) (sym sets) ∙ here))
     where
       by : ((n ≡ number - 1) × (start_of q own ≡ s)) ⊎ ((n ≢ number - 1) × (slice_get t.sets n ≡ Some s))
           → ((n ≡ number - 1) × ((key : KeyParts) → slice_get t.keys (number - 1) ≡ Some key → LeadsOf texts p (machine_of_key p.rules key) [] moment s)) ⊎ ((n ≢ number - 1) × (slice_get t.sets n ≡ Some s))
@@ -55,7 +56,7 @@ module _ (texts : Texts) (p : Times) (es : List (Observation KeyParts)) (e : Obs
   back : number - 1 + 1 ≡ number
   back = (let low = given.low in omega arith)
 
-  -- one that is in trouble hears nothing
+  -- a transaction in trouble passes the entry as it is
   pub deaf_on : (waits : List ℕ) → slice_get b.deaf.items (number - 1) ≡ Some true → ArePassing texts p es e (is_among (number ∷ waits)) t b → ArePassing texts p es e (is_among waits) t b
   deaf_on waits deaf h = record { broken = h.broken; wide = h.wide; each = λ n key s d at here is. one n key s d at here is (h.each n key s d at here is) }
     where
@@ -66,45 +67,45 @@ module _ (texts : Texts) (p : Times) (es : List (Observation KeyParts)) (e : Obs
           let other : n ≢ number - 1 = λ same. true≢false (same_at b.deaf.items n true false (ap (slice_get b.deaf.items) same ∙ deaf) is) in
           stays texts p es e (is_among (number ∷ waits)) (is_among waits) b b (n + 1) key s false (among_cons (n + 1) number waits (λ same. other (omega (arith, same)))) (λ among. among) g
 
-  -- one that hears
+  -- What follows is of a transaction in no trouble that hears the event.
   module _ (waits : List ℕ) (event : NumberedEvent) (late : newest_moment es ≤ event.moment) (once : is_among waits number ≡ false) (concerned : AreConcerned texts p es e event (number ∷ waits) t.keys)
-      (h : ArePassing texts p es e (is_among (number ∷ waits)) t b) (hearing : slice_get b.deaf.items (number - 1) ≡ Some false) (before after : AnySet) (was : slice_get t.sets (number - 1) ≡ Some before) (fate : Fate)
+      (h : ArePassing texts p es e (is_among (number ∷ waits)) t b) (hearing : slice_get b.deaf.items (number - 1) ≡ Some false) (before after : AnySet) (was : slice_get t.sets (number - 1) ≡ Some before) (outcome : Outcome)
       (stepped : (q : Times) (kind : MachineKind) (fs : List MachineEvent) (from : ℕ) → from ≤ event.moment → LeadsOf texts q kind fs from before
-      → IsStepped (key_rules q kind) fs (event_in texts event) (λ gs. LeadsOf texts q kind gs event.moment after) (λ g. StandsOf texts q kind fs g after) fate) where
-    -- what is left of it
-    left : (key : KeyParts) → slice_get t.keys (number - 1) ≡ Some key → IsSound p es key × IsPassed p k es e (key, after) fate
+      → IsStepped (key_rules q kind) fs (event_in texts event) (λ gs. LeadsOf texts q kind gs event.moment after) (λ g. StandsOf texts q kind fs g after) outcome) where
+    -- the key was in no trouble over the entries, and `outcome` is what the entry leaves of its runs
+    left : (key : KeyParts) → slice_get t.keys (number - 1) ≡ Some key → IsSound p es key × IsPassed p k es e (key, after) outcome
     left key at =
         let among = among_first (place + 1) number waits back in
         let own = h.each place key before false at was hearing in
         let ready : IsReady k es (key, before) = subst (λ x. MatchBool x (IsReady k es (key, before)) (GoesOn p k es e (key, before))) among own.1 in
         let told = concerned place key at among in
         let now : newest_moment es ≤ e.event.moment = subst (λ f. newest_moment es ≤ f.moment) (sym told.0) late in
-        (own.0, heard_left texts p es e key before ready now event told.0 told.1 after fate stepped)
+        (own.0, heard_left texts p es e key before ready now event told.0 told.1 after outcome stepped)
 
     apart : (n : ℕ) → n ≢ number - 1 → is_among (number ∷ waits) (n + 1) ≡ is_among waits (n + 1)
     apart n other = among_cons (n + 1) number waits (λ same. other (omega (arith, same)))
 
-    -- its runs go on: all pass the entry as before
-    pub heard_on : fate ≡ Runs → (u : Tabled) → u.keys ≡ t.keys → u.sets ≡ slice_set t.sets (number - 1) after → ArePassing texts p es e (is_among waits) u b
-    heard_on runs u keys sets =
+    -- where the runs of the transaction go on, all transactions are passing the entry still, and this one has heard it
+    pub heard_on : outcome ≡ all.Fine → (u : Tabled) → u.keys ≡ t.keys → u.sets ≡ slice_set t.sets (number - 1) after → ArePassing texts p es e (is_among waits) u b
+    heard_on fine u keys sets =
         passed_on texts p es e t u b (is_among (number ∷ waits)) (is_among waits) number given keys apart h after sets hearing once
-        (λ key at. let l = left key at in (l.0, subst (IsPassed p k es e (key, after)) runs l.1))
+        (λ key at. let l = left key at in (l.0, subst (IsPassed p k es e (key, after)) fine l.1))
 
-    -- it has no run: it starts anew, and is among the broken
-    pub heard_broken : fate ≡ NoRun → (u : Tabled) (c : Troubled) (q : Times) (own : KeyParts) → slice_get t.keys (number - 1) ≡ Some own → q ≡ p → u.keys ≡ t.keys → u.sets ≡ slice_set t.sets (number - 1) (start_of q own)
+    -- where the transaction has no run any more, its set starts anew, it is among the broken, and all are passing the entry still
+    pub heard_broken : {told : ℕ} → outcome ≡ all.NoRun told → (u : Tabled) (c : Troubled) (q : Times) (own : KeyParts) → slice_get t.keys (number - 1) ≡ Some own → q ≡ p → u.keys ≡ t.keys → u.sets ≡ slice_set t.sets (number - 1) (start_of q own)
         → c.deaf.items ≡ slice_set b.deaf.items (number - 1) true → c.broken.items ≡ b.broken.items ++ number ∷ [] → c.wide.items ≡ b.wide.items → ArePassing texts p es e (is_among waits) u c
     heard_broken none u c q own at rules keys sets deaf added kept =
         released_broken texts p es e t u b (is_among (number ∷ waits)) (is_among waits) number given keys apart h c (begins_anew texts p q e.event.moment t u number own at rules sets) deaf added kept
         (λ key there. let l = left key there in (l.0, subst (IsPassed p k es e (key, after)) none l.1))
 
-    -- it is too wide: it starts anew, and is among the wide
-    pub heard_wide : fate ≡ TooWide → (u : Tabled) (c : Troubled) (q : Times) (own : KeyParts) → slice_get t.keys (number - 1) ≡ Some own → q ≡ p → u.keys ≡ t.keys → u.sets ≡ slice_set t.sets (number - 1) (start_of q own)
+    -- where the transaction is too wide, its set starts anew, it is among the wide, and all are passing the entry still
+    pub heard_wide : {told : ℕ} → outcome ≡ all.TooWide told → (u : Tabled) (c : Troubled) (q : Times) (own : KeyParts) → slice_get t.keys (number - 1) ≡ Some own → q ≡ p → u.keys ≡ t.keys → u.sets ≡ slice_set t.sets (number - 1) (start_of q own)
         → c.deaf.items ≡ slice_set b.deaf.items (number - 1) true → c.wide.items ≡ b.wide.items ++ number ∷ [] → c.broken.items ≡ b.broken.items → ArePassing texts p es e (is_among waits) u c
     heard_wide many u c q own at rules keys sets deaf added kept =
         released_wide texts p es e t u b (is_among (number ∷ waits)) (is_among waits) number given keys apart h c (begins_anew texts p q e.event.moment t u number own at rules sets) deaf added kept
         (λ key there. let l = left key there in let w = subst (IsPassed p k es e (key, after)) many l.1 in ((l.0, w.1), w.0))
 
-  -- one that has waited longer than it can
+  -- What follows is of a transaction that has waited longer than it can.
   module _ (moment : ℕ) (waits : List ℕ) (late : newest_moment es ≤ moment) (now : e.event.moment ≡ moment) (may : MayPass texts t moment) (watched : AreWatched waits t b)
       (past : is_overdue moment (slice_index_or t.records (number - 1) None) ≡ true) (h : ArePassing texts p es e any t b) where
     in_records : number - 1 < length t.records
@@ -113,7 +114,7 @@ module _ (texts : Texts) (p : Times) (es : List (Observation KeyParts)) (e : Obs
     there : slice_get t.records (number - 1) ≡ Some (slice_index_or t.records (number - 1) None)
     there = slice_get-get_or t.records (number - 1) None in_records
 
-    -- it is in no trouble
+    -- a transaction that has waited longer than it can was in no trouble
     pub overdue_hears : slice_get b.deaf.items (number - 1) ≡ Some false
     overdue_hears =
         let (d, is) = at_place b.deaf.items (number - 1) (let low = in_records in let long = watched.long in let as_long = watched.recorded.long in omega arith) in by d is
@@ -122,7 +123,7 @@ module _ (texts : Texts) (p : Times) (es : List (Observation KeyParts)) (e : Obs
         by false is = is
         by true is = absurd (true≢false (sym past ∙ ap (is_overdue moment) (same_at t.records (number - 1) _ (Some None) there (watched.silent (number - 1) is))))
 
-    -- the transaction has no run any more
+    -- a transaction that has waited longer than it can breaks at the entry
     breaks : (key : KeyParts) → slice_get t.keys (number - 1) ≡ Some key → Breaks p es e key
     breaks key at =
         let (s, here) = at_place t.sets (number - 1) (let low = in_records in let long = may.long in let as_long = watched.recorded.long in omega arith) in
@@ -135,7 +136,7 @@ module _ (texts : Texts) (p : Times) (es : List (Observation KeyParts)) (e : Obs
             overdue_breaks texts p es e key s ready (subst (λ n. newest_moment es ≤ n) (sym now) late) (subst (λ n. moment_of s ≤ n) (sym now) (All-place (λ x. moment_of x ≤ moment) t.sets (number - 1) s here may.order))
             limit (watched.recorded.each (number - 1) s (Some limit) here on) (subst (λ n. is_overdue n (Some limit) ≡ true) (sym now) is)
 
-    -- it waited too long: it starts anew, and is among the broken
+    -- a transaction that has waited longer than it can starts anew and is among the broken, and all are passing the entry still
     pub overdue_broken : (u : Tabled) (c : Troubled) (q : Times) (own : KeyParts) → slice_get t.keys (number - 1) ≡ Some own → q ≡ p → u.keys ≡ t.keys → u.sets ≡ slice_set t.sets (number - 1) (start_of q own)
         → c.deaf.items ≡ slice_set b.deaf.items (number - 1) true → c.broken.items ≡ b.broken.items ++ number ∷ [] → c.wide.items ≡ b.wide.items → ArePassing texts p es e any u c
     overdue_broken u c q own at rules keys sets deaf added kept =

@@ -9,6 +9,7 @@ use Rattle.sip_machine.specs.Texts.{Texts}
 use Rattle.sip_standard.specs.KeyMachine.{machine_of_key}
 use Rattle.sip_states.specs.Tables.{Tabled, IsGiven}
 use Rattle.sip_states.specs.declared.any_set.AnySet.{AnySet}
+use Rattle.sip_states.proofs.lists.Places.{set_place}
 use Rattle.sip_verdict.specs.declared.troubled.Troubled.{Troubled}
 use Rattle.sip_standard.specs.Observation.{Observation}
 use Rattle.sip_standard.specs.VerdictOf.{RunsOver}
@@ -16,9 +17,9 @@ use Rattle.sip_verdict.specs.SurveyOf.{IsSound, Breaks, Widens}
 use Rattle.sip_verdict.specs.inner.Tracking.{Keeping, IsReady, GoesOn}
 use Rattle.sip_verdict.specs.inner.TablesTracking.{LeadsOf, key_keeping, is_among}
 use Rattle.sip_verdict.specs.inner.Surveying.{IsNumberOf, IsPassing, ArePassing}
-use Rattle.sip_verdict.proofs.tables.TablesPassing.{at_place, set-place}
+use Rattle.sip_verdict.proofs.tables.TablesPassing.{at_place}
 
--- a number is among some or it is the first of them
+-- a number that is not the first of some numbers is among them exactly if it is among the others
 pub among_cons : (n number : ℕ) (ns : List ℕ) → n ≢ number → is_among (number ∷ ns) n ≡ is_among ns n
 among_cons n number ns differ = by (nat_eq n number) refl
   where
@@ -26,7 +27,7 @@ among_cons n number ns differ = by (nat_eq n number) refl
     by true same = absurd (differ ((unsigned_Decides n number).0 same))
     by false other = ap (λ b. b || is_among ns n) other
 
--- what stands at one place is one
+-- two elements at the same place of a list are the same
 pub same_at : {A : Type 0} (xs : List A) (n : ℕ) (x y : A) → slice_get xs n ≡ Some x → slice_get xs n ≡ Some y → x ≡ y
 same_at xs n x y a b = let both : Some x ≡ Some y = sym a ∙ b in cc
 
@@ -34,11 +35,11 @@ module _ (texts : Texts) (p : Times) (es : List (Observation KeyParts)) (e : Obs
   abbrev k : Keeping (KeyParts × AnySet)
   k = key_keeping texts p
 
-  -- whether a key hears or waits is told alike
+  -- where two flags are equal, what they say of the key, that it is ready or goes on, is the same
   waits_alike : (a b : Bool) (key : KeyParts) (s : AnySet) → a ≡ b → MatchBool a (IsReady k es (key, s)) (GoesOn p k es e (key, s)) → MatchBool b (IsReady k es (key, s)) (GoesOn p k es e (key, s))
   waits_alike a b key s same h = subst (λ x. MatchBool x (IsReady k es (key, s)) (GoesOn p k es e (key, s))) same h
 
-  -- what is said of one transaction stays where more came into trouble
+  -- a transaction passes the entry as before where more transactions came into trouble and it waits exactly as it did
   pub stays : (v w : ℕ → Bool) (b c : Troubled) (number : ℕ) (key : KeyParts) (s : AnySet) (is_deaf : Bool) → v number ≡ w number
       → (Contains b.broken.items number ⊎ Contains b.wide.items number → Contains c.broken.items number ⊎ Contains c.wide.items number)
       → IsPassing texts p es e v b number key s is_deaf → IsPassing texts p es e w c number key s is_deaf
@@ -46,11 +47,11 @@ module _ (texts : Texts) (p : Times) (es : List (Observation KeyParts)) (e : Obs
   stays v w b c number key s true same more (leads, inr among) = (leads, inr (more among))
   stays v w b c number key s false same more (sound, h) = (sound, waits_alike (v number) (w number) key s same h)
 
-  -- P holds of the keys with the same numbers
+  -- where the keys are the same, P holds of the key with a number in both lists
   number_still : (P : KeyParts → Type 0) (keys new : List KeyParts) (number : ℕ) → new ≡ keys → IsNumberOf P keys number → IsNumberOf P new number
   number_still P keys new number same h = subst (λ ks. IsNumberOf P ks number) (sym same) h
 
-  -- one transaction
+  -- What follows is of one transaction that passes the entry, while the others stay as they are.
   module _ (t u : Tabled) (b : Troubled) (v w : ℕ → Bool) (number : ℕ) (given : IsGiven t number) (keys : u.keys ≡ t.keys)
       (others : (n : ℕ) → n ≢ number - 1 → v (n + 1) ≡ w (n + 1)) (h : ArePassing texts p es e v t b) where
     abbrev place : ℕ
@@ -59,13 +60,14 @@ module _ (texts : Texts) (p : Times) (es : List (Observation KeyParts)) (e : Obs
     next : number - 1 + 1 ≡ number
     next = (let low = given.low in omega arith)
 
-    -- it goes on
+    -- What follows is of a transaction in no trouble that goes on.
     module _ (after : AnySet) (sets : u.sets ≡ slice_set t.sets (number - 1) after) (hearing : slice_get b.deaf.items (number - 1) ≡ Some false) where
+      -- where the transaction goes on over the entry, all transactions are passing it still
       pub passed_on : w number ≡ false → ((key : KeyParts) → slice_get t.keys (number - 1) ≡ Some key → IsSound p es key × GoesOn p k es e (key, after)) → ArePassing texts p es e w u b
       passed_on done goes = record {
         broken = λ n has. number_still (Breaks p es e) t.keys u.keys n keys (h.broken n has);
         wide = λ n has. number_still (λ key. Widens p es e key × RunsOver p (es ++ e ∷ []) key) t.keys u.keys n keys (h.wide n has);
-        each = λ n key s d at here is. one n key s d (ap (λ ks. slice_get ks n) (sym keys) ∙ at) is (set-place t.sets place n after s (ap (λ xs. slice_get xs n) (sym sets) ∙ here));
+        each = λ n key s d at here is. one n key s d (ap (λ ks. slice_get ks n) (sym keys) ∙ at) is (set_place t.sets place n after s (ap (λ xs. slice_get xs n) (sym sets) ∙ here));
       }
         where
           own : (n : ℕ) (key : KeyParts) (s : AnySet) (d : Bool) → slice_get t.keys n ≡ Some key → n ≡ place → after ≡ s → false ≡ d → IsPassing texts p es e w b (n + 1) key s d
@@ -80,17 +82,18 @@ module _ (texts : Texts) (p : Times) (es : List (Observation KeyParts)) (e : Obs
           one n key s d at is (inl (here, same)) = own n key s d at here same (same_at b.deaf.items n false d (ap (slice_get b.deaf.items) here ∙ hearing) is)
           one n key s d at is (inr (other, there)) = stays v w b b (n + 1) key s d (others n other) (λ among. among) (h.each n key s d at there is)
 
-    -- it comes into trouble, and starts anew
+    -- What follows is of a transaction that comes into trouble and starts anew.
     module _ (c : Troubled) (sets : (n : ℕ) (s : AnySet) → slice_get u.sets n ≡ Some s → ((n ≡ number - 1) × ((key : KeyParts) → slice_get t.keys (number - 1) ≡ Some key → LeadsOf texts p (machine_of_key p.rules key) [] e.event.moment s))
         ⊎ ((n ≢ number - 1) × (slice_get t.sets n ≡ Some s)))
         (deaf : c.deaf.items ≡ slice_set b.deaf.items (number - 1) true) where
+      -- where the transaction is put among those that came into trouble, all transactions are passing the entry still
       released : ((n : ℕ) → Contains b.broken.items n ⊎ Contains b.wide.items n → Contains c.broken.items n ⊎ Contains c.wide.items n) → Contains c.broken.items number ⊎ Contains c.wide.items number
           → ((n : ℕ) → Contains c.broken.items n → IsNumberOf (Breaks p es e) u.keys n) → ((n : ℕ) → Contains c.wide.items n → IsNumberOf (λ key. Widens p es e key × RunsOver p (es ++ e ∷ []) key) u.keys n)
           → ArePassing texts p es e w u c
       released more among broken wide = record {
         broken = broken;
         wide = wide;
-        each = λ n key s d at here is. one n key s d (ap (λ ks. slice_get ks n) (sym keys) ∙ at) (set-place b.deaf.items place n true d (ap (λ xs. slice_get xs n) (sym deaf) ∙ is)) (sets n s here);
+        each = λ n key s d at here is. one n key s d (ap (λ ks. slice_get ks n) (sym keys) ∙ at) (set_place b.deaf.items place n true d (ap (λ xs. slice_get xs n) (sym deaf) ∙ is)) (sets n s here);
       }
         where
           own : (n : ℕ) (key : KeyParts) (s : AnySet) (d : Bool) → slice_get t.keys n ≡ Some key → n ≡ place → true ≡ d
@@ -108,7 +111,7 @@ module _ (texts : Texts) (p : Times) (es : List (Observation KeyParts)) (e : Obs
           one n key s d at (inr (other, is)) (inl (here, leads)) = absurd (other here)
           one n key s d at (inr (other, is)) (inr (also, there)) = stays v w b c (n + 1) key s d (others n other) (more (n + 1)) (h.each n key s d at there is)
 
-      -- it breaks
+      -- where the transaction breaks and is put among the broken, all are passing the entry still
       pub released_broken : c.broken.items ≡ b.broken.items ++ number ∷ [] → c.wide.items ≡ b.wide.items → ((key : KeyParts) → slice_get t.keys (number - 1) ≡ Some key → Breaks p es e key) → ArePassing texts p es e w u c
       released_broken added kept breaks =
           released more (inl (subst (λ ns. Contains ns number) (sym added) (Contains-push b.broken.items number)))
@@ -125,7 +128,7 @@ module _ (texts : Texts) (p : Times) (es : List (Observation KeyParts)) (e : Obs
               (let mine = at_place t.keys place (omega (arith, next, given.high)) in
               record { low = given.low; key = mine.0; at = ap (λ ks. slice_get ks place) keys ∙ mine.1; holds = breaks mine.0 mine.1 })
 
-      -- it is followed no further
+      -- where the transaction is followed no further and is put among the wide, all are passing the entry still
       pub released_wide : c.wide.items ≡ b.wide.items ++ number ∷ [] → c.broken.items ≡ b.broken.items
           → ((key : KeyParts) → slice_get t.keys (number - 1) ≡ Some key → Widens p es e key × RunsOver p (es ++ e ∷ []) key) → ArePassing texts p es e w u c
       released_wide added kept widens =

@@ -1,4 +1,4 @@
--- An entry of each kind, as the transactions of a survey pass it.
+-- What the transactions of a survey are after an entry of each kind.
 use Rattle.std.proofs.Common.{◌≡◌, ◌≢◌, ◌≤◌, ◌<◌, inl, inr, ℕ, Bool, true, false, Option, Some, None, List, [], ◌∷◌, ◌++◌, All, AllPairs, length, slice_get, refl, sym, ap, ◌∙◌, subst, true≢false, arith}
 use Rattle.std.specs.Prelude.{fold}
 use Rattle.std.proofs.Math.Decide.{dec_le}
@@ -37,8 +37,9 @@ use Rattle.sip_verdict.proofs.judges.StandingLemmas.{IsGrown, text_of_none, touc
 use Rattle.sip_verdict.proofs.tables.TablesTouching.{touches_elim, touches_times, have_numbers, slice_get-more, told_unheard, told_event, told_restart}
 use Rattle.sip_verdict.proofs.surveys.passing.Begun.{begun_same, begun_touched, touched_keys, front_place, back_place}
 
--- Where the book has one message more, the sets lead to the same.
+-- What follows shows that a set leads to the same runs beside a book with one message more.
 module _ (old new : Texts) (number : ℕ) (bytes : List ℕ) (p : Times) where
+  -- a set of a machine leads to the same runs beside the book that has grown
   grown_leads : IsGrown old number bytes new → (machine : MachineKind) (events : List MachineEvent) (from : ℕ) (set : AnySet) → LeadsOf old p machine events from set → LeadsOf new p machine events from set
   grown_leads (inl same) machine events from set leads = subst (λ texts. LeadsOf texts p machine events from set) (sym same) leads
   grown_leads (inr more) machine events from set (s, is, leads) =
@@ -49,7 +50,7 @@ module _ (old new : Texts) (number : ℕ) (bytes : List ℕ) (p : Times) where
         record { machine_is = leads.machine_is; leads = Leads-grow m.names m.seen (seen_by_names_of machine) old number bytes (m.rules p) events from s.moment s.states leads.leads },
       )
 
--- the tables follow the same entries beside a book with one message more
+-- tables survey the same entries beside a book with one message more
 pub grown_survey : (old new : Texts) (number : ℕ) (bytes : List ℕ) → IsGrown old number bytes new → (es : List (Observation KeyParts)) (t : Tabled) (deaf : List Bool) → TablesSurvey old es t deaf → TablesSurvey new es t deaf
 grown_survey old new number bytes grown es t deaf h = record { order = h.order; keys = h.keys; each = λ n key s d at here is. by key s d (h.each n key s d at here is) }
   where
@@ -57,19 +58,19 @@ grown_survey old new number bytes grown es t deaf h = record { order = h.order; 
     by key s true (leads, unsound) = (grown_leads old new number bytes t.times grown (machine_of_key t.times.rules key) [] (newest_moment es) s leads, unsound)
     by key s false (leads, sound) = (grown_leads old new number bytes t.times grown (machine_of_key t.times.rules key) _ (newest_moment es) s leads, sound)
 
--- what is said of an entry once it has passed
+-- the item is seen as an entry with this fault and this moment, the tables have its keys too, and each transaction has passed it
 abbrev pub IsTaken : Texts → Times → List (Observation KeyParts) → Item → ℕ → Option Fault → Tabled → Troubled → Type 0
 IsTaken texts p es i moment fault t b =
     (e : Observation KeyParts) × Sees es i e × (e.fault ≡ fault) × (e.event.moment ≡ moment) × (t.keys ≡ keys_in (es ++ e ∷ [])) × ArePassing texts p es e (is_among []) t b
 
--- what passing does
+-- passing takes transactions that are all still to hear an entry of which this is told to ones that have all heard it
 abbrev pub Passes : Texts → ℕ → Option Hearing → Tabled → Troubled → Tabled → Troubled → Type 0
 Passes texts moment hearing t b u c =
     (p : Times) (es : List (Observation KeyParts)) (e : Observation KeyParts) → t.times ≡ p → newest_moment es ≤ moment → e.event.moment ≡ moment → AreTold texts t.keys moment hearing e
     → ArePassing texts p es e any t b → ArePassing texts p es e (is_among []) u c
 
 module _ (old mid : Texts) (number : ℕ) (bytes : List ℕ) (grown : IsGrown old number bytes mid) (i : Item) (moment : ℕ) (at : i.moment ≡ moment) where
-  -- this was told of the entry
+  -- this is told of the entry, and observed of it after any entries
   abbrev Tells : Observed → Type 0
   Tells told = (es : List (Observation KeyParts)) → (e : Observation KeyParts) × Sees es i e × IsObserved mid es i told e
 
@@ -100,7 +101,7 @@ module _ (old mid : Texts) (number : ℕ) (bytes : List ℕ) (grown : IsGrown ol
         let (e, seen, is) = tells es in
         silent_taken es e (Some fault) seen (ap (λ x. x.fault) is) (ap (λ x. x.event.moment) is ∙ at) (ap (λ x. x.keys) is) passes tracks late
 
-    -- a restart
+    -- a restart is taken
     pub restart_taken : (event : NumberedEvent) → event ≡ record { moment = moment; action = Restart; number = 0; kind = Request Other; reliable = false } → ((n : ℕ) → Keeps mid n → 0 < n) → Tells told.Restart
         → Passes mid moment (Some (record { event = event; concerned = concerned.All })) t b u c → (es : List (Observation KeyParts)) → TablesSurvey old es t b.deaf.items → newest_moment es ≤ moment
         → IsTaken mid t.times es i moment None u c
@@ -121,7 +122,7 @@ module _ (old mid : Texts) (number : ℕ) (bytes : List ℕ) (grown : IsGrown ol
               (begun_same mid es e t b (grown_survey old mid number bytes grown es t b.deaf.items tracks) long sets (subst (λ n. newest_moment es ≤ n) (sym now) late) fresh),
         )
 
-  -- a message that is heard
+  -- a message that transactions hear is taken
   pub heard_taken : (event : NumberedEvent) (concerned : Concerned KeyParts) (numbers : Concerned ℕ) (t w u : Tabled) (b d c : Troubled) (more : List Bool) → length b.deaf.items ≡ length t.keys → length t.sets ≡ length t.keys → IsFresh b
       → d.deaf.items ≡ b.deaf.items ++ more → All (λ x. x ≡ false) more → d.broken.items ≡ b.broken.items → d.wide.items ≡ b.wide.items
       → TouchesEach (each concerned) (each numbers) t w → AllPairs (λ x y. x ≢ y) w.keys → u.keys ≡ w.keys → event.moment ≡ moment → is_all numbers ≡ false → Tells (told.Heard event concerned)
@@ -140,11 +141,11 @@ module _ (old mid : Texts) (number : ℕ) (bytes : List ℕ) (grown : IsGrown ol
             (each concerned) (each numbers) touched),
       )
     where
-      -- what is observed of it
+      -- what is observed of the message
       seen : Observation KeyParts
       seen = record { fault = None; event = event_in mid event; keys = each concerned }
 
--- what is on record stays where keys came, and those that came are to hear the event
+-- after keys were looked up, each last moment is on record, except those of the keys, which are to hear the event
 pub watched_touched : (ks : List KeyParts) (ns : List ℕ) (t w : Tabled) (b d : Troubled) (more : List Bool) → TouchesEach ks ns t w → length t.sets ≡ length t.keys → AreWatched [] t b
     → d.deaf.items ≡ b.deaf.items ++ more → All (λ x. x ≡ false) more → length d.deaf.items ≡ length w.keys → AreWatched ns w d
 watched_touched ks ns t w b d more touched sets h deaf false_all long = record {

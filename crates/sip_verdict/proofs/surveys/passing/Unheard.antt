@@ -1,4 +1,4 @@
--- A key that no entry concerns.
+-- What holds of a key that no entry concerns.
 use Rattle.std.proofs.Common.{◌≡◌, ◌+◌, ◌∙◌, true, cond, List, [], ◌∷◌, ◌++◌, length, length-append, sym, ap, arith}
 use Rattle.std.specs.Prelude.{filter}
 use Rattle.std.specs.List.{list_any}
@@ -9,7 +9,7 @@ use Rattle.sip_standard.specs.Times.{Times}
 use Rattle.sip_standard.specs.Observation.{Observation}
 use Rattle.sip_standard.specs.VerdictOf.{events_for, IsWideAt}
 
--- an entry that concerns it has an event of it
+-- where an entry concerns the key, the key has an event
 concerned_events : (key : KeyParts) (front : List (Observation KeyParts)) (e : Observation KeyParts) (rest : List (Observation KeyParts)) → list_any (same_key key) e.keys ≡ true → events_for key (front ++ e ∷ rest) ≡ [] → ⊥
 concerned_events key front e rest concerned none =
     let P = λ (f : Observation KeyParts). list_any (same_key key) f.keys in
@@ -18,7 +18,7 @@ concerned_events key front e rest concerned none =
     let size : length (events_for key (front ++ e ∷ rest)) ≡ length (filter P front) + length (e ∷ filter P rest) = length-map (filter P (front ++ e ∷ rest)) (λ f. f.event) ∙ ap length split ∙ length-append (filter P front) (e ∷ filter P rest) in
     omega (arith, size, ap length none)
 
--- a transaction that no entry concerns is too wide at none
+-- a transaction that no entry concerns is too wide at no entry
 pub unheard_narrow : (p : Times) (es : List (Observation KeyParts)) (key : KeyParts) → events_for key es ≡ []
     → (front : List (Observation KeyParts)) (e : Observation KeyParts) (rest : List (Observation KeyParts)) → es ≡ front ++ e ∷ rest → ¬ (IsWideAt p front e key)
 unheard_narrow p es key none front e rest is wide = concerned_events key front e rest wide.0 (ap (events_for key) (sym is) ∙ none)

@@ -24,7 +24,7 @@ use Rattle.sip_verdict.proofs.tables.Halfway.{All-position_None, not_passing}
 use Rattle.sip_verdict.proofs.keys.KeyPassing.{in_time_goes, quiet_goes}
 use Rattle.sip_verdict.proofs.tables.TablesPassing.{at_place, All-place, given_still}
 
--- where none is due, no last moment on record is past
+-- where no transaction is due, no last moment on record is past
 none_past : (moment : ℕ) (rs : Records) → option_map (λ index. index + 1) (position (is_overdue moment) rs) ≡ None → (n : ℕ) (r : Option (Option ℕ)) → slice_get rs n ≡ Some r → is_overdue moment r ≡ false
 none_past moment rs none n r at = not_passing (is_overdue moment r) (All-place (λ x. ¬ IsTrue (is_overdue moment x)) rs n r at (All-position_None (is_overdue moment) rs (unmapped (position (is_overdue moment) rs) none)))
   where
@@ -32,7 +32,7 @@ none_past moment rs none n r at = not_passing (is_overdue moment r) (All-place (
     unmapped None h = refl
     unmapped (Some i) h = absurd cc
 
--- whether it is so or not
+-- a flag is true or false
 decided : (b : Bool) → (b ≡ true) ⊎ (b ≡ false)
 decided true = inl refl
 decided false = inr refl
@@ -45,11 +45,11 @@ module _ (texts : Texts) (p : Times) (es : List (Observation KeyParts)) (e : Obs
   since : newest_moment es ≤ e.event.moment
   since = subst (λ n. newest_moment es ≤ n) (sym now) late
 
-  -- which are to hear it
+  -- What follows is of the numbers `waits` of the transactions that are to hear the entry.
   module _ (waits : List ℕ) (watched : AreWatched waits t b)
       (others : (n : ℕ) (key : KeyParts) (s : AnySet) → slice_get t.keys n ≡ Some key → slice_get t.sets n ≡ Some s → is_among waits (n + 1) ≡ false → IsReady k es (key, s)
       → (concerns key e ≡ false) ⊎ GoesOn p k es e (key, s)) where
-    -- one that is not goes on
+    -- a key that is ready, and not to hear the entry, goes on over it
     goes : (n : ℕ) (key : KeyParts) (s : AnySet) → slice_get t.keys n ≡ Some key → slice_get t.sets n ≡ Some s → is_among waits (n + 1) ≡ false → IsReady k es (key, s) → GoesOn p k es e (key, s)
     goes n key s at here other ready = by (others n key s at here other ready)
       where
@@ -75,17 +75,17 @@ module _ (texts : Texts) (p : Times) (es : List (Observation KeyParts)) (e : Obs
             by true is = ready
             by false is = goes n key s at here is ready
 
--- an entry that concerns none lets all wait
+-- where an entry concerns no key and no transaction is due, all transactions have waited until it
 pub mark_passes : (texts : Texts) (p : Times) (es : List (Observation KeyParts)) (e : Observation KeyParts) (moment : ℕ) → newest_moment es ≤ moment → e.event.moment ≡ moment → (t : Tabled) (b : Troubled) → MayPass texts t moment → due_of t moment ≡ None
     → AreTold texts t.keys moment None e → AreWatched [] t b → ArePassing texts p es e any t b → ArePassing texts p es e (is_among []) t b
 mark_passes texts p es e moment late now t b may none told watched h =
     to_hear texts p es e moment late now t b may none h [] watched (λ n key s at here other ready. inl ((told n key at).concerned))
 
--- one with an event lets those wait that do not hear it
+-- What follows is of an entry with an event: the transactions that do not hear it wait.
 module _ (texts : Texts) (p : Times) (es : List (Observation KeyParts)) (e : Observation KeyParts) (moment : ℕ) (late : newest_moment es ≤ moment) (now : e.event.moment ≡ moment) (t : Tabled) (b : Troubled)
     (may : MayPass texts t moment) (none : due_of t moment ≡ None) (h : ArePassing texts p es e any t b) (hearing : Hearing) (told : AreTold texts t.keys moment (Some hearing) e) (hear : MayHear texts t moment hearing)
     (numbers : List ℕ) (hearers : AreHearers t hearing.concerned numbers) (watched : AreWatched numbers t b) where
-  -- the event concerns all, and the set is quiet; or it does not concern the key
+  -- a key that is not to hear the event is not concerned by it, or goes on over it since its set is quiet and the event a restart
   left : (n : ℕ) (key : KeyParts) (s : AnySet) → slice_get t.keys n ≡ Some key → slice_get t.sets n ≡ Some s → is_among numbers (n + 1) ≡ false → IsReady (key_keeping texts p) es (key, s)
       → (concerns key e ≡ false) ⊎ GoesOn p (key_keeping texts p) es e (key, s)
   left n key s at here other ready = by (is_all hearing.concerned) refl
@@ -100,7 +100,7 @@ module _ (texts : Texts) (p : Times) (es : List (Observation KeyParts)) (e : Obs
           hearing.event (told n key at).event (hear.restart all) (hearers.others all n s here other)
           ((told n key at).concerned ∙ ap (λ a. a || is_among (each hearing.concerned) (n + 1)) all))
 
-  -- all that are not to hear an event have waited until it
+  -- all transactions that are not to hear the event have waited until it
   pub event_waits : ArePassing texts p es e (is_among numbers) t b
   event_waits = to_hear texts p es e moment late now t b may none h numbers watched left
 
@@ -108,7 +108,7 @@ module _ (texts : Texts) (p : Times) (es : List (Observation KeyParts)) (e : Obs
   pub event_concerns : AreConcerned texts p es e hearing.event numbers t.keys
   event_concerns n key at among = ((told n key at).event, (told n key at).concerned ∙ hearers.heard (n + 1) among)
 
--- an event may be heard as well where the keys are the same
+-- an event that may be heard by tables may be heard by other tables with the same keys
 pub hear_still : (texts : Texts) (t u : Tabled) (moment : ℕ) (h : Hearing) → u.keys ≡ t.keys → MayHear texts t moment h → MayHear texts u moment h
 hear_still texts t u moment h keys may =
     record { fits = may.fits; at = may.at; given = All-weaker (IsGiven t) (IsGiven u) (λ n g. given_still n t u keys g) (each h.concerned) may.given; apart = may.apart; restart = may.restart }

@@ -1,44 +1,22 @@
 -- What is on record of the transactions of a survey, and that an entry may pass them.
-use Rattle.std.proofs.Common.{◌≡◌, ◌≢◌, ◌≤◌, ◌<◌, ◌+◌, ◌-◌, ◌⊎◌, inl, inr, ℕ, zero, suc, true, false, Option, Some, None, List, [], ◌∷◌, All, length, slice_get, slice_set, refl, sym, ap, ◌∙◌, subst, true≢false, arith}
+use Rattle.std.proofs.Common.{◌≡◌, ◌≢◌, ◌≤◌, ◌<◌, ◌+◌, ◌-◌, ◌⊎◌, inl, inr, ℕ, true, false, Option, Some, None, List, ◌∷◌, All, length, slice_get, slice_set, sym, ap, ◌∙◌, subst, true≢false, arith}
 use Rattle.std.proofs.lemmas.List.{length-set}
 use Rattle.std.proofs.lemmas.List.Elements.{All-set}
+use Rattle.std.proofs.lemmas.Option.{same_Some}
 use Rattle.sip_standard.specs.Key.{KeyParts}
 use Rattle.sip_standard.specs.Times.{Times}
 use Rattle.sip_machine.specs.Texts.{Texts}
 use Rattle.sip_states.specs.AnySet.{moment_of, start_of, IsAgendaOf, IsKnownSet}
 use Rattle.sip_states.specs.Tables.{Tabled, IsGiven}
 use Rattle.sip_states.specs.declared.any_set.AnySet.{AnySet}
+use Rattle.sip_states.proofs.lists.Places.{set_place, set_other, set_here, set_twice}
 use Rattle.sip_verdict.specs.declared.troubled.Troubled.{Troubled}
 use Rattle.sip_verdict.specs.inner.TablesTracking.{is_among, IsOnRecord, MayPass}
 use Rattle.sip_verdict.specs.inner.Surveying.{AreWatched}
-use Rattle.sip_verdict.proofs.tables.TablesPassing.{set-place, among_one, among_rest, settled, recorded_more}
+use Rattle.sip_verdict.proofs.tables.TablesPassing.{among_one, among_rest, settled, recorded_more}
 use Rattle.sip_verdict.proofs.tables.TablesTouching.{start_at, start_known}
 
--- a place that is written twice
-set_twice : {A : Type 0} (xs : List A) (i : ℕ) (a b : A) → slice_set (slice_set xs i a) i b ≡ slice_set xs i b
-set_twice [] i a b = refl
-set_twice (x ∷ xs) zero a b = refl
-set_twice (x ∷ xs) (suc i) a b = ap (λ ys. x ∷ ys) (set_twice xs i a b)
-
--- what was written is there
-set_here : {A : Type 0} (xs : List A) (i : ℕ) (a : A) → i < length xs → slice_get (slice_set xs i a) i ≡ Some a
-set_here [] i a low = absurd (omega arith)
-set_here (x ∷ xs) zero a low = refl
-set_here (x ∷ xs) (suc i) a low = set_here xs i a (omega arith)
-
--- the elements at other places are as they were
-set_other : {A : Type 0} (xs : List A) (i n : ℕ) (a x : A) → n ≢ i → slice_get xs n ≡ Some x → slice_get (slice_set xs i a) n ≡ Some x
-set_other [] i n a x differ at = absurd cc
-set_other (u ∷ xs) zero zero a x differ at = absurd (differ refl)
-set_other (u ∷ xs) zero (suc n) a x differ at = at
-set_other (u ∷ xs) (suc i) zero a x differ at = at
-set_other (u ∷ xs) (suc i) (suc n) a x differ at = set_other xs i n a x (λ same. differ (ap suc same)) at
-
--- two values at one place are one
-same_some : {A : Type 0} (x y : A) → Some x ≡ Some y → x ≡ y
-same_some x y h = cc
-
--- nothing on record is no record
+-- the record without a last moment is not one with a last moment
 none_some : {A : Type 0} (x : A) → Some None ≡ Some (Some x) → ⊥
 none_some x h = cc
 
@@ -49,17 +27,17 @@ module _ (t : Tabled) (b : Troubled) (number : ℕ) (waits : List ℕ) (given : 
   inside : number - 1 < length b.deaf.items
   inside = (let low = given.low in let high = given.high in let long = h.long in omega arith)
 
-  -- it goes on
+  -- where a transaction hears the event and goes on, all are watched still, and it is no longer to hear
   pub watched_on : (u : Tabled) (after : AnySet) (limit : Option ℕ) → IsAgendaOf limit after → slice_get b.deaf.items (number - 1) ≡ Some false
       → u.keys ≡ t.keys → u.sets ≡ slice_set t.sets (number - 1) after → u.records ≡ slice_set t.records (number - 1) (Some limit) → AreWatched waits u b
   watched_on u after limit agenda hearing keys sets records = record {
     long = h.long ∙ ap length (sym keys);
     recorded = settled t number waits given.low after limit agenda h.recorded u keys sets records;
     silent = λ n deaf. ap (λ rs. slice_get rs n) records
-        ∙ set_other t.records place n (Some limit) (Some None) (λ same. true≢false (same_some true false (sym deaf ∙ ap (slice_get b.deaf.items) same ∙ hearing))) (h.silent n deaf);
+        ∙ set_other t.records place n (Some limit) (Some None) (λ same. true≢false (same_Some true false (sym deaf ∙ ap (slice_get b.deaf.items) same ∙ hearing))) (h.silent n deaf);
   }
 
-  -- it is in trouble
+  -- where a transaction is in trouble, all are watched still when it is no longer to hear
   pub watched_deaf : slice_get b.deaf.items (number - 1) ≡ Some true → AreWatched waits t b
   watched_deaf deaf = record {
     long = h.long;
@@ -73,31 +51,31 @@ module _ (t : Tabled) (b : Troubled) (number : ℕ) (waits : List ℕ) (given : 
           let at : n ≡ number - 1 = omega (arith, same) in
           absurd (none_some None (sym here ∙ ap (slice_get t.records) at ∙ h.silent place deaf)))
 
-  -- it comes into trouble
+  -- where a transaction comes into trouble and its last moment is taken off the record, all are watched still
   pub watched_off : (u : Tabled) (c : Troubled) (after : AnySet) → IsAgendaOf None after → c.deaf.items ≡ slice_set b.deaf.items (number - 1) true
       → u.keys ≡ t.keys → u.sets ≡ slice_set t.sets (number - 1) after → u.records ≡ slice_set t.records (number - 1) (Some None) → AreWatched waits u c
   watched_off u c after agenda deaf keys sets records = record {
     long = ap length deaf ∙ length-set b.deaf.items place true ∙ h.long ∙ ap length (sym keys);
     recorded = settled t number waits given.low after None agenda h.recorded u keys sets records;
-    silent = λ n is. ap (λ rs. slice_get rs n) records ∙ one n (set-place b.deaf.items place n true true (ap (λ ds. slice_get ds n) (sym deaf) ∙ is));
+    silent = λ n is. ap (λ rs. slice_get rs n) records ∙ one n (set_place b.deaf.items place n true true (ap (λ ds. slice_get ds n) (sym deaf) ∙ is));
   }
     where
       one : (n : ℕ) → ((n ≡ place) × (true ≡ true)) ⊎ ((n ≢ place) × (slice_get b.deaf.items n ≡ Some true)) → slice_get (slice_set t.records place (Some None)) n ≡ Some (Some None)
       one n (inl (same, same_too)) = ap (slice_get (slice_set t.records place (Some None))) same ∙ set_here t.records place (Some None) (let low = inside in let long = h.long in let as_long = h.recorded.long in omega arith)
       one n (inr (other, is)) = set_other t.records place n (Some None) (Some None) other (h.silent n is)
 
--- one that is overdue comes into trouble, whatever is still to hear
+-- where an overdue transaction comes into trouble and its last moment is taken off the record, all are watched still
 pub watched_released : (t u : Tabled) (b c : Troubled) (number : ℕ) (waits : List ℕ) → IsGiven t number → AreWatched waits t b → (after : AnySet) → IsAgendaOf None after → c.deaf.items ≡ slice_set b.deaf.items (number - 1) true
     → u.keys ≡ t.keys → u.sets ≡ slice_set t.sets (number - 1) after → u.records ≡ slice_set t.records (number - 1) (Some None) → AreWatched waits u c
 watched_released t u b c number waits given h after agenda deaf keys sets records =
     watched_off t b number waits given (record { long = h.long; recorded = recorded_more waits (number ∷ waits) t (λ n among. among_rest n number waits among) h.recorded; silent = h.silent })
     u c after agenda deaf keys sets records
 
--- the sets of a key that starts anew, whatever set it had
+-- a set that starts anew is the same whatever set it replaces
 pub anew_sets : (t u : Tabled) (number : ℕ) (mid : AnySet) (key : KeyParts) → u.sets ≡ slice_set (slice_set t.sets (number - 1) mid) (number - 1) (start_of t.times key) → u.sets ≡ slice_set t.sets (number - 1) (start_of t.times key)
 anew_sets t u number mid key sets = sets ∙ set_twice t.sets (number - 1) mid (start_of t.times key)
 
--- an entry may pass where another set is at a place
+-- where an entry may pass tables, it may pass them with another set that has no later moment and names only messages of the book
 pub passes_with : (texts : Texts) (t u : Tabled) (place moment : ℕ) (after : AnySet) → MayPass texts t moment → moment_of after ≤ moment → IsKnownSet texts after → u.keys ≡ t.keys → u.sets ≡ slice_set t.sets place after → MayPass texts u moment
 passes_with texts t u place moment after may low known keys sets = record {
   order = subst (All (λ set. moment_of set ≤ moment)) (sym sets) (All-set (λ set. moment_of set ≤ moment) t.sets place after low may.order);
@@ -105,11 +83,11 @@ passes_with texts t u place moment after may low known keys sets = record {
   long = ap length sets ∙ length-set t.sets place after ∙ may.long ∙ ap length (sym keys);
 }
 
--- also that of a key that starts anew
+-- where an entry may pass tables, it may pass them with a set that starts anew
 pub passes_anew : (texts : Texts) (t u : Tabled) (place moment : ℕ) (key : KeyParts) (q : Times) → MayPass texts t moment → u.keys ≡ t.keys → u.sets ≡ slice_set t.sets place (start_of q key) → MayPass texts u moment
 passes_anew texts t u place moment key q may keys sets =
     passes_with texts t u place moment (start_of q key) may (let at = start_at q key in omega arith) (start_known texts q key) keys sets
 
--- what is watched while few are still to hear is watched while more are
+-- transactions that are watched while few are still to hear are watched while more are
 pub watched_more : (few more : List ℕ) (t : Tabled) (b : Troubled) → ((n : ℕ) → is_among few n ≡ true → is_among more n ≡ true) → AreWatched few t b → AreWatched more t b
 watched_more few more t b among h = record { long = h.long; recorded = recorded_more few more t among h.recorded; silent = h.silent }

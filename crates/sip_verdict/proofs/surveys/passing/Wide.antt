@@ -9,7 +9,7 @@ use Rattle.sip_standard.specs.Observation.{Observation}
 use Rattle.sip_standard.specs.VerdictOf.{events_for, RunsOver, IsWideAt}
 use Rattle.sip_verdict.proofs.keys.Keys.{newest_moment-push, events_for-concerned}
 
--- the first of more than so many
+-- P holds of the first of more than n elements, where it holds of all of them
 first_of_many : {X : Type 0} (P : X → Type 0) (n : ℕ) (xs : List X) → n < length xs → All P xs → (x : X) × P x
 first_of_many P n [] long all = absurd (omega (arith, long))
 first_of_many P n (x ∷ xs) long all = (x, All-head P x xs all)

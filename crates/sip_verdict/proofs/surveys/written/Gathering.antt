@@ -1,6 +1,7 @@
--- What is found at the entries of a log, one after another, and what it comes to when the log ends.
+-- What is found at the entries of a log, one after another, is the survey when the log ends.
 use Rattle.std.proofs.Common.{◌≡◌, ◌+◌, ◌∙◌, inl, inr, ℕ, Option, Some, None, IfSome, List, [], ◌∷◌, ◌++◌, length, refl, sym, ap, subst, append_assoc, arith}
 use Rattle.std.proofs.lemmas.List.{append-nil}
+use Rattle.std.proofs.lemmas.Option.{same_Some}
 use Rattle.sip_standard.specs.Key.{KeyParts}
 use Rattle.sip_standard.specs.Times.{Times}
 use Rattle.sip_part.specs.Part.{PartOf}
@@ -21,16 +22,15 @@ use Rattle.sip_standard.specs.Seen.{AreSeen}
 use Rattle.sip_standard.specs.VerdictOf.{keys_in, HasTrouble, IsVerdictAfter, IsVerdictOf, Sees}
 use Rattle.sip_verdict.specs.SurveyOf.{AreFoundAt, IsSurveyAfter}
 use Rattle.sip_verdict.specs.Surveys.{Surveying, SurveysFor}
-use Rattle.sip_verdict.specs.SurveyParts.{IsPartLog}
-use Rattle.sip_verdict.specs.inner.SurveyingLogs.{AreTaken, IsSurveyIn, IsTaken, SurveysRead, IsToldIn}
+use Rattle.sip_verdict.specs.SurveyParts.{IsPartLog, IsTaken}
+use Rattle.sip_verdict.specs.inner.SurveyingLogs.{AreTaken, IsSurveyIn, SurveysRead, IsToldIn}
 use Rattle.sip_verdict.specs.inner.Walking.{HasRead}
-use Rattle.sip_verdict.proofs.judges.StandingLemmas.{same_some}
 use Rattle.sip_verdict.proofs.judges.JudgingLemmas.{seen-push}
 use Rattle.sip_verdict.specs.SurveyText.{IsSurveyText, end_text}
 use Rattle.sip_log.specs.Reading as log
 use Rattle.sip_verdict.specs.declared.survey_end.SurveyEnd.TheVariants as ended
 
--- one more is taken
+-- where items are taken for a part, and one item more is, all of them are
 pub taken_push : (part : Option PartOf) (items takens : List Item) (item taken : Item) → AreTaken part items takens → IsTaken part item taken → AreTaken part (items ++ item ∷ []) (takens ++ taken ∷ [])
 taken_push part [] [] item taken are one = (one, tt)
 taken_push part [] (x ∷ takens) item taken are one = absurd are
@@ -51,14 +51,14 @@ taken_part part [] (x ∷ takens) are = absurd are
 taken_part part (i ∷ items) [] are = absurd are
 taken_part part (i ∷ items) (x ∷ takens) (one, are) = (one, taken_part part items takens are)
 
--- what is found at the entries as they are taken is the survey
+-- what is found at the items as they are taken is the survey of the input, or of the part
 survey_in : (part : Option PartOf) (input : List ℕ) (p : Times) (items takens : List Item) (close : LogEnd) (found : List Finding) (end : SurveyEnd) → LogSays input p items close → AreTaken part items takens
     → IsSurveyAfter p [] takens close found end → IsSurveyIn part input found end
 survey_in None input p items takens close found end log are whole =
     inr (p, items, close, log, subst (λ is. IsSurveyAfter p [] is close found end) (taken_whole items takens are) whole)
 survey_in (Some part) input p items takens close found end log are whole = inr (p, items, close, takens, log, taken_part part items takens are, whole)
 
--- these are the entries of the survey
+-- where entries are seen of the items as they are taken, and a text is the text of the survey in them, the survey is told with this text
 pub entries_in : (part : Option PartOf) (input : List ℕ) (p : Times) (items takens : List Item) (es : List (Observation KeyParts)) (close : LogEnd) (found : List Finding) (end : SurveyEnd) (text : List ℕ)
     → LogSays input p items close → AreTaken part items takens → AreSeen [] takens es → IsSurveyIn part input found end → IsSurveyText es found end text → IsToldIn part input found end text
 entries_in None input p items takens es close found end text log are seen survey told =
@@ -75,7 +75,7 @@ survey_without None input end lacks same = inl (lacks, refl, same)
 survey_without (Some part) input end lacks same = inl (lacks, refl, same)
 
 module _ (part : Option PartOf) (start : Option (List ℕ)) (now : log.ReaderState) (s : Surveying) (found : List Finding) (read : SurveysRead part s found start now) where
-  -- one more entry was read and taken so, and this was found at it
+  -- where one more item was read and taken, and these findings were made at it, the survey has read that item too
   unfoldable pub found_on : (e cut : Entry) (new : log.ReaderState) → HasRead start s.tables.times (read.items ++ item e ∷ []) new → IsTaken part (item e) (item cut) → (k : Surveying) → k.tables.times ≡ s.tables.times
       → (seen : Observation KeyParts) (here : List Finding) → Sees read.es (item cut) seen → AreFoundAt s.tables.times read.es seen here → SurveysFor k (read.es ++ seen ∷ [])
       → SurveysRead part k (found ++ here) start new
@@ -98,7 +98,7 @@ module _ (part : Option PartOf) (start : Option (List ℕ)) (now : log.ReaderSta
             (subst (λ fs. IsSurveyAfter p [] ((read.taken ++ item cut ∷ []) ++ rest) close fs end) (sym (append_assoc found here later)) by_items);
       }
 
-  -- what is found at the next entry is put after what was found before
+  -- where the findings at the next entry are put after those so far, the survey has read that entry too
   pub gathered_on : (e cut : Entry) (new : log.ReaderState) → HasRead start s.tables.times (read.items ++ item e ∷ []) new → IsTaken part (item e) (item cut) → (k : Surveying) → k.tables.times ≡ s.tables.times
       → (items : List Finding)
       → ((es : List (Observation KeyParts)) → SurveysFor s es → (seen : Observation KeyParts) × (here : List Finding) × Sees es (item cut) seen
@@ -108,7 +108,7 @@ module _ (part : Option PartOf) (start : Option (List ℕ)) (now : log.ReaderSta
       let (seen, here, observed, are, same, stands) = says read.es read.follows in
       subst (λ fs. SurveysRead part k fs start new) (sym same) (found_on e cut new more is_taken k times seen here observed are stands)
 
-  -- the log ends so after the entries that were read
+  -- where the log ends after the items that were read, what was found is the survey of the input, or of the part
   pub gathered_of : (close : LogEnd) (end : SurveyEnd) → IsSurveyAfter s.tables.times read.es [] close [] end → (input : List ℕ) → LogSays input s.tables.times read.items close → IsSurveyIn part input found end
   gathered_of close end left input log_is =
       let p = s.tables.times in
@@ -120,43 +120,43 @@ module _ (part : Option PartOf) (start : Option (List ℕ)) (now : log.ReaderSta
       → IfSome start (λ input. IsSurveyIn part input found end)
   gathered close end left logs = IfSome-map start (λ input. LogSays input s.tables.times read.items close) (λ input. IsSurveyIn part input found end) (gathered_of close end left) logs
 
-  -- it was read to its end
+  -- where the log is read to its end, what was found is the survey, with the counts of its entries and transactions
   pub gathered_end : (end : SurveyEnd) → end ≡ ended.Clean (length read.es) (length (keys_in read.es)) → IfSome start (λ input. LogSays input s.tables.times read.items Clean)
       → IfSome start (λ input. IsSurveyIn part input found end)
   gathered_end end is logs = gathered Clean end (refl, is) logs
 
-  -- what comes after so many entries cannot be read
+  -- where what comes after the entries cannot be read, what was found is the survey, which ends with that fault
   pub gathered_stop : (count : ℕ) (reason : LogReason) → count ≡ s.number → (fault : LogReason) × (reason ≡ fault) × IfSome start (λ input. LogSays input s.tables.times read.items (Stops fault))
       → IfSome start (λ input. IsSurveyIn part input found (ended.LogFault (count + 1) reason))
   gathered_stop count reason counted (fault, same, logs) =
       gathered (Stops fault) (ended.LogFault (count + 1) reason)
       (refl, ap (λ n. ended.LogFault (n + 1) reason) (counted ∙ read.follows.number) ∙ ap (ended.LogFault (length read.es + 1)) same) logs
 
--- an entry in trouble has a number
+-- the verdict of an entry in trouble has a number that is not 0
 trouble-counted : (p : Times) (front : List (Observation KeyParts)) (e : Observation KeyParts) (v : Verdict) → HasTrouble p front e v → trouble_of v ≡ Some 0 → ⊥
 trouble-counted p front e (Legal entries transactions) is none = is
-trouble-counted p front e (Malformed entry fault) (at, has) none = let same = same_some entry 0 none in omega (arith, at, same)
-trouble-counted p front e (Breach entry transaction) (at, formed, first) none = let same = same_some entry 0 none in omega (arith, at, same)
-trouble-counted p front e (Undecided entry transaction) (at, formed, runs, first) none = let same = same_some entry 0 none in omega (arith, at, same)
+trouble-counted p front e (Malformed entry fault) (at, has) none = let same = same_Some entry 0 none in omega (arith, at, same)
+trouble-counted p front e (Breach entry transaction) (at, formed, first) none = let same = same_Some entry 0 none in omega (arith, at, same)
+trouble-counted p front e (Undecided entry transaction) (at, formed, runs, first) none = let same = same_Some entry 0 none in omega (arith, at, same)
 trouble-counted p front e (FaultOfLog entry reason) is none = is
 
--- nothing is no number
+-- the option None is not a number
 none-some : (n : ℕ) → None ≡ Some n → ⊥
 none-some n same = cc
 
--- the verdict of entries is of none before the first
+-- the verdict on the entries of a log is of an entry above 0
 counted : (p : Times) (es : List (Observation KeyParts)) (items : List Item) (close : LogEnd) (v : Verdict) → IsVerdictAfter p es items close v → trouble_of v ≡ Some 0 → ⊥
 counted p es [] Clean v is none = none-some 0 (sym (ap trouble_of is) ∙ none)
-counted p es [] (Stops fault) v is none = let same = same_some (length es + 1) 0 (sym (ap trouble_of is) ∙ none) in omega (arith, same)
+counted p es [] (Stops fault) v is none = let same = same_Some (length es + 1) 0 (sym (ap trouble_of is) ∙ none) in omega (arith, same)
 counted p es (item ∷ items) close v (e, sees, inl trouble) none = trouble-counted p es e v trouble none
 counted p es (item ∷ items) close v (e, sees, inr (formed, runs, narrow, more)) none = counted p (es ++ e ∷ []) items close v more none
 
--- where the verdict is of entry 0 the input lacks a header, so this is its survey
+-- where the verdict is of entry 0, the input lacks a header
 pub header_lacks : (input : List ℕ) (v : Verdict) → IsVerdictOf input v → trouble_of v ≡ Some 0 → LacksHeader input
 header_lacks input v (inl (lacks, is)) none = lacks
 header_lacks input v (inr (p, items, close, says, judged)) none = absurd (counted p [] items close v judged none)
 
--- the header cannot be read
+-- where the header cannot be read, the survey of the input, or of the part, finds nothing and ends with the fault of the header
 pub gathered_header : (part : Option PartOf) (start : Option (List ℕ)) (v : Verdict) → IfSome start (λ input. IsVerdictOf input v) → trouble_of v ≡ Some 0
     → IfSome start (λ input. IsSurveyIn part input [] (ended.LogFault 0 Header))
 gathered_header part start v is none =

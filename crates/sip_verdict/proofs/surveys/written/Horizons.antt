@@ -1,7 +1,7 @@
 -- The horizon of a survey that forgets, where entries come and where some are forgotten.
-use Rattle.std.proofs.Common.{◌≡◌, ◌≢◌, ◌≤◌, ◌+◌, ◌⊎◌, ◌∙◌, inl, inr, ℕ, Bool, List, [], ◌∷◌, ◌++◌, length, take, sym, ap, arith, length-append}
+use Rattle.std.proofs.Common.{◌≡◌, ◌≢◌, ◌≤◌, ◌+◌, ◌⊎◌, ◌∙◌, inl, inr, ℕ, Bool, List, [], ◌∷◌, ◌++◌, take, sym, ap, arith, length-append}
 use Rattle.std.specs.Prelude.{filter}
-use Rattle.std.proofs.lemmas.List.{take-append-le, take_all, take-map}
+use Rattle.std.proofs.lemmas.List.{take-append-le, take-map}
 use Rattle.sip_standard.specs.Key.{KeyParts}
 use Rattle.sip_standard.specs.Observation.{Observation}
 use Rattle.sip_verdict.specs.declared.horizon.Horizon.{Horizon}
@@ -12,7 +12,7 @@ use Rattle.sip_verdict.specs.inner.ForgettingLogs.{IsHorizonOf}
 use Rattle.sip_verdict.proofs.keys.Keys.{newest_moment-push}
 use Rattle.sip_verdict.proofs.surveys.forgetting.Forgotten.{newest_kept, long_kept}
 
--- one entry more comes
+-- a horizon of entries is one still when an entry more comes, which is not before the newest
 pub horizon_push : (m : Horizon) (es : List (Observation KeyParts)) (e : Observation KeyParts) → IsHorizonOf m es → newest_moment es ≤ e.event.moment → IsHorizonOf m (es ++ e ∷ [])
 horizon_push m es e are later =
     let long = length-append es (e ∷ []) in
@@ -32,7 +32,7 @@ horizon_push m es e are later =
         let now = newest_moment-push es e in
         inr (omega (arith, same, now, ago, later))
 
--- some transactions are forgotten
+-- a horizon of entries is one still when some transactions are forgotten
 pub horizon_kept : (kept : KeyParts → Bool) (m : Horizon) (es : List (Observation KeyParts)) → IsHorizonOf m es → IsHorizonOf m (remembered kept es)
 horizon_kept kept m es are =
     let long = long_kept kept es in
@@ -55,20 +55,7 @@ horizon_kept kept m es are =
         let now = newest_kept kept es in
         inr (omega (arith, before, now, ago))
 
--- the newest entry is noted
-pub horizon_on : (m n : Horizon) (es : List (Observation KeyParts)) → IsHorizonOf m es → n.age ≡ m.age → n.until ≡ m.number → n.number ≡ length es → n.moment ≡ newest_moment es → m.moment + m.age ≤ n.moment → IsHorizonOf n es
-horizon_on m n es are age until number moment old =
-    let low = are.inside in
-    let at = are.at in
-    let before = ap (λ i. newest_moment (take i es)) until in
-    record {
-      inside = omega (arith, number);
-      at = ap newest_moment (take_all n.number es (omega (arith, number))) ∙ sym moment;
-      until_inside = omega (arith, until, low);
-      long_ago = inr (omega (arith, before, at, age, moment, old));
-    }
-
--- they are counted anew
+-- where its transactions are counted anew, a horizon is still one of the entries
 pub horizon_left : (m n : Horizon) (es : List (Observation KeyParts)) → IsHorizonOf m es → n.age ≡ m.age → n.until ≡ m.until → n.number ≡ m.number → n.moment ≡ m.moment → IsHorizonOf n es
 horizon_left m n es are age until number moment =
     let low = are.inside in
@@ -84,7 +71,7 @@ horizon_left m n es are age until number moment =
     by (inl none) = inl (until ∙ none)
     by (inr ago) = let before = ap (λ i. newest_moment (take i es)) until in inr (omega (arith, before, age, ago))
 
--- where some may be forgotten, what is up to there came long ago
+-- where some transactions may be forgotten, the entries up to `until` came at least `age` milliseconds before the newest
 pub came_long_ago : (m : Horizon) (es : List (Observation KeyParts)) → IsHorizonOf m es → m.until ≢ 0 → IsLongAgo m.age m.until es
 came_long_ago m es are some = by are.long_ago
   where

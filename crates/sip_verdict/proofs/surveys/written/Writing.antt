@@ -1,4 +1,4 @@
--- What a survey writes of what it finds, line after line, and what it comes to at the end of the log.
+-- What a survey writes of its findings, line after line, is the survey's text at the end of the log.
 use Rattle.std.proofs.Common.{◌≡◌, ◌+◌, ◌∙◌, ℕ, Option, Some, IfSome, Result, Ok, Err, IfOk, OnOk, Bool, false, List, [], ◌∷◌, ◌++◌, length, filter, refl, sym, ap, subst, arith, ◌-◌, suc, None, IsSomeAnd, Contains, slice_get, append_assoc}
 use Rattle.std.proofs.lemmas.List.{length-append, append-nil}
 use Rattle.std.proofs.lemmas.List.Elements.{filter-append}
@@ -24,21 +24,23 @@ use Rattle.sip_standard.specs.VerdictOf.{keys_in, IsVerdictOf, Sees}
 use Rattle.sip_verdict.specs.SurveyOf.{AreFoundAt, IsSurveyAfter, HoldsOf, IsFoundAt, verdict_of}
 use Rattle.sip_verdict.specs.SurveyText.{SumsUp, end_text, is_undecided, AreWordsOf, IsFirstOf, IsLastOf, IsTextOf, entry_of, transaction_words}
 use Rattle.sip_verdict.specs.Surveys.{Surveying, SurveysFor}
-use Rattle.sip_verdict.specs.inner.SurveyingLogs.{AreCounted, AreTold, IsSurveyIn, IsTaken, IsWritten, SurveysRead, AreLinesBy, IsLineBy, IsToldIn, Tells, TellsOf, line_with, words_of}
+use Rattle.sip_verdict.specs.SurveyParts.{IsTaken}
+use Rattle.sip_verdict.specs.inner.SurveyingLogs.{AreCounted, AreTold, IsSurveyIn, IsWritten, SurveysRead, AreLinesBy, IsLineBy, IsToldIn, Tells, TellsOf, line_with, words_of}
 use Rattle.sip_verdict.specs.inner.Walking.{HasRead}
 use Rattle.sip_verdict.proofs.surveys.written.Gathering.{found_on, entries_in, gathered_of, header_lacks, told_without}
 use Rattle.std.specs.Option.{ok_or}
 use Rattle.sip_verdict.specs.declared.finding.Finding.TheVariants.{Malformed, Breach, Undecided}
 use Rattle.sip_verdict.specs.declared.transaction.Transaction.{Transaction}
 use Rattle.sip_standard.specs.Rendering.{rendered}
+use Rattle.sip_states.proofs.lists.Places.{middle_place}
 use Rattle.sip_log.specs.Reading as log
 use Rattle.sip_verdict.specs.declared.survey_end.SurveyEnd.TheVariants as ended
 
--- nothing was told yet
+-- before the first entry nothing is counted and nothing is written
 pub told_none : (counts : Counts) (w : Option (List ℕ)) → counts.findings ≡ 0 → counts.undecided ≡ 0 → AreTold [] [] counts w w
 told_none counts w none nothing = record { findings = none; undecided = nothing; written = Appends-nil w }
 
--- what is found at one entry more is told too
+-- where findings are told, and those of one entry more are counted and written, all of them are told
 pub told_more : (found here : List Finding) (lines text : List ℕ) (a b : Counts) (before mid after : Option (List ℕ)) → AreTold found lines a before mid → AreCounted here a b → Appends mid after text
     → AreTold (found ++ here) (lines ++ text) b before after
 told_more found here lines text a b before mid after told counted written =
@@ -50,7 +52,7 @@ told_more found here lines text a b before mid after told counted written =
     let four = counted.undecided in
     record { findings = omega (arith, long, one, two); undecided = omega (arith, undecided, three, four); written = Appends-trans before mid after lines text told.written written }
 
--- one finding more is counted
+-- where findings are counted, and one finding more is, all of them are counted
 pub counted_more : (found : List Finding) (f : Finding) (a b c : Counts) (o : Option Counts) → AreCounted found a b → IfSome o (AreCounted (f ∷ []) b) → o ≡ Some c → AreCounted (found ++ f ∷ []) a c
 counted_more found f a b c o told one is =
     let next = subst (λ x. IfSome x (AreCounted (f ∷ []) b)) is one in
@@ -66,19 +68,15 @@ pub some_of_ok : {A E : Type 0} (o : Option A) (e : E) (a : A) → ok_or o e ≡
 some_of_ok None e a is = absurd cc
 some_of_ok (Some x) e a is = let same : x ≡ a = cc in ap Some same
 
--- The lines of findings.
+-- What follows is of the lines of findings.
 
--- one line more
+-- where a text has the lines of findings, and the line of one more is written after it, the text has the lines of all
 pub lines_push : (s : Surveying) (found : List Finding) (f : Finding) (text line : List ℕ) → AreLinesBy s found text → IsLineBy s f line → AreLinesBy s (found ++ f ∷ []) (text ++ line)
 lines_push s [] f text line none is = (line, [], is, refl, ap (λ t. t ++ line) none ∙ sym (append-nil line))
 lines_push s (g ∷ found) f text line (first, more, first_is, are, whole) is =
     (first, more ++ line, first_is, lines_push s found f more line are is, ap (λ t. t ++ line) whole ∙ append_assoc first more line)
 
--- the line that is written is that of the finding
-at_place : {A : Type 0} (before : List A) (a : A) (rest : List A) → slice_get (before ++ a ∷ rest) (length before) ≡ Some a
-at_place [] a rest = refl
-at_place (b ∷ before) a rest = at_place before a rest
-
+-- a line with the words that the survey tells of a transaction is the line of a finding of that transaction
 line_with-told : (s : Surveying) (f : Finding) (number : ℕ) (told : Option Transaction) (line : List ℕ) → Tells s number told → line ≡ line_with f told → (es : List (Observation KeyParts)) → SurveysFor s es
     → (P : KeyParts → Type 0) → HoldsOf P (keys_in es) number
     → (words : List ℕ) × HoldsOf (AreWordsOf es words) (keys_in es) number × (line ≡ rendered (verdict_of f) ++ words ++ line_feed ∷ [])
@@ -86,7 +84,7 @@ line_with-told s f number told line tells is es stands P (before, key, rest, who
     by told (subst (λ o. IfSome o (λ k. IsSomeAnd told (λ t. (t.key.now ≡ k) × IsFirstOf es k t.first t.branch.now × IsLastOf es k t.last))) at (tells es stands (omega (arith, counts)))) is
   where
     at : slice_get (keys_in es) (number - 1) ≡ Some key
-    at = ap (slice_get (keys_in es)) (let n : number - 1 ≡ length before = omega (arith, counts) in n) ∙ ap (λ ks. slice_get ks (length before)) whole ∙ at_place before key rest
+    at = ap (slice_get (keys_in es)) (let n : number - 1 ≡ length before = omega (arith, counts) in n) ∙ ap (λ ks. slice_get ks (length before)) whole ∙ middle_place before key rest
 
     by : (o : Option Transaction) → IsSomeAnd o (λ t. (t.key.now ≡ key) × IsFirstOf es key t.first t.branch.now × IsLastOf es key t.last) → line ≡ line_with f o
         → (words : List ℕ) × HoldsOf (AreWordsOf es words) (keys_in es) number × (line ≡ rendered (verdict_of f) ++ words ++ line_feed ∷ [])
@@ -97,12 +95,13 @@ line_with-told s f number told line tells is es stands P (before, key, rest, who
       same,
     )
 
+-- a line with what the survey tells of its finding is the line of the finding
 pub line_by : (s : Surveying) (f : Finding) (told : Option Transaction) (line : List ℕ) → TellsOf s f told → line ≡ line_with f told → IsLineBy s f line
 line_by s (Malformed entry fault) told line none is p es e stands found = is ∙ ap (line_with (Malformed entry fault)) none
 line_by s (Breach entry number) told line tells is p es e stands found = line_with-told s (Breach entry number) number told line tells is (es ++ e ∷ []) stands _ found.1
 line_by s (Undecided entry number) told line tells is p es e stands found = line_with-told s (Undecided entry number) number told line tells is (es ++ e ∷ []) stands _ found.1
 
--- they are the text of what is found at the newest entry
+-- the lines of the findings of the newest entry are their text in the log so far
 pub found_text : (s : Surveying) (p : Times) (es : List (Observation KeyParts)) (e : Observation KeyParts) → SurveysFor s (es ++ e ∷ []) → (found : List Finding) (text : List ℕ)
     → ((f : Finding) → Contains found f → IsFoundAt p es e f) → AreLinesBy s found text → IsTextOf (es ++ e ∷ []) found text
 found_text s p es e stands [] text at none = none
@@ -124,32 +123,32 @@ found_text s p es e stands (f ∷ found) text at (line, more, is, are, whole) =
     at_entry (Breach entry transaction) h = h.0
     at_entry (Undecided entry transaction) h = h.0
 
--- a text stays that of the same findings where entries come
+-- the text of findings stays their text when more entries come
 text_more : (es more : List (Observation KeyParts)) (found : List Finding) (text : List ℕ) → IsTextOf es found text → IsTextOf (es ++ more) found text
 text_more es more [] text none = none
 text_more es more (f ∷ found) text (front, rest, line, lines, whole, counts, is, are, text_is) =
     (front, rest ++ more, line, lines, ap (λ xs. xs ++ more) whole ∙ append_assoc front rest more, counts, is, text_more es more found lines are, text_is)
 
--- two texts, one after the other
+-- a text of findings, and a text of others after it, is a text of them all
 text_append : (es : List (Observation KeyParts)) (found here : List Finding) (a b : List ℕ) → IsTextOf es found a → IsTextOf es here b → IsTextOf es (found ++ here) (a ++ b)
 text_append es [] here a b none are = subst (IsTextOf es here) (ap (λ t. t ++ b) (sym none)) are
 text_append es (f ∷ found) here a b (front, rest, line, lines, whole, counts, is, more, text_is) are =
     (front, rest, line, lines ++ b, whole, counts, is, text_append es found here lines b more are, ap (λ t. t ++ b) text_is ∙ append_assoc line lines b)
 
--- the last line was written, which is the answer
+-- where the last line was written with these counts, the answer's sums are right, and P holds of them
 pub summed : {E Q : Type 0} {P : Summary → Type 0} (r : Result Summary E) (counts : Counts) (end : SurveyEnd)
     → IfOk r (λ s. (s.end ≡ end) × (s.findings ≡ counts.findings) × (s.undecided ≡ counts.undecided)) → OnOk r Q
     → ((s : Summary) → s.end ≡ end → s.findings ≡ counts.findings → s.undecided ≡ counts.undecided → Q → P s) → IfOk r P
 summed (Ok s) counts end sums wrote f = f s sums.0 sums.1 sums.2 wrote
 summed (Err e) counts end sums wrote f = tt
 
--- nothing was read yet
+-- a survey that has read the header has found nothing yet
 pub surveys_none : (part : Option PartOf) (s : Surveying) (p : Times) (start : Option (List ℕ)) (now : log.ReaderState) → s.tables.times ≡ p → SurveysFor s [] → HasRead start p [] now
     → SurveysRead part s [] start now
 surveys_none part s p start now times stands read =
     record { items = []; taken = []; es = []; are_taken = tt; seen = tt; follows = stands; read = subst (λ t. HasRead start t [] now) (sym times) read; front = λ rest close later end is. is }
 
--- what was read of a log, and the text of what was found
+-- what a survey has read of a log and found in it, and the text of what it found
 pub record ToldSoFar (part : Option PartOf) (s : Surveying) (found : List Finding) (lines : List ℕ) (start : Option (List ℕ)) (now : log.ReaderState) : Type 0 where
   pub read : SurveysRead part s found start now
   pub lines_are : IsTextOf read.es found lines
@@ -161,7 +160,7 @@ module _ (part : Option PartOf) (start : Option (List ℕ)) (now : log.ReaderSta
   abbrev pub read : SurveysRead part s found start now
   read = told_so.read
 
-  -- one more entry was read and taken so, and this was found at it, and these lines were written of it
+  -- where one more item was read and surveyed, and its lines were written, the survey has read and told that item too
   pub surveys_on : (e cut : Entry) (new : log.ReaderState) → HasRead start s.tables.times (read.items ++ item e ∷ []) new → IsTaken part (item e) (item cut) → (k : Surveying) → k.tables.times ≡ s.tables.times
       → (items : List Finding)
       → ((es : List (Observation KeyParts)) → SurveysFor s es → (seen : Observation KeyParts) × (here : List Finding) × Sees es (item cut) seen
@@ -178,7 +177,7 @@ module _ (part : Option PartOf) (start : Option (List ℕ)) (now : log.ReaderSta
 
   module _ (counts : Counts) (summary : Summary) (before mid after : Option (List ℕ)) (told : AreTold found lines counts before mid)
       (findings : summary.findings ≡ counts.findings) (undecided : summary.undecided ≡ counts.undecided) where
-    -- the log ends so after them
+    -- where the log ends after the items that were read, and the last line is written, the survey is written and summed up
     ends : (close : LogEnd) (end : SurveyEnd) → summary.end ≡ end → Appends mid after (end_text end counts.findings) → IsSurveyAfter s.tables.times read.es [] close [] end
         → IfSome start (λ input. LogSays input s.tables.times read.items close) → IfSome start (λ input. IsWritten part input summary before after)
     ends close end is last left logs =
@@ -199,12 +198,14 @@ module _ (part : Option PartOf) (start : Option (List ℕ)) (now : log.ReaderSta
         → IfSome start (λ input. LogSays input s.tables.times read.items Clean) → IfSome start (λ input. IsWritten part input summary before after)
     surveys_end is last logs = ends Clean (ended.Clean (length read.es) (length (keys_in read.es))) is last (refl, refl) logs
 
+    -- where the log cannot be read on, the survey is written and summed up, and ends with the fault
     pub surveys_stop : (count : ℕ) (reason : LogReason) → count ≡ s.number → summary.end ≡ ended.LogFault (count + 1) reason → Appends mid after (end_text (ended.LogFault (count + 1) reason) counts.findings)
         → (fault : LogReason) × (reason ≡ fault) × IfSome start (λ input. LogSays input s.tables.times read.items (Stops fault)) → IfSome start (λ input. IsWritten part input summary before after)
     surveys_stop count reason counted is last (fault, same, logs) =
         ends (Stops fault) (ended.LogFault (count + 1) reason) is last
         (refl, ap (λ n. ended.LogFault (n + 1) reason) (counted ∙ read.follows.number) ∙ ap (ended.LogFault (length read.es + 1)) same) logs
 
+-- where the header cannot be read, the last line is the survey, which finds nothing and ends with the fault of the header
 pub surveys_header : (part : Option PartOf) (start : Option (List ℕ)) (v : Verdict) (counts : Counts) (summary : Summary) (before after : Option (List ℕ)) → IfSome start (λ input. IsVerdictOf input v) → trouble_of v ≡ Some 0
     → counts.findings ≡ 0 → counts.undecided ≡ 0 → summary.end ≡ ended.LogFault 0 Header → summary.findings ≡ counts.findings → summary.undecided ≡ counts.undecided
     → Appends before after (end_text (ended.LogFault 0 Header) counts.findings) → IfSome start (λ input. IsWritten part input summary before after)
@@ -218,7 +219,7 @@ surveys_header part start v counts summary before after is none no_findings no_u
       written = subst (λ e. Appends before after (end_text e 0)) (sym end) (subst (λ n. Appends before after (end_text (ended.LogFault 0 Header) n)) no_findings last);
     }) is
 
--- what is written of an input, as it is told of a whole log
+-- what is written of an input that is known in whole is the text of its survey
 pub as_told : (part : Option PartOf) (start : Option (List ℕ)) (summary : Summary) (before after : Option (List ℕ)) → IfSome start (λ input. IsWritten part input summary before after)
     → IfSome start (λ input. (found : List Finding) × (text : List ℕ) × IsToldIn part input found summary.end text × SumsUp found summary × Appends before after text)
 as_told part start summary before after written =
@@ -226,13 +227,14 @@ as_told part start summary before after written =
     (λ input. (found : List Finding) × (text : List ℕ) × IsToldIn part input found summary.end text × SumsUp found summary × Appends before after text)
     (λ input w. (w.found, w.text, w.told, w.sums, w.written)) written
 
+-- what is written, where there is an answer, is the text of the survey
 pub all_told : {E : Type 0} (part : Option PartOf) (S : Option (List ℕ) → Type 0) (r : Result Summary E) (start before after : Option (List ℕ))
     → IfOk r (λ summary. (given : Option (List ℕ)) → S given → IfSome given (λ input. IsWritten part input summary before after)) → S start
     → IfOk r (λ summary. IfSome start (λ input. (found : List Finding) × (text : List ℕ) × IsToldIn part input found summary.end text × SumsUp found summary × Appends before after text))
 all_told part S (Ok summary) start before after writes read = as_told part start summary before after (writes start read)
 all_told part S (Err e) start before after writes read = tt
 
--- what has not failed before has not failed after
+-- where a reader or a writer had not failed before, and an answer leaves that as it was, it has not failed after
 pub still_fine : {A E : Type 0} (Q : Type 0) (r : Result A E) (old new : Bool) → OnOk r ((new ≡ old) × Q) → old ≡ false → OnOk r ((new ≡ false) × Q)
 still_fine Q (Ok a) old new fine before = (fine.0 ∙ before, fine.1)
 still_fine Q (Err e) old new fine before = tt

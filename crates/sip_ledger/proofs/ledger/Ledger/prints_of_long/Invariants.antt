@@ -4,7 +4,7 @@ use Rattle.sip_ledger.specs.Ledgers.{rows_of, row_of}
 use Rattle.sip_ledger.specs.Prints.{print_of}
 use Rattle.sip_ledger.proofs.ledger.Ledger.prints_of_long.Given as goal
 
--- the rows so far have their numbers
+-- the numbers of the rows from `from` up to `row` are there, and rows that owe the same have the same
 abbrev pub invariant-loop-row : goal.invariant-loop-row
 invariant-loop-row l = (l.from ≤ l.row) × ((l.row ≤ length (rows_of l.self)) ⊎ (l.row ≤ l.from))
     × (length l.prints.items ≡ l.row - l.from) × (length (rows_of l.self) - l.from ≤ vec_capacity l.prints)

@@ -4,7 +4,7 @@ use Rattle.sip_ledger.specs.Debts.{is_payable, is_timely}
 use Rattle.sip_ledger.specs.Ledgers.{rows_of, from_to}
 use Rattle.sip_ledger.proofs.ledger.Ledger.push_payable_of_long.Given as goal
 
--- the rows so far stand after the others
+-- copies of the payable and timely rows from `from` up to `row` stand after the others
 abbrev pub invariant-loop-row : goal.invariant-loop-row
 invariant-loop-row l = (l.from ≤ l.row) × ((l.row ≤ l.to) ⊎ (l.row ≤ l.from)) × (l.before ≡ length (rows_of l.initial.self))
     × (rows_of l.self ≡ rows_of l.initial.self ++ filter (λ owes. list_any (is_payable l.message l.moment) owes && is_timely l.moment owes) (from_to l.from l.row (rows_of l.initial.self)))

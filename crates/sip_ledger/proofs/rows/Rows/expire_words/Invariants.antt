@@ -4,7 +4,7 @@ use Rattle.sip_ledger.specs.Grids.{grid_rows}
 use Rattle.sip_ledger.proofs.lists.EachLemmas.{changing}
 use Rattle.sip_ledger.proofs.rows.Rows.expire_words.Given as goal
 
--- the rows so far have lost what expired, and the entries are the same
+-- the rows from `from` up to `row` have lost what expired, the others owe what they did, and the entries are the same
 abbrev pub invariant-loop-row : goal.invariant-loop-row
 invariant-loop-row l = (l.from ≤ l.row) × (grid_rows l.self ≡ changing (filter (counts_at l.moment)) l.from l.row (grid_rows l.fn.self))
     × (l.self.entries ≡ l.fn.self.entries) × (l.self.width ≡ l.fn.self.width)

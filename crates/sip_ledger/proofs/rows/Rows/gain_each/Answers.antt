@@ -6,7 +6,7 @@ use Rattle.sip_ledger.specs.Grids.{Grid}
 use Rattle.sip_ledger.proofs.masks.BitsLemmas.{has-past}
 use Rattle.sip_ledger.proofs.rows.Rows.gain_each.Goals as goal
 
--- no words have a bit
+-- a set of no words has no bit
 unset : (j : ℕ) → has [] j ≡ false
 unset j = has-past [] j (omega arith)
 

@@ -4,7 +4,7 @@ use Rattle.sip_ledger.specs.Grids.{grid_rows, grid_row}
 use Rattle.sip_ledger.specs.Prints.{grid_print}
 use Rattle.sip_ledger.proofs.rows.Rows.print_rows.Given as goal
 
--- the rows so far have their numbers
+-- the numbers of the rows from `from` up to `row` are there, and rows that owe the same have the same
 abbrev pub invariant-loop-row : goal.invariant-loop-row
 invariant-loop-row l = (l.from ≤ l.row) × ((l.row ≤ length (grid_rows l.self)) ⊎ (l.row ≤ l.from))
     × (length l.prints.items ≡ l.row - l.from) × (length (grid_rows l.self) - l.from ≤ vec_capacity l.prints)

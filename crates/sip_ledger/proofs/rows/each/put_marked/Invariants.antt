@@ -6,7 +6,7 @@ use Rattle.sip_ledger.specs.Grids.{grid_of, IsGrid}
 use Rattle.sip_ledger.specs.inner.Marks.{IsTold, ArePut}
 use Rattle.sip_ledger.proofs.rows.each.put_marked.Given as goal
 
--- the rows so far are put, and there is room for those that are left
+-- copies of the marked rows from `from` up to `row` are put, and there is room for those that are left
 abbrev pub invariant-loop-row : goal.invariant-loop-row
 invariant-loop-row l = (l.from ≤ l.row) × ((l.row ≤ l.to) ⊎ (l.row ≤ l.from))
     × (length l.fn.owed.items ≤ length l.owed.items) × (length l.fn.must.items ≤ length l.must.items)

@@ -2,7 +2,7 @@ use Rattle.std.proofs.Common.{◌≡◌, ◌<◌, ◌≤◌, ℕ, length, get_or
 use Rattle.sip_ledger.specs.inner.Marks.{first_taken}
 use Rattle.sip_ledger.proofs.rows.each.take_firsts.Given as goal
 
--- the words so far have lost their bit
+-- the words from `from` up to `row` are without the first bit that they share with the mask, and the others are as they were
 abbrev pub invariant-loop-row : goal.invariant-loop-row
 invariant-loop-row l = (length l.owed ≡ length l.fn.owed) × (length l.must ≡ length l.fn.must)
     × ((k : ℕ) → k < l.from → (get_or l.owed k 0 ≡ get_or l.fn.owed k 0) × (get_or l.must k 0 ≡ get_or l.fn.must k 0))

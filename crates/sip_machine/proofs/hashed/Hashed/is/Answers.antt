@@ -4,7 +4,7 @@ use Rattle.std.proofs.Common.{refl, ap, sym, ◌∙◌}
 use Rattle.sip_machine.specs.inner.Order.{hash_of}
 use Rattle.sip_machine.proofs.hashed.Hashed.is.Goals as goal
 
--- texts of other hashes are not the same
+-- where the hashes of two texts differ, the texts do
 others-differ : (a b : List ℕ) → (hash_of a ≡ hash_of b → ⊥) → (s : Bool) → bytes_eq a b ≡ s → false ≡ s
 others-differ a b other true same = absurd (other (ap hash_of ((bytes_decides a b).0 same)))
 others-differ a b other false same = refl

@@ -5,7 +5,7 @@ use Rattle.sip_machine.specs.inner.Effects.{LeadsFrom}
 use Rattle.sip_machine.proofs.pools.CoversLemmas.{HasFound}
 use Rattle.sip_machine.proofs.owing.each.leads_each.Given as goal
 
--- what leads from the states so far was found
+-- the states to which rows of the event lead from the states before the index stand after the old ones
 abbrev pub invariant-loop-at : goal.invariant-loop-at
 invariant-loop-at g l =
     (l.at ≤ l.count) × HasFound (owing_names g.M.Phases.names) (OwingInRange g.M.Phases.in_range) (owing_seen g.M.Phases.seen) l.book

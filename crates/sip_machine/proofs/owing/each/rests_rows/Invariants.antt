@@ -6,7 +6,7 @@ use Rattle.sip_machine.specs.inner.Effects.{RestsFrom}
 use Rattle.sip_machine.proofs.pools.CoversLemmas.{HasFound}
 use Rattle.sip_machine.proofs.owing.each.rests_rows.Given as goal
 
--- what leads from the states so far was found
+-- the states that the message leaves in their phase, of those from `from` up to the index, stand after the old ones
 abbrev pub invariant-loop-at : goal.invariant-loop-at
 invariant-loop-at g l =
     (l.from ≤ l.at) × (l.at ≤ l.to) × HasFound (owing_names g.M.Phases.names) (OwingInRange g.M.Phases.in_range) (owing_seen g.M.Phases.seen) l.book

@@ -5,7 +5,7 @@ use Rattle.sip_machine.specs.FigureRules.{TakeOf}
 use Rattle.sip_machine.proofs.pools.CoversLemmas.{HasFound}
 use Rattle.sip_machine.proofs.owing.each.sends_each.Given as goal
 
--- what leads from the states so far was found
+-- the states that the sent message gives from the states before the index stand after the old ones
 abbrev pub invariant-loop-at : goal.invariant-loop-at
 invariant-loop-at g l =
     (l.at ≤ l.count) × HasFound (owing_names g.M.Phases.names) (OwingInRange g.M.Phases.in_range) (owing_seen g.M.Phases.seen) l.book

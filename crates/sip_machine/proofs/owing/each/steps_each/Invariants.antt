@@ -5,7 +5,7 @@ use Rattle.sip_machine.specs.Owing.{owing_seen, owing_names, OwingInRange}
 use Rattle.sip_machine.proofs.pools.CoversLemmas.{HasFound}
 use Rattle.sip_machine.proofs.owing.each.steps_each.Given as goal
 
--- what the states so far give was found
+-- the states that the event gives from the states before the index stand after the old ones
 abbrev pub invariant-loop-at : goal.invariant-loop-at
 invariant-loop-at g l =
     HasFound (owing_names g.M.Phases.names) (OwingInRange g.M.Phases.in_range) (owing_seen g.M.Phases.seen) l.book

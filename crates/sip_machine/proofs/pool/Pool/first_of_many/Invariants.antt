@@ -2,7 +2,7 @@ use Rattle.std.specs.Prelude.{◌≡◌, ◌<◌, ◌-◌, ℕ, get_or, length}
 use Rattle.sip_machine.specs.Pools.{AreFirstOnes}
 use Rattle.sip_machine.proofs.pool.Pool.first_of_many.Given as goal
 
--- the first ones so far, whose prints are in the slots
+-- the rows are the first of equal states before the index, and the slots have their prints
 abbrev pub invariant-loop-at : goal.invariant-loop-at
 invariant-loop-at g l =
     AreFirstOnes l.self l.from l.at l.rows.items

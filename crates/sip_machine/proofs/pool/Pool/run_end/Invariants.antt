@@ -3,7 +3,7 @@ use Rattle.std.specs.List.{HoldsAt}
 use Rattle.sip_ledger.specs.Ledgers.{from_to}
 use Rattle.sip_machine.proofs.pool.Pool.run_end.Given as goal
 
--- those before it are in the phase of the first
+-- the states from the first up to the end are in the phase of the first
 abbrev pub invariant-loop-end : goal.invariant-loop-end
 invariant-loop-end g l = (l.at < l.end) × (l.end ≤ l.limit) × HoldsAt (λ first. All (λ x. x.phase ≡ first.phase) (from_to l.at l.end l.self)) l.self l.at
 

@@ -2,7 +2,7 @@ use Rattle.std.proofs.Common.{◌≤◌, length, ℕ}
 use Rattle.sip_machine.specs.inner.Slots.{IsNewest, IsReached, slot_of}
 use Rattle.sip_machine.proofs.slots.Slots.last_from.Given as goal
 
--- of what is passed nothing is equal
+-- the print that comes next is of the slot, and none that was passed is equal to the print
 abbrev pub invariant-loop-next : goal.invariant-loop-next
 invariant-loop-next l =
     (l.next ≤ length l.self.prints)

@@ -5,7 +5,7 @@ use Rattle.sip_states.specs.Agenda.{Records, is_overdue}
 use Rattle.sip_states.proofs.due.AgendaLemmas.{nothing_due, not_above, no_line}
 use Rattle.sip_states.proofs.agenda.Agenda.overdue.Goals as goal
 
--- what holds anyway holds where there is none
+-- what holds in any case holds where an option has no value
 if_none : (r : Option ℕ) (P : Type 0) → P → IfNone r P
 if_none None P h = h
 if_none (Some index) P h = tt
@@ -20,7 +20,7 @@ returns-then-last-moment-clause-none c =
     rw (← c.self.view_is) (nothing_due c.self.inside.records.items c.self.inside.order c.args.moment c.self.invariant
     (λ line has. (let h = not_above c.in_ok-last.field-0.now line (c.in_ok-last.ensures.least line has) in omega (arith, h, c.if-last-moment.true))))
 
--- a line of the order is on record, and below the moment
+-- a line of the order is on record, and its record is overdue where its last moment is below the moment
 below : (records : Records) (index last moment : ℕ) → slice_get records index ≡ Some (Some (Some last)) → last < moment → (index < length records) × (is_overdue moment (slice_index_or records index None) ≡ true)
 below records index last moment at low =
     (slice_get_within records index (Some (Some last)) at, ap (is_overdue moment) (get_or_from_slice_get records index (Some (Some last)) None at) ∙ (grind (arith, nat_tests, low)))

@@ -1,4 +1,4 @@
--- What no state of its set names, a set of any machine doesn't name.
+-- A number that no state of a set names is none of the numbers that the set names, whichever machine it is of.
 use Rattle.std.proofs.Common.{◌≡◌, Contains, subst, sym}
 use Rattle.sip_states.specs.Sweep.{numbers_of}
 use Rattle.sip_states.proofs.any_set.AnySet.may_name.Goals as goal

@@ -9,7 +9,7 @@ use Rattle.sip_states.proofs.sets.Following.{Follows}
 use Rattle.sip_states.proofs.sets.Taking.{took_kept}
 use Rattle.sip_states.proofs.state_set.StateSet.take_each.Goals as goal
 
--- the book has all that the states of the set name
+-- the book has every message that the states of the set name
 pub given_rows-requires-clause-known : goal.given_rows-requires-clause-known
 given_rows-requires-clause-known g c = rw (← c.self.view_is) at c.requires.known
 

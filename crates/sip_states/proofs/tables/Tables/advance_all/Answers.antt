@@ -18,7 +18,7 @@ advance_each-requires-clause-inside g c =
     let within = slice_get_within marks index true mark in
     omega (arith, within, c.self.invariant.2)
 
--- where memory is refused the tables keep their invariant: they have as many sets, and the marks are right for those that have waited and those that have not
+-- where memory is refused the tables keep their invariant: they have as many sets, and the marks are right for those that have waited and for the others
 pub invariant_of-self : goal.invariant_of-self
 invariant_of-self g c =
     let inv = c.self.invariant in
@@ -36,7 +36,7 @@ invariant_of-self g c =
       },
     )
 
--- what is marked of the sets after the sweep
+-- the marks are right for the sets after the sweep
 pub invariant_of-self-2 : goal.invariant_of-self-2
 invariant_of-self-2 g c =
     let inv = c.self.invariant in

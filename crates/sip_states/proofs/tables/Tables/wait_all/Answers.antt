@@ -18,7 +18,7 @@ advance_each-requires-clause-inside g c =
     let within = slice_get_within marks index true mark in
     omega (arith, within, c.in_ok-moved.ensures.long, c.len-2.ensures.len)
 
--- every set is marked, whether all have waited or some
+-- every set is marked, whether all of them have waited or only some
 pub invariant_of-self : goal.invariant_of-self
 invariant_of-self g c =
     let marks = c.in_ok-marks.marks in

@@ -1,11 +1,10 @@
-use Rattle.std.proofs.Common.{◌+◌, ◌∙◌, All, Contains, sym, ap, subst, arith}
+use Rattle.std.proofs.Common.{◌≤◌, ◌+◌, ◌∙◌, All, Contains, length, sym, ap, subst, arith}
 use Rattle.std.proofs.lemmas.List.{length_push}
 use Rattle.sip_log.specs.Told.{item}
-use Rattle.sip_verdict.specs.Judging.{MayComeNext}
 use Rattle.sip_verdict.specs.SurveyOf.{AreFoundAt}
-use Rattle.sip_verdict.specs.Surveys.{AreHistories, AreSurveyed}
+use Rattle.sip_verdict.specs.Surveys.{AreHistories, AreSurveyed, MayFollow}
 use Rattle.sip_verdict.proofs.sweeps.FollowedLemmas.{observed_moment}
-use Rattle.sip_verdict.proofs.judges.JudgeLemmas.{may_take_next}
+use Rattle.sip_verdict.proofs.tables.JudgeTables.{next_may}
 use Rattle.sip_verdict.proofs.following.Survey.entry.Goals as goal
 
 pub find_next-taken-requires-clause-may : goal.find_next-taken-requires-clause-may
@@ -13,8 +12,24 @@ find_next-taken-requires-clause-may g c =
     let s = c.self.inside in
     let e = c.args.entry.now in
     let is = c.self.view_is in
-    let next = subst (λ j. MayComeNext j.number j.moment e.number e.moment) (sym is) (c.requires (ap (λ j. j.failed) (sym is) ∙ c.if-self.false)) in
-    may_take_next s.standing.book s.standing.tables s.number s.moment e.number e.moment next (c.self.invariant c.if-self.false).0
+    let next = subst (λ j. MayFollow j.number j.moment (length j.tables.keys) e.number e.moment) (sym is) (c.requires (ap (λ j. j.failed) (sym is) ∙ c.if-self.false)) in
+    next_may s.standing.book s.standing.tables s.number s.moment e.number e.moment next.next next.order (c.self.invariant c.if-self.false).0
+
+pub find_next-taken-requires-clause-count : goal.find_next-taken-requires-clause-count
+find_next-taken-requires-clause-count g c =
+    let is = c.self.view_is in
+    let comes = c.requires (ap (λ j. j.failed) (sym is) ∙ c.if-self.false) in
+    let next = comes.next in
+    let low = comes.room.0 in
+    omega arith
+
+pub find_next-taken-requires-clause-room : goal.find_next-taken-requires-clause-room
+find_next-taken-requires-clause-room g c =
+    let is = c.self.view_is in
+    let comes = c.requires (ap (λ j. j.failed) (sym is) ∙ c.if-self.false) in
+    let keys = ap (λ j. length j.tables.keys) is in
+    let few = comes.room.1 in
+    omega arith
 
 pub returns-in-Ok-clause-found : goal.returns-in-Ok-clause-found
 returns-in-Ok-clause-found g c = λ es surveys.
@@ -37,6 +52,9 @@ returns-in-Ok-clause-found g c = λ es surveys.
             (ap (λ j. j.tables.keys) is ∙ surveys.follows.tracks.keys) (comes.next ∙ ap (λ n. n + 1) surveys.number) observed;
       },
     )
+
+pub returns-in-Ok-clause-keys : goal.returns-in-Ok-clause-keys
+returns-in-Ok-clause-keys g c = subst (λ j. length c.find_next-taken.new.standing.tables.keys ≤ length j.tables.keys + 2) c.self.view_is c.in-Ok.ensures.keys
 
 pub returns-in-Ok-clause-keyless : goal.returns-in-Ok-clause-keyless
 returns-in-Ok-clause-keyless g c none = subst (λ j. All (Contains j.texts) c.find_next-taken.new.standing.book) c.self.view_is (c.in-Ok.ensures.keyless none)

@@ -1,5 +1,6 @@
 use Rattle.std.proofs.Common.{[], ◌||◌, Some, None, ◌∙◌, ap, inl, length, refl, arith, subst, sym}
 use Rattle.std.proofs.lemmas.Bool.{false≢true}
+use Rattle.std.proofs.lemmas.Option.{same_Some}
 use Rattle.sip_machine.specs.Texts.{Keeps}
 use Rattle.sip_log.specs.Told.{item}
 use Rattle.sip_standard.specs.Observation.{fault_observation}
@@ -8,7 +9,7 @@ use Rattle.sip_verdict.specs.inner.Numbering.{StaysNumbered}
 use Rattle.sip_verdict.specs.inner.TablesTracking.{is_among, HaveNumbers, MayHear}
 use Rattle.sip_verdict.specs.inner.Concerned.{each}
 use Rattle.sip_verdict.proofs.listings.NumberingLemmas.{numbered_none, numbered_heard, unless_trouble}
-use Rattle.sip_verdict.proofs.judges.StandingLemmas.{listed_each, grown_may, may_restart, restart_judged, touched_recorded, few_keys, are_given, may_hear, same_some, may_next, unheard_judged, heard_judged}
+use Rattle.sip_verdict.proofs.judges.StandingLemmas.{listed_each, grown_may, may_restart, restart_judged, touched_recorded, few_keys, are_given, may_hear, may_next, unheard_judged, heard_judged}
 use Rattle.sip_verdict.proofs.tables.TablesTouching.{touches_may, have_numbers}
 use Rattle.sip_verdict.specs.declared.concerned.Concerned.TheVariants as concerned
 use Rattle.sip_verdict.proofs.sweeps.NewestLemmas.{others_known}
@@ -23,7 +24,7 @@ pass-requires-in-Restart-clause-may g c =
 pub pass-requires-in-Restart-clause-hear : goal.pass-requires-in-Restart-clause-hear
 pass-requires-in-Restart-clause-hear g c =
     let e = c.args.entry.now in
-    λ h is. subst (MayHear c.observe.new.book c.args.self.now.tables e.moment) (ap (λ b. b.now) (same_some _ h is))
+    λ h is. subst (MayHear c.observe.new.book c.args.self.now.tables e.moment) (ap (λ b. b.now) (same_Some _ h is))
     (may_restart c.observe.new.book e.moment c.restart-event.result c.args.self.now.tables c.restart-event.ensures c.requires.limit)
 
 pub pass-requires-in-Restart-clause-recorded : goal.pass-requires-in-Restart-clause-recorded
@@ -66,7 +67,7 @@ pub pass-requires-in-Heard-clause-hear : goal.pass-requires-in-Heard-clause-hear
 pass-requires-in-Heard-clause-hear g c =
     let e = c.args.entry.now in
     let is_heard = rw c.in-Heard.is at c.in_ok-told.ensures.heard in
-    λ h is. subst (MayHear c.observe.new.book c.touch_each.new.tables e.moment) (ap (λ b. b.now) (same_some _ h is))
+    λ h is. subst (MayHear c.observe.new.book c.touch_each.new.tables e.moment) (ap (λ b. b.now) (same_Some _ h is))
     (may_hear c.observe.new.book e.moment c.in-Heard.event c.in-Heard.concerned c.in_ok-concerned-in-Heard.concerned c.args.self.now.tables c.touch_each.new.tables c.in_ok-concerned-in-Heard.ensures.touched
     is_heard.0 is_heard.1 is_heard.2 (c.in_ok-concerned-in-Heard.ensures.same ∙ is_heard.3))
 

@@ -6,7 +6,7 @@ use Rattle.sip_verdict.proofs.listings.NumberingLemmas.{appends_more, text_of_so
 use Rattle.sip_verdict.proofs.standing.Standing.text_of_all.Goals.{else-loop-number-test, then-loop-number-test+in_ok-push_one+else-number-count}
 use Rattle.sip_verdict.proofs.standing.Standing.text_of_all.Goals as goal
 
--- the numbers up to one are those before it and itself
+-- the numbers up to n are those up to n - 1, and n
 up_to-more : (n : ℕ) → 0 < n → up_to n ≡ up_to (n - 1) ++ n ∷ []
 up_to-more zero low = absurd (omega arith)
 up_to-more (suc n) low = let before : n ≡ suc n - 1 = omega arith in ap (λ k. up_to k ++ suc n ∷ []) before

@@ -1,6 +1,19 @@
-use Rattle.std.proofs.Common.{◌++◌, ◌∙◌, map, ap, append_assoc}
+use Rattle.std.proofs.Common.{◌++◌, ◌∙◌, [], map, ap, append_assoc, sym, refl, subst, arith}
+use Rattle.std.proofs.lemmas.List.{append-nil}
+use Rattle.sip_verdict.specs.inner.Surveying.{AreAscending}
 use Rattle.sip_verdict.specs.declared.finding.Finding.TheVariants.{Breach, Undecided}
 use Rattle.sip_verdict.proofs.troubled.Troubled.tell.Goals as goal
+
+pub returns-then-is_fresh-clause-told : goal.returns-then-is_fresh-clause-told
+returns-then-is_fresh-clause-told c =
+    let fresh = c.if-is_fresh.ensures.0 refl in
+    let none : AreAscending [] [] = ((λ i j d low high. absurd (omega arith)), (λ n. ((λ h. h), (λ h. h)))) in (
+      [],
+      [],
+      subst (λ numbers. AreAscending numbers []) (sym fresh.broken) none,
+      subst (λ numbers. AreAscending numbers []) (sym fresh.wide) none,
+      sym (append-nil c.args.found.now.items),
+    )
 
 pub returns-clause-told : goal.returns-clause-told
 returns-clause-told c =

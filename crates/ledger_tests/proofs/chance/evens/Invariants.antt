@@ -1,0 +1,11 @@
+use Rattle.std.specs.Prelude.{◌<◌, All, AllPairs}
+use Rattle.ledger_tests.proofs.chance.evens.Given as goal
+
+-- each row before the index is below the limit and below the next row, and the rows rise
+abbrev pub invariant-loop-row : goal.invariant-loop-row
+invariant-loop-row l =
+    record {
+      within : All (λ row. row < l.limit) l.rows.items;
+      below : All (λ row. row < l.row) l.rows.items;
+      rising : AllPairs (λ a b. a < b) l.rows.items;
+    }

@@ -1,0 +1,464 @@
+//! Steps by chance, on accounts and on plain lists of debts beside them.
+use crate::chance::{Chance, evens};
+use sip_ledger::{Accounts, Debt};
+use std::process::Abort;
+use std::test::Fail;
+
+/// Accounts, and what each of them should owe.
+#[derive(Drop)]
+struct Played {
+    accounts: Accounts,
+    lists: Vec<Vec<Debt>>,
+}
+
+impl Played {
+    fn new(rt: &(impl Abort + AllocGlobal)) -> Result<Self, Fail> {
+        let mut played = Played {
+            accounts: Accounts::new(rt.alloc()),
+            lists: Vec::new(rt.alloc()),
+        };
+        played.push(rt)?;
+        Ok(played)
+    }
+
+    /// The number of a row.
+    fn row(&self, rt: &impl Abort, chance: &mut Chance) -> usize {
+        let row = chance.below(self.lists.len() as u64) as usize;
+        assert!(rt; row < self.lists.len());
+        row
+    }
+
+    fn push(&mut self, rt: &(impl Abort + AllocGlobal)) -> Result<(), Fail> {
+        self.accounts.push()?;
+        self.lists.push(Vec::new(rt.alloc()))?;
+        Ok(())
+    }
+
+    fn push_copy(&mut self, rt: &impl Abort, row: usize) -> Result<(), Fail> {
+        assert!(rt; row < self.accounts.len());
+        assert!(rt; row < self.lists.len());
+        self.accounts.push_copy(row)?;
+        let copy = self.lists[row].clone()?;
+        self.lists.push(copy)?;
+        Ok(())
+    }
+
+    fn copy(&mut self, rt: &impl Abort, from: usize, to: usize) -> Result<(), Fail> {
+        assert!(rt; from < self.accounts.len());
+        assert!(rt; to < self.accounts.len());
+        assert!(rt; from < self.lists.len());
+        assert!(rt; to < self.lists.len());
+        self.accounts.copy(from, to);
+        let copy = self.lists[from].clone()?;
+        self.lists[to] = copy;
+        Ok(())
+    }
+
+    fn gain(&mut self, rt: &impl Abort, row: usize, debt: Debt) -> Result<(), Fail> {
+        assert!(rt; row < self.accounts.len());
+        assert!(rt; row < self.lists.len());
+        self.accounts.gain(row, debt)?;
+        self.lists[row].push(debt)?;
+        Ok(())
+    }
+
+    fn pay(&mut self, rt: &impl Abort, row: usize, message: u32, moment: u64) -> Result<(), Fail> {
+        assert!(rt; row < self.accounts.len());
+        assert!(rt; row < self.lists.len());
+        let first = self.lists[row]
+            .iter()
+            .position(|debt| debt.message == message && moment <= debt.deadline);
+        let can = self.accounts.can_pay(row, message, moment);
+        assert!(rt; can == first.is_some());
+        self.accounts.pay(row, message, moment)?;
+        if let Some(first) = first {
+            self.lists[row].remove(first);
+        }
+        Ok(())
+    }
+
+    /// Of the rows from one up to another, those that pay come once more, without what they pay and what is past.
+    fn push_paid(
+        &mut self,
+        rt: &impl Abort,
+        from: usize,
+        to: usize,
+        message: u32,
+        moment: u64,
+    ) -> Result<(), Fail> {
+        assert!(rt; to <= self.accounts.len());
+        self.accounts.push_paid(from, to, message, moment)?;
+        for row in from..to {
+            assert!(rt; row < self.lists.len());
+            let mut left = self.lists[row].clone()?;
+            let first = left
+                .iter()
+                .position(|debt| debt.message == message && moment <= debt.deadline);
+            let timely = is_timely(&left, moment);
+            if let Some(first) = first {
+                left.remove(first);
+                left.retain(|debt| debt.must || moment <= debt.deadline);
+                if timely {
+                    self.lists.push(left)?;
+                }
+            }
+        }
+        Ok(())
+    }
+
+    /// Of the rows from one up to another, those come once more that must send nothing that is past.
+    fn push_timely(
+        &mut self,
+        rt: &impl Abort,
+        from: usize,
+        to: usize,
+        moment: u64,
+    ) -> Result<(), Fail> {
+        assert!(rt; to <= self.accounts.len());
+        self.accounts.push_timely(from, to, moment)?;
+        for row in from..to {
+            assert!(rt; row < self.lists.len());
+            if is_timely(&self.lists[row], moment) {
+                let copy = self.lists[row].clone()?;
+                self.lists.push(copy)?;
+            }
+        }
+        Ok(())
+    }
+
+    /// The rows from one on gain.
+    fn gain_each(&mut self, rt: &impl Abort, from: usize, debt: Debt) -> Result<(), Fail> {
+        self.accounts.gain_each(from, debt)?;
+        for row in from..self.lists.len() {
+            assert!(rt; row < self.lists.len());
+            self.lists[row].push(debt)?;
+        }
+        Ok(())
+    }
+
+    /// The rows from one on lose what is past.
+    fn expire_each(&mut self, rt: &impl Abort, from: usize, moment: u64) -> Result<(), Fail> {
+        self.accounts.expire_each(from, moment)?;
+        for row in from..self.lists.len() {
+            assert!(rt; row < self.lists.len());
+            self.lists[row].retain(|debt| debt.must || moment <= debt.deadline);
+        }
+        Ok(())
+    }
+
+    fn expire(&mut self, rt: &impl Abort, row: usize, moment: u64) -> Result<(), Fail> {
+        assert!(rt; row < self.accounts.len());
+        assert!(rt; row < self.lists.len());
+        self.accounts.expire(row, moment)?;
+        self.lists[row].retain(|debt| debt.must || moment <= debt.deadline);
+        Ok(())
+    }
+
+    fn soften(&mut self, rt: &impl Abort, row: usize) {
+        assert!(rt; row < self.accounts.len());
+        assert!(rt; row < self.lists.len());
+        self.accounts.soften(row);
+        for debt in self.lists[row].iter_mut() {
+            debt.must = false;
+        }
+    }
+
+    fn clear(&mut self, rt: &impl Abort, row: usize) {
+        assert!(rt; row < self.accounts.len());
+        assert!(rt; row < self.lists.len());
+        self.accounts.clear(row);
+        self.lists[row].clear();
+    }
+
+    /// The last row goes.
+    fn truncate(&mut self) {
+        let kept = self.lists.len().saturating_sub(1).max(1);
+        self.accounts.truncate(kept);
+        self.lists.truncate(kept);
+    }
+
+    /// The first row goes.
+    fn drop_first(&mut self, rt: &impl Abort) {
+        assert!(rt; 0 < self.lists.len());
+        self.accounts.drop_first(1);
+        self.lists.remove(0);
+    }
+
+    /// Every second row is kept.
+    fn keep_some(&mut self, rt: &(impl Abort + AllocGlobal)) -> Result<(), Fail> {
+        let rows = evens(rt.alloc(), self.accounts.len())?;
+        self.accounts.keep(&rows);
+        let mut kept = Vec::new(rt.alloc());
+        for (row, list) in self.lists.iter().enumerate() {
+            if row % 2 == 0 {
+                kept.push(list.clone()?)?;
+            }
+        }
+        self.lists = kept;
+        Ok(())
+    }
+
+    /// What the row owes.
+    fn debts(&self, rt: &(impl Abort + AllocGlobal), row: usize) -> Result<Vec<Debt>, Fail> {
+        assert!(rt; row < self.accounts.len());
+        let runs = self.accounts.runs(rt.alloc(), row)?;
+        let mut debts = Vec::new(rt.alloc());
+        for run in &runs {
+            for _ in 0..run.count {
+                debts.push(run.debt)?;
+            }
+        }
+        Ok(debts)
+    }
+
+    /// The row owes this list, whatever it is asked.
+    fn owes(&self, rt: &(impl Abort + AllocGlobal), row: usize, list: &[Debt]) -> Result<(), Fail> {
+        let debts = self.debts(rt, row)?;
+        assert!(rt; debts.as_slice() == list, "{row}");
+        assert!(rt; row < self.accounts.len());
+        assert!(rt; self.accounts.owes_nothing(row) == list.is_empty(), "{row}");
+        assert!(rt;
+            self.accounts.earliest_must(row) == earliest_must(list),
+            "{row}"
+        );
+        let mut names = Vec::new(rt.alloc());
+        self.accounts.names(rt.alloc(), row, &mut names)?;
+        assert!(rt; names.len() == list.len());
+        for (name, debt) in names.iter().zip(list) {
+            assert!(rt; *name == debt.message, "{row}");
+        }
+        Ok(())
+    }
+
+    /// Rows are told to owe the same where their lists are the same.
+    fn compares(&self, rt: &impl Abort, row: usize, other: usize) {
+        assert!(rt; row < self.accounts.len());
+        assert!(rt; other < self.accounts.len());
+        assert!(rt; row < self.lists.len());
+        assert!(rt; other < self.lists.len());
+        let same = self.lists[row] == self.lists[other];
+        assert!(rt; self.accounts.same(row, other) == same, "{row} and {other}");
+        assert!(rt; !same || self.accounts.print(row) == self.accounts.print(other));
+    }
+
+    /// All rows owe their lists.
+    fn agree(&self, rt: &(impl Abort + AllocGlobal)) -> Result<(), Fail> {
+        assert!(rt; self.accounts.len() == self.lists.len());
+        let prints = self.accounts.prints(rt.alloc(), 0)?;
+        for (row, list) in self.lists.iter().enumerate() {
+            self.owes(rt, row, list)?;
+            assert!(rt; row < prints.len());
+            assert!(rt; row < self.accounts.len());
+            assert!(rt; prints[row] == self.accounts.print(row), "{row}");
+            for other in 0..self.lists.len() {
+                self.compares(rt, row, other);
+            }
+        }
+        Ok(())
+    }
+}
+
+/// The least deadline of what must be sent.
+fn earliest_must(list: &[Debt]) -> Option<u64> {
+    let mut least = None;
+    for debt in list {
+        if debt.must && least.is_none_or(|moment| debt.deadline < moment) {
+            least = Some(debt.deadline);
+        }
+    }
+    least
+}
+
+/// Whether nothing that must be sent is past at the moment.
+fn is_timely(list: &[Debt], moment: u64) -> bool {
+    earliest_must(list).is_none_or(|deadline| moment <= deadline)
+}
+
+/// Some rows gain, each one of three messages.
+fn gain_some(
+    rt: &impl Abort,
+    chance: &mut Chance,
+    played: &mut Played,
+    deadline: u64,
+) -> Result<(), Fail> {
+    let must = chance.below(2) == 0;
+    for row in 0..played.lists.len() {
+        if chance.below(3) != 0 {
+            let message = u32::try_from(chance.below(3)).unwrap_or(0);
+            let debt = Debt {
+                message,
+                deadline,
+                must,
+            };
+            played.gain(rt, row, debt)?;
+        }
+    }
+    Ok(())
+}
+
+/// Rows come and go.
+fn change_rows(
+    rt: &(impl Abort + AllocGlobal),
+    chance: &mut Chance,
+    played: &mut Played,
+) -> Result<(), Fail> {
+    let row = played.row(rt, chance);
+    let other = played.row(rt, chance);
+    match chance.below(8) {
+        0 if played.lists.len() < 12 => played.push(rt),
+        1 | 2 if played.lists.len() < 12 => played.push_copy(rt, row),
+        3 => played.copy(rt, row, other),
+        4 if played.lists.len() > 6 => {
+            played.truncate();
+            Ok(())
+        }
+        5 if played.lists.len() > 3 => played.keep_some(rt),
+        6 if chance.below(8) == 0 => {
+            played.clear(rt, row);
+            Ok(())
+        }
+        _ => {
+            played.accounts.tidy();
+            Ok(())
+        }
+    }
+}
+
+/// Many rows change at once.
+fn change_many(
+    rt: &impl Abort,
+    chance: &mut Chance,
+    played: &mut Played,
+    moment: u64,
+) -> Result<(), Fail> {
+    let from = played.row(rt, chance);
+    let to = played.row(rt, chance);
+    let message = u32::try_from(chance.below(3)).unwrap_or(0);
+    match chance.below(6) {
+        0 if played.lists.len() < 12 => played.push_timely(rt, from, to, moment),
+        1 => played.expire_each(rt, from, moment),
+        2 => {
+            let debt = Debt {
+                message,
+                deadline: moment.saturating_add(5),
+                must: chance.below(2) == 0,
+            };
+            played.gain_each(rt, from, debt)
+        }
+        3 if played.lists.len() > 6 => {
+            played.drop_first(rt);
+            Ok(())
+        }
+        _ if played.lists.len() < 12 => played.push_paid(rt, from, to, message, moment),
+        _ => {
+            played.truncate();
+            Ok(())
+        }
+    }
+}
+
+/// So many steps from this number on. Deadlines rise, or do not.
+fn play(rt: &(impl Abort + AllocGlobal), seed: u64, steps: u64, rises: bool) -> Result<(), Fail> {
+    let mut chance = Chance::new(seed);
+    let mut played = Played::new(rt)?;
+    let mut now: u64 = 0;
+    for _ in 0..steps {
+        let row = played.row(rt, &mut chance);
+        let moment = if rises { now } else { chance.below(40) };
+        match chance.below(22) {
+            0 => played.soften(rt, row),
+            1 => now = now.saturating_add(chance.below(3)),
+            2 | 3 => played.expire(rt, row, moment)?,
+            4..11 => {
+                let message = u32::try_from(chance.below(4)).unwrap_or(0);
+                played.pay(rt, row, message, moment)?;
+            }
+            11..15 => change_rows(rt, &mut chance, &mut played)?,
+            15..17 => change_many(rt, &mut chance, &mut played, moment)?,
+            _ => {
+                let deadline = if rises {
+                    now.saturating_add(5)
+                } else {
+                    10 * (moment / 10)
+                };
+                gain_some(rt, &mut chance, &mut played, deadline)?;
+            }
+        }
+        played.agree(rt)?;
+    }
+    Ok(())
+}
+
+#[test]
+fn accounts_owe_what_plain_lists_have(rt: HostRuntime) -> Result<(), Fail> {
+    for seed in 0..12 {
+        play(&rt, seed, 80, seed % 2 == 0)?;
+    }
+    Ok(())
+}
+
+/// Equal debts side by side, at the counts at which words of bits end.
+#[test]
+fn equal_debts_count_as_often_as_they_were_gained(rt: HostRuntime) -> Result<(), Fail> {
+    let debt = Debt {
+        message: 7,
+        deadline: 10,
+        must: true,
+    };
+    for count in [0, 1, 63, 64, 65] {
+        let mut played = Played::new(&rt)?;
+        for _ in 0..count {
+            played.gain(&rt, 0, debt)?;
+        }
+        played.agree(&rt)?;
+        for _ in 0..count {
+            played.pay(&rt, 0, 7, 10)?;
+        }
+        played.pay(&rt, 0, 7, 10)?;
+        played.agree(&rt)?;
+    }
+    Ok(())
+}
+
+/// Two rows to which debts come at each moment, and that pay them or let them expire: what was gained long ago is dropped.
+#[test]
+fn what_is_owed_is_told_after_a_long_life(rt: HostRuntime) -> Result<(), Fail> {
+    let mut played = Played::new(&rt)?;
+    played.push_copy(&rt, 0)?;
+    for moment in 0..150_u64 {
+        let debt = Debt {
+            message: u32::try_from(moment % 5).unwrap_or(0),
+            deadline: moment + 3,
+            must: moment % 7 == 0,
+        };
+        played.gain(&rt, 0, debt)?;
+        played.gain(&rt, 1, debt)?;
+        played.pay(&rt, 0, u32::try_from((moment + 3) % 5).unwrap_or(0), moment)?;
+        played.pay(&rt, 1, u32::try_from((moment + 4) % 5).unwrap_or(0), moment)?;
+        played.expire(&rt, 0, moment)?;
+        played.expire(&rt, 1, moment)?;
+        played.accounts.tidy();
+        played.agree(&rt)?;
+    }
+    Ok(())
+}
+
+/// One row that owes many messages, and pays them in a mixed order.
+#[test]
+fn one_row_pays_in_any_order(rt: HostRuntime) -> Result<(), Fail> {
+    let mut played = Played::new(&rt)?;
+    for message in 0..100 {
+        let debt = Debt {
+            message,
+            deadline: 10,
+            must: message % 2 == 0,
+        };
+        played.gain(&rt, 0, debt)?;
+    }
+    for step in 0..100_u32 {
+        played.pay(&rt, 0, step * 37 % 100, 5)?;
+        played.accounts.tidy();
+        played.agree(&rt)?;
+    }
+    Ok(())
+}

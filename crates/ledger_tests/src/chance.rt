@@ -1,0 +1,39 @@
+//! Numbers by chance.
+ghost use Rattle.std.specs.Prelude.{◌<◌, All, AllPairs, IfOk};
+
+use std::alloc::Global;
+use std::test::Fail;
+
+/// Random numbers.
+#[derive(Drop)]
+pub(crate) struct Chance(u64);
+
+impl Chance {
+    /// Those that begin with this one.
+    pub(crate) fn new(seed: u64) -> Self {
+        Chance(seed)
+    }
+
+    /// A random number below the limit, which is not 0.
+    pub(crate) fn below(&mut self, limit: u64) -> u64 {
+        self.0 = self
+            .0
+            .wrapping_mul(6_364_136_223_846_793_005)
+            .wrapping_add(1_442_695_040_888_963_407);
+        (self.0 >> 33) % limit.max(1)
+    }
+}
+
+/// The even numbers below the limit.
+pub(crate) fn evens(alloc: Global, limit: usize) -> Result<Vec<usize>, Fail>
+    ensures within { IfOk result (λ rows. All (λ row. row < limit) rows.items) }
+    ensures rising { IfOk result (λ rows. AllPairs (λ a b. a < b) rows.items) }
+{
+    let mut rows = Vec::new(alloc);
+    for row in 0..limit {
+        if row % 2 == 0 {
+            rows.push(row)?;
+        }
+    }
+    Ok(rows)
+}

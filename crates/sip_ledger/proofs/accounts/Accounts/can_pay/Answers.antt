@@ -1,0 +1,24 @@
+use Rattle.std.proofs.Common.{◌<◌, length, ap, ◌∙◌, arith}
+use Rattle.std.specs.List.{list_any}
+use Rattle.sip_ledger.specs.Debts.{is_payable}
+use Rattle.sip_ledger.proofs.places.SeenLemmas.{account-at, can-pay, row-inside}
+use Rattle.sip_ledger.proofs.accounts.Accounts.can_pay.Goals as goal
+
+pub index-account-requires : goal.index-account-requires
+index-account-requires c =
+    let s = c.self.inside in
+    omega (arith, row-inside s.gains s.strikes.items s.rows.items c.args.self.now c.args.row c.self.view_is c.requires, s.rows.ok.0)
+
+pub find-requires-clause-account : goal.find-requires-clause-account
+find-requires-clause-account c =
+    let s = c.self.inside in
+    let is = account-at s.gains s.strikes.items s.rows.items c.args.self.now c.args.row c.index-account.result.now c.self.invariant c.self.view_is c.requires c.index-account.ensures in
+    rw c.deref.ensures.value is.0
+
+pub returns : goal.returns
+returns c =
+    let s = c.self.inside in
+    let is = account-at s.gains s.strikes.items s.rows.items c.args.self.now c.args.row c.index-account.result.now c.self.invariant c.self.view_is c.requires c.index-account.ensures in
+    c.is_some.ensures
+    ∙ can-pay s.gains s.strikes.items c.index-account.result.now c.args.message c.args.moment c.find.result is.0 (rw c.deref.ensures.value at c.find.ensures.found) (rw c.deref.ensures.value at c.find.ensures.none)
+    ∙ ap (list_any (is_payable c.args.message c.args.moment)) is.1

@@ -1,0 +1,8 @@
+use Rattle.std.specs.Prelude.{◌≡◌, ◌≤◌, filter}
+use Rattle.sip_ledger.specs.Debts.{counts_at}
+use Rattle.sip_ledger.proofs.lists.EachLemmas.{changing}
+use Rattle.sip_ledger.proofs.accounts.Accounts.expire_each.Given as goal
+
+-- the rows so far have lost what expired
+abbrev pub invariant-loop-row : goal.invariant-loop-row
+invariant-loop-row l = (l.from ≤ l.row) × (l.self ≡ changing (filter (counts_at l.moment)) l.from l.row l.initial.self)

@@ -1,0 +1,6 @@
+use Rattle.std.proofs.Common.{◌≡◌, ◌++◌, map, take}
+use Rattle.sip_ledger.specs.declared.debt.Debt.{Debt}
+use Rattle.sip_ledger.proofs.accounts.Accounts.names.Given as goal
+
+abbrev pub invariant-loop-debt : goal.invariant-loop-debt
+invariant-loop-debt l = l.numbers.items ≡ l.fn.numbers.items ++ map (λ (debt : Debt). debt.message) (take l.debt-index l.debt-items)

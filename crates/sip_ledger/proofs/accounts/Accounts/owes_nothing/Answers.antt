@@ -1,0 +1,15 @@
+use Rattle.std.proofs.Common.{◌<◌, length, arith}
+use Rattle.sip_ledger.specs.Accounts.{owed_in}
+use Rattle.sip_ledger.proofs.places.SeenLemmas.{account-at, owes-nothing, row-inside}
+use Rattle.sip_ledger.proofs.accounts.Accounts.owes_nothing.Goals as goal
+
+pub index-account-requires : goal.index-account-requires
+index-account-requires c =
+    let s = c.self.inside in
+    omega (arith, row-inside s.gains s.strikes.items s.rows.items c.args.self.now c.args.row c.self.view_is c.requires, s.rows.ok.0)
+
+pub returns : goal.returns
+returns c =
+    let s = c.self.inside in
+    let is = account-at s.gains s.strikes.items s.rows.items c.args.self.now c.args.row c.index-account.result.now c.self.invariant c.self.view_is c.requires c.index-account.ensures in
+    owes-nothing s.gains s.strikes.items c.index-account.result.now (owed_in c.args.self.now c.args.row) is.0 is.1

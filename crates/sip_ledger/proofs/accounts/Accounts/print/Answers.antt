@@ -1,0 +1,15 @@
+use Rattle.std.proofs.Common.{◌<◌, length, ap, ◌∙◌, arith}
+use Rattle.sip_ledger.specs.Accounts.{debts_print}
+use Rattle.sip_ledger.proofs.places.SeenLemmas.{account-at, row-inside}
+use Rattle.sip_ledger.proofs.accounts.Accounts.print.Goals as goal
+
+pub index-requires : goal.index-requires
+index-requires c =
+    let s = c.self.inside in
+    omega (arith, row-inside s.gains s.strikes.items s.rows.items c.args.self.now c.args.row c.self.view_is c.requires, s.rows.ok.0)
+
+pub returns : goal.returns
+returns c =
+    let s = c.self.inside in
+    let is = account-at s.gains s.strikes.items s.rows.items c.args.self.now c.args.row c.index.result.now c.self.invariant c.self.view_is c.requires c.index.ensures in
+    is.0.print ∙ ap debts_print is.1

@@ -1,0 +1,16 @@
+use Rattle.std.proofs.Common.{refl, [], ◌++◌, ◌∷◌, arith}
+use Rattle.sip_ledger.proofs.places.AccountLemmas.{empty-account, empty-debts}
+use Rattle.sip_ledger.proofs.places.SeenLemmas.{pushed-to}
+use Rattle.sip_ledger.proofs.accounts.Accounts.push.Goals as goal
+
+pub invariant_of-self-2 : goal.invariant_of-self-2
+invariant_of-self-2 c =
+    let s = c.self.inside in
+    let none = empty-account s.gains s.strikes.items in
+    rw c.in_ok-push.ensures.items (pushed-to s.gains s.strikes.items s.rows.items c.args.self.now _ [] c.self.invariant c.self.view_is none (empty-debts s.gains s.strikes.items _ (omega arith))).0
+
+pub returns-clause-ok : goal.returns-clause-ok
+returns-clause-ok c =
+    let s = c.self.inside in
+    let none = empty-account s.gains s.strikes.items in
+    rw c.in_ok-push.ensures.items (pushed-to s.gains s.strikes.items s.rows.items c.args.self.now _ [] c.self.invariant c.self.view_is none (empty-debts s.gains s.strikes.items _ (omega arith))).1

@@ -1,0 +1,21 @@
+use Rattle.std.proofs.Common.{◌<◌, length, ◌++◌, ◌∷◌, [], arith}
+use Rattle.sip_ledger.specs.Accounts.{owed_in}
+use Rattle.sip_ledger.proofs.places.SeenLemmas.{account-at, pushed-to, row-inside}
+use Rattle.sip_ledger.proofs.accounts.Accounts.push_copy.Goals as goal
+
+pub index-requires : goal.index-requires
+index-requires c =
+    let s = c.self.inside in
+    omega (arith, row-inside s.gains s.strikes.items s.rows.items c.args.self.now c.args.row c.self.view_is c.requires, s.rows.ok.0)
+
+pub invariant_of-self-2 : goal.invariant_of-self-2
+invariant_of-self-2 c =
+    let s = c.self.inside in
+    let is = account-at s.gains s.strikes.items s.rows.items c.args.self.now c.args.row c.index.result.now c.self.invariant c.self.view_is c.requires c.index.ensures in
+    rw c.in_ok-push.ensures.items (pushed-to s.gains s.strikes.items s.rows.items c.args.self.now c.index.result.now (owed_in c.args.self.now c.args.row) c.self.invariant c.self.view_is is.0 is.1).0
+
+pub returns-clause-ok : goal.returns-clause-ok
+returns-clause-ok c =
+    let s = c.self.inside in
+    let is = account-at s.gains s.strikes.items s.rows.items c.args.self.now c.args.row c.index.result.now c.self.invariant c.self.view_is c.requires c.index.ensures in
+    rw c.in_ok-push.ensures.items (pushed-to s.gains s.strikes.items s.rows.items c.args.self.now c.index.result.now (owed_in c.args.self.now c.args.row) c.self.invariant c.self.view_is is.0 is.1).1

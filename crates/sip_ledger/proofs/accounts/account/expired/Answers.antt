@@ -1,0 +1,72 @@
+use Rattle.std.proofs.Common.{◌<◌, ◌≤◌, ◌∙◌, ap, filter, length, refl, sym, arith}
+use Rattle.std.proofs.Math.Seq.{take-length}
+use Rattle.sip_ledger.specs.inner.Accounts.{entries_of, must_at, owes_at}
+use Rattle.sip_ledger.specs.Debts.{counts_at}
+use Rattle.sip_ledger.proofs.places.AccountLemmas.{empty-debts, kept-passed, kept-twice}
+use Rattle.sip_ledger.proofs.places.ExpiringLemmas.{expired-end, expired-rising, expired-start}
+use Rattle.sip_ledger.proofs.accounts.account.expired.Goals as goal
+
+pub loop-place-init : goal.loop-place-init
+loop-place-init c = record {
+  kept = take-length c.args.strikes.now.items;
+  low = omega arith;
+  account = c.requires.account;
+  soft = refl;
+  gone = expired-start c.args.moment c.args.gains.now c.args.strikes.now.items (must_at c.args.gains.now c.args.account) c.args.account;
+}
+
+pub returns-then-account-clause-debts : goal.returns-then-account-clause-debts
+returns-then-account-clause-debts c =
+    let here = c.if-account.true in
+    let none = empty-debts c.args.gains.now c.args.strikes.now.items c.args.account (omega (arith, here)) in
+    none ∙ sym (ap (filter (counts_at c.args.moment)) none)
+
+pub expired_at-requires-clause-kept : goal.expired_at-requires-clause-kept
+expired_at-requires-clause-kept c =
+    let was = c.loop-place.invariant in
+    let low = was.low in
+    let order = c.requires.account.order in
+    let some = c.if-account.false in
+    let end = was.account.end in
+    let inside = c.loop-place-test.true in
+    kept-passed c.args.gains.now c.args.strikes.now.items c.args.account c.loop-place.place c.requires.gained c.requires.account (omega (arith, order, some)) low (omega (arith, inside, end))
+
+pub entry-requires-clause-kept : goal.entry-requires-clause-kept
+entry-requires-clause-kept c =
+    let was = c.loop-place.invariant in
+    let low = was.low in
+    let order = c.requires.account.order in
+    let some = c.if-account.false in
+    let end = was.account.end in
+    let inside = c.loop-place-test.true in
+    kept-passed c.args.gains.now c.args.strikes.now.items c.args.account c.loop-place.place c.requires.gained c.requires.account (omega (arith, order, some)) low (omega (arith, inside, end))
+
+pub returns-then-moment-entry-clause-debts : goal.returns-then-moment-entry-clause-debts
+returns-then-moment-entry-clause-debts c =
+    let was = c.loop-place.invariant in
+    let low = was.low in
+    let order = c.requires.account.order in
+    let some = c.if-account.false in
+    let end = was.account.end in
+    let inside = c.loop-place-test.true in
+    expired-rising c.args.gains.now c.args.strikes.now.items c.loop-place.strikes.items c.args.account c.loop-place.left c.args.moment c.loop-place.place was.soft c.requires.gained
+    c.if-gains.true (kept-passed c.args.gains.now c.args.strikes.now.items c.args.account c.loop-place.place c.requires.gained c.requires.account (omega (arith, order, some)) low (omega (arith, inside, end)))
+    (rw c.entry.ensures at c.if-moment-entry.true) was.gone
+
+pub loop-place-preserved : goal.loop-place-preserved
+loop-place-preserved c =
+    let was = c.loop-place.invariant in
+    let now = c.in_ok-left.ensures in
+    let low = was.low in
+    record {
+      low = omega (arith, low);
+      kept = kept-twice c.args.strikes.now.items c.loop-place.strikes.items c.expired_at.new.strikes.items was.kept c.expired_at.ensures.kept;
+      account = now.account;
+      soft = now.soft ∙ was.soft;
+      gone = now.gone c.args.account (owes_at c.args.gains.now c.args.strikes.now.items c.args.account) was.soft was.gone;
+    }
+
+pub returns-clause-debts : goal.returns-clause-debts
+returns-clause-debts c =
+    let was = c.loop-place.invariant in
+    expired-end c.args.gains.now c.args.strikes.now.items c.loop-place.strikes.items c.args.account c.loop-place.left c.args.moment c.loop-place.place was.soft c.loop-place-test.false was.gone

@@ -1,0 +1,11 @@
+use Rattle.std.proofs.Common.{◌≡◌, ◌≤◌, ◌-◌, length, take}
+use Rattle.sip_ledger.specs.inner.Accounts.{IsAccount, entries_of, must_at, owes_at}
+use Rattle.sip_ledger.proofs.places.ExpiringLemmas.{IsExpiring}
+use Rattle.sip_ledger.proofs.accounts.account.expired.Given as goal
+
+-- what is past has gone up to the place
+abbrev pub invariant-loop-place : goal.invariant-loop-place
+invariant-loop-place l = IsExpiring l.gains l.fn.strikes.items l.strikes.items l.fn.account l.left l.moment l.place
+
+abbrev pub decreases-loop-place : goal.decreases-loop-place
+decreases-loop-place l = length (entries_of l.gains) - l.place

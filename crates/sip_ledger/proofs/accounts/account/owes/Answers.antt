@@ -1,0 +1,24 @@
+use Rattle.std.proofs.Common.{◌≡◌, ◌≤◌, ◌∙◌, ap, not, sym, arith}
+use Rattle.std.specs.Prelude.{Bool, false, true}
+use Rattle.sip_ledger.specs.inner.Accounts.{is_gone, owes_at, strikes_of}
+use Rattle.sip_ledger.proofs.places.AccountLemmas.{kept-from, past-end}
+use Rattle.sip_ledger.proofs.places.FindLemmas.{owes-inside}
+use Rattle.sip_ledger.proofs.places.WithoutLemmas.{before-start}
+use Rattle.sip_ledger.proofs.accounts.account.owes.Goals as goal
+
+pub returns-then-place-account : goal.returns-then-place-account
+returns-then-place-account c = sym (before-start c.args.gains.now c.args.strikes.now c.args.account c.args.place c.if-place-account.true)
+
+pub returns-then-account-place : goal.returns-then-account-place
+returns-then-account-place c = sym (past-end c.args.gains.now c.args.strikes.now c.args.account c.args.place c.if-account-place.true)
+
+pub is_gone-requires-clause-kept : goal.is_gone-requires-clause-kept
+is_gone-requires-clause-kept c =
+    let low = c.if-place-account.false in
+    let high = c.if-account-place.false in
+    kept-from c.args.gains.now c.args.strikes.now c.args.account c.args.place c.requires.gained c.requires.account (omega (arith, low, high)) low high
+
+pub returns : goal.returns
+returns c =
+    ap not (rw c.own.ensures at c.is_gone.ensures)
+    ∙ sym (owes-inside c.args.gains.now c.args.strikes.now c.args.account c.args.place c.if-place-account.false c.if-account-place.false)

@@ -1,0 +1,9 @@
+use Rattle.std.proofs.Common.{◌≡◌, ◌+◌, ◌-◌, ◌∙◌, drop, take, sym, ap, arith}
+use Rattle.std.proofs.lemmas.List.{drop-take}
+use Rattle.sip_ledger.proofs.accounts.account.own.Goals as goal
+
+pub returns : goal.returns
+returns c =
+    let a = c.args.account in
+    let whole : a.first + (a.last - a.first) ≡ a.last = omega arith in
+    sym (drop-take a.first (a.last - a.first) c.args.strikes.now) ∙ ap (λ n. drop a.first (take n c.args.strikes.now)) whole

@@ -1,0 +1,17 @@
+use Rattle.std.proofs.Common.{subst}
+use Rattle.sip_ledger.specs.inner.Accounts.{IsNextGain}
+use Rattle.sip_ledger.proofs.places.LeftLemmas.{entries-long}
+use Rattle.sip_ledger.proofs.places.AccountLemmas.{same-keeps}
+use Rattle.sip_ledger.proofs.places.GainedLemmas.{gain-keeps, new-gain}
+use Rattle.sip_ledger.proofs.accounts.account.place_for.Goals as goal
+
+pub returns-in_err-push-clause-kept : goal.returns-in_err-push-clause-kept
+returns-in_err-push-clause-kept c = same-keeps c.args.gains.now c.push.new.self c.in_err-push.ensures.err
+
+pub returns-clause-kept : goal.returns-clause-kept
+returns-clause-kept c = gain-keeps c.args.gains.now c.push.new.self c.args.debt c.in_ok-push.ensures.ok
+
+pub returns-clause-next : goal.returns-clause-next
+returns-clause-next c =
+    subst (IsNextGain c.push.new.self c.args.strikes.now c.args.account c.args.debt) (entries-long c.args.gains.now c.requires.gained.long)
+    (new-gain c.args.gains.now c.push.new.self c.args.strikes.now c.args.account c.args.debt c.in_ok-push.ensures.ok c.requires.account)

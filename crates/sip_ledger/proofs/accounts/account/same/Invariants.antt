@@ -1,0 +1,10 @@
+use Rattle.std.proofs.Common.{◌-◌}
+use Rattle.sip_ledger.proofs.places.ToldLemmas.{AreAt}
+use Rattle.sip_ledger.proofs.accounts.account.same.Given as goal
+
+-- what is left of both is the same where all of it is
+abbrev pub invariant-loop-at : goal.invariant-loop-at
+invariant-loop-at l = AreAt l.gains l.strikes l.one l.other l.at l.beside
+
+abbrev pub decreases-loop-at : goal.decreases-loop-at
+decreases-loop-at l = l.one.end - l.at

@@ -1,0 +1,9 @@
+use Rattle.std.proofs.Common.{◌≡◌, ◌≤◌, refl}
+use Rattle.sip_ledger.proofs.places.ToldLemmas.{on-true, shares-rest}
+use Rattle.sip_ledger.proofs.accounts.account.shares_rest.Goals as goal
+
+pub returns-then-end_by : goal.returns-then-end_by
+returns-then-end_by c =
+    on-true c.end_by-then-end_by.result (rw c.own-then-end_by.ensures at c.end_by-then-end_by.ensures)
+    (shares-rest c.args.strikes.now c.args.one c.args.other c.args.place c.if-one-other.false c.if-one-other-2.false c.requires.start c.requires.start_other
+    (rw c.own.ensures at c.if-end_by.ensures))

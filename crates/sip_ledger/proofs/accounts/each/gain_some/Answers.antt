@@ -1,0 +1,154 @@
+use Rattle.std.proofs.Common.{◌≡◌, ◌<◌, ◌≤◌, ◌+◌, length, set, subst, ◌∙◌, arith}
+use Rattle.sip_ledger.specs.inner.Accounts.{accounts_debts}
+use Rattle.sip_ledger.proofs.lists.EachLemmas.{changing-all}
+use Rattle.sip_ledger.proofs.places.AccountLemmas.{debts-length}
+use Rattle.sip_ledger.proofs.places.GainEachLemmas.{gained-at, gained-front, gained-grown, gained-inside, gained-more, gained-none, gained-over, with_debt}
+use Rattle.sip_ledger.proofs.places.SeenLemmas.{on-error}
+use Rattle.sip_ledger.proofs.accounts.each.gain_some.Goals as goal
+
+pub loop-row-init : goal.loop-row-init
+loop-row-init c = record {
+  low = omega arith;
+  near = tt;
+  gained = gained-none c.args.debt c.args.from c.args.gains.now c.args.strikes.now.items c.args.rows.now.items c.requires;
+}
+
+pub index-account-requires : goal.index-account-requires
+index-account-requires c =
+    let g = c.args.gains.now in
+    let seen = accounts_debts g c.args.strikes.now.items c.args.rows.now.items in
+    let was = c.loop-row.invariant in
+    let k = c.loop-row.row in
+    let long = debts-length g c.args.strikes.now.items c.args.rows.now.items in
+    let count : c.len-row-end.result ≡ length c.args.rows.now.items = c.len-row-end.ensures ∙ c.args.rows.now.ok.0 in
+    let inside : k < length seen = omega (arith, long, count) in
+    omega (arith, gained-inside c.args.debt c.args.from k k seen c.loop-row.gains c.loop-row.strikes.items c.loop-row.rows.items was.gained was.low inside, c.loop-row.rows.ok.0)
+
+pub place_near-requires-clause-gained : goal.place_near-requires-clause-gained
+place_near-requires-clause-gained c = c.loop-row.invariant.gained.accounts.gained
+
+pub place_near-requires-clause-account : goal.place_near-requires-clause-account
+place_near-requires-clause-account c =
+    let g = c.args.gains.now in
+    let seen = accounts_debts g c.args.strikes.now.items c.args.rows.now.items in
+    let was = c.loop-row.invariant in
+    let k = c.loop-row.row in
+    let long = debts-length g c.args.strikes.now.items c.args.rows.now.items in
+    let count : c.len-row-end.result ≡ length c.args.rows.now.items = c.len-row-end.ensures ∙ c.args.rows.now.ok.0 in
+    let inside : k < length seen = omega (arith, long, count) in
+    rw c.deref.ensures.value
+    (gained-at c.args.debt c.args.from k k seen c.loop-row.gains c.loop-row.strikes.items c.loop-row.rows.items c.index-account.result.now was.gained was.low inside c.index-account.ensures)
+
+pub returns-in_err-place-clause-accounts : goal.returns-in_err-place-clause-accounts
+returns-in_err-place-clause-accounts c =
+    let g = c.args.gains.now in
+    let seen = accounts_debts g c.args.strikes.now.items c.args.rows.now.items in
+    let was = c.loop-row.invariant in
+    let k = c.loop-row.row in
+    let long = debts-length g c.args.strikes.now.items c.args.rows.now.items in
+    let count : c.len-row-end.result ≡ length c.args.rows.now.items = c.len-row-end.ensures ∙ c.args.rows.now.ok.0 in
+    let inside : k < length seen = omega (arith, long, count) in
+    let over = gained-over c.args.debt c.args.from k seen c.loop-row.gains c.place_near.new.gains c.loop-row.strikes.items c.loop-row.rows.items c.place_near.ensures.kept
+    c.place_near.ensures.gained was.gained in
+    over.accounts
+
+pub returns-in_err-place-clause-err : goal.returns-in_err-place-clause-err
+returns-in_err-place-clause-err c =
+    let g = c.args.gains.now in
+    let seen = accounts_debts g c.args.strikes.now.items c.args.rows.now.items in
+    let was = c.loop-row.invariant in
+    let k = c.loop-row.row in
+    let long = debts-length g c.args.strikes.now.items c.args.rows.now.items in
+    let count : c.len-row-end.result ≡ length c.args.rows.now.items = c.len-row-end.ensures ∙ c.args.rows.now.ok.0 in
+    let inside : k < length seen = omega (arith, long, count) in
+    let over = gained-over c.args.debt c.args.from k seen c.loop-row.gains c.place_near.new.gains c.loop-row.strikes.items c.loop-row.rows.items c.place_near.ensures.kept
+    c.place_near.ensures.gained was.gained in
+    on-error c.from_residual.result c.from_residual.ensures.0
+    (gained-front c.args.debt c.args.from k seen c.place_near.new.gains c.loop-row.strikes.items c.loop-row.rows.items over was.low)
+
+pub gained-requires-clause-account : goal.gained-requires-clause-account
+gained-requires-clause-account c =
+    let g = c.args.gains.now in
+    let seen = accounts_debts g c.args.strikes.now.items c.args.rows.now.items in
+    let was = c.loop-row.invariant in
+    let k = c.loop-row.row in
+    let long = debts-length g c.args.strikes.now.items c.args.rows.now.items in
+    let count : c.len-row-end.result ≡ length c.args.rows.now.items = c.len-row-end.ensures ∙ c.args.rows.now.ok.0 in
+    let inside : k < length seen = omega (arith, long, count) in
+    let over = gained-over c.args.debt c.args.from k seen c.loop-row.gains c.place_near.new.gains c.loop-row.strikes.items c.loop-row.rows.items c.place_near.ensures.kept
+    c.place_near.ensures.gained was.gained in
+    gained-at c.args.debt c.args.from k k seen c.place_near.new.gains c.loop-row.strikes.items c.loop-row.rows.items c.index-account.result.now over was.low inside c.index-account.ensures
+
+pub gained-requires-clause-next : goal.gained-requires-clause-next
+gained-requires-clause-next c = rw c.deref.ensures.value at c.in_ok-place.ensures.next
+
+pub returns-in_err-grown-clause-accounts : goal.returns-in_err-grown-clause-accounts
+returns-in_err-grown-clause-accounts c =
+    let g = c.args.gains.now in
+    let seen = accounts_debts g c.args.strikes.now.items c.args.rows.now.items in
+    let was = c.loop-row.invariant in
+    let k = c.loop-row.row in
+    let long = debts-length g c.args.strikes.now.items c.args.rows.now.items in
+    let count : c.len-row-end.result ≡ length c.args.rows.now.items = c.len-row-end.ensures ∙ c.args.rows.now.ok.0 in
+    let inside : k < length seen = omega (arith, long, count) in
+    let over = gained-over c.args.debt c.args.from k seen c.loop-row.gains c.place_near.new.gains c.loop-row.strikes.items c.loop-row.rows.items c.place_near.ensures.kept
+    c.place_near.ensures.gained was.gained in
+    let grown = gained-grown c.args.debt c.args.from k seen c.place_near.new.gains c.loop-row.strikes.items c.gained.new.strikes.items c.loop-row.rows.items c.gained.ensures.kept over in
+    grown.accounts
+
+pub returns-in_err-grown-clause-err : goal.returns-in_err-grown-clause-err
+returns-in_err-grown-clause-err c =
+    let g = c.args.gains.now in
+    let seen = accounts_debts g c.args.strikes.now.items c.args.rows.now.items in
+    let was = c.loop-row.invariant in
+    let k = c.loop-row.row in
+    let long = debts-length g c.args.strikes.now.items c.args.rows.now.items in
+    let count : c.len-row-end.result ≡ length c.args.rows.now.items = c.len-row-end.ensures ∙ c.args.rows.now.ok.0 in
+    let inside : k < length seen = omega (arith, long, count) in
+    let over = gained-over c.args.debt c.args.from k seen c.loop-row.gains c.place_near.new.gains c.loop-row.strikes.items c.loop-row.rows.items c.place_near.ensures.kept
+    c.place_near.ensures.gained was.gained in
+    let grown = gained-grown c.args.debt c.args.from k seen c.place_near.new.gains c.loop-row.strikes.items c.gained.new.strikes.items c.loop-row.rows.items c.gained.ensures.kept over in
+    on-error c.from_residual-in_err-grown.result c.from_residual-in_err-grown.ensures.0
+    (gained-front c.args.debt c.args.from k seen c.place_near.new.gains c.gained.new.strikes.items c.loop-row.rows.items grown was.low)
+
+pub index_mut-requires : goal.index_mut-requires
+index_mut-requires c =
+    let g = c.args.gains.now in
+    let seen = accounts_debts g c.args.strikes.now.items c.args.rows.now.items in
+    let was = c.loop-row.invariant in
+    let k = c.loop-row.row in
+    let long = debts-length g c.args.strikes.now.items c.args.rows.now.items in
+    let count : c.len-row-end.result ≡ length c.args.rows.now.items = c.len-row-end.ensures ∙ c.args.rows.now.ok.0 in
+    let inside : k < length seen = omega (arith, long, count) in
+    omega (arith, gained-inside c.args.debt c.args.from k k seen c.loop-row.gains c.loop-row.strikes.items c.loop-row.rows.items was.gained was.low inside, c.loop-row.rows.ok.0)
+
+pub loop-row-preserved : goal.loop-row-preserved
+loop-row-preserved c =
+    let g = c.args.gains.now in
+    let seen = accounts_debts g c.args.strikes.now.items c.args.rows.now.items in
+    let was = c.loop-row.invariant in
+    let k = c.loop-row.row in
+    let long = debts-length g c.args.strikes.now.items c.args.rows.now.items in
+    let count : c.len-row-end.result ≡ length c.args.rows.now.items = c.len-row-end.ensures ∙ c.args.rows.now.ok.0 in
+    let inside : k < length seen = omega (arith, long, count) in
+    let over = gained-over c.args.debt c.args.from k seen c.loop-row.gains c.place_near.new.gains c.loop-row.strikes.items c.loop-row.rows.items c.place_near.ensures.kept
+    c.place_near.ensures.gained was.gained in
+    let low = was.low in
+    record {
+      low = omega (arith, low);
+      near = c.in_ok-place.ensures.next.gain;
+      gained = gained-more c.args.debt c.args.from k seen c.place_near.new.gains c.loop-row.strikes.items c.gained.new.strikes.items c.loop-row.rows.items c.index-account.result.now
+          c.in_ok-grown.grown c.gained.ensures.kept over was.low inside c.index-account.ensures c.in_ok-grown.ensures.account c.in_ok-grown.ensures.debts;
+    }
+
+pub returns-clause-accounts : goal.returns-clause-accounts
+returns-clause-accounts c = c.loop-row.invariant.gained.accounts
+
+pub returns-clause-ok : goal.returns-clause-ok
+returns-clause-ok c =
+    let g = c.args.gains.now in
+    let seen = accounts_debts g c.args.strikes.now.items c.args.rows.now.items in
+    let was = c.loop-row.invariant in
+    let long = debts-length g c.args.strikes.now.items c.args.rows.now.items in
+    let count : c.len-row-end.result ≡ length c.args.rows.now.items = c.len-row-end.ensures ∙ c.args.rows.now.ok.0 in
+    was.gained.debts ∙ changing-all (with_debt c.args.debt) c.args.from c.loop-row.row seen (omega (arith, long, count))

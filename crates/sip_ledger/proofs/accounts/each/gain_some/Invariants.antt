@@ -1,0 +1,13 @@
+use Rattle.std.proofs.Common.{◌≤◌}
+use Rattle.std.specs.Prelude.{IfSome}
+use Rattle.sip_ledger.specs.inner.Accounts.{IsGainAt, accounts_debts}
+use Rattle.sip_ledger.proofs.places.GainEachLemmas.{HaveGained}
+use Rattle.sip_ledger.proofs.accounts.each.gain_some.Given as goal
+
+-- the rows so far owe one more, and the last of them gained it at the place
+abbrev pub invariant-loop-row : goal.invariant-loop-row
+invariant-loop-row l = record {
+  low : l.from ≤ l.row;
+  near : IfSome l.near (IsGainAt l.gains l.debt);
+  gained : HaveGained l.debt l.from l.row (accounts_debts l.fn.gains l.fn.strikes.items l.fn.rows.items) l.gains l.strikes.items l.rows.items;
+}

@@ -1,0 +1,6 @@
+use Rattle.sip_ledger.specs.inner.Accounts.{IsClearedTo}
+use Rattle.sip_ledger.proofs.accounts.left.clear_to.Given as goal
+
+-- what was gained before the place is gone
+abbrev pub invariant-loop-place : goal.invariant-loop-place
+invariant-loop-place l = IsClearedTo l.place l.strikes l.rows l.fn.gains l.gains

@@ -1,0 +1,11 @@
+use Rattle.std.proofs.Common.{◌≡◌, ◌≤◌, ◌+◌, length, arith}
+use Rattle.sip_ledger.proofs.places.LetGoLemmas.{cleared-dropped, kept-start}
+use Rattle.sip_ledger.proofs.accounts.left.drop_front.Goals as goal
+
+pub returns-then-start-first : goal.returns-then-start-first
+returns-then-start-first c = kept-start c.args.gains.now c.args.strikes.now c.args.rows.now c.requires
+
+pub returns : goal.returns
+returns c =
+    cleared-dropped c.args.gains.now c.clear_to.new.gains c.drop_to.new.self c.args.strikes.now c.args.rows.now c.first_owed-start.result c.clear_to.ensures c.drop_to.ensures.dropped
+    c.drop_to.ensures.gained

@@ -1,0 +1,31 @@
+use Rattle.std.proofs.Common.{◌≡◌, ◌<◌, ◌≤◌, ◌∙◌, length, take, get_or, ap, subst, arith}
+use Rattle.std.proofs.Math.Seq.{take-length}
+use Rattle.sip_ledger.specs.declared.accounts.account.Account.{Account}
+use Rattle.sip_ledger.specs.inner.Accounts.{StartFrom}
+use Rattle.sip_ledger.proofs.places.LetGoLemmas.{start-more, start-none}
+use Rattle.sip_ledger.proofs.accounts.left.first_owed.Goals as goal
+use Rattle.sip_ledger.proofs.accounts.left.first_owed.Goals.{then-row, else-row}
+
+pub loop-at-init : goal.loop-at-init
+loop-at-init c = (omega arith, start-none c.args.rows.now c.args.end)
+
+pub returns-clause-start : goal.returns-clause-start
+returns-clause-start c =
+    let full : c.loop-at.at ≡ length c.args.rows.now = omega arith in
+    subst (StartFrom c.loop-at.first) (ap (λ n. take n c.args.rows.now) full ∙ take-length c.args.rows.now) c.loop-at.invariant.1
+
+pub loop-at-preserved : goal.loop-at-preserved
+loop-at-preserved c =
+    let none : Account = record { start = 0; end = 0; soft = 0; first = 0; last = 0; print = 0 } in
+    let rows = c.args.rows.now in
+    let at = c.loop-at.at in
+    let inside : at < length rows = omega arith in
+    let within = c.loop-at.invariant.0 in
+    elim c.if-row.branch [
+      | then-row w ↦
+          let least = w.min-first.ensures in
+          rw w.first-is (omega (arith, least, within), start-more rows c.loop-at.first w.min-first.result at none inside c.loop-at.invariant.1 (omega (arith, least)) (λ some. omega (arith, least)))
+      | else-row w ↦
+          let none_owed = w.if-row.false in
+          rw w.first-is (within, start-more rows c.loop-at.first c.loop-at.first at none inside c.loop-at.invariant.1 (omega arith) (λ some. absurd (omega (arith, some, none_owed))))
+    ]

@@ -1,0 +1,27 @@
+use Rattle.std.proofs.Common.{◌≡◌, ◌<◌, ◌∙◌, false, length, take, get_or, ap, subst, sym, arith}
+use Rattle.std.specs.Prelude.{All}
+use Rattle.std.proofs.Math.Seq.{take-length}
+use Rattle.std.proofs.lemmas.List.{take_more}
+use Rattle.std.proofs.lemmas.List.Elements.{All-get_or, All-nil, All-push}
+use Rattle.sip_ledger.specs.declared.accounts.account.Account.{Account}
+use Rattle.sip_ledger.specs.inner.Accounts.{IsAccount, owes_at}
+use Rattle.sip_ledger.proofs.accounts.left.is_owed.Goals as goal
+
+pub loop-at-init : goal.loop-at-init
+loop-at-init c = All-nil (λ a. owes_at c.args.gains.now c.args.strikes.now a c.args.place ≡ false)
+
+pub owes-requires-clause-account : goal.owes-requires-clause-account
+owes-requires-clause-account c = All-get_or (IsAccount c.args.gains.now c.args.strikes.now) c.args.rows.now c.loop-at.at _ (omega arith) c.requires.each
+
+pub loop-at-preserved : goal.loop-at-preserved
+loop-at-preserved c =
+    let none : Account = record { start = 0; end = 0; soft = 0; first = 0; last = 0; print = 0 } in
+    let P = λ (a : Account). owes_at c.args.gains.now c.args.strikes.now a c.args.place ≡ false in
+    let inside : c.loop-at.at < length c.args.rows.now = omega arith in
+    subst (All P) (sym (take_more c.args.rows.now c.loop-at.at none inside))
+    (All-push P (take c.loop-at.at c.args.rows.now) (get_or c.args.rows.now c.loop-at.at none) c.loop-at.invariant (sym c.owes.ensures ∙ c.if-owes.false))
+
+pub returns : goal.returns
+returns c =
+    let full : c.loop-at.at ≡ length c.args.rows.now = omega arith in
+    subst (All (λ a. owes_at c.args.gains.now c.args.strikes.now a c.args.place ≡ false)) (ap (λ n. take n c.args.rows.now) full ∙ take-length c.args.rows.now) c.loop-at.invariant

@@ -1,0 +1,8 @@
+use Rattle.std.proofs.Common.{◌≡◌, false, take}
+use Rattle.std.specs.Prelude.{All}
+use Rattle.sip_ledger.specs.inner.Accounts.{owes_at}
+use Rattle.sip_ledger.proofs.accounts.left.is_owed.Given as goal
+
+-- none of those so far owes it
+abbrev pub invariant-loop-at : goal.invariant-loop-at
+invariant-loop-at l = All (λ a. owes_at l.gains l.strikes a l.place ≡ false) (take l.at l.rows)

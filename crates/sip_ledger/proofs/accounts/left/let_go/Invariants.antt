@@ -1,0 +1,10 @@
+use Rattle.std.proofs.Common.{◌-◌}
+use Rattle.sip_ledger.specs.inner.Accounts.{AreKept}
+use Rattle.sip_ledger.proofs.accounts.left.let_go.Given as goal
+
+-- what is gone no account owed
+abbrev pub invariant-loop-place : goal.invariant-loop-place
+invariant-loop-place l = AreKept l.strikes l.rows l.fn.gains l.gains
+
+abbrev pub decreases-loop-place : goal.decreases-loop-place
+decreases-loop-place l = l.gains.end - l.from

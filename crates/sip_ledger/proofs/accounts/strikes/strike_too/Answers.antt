@@ -1,0 +1,19 @@
+use Rattle.std.proofs.Common.{◌≡◌, ◌≤◌, ◌∙◌, length, arith}
+use Rattle.std.proofs.lemmas.List.{with_items_is}
+use Rattle.sip_ledger.proofs.places.StrikeLemmas.{longer-too, more-too}
+use Rattle.sip_ledger.proofs.accounts.strikes.strike_too.Goals as goal
+
+pub returns-in_ok-push-clause-ok : goal.returns-in_ok-push-clause-ok
+returns-in_ok-push-clause-ok c =
+    let v = c.args.strikes.now in
+    let whole = with_items_is v c.lengthen.new.strikes (c.lengthen.auto.strikes ∙ c.deref_mut.ensures.len) in
+    let same = whole ∙ c.if-not-lengthen.ensures.none ∙ c.deref_mut.ensures.value in
+    let more = rw (same, c.entry.ensures) at c.in_ok-push.ensures.items in
+    more-too c.args.gains.now c.args.place c.args.first v.items c.push.new.self.items c.requires.first more
+
+pub returns-else-not-lengthen-clause-ok : goal.returns-else-not-lengthen-clause-ok
+returns-else-not-lengthen-clause-ok c =
+    let v = c.args.strikes.now in
+    let whole = with_items_is v c.lengthen.new.strikes (c.lengthen.auto.strikes ∙ c.deref_mut.ensures.len) in
+    let found = rw c.deref_mut.ensures.value at c.if-not-lengthen.ensures.found in
+    rw whole (longer-too c.args.gains.now c.args.place c.args.first v.items c.lengthen.new.strikes found)

@@ -1,0 +1,15 @@
+pub mod AccountLemmas
+pub mod ExpiringLemmas
+pub mod FindLemmas
+pub mod FlagLemmas
+pub mod GainEachLemmas
+pub mod GainedLemmas
+pub mod LeftLemmas
+pub mod LetGoLemmas
+pub mod MovedLemmas
+pub mod PaidLemmas
+pub mod SeekLemmas
+pub mod SeenLemmas
+pub mod StrikeLemmas
+pub mod ToldLemmas
+pub mod WithoutLemmas

@@ -1,0 +1,24 @@
+use Rattle.std.specs.Prelude.{ℕ, List, [], ◌/◌, ◌*◌, ◌%◌, ◌^◌, ◌&&◌, bit_xor, filter, get_or, map}
+use Rattle.std.specs.List.{list_any, sum_by}
+use Rattle.sip_ledger.specs.declared.debt.Debt.{Debt}
+use Rattle.sip_ledger.specs.Debts.{counts_at, is_payable, is_timely, paid_by}
+use Rattle.sip_ledger.specs.Prints.{mixed}
+
+-- What each of many states owes: a list of debts, oldest first.
+
+-- what one of them owes
+abbrev pub owed_in : List (List Debt) → ℕ → List Debt
+owed_in rows row = get_or rows row []
+
+-- what is left, after a send of the message at t, to those that it pays and that must send nothing that is past
+abbrev pub paid_rows : ℕ → ℕ → List (List Debt) → List (List Debt)
+paid_rows message t rows =
+    map (λ owes. filter (counts_at t) (paid_by message t owes)) (filter (λ owes. list_any (is_payable message t) owes && is_timely t owes) rows)
+
+-- a number for a message and a deadline, which tells most apart at once
+unfoldable pub worth_of : ℕ → ℕ → ℕ
+worth_of message deadline = mixed (mixed (mixed 1 message) deadline) (mixed (mixed 1 message) deadline / 2 ^ 32)
+
+-- a number for debts, whatever has to be paid: the sum of their numbers
+unfoldable pub debts_print : List Debt → ℕ
+debts_print debts = sum_by (λ debt. worth_of debt.message debt.deadline) debts % 2 ^ 64

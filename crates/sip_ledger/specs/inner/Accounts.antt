@@ -1,0 +1,309 @@
+use Rattle.std.specs.Prelude.{◌≡◌, ◌≢◌, ◌==◌, ◌&&◌, ◌||◌, ◌<◌, ◌≤◌, ◌+◌, ◌-◌, ◌^◌, ℕ, Bool, true, false, not, cond, Option, IfSome, IfNone, List, [], ◌∷◌, ◌++◌, All, drop, get_or, length, map, nat_le, nat_lt, replicate, set, take}
+use Rattle.std.specs.List.{list_any}
+use Rattle.sip_ledger.specs.declared.debt.Debt.{Debt}
+use Rattle.sip_ledger.specs.declared.debt.Entry.{Entry}
+use Rattle.sip_ledger.specs.declared.accounts.account.Account.{Account}
+use Rattle.sip_ledger.specs.declared.accounts.gains.Flags.{Flags}
+use Rattle.sip_ledger.specs.declared.accounts.gains.Gains.{Gains}
+use Rattle.sip_ledger.specs.declared.accounts.seek.Seek.{Seek}
+use Rattle.sip_ledger.specs.declared.accounts.strikes.Strike.{Strike}
+use Rattle.sip_ledger.specs.Accounts.{debts_print}
+use Rattle.sip_ledger.specs.Ledgers.{from_to}
+use Rattle.sip_ledger.specs.Rows.{debts_from}
+use Rattle.sip_ledger.specs.inner.Indexes.{holds}
+use Rattle.sip_ledger.specs.inner.Places.{AreRising}
+
+-- Accounts over one list of gains. A place is the number of a gain; from its place on, an account owes what it gained, but for what is struck.
+
+-- what stands for a gain that was dropped
+abbrev pub blank : Entry
+blank = record { message = 0; deadline = 0 }
+
+-- the gain at a place
+abbrev pub entry_at : List Entry → ℕ → Entry
+entry_at entries k = get_or entries k blank
+
+-- all gains: blanks for those that were dropped, and after them those that are kept
+unfoldable pub entries_of : Gains → List Entry
+entries_of gains = replicate (gains.end - length gains.entries.items) blank ++ gains.entries.items
+
+-- whether the gain at the place is left: it stands under its message
+unfoldable pub is_left : Gains → ℕ → Bool
+is_left gains k = holds gains.messages (entry_at (entries_of gains) k).message k
+
+-- the gain at the place is kept
+pub record IsKept (gains : Gains) (k : ℕ) : Type 0 where
+  pub from : gains.end ≤ k + length gains.entries.items
+  pub within : k < gains.end
+
+-- it is one of the message
+pub record IsPlaceOf (gains : Gains) (m k : ℕ) : Type 0 where
+  pub kept : IsKept gains k
+  pub message : (entry_at (entries_of gains) k).message ≡ m
+
+-- what is kept beside a gain: whether it must be sent, and whether it is left
+abbrev pub no_flags : Flags
+no_flags = record { must = false; left = false }
+
+abbrev pub flags_at : Gains → ℕ → Flags
+flags_at gains k = get_or gains.flags.items (k - (gains.end - length gains.entries.items)) no_flags
+
+-- each gain that is kept has them
+pub record AreFlags (gains : Gains) : Type 0 where
+  pub many : length gains.flags.items ≡ length gains.entries.items
+  pub left : (k : ℕ) → IsKept gains k → (flags_at gains k).left ≡ is_left gains k
+  pub must : (k : ℕ) → IsKept gains k → (flags_at gains k).must ≡ holds gains.musts 0 k
+
+-- what stands under a message are gains of it, what must be sent was gained, and deadlines rise where they are said to
+pub record AreGains (gains : Gains) : Type 0 where
+  pub long : length gains.entries.items ≤ gains.end
+  pub small : gains.end < 2 ^ 64
+  pub messages : (m k : ℕ) → holds gains.messages m k ≡ true → IsPlaceOf gains m k
+  pub musts : (k : ℕ) → holds gains.musts 0 k ≡ true → k < gains.end
+  pub rises : gains.rises ≡ true → AreRising gains.entries.items
+  pub flags : AreFlags gains
+
+-- the place stands under the debt's message, and among those of what must be sent if it must; no other place moves
+pub record IsNoted (place : ℕ) (debt : Debt) (named must_be named' must_be' : List (ℕ × ℕ)) : Type 0 where
+  pub messages : (m k : ℕ) → holds named' m k ≡ cond (m == debt.message && k == place) true (holds named m k)
+  pub must : holds must_be' 0 place ≡ debt.must
+  pub musts : (k : ℕ) → k ≢ place → holds must_be' 0 k ≡ holds must_be 0 k
+
+-- one more gain
+pub record IsGain (debt : Debt) (old new : Gains) : Type 0 where
+  pub entries : entries_of new ≡ entries_of old ++ (record { message = debt.message; deadline = debt.deadline }) ∷ []
+  pub message : holds new.messages debt.message (length (entries_of old)) ≡ true
+  pub messages : (m k : ℕ) → k ≢ length (entries_of old) → holds new.messages m k ≡ holds old.messages m k
+  pub must : holds new.musts 0 (length (entries_of old)) ≡ debt.must
+  pub musts : (k : ℕ) → k ≢ length (entries_of old) → holds new.musts 0 k ≡ holds old.musts 0 k
+
+-- the gains and where they stand are the same
+pub record AreSameGains (old new : Gains) : Type 0 where
+  pub entries : entries_of new ≡ entries_of old
+  pub messages : (m k : ℕ) → holds new.messages m k ≡ holds old.messages m k
+  pub musts : (k : ℕ) → holds new.musts 0 k ≡ holds old.musts 0 k
+
+-- the gain at the place is not left any more
+pub record IsLetGo (place : ℕ) (old new : Gains) : Type 0 where
+  pub entries : entries_of new ≡ entries_of old
+  pub end : new.end ≡ old.end
+  pub long : length new.entries.items ≡ length old.entries.items
+  pub here : (m : ℕ) → holds new.messages m place ≡ false
+  pub others : (m k : ℕ) → k ≢ place → holds new.messages m k ≡ holds old.messages m k
+  pub musts : (k : ℕ) → k ≢ place → holds new.musts 0 k ≡ holds old.musts 0 k
+
+-- the gains before the place are dropped
+pub record IsDropped (place : ℕ) (old new : Gains) : Type 0 where
+  pub long : length (entries_of new) ≡ length (entries_of old)
+  pub entries : (k : ℕ) → place ≤ k → entry_at (entries_of new) k ≡ entry_at (entries_of old) k
+  pub messages : new.messages ≡ old.messages
+  pub musts : new.musts ≡ old.musts
+
+-- whether the strike says that a gain of this message at place k is not owed
+abbrev pub is_out : ℕ → ℕ → Strike → Bool
+is_out message k strike = strike.message == message && (nat_le strike.from k && nat_lt k strike.to)
+
+-- whether one of the strikes does
+unfoldable pub is_struck : List Strike → ℕ → ℕ → Bool
+is_struck strikes message k = list_any (is_out message k) strikes
+
+-- the strikes of an account
+abbrev pub strikes_of : List Strike → Account → List Strike
+strikes_of strikes account = from_to account.first account.last strikes
+
+-- whether what was gained at place k is not owed: it is not left, or struck
+unfoldable pub is_gone : Gains → List Strike → ℕ → Bool
+is_gone gains strikes k = not (is_left gains k) || is_struck strikes (entry_at (entries_of gains) k).message k
+
+-- whether the account owes what was gained at place k
+unfoldable pub owes_at : Gains → List Strike → Account → ℕ → Bool
+owes_at gains strikes account k = nat_le account.start k && (nat_lt k account.end && not (is_gone gains (strikes_of strikes account) k))
+
+-- whether it must send it
+unfoldable pub must_at : Gains → Account → ℕ → Bool
+must_at gains account k = holds gains.musts 0 k && nat_le account.soft k
+
+-- what it owes
+unfoldable pub account_debts : Gains → List Strike → Account → List Debt
+account_debts gains strikes account = debts_from (owes_at gains strikes account) (must_at gains account) 0 (entries_of gains)
+
+-- an account lies within the gains and the strikes, begins with a debt, and has the print of its debts
+pub record IsAccount (gains : Gains) (strikes : List Strike) (account : Account) : Type 0 where
+  pub order : account.start ≤ account.end
+  pub end : account.end ≤ length (entries_of gains)
+  pub soft : account.soft ≤ length (entries_of gains)
+  pub first : account.first ≤ account.last
+  pub last : account.last ≤ length strikes
+  pub bound : (m k : ℕ) → length (entries_of gains) ≤ k → is_struck (strikes_of strikes account) m k ≡ false
+  pub begins : account.start < account.end → owes_at gains strikes account account.start ≡ true
+  pub print : account.print ≡ debts_print (account_debts gains strikes account)
+
+-- the account owes the same as another one, but for the gain at one place
+pub record IsWithout (place : ℕ) (owes owes' : ℕ → Bool) : Type 0 where
+  pub gone : owes' place ≡ false
+  pub others : (k : ℕ) → k ≢ place → owes' k ≡ owes k
+
+-- all accounts, over gains and strikes
+pub record AreAccounts (gains : Gains) (strikes : List Strike) (accounts : List Account) : Type 0 where
+  pub gained : AreGains gains
+  pub each : All (IsAccount gains strikes) accounts
+
+-- what each owes
+unfoldable pub accounts_debts : Gains → List Strike → List Account → List (List Debt)
+accounts_debts gains strikes accounts = map (account_debts gains strikes) accounts
+
+-- nothing of the message is left from a place on up to another one
+pub record IsNoneBetween (gains : Gains) (message from to : ℕ) : Type 0 where
+  pub order : from ≤ to
+  pub none : (k : ℕ) → from ≤ k → k < to → holds gains.messages message k ≡ false
+
+-- a strike of the gain's message that ends before its place, from where on nothing of that message is left
+pub record Reaches (gains : Gains) (place : ℕ) (strike : Strike) : Type 0 where
+  pub message : strike.message ≡ (entry_at (entries_of gains) place).message
+  pub from : strike.from ≤ place
+  pub to : strike.to ≤ place
+  pub between : (k : ℕ) → strike.to ≤ k → k < place → holds gains.messages (entry_at (entries_of gains) place).message k ≡ false
+
+-- one of the strikes from the first on reaches up to the place, and now ends after it
+pub record Lengthens (gains : Gains) (place first : ℕ) (old new : List Strike) : Type 0 where
+  pub at : ℕ
+  pub after : first ≤ at
+  pub within : at < length old
+  pub reaches : (s : Strike) → Reaches gains place (get_or old at s)
+  pub longer : (s : Strike) → new ≡ set old at (record { message = (get_or old at s).message; from = (get_or old at s).from; to = place + 1 })
+
+-- the place is the first from one on at which the message is left, if there is one
+pub record IsNext (gains : Gains) (message from : ℕ) (place : Option ℕ) : Type 0 where
+  pub order : IfSome place (λ at. from ≤ at)
+  pub left : IfSome place (λ at. holds gains.messages message at ≡ true)
+  pub before : IfSome place (λ at. (k : ℕ) → from ≤ k → k < at → holds gains.messages message k ≡ false)
+  pub none : IfNone place ((k : ℕ) → from ≤ k → holds gains.messages message k ≡ false)
+
+-- what is remembered of the message's places is so
+abbrev pub IsSeek : Gains → ℕ → Seek → Type 0
+IsSeek gains message seek = IsNext gains message seek.low seek.place
+
+-- whether a send of the message at t pays the gain at a place
+abbrev pub pays_at : List Entry → ℕ → ℕ → ℕ → Bool
+pays_at entries message t k = (entry_at entries k).message == message && nat_le t (entry_at entries k).deadline
+
+-- the first place that is owed and that a send of the message at t pays
+pub record IsFirstPayable (entries : List Entry) (owes : ℕ → Bool) (message t place : ℕ) : Type 0 where
+  pub owed : owes place ≡ true
+  pub pays : pays_at entries message t place ≡ true
+  pub before : (k : ℕ) → k < place → owes k ≡ true → pays_at entries message t k ≡ false
+
+-- the strikes from the first on strike what was gained at the place too
+pub record StrikeToo (gains : Gains) (place first : ℕ) (old new : List Strike) : Type 0 where
+  pub before : take first new ≡ take first old
+  pub struck : (k : ℕ) → is_left gains k ≡ true → is_struck (drop first new) (entry_at (entries_of gains) k).message k
+      ≡ (is_struck (drop first old) (entry_at (entries_of gains) k).message k || k == place)
+  pub bound : (m k : ℕ) → place < k → is_struck (drop first old) m k ≡ false → is_struck (drop first new) m k ≡ false
+
+-- the account's strikes that end after its start are written after the others, and strike what was gained from one place up to another too
+pub record IsWritten (gains : Gains) (from to : ℕ) (old new : List Strike) (a : Account) : Type 0 where
+  pub kept : take (length old) new ≡ old
+  pub struck : (k : ℕ) → a.start ≤ k → is_left gains k ≡ true → is_struck (drop (length old) new) (entry_at (entries_of gains) k).message k
+      ≡ (is_struck (strikes_of old a) (entry_at (entries_of gains) k).message k || (nat_le from k && nat_lt k to))
+  pub bound : (m k : ℕ) → length (entries_of gains) ≤ k → is_struck (strikes_of old a) m k ≡ false → is_struck (drop (length old) new) m k ≡ false
+
+-- the new account's strikes are those of the old one that reach past its start, and what was gained from one place up to another is struck too
+pub record IsStruck (gains : Gains) (from to : ℕ) (old new : List Strike) (a b : Account) : Type 0 where
+  pub start : b.start ≡ a.start
+  pub end : b.end ≡ a.end
+  pub soft : b.soft ≡ a.soft
+  pub print : b.print ≡ a.print
+  pub first : b.first ≤ b.last
+  pub last : b.last ≤ length new
+  pub struck : (k : ℕ) → a.start ≤ k → is_left gains k ≡ true → is_struck (strikes_of new b) (entry_at (entries_of gains) k).message k
+      ≡ (is_struck (strikes_of old a) (entry_at (entries_of gains) k).message k || (nat_le from k && nat_lt k to))
+  pub bound : (m k : ℕ) → length (entries_of gains) ≤ k → is_struck (strikes_of old a) m k ≡ false → is_struck (strikes_of new b) m k ≡ false
+
+-- what was gained at the place is the debt
+pub record IsGainAt (gains : Gains) (debt : Debt) (place : ℕ) : Type 0 where
+  pub within : place < length (entries_of gains)
+  pub left : holds gains.messages debt.message place ≡ true
+  pub message : (entry_at (entries_of gains) place).message ≡ debt.message
+  pub deadline : (entry_at (entries_of gains) place).deadline ≡ debt.deadline
+  pub must : holds gains.musts 0 place ≡ debt.must
+
+-- the account may owe it after all that it owes
+pub record IsNextGain (gains : Gains) (strikes : List Strike) (account : Account) (debt : Debt) (place : ℕ) : Type 0 where
+  pub gain : IsGainAt gains debt place
+  pub end : account.end ≤ place
+  pub soft : account.soft ≤ place
+  pub free : is_struck (strikes_of strikes account) debt.message place ≡ false
+
+-- all accounts owe what they owed
+pub record KeepsAccounts (old new : Gains) : Type 0 where
+  pub each : (strikes : List Strike) (accounts : List Account) → All (IsAccount old strikes) accounts →
+      All (IsAccount new strikes) accounts × (accounts_debts new strikes accounts ≡ accounts_debts old strikes accounts)
+
+-- what is past has gone up to a place
+pub record IsExpiredTo (t : ℕ) (entries : List Entry) (m o o' : ℕ → Bool) (place : ℕ) : Type 0 where
+  pub gone : (k : ℕ) → k < place → o' k ≡ (o k && (m k || nat_le t (entry_at entries k).deadline))
+  pub later : (k : ℕ) → place ≤ k → o' k ≡ o k
+
+-- the accounts owe over other gains what they owed
+pub record AreKept (strikes : List Strike) (rows : List Account) (old new : Gains) : Type 0 where
+  pub accounts : AreAccounts new strikes rows
+  pub debts : accounts_debts new strikes rows ≡ accounts_debts old strikes rows
+
+-- nothing before the place is left, and the accounts owe what they owed
+pub record IsClearedTo (place : ℕ) (strikes : List Strike) (rows : List Account) (old new : Gains) : Type 0 where
+  pub kept : AreKept strikes rows old new
+  pub end : new.end ≡ old.end
+  pub long : length new.entries.items ≡ length old.entries.items
+  pub none : (m k : ℕ) → k < place → holds new.messages m k ≡ false
+
+-- each account that owes something starts at the place or after it
+abbrev pub StartFrom : ℕ → List Account → Type 0
+StartFrom place rows = All (λ a. a.start < a.end → place ≤ a.start) rows
+
+-- two accounts begin and end alike, and their strikes are the same
+pub record AreAlike (strikes : List Strike) (one other : Account) : Type 0 where
+  pub start : one.start ≡ other.start
+  pub end : one.end ≡ other.end
+  pub soft : one.soft ≡ other.soft
+  pub own : strikes_of strikes one ≡ strikes_of strikes other
+
+-- two accounts owe the same from a place on
+pub record SharesRest (strikes : List Strike) (one other : Account) (place : ℕ) : Type 0 where
+  pub soft : one.soft ≡ other.soft
+  pub owes : (gains : Gains) (k : ℕ) → place ≤ k → owes_at gains strikes one k ≡ owes_at gains strikes other k
+
+-- the account's strikes stand among these
+pub record HasStrikes (strikes : List Strike) (a : Account) : Type 0 where
+  pub first : a.first ≤ a.last
+  pub last : a.last ≤ length strikes
+
+-- of some strikes those that strike something that is left from a place on, and maybe others
+pub record AreThinned (gains : Gains) (from : ℕ) (old new : List Strike) : Type 0 where
+  pub same : (k : ℕ) → from ≤ k → is_left gains k ≡ true → is_struck new (entry_at (entries_of gains) k).message k ≡ is_struck old (entry_at (entries_of gains) k).message k
+  pub among : (m k : ℕ) → is_struck old m k ≡ false → is_struck new m k ≡ false
+
+-- the strike strikes nothing that is left from a place on
+abbrev pub StrikesNoneFrom : Gains → ℕ → Strike → Type 0
+StrikesNoneFrom gains from strike = (k : ℕ) → from ≤ k → is_left gains k ≡ true → is_out (entry_at (entries_of gains) k).message k strike ≡ false
+
+-- such strikes of some are written after others
+pub record AreAppended (gains : Gains) (from : ℕ) (strikes old new : List Strike) : Type 0 where
+  pub more : List Strike
+  pub whole : new ≡ old ++ more
+  pub thinned : AreThinned gains from strikes more
+
+-- the account, with strikes that strike the same of what is left from its start on written after others
+pub record IsMoved (gains : Gains) (strikes old new : List Strike) (a b : Account) : Type 0 where
+  pub kept : take (length old) new ≡ old
+  pub start : b.start ≡ a.start
+  pub end : b.end ≡ a.end
+  pub soft : b.soft ≡ a.soft
+  pub print : b.print ≡ a.print
+  pub first : b.first ≤ b.last
+  pub last : b.last ≤ length new
+  pub own : AreThinned gains a.start (strikes_of strikes a) (strikes_of new b)
+
+-- accounts that owe over other strikes what those before them owe
+pub record AreMoved (gains : Gains) (strikes : List Strike) (rows : List Account) (strikes' : List Strike) (rows' : List Account) : Type 0 where
+  pub each : All (IsAccount gains strikes') rows'
+  pub debts : accounts_debts gains strikes' rows' ≡ accounts_debts gains strikes rows

@@ -1,0 +1,307 @@
+//! What many rows owe: one list of what they gained, and for each row which of it.
+ghost use Rattle.std.specs.Prelude.{◌≡◌, ◌↔◌, ◌<◌, ◌++◌, ◌∷◌, [], ℕ, List, IsTrue, OnOk, OnErr, IfOk, IfSome, IfNone, All, length, set, map, filter, take, drop, get_or};
+ghost use Rattle.std.specs.List.{list_any};
+ghost use Rattle.sip_ledger.specs.Accounts.{owed_in, debts_print};
+ghost use Rattle.sip_ledger.specs.Debts.{counts_at, softened_debt, is_payable, debt_deadlines, earliest, paid_by};
+ghost use Rattle.sip_ledger.specs.Ledgers.{Rise};
+ghost use Rattle.sip_ledger.specs.Runs.{AreRuns};
+
+mod account;
+mod each;
+mod gains;
+mod left;
+mod moved;
+mod seek;
+mod strikes;
+
+use crate::accounts::account::{
+    Account, EMPTY, debts, earliest_must, expired, find, gained, place_for, same, without,
+};
+use crate::accounts::gains::Gains;
+use crate::accounts::left::{drop_front, let_go};
+use crate::accounts::moved::{held, move_all};
+use crate::accounts::seek::Seek;
+use crate::accounts::strikes::Strike;
+use crate::debt::Debt;
+use crate::run::{Run, runs_of};
+use crate::words;
+use std::alloc::{AllocError, Global};
+use std::marker::Model;
+
+/// What each of many rows owes, oldest first. Contracts see the rows' debts.
+#[derive(Debug, Drop)]
+pub struct Accounts {
+    gains: Gains,
+    strikes: Vec<Strike>,
+    rows: Vec<Account>,
+    /// The message that was paid last, while what was gained of it may stand before what is owed of it.
+    paid: Option<u32>,
+}
+
+impl Model for Accounts {
+    ghost use Rattle.std.specs.Prelude.{List};
+    ghost use Rattle.sip_ledger.specs.declared.debt.Debt.{Debt};
+    ghost use Rattle.sip_ledger.specs.inner.Accounts.{AreAccounts, accounts_debts};
+
+    ghost Value = { List (List Debt) };
+
+    ghost view = { λ a. accounts_debts a.gains a.strikes.items a.rows.items };
+
+    ghost invariant = { λ a. AreAccounts a.gains a.strikes.items a.rows.items };
+}
+
+impl Accounts {
+    /// There are no rows.
+    pub fn new(alloc: Global) -> Self
+        ensures { result ≡ [] }
+    {
+        Accounts {
+            gains: Gains::new(alloc),
+            strikes: Vec::new(alloc),
+            rows: Vec::new(alloc),
+            paid: None,
+        }
+    }
+
+    /// How many rows there are.
+    pub fn len(&self) -> usize
+        ensures { result ≡ length self.now }
+    {
+        self.rows.len()
+    }
+
+    /// Puts a row that owes nothing after the others. On an error all is as before.
+    pub fn push(&mut self) -> Result<(), AllocError>
+        ensures ok { OnOk result (self.new ≡ self.old ++ [] ∷ []) }
+        ensures err { OnErr result (self.new ≡ self.old) }
+    {
+        self.rows.push(EMPTY)?;
+        Ok(())
+    }
+
+    /// Puts a row that owes what this one does after the others. On an error all is as before.
+    pub fn push_copy(&mut self, row: usize) -> Result<(), AllocError>
+        requires { row < length self.old }
+        ensures ok { OnOk result (self.new ≡ self.old ++ owed_in self.old row ∷ []) }
+        ensures err { OnErr result (self.new ≡ self.old) }
+    {
+        self.rows.push(self.rows[row])?;
+        Ok(())
+    }
+
+    /// Keeps the first rows.
+    pub fn truncate(&mut self, rows: usize)
+        ensures { self.new ≡ take rows self.old }
+    {
+        self.rows.truncate(rows);
+    }
+
+    /// Drops the first rows.
+    pub fn drop_first(&mut self, rows: usize)
+        ensures { self.new ≡ drop rows self.old }
+    {
+        let count = rows.min(self.rows.len());
+        words::drop_first(&mut self.rows, count);
+    }
+
+    /// Keeps the rows of these numbers, which rise.
+    pub fn keep(&mut self, rows: &[usize])
+        requires rising { Rise rows.now }
+        requires within { All (λ row. row < length self.old) rows.now }
+        ensures { self.new ≡ map (owed_in self.old) rows.now }
+    {
+        for to in 0..rows.len() {
+            self.copy(rows[to], to);
+        }
+        self.truncate(rows.len());
+    }
+
+    /// Lets the row owe what another one does, and nothing else.
+    pub fn copy(&mut self, from: usize, to: usize)
+        requires from { from < length self.old }
+        requires to { to < length self.old }
+        ensures { self.new ≡ set self.old to (owed_in self.old from) }
+    {
+        self.rows[to] = self.rows[from];
+    }
+
+    /// Lets the row owe one more debt, after its others. On an error all is as before.
+    pub fn gain(&mut self, row: usize, debt: Debt) -> Result<(), AllocError>
+        requires { row < length self.old }
+        ensures ok { OnOk result (self.new ≡ set self.old row (owed_in self.old row ++ debt ∷ [])) }
+        ensures err { OnErr result (self.new ≡ self.old) }
+    {
+        let account = self.rows[row];
+        let place = place_for(&mut self.gains, &self.strikes, account, debt)?;
+        self.rows[row] = gained(&self.gains, &mut self.strikes, account, debt, place)?;
+        Ok(())
+    }
+
+    /// Takes out of the row the first debt that a send of the message at the moment pays, if there is one. On an error all is
+    /// as before.
+    pub fn pay(&mut self, row: usize, message: u32, moment: u64) -> Result<(), AllocError>
+        requires { row < length self.old }
+        ensures ok { OnOk result (self.new ≡ set self.old row (paid_by message moment (owed_in self.old row))) }
+        ensures err { OnErr result (self.new ≡ self.old) }
+    {
+        let account = self.rows[row];
+        let mut seek = Seek::new(&self.gains, message, account.start);
+        if let Some(place) = find(
+            &self.gains,
+            &self.strikes,
+            account,
+            &mut seek,
+            message,
+            moment,
+        ) {
+            self.rows[row] = without(&self.gains, &mut self.strikes, account, place)?;
+            self.paid = Some(message);
+        }
+        Ok(())
+    }
+
+    /// Whether the row has a debt that a send of the message at the moment pays.
+    pub fn can_pay(&self, row: usize, message: u32, moment: u64) -> bool
+        requires { row < length self.now }
+        ensures { result ≡ list_any (is_payable message moment) (owed_in self.now row) }
+    {
+        let account = self.rows[row];
+        let mut seek = Seek::new(&self.gains, message, account.start);
+        find(
+            &self.gains,
+            &self.strikes,
+            account,
+            &mut seek,
+            message,
+            moment,
+        )
+        .is_some()
+    }
+
+    /// Drops what the row may send and whose deadline is below the moment. On an error all is as before.
+    pub fn expire(&mut self, row: usize, moment: u64) -> Result<(), AllocError>
+        requires { row < length self.old }
+        ensures ok { OnOk result (self.new ≡ set self.old row (filter (counts_at moment) (owed_in self.old row))) }
+        ensures err { OnErr result (self.new ≡ self.old) }
+    {
+        self.rows[row] = expired(&self.gains, &mut self.strikes, self.rows[row], moment)?;
+        Ok(())
+    }
+
+    /// Of what the row owes, nothing has to be sent any more.
+    pub fn soften(&mut self, row: usize)
+        requires { row < length self.old }
+        ensures { self.new ≡ set self.old row (map softened_debt (owed_in self.old row)) }
+    {
+        let soft = self.gains.end;
+        self.rows[row] = Account {
+            soft,
+            ..self.rows[row]
+        };
+    }
+
+    /// The row owes nothing any more.
+    pub fn clear(&mut self, row: usize)
+        requires { row < length self.old }
+        ensures { self.new ≡ set self.old row [] }
+    {
+        self.rows[row] = EMPTY;
+    }
+
+    /// The least deadline of what the row must send.
+    pub fn earliest_must(&self, row: usize) -> Option<u64>
+        requires { row < length self.now }
+        ensures { result ≡ earliest (debt_deadlines (owed_in self.now row)) }
+    {
+        earliest_must(&self.gains, &self.strikes, self.rows[row])
+    }
+
+    /// Whether the row owes nothing.
+    pub fn owes_nothing(&self, row: usize) -> bool
+        requires { row < length self.now }
+        ensures { IsTrue result ↔ (owed_in self.now row ≡ []) }
+    {
+        let account = self.rows[row];
+        account.start == account.end
+    }
+
+    /// Whether two rows owe the same.
+    pub fn same(&self, row: usize, other: usize) -> bool
+        requires row { row < length self.now }
+        requires other { other < length self.now }
+        ensures { IsTrue result ↔ (owed_in self.now row ≡ owed_in self.now other) }
+    {
+        same(&self.gains, &self.strikes, self.rows[row], self.rows[other])
+    }
+
+    /// A number for what the row owes: rows that owe the same have the same, and others hardly ever.
+    pub fn print(&self, row: usize) -> u64
+        requires { row < length self.now }
+        ensures { result ≡ debts_print (owed_in self.now row) }
+    {
+        self.rows[row].print
+    }
+
+    /// Puts the number of each message that the row owes after the others, once for each debt.
+    pub fn names(&self, alloc: Global, row: usize, numbers: &mut Vec<u32>) -> Result<(), AllocError>
+        requires { row < length self.now }
+        ensures { OnOk result (numbers.new.items ≡ numbers.old.items ++ map (λ debt. debt.message) (owed_in self.now row)) }
+    {
+        let debts = debts(alloc, &self.gains, &self.strikes, self.rows[row])?;
+        for debt in &debts {
+            numbers.push(debt.message)?;
+        }
+        Ok(())
+    }
+
+    /// What the row owes, with equal neighbours in one.
+    pub fn runs(&self, alloc: Global, row: usize) -> Result<Vec<Run>, AllocError>
+        requires { row < length self.now }
+        ensures { IfOk result (λ runs. AreRuns (owed_in self.now row) runs.items) }
+    {
+        let debts = debts(alloc, &self.gains, &self.strikes, self.rows[row])?;
+        runs_of(alloc, &debts)
+    }
+
+    /// Gives back what no row needs. It is to be called after each step: where many rows pay, what they paid is then looked at
+    /// once.
+    pub fn tidy(&mut self)
+        ensures { self.new ≡ self.old }
+    {
+        self.let_go_paid();
+        self.drop_front();
+        self.thin();
+    }
+
+    /// Lets the first gains of the message that was paid go, as far as no row owes them.
+    fn let_go_paid(&mut self)
+        ensures { self.new ≡ self.old }
+    {
+        if let Some(message) = self.paid {
+            let_go(&mut self.gains, &self.strikes, &self.rows, message);
+            self.paid = None;
+        }
+    }
+
+    /// Drops the gains before all that is owed, where they are more than half of those that are kept.
+    fn drop_front(&mut self)
+        ensures { self.new ≡ self.old }
+    {
+        drop_front(&mut self.gains, &self.strikes, &self.rows);
+    }
+
+    /// Lets strikes go that no row has, or that strike nothing that is left, where there are four times as many as rows have. Where there
+    /// is no memory for it all stays as it is.
+    fn thin(&mut self)
+        ensures { self.new ≡ self.old }
+    {
+        if self.strikes.len() / 4 <= held(&self.rows) {
+            return;
+        }
+        let alloc = *self.strikes.allocator();
+        if let Ok(moved) = move_all(alloc, &self.gains, &self.strikes, &self.rows) {
+            self.strikes = moved.strikes;
+            self.rows = moved.rows;
+        }
+    }
+}

@@ -1,0 +1,237 @@
+//! What the rows gained: one list for all.
+ghost use Rattle.std.specs.Prelude.{◌≡◌, ◌<◌, ◌≤◌, ◌+◌, ◌==◌, ◌&&◌, ◌++◌, ◌∷◌, ℕ, [], IfSome, IfNone, OnOk, OnErr, cond, length, true, false};
+ghost use Rattle.std.specs.Bool.{OnTrue};
+ghost use Rattle.sip_ledger.specs.inner.Accounts.{AreGains, AreSameGains, IsDropped, IsGain, IsKept, IsLetGo, IsNoted, IsPlaceOf, entries_of, entry_at, flags_at, is_left};
+ghost use Rattle.sip_ledger.specs.inner.Indexes.{holds};
+ghost use Rattle.sip_ledger.specs.inner.Places.{AreRising};
+
+use crate::debt::{Debt, Entry};
+use crate::index::Index;
+use crate::words;
+use std::alloc::{AllocError, Global};
+
+/// What is asked of a gain most.
+#[derive(Clone, Copy, Debug)]
+pub(crate) struct Flags {
+    /// Whether it must be sent.
+    pub must: bool,
+    /// Whether it is left.
+    pub left: bool,
+}
+
+/// What was gained, in order. A place is the number of a gain: it stays when gains before it are dropped.
+#[derive(Debug, Drop)]
+pub(crate) struct Gains {
+    /// The message and the deadline of each gain that is kept: of the last ones.
+    pub entries: Vec<Entry>,
+    /// The flags of each of them.
+    pub flags: Vec<Flags>,
+    /// How many gains there were.
+    pub end: usize,
+    /// The places of the gains that are left, under the messages.
+    pub messages: Index,
+    /// The places of what must be sent, under 0.
+    pub musts: Index,
+    /// Whether no deadline is below the one before it, as far as gains are kept.
+    pub rises: bool,
+}
+
+impl Gains {
+    /// Nothing was gained.
+    pub(crate) fn new(alloc: Global) -> Self
+        ensures gained { AreGains result }
+        ensures none { entries_of result ≡ [] }
+    {
+        Gains {
+            entries: Vec::new(alloc),
+            flags: Vec::new(alloc),
+            end: 0,
+            messages: Index::new(alloc),
+            musts: Index::new(alloc),
+            rises: true,
+        }
+    }
+
+    /// The first place whose gain is kept.
+    pub(crate) fn first(&self) -> usize
+        requires { AreGains self.now }
+        ensures { result + length self.now.entries.items ≡ self.now.end }
+    {
+        self.end - self.entries.len()
+    }
+
+    /// The gain at the place.
+    pub(crate) fn entry(&self, place: usize) -> Entry
+        requires gained { AreGains self.now }
+        requires kept { IsKept self.now place }
+        ensures { result ≡ entry_at (entries_of self.now) place }
+    {
+        self.entries[place - (self.end - self.entries.len())]
+    }
+
+    /// The flags of the gain at the place.
+    pub(crate) fn flags(&self, place: usize) -> Flags
+        requires gained { AreGains self.now }
+        requires kept { IsKept self.now place }
+        ensures { result ≡ flags_at self.now place }
+    {
+        self.flags[place - (self.end - self.entries.len())]
+    }
+
+    /// Whether the gain at the place is left.
+    pub(crate) fn is_left(&self, place: usize) -> bool
+        requires gained { AreGains self.now }
+        requires kept { IsKept self.now place }
+        ensures { result ≡ is_left self.now place }
+    {
+        self.flags(place).left
+    }
+
+    /// Whether a gain of the message is left at the place.
+    pub(crate) fn has(&self, message: u32, place: usize) -> bool
+        requires { AreGains self.now }
+        ensures { result ≡ holds self.now.messages message place }
+    {
+        if place < self.first() {
+            return false;
+        }
+        if self.end <= place {
+            return false;
+        }
+        if self.entry(place).message != message {
+            return false;
+        }
+        self.is_left(place)
+    }
+
+    /// Whether it is known that no deadline of what is kept is below the moment.
+    pub(crate) fn all_count(&self, moment: u64) -> bool
+        requires { AreGains self.now }
+        ensures { OnTrue result ((k : ℕ) → IsKept self.now k → moment ≤ (entry_at (entries_of self.now) k).deadline) }
+    {
+        if self.entries.is_empty() {
+            return true;
+        }
+        if self.entry(self.first()).deadline < moment {
+            return false;
+        }
+        self.rises
+    }
+
+    /// Puts a gain after the others. On an error they are as before.
+    pub(crate) fn push(&mut self, debt: Debt) -> Result<(), AllocError>
+        requires { AreGains self.old }
+        ensures gained { AreGains self.new }
+        ensures ok { OnOk result (IsGain debt self.old self.new) }
+        ensures err { OnErr result (AreSameGains self.old self.new) }
+    {
+        if self.end == usize::MAX {
+            return Err(AllocError);
+        }
+        let entry = Entry {
+            message: debt.message,
+            deadline: debt.deadline,
+        };
+        let place = self.end as u64;
+        let rises = rise(&self.entries, self.rises, entry);
+        self.entries.reserve(1)?;
+        self.flags.reserve(1)?;
+        note(&mut self.messages, &mut self.musts, place, debt)?;
+        self.rises = rises;
+        self.entries.push_reserved(entry);
+        self.flags.push_reserved(Flags {
+            must: debt.must,
+            left: true,
+        });
+        self.end += 1;
+        Ok(())
+    }
+
+    /// The first place of the message from this one on that is left.
+    pub(crate) fn next(&self, message: u32, from: usize) -> Option<usize>
+        requires { AreGains self.now }
+        ensures from { IfSome result (λ at. from ≤ at) }
+        ensures is { IfSome result (λ at. IsPlaceOf self.now message at) }
+        ensures left { IfSome result (λ at. holds self.now.messages message at ≡ true) }
+        ensures before { IfSome result (λ at. (k : ℕ) → from ≤ k → k < at → holds self.now.messages message k ≡ false) }
+        ensures none { IfNone result ((k : ℕ) → from ≤ k → holds self.now.messages message k ≡ false) }
+    {
+        match self.messages.next(u64::from(message), from as u64) {
+            Some(at) => Some(at as usize),
+            None => None,
+        }
+    }
+
+    /// The first place from this one on of what must be sent.
+    pub(crate) fn next_must(&self, from: usize) -> Option<usize>
+        requires { AreGains self.now }
+        ensures within { IfSome result (λ at. (from ≤ at) × (at < self.now.end)) }
+        ensures is { IfSome result (λ at. holds self.now.musts 0 at ≡ true) }
+        ensures before { IfSome result (λ at. (k : ℕ) → from ≤ k → k < at → holds self.now.musts 0 k ≡ false) }
+        ensures none { IfNone result ((k : ℕ) → from ≤ k → holds self.now.musts 0 k ≡ false) }
+    {
+        match self.musts.next(0, from as u64) {
+            Some(at) => Some(at as usize),
+            None => None,
+        }
+    }
+
+    /// Lets the gain at the place go: it is not left any more.
+    pub(crate) fn let_go(&mut self, place: usize)
+        requires gained { AreGains self.old }
+        requires kept { IsKept self.old place }
+        ensures gained { AreGains self.new }
+        ensures gone { IsLetGo place self.old self.new }
+    {
+        let message = self.entry(place).message;
+        self.messages.take(u64::from(message), place as u64);
+        self.musts.take(0, place as u64);
+        let at = place - (self.end - self.entries.len());
+        self.flags[at] = Flags {
+            must: false,
+            left: false,
+        };
+    }
+
+    /// Drops the gains before the place, of which none is left.
+    pub(crate) fn drop_to(&mut self, place: usize)
+        requires gained { AreGains self.old }
+        requires from { self.old.end ≤ place + length self.old.entries.items }
+        requires within { place ≤ self.old.end }
+        requires none { (m k : ℕ) → k < place → holds self.old.messages m k ≡ false }
+        ensures gained { AreGains self.new }
+        ensures dropped { IsDropped place self.old self.new }
+    {
+        let count = place - (self.end - self.entries.len());
+        words::drop_first(&mut self.entries, count);
+        words::drop_first(&mut self.flags, count);
+    }
+}
+
+/// Puts the place of a gain under its message, and among those of what must be sent if it must. On an error it stands nowhere.
+fn note(messages: &mut Index, musts: &mut Index, place: u64, debt: Debt) -> Result<(), AllocError>
+    requires message { (m : ℕ) → holds messages.old m place ≡ false }
+    requires must { holds musts.old 0 place ≡ false }
+    ensures ok { OnOk result (IsNoted place debt messages.old musts.old messages.new musts.new) }
+    ensures err { OnErr result (((m k : ℕ) → holds messages.new m k ≡ holds messages.old m k) × (musts.new ≡ musts.old)) }
+{
+    let key = u64::from(debt.message);
+    messages.put(key, place)?;
+    if !debt.must {
+        return Ok(());
+    }
+    if let Err(refused) = musts.put(0, place) {
+        messages.take(key, place);
+        return Err(refused);
+    }
+    Ok(())
+}
+
+/// Whether deadlines never fall, with one gain more.
+fn rise(entries: &[Entry], rises: bool, entry: Entry) -> bool
+    requires { rises ≡ true → AreRising entries.now }
+    ensures { result ≡ true → AreRising (entries.now ++ entry ∷ []) }
+{
+    let count = entries.len();
+    count == 0 || (rises && entries[count - 1].deadline <= entry.deadline)
+}

@@ -1,0 +1,58 @@
+//! Where a message is left, for many rows one after another.
+ghost use Rattle.std.specs.Prelude.{◌≡◌, ◌≤◌, IfSome};
+ghost use Rattle.std.specs.Bool.{OnTrue};
+ghost use Rattle.sip_ledger.specs.inner.Accounts.{AreGains, IsNext, IsSeek};
+
+use crate::accounts::gains::Gains;
+
+/// What the index said last of a message: from `low` on it is left at `place` first, or nowhere.
+#[derive(Clone, Copy, Debug)]
+pub(crate) struct Seek {
+    pub low: usize,
+    pub place: Option<usize>,
+}
+
+impl Seek {
+    /// From this place on.
+    pub(crate) fn new(gains: &Gains, message: u32, low: usize) -> Self
+        requires { AreGains gains.now }
+        ensures { IsSeek gains.now message result }
+    {
+        Seek {
+            low,
+            place: gains.next(message, low),
+        }
+    }
+
+    /// The first place from this one on at which the message is left. The index is asked where neither what it said last nor the place
+    /// itself tells.
+    pub(crate) fn next(&mut self, gains: &Gains, message: u32, from: usize) -> Option<usize>
+        requires gained { AreGains gains.now }
+        requires seek { IsSeek gains.now message self.old }
+        ensures seek { IsSeek gains.now message self.new }
+        ensures next { IsNext gains.now message from result }
+    {
+        if self.tells(from) {
+            return self.place;
+        }
+        if gains.has(message, from) {
+            return Some(from);
+        }
+        self.low = from;
+        self.place = gains.next(message, from);
+        self.place
+    }
+
+    /// Whether what the index said last is what it says from this place on.
+    fn tells(&self, from: usize) -> bool
+        ensures { OnTrue result ((self.now.low ≤ from) × IfSome self.now.place (λ at. from ≤ at)) }
+    {
+        if from < self.low {
+            return false;
+        }
+        match self.place {
+            Some(at) => from <= at,
+            None => true,
+        }
+    }
+}

@@ -1,0 +1,8 @@
+use Rattle.sip_log.proofs.logs.Streams.{clean_stream, log_stream}
+use Rattle.sip_log.proofs.laws.a_log_is_a_stream.Goals as goal
+
+pub returns-clause-few : goal.returns-clause-few
+returns-clause-few c = log_stream
+
+pub returns-clause-whole : goal.returns-clause-whole
+returns-clause-whole c = clean_stream

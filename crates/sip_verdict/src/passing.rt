@@ -12,8 +12,8 @@ ghost use Rattle.sip_states.specs.Tables.{IsGiven, due_of};
 ghost use Rattle.sip_standard.specs.Observation.{Observation};
 ghost use Rattle.sip_verdict.specs.Entries.{newest_moment};
 ghost use Rattle.sip_verdict.specs.inner.Stepping.{IsStepped};
-ghost use Rattle.sip_verdict.specs.inner.Tracking.{IsReady, IsOutcome, overdue_outcome, first_of};
-ghost use Rattle.sip_verdict.specs.inner.TablesTracking.{LeadsOf, StandsOf, key_keeping, transactions_of, hearers, AreTold, LeavesOthers, MayPass, MayHear, AreHearers, AreOnRecord, AreOnRecordIf, HearsOne, HearsEach};
+ghost use Rattle.sip_verdict.specs.inner.Tracking.{IsReady, IsOutcome, IsOwnOutcome, overdue_outcome, first_of};
+ghost use Rattle.sip_verdict.specs.inner.TablesTracking.{LeadsOf, StandsOf, key_keeping, transactions_of, hearers, AreTold, LeavesOthers, MayPass, MayHear, AreHearers, AreOnRecord, AreOnRecordIf, Hears, HearsEach};
 
 use crate::concerned::Concerned;
 use sip_machine::{Book, Event};
@@ -28,15 +28,8 @@ pub(crate) struct Hearing {
     pub(crate) concerned: Concerned<u32>,
 }
 
-/// What an entry leaves of the runs of one transaction: some runs, none, or runs with more last states than a judge follows.
-#[derive(Clone, Copy)]
-pub(crate) enum Fate {
-    Runs,
-    NoRun,
-    TooWide,
-}
-
-/// What an entry leaves of the runs of several transactions: all go on, or the number of the first one in trouble.
+/// What an entry leaves of the runs of one transaction or of several, with the number of the first in trouble: it has no run, or more
+/// last states than are followed.
 #[derive(Clone, Copy)]
 pub(crate) enum Outcome {
     Fine,
@@ -59,20 +52,26 @@ impl Outcome {
 }
 
 /// Lets the set take the event of its key, and answers what the event leaves of its runs.
-pub(crate) fn hear(set: &mut AnySet, book: &Book, event: &Event) -> Result<Fate, AllocError>
+pub(crate) fn hear(
+    set: &mut AnySet,
+    number: u32,
+    book: &Book,
+    event: &Event,
+) -> Result<Outcome, AllocError>
     requires order { moment_of set.old ≤ event.now.moment }
     requires fits { FitsBook book.now event.now }
     requires known { IsKnownSet book.now set.old }
     ensures order { OnOk result (moment_of set.new ≤ event.now.moment) }
     ensures known { OnOk result (IsKnownSet book.now set.new) }
-    ensures some { IfOk result (λ fate. fate ≡ Fate.Runs → ¬ IsEmpty set.new) }
-    ensures stepped { IfOk result (λ fate. (p : Times) (machine : MachineKind) (events : List MachineEvent) (from : ℕ) → from ≤ event.now.moment → LeadsOf book.now p machine events from set.old
-        → IsStepped (key_rules p machine) events (event_in book.now event.now) (λ es. LeadsOf book.now p machine es event.now.moment set.new) (λ e. StandsOf book.now p machine events e set.new) fate) }
+    ensures numbered { IfOk result (IsOwnOutcome number) }
+    ensures some { IfOk result (λ outcome. outcome ≡ Outcome.Fine → ¬ IsEmpty set.new) }
+    ensures stepped { IfOk result (λ outcome. (p : Times) (machine : MachineKind) (events : List MachineEvent) (from : ℕ) → from ≤ event.now.moment → LeadsOf book.now p machine events from set.old
+        → IsStepped (key_rules p machine) events (event_in book.now event.now) (λ es. LeadsOf book.now p machine es event.now.moment set.new) (λ e. StandsOf book.now p machine events e set.new) outcome) }
 {
     match set.take(book, event) {
-        Ok(()) if set.is_empty() => Ok(Fate::NoRun),
-        Ok(()) => Ok(Fate::Runs),
-        Err(TakeError::TooMany) => Ok(Fate::TooWide),
+        Ok(()) if set.is_empty() => Ok(Outcome::NoRun(number)),
+        Ok(()) => Ok(Outcome::Fine),
+        Err(TakeError::TooMany) => Ok(Outcome::TooWide(number)),
         Err(TakeError::Memory) => Err(AllocError),
     }
 }
@@ -90,16 +89,13 @@ fn hear_one<H: BuildHasher>(
     ensures times { OnOk result (tables.new.times ≡ tables.old.times) }
     ensures keys { OnOk result (tables.new.keys ≡ tables.old.keys) }
     ensures may { OnOk result (MayPass book.now tables.new event.now.moment) }
-    ensures heard { IfOk result (HearsOne book.now event.now number tables.old tables.new) }
+    ensures heard { IfOk result (Hears book.now event.now number tables.old tables.new) }
 {
-    match hear(tables.set_mut(number), book, event)? {
-        Fate::Runs => {
-            tables.settle(number)?;
-            Ok(Outcome::Fine)
-        }
-        Fate::NoRun => Ok(Outcome::NoRun(number)),
-        Fate::TooWide => Ok(Outcome::TooWide(number)),
+    let outcome = hear(tables.set_mut(number), number, book, event)?;
+    if let Outcome::Fine = outcome {
+        tables.settle(number)?;
     }
+    Ok(outcome)
 }
 
 /// Lets the transactions with these numbers hear the event, and joins what is left of them with the outcome of others.

@@ -13,7 +13,7 @@ ghost use Rattle.sip_verdict.specs.inner.TablesTracking.{hearers, is_among, AreH
 ghost use Rattle.sip_verdict.specs.inner.Surveying.{AreConcerned, ArePassing, AreWatched, HearsNumbers, any};
 
 use crate::concerned::Concerned;
-use crate::passing::{Fate, Hearing, hear};
+use crate::passing::{Hearing, Outcome, hear};
 use crate::troubled::Troubled;
 use sip_machine::{Book, Event};
 use sip_states::Tables;
@@ -44,13 +44,13 @@ fn hear_or_release<H: BuildHasher>(
     if troubled.has(number) {
         return Ok(());
     }
-    match hear(tables.set_mut(number), book, event)? {
-        Fate::Runs => tables.settle(number),
-        Fate::NoRun => {
+    match hear(tables.set_mut(number), number, book, event)? {
+        Outcome::Fine => tables.settle(number),
+        Outcome::NoRun(_) => {
             tables.restart_key(number)?;
             troubled.add_broken(number)
         }
-        Fate::TooWide => {
+        Outcome::TooWide(_) => {
             tables.restart_key(number)?;
             troubled.add_wide(number)
         }

@@ -1,18 +1,18 @@
 -- What an event leaves of the runs of a transaction of any machine.
-use Rattle.std.proofs.Common.{◌≡◌, ◌≢◌, ◌≤◌, ℕ, List, [], sym, ap, ◌∙◌, subst}
+use Rattle.std.proofs.Common.{◌≡◌, ◌≢◌, ◌≤◌, ℕ, List, [], ◌∷◌, ◌++◌, sym, ap, ◌∙◌, subst}
 use Rattle.sip_standard.specs.Times.{Times}
 use Rattle.sip_machine.specs.Texts.{Texts}
 use Rattle.sip_machine.specs.NumberedEvent.{NumberedEvent, event_in}
 use Rattle.sip_standard.specs.MachineEvent.{MachineEvent}
-use Rattle.sip_states.specs.Runs.{IsWide}
+use Rattle.sip_states.specs.Runs.{AfterRun, IsWide}
 use Rattle.sip_states.specs.Held.{Held}
 use Rattle.sip_standard.specs.KeyMachine.{MachineKind}
 use Rattle.sip_states.specs.KeySets.{key_rules, StateOf, set_of}
 use Rattle.sip_states.specs.Meaning.{IsKnown, Given, HasTaken}
 use Rattle.sip_states.specs.AnySet.{meaning_of, moment_of, IsEmpty, IsKnownSet, SetTakes, IsSetTooWide}
 use Rattle.sip_states.specs.declared.any_set.AnySet.{AnySet}
-use Rattle.sip_verdict.specs.declared.passing.Fate.TheVariants.{Runs, NoRun, TooWide}
-use Rattle.sip_verdict.specs.inner.Stepping.{IsStepped}
+use Rattle.sip_verdict.specs.declared.passing.Outcome.TheVariants as all
+use Rattle.sip_verdict.specs.inner.Stepping.{RunsUntil, IsStepped}
 use Rattle.sip_verdict.specs.inner.TablesTracking.{LeadsOf, StandsOf}
 use Rattle.sip_verdict.proofs.keys.Hearing.{heard_none, heard_some, heard_wide}
 use Rattle.sip_states.proofs.keyed.ByMachine.{lawful_of, moment_is, some_machine, of_set, to_set, of_sets}
@@ -43,14 +43,14 @@ module _ (texts : Texts) (p : Times) (machine : MachineKind) (events : List Mach
 
   module _ (e : NumberedEvent) (late : from ≤ e.moment) (low : moment_of old ≤ e.moment) where
     -- where no state is left, no run takes the event
-    pub hears_none : SetTakes texts e old new → IsEmpty new → IsStepped (key_rules p machine) events (event_in texts e) (λ es. LeadsOf texts p machine es e.moment new) (λ f. StandsOf texts p machine events f new) NoRun
+    pub hears_none : SetTakes texts e old new → IsEmpty new → ¬ RunsUntil (key_rules p machine) (events ++ event_in texts e ∷ []) e.moment
     hears_none takes none =
         let n = after_event texts e machine leads.0 old new leads.1 takes in
         let m = meaning_of machine in
         heard_none m.names m.in_range m.seen m.rules (lawful_of machine) texts p events from leads.0 n.0 leads.2 (event_in texts e) late (low_of e.moment low) n.2.states (none_of machine n.0 new n.1 none)
 
     -- where states are left, and not too many, the runs go on
-    pub hears_some : SetTakes texts e old new → ¬ IsEmpty new → IsStepped (key_rules p machine) events (event_in texts e) (λ es. LeadsOf texts p machine es e.moment new) (λ f. StandsOf texts p machine events f new) Runs
+    pub hears_some : SetTakes texts e old new → ¬ IsEmpty new → IsStepped (key_rules p machine) events (event_in texts e) (λ es. LeadsOf texts p machine es e.moment new) (λ f. StandsOf texts p machine events f new) all.Fine
     hears_some takes some =
         let n = after_event texts e machine leads.0 old new leads.1 takes in
         let m = meaning_of machine in
@@ -59,7 +59,7 @@ module _ (texts : Texts) (p : Times) (machine : MachineKind) (events : List Mach
         (h.0, h.1, (n.0, n.1, h.2), (n.0, n.1, h.3))
 
     -- where too many states come out, there is a run over the event, and the last states are too many
-    pub hears_wide : IsSetTooWide texts e old → IsStepped (key_rules p machine) events (event_in texts e) (λ es. LeadsOf texts p machine es e.moment new) (λ f. StandsOf texts p machine events f new) TooWide
+    pub hears_wide : IsSetTooWide texts e old → RunsUntil (key_rules p machine) (events ++ event_in texts e ∷ []) e.moment × IsWide (AfterRun (key_rules p machine) events (event_in texts e))
     hears_wide wide =
         let m = meaning_of machine in
         heard_wide m.names m.in_range m.seen m.rules (lawful_of machine) texts p events from leads.0 leads.0 leads.2 (event_in texts e) late (low_of e.moment low)

@@ -3,11 +3,11 @@ use Rattle.std.proofs.Common.{◌≡◌, ◌≢◌, ◌≤◌, ℕ, List, [], �
 use Rattle.sip_machine.specs.Texts.{Texts}
 use Rattle.sip_standard.specs.MachineEvent.{MachineEvent}
 use Rattle.sip_machine.specs.Rules.{MachineRules, IsLawful, StandFor}
-use Rattle.sip_verdict.specs.declared.passing.Fate.TheVariants.{Runs, NoRun, TooWide}
+use Rattle.sip_verdict.specs.declared.passing.Outcome.TheVariants as all
 use Rattle.sip_states.specs.Runs.{Wait, RunGives, AfterRun, IsWide, widest}
 use Rattle.sip_states.specs.Held.{Held}
 use Rattle.sip_verdict.specs.inner.Leads.{Leads}
-use Rattle.sip_verdict.specs.inner.Stepping.{LeadsTo, IsStepped}
+use Rattle.sip_verdict.specs.inner.Stepping.{LeadsTo, RunsUntil, IsStepped}
 use Rattle.sip_verdict.proofs.keys.Leading.{Leads-take}
 use Rattle.sip_verdict.proofs.keys.OneMachine.{none_runs, some_runs, took_after, took_narrow, wide_runs}
 use Rattle.sip_states.proofs.sets.Taking.{took_waits}
@@ -37,12 +37,12 @@ module _ {M X S : Type 0} (names : S → List ℕ) (InRange : S → Type 0) (see
     taken = Leads-take names InRange seen texts (rules machine) events from set.moment set.states leads.leads e late low new.states given
 
     -- where no state is left, no run takes the event
-    pub heard_none : new.states ≡ [] → IsStepped (rules machine) events e (λ es. LeadsTo names seen rules texts machine new es e.moment) Stands NoRun
+    pub heard_none : new.states ≡ [] → ¬ RunsUntil (rules machine) (events ++ e ∷ []) e.moment
     heard_none none run = none_runs names seen texts (rules machine) (events ++ e ∷ []) e.moment e.moment new.states taken (omega arith) none run
 
     -- where states are left, and not too many, the runs go on
     pub heard_some : new.machine ≡ set.machine → new.moment ≡ e.moment → new.states ≢ [] → length new.states ≤ widest
-        → IsStepped (rules machine) events e (λ es. LeadsTo names seen rules texts machine new es e.moment) Stands Runs
+        → IsStepped (rules machine) events e (λ es. LeadsTo names seen rules texts machine new es e.moment) Stands all.Fine
     heard_some same at some few = (
       some_runs names seen texts (rules machine) (events ++ e ∷ []) e.moment e.moment new.states taken (omega arith)
           (took_waits names InRange seen texts (rules machine) (lawful machine) _ e new.states given) some,
@@ -58,7 +58,7 @@ module _ {M X S : Type 0} (names : S → List ℕ) (InRange : S → Type 0) (see
 
   -- where too many states come out, there is a run over the event, and the last states are too many
   pub heard_wide : (e : MachineEvent) → from ≤ e.moment → set.moment ≤ e.moment → IsWide (RunGives (rules set.machine) (WaitFrom set.machine e.moment) e)
-      → IsStepped (rules machine) events e (λ es. LeadsTo names seen rules texts machine new es e.moment) Stands TooWide
+      → RunsUntil (rules machine) (events ++ e ∷ []) e.moment × IsWide (AfterRun (rules machine) events e)
   heard_wide e late low wide =
       wide_runs names seen texts (rules machine) (lawful machine) events from set.moment set.states leads.leads e late low
       (subst (λ own. IsWide (RunGives (rules own) (WaitFrom own e.moment) e)) leads.machine_is wide)

@@ -11,8 +11,8 @@ use Rattle.sip_states.specs.KeySets.{key_rules}
 use Rattle.sip_states.specs.Agenda.{is_overdue}
 use Rattle.sip_states.specs.AnySet.{moment_of, IsQuietSet, IsAgendaOf}
 use Rattle.sip_states.specs.declared.any_set.AnySet.{AnySet}
-use Rattle.sip_verdict.specs.declared.passing.Fate.{Fate}
-use Rattle.sip_verdict.specs.declared.passing.Fate.TheVariants.{Runs}
+use Rattle.sip_verdict.specs.declared.passing.Outcome.{Outcome}
+use Rattle.sip_verdict.specs.declared.passing.Outcome.TheVariants as all
 use Rattle.sip_standard.specs.Observation.{Observation}
 use Rattle.sip_standard.specs.VerdictOf.{events_for, RunsOver}
 use Rattle.sip_verdict.specs.Entries.{newest_moment}
@@ -36,17 +36,17 @@ module _ (texts : Texts) (p : Times) (es : List (Observation KeyParts)) (e : Obs
   events = events_for key es
 
   -- what an event leaves of the runs of the key, where `after` is its set then
-  abbrev Steps : MachineEvent → AnySet → Fate → Type 0
-  Steps f after fate = IsStepped (key_rules p machine) events f (λ fs. LeadsOf texts p machine fs f.moment after) (λ g. StandsOf texts p machine events g after) fate
+  abbrev Steps : MachineEvent → AnySet → Outcome → Type 0
+  Steps f after outcome = IsStepped (key_rules p machine) events f (λ fs. LeadsOf texts p machine fs f.moment after) (λ g. StandsOf texts p machine events g after) outcome
 
   -- where the set has heard the entry's event, what the event leaves of the set's runs is what the entry leaves of the key's
-  pub heard_left : (event : NumberedEvent) → e.event ≡ event_in texts event → concerns key e ≡ true → (after : AnySet) (fate : Fate)
+  pub heard_left : (event : NumberedEvent) → e.event ≡ event_in texts event → concerns key e ≡ true → (after : AnySet) (outcome : Outcome)
       → ((q : Times) (kind : MachineKind) (fs : List MachineEvent) (from : ℕ) → from ≤ event.moment → LeadsOf texts q kind fs from s
-      → IsStepped (key_rules q kind) fs (event_in texts event) (λ gs. LeadsOf texts q kind gs event.moment after) (λ g. StandsOf texts q kind fs g after) fate)
-      → IsPassed p k es e (key, after) fate
-  heard_left event is concerned after fate stepped =
-      own_passed p k es e (key, after) concerned fate
-      (subst (λ f. Steps f after fate) (sym is) (stepped p machine events (newest_moment es) (subst (λ f. newest_moment es ≤ f.moment) is late) ready))
+      → IsStepped (key_rules q kind) fs (event_in texts event) (λ gs. LeadsOf texts q kind gs event.moment after) (λ g. StandsOf texts q kind fs g after) outcome)
+      → IsPassed p k es e (key, after) outcome
+  heard_left event is concerned after outcome stepped =
+      own_passed p k es e (key, after) concerned outcome
+      (subst (λ f. Steps f after outcome) (sym is) (stepped p machine events (newest_moment es) (subst (λ f. newest_moment es ≤ f.moment) is late) ready))
 
   module _ (low : moment_of s ≤ e.event.moment) where
     -- where the last moment of the set is past at the entry, the key has no run over it
@@ -63,6 +63,6 @@ module _ (texts : Texts) (p : Times) (es : List (Observation KeyParts)) (e : Obs
     -- a key with a quiet set goes on over a restart, and its set stays as it is
     pub quiet_goes : (event : NumberedEvent) → e.event ≡ event_in texts event → event.action ≡ Restart → IsQuietSet s → concerns key e ≡ true → GoesOn p k es e (key, s)
     quiet_goes event is restart quiet concerned =
-        own_passed p k es e (key, s) concerned Runs
-        (subst (λ f. Steps f s Runs) (sym is)
+        own_passed p k es e (key, s) concerned all.Fine
+        (subst (λ f. Steps f s all.Fine) (sym is)
         (quiet_stepped texts p machine events (newest_moment es) s ready quiet event restart (subst (λ f. newest_moment es ≤ f.moment) is late) (subst (λ f. moment_of s ≤ f.moment) is low)))

@@ -14,7 +14,7 @@ use Rattle.sip_states.specs.AnySet.{meaning_of, moment_of, IsQuietSet}
 use Rattle.sip_states.specs.declared.any_set.AnySet.{AnySet}
 use Rattle.sip_states.proofs.keyed.ByMachine.{lawful_of, moment_is, quiet_in}
 use Rattle.sip_states.proofs.keyed.QuietLemmas.{quiet_still, waits_still, restart_still}
-use Rattle.sip_verdict.specs.declared.passing.Fate.TheVariants.{Runs}
+use Rattle.sip_verdict.specs.declared.passing.Outcome.TheVariants as all
 use Rattle.sip_verdict.specs.inner.Stepping.{IsStepped}
 use Rattle.sip_verdict.specs.inner.TablesTracking.{LeadsOf, StandsOf}
 use Rattle.sip_verdict.proofs.keys.Hearing.{heard_some}
@@ -42,7 +42,7 @@ module _ (texts : Texts) (p : Times) (machine : MachineKind) (events : List Mach
   not_later = subst (λ m. m ≤ e.moment) (ap moment_of leads.1 ∙ moment_is machine held) low
 
   -- where a quiet set takes a restart, there are runs still, and the set as it was leads to them and holds just their last states
-  pub quiet_stepped : IsStepped (key_rules p machine) events (event_in texts e) (λ es. LeadsOf texts p machine es e.moment set) (λ f. StandsOf texts p machine events f set) Runs
+  pub quiet_stepped : IsStepped (key_rules p machine) events (event_in texts e) (λ es. LeadsOf texts p machine es e.moment set) (λ f. StandsOf texts p machine events f set) all.Fine
   quiet_stepped =
       let m = meaning_of machine in
       let (x, one, still) = quiet_still p machine texts held (quiet_in machine held (subst IsQuietSet leads.1 quiet)) in

@@ -7,8 +7,8 @@ use Rattle.sip_standard.specs.MachineEvent.{MachineEvent}
 use Rattle.sip_standard.specs.KeyMachine.{MachineKind, machine_of_key}
 use Rattle.sip_states.specs.KeySets.{PhaseOf, key_rules}
 use Rattle.sip_machine.specs.Rules.{MachineRules}
-use Rattle.sip_verdict.specs.declared.passing.Fate.{Fate}
-use Rattle.sip_verdict.specs.declared.passing.Fate.TheVariants.{Runs, NoRun, TooWide}
+use Rattle.sip_verdict.specs.declared.passing.Outcome.{Outcome}
+use Rattle.sip_verdict.specs.declared.passing.Outcome.TheVariants as all
 use Rattle.sip_standard.specs.Observation.{Observation}
 use Rattle.sip_standard.specs.VerdictOf.{events_for, RunsOver}
 use Rattle.sip_verdict.specs.inner.Keyed.{concerns}
@@ -44,15 +44,15 @@ module _ {T : Type 0} (p : Times) (k : Keeping T) (es : List (Observation KeyPar
     own = events_for-concerned (k.key t) es e concerned
 
     -- what the event of e leaves of the runs of the key's machine is what e leaves of the key
-    pub own_passed : (fate : Fate) → IsStepped r (events_for (k.key t) es) e.event (λ fs. k.Leads t fs e.event.moment) (k.Stands t (events_for (k.key t) es)) fate → IsPassed p k es e t fate
-    own_passed Runs h = record {
+    pub own_passed : (outcome : Outcome) → IsStepped r (events_for (k.key t) es) e.event (λ fs. k.Leads t fs e.event.moment) (k.Stands t (events_for (k.key t) es)) outcome → IsPassed p k es e t outcome
+    own_passed all.Fine h = record {
       runs = runs_key _ own h.0;
       narrow = λ wide. h.1 (stands-wide p machine (events_for (k.key t) es) e.event wide.1);
       ready = subst (k.Leads t (events_for (k.key t) (es ++ e ∷ []))) (sym (newest_moment-push es e)) (subst (λ fs. k.Leads t fs e.event.moment) (sym own) h.2);
       stands = λ concerned. h.3;
     }
-    own_passed NoRun h = λ run. h (key_runs _ own run)
-    own_passed TooWide h = (runs_key _ own h.0, (concerned, wide-stands p machine (events_for (k.key t) es) e.event h.1))
+    own_passed (all.NoRun number) h = λ run. h (key_runs _ own run)
+    own_passed (all.TooWide number) h = (runs_key _ own h.0, (concerned, wide-stands p machine (events_for (k.key t) es) e.event h.1))
 
   -- What follows is of an entry e that does not concern the key: the key goes on if one of its runs can wait until e.
   module _ (unconcerned : concerns (k.key t) e ≡ false) where

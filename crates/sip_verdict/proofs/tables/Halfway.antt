@@ -19,8 +19,6 @@ use Rattle.sip_states.specs.Agenda.{is_overdue}
 use Rattle.sip_states.specs.Tables.{Tabled, IsGiven, due_of}
 use Rattle.sip_states.specs.declared.any_set.AnySet.{AnySet}
 use Rattle.sip_states.proofs.lists.Places.{set_place}
-use Rattle.sip_verdict.specs.declared.passing.Fate.{Fate}
-use Rattle.sip_verdict.specs.declared.passing.Fate.TheVariants.{Runs, NoRun, TooWide}
 use Rattle.sip_verdict.specs.declared.passing.Hearing.{Hearing}
 use Rattle.sip_verdict.specs.declared.passing.Outcome.{Outcome}
 use Rattle.sip_verdict.specs.declared.passing.Outcome.TheVariants as all
@@ -29,7 +27,7 @@ use Rattle.sip_standard.specs.VerdictOf.{events_for, RunsOver, IsWideAt, IsFirst
 use Rattle.sip_verdict.specs.Entries.{newest_moment}
 use Rattle.sip_verdict.specs.inner.Keyed.{concerns}
 use Rattle.sip_verdict.specs.inner.Stepping.{RunsUntil, IsStepped}
-use Rattle.sip_verdict.specs.inner.Tracking.{Keeping, IsReady, IsStanding, GoesOn, IsPassed, IsOutcome, outcome_of, overdue_outcome, first_of}
+use Rattle.sip_verdict.specs.inner.Tracking.{Keeping, IsReady, IsStanding, GoesOn, IsPassed, IsOutcome, IsOwnOutcome, overdue_outcome, first_of}
 use Rattle.sip_verdict.specs.inner.TablesTracking.{LeadsOf, StandsOf, key_keeping, transactions_of, is_among, concerns_number, AreTold, MayPass, MayHear, AreHearers, AreOnRecord, Hears, HearsEach}
 use Rattle.sip_verdict.specs.inner.Concerned.{each, is_all}
 use Rattle.sip_verdict.proofs.verdicts.Outcomes.{IsFirstAmong, Says, says_fewer, says_both, both_fine, first_at}
@@ -100,7 +98,7 @@ module _ (texts : Texts) (p : Times) (es : List (Observation KeyParts)) (e : Obs
 
   -- What follows is of one set more that hears the event.
   module _ (event : NumberedEvent) (is_event : (n : ℕ) (key : KeyParts) → slice_get keys n ≡ Some key → e.event ≡ event_in texts event) (number : ℕ) (ns : List ℕ) (once : is_among ns number ≡ false) (late : newest_moment es ≤ event.moment) (t u : Tabled) (outcome : Outcome)
-      (h : IsHalfway (number ∷ ns) t outcome) (given : IsGiven t number) (fate : Fate) (own : Hears texts event number t u fate) where
+      (h : IsHalfway (number ∷ ns) t outcome) (given : IsGiven t number) (one : Outcome) (own : Hears texts event number t u one) where
     abbrev place : ℕ
     place = number - 1
 
@@ -113,29 +111,28 @@ module _ (texts : Texts) (p : Times) (es : List (Observation KeyParts)) (e : Obs
     before : (concerns mine.0 e ≡ true) × IsReady k es (mine.0, own.before)
     before = h.waiting place mine.0 own.before mine.1 own.was (among_first (place + 1) number ns next)
 
-    -- the event leaves `fate` of the runs of the key
-    left : IsPassed p k es e (mine.0, own.after) fate
+    left : IsPassed p k es e (mine.0, own.after) one
     left =
-        own_passed p k es e (mine.0, own.after) before.0 fate
+        own_passed p k es e (mine.0, own.after) before.0 one
         (subst (λ f. IsStepped (key_rules p (machine_of_key p.rules mine.0)) (events_for mine.0 es) f (λ fs. LeadsOf texts p (machine_of_key p.rules mine.0) fs f.moment own.after)
-        (λ f. StandsOf texts p (machine_of_key p.rules mine.0) (events_for mine.0 es) f own.after) fate) (sym (is_event place mine.0 mine.1))
+        (λ f. StandsOf texts p (machine_of_key p.rules mine.0) (events_for mine.0 es) f own.after) one) (sym (is_event place mine.0 mine.1))
         (own.stepped p (machine_of_key p.rules mine.0) (events_for mine.0 es) (newest_moment es) late before.1))
 
     mine_is : (n : ℕ) (key : KeyParts) → slice_get keys n ≡ Some key → n ≡ place → mine.0 ≡ key
     mine_is n key at same = let both : Some mine.0 ≡ Some key = sym mine.1 ∙ ap (slice_get keys) (sym same) ∙ at in cc
 
     -- of the one key, its own outcome says what the event left of its runs
-    own_says : (f : Fate) → IsPassed p k es e (mine.0, own.after) f → Says HasOne (IsWideAt p es e) keys (λ n. n ≡ place) (outcome_of number f)
-    own_says Runs g = λ n key at same. (subst HasOne (mine_is n key at same) g.runs, λ wide. g.narrow (subst (IsWideAt p es e) (sym (mine_is n key at same)) wide))
-    own_says NoRun g = record { place = place; counts = sym next; key = mine.0; at = mine.1; holds = g; earlier = λ n key low at same. absurd (omega (arith, low, same)) }
-    own_says TooWide g = (
+    own_says : (o : Outcome) → IsOwnOutcome number o → IsPassed p k es e (mine.0, own.after) o → Says HasOne (IsWideAt p es e) keys (λ n. n ≡ place) o
+    own_says all.Fine is g = λ n key at same. (subst HasOne (mine_is n key at same) g.runs, λ wide. g.narrow (subst (IsWideAt p es e) (sym (mine_is n key at same)) wide))
+    own_says (all.NoRun told) is g = record { place = place; counts = is ∙ sym next; key = mine.0; at = mine.1; holds = g; earlier = λ n key low at same. absurd (omega (arith, low, same)) }
+    own_says (all.TooWide told) is g = (
       λ n key at same. subst HasOne (mine_is n key at same) g.0,
-      record { place = place; counts = sym next; key = mine.0; at = mine.1; holds = g.1; earlier = λ n key low at same. absurd (omega (arith, low, same)) },
+      record { place = place; counts = is ∙ sym next; key = mine.0; at = mine.1; holds = g.1; earlier = λ n key low at same. absurd (omega (arith, low, same)) },
     )
 
     -- a set at a place is the one that has heard the event, or the one that stood there before
     other : (n : ℕ) (s : AnySet) → slice_get u.sets n ≡ Some s → ((n ≡ place) × (own.after ≡ s)) ⊎ ((n ≢ place) × (slice_get t.sets n ≡ Some s))
-    other n s at = set_place t.sets place n own.after s (ap (λ xs. slice_get xs n) (sym (leaves_sets number own.after fate t u own.leaves)) ∙ at)
+    other n s at = set_place t.sets place n own.after s (ap (λ xs. slice_get xs n) (sym (leaves_sets number own.after one t u own.leaves)) ∙ at)
 
     no_more : (n : ℕ) → is_among ns (n + 1) ≡ false → (is_among (number ∷ ns) (n + 1) ≡ false) ⊎ (n ≡ place)
     no_more n none = elim (among_not (n + 1) number ns none) [ inl old ↦ inl old | inr same ↦ inr (omega (arith, next, same)) ]
@@ -148,27 +145,24 @@ module _ (texts : Texts) (p : Times) (es : List (Observation KeyParts)) (e : Obs
           | inr b ↦ h.waiting n key s at b.1 (among_rest (n + 1) number ns still)
         ]
 
-    -- where no trouble is found so far, each set that is not to hear the event any more leads on
-    more_passed : (f : Fate) → IsPassed p k es e (mine.0, own.after) f → first_of outcome (outcome_of number f) ≡ all.Fine → (n : ℕ) (key : KeyParts) (s : AnySet) → slice_get keys n ≡ Some key → slice_get u.sets n ≡ Some s
+    more_passed : first_of outcome one ≡ all.Fine → (n : ℕ) (key : KeyParts) (s : AnySet) → slice_get keys n ≡ Some key → slice_get u.sets n ≡ Some s
         → is_among ns (n + 1) ≡ false → IsReady k (es ++ e ∷ []) (key, s) × IsStanding k es e (key, s)
-    more_passed NoRun g fine n key s at here none = (let never = (both_fine outcome (all.NoRun number) fine).1 in absurd cc)
-    more_passed TooWide g fine n key s at here none = (let never = (both_fine outcome (all.TooWide number) fine).1 in absurd cc)
-    more_passed Runs g fine n key s at here none = go (other n s here) (no_more n none)
+    more_passed fine n key s at here none = go (other n s here) (no_more n none)
       where
         go : ((n ≡ place) × (own.after ≡ s)) ⊎ ((n ≢ place) × (slice_get t.sets n ≡ Some s)) → (is_among (number ∷ ns) (n + 1) ≡ false) ⊎ (n ≡ place) → IsReady k (es ++ e ∷ []) (key, s) × IsStanding k es e (key, s)
         go (inl a) w =
+            let g : GoesOn p k es e (mine.0, own.after) = subst (IsPassed p k es e (mine.0, own.after)) (both_fine outcome one fine).1 left in
             subst (λ x. IsReady k (es ++ e ∷ []) x × IsStanding k es e x) (λ i. (mine_is n key at a.0 i, a.1 i)) (g.ready, g.stands)
-        go (inr b) (inl old) = h.passed (both_fine outcome all.Fine fine).0 n key s at b.1 old
+        go (inr b) (inl old) = h.passed (both_fine outcome one fine).0 n key s at b.1 old
         go (inr b) (inr same) = absurd (b.0 same)
 
-    -- after the set has heard the event, the other sets that are to hear it are ready, and the outcome is joined with its own
-    one_more : IsHalfway ns u (first_of outcome (outcome_of number fate))
+    one_more : IsHalfway ns u (first_of outcome one)
     one_more = record {
-      same = leaves_keys number own.after fate t u own.leaves ∙ h.same;
-      says = says_fewer HasOne (IsWideAt p es e) keys (λ n. (is_among (number ∷ ns) (n + 1) ≡ false) ⊎ (n ≡ place)) (λ n. is_among ns (n + 1) ≡ false) no_more (first_of outcome (outcome_of number fate))
-          (says_both HasOne (IsWideAt p es e) keys (λ n. is_among (number ∷ ns) (n + 1) ≡ false) (λ n. n ≡ place) outcome (outcome_of number fate) h.says (own_says fate left));
+      same = leaves_keys number own.after one t u own.leaves ∙ h.same;
+      says = says_fewer HasOne (IsWideAt p es e) keys (λ n. (is_among (number ∷ ns) (n + 1) ≡ false) ⊎ (n ≡ place)) (λ n. is_among ns (n + 1) ≡ false) no_more (first_of outcome one)
+          (says_both HasOne (IsWideAt p es e) keys (λ n. is_among (number ∷ ns) (n + 1) ≡ false) (λ n. n ≡ place) outcome one h.says (own_says one own.numbered left));
       waiting = more_waiting;
-      passed = more_passed fate left;
+      passed = more_passed;
     }
 
   -- where sets hear the event one after another, the outcome after all of them is that of all keys
@@ -177,8 +171,7 @@ module _ (texts : Texts) (p : Times) (es : List (Observation KeyParts)) (e : Obs
   halfway_each event is_event late [] t u before after h given apart (same, fine) = subst (λ o. IsHalfway [] u o) (sym fine) (subst (λ x. IsHalfway [] x before) (sym same) h)
   halfway_each event is_event late (n ∷ ns) t u before after h given apart (between, one, first, rest) =
       halfway_each event is_event late ns between u (first_of before one) after
-      (subst (λ o. IsHalfway ns between (first_of before o)) (sym first.2)
-      (one_more event is_event n ns (first_apart n ns apart) late t between before h (All-head (IsGiven t) n ns given) first.0 first.1))
+      (one_more event is_event n ns (first_apart n ns apart) late t between before h (All-head (IsGiven t) n ns given) one first)
       (heard_given texts event n t between one first ns (All-tail (IsGiven t) n ns given)) (AllPairs-tail n ns apart) rest
 
 -- What follows is of tables in which no set has heard the event yet.

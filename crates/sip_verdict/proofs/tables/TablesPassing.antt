@@ -13,12 +13,10 @@ use Rattle.sip_machine.specs.NumberedEvent.{NumberedEvent}
 use Rattle.sip_states.specs.AnySet.{IsAgendaOf}
 use Rattle.sip_states.specs.Tables.{Tabled, IsGiven, Settles, with_set}
 use Rattle.sip_states.specs.declared.any_set.AnySet.{AnySet}
-use Rattle.sip_verdict.specs.declared.passing.Fate.{Fate}
-use Rattle.sip_verdict.specs.declared.passing.Fate.TheVariants.{Runs, NoRun, TooWide}
 use Rattle.sip_verdict.specs.declared.passing.Outcome.{Outcome}
 use Rattle.sip_verdict.specs.declared.passing.Outcome.TheVariants as all
-use Rattle.sip_verdict.specs.inner.Tracking.{outcome_of, first_of}
-use Rattle.sip_verdict.specs.inner.TablesTracking.{transactions_of, is_among, IsOnRecord, AreOnRecord, AllAreOnRecord, AreOnRecordIf, Leaves, Hears, HearsOne, HearsEach, AreHearers}
+use Rattle.sip_verdict.specs.inner.Tracking.{first_of}
+use Rattle.sip_verdict.specs.inner.TablesTracking.{transactions_of, is_among, IsOnRecord, AreOnRecord, AllAreOnRecord, AreOnRecordIf, Leaves, Hears, HearsEach, AreHearers}
 use Rattle.sip_states.specs.Restarting.{AreToRestart}
 use Rattle.sip_states.proofs.lists.Listed.{Contains-none, Contains-cons}
 use Rattle.sip_states.proofs.lists.Places.{set_place}
@@ -99,25 +97,31 @@ first_apart number ns apart = list_any_none (nat_eq number) ns (λ k d low. diff
         go false same = refl
 
 -- a set that has heard leaves the keys and the other sets as they were
-pub leaves_keys : (number : ℕ) (after : AnySet) (fate : Fate) (t u : Tabled) → Leaves number after fate t u → u.keys ≡ t.keys
-leaves_keys number after Runs t u h = ap (λ x. x.keys) h.2
-leaves_keys number after NoRun t u h = ap (λ x. x.keys) h
-leaves_keys number after TooWide t u h = ap (λ x. x.keys) h
+pub leaves_keys : (number : ℕ) (after : AnySet) (outcome : Outcome) (t u : Tabled) → Leaves number after outcome t u → u.keys ≡ t.keys
+leaves_keys number after all.Fine t u h = ap (λ x. x.keys) h.2
+leaves_keys number after (all.NoRun told) t u h = ap (λ x. x.keys) h
+leaves_keys number after (all.TooWide told) t u h = ap (λ x. x.keys) h
 
 -- a set that has heard stands in its place, and the other sets stand as they were
-pub leaves_sets : (number : ℕ) (after : AnySet) (fate : Fate) (t u : Tabled) → Leaves number after fate t u → u.sets ≡ set t.sets (number - 1) after
-leaves_sets number after Runs t u h = ap (λ x. x.sets) h.2
-leaves_sets number after NoRun t u h = ap (λ x. x.sets) h
-leaves_sets number after TooWide t u h = ap (λ x. x.sets) h
+pub leaves_sets : (number : ℕ) (after : AnySet) (outcome : Outcome) (t u : Tabled) → Leaves number after outcome t u → u.sets ≡ set t.sets (number - 1) after
+leaves_sets number after all.Fine t u h = ap (λ x. x.sets) h.2
+leaves_sets number after (all.NoRun told) t u h = ap (λ x. x.sets) h
+leaves_sets number after (all.TooWide told) t u h = ap (λ x. x.sets) h
 
 -- where the last moment of a set was put on record, the set has taken its place and goes on
-pub settles_leaves : (number : ℕ) (after : AnySet) (t u : Tabled) → Settles number (with_set t number after) u → Leaves number after Runs t u
+pub settles_leaves : (number : ℕ) (after : AnySet) (t u : Tabled) → Settles number (with_set t number after) u → Leaves number after all.Fine t u
 settles_leaves number after t u s = (s.limit, subst (IsAgendaOf s.limit) same s.agenda, s.recorded)
   where
     same : s.set ≡ after
     same = elim (set_place t.sets (number - 1) (number - 1) after s.set s.at) [ inl h ↦ sym h.1 | inr h ↦ absurd (h.0 refl) ]
 
--- a number that was given is given still where the keys are the same
+-- a set that has heard, where its transaction is in trouble
+pub trouble_leaves : (number : ℕ) (after : AnySet) (outcome : Outcome) (t : Tabled) → outcome ≢ all.Fine → Leaves number after outcome t (with_set t number after)
+trouble_leaves number after all.Fine t trouble = absurd (trouble refl)
+trouble_leaves number after (all.NoRun told) t trouble = refl
+trouble_leaves number after (all.TooWide told) t trouble = refl
+
+-- a number that was given still is
 pub given_still : (number : ℕ) (t u : Tabled) → u.keys ≡ t.keys → IsGiven t number → IsGiven u number
 given_still number t u keys g = record { low = g.low; high = (let same = ap length keys in let high = g.high in omega arith) }
 
@@ -145,22 +149,16 @@ module _ (t : Tabled) (number : ℕ) (ns : List ℕ) (low : 0 < number) (after :
     each = λ n s r at here. recorded_at n s r (ap (λ xs. slice_get xs n) (sym sets) ∙ at) (ap (λ xs. slice_get xs n) (sym records) ∙ here);
   }
 
--- where one set has heard the event and is in no trouble, the last moments of those that are still to hear alone may be missing
-heard_record : (texts : Texts) (event : NumberedEvent) (number : ℕ) (ns : List ℕ) (t u : Tabled) (outcome : Outcome) → IsGiven t number → AreOnRecord (number ∷ ns) t → HearsOne texts event number t u outcome → outcome ≡ all.Fine
+heard_record : (texts : Texts) (event : NumberedEvent) (number : ℕ) (ns : List ℕ) (t u : Tabled) (outcome : Outcome) → IsGiven t number → AreOnRecord (number ∷ ns) t → Hears texts event number t u outcome → outcome ≡ all.Fine
     → AreOnRecord ns u
-heard_record texts event number ns t u outcome given old (fate, h, is) fine = go fate h (sym is ∙ fine)
-  where
-    go : (f : Fate) → Hears texts event number t u f → outcome_of number f ≡ all.Fine → AreOnRecord ns u
-    go Runs heard same =
-        let (limit, agenda, left) = heard.leaves in
-        settled t number ns given.low heard.after limit agenda old u (ap (λ x. x.keys) left) (ap (λ x. x.sets) left) (ap (λ x. x.records) left)
-    go NoRun heard same = absurd cc
-    go TooWide heard same = absurd cc
+heard_record texts event number ns t u outcome given old h fine =
+    let (limit, agenda, left) = subst (λ o. Leaves number h.after o t u) fine h.leaves in
+    settled t number ns given.low h.after limit agenda old u (ap (λ x. x.keys) left) (ap (λ x. x.sets) left) (ap (λ x. x.records) left)
 
 -- a set that has heard leaves the numbers as they were given
-pub heard_given : (texts : Texts) (event : NumberedEvent) (number : ℕ) (t u : Tabled) (outcome : Outcome) → HearsOne texts event number t u outcome → (ns : List ℕ) → All (IsGiven t) ns → All (IsGiven u) ns
-heard_given texts event number t u outcome (fate, h, is) ns given =
-    let keys = leaves_keys number h.after fate t u h.leaves in
+pub heard_given : (texts : Texts) (event : NumberedEvent) (number : ℕ) (t u : Tabled) (outcome : Outcome) → Hears texts event number t u outcome → (ns : List ℕ) → All (IsGiven t) ns → All (IsGiven u) ns
+heard_given texts event number t u outcome h ns given =
+    let keys = leaves_keys number h.after outcome t u h.leaves in
     All-weaker (IsGiven t) (IsGiven u) (λ n g. given_still n t u keys g) ns given
 
 -- where the outcome after some sets have heard is no trouble, so was the outcome before them
@@ -224,10 +222,10 @@ all_hearers t numbers are = record {
 -- What follows is of sets that hear an event one after another.
 
 -- where some sets have heard the event, and then one more has, all of them have, and the outcomes are joined
-pub hears_more : (texts : Texts) (event : NumberedEvent) (ns : List ℕ) (n : ℕ) (t u v : Tabled) (before mid one : Outcome) → HearsEach texts event ns t before u mid → HearsOne texts event n u v one
+pub hears_more : (texts : Texts) (event : NumberedEvent) (ns : List ℕ) (n : ℕ) (t u v : Tabled) (before mid one : Outcome) → HearsEach texts event ns t before u mid → Hears texts event n u v one
     → HearsEach texts event (ns ++ n ∷ []) t before v (first_of mid one)
 hears_more texts event [] n t u v before mid one (same, fine) last =
-    (v, one, subst (λ x. HearsOne texts event n x v one) same last, (refl, ap (λ o. first_of o one) fine))
+    (v, one, subst (λ x. Hears texts event n x v one) same last, (refl, ap (λ o. first_of o one) fine))
 hears_more texts event (m ∷ ns) n t u v before mid one (between, first, hears, rest) last =
     (between, first, hears, hears_more texts event ns n between u v (first_of before first) mid one rest last)
 
@@ -254,11 +252,10 @@ pub hears_others : (texts : Texts) (event : NumberedEvent) (ns : List ℕ) (t u 
     → (n : ℕ) → is_among ns (n + 1) ≡ false → slice_get u.sets n ≡ slice_get t.sets n
 hears_others texts event [] t u before after given h n none = ap (λ x. slice_get x.sets n) h.0
 hears_others texts event (m ∷ ns) t u before after given (between, one, first, rest) n none =
-    let (fate, heard, is) = first in
     let (other, others) = among_none (n + 1) m ns none in
     let low = (All-head (IsGiven t) m ns given).low in
-    let here : slice_get between.sets n ≡ slice_get t.sets n = ap (λ xs. slice_get xs n) (leaves_sets m heard.after fate t between heard.leaves)
-    ∙ set-other t.sets (m - 1) n heard.after (λ same. other (omega (arith, same, low))) in
+    let here : slice_get between.sets n ≡ slice_get t.sets n = ap (λ xs. slice_get xs n) (leaves_sets m first.after one t between first.leaves)
+    ∙ set-other t.sets (m - 1) n first.after (λ same. other (omega (arith, same, low))) in
     hears_others texts event ns between u (first_of before one) after (heard_given texts event m t between one first ns (All-tail (IsGiven t) m ns given)) rest n others ∙ here
 
 -- a number that the event does not concern is not among the hearers

@@ -2,8 +2,8 @@ use Rattle.std.specs.Prelude.{◌≡◌, ◌++◌, [], ◌∷◌, ℕ, List}
 use Rattle.sip_machine.specs.Texts.{Texts}
 use Rattle.sip_standard.specs.MachineEvent.{MachineEvent}
 use Rattle.sip_machine.specs.Rules.{MachineRules}
-use Rattle.sip_verdict.specs.declared.passing.Fate.{Fate}
-use Rattle.sip_verdict.specs.declared.passing.Fate.TheVariants.{Runs, NoRun, TooWide}
+use Rattle.sip_verdict.specs.declared.passing.Outcome.{Outcome}
+use Rattle.sip_verdict.specs.declared.passing.Outcome.TheVariants as all
 use Rattle.sip_states.specs.Runs.{RuledRun, AfterRun, IsWide}
 use Rattle.sip_states.specs.Held.{Held}
 use Rattle.sip_verdict.specs.inner.Leads.{Leads}
@@ -21,7 +21,7 @@ RunsUntil {X} r events moment = (y : X) × RuledRun r events moment y
 
 -- what the events, with one more, leave of the runs at the moment of the last: the first predicate says to which events the set leads then, and the
 -- second that its states are just the last states of the runs that end with the one more
-abbrev pub IsStepped : {X : Type 0} → MachineRules X → List MachineEvent → MachineEvent → (List MachineEvent → Type 0) → (MachineEvent → Type 0) → Fate → Type 0
-IsStepped r events e Leads Stands Runs = RunsUntil r (events ++ e ∷ []) e.moment × ¬ IsWide (AfterRun r events e) × Leads (events ++ e ∷ []) × Stands e
-IsStepped r events e Leads Stands NoRun = ¬ RunsUntil r (events ++ e ∷ []) e.moment
-IsStepped r events e Leads Stands TooWide = RunsUntil r (events ++ e ∷ []) e.moment × IsWide (AfterRun r events e)
+abbrev pub IsStepped : {X : Type 0} → MachineRules X → List MachineEvent → MachineEvent → (List MachineEvent → Type 0) → (MachineEvent → Type 0) → Outcome → Type 0
+IsStepped r events e Leads Stands all.Fine = RunsUntil r (events ++ e ∷ []) e.moment × ¬ IsWide (AfterRun r events e) × Leads (events ++ e ∷ []) × Stands e
+IsStepped r events e Leads Stands (all.NoRun number) = ¬ RunsUntil r (events ++ e ∷ []) e.moment
+IsStepped r events e Leads Stands (all.TooWide number) = RunsUntil r (events ++ e ∷ []) e.moment × IsWide (AfterRun r events e)

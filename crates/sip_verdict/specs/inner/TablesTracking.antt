@@ -18,14 +18,12 @@ use Rattle.sip_states.specs.declared.any_set.AnySet.{AnySet}
 use Rattle.sip_standard.specs.declared.action.Action.TheVariants.{Restart}
 use Rattle.sip_verdict.specs.declared.concerned.Concerned.{Concerned}
 use Rattle.sip_verdict.specs.declared.passing.Hearing.{Hearing}
-use Rattle.sip_verdict.specs.declared.passing.Fate.{Fate}
-use Rattle.sip_verdict.specs.declared.passing.Fate.TheVariants.{Runs, NoRun, TooWide}
 use Rattle.sip_verdict.specs.declared.passing.Outcome.{Outcome}
 use Rattle.sip_verdict.specs.declared.passing.Outcome.TheVariants as all
 use Rattle.sip_standard.specs.Observation.{Observation}
 use Rattle.sip_verdict.specs.inner.Keyed.{concerns}
 use Rattle.sip_verdict.specs.inner.Stepping.{LeadsTo, IsStepped}
-use Rattle.sip_verdict.specs.inner.Tracking.{Keeping, Tracks, TracksBefore, outcome_of, first_of}
+use Rattle.sip_verdict.specs.inner.Tracking.{Keeping, Tracks, TracksBefore, IsOwnOutcome, first_of}
 use Rattle.sip_verdict.specs.inner.Concerned.{each, is_all}
 
 -- What follows says what is kept of the transactions of a log: the set of each key, by the machine of the key.
@@ -156,29 +154,26 @@ AreOnRecordIf (all.NoRun number) t = ⊤
 AreOnRecordIf (all.TooWide number) t = ⊤
 
 -- another set has taken the place of the one with this number; where it has a state, it is on record until when a wait in it can last
-abbrev pub Leaves : ℕ → AnySet → Fate → Tabled → Tabled → Type 0
-Leaves number set Runs old new = (limit : Option ℕ) × IsAgendaOf limit set × (new ≡ with_record (with_set old number set) number limit)
-Leaves number set NoRun old new = new ≡ with_set old number set
-Leaves number set TooWide old new = new ≡ with_set old number set
+abbrev pub Leaves : ℕ → AnySet → Outcome → Tabled → Tabled → Type 0
+Leaves number set all.Fine old new = (limit : Option ℕ) × IsAgendaOf limit set × (new ≡ with_record (with_set old number set) number limit)
+Leaves number set (all.NoRun told) old new = new ≡ with_set old number set
+Leaves number set (all.TooWide told) old new = new ≡ with_set old number set
 
 -- the set with this number has heard the event, and `fate` is what the event leaves of its runs
-pub record Hears (texts : Texts) (e : NumberedEvent) (number : ℕ) (old new : Tabled) (fate : Fate) : Type 0 where
+pub record Hears (texts : Texts) (e : NumberedEvent) (number : ℕ) (old new : Tabled) (outcome : Outcome) : Type 0 where
   pub before : AnySet
   pub after : AnySet
   pub was : slice_get old.sets (number - 1) ≡ Some before
-  pub leaves : Leaves number after fate old new
+  pub numbered : IsOwnOutcome number outcome
+  pub leaves : Leaves number after outcome old new
   pub stepped : (p : Times) (machine : MachineKind) (events : List MachineEvent) (from : ℕ) → from ≤ e.moment → LeadsOf texts p machine events from before
-      → IsStepped (key_rules p machine) events (event_in texts e) (λ es. LeadsOf texts p machine es e.moment after) (λ f. StandsOf texts p machine events f after) fate
-
--- the set with this number has heard the event, and the outcome says what that leaves of its runs
-abbrev pub HearsOne : Texts → NumberedEvent → ℕ → Tabled → Tabled → Outcome → Type 0
-HearsOne texts e number old new outcome = (fate : Fate) × Hears texts e number old new fate × (outcome ≡ outcome_of number fate)
+      → IsStepped (key_rules p machine) events (event_in texts e) (λ es. LeadsOf texts p machine es e.moment after) (λ f. StandsOf texts p machine events f after) outcome
 
 -- the sets with these numbers have heard the event one after another, and the second outcome is the first one with what they add
 abbrev pub HearsEach : Texts → NumberedEvent → List ℕ → Tabled → Outcome → Tabled → Outcome → Type 0
 HearsEach texts e [] old before new after = (new ≡ old) × (after ≡ before)
 HearsEach texts e (n ∷ ns) old before new after =
-    (between : Tabled) × (one : Outcome) × HearsOne texts e n old between one × HearsEach texts e ns between (first_of before one) new after
+    (between : Tabled) × (one : Outcome) × Hears texts e n old between one × HearsEach texts e ns between (first_of before one) new after
 
 -- an entry with this number and moment may come next: the last moment of each set is on record, and each entry so far brought at most two keys
 pub record MayTake (texts : Texts) (t : Tabled) (number moment : ℕ) : Type 0 where

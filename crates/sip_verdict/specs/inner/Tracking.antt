@@ -1,8 +1,6 @@
-use Rattle.std.specs.Prelude.{◌≡◌, ◌⊎◌, ◌++◌, [], ◌∷◌, ℕ, true, Option, Some, None, List, All, Contains, map, min}
+use Rattle.std.specs.Prelude.{◌≡◌, ◌⊎◌, ◌++◌, [], ◌∷◌, ℕ, true, Option, Some, None, List, All, Contains, map, min, ⊤}
 use Rattle.sip_standard.specs.MachineEvent.{MachineEvent}
 use Rattle.sip_standard.specs.declared.verdict.Verdict.{Verdict}
-use Rattle.sip_verdict.specs.declared.passing.Fate.{Fate}
-use Rattle.sip_verdict.specs.declared.passing.Fate.TheVariants.{Runs, NoRun, TooWide}
 use Rattle.sip_verdict.specs.declared.passing.Outcome.{Outcome}
 use Rattle.sip_verdict.specs.declared.passing.Outcome.TheVariants as all
 use Rattle.sip_standard.specs.Observation.{Observation}
@@ -54,10 +52,10 @@ pub record GoesOn {T : Type 0} (p : Times) (k : Keeping T) (es : List (Observati
   pub stands : IsStanding k es e t
 
 -- what the entry e leaves of the runs of one transaction
-abbrev pub IsPassed : {T : Type 0} → Times → Keeping T → List (Observation KeyParts) → Observation KeyParts → T → Fate → Type 0
-IsPassed p k es e t Runs = GoesOn p k es e t
-IsPassed p k es e t NoRun = ¬ RunsOver p (es ++ e ∷ []) (k.key t)
-IsPassed p k es e t TooWide = RunsOver p (es ++ e ∷ []) (k.key t) × IsWideAt p es e (k.key t)
+abbrev pub IsPassed : {T : Type 0} → Times → Keeping T → List (Observation KeyParts) → Observation KeyParts → T → Outcome → Type 0
+IsPassed p k es e t all.Fine = GoesOn p k es e t
+IsPassed p k es e t (all.NoRun number) = ¬ RunsOver p (es ++ e ∷ []) (k.key t)
+IsPassed p k es e t (all.TooWide number) = RunsOver p (es ++ e ∷ []) (k.key t) × IsWideAt p es e (k.key t)
 
 -- what the entry e leaves of the runs of all transactions, with the number of the first one in trouble
 abbrev pub IsOutcome : {T : Type 0} → Times → Keeping T → List (Observation KeyParts) → Observation KeyParts → List T → Outcome → Type 0
@@ -67,10 +65,10 @@ IsOutcome p k es e ts (all.TooWide number) =
     All (RunsOver p (es ++ e ∷ [])) (map k.key ts) × IsFirstKey (IsWideAt p es e) (map k.key ts) number
 
 -- the outcome that one transaction with this number and this fate gives
-abbrev pub outcome_of : ℕ → Fate → Outcome
-outcome_of number Runs = all.Fine
-outcome_of number NoRun = all.NoRun number
-outcome_of number TooWide = all.TooWide number
+abbrev pub IsOwnOutcome : ℕ → Outcome → Type 0
+IsOwnOutcome number all.Fine = ⊤
+IsOwnOutcome number (all.NoRun told) = told ≡ number
+IsOwnOutcome number (all.TooWide told) = told ≡ number
 
 -- the outcome where the transaction with this number, if there is one, waited too long
 abbrev pub overdue_outcome : Option ℕ → Outcome

@@ -23,32 +23,32 @@ hear-requires-clause-known g c = All-place (IsKnownSet c.args.book.now) c.args.t
 pub settle-requires-clause-state : goal.settle-requires-clause-state
 settle-requires-clause-state g c = λ set at.
     elim (set_place c.args.tables.now.sets (c.args.number - 1) (c.args.number - 1) c.hear.new.set set at) [
-      | inl h ↦ subst (λ s. ¬ IsEmpty s) h.1 (c.in_ok-hear.ensures.some c.in-Runs.is)
+      | inl h ↦ subst (λ s. ¬ IsEmpty s) h.1 (c.in_ok-hear.ensures.some c.in-Fine.is)
       | inr h ↦ absurd (h.0 refl)
     ]
 
-pub returns-in-Runs-clause-may : goal.returns-in-Runs-clause-may
-returns-in-Runs-clause-may g c =
+pub returns-in-Fine-clause-may : goal.returns-in-Fine-clause-may
+returns-in-Fine-clause-may g c =
     let t = c.args.tables.now in
     on_ok_weaker c.settle.result (λ settles.
     let (limit, agenda, is) = settles_leaves c.args.number c.hear.new.set t c.settle.new.self settles in
     passes_with c.args.book.now t c.settle.new.self (c.args.number - 1) c.args.event.now.moment c.hear.new.set c.requires.may c.in_ok-hear.ensures.order c.in_ok-hear.ensures.known (ap (λ x. x.keys) is) (ap (λ x. x.sets) is)) c.settle.ensures.ok
 
-pub returns-in-Runs-clause-watched : goal.returns-in-Runs-clause-watched
-returns-in-Runs-clause-watched g c =
+pub returns-in-Fine-clause-watched : goal.returns-in-Fine-clause-watched
+returns-in-Fine-clause-watched g c =
     let t = c.args.tables.now in
     on_ok_weaker c.settle.result (λ settles waits h.
     let (limit, agenda, is) = settles_leaves c.args.number c.hear.new.set t c.settle.new.self settles in
     watched_on t c.args.troubled.now c.args.number waits c.requires.given h c.settle.new.self c.hear.new.set limit agenda (c.has.ensures ∙ ap Some c.if-has.false) (ap (λ x. x.keys) is) (ap (λ x. x.sets) is) (ap (λ x. x.records) is))
     c.settle.ensures.ok
 
-pub returns-in-Runs-clause-heard : goal.returns-in-Runs-clause-heard
-returns-in-Runs-clause-heard g c =
+pub returns-in-Fine-clause-heard : goal.returns-in-Fine-clause-heard
+returns-in-Fine-clause-heard g c =
     let t = c.args.tables.now in
     on_ok_weaker c.settle.result (λ settles p es e waits times late once concerned h.
     let (limit, agenda, is) = settles_leaves c.args.number c.hear.new.set t c.settle.new.self settles in
     heard_on c.args.book.now p es e t c.args.troubled.now c.args.number c.requires.given waits c.args.event.now late once concerned h (c.has.ensures ∙ ap Some c.if-has.false) c.set_mut.result.now c.hear.new.set c.set_mut.ensures.value
-    c.in_ok-hear.field-0 c.in_ok-hear.ensures.stepped c.in-Runs.is c.settle.new.self (ap (λ x. x.keys) is) (ap (λ x. x.sets) is)) c.settle.ensures.ok
+    c.in_ok-hear.field-0 c.in_ok-hear.ensures.stepped c.in-Fine.is c.settle.new.self (ap (λ x. x.keys) is) (ap (λ x. x.sets) is)) c.settle.ensures.ok
 
 pub returns-in_ok-restart_key-in-NoRun-clause-may : goal.returns-in_ok-restart_key-in-NoRun-clause-may
 returns-in_ok-restart_key-in-NoRun-clause-may g c =

@@ -13,8 +13,8 @@ use Rattle.sip_states.specs.AnySet.{moment_of, start_of}
 use Rattle.sip_states.specs.Tables.{Tabled, IsGiven}
 use Rattle.sip_states.specs.declared.any_set.AnySet.{AnySet}
 use Rattle.sip_states.proofs.lists.Places.{set_place}
-use Rattle.sip_verdict.specs.declared.passing.Fate.{Fate}
-use Rattle.sip_verdict.specs.declared.passing.Fate.TheVariants.{Runs, NoRun, TooWide}
+use Rattle.sip_verdict.specs.declared.passing.Outcome.{Outcome}
+use Rattle.sip_verdict.specs.declared.passing.Outcome.TheVariants as all
 use Rattle.sip_verdict.specs.declared.troubled.Troubled.{Troubled}
 use Rattle.sip_standard.specs.Observation.{Observation}
 use Rattle.sip_standard.specs.VerdictOf.{RunsOver}
@@ -69,37 +69,37 @@ module _ (texts : Texts) (p : Times) (es : List (Observation KeyParts)) (e : Obs
 
   -- What follows is of a transaction in no trouble that hears the event.
   module _ (waits : List ℕ) (event : NumberedEvent) (late : newest_moment es ≤ event.moment) (once : is_among waits number ≡ false) (concerned : AreConcerned texts p es e event (number ∷ waits) t.keys)
-      (h : ArePassing texts p es e (is_among (number ∷ waits)) t b) (hearing : slice_get b.deaf.items (number - 1) ≡ Some false) (before after : AnySet) (was : slice_get t.sets (number - 1) ≡ Some before) (fate : Fate)
+      (h : ArePassing texts p es e (is_among (number ∷ waits)) t b) (hearing : slice_get b.deaf.items (number - 1) ≡ Some false) (before after : AnySet) (was : slice_get t.sets (number - 1) ≡ Some before) (outcome : Outcome)
       (stepped : (q : Times) (kind : MachineKind) (fs : List MachineEvent) (from : ℕ) → from ≤ event.moment → LeadsOf texts q kind fs from before
-      → IsStepped (key_rules q kind) fs (event_in texts event) (λ gs. LeadsOf texts q kind gs event.moment after) (λ g. StandsOf texts q kind fs g after) fate) where
+      → IsStepped (key_rules q kind) fs (event_in texts event) (λ gs. LeadsOf texts q kind gs event.moment after) (λ g. StandsOf texts q kind fs g after) outcome) where
     -- the key was in no trouble over the entries, and `fate` is what the entry leaves of its runs
-    left : (key : KeyParts) → slice_get t.keys (number - 1) ≡ Some key → IsSound p es key × IsPassed p k es e (key, after) fate
+    left : (key : KeyParts) → slice_get t.keys (number - 1) ≡ Some key → IsSound p es key × IsPassed p k es e (key, after) outcome
     left key at =
         let among = among_first (place + 1) number waits back in
         let own = h.each place key before false at was hearing in
         let ready : IsReady k es (key, before) = subst (λ x. MatchBool x (IsReady k es (key, before)) (GoesOn p k es e (key, before))) among own.1 in
         let told = concerned place key at among in
         let now : newest_moment es ≤ e.event.moment = subst (λ f. newest_moment es ≤ f.moment) (sym told.0) late in
-        (own.0, heard_left texts p es e key before ready now event told.0 told.1 after fate stepped)
+        (own.0, heard_left texts p es e key before ready now event told.0 told.1 after outcome stepped)
 
     apart : (n : ℕ) → n ≢ number - 1 → is_among (number ∷ waits) (n + 1) ≡ is_among waits (n + 1)
     apart n other = among_cons (n + 1) number waits (λ same. other (omega (arith, same)))
 
     -- where the runs of the transaction go on, all transactions are passing the entry still, and this one has heard it
-    pub heard_on : fate ≡ Runs → (u : Tabled) → u.keys ≡ t.keys → u.sets ≡ slice_set t.sets (number - 1) after → ArePassing texts p es e (is_among waits) u b
-    heard_on runs u keys sets =
+    pub heard_on : outcome ≡ all.Fine → (u : Tabled) → u.keys ≡ t.keys → u.sets ≡ slice_set t.sets (number - 1) after → ArePassing texts p es e (is_among waits) u b
+    heard_on fine u keys sets =
         passed_on texts p es e t u b (is_among (number ∷ waits)) (is_among waits) number given keys apart h after sets hearing once
-        (λ key at. let l = left key at in (l.0, subst (IsPassed p k es e (key, after)) runs l.1))
+        (λ key at. let l = left key at in (l.0, subst (IsPassed p k es e (key, after)) fine l.1))
 
     -- where the transaction has no run any more, its set starts anew, it is among the broken, and all are passing the entry still
-    pub heard_broken : fate ≡ NoRun → (u : Tabled) (c : Troubled) (q : Times) (own : KeyParts) → slice_get t.keys (number - 1) ≡ Some own → q ≡ p → u.keys ≡ t.keys → u.sets ≡ slice_set t.sets (number - 1) (start_of q own)
+    pub heard_broken : {told : ℕ} → outcome ≡ all.NoRun told → (u : Tabled) (c : Troubled) (q : Times) (own : KeyParts) → slice_get t.keys (number - 1) ≡ Some own → q ≡ p → u.keys ≡ t.keys → u.sets ≡ slice_set t.sets (number - 1) (start_of q own)
         → c.deaf.items ≡ slice_set b.deaf.items (number - 1) true → c.broken.items ≡ b.broken.items ++ number ∷ [] → c.wide.items ≡ b.wide.items → ArePassing texts p es e (is_among waits) u c
     heard_broken none u c q own at rules keys sets deaf added kept =
         released_broken texts p es e t u b (is_among (number ∷ waits)) (is_among waits) number given keys apart h c (begins_anew texts p q e.event.moment t u number own at rules sets) deaf added kept
         (λ key there. let l = left key there in (l.0, subst (IsPassed p k es e (key, after)) none l.1))
 
     -- where the transaction is too wide, its set starts anew, it is among the wide, and all are passing the entry still
-    pub heard_wide : fate ≡ TooWide → (u : Tabled) (c : Troubled) (q : Times) (own : KeyParts) → slice_get t.keys (number - 1) ≡ Some own → q ≡ p → u.keys ≡ t.keys → u.sets ≡ slice_set t.sets (number - 1) (start_of q own)
+    pub heard_wide : {told : ℕ} → outcome ≡ all.TooWide told → (u : Tabled) (c : Troubled) (q : Times) (own : KeyParts) → slice_get t.keys (number - 1) ≡ Some own → q ≡ p → u.keys ≡ t.keys → u.sets ≡ slice_set t.sets (number - 1) (start_of q own)
         → c.deaf.items ≡ slice_set b.deaf.items (number - 1) true → c.wide.items ≡ b.wide.items ++ number ∷ [] → c.broken.items ≡ b.broken.items → ArePassing texts p es e (is_among waits) u c
     heard_wide many u c q own at rules keys sets deaf added kept =
         released_wide texts p es e t u b (is_among (number ∷ waits)) (is_among waits) number given keys apart h c (begins_anew texts p q e.event.moment t u number own at rules sets) deaf added kept

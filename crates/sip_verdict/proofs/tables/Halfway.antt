@@ -111,6 +111,7 @@ module _ (texts : Texts) (p : Times) (es : List (Observation KeyParts)) (e : Obs
     before : (concerns mine.0 e ≡ true) × IsReady k es (mine.0, own.before)
     before = h.waiting place mine.0 own.before mine.1 own.was (among_first (place + 1) number ns next)
 
+    -- the event leaves `one` of the runs of the key
     left : IsPassed p k es e (mine.0, own.after) one
     left =
         own_passed p k es e (mine.0, own.after) before.0 one
@@ -145,6 +146,7 @@ module _ (texts : Texts) (p : Times) (es : List (Observation KeyParts)) (e : Obs
           | inr b ↦ h.waiting n key s at b.1 (among_rest (n + 1) number ns still)
         ]
 
+    -- where no trouble is found so far, each set that is not to hear the event any more leads on
     more_passed : first_of outcome one ≡ all.Fine → (n : ℕ) (key : KeyParts) (s : AnySet) → slice_get keys n ≡ Some key → slice_get u.sets n ≡ Some s
         → is_among ns (n + 1) ≡ false → IsReady k (es ++ e ∷ []) (key, s) × IsStanding k es e (key, s)
     more_passed fine n key s at here none = go (other n s here) (no_more n none)
@@ -156,6 +158,7 @@ module _ (texts : Texts) (p : Times) (es : List (Observation KeyParts)) (e : Obs
         go (inr b) (inl old) = h.passed (both_fine outcome one fine).0 n key s at b.1 old
         go (inr b) (inr same) = absurd (b.0 same)
 
+    -- after the set has heard the event, the other sets that are to hear it are ready, and the outcome is joined with its own
     one_more : IsHalfway ns u (first_of outcome one)
     one_more = record {
       same = leaves_keys number own.after one t u own.leaves ∙ h.same;

@@ -115,13 +115,13 @@ settles_leaves number after t u s = (s.limit, subst (IsAgendaOf s.limit) same s.
     same : s.set ≡ after
     same = elim (set_place t.sets (number - 1) (number - 1) after s.set s.at) [ inl h ↦ sym h.1 | inr h ↦ absurd (h.0 refl) ]
 
--- a set that has heard, where its transaction is in trouble
+-- where its transaction is in trouble, a set that has heard stands with its number, and nothing else changes
 pub trouble_leaves : (number : ℕ) (after : AnySet) (outcome : Outcome) (t : Tabled) → outcome ≢ all.Fine → Leaves number after outcome t (with_set t number after)
 trouble_leaves number after all.Fine t trouble = absurd (trouble refl)
 trouble_leaves number after (all.NoRun told) t trouble = refl
 trouble_leaves number after (all.TooWide told) t trouble = refl
 
--- a number that was given still is
+-- a number that was given is given still where the keys are the same
 pub given_still : (number : ℕ) (t u : Tabled) → u.keys ≡ t.keys → IsGiven t number → IsGiven u number
 given_still number t u keys g = record { low = g.low; high = (let same = ap length keys in let high = g.high in omega arith) }
 
@@ -149,6 +149,7 @@ module _ (t : Tabled) (number : ℕ) (ns : List ℕ) (low : 0 < number) (after :
     each = λ n s r at here. recorded_at n s r (ap (λ xs. slice_get xs n) (sym sets) ∙ at) (ap (λ xs. slice_get xs n) (sym records) ∙ here);
   }
 
+-- where one set has heard the event and is in no trouble, the last moments of those that are still to hear alone may be missing
 heard_record : (texts : Texts) (event : NumberedEvent) (number : ℕ) (ns : List ℕ) (t u : Tabled) (outcome : Outcome) → IsGiven t number → AreOnRecord (number ∷ ns) t → Hears texts event number t u outcome → outcome ≡ all.Fine
     → AreOnRecord ns u
 heard_record texts event number ns t u outcome given old h fine =

@@ -159,7 +159,7 @@ Leaves number set all.Fine old new = (limit : Option ℕ) × IsAgendaOf limit se
 Leaves number set (all.NoRun told) old new = new ≡ with_set old number set
 Leaves number set (all.TooWide told) old new = new ≡ with_set old number set
 
--- the set with this number has heard the event, and `fate` is what the event leaves of its runs
+-- the set with this number has heard the event, and `outcome` is what the event leaves of its runs
 pub record Hears (texts : Texts) (e : NumberedEvent) (number : ℕ) (old new : Tabled) (outcome : Outcome) : Type 0 where
   pub before : AnySet
   pub after : AnySet

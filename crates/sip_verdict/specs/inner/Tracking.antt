@@ -64,7 +64,7 @@ IsOutcome p k es e ts (all.NoRun number) = IsFirstKey (λ key. ¬ RunsOver p (es
 IsOutcome p k es e ts (all.TooWide number) =
     All (RunsOver p (es ++ e ∷ [])) (map k.key ts) × IsFirstKey (IsWideAt p es e) (map k.key ts) number
 
--- the outcome that one transaction with this number and this fate gives
+-- the outcome that is of the transaction with this number: it is fine, or the number that is told is its own
 abbrev pub IsOwnOutcome : ℕ → Outcome → Type 0
 IsOwnOutcome number all.Fine = ⊤
 IsOwnOutcome number (all.NoRun told) = told ≡ number

@@ -72,7 +72,7 @@ module _ (texts : Texts) (p : Times) (es : List (Observation KeyParts)) (e : Obs
       (h : ArePassing texts p es e (is_among (number ∷ waits)) t b) (hearing : slice_get b.deaf.items (number - 1) ≡ Some false) (before after : AnySet) (was : slice_get t.sets (number - 1) ≡ Some before) (outcome : Outcome)
       (stepped : (q : Times) (kind : MachineKind) (fs : List MachineEvent) (from : ℕ) → from ≤ event.moment → LeadsOf texts q kind fs from before
       → IsStepped (key_rules q kind) fs (event_in texts event) (λ gs. LeadsOf texts q kind gs event.moment after) (λ g. StandsOf texts q kind fs g after) outcome) where
-    -- the key was in no trouble over the entries, and `fate` is what the entry leaves of its runs
+    -- the key was in no trouble over the entries, and `outcome` is what the entry leaves of its runs
     left : (key : KeyParts) → slice_get t.keys (number - 1) ≡ Some key → IsSound p es key × IsPassed p k es e (key, after) outcome
     left key at =
         let among = among_first (place + 1) number waits back in

@@ -300,14 +300,14 @@ quiet_others texts p es e moment h t may told ready newest hear numbers hearers 
     not_named = not_passing (is_among (each h.concerned) (n + 1)) (λ among. false≢true (sym none ∙ hearers.named (n + 1) among))
 
     goes : is_all h.concerned ≡ true → GoesOn p k es e (key, s)
-    goes all =
+    goes every =
         let leads = All-place (IsReady k es) (transactions_of t) n (key, s) (zip-place t.keys t.sets n key s at here) ready in
         let low = All-place (λ x. moment_of x ≤ moment) t.sets n s here may.order in
         let machine = machine_of_key p.rules key in
         let events = events_for key es in
-        let stepped = quiet_stepped texts p machine events (newest_moment es) s leads (hearers.others all n s here none) h.event (hear.restart all) (omega (arith, newest, hear.at)) (omega (arith, low, hear.at)) in
-        own_passed p k es e (key, s) ((told n key at).concerned ∙ ap (λ b. b || is_among (each h.concerned) (n + 1)) all) Runs
-        (subst (λ f. IsStepped (key_rules p machine) events f (λ fs. LeadsOf texts p machine fs f.moment s) (λ g. StandsOf texts p machine events g s) Runs) (sym (told n key at).event) stepped)
+        let stepped = quiet_stepped texts p machine events (newest_moment es) s leads (hearers.others every n s here none) h.event (hear.restart every) (omega (arith, newest, hear.at)) (omega (arith, low, hear.at)) in
+        own_passed p k es e (key, s) ((told n key at).concerned ∙ ap (λ b. b || is_among (each h.concerned) (n + 1)) every) all.Fine
+        (subst (λ f. IsStepped (key_rules p machine) events f (λ fs. LeadsOf texts p machine fs f.moment s) (λ g. StandsOf texts p machine events g s) all.Fine) (sym (told n key at).event) stepped)
 
     by_all : (b : Bool) → is_all h.concerned ≡ b → (concerns_number (Some h) (n + 1) ≡ false) ⊎ GoesOn p k es e (key, s)
     by_all true all = inr (goes all)

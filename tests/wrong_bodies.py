@@ -102,7 +102,7 @@ def functions(path, text, types):
         brace, at = None, it.end()
         # The semicolon in the type of an array ends nothing.
         while brace := re.compile(r"\{|;(?! *\w+ *\])").search(plain, at):
-            # the braces of a clause stand behind its word, and perhaps its name
+            # The braces of a clause stand after its word, and perhaps its name.
             if brace[0] == ";" or not re.search(r"\b(requires|ensures|decreases|ghost)\b\*?[ \w]*$", plain[at : brace.start()]):
                 break
             at = close_of(plain, brace.start())

@@ -28,7 +28,7 @@ use Rattle.consequences.proofs.lemmas.server.InviteServers.{Row, IsServer, Recei
 
 -- one code is not both a success and another final one
 pub one-code : (e : MachineEvent) → IsResponse IsUnsuccessful e → ¬ (IsResponse IsSuccess e)
-one-code e (code, kind, unsuccessful) (other, again, success) = absurd (omega (arith, codes-are-one code other (sym kind ∙ again), unsuccessful.0, success.1))
+one-code e (code, told, refused) (other, told_too, accepted) = absurd (omega (arith, codes-are-one code other (sym told ∙ told_too), refused.0, accepted.1))
 
 module _ {X : Type 0} (f : Figure X) (p : Times) (held : InviteServerPhase → X) (is : IsServer f p held) where
   -- the state is one of a phase of the corrected machine, as this one holds it, and K holds of that phase and the debts

@@ -60,12 +60,7 @@ held_of (InviteServer3261 s) = (OfInviteServer3261, s)
 
 -- P holds of the set, as one of its machine
 abbrev pub by_machine : ((machine : MachineKind) → Held Times (StateOf machine) → Type 0) → AnySet → Type 0
-by_machine P (InviteClient s) = P OfInviteClient s
-by_machine P (PlainClient s) = P OfPlainClient s
-by_machine P (InviteServer s) = P OfInviteServer s
-by_machine P (PlainServer s) = P OfPlainServer s
-by_machine P (InviteClient3261 s) = P OfInviteClient3261 s
-by_machine P (InviteServer3261 s) = P OfInviteServer3261 s
+by_machine P set = P (held_of set).0 (held_of set).1
 
 -- P holds of two sets, which are of one machine
 abbrev pub by_one_machine : ((machine : MachineKind) → Held Times (StateOf machine) → Held Times (StateOf machine) → Type 0) → AnySet → AnySet → Type 0
@@ -78,10 +73,8 @@ by_one_machine P (InviteServer3261 s) (InviteServer3261 t) = P OfInviteServer326
 by_one_machine P old new = ⊥
 
 -- the set that a machine starts with: its first state, at moment 0
+abbrev pub held_at_start : Times → (machine : MachineKind) → Held Times (StateOf machine)
+held_at_start p machine = record { machine = p; moment = 0; states = idle_state (coded_of machine) ∷ [] }
+
 abbrev pub start_of_machine : Times → MachineKind → AnySet
-start_of_machine p OfInviteClient = InviteClient (record { machine = p; moment = 0; states = idle_state (coded_of OfInviteClient) ∷ [] })
-start_of_machine p OfPlainClient = PlainClient (record { machine = p; moment = 0; states = idle_state (coded_of OfPlainClient) ∷ [] })
-start_of_machine p OfInviteServer = InviteServer (record { machine = p; moment = 0; states = idle_state (coded_of OfInviteServer) ∷ [] })
-start_of_machine p OfPlainServer = PlainServer (record { machine = p; moment = 0; states = idle_state (coded_of OfPlainServer) ∷ [] })
-start_of_machine p OfInviteClient3261 = InviteClient3261 (record { machine = p; moment = 0; states = idle_state (coded_of OfInviteClient3261) ∷ [] })
-start_of_machine p OfInviteServer3261 = InviteServer3261 (record { machine = p; moment = 0; states = idle_state (coded_of OfInviteServer3261) ∷ [] })
+start_of_machine p machine = set_of machine (held_at_start p machine)

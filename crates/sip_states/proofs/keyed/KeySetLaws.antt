@@ -1,10 +1,10 @@
 -- Laws of the sets of each machine: the code has each machine as the standard has it, and a set is a set of its own machine.
-use Rattle.std.specs.Prelude.{◌≡◌, [], ◌∷◌}
-use Rattle.std.proofs.Common.{refl}
+use Rattle.std.specs.Prelude.{◌≡◌}
+use Rattle.std.proofs.Common.{refl, subst, sym}
 use Rattle.sip_standard.specs.Times.{Times}
 use Rattle.sip_standard.specs.KeyMachine.{MachineKind, OfInviteClient, OfPlainClient, OfInviteServer, OfPlainServer, OfInviteClient3261, OfInviteServer3261, transaction_of}
 use Rattle.sip_standard.specs.PhaseWords.{words_of}
-use Rattle.sip_machine.specs.inner.Coded.{IsCoded, idle_state}
+use Rattle.sip_machine.specs.inner.Coded.{IsCoded}
 use Rattle.sip_machine.specs.inner.InviteClient.Laws.{invite_client_is_coded}
 use Rattle.sip_machine.specs.inner.PlainClient.Laws.{plain_client_is_coded}
 use Rattle.sip_machine.specs.inner.InviteServer.Laws.{invite_server_is_coded}
@@ -14,7 +14,7 @@ use Rattle.sip_machine.specs.inner.PlainServer.Laws.{plain_server_is_coded}
 use Rattle.sip_states.specs.Held.{Held}
 use Rattle.sip_states.specs.declared.any_set.AnySet.{AnySet}
 use Rattle.sip_states.specs.declared.any_set.AnySet.TheVariants.{InviteClient, PlainClient, InviteServer, PlainServer, InviteClient3261, InviteServer3261}
-use Rattle.sip_states.specs.KeySets.{coded_of, StateOf, set_of, held_of, by_machine, by_one_machine, start_of_machine}
+use Rattle.sip_states.specs.KeySets.{coded_of, StateOf, set_of, held_of, by_machine, by_one_machine}
 
 -- the code has the figure of each machine
 pub coded_holds : (machine : MachineKind) → IsCoded (transaction_of machine).figure (words_of machine) (coded_of machine)
@@ -43,34 +43,15 @@ set_is (PlainServer s) = refl
 set_is (InviteClient3261 s) = refl
 set_is (InviteServer3261 s) = refl
 
--- the set that a machine starts with has its idle state, at moment 0
-pub start_is : (p : Times) (machine : MachineKind) → start_of_machine p machine ≡ set_of machine (record { machine = p; moment = 0; states = idle_state (coded_of machine) ∷ [] })
-start_is p OfInviteClient = refl
-start_is p OfPlainClient = refl
-start_is p OfInviteServer = refl
-start_is p OfPlainServer = refl
-start_is p OfInviteClient3261 = refl
-start_is p OfInviteServer3261 = refl
-
 -- a fact of the set of a machine, told by cases of the set, is the fact of that machine
 module _ (P : (machine : MachineKind) → Held Times (StateOf machine) → Type 0) where
   -- what holds by the machine of a set holds of the machine whose set it is
   pub of_machine : (machine : MachineKind) (s : Held Times (StateOf machine)) → by_machine P (set_of machine s) → P machine s
-  of_machine OfInviteClient s holds = holds
-  of_machine OfPlainClient s holds = holds
-  of_machine OfInviteServer s holds = holds
-  of_machine OfPlainServer s holds = holds
-  of_machine OfInviteClient3261 s holds = holds
-  of_machine OfInviteServer3261 s holds = holds
+  of_machine machine s holds = subst (λ (h : (kind : MachineKind) × Held Times (StateOf kind)). P h.0 h.1) (held_is machine s) holds
 
   -- what holds of a machine and what its set holds, holds by the machine of the set
   pub to_machine : (machine : MachineKind) (s : Held Times (StateOf machine)) → P machine s → by_machine P (set_of machine s)
-  to_machine OfInviteClient s holds = holds
-  to_machine OfPlainClient s holds = holds
-  to_machine OfInviteServer s holds = holds
-  to_machine OfPlainServer s holds = holds
-  to_machine OfInviteClient3261 s holds = holds
-  to_machine OfInviteServer3261 s holds = holds
+  to_machine machine s holds = subst (λ (h : (kind : MachineKind) × Held Times (StateOf kind)). P h.0 h.1) (sym (held_is machine s)) holds
 
 -- where P holds of the set of a machine and of another set, that one is of the same machine, and P holds of what the two hold
 pub of_one_machine : (P : (machine : MachineKind) → Held Times (StateOf machine) → Held Times (StateOf machine) → Type 0) (machine : MachineKind) (s : Held Times (StateOf machine)) (new : AnySet)

@@ -10,7 +10,7 @@ use Rattle.sip_machine.specs.inner.Coded.{idle_state, ended_state}
 use Rattle.sip_states.specs.Runs.{IsWide}
 use Rattle.sip_states.specs.Held.{Held}
 use Rattle.sip_standard.specs.KeyMachine.{MachineKind, machine_of_key, transaction_of}
-use Rattle.sip_states.specs.KeySets.{coded_of, PhaseOf, StateOf, held_of, by_machine, by_one_machine, start_of_machine}
+use Rattle.sip_states.specs.KeySets.{coded_of, PhaseOf, StateOf, set_of, held_of, by_machine, start_of_machine}
 use Rattle.sip_states.specs.Meaning.{Meaning, IsKeptBy, IsKnown, Given, HasWaited, HasTaken, HasAgenda}
 use Rattle.sip_states.specs.declared.any_set.AnySet.{AnySet}
 
@@ -44,7 +44,7 @@ module _ (P : (X M S : Type 0) → Meaning X M S → Held M S → Held M S → T
 
   -- the new set is of the machine of the old one, and P holds of the two
   abbrev pub OfSets : AnySet → AnySet → Type 0
-  OfSets set new = by_one_machine OfHelds set new
+  OfSets set new = by_machine (λ machine s. (t : Held Times (StateOf machine)) × (new ≡ set_of machine t) × OfHelds machine s t) set
 
 -- the moment of the set
 abbrev pub moment_of : AnySet → ℕ

@@ -62,16 +62,6 @@ held_of (InviteServer3261 s) = (OfInviteServer3261, s)
 abbrev pub by_machine : ((machine : MachineKind) → Held Times (StateOf machine) → Type 0) → AnySet → Type 0
 by_machine P set = P (held_of set).0 (held_of set).1
 
--- P holds of two sets, which are of one machine
-abbrev pub by_one_machine : ((machine : MachineKind) → Held Times (StateOf machine) → Held Times (StateOf machine) → Type 0) → AnySet → AnySet → Type 0
-by_one_machine P (InviteClient s) (InviteClient t) = P OfInviteClient s t
-by_one_machine P (PlainClient s) (PlainClient t) = P OfPlainClient s t
-by_one_machine P (InviteServer s) (InviteServer t) = P OfInviteServer s t
-by_one_machine P (PlainServer s) (PlainServer t) = P OfPlainServer s t
-by_one_machine P (InviteClient3261 s) (InviteClient3261 t) = P OfInviteClient3261 s t
-by_one_machine P (InviteServer3261 s) (InviteServer3261 t) = P OfInviteServer3261 s t
-by_one_machine P old new = ⊥
-
 -- the set that a machine starts with: its first state, at moment 0
 abbrev pub held_at_start : Times → (machine : MachineKind) → Held Times (StateOf machine)
 held_at_start p machine = record { machine = p; moment = 0; states = idle_state (coded_of machine) ∷ [] }

@@ -13,7 +13,7 @@ use Rattle.sip_machine.specs.inner.OwingLaws.{owing_by_names, quiet_stands}
 use Rattle.sip_states.specs.Held.{Held}
 use Rattle.sip_standard.specs.KeyMachine.{MachineKind, transaction_of}
 use Rattle.sip_states.specs.KeySets.{coded_of, PhaseOf, StateOf, set_of, held_of, held_at_start, start_of_machine}
-use Rattle.sip_states.proofs.keyed.KeySetLaws.{coded_holds, held_is, set_is, of_machine, to_machine, of_one_machine}
+use Rattle.sip_states.proofs.keyed.KeySetLaws.{coded_holds, held_is, set_is, of_machine, to_machine}
 use Rattle.sip_states.specs.Meaning.{Meaning}
 use Rattle.sip_states.specs.AnySet.{meaning_of, IsQuietIn, IsQuietSet, OfHeld, OfSet, OfHelds, OfSets, moment_of}
 use Rattle.sip_states.specs.Sweep.{names_of, numbers_of, AppendsNumbers}
@@ -109,4 +109,4 @@ module _ (P : (X M S : Type 0) → Meaning X M S → Held M S → Type 0) where
 -- where P holds of the set of a machine and of a new set, the new one is of the same machine, and P holds of what the two hold
 pub of_sets : (P : (X M S : Type 0) → Meaning X M S → Held M S → Held M S → Type 0) (machine : MachineKind) (s : Held Times (StateOf machine)) (new : AnySet) → OfSets P (set_of machine s) new
     → (t : Held Times (StateOf machine)) × (new ≡ set_of machine t) × P (PhaseOf machine) Times (StateOf machine) (meaning_of machine) s t
-of_sets P machine s new both = of_one_machine (OfHelds P) machine s new both
+of_sets P machine s new both = of_machine (λ kind held. (t : Held Times (StateOf kind)) × (new ≡ set_of kind t) × OfHelds P kind held t) machine s both

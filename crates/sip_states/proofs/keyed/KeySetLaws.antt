@@ -14,7 +14,7 @@ use Rattle.sip_machine.specs.inner.PlainServer.Laws.{plain_server_is_coded}
 use Rattle.sip_states.specs.Held.{Held}
 use Rattle.sip_states.specs.declared.any_set.AnySet.{AnySet}
 use Rattle.sip_states.specs.declared.any_set.AnySet.TheVariants.{InviteClient, PlainClient, InviteServer, PlainServer, InviteClient3261, InviteServer3261}
-use Rattle.sip_states.specs.KeySets.{coded_of, StateOf, set_of, held_of, by_machine, by_one_machine}
+use Rattle.sip_states.specs.KeySets.{coded_of, StateOf, set_of, held_of, by_machine}
 
 -- the code has the figure of each machine
 pub coded_holds : (machine : MachineKind) → IsCoded (transaction_of machine).figure (words_of machine) (coded_of machine)
@@ -52,14 +52,3 @@ module _ (P : (machine : MachineKind) → Held Times (StateOf machine) → Type 
   -- what holds of a machine and what its set holds, holds by the machine of the set
   pub to_machine : (machine : MachineKind) (s : Held Times (StateOf machine)) → P machine s → by_machine P (set_of machine s)
   to_machine machine s holds = subst (λ (h : (kind : MachineKind) × Held Times (StateOf kind)). P h.0 h.1) (sym (held_is machine s)) holds
-
--- where P holds of the set of a machine and of another set, that one is of the same machine, and P holds of what the two hold
-pub of_one_machine : (P : (machine : MachineKind) → Held Times (StateOf machine) → Held Times (StateOf machine) → Type 0) (machine : MachineKind) (s : Held Times (StateOf machine)) (new : AnySet)
-    → by_one_machine P (set_of machine s) new → (t : Held Times (StateOf machine)) × (new ≡ set_of machine t) × P machine s t
-of_one_machine P OfInviteClient s (InviteClient t) holds = (t, refl, holds)
-of_one_machine P OfPlainClient s (PlainClient t) holds = (t, refl, holds)
-of_one_machine P OfInviteServer s (InviteServer t) holds = (t, refl, holds)
-of_one_machine P OfPlainServer s (PlainServer t) holds = (t, refl, holds)
-of_one_machine P OfInviteClient3261 s (InviteClient3261 t) holds = (t, refl, holds)
-of_one_machine P OfInviteServer3261 s (InviteServer3261 t) holds = (t, refl, holds)
-of_one_machine P machine s new holds = absurd holds

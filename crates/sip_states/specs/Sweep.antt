@@ -5,7 +5,7 @@ use Rattle.sip_machine.specs.Owing.{owing_names}
 use Rattle.sip_machine.specs.Naming.{AppendsAll}
 use Rattle.sip_states.specs.Held.{Held}
 use Rattle.sip_standard.specs.KeyMachine.{MachineKind}
-use Rattle.sip_states.specs.KeySets.{coded_of, StateOf, held_of, by_machine}
+use Rattle.sip_states.specs.KeySets.{coded_of, StateOf, by_machine}
 use Rattle.sip_states.specs.declared.any_set.AnySet.{AnySet}
 use Rattle.sip_states.specs.AnySet.{SetWaits}
 use Rattle.sip_states.specs.Tables.{Tabled}
@@ -16,7 +16,7 @@ names_of machine s = flat_map (owing_names (coded_of machine).names) s.states
 
 -- the numbers of the messages that the states of any set name
 abbrev pub numbers_of : AnySet → List ℕ
-numbers_of set = names_of (held_of set).0 (held_of set).1
+numbers_of set = by_machine names_of set
 
 -- the numbers of the messages that the set names were appended, each at least once
 abbrev pub AppendsNumbers : AnySet → List ℕ → List ℕ → Type 0

@@ -1,4 +1,4 @@
--- Laws of the sets of each machine: the code has each machine as the standard has it, and a set is a set of its own machine.
+-- Laws of the sets of each machine: the code has each machine as the standard has it, and what is given by the machine of a set is given of that machine.
 use Rattle.std.specs.Prelude.{◌≡◌}
 use Rattle.std.proofs.Common.{refl, subst, sym}
 use Rattle.sip_standard.specs.Times.{Times}
@@ -12,9 +12,7 @@ use Rattle.sip_machine.specs.inner.InviteClient3261.Laws.{invite_client_3261_is_
 use Rattle.sip_machine.specs.inner.InviteServer3261.Laws.{invite_server_3261_is_coded}
 use Rattle.sip_machine.specs.inner.PlainServer.Laws.{plain_server_is_coded}
 use Rattle.sip_states.specs.Held.{Held}
-use Rattle.sip_states.specs.declared.any_set.AnySet.{AnySet}
-use Rattle.sip_states.specs.declared.any_set.AnySet.TheVariants.{InviteClient, PlainClient, InviteServer, PlainServer, InviteClient3261, InviteServer3261}
-use Rattle.sip_states.specs.KeySets.{coded_of, StateOf, set_of, held_of, by_machine}
+use Rattle.sip_states.specs.KeySets.{coded_of, StateOf, set_of, by_machine}
 
 -- the code has the figure of each machine
 pub coded_holds : (machine : MachineKind) → IsCoded (transaction_of machine).figure (words_of machine) (coded_of machine)
@@ -25,30 +23,21 @@ coded_holds OfPlainServer = plain_server_is_coded
 coded_holds OfInviteClient3261 = invite_client_3261_is_coded
 coded_holds OfInviteServer3261 = invite_server_3261_is_coded
 
--- the set that holds something of a machine is of that machine and holds that
-pub held_is : (machine : MachineKind) (s : Held Times (StateOf machine)) → held_of (set_of machine s) ≡ (machine, s)
-held_is OfInviteClient s = refl
-held_is OfPlainClient s = refl
-held_is OfInviteServer s = refl
-held_is OfPlainServer s = refl
-held_is OfInviteClient3261 s = refl
-held_is OfInviteServer3261 s = refl
-
--- each set is the set of its machine that holds what it holds
-pub set_is : (set : AnySet) → set ≡ set_of (held_of set).0 (held_of set).1
-set_is (InviteClient s) = refl
-set_is (PlainClient s) = refl
-set_is (InviteServer s) = refl
-set_is (PlainServer s) = refl
-set_is (InviteClient3261 s) = refl
-set_is (InviteServer3261 s) = refl
+-- what is given by the machine of a set is, of the set of this machine, what is given of this machine
+pub by_machine_is {ℓ} : {A : Type ℓ} (of : (machine : MachineKind) → Held Times (StateOf machine) → A) (machine : MachineKind) (s : Held Times (StateOf machine)) → by_machine of (set_of machine s) ≡ of machine s
+by_machine_is of OfInviteClient s = refl
+by_machine_is of OfPlainClient s = refl
+by_machine_is of OfInviteServer s = refl
+by_machine_is of OfPlainServer s = refl
+by_machine_is of OfInviteClient3261 s = refl
+by_machine_is of OfInviteServer3261 s = refl
 
 -- a fact of the set of a machine, told by cases of the set, is the fact of that machine
 module _ (P : (machine : MachineKind) → Held Times (StateOf machine) → Type 0) where
   -- what holds by the machine of a set holds of the machine whose set it is
   pub of_machine : (machine : MachineKind) (s : Held Times (StateOf machine)) → by_machine P (set_of machine s) → P machine s
-  of_machine machine s holds = subst (λ (h : (kind : MachineKind) × Held Times (StateOf kind)). P h.0 h.1) (held_is machine s) holds
+  of_machine machine s holds = subst (λ (T : Type 0). T) (by_machine_is P machine s) holds
 
   -- what holds of a machine and what its set holds, holds by the machine of the set
   pub to_machine : (machine : MachineKind) (s : Held Times (StateOf machine)) → P machine s → by_machine P (set_of machine s)
-  to_machine machine s holds = subst (λ (h : (kind : MachineKind) × Held Times (StateOf kind)). P h.0 h.1) (sym (held_is machine s)) holds
+  to_machine machine s holds = subst (λ (T : Type 0). T) (sym (by_machine_is P machine s)) holds

@@ -1,5 +1,5 @@
 //! What a judge holds of the entries that it has judged: the messages, and the transactions with their sets.
-ghost use Rattle.std.specs.Prelude.{◌≡◌, ◌≢◌, ◌≤◌, ◌<◌, ◌+◌, ◌++◌, ◌∷◌, [], ℕ, Bool, false, None, List, All, AllPairs, Contains, IfOk, IfNone, OnOk, length, string_bytes, ◌↔◌, IfSome, MatchOption};
+ghost use Rattle.std.specs.Prelude.{◌≡◌, ◌≢◌, ◌≤◌, ◌<◌, ◌+◌, ◌++◌, ◌∷◌, [], ℕ, Bool, false, None, List, All, AllPairs, Contains, IfOk, IfNone, IsTrue, OnOk, length, string_bytes, ◌↔◌, IfSome, MatchOption};
 ghost use Rattle.std.specs.Option.{ForSome, option_copied};
 ghost use Rattle.sip_standard.specs.Key.{KeyParts};
 ghost use Rattle.sip_standard.specs.Times.{last_moment};

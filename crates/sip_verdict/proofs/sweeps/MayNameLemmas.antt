@@ -45,12 +45,16 @@ module _ (t : Tabled) (message : ℕ) where
     ],
   )
 
+  -- where an entry concerns two transactions, and the set of the first one may name its message, it may be named
+  pub first_may : (own cancelled : ℕ) (set : AnySet) → slice_get t.sets (own - 1) ≡ Some set → SetMayName message set → MayBeNamed t message (concerned.OwnAndCancelled own cancelled)
+  first_may own cancelled set at its = inr (any_first (OneMayName t message) own (cancelled ∷ []) (set, at, its))
+
   -- where an entry concerns two transactions, its message may be named just where the set of one of them may name it
   pub both_may : (own cancelled : ℕ) (one other : AnySet) → slice_get t.sets (own - 1) ≡ Some one → slice_get t.sets (cancelled - 1) ≡ Some other
       → (SetMayName message one ⊎ SetMayName message other) ↔ MayBeNamed t message (concerned.OwnAndCancelled own cancelled)
   both_may own cancelled one other at there = (
     λ may. elim may [
-      | inl its ↦ inr (any_first (OneMayName t message) own (cancelled ∷ []) (one, at, its))
+      | inl its ↦ first_may own cancelled one at its
       | inr also ↦ inr (any_rest (OneMayName t message) own (cancelled ∷ []) (any_first (OneMayName t message) cancelled [] (other, there, also)))
     ],
     λ may. elim may [

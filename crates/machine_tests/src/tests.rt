@@ -60,9 +60,9 @@ fn forgets_the_newest_message_alone(rt: HostRuntime) -> Result<(), Fail> {
     forget(&mut book, 5, 5);
     keeps(&rt, &book, 5, None);
     forget(&mut book, 3, 5);
-    keeps(&rt, &book, 3, Some(b"OPTIONS"));
+    keeps(&rt, &book, 3, None);
     is(&rt, book.add(8, b"ACK")?, 8, "it comes again");
-    is(&rt, book.add(9, b"OPTIONS")?, 3, "the first is still kept");
+    is(&rt, book.add(9, b"OPTIONS")?, 9, "so does the first");
     Ok(())
 }
 

@@ -4,3 +4,4 @@ pub mod RunLaws
 pub mod BesideLemmas
 pub mod RetainLemmas
 pub mod NewestLaws
+pub mod FrontLaws

@@ -2,8 +2,8 @@
 ghost use Rattle.std.specs.Prelude.{◌≡◌, ◌≢◌, ◌<◌, ◌≤◌, ◌⊎◌, ◌↔◌, ◌++◌, ◌∷◌, [], ℕ, None, List, length, map, MatchOption, IfNone, IfSome, IfOk, IfErr, OnOk, OnErr, IsTrue, All, AllPairs};
 ghost use Rattle.std.specs.List.{insert, HoldsAt};
 ghost use Rattle.std.specs.List.Sorted.{IsSearchInRange, IsBinarySearchResult};
-ghost use Rattle.sip_machine.specs.Texts.{IsBook, Keeps, text_of};
-ghost use Rattle.sip_machine.specs.Retained.{only};
+ghost use Rattle.sip_machine.specs.Texts.{Texts, IsBook, Keeps, text_of};
+ghost use Rattle.sip_machine.specs.Retained.{ForgetsNewest, IsNewest, only};
 ghost use Rattle.sip_message.specs.Reads.{Reads};
 ghost use Rattle.sip_machine.specs.inner.ReadAs.{IsReadAs};
 ghost use Rattle.sip_machine.specs.inner.Tos.{IsToOf, HoldsBetween, count_between};
@@ -11,7 +11,7 @@ ghost use Rattle.sip_machine.specs.inner.Order.{texts_of, placed, bytes_at, key_
 
 mod retain;
 
-use crate::book::retain::{keep_only, lay_aside, move_all};
+use crate::book::retain::{drop_place, keep_only, lay_aside, move_all};
 use crate::event::is_unsuccessful;
 use crate::hashed::{Hashed, hash};
 use crate::tos::{Holder, Tos};
@@ -236,15 +236,13 @@ impl Book {
         }
     }
 
-    /// Forgets the newest message, if it has this number and neither its place nor its To stands beside it yet.
+    /// Forgets the newest message, if it has this number. It takes no memory.
     pub fn forget_newest(&mut self, number: u32)
-        ensures { (self.new ≡ self.old) ⊎ ((bytes : List ℕ) × (self.old ≡ self.new ++ (number, bytes) ∷ [])) }
+        ensures { ForgetsNewest number self.old self.new }
     {
-        if self.loose.is_none() || !self.tos.are_below(number) {
-            return;
-        }
         if let Some(newest) = pop_newest(&mut self.kept, number) {
-            self.loose = None;
+            unplace_newest(&mut self.order, &mut self.loose, self.kept.len());
+            self.tos.drop_last(number);
             lay_aside(&mut self.spare, newest.bytes);
         }
     }
@@ -391,13 +389,27 @@ fn loosened(kept: &[KeptMessage], runs: &[PlaceRun], is_loose: bool) -> Option<L
 
 /// Takes the newest message out, if it has this number.
 fn pop_newest(kept: &mut Vec<KeptMessage>, number: u32) -> Option<KeptMessage>
-    ensures none { IfNone result (kept.new.items ≡ kept.old.items) }
+    ensures none { IfNone result ((kept.new.items ≡ kept.old.items) × ¬ (IsNewest number (texts_of kept.old.items))) }
     ensures some { IfSome result (λ newest. (newest.number ≡ number) × (kept.old.items ≡ kept.new.items ++ newest ∷ [])) }
 {
     match kept.last() {
         Some(newest) if newest.number == number => kept.pop(),
         _ => None,
     }
+}
+
+/// Takes the place of the newest message out of the runs, if it stands in one. The message stood at this position, after all the others.
+fn unplace_newest(runs: &mut Vec<PlaceRun>, loose: &mut Option<Loose>, position: usize)
+    requires short { All (λ run. length run.places.items ≤ most_places) runs.old.items }
+    ensures loose { loose.new ≡ None }
+    ensures runs { (others : Texts) (number : ℕ) (bytes : List ℕ) → position ≡ length others → StandInRuns (others ++ (number, bytes) ∷ []) runs.old.items loose.old
+        → IsInRuns others runs.new.items }
+{
+    if loose.is_some() {
+        *loose = None;
+        return;
+    }
+    drop_place(runs, position);
 }
 
 /// Puts a place into the gap. On an error the places are as before.

@@ -96,6 +96,18 @@ impl Tos {
         Ok(())
     }
 
+    /// Takes out the To of the message with this number, which is none below that of another To, if it has one.
+    pub(crate) fn drop_last(&mut self, number: u32)
+        requires { All (λ to. to.number ≤ number) self.old }
+        ensures kept { All (Contains self.old) self.new }
+        ensures below { All (λ to. to.number < number) self.new }
+    {
+        if self.are_below(number) {
+            return;
+        }
+        self.list.pop();
+    }
+
     /// Keeps the Tos of the messages with these numbers, which rise. It takes no memory: where some Tos went, there is room for
     /// those that are left.
     pub(crate) fn retain(&mut self, numbers: &[u32])

@@ -18,6 +18,10 @@ place_among (m ∷ ms) n = cond (nat_eq m n) (Some 0) (option_map suc (place_amo
 abbrev pub moved : Texts → List ℕ → Place → Option Place
 moved texts numbers place = option_map (λ i. record { hash = place.hash; position = i }) (place_among numbers (number_at texts place.position))
 
+-- the place, if its message does not stand at this position
+abbrev pub unless_at : ℕ → Place → Option Place
+unless_at position place = cond (nat_eq place.position position) None (Some place)
+
 -- the messages with these numbers, found by going through numbers and messages together, which both rise
 abbrev pub merged : List ℕ → Texts → Texts
 merged numbers [] = []

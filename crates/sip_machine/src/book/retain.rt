@@ -1,7 +1,7 @@
 //! How a book forgets messages: places move, and messages go.
 ghost use Rattle.std.specs.Prelude.{◌≡◌, ◌<◌, ◌≤◌, length, take, All, AllPairs};
 ghost use Rattle.std.specs.List.{filter_map};
-ghost use Rattle.sip_machine.specs.inner.Retain.{number_at, moved, merged};
+ghost use Rattle.sip_machine.specs.inner.Retain.{number_at, moved, merged, unless_at};
 ghost use Rattle.sip_machine.specs.inner.Order.{texts_of, places_of, most_places, IsLed};
 
 use super::{KeptMessage, Place, PlaceRun};
@@ -67,6 +67,31 @@ pub(super) fn move_all(runs: &mut Vec<PlaceRun>, kept: &[KeptMessage], numbers: 
 {
     for i in 0..runs.len() {
         move_run(&mut runs[i], kept, numbers);
+    }
+    runs.retain(|run| !run.places.is_empty());
+}
+
+/// Drops the place of the message at a position from one run, which may be left without a place.
+fn drop_from(run: &mut PlaceRun, position: usize)
+    ensures places { run.new.places.items ≡ filter_map (unless_at position) run.old.places.items }
+    ensures fewer { length run.new.places.items ≤ length run.old.places.items }
+    ensures led { 0 < length run.new.places.items → IsLed run.new }
+{
+    run.places.retain(|place| place.position != position);
+    if !run.places.is_empty() {
+        run.first = run.places[0];
+    }
+}
+
+/// Drops the place of the message at a position, and the run that is left without a place.
+pub(super) fn drop_place(runs: &mut Vec<PlaceRun>, position: usize)
+    requires short { All (λ run. length run.places.items ≤ most_places) runs.old.items }
+    ensures places { places_of runs.new.items ≡ filter_map (unless_at position) (places_of runs.old.items) }
+    ensures led { All IsLed runs.new.items }
+    ensures short { All (λ run. length run.places.items ≤ most_places) runs.new.items }
+{
+    for i in 0..runs.len() {
+        drop_from(&mut runs[i], position);
     }
     runs.retain(|run| !run.places.is_empty());
 }

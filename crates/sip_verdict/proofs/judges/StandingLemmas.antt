@@ -101,6 +101,7 @@ module _ (old new : Texts) (number : ℕ) (bytes : List ℕ) where
         subst (λ texts. All (IsReady (key_keeping texts p) es) ts) (sym more)
         (All-weaker (IsReady (key_keeping old p) es) (IsReady (key_keeping (old ++ (number, bytes) ∷ []) p) es) ready_more ts ready)
 
+  -- tables that track the entries beside a book track them beside the grown book
   pub grown_track : IsGrown old number bytes new → (es : List (Observation KeyParts)) (t : Tabled) → TablesTrack old es t → TablesTrack new es t
   grown_track grown es t s = record { keys = s.keys; ready = grown_ready t.times es grown (transactions_of t) s.ready; good = s.good }
 
@@ -270,7 +271,7 @@ number_at all (n ∷ ns) [] h i d low = absurd h
 number_at all (n ∷ ns) (k ∷ ks) h zero d low = (k, refl, h.1)
 number_at all (n ∷ ns) (k ∷ ks) h (suc i) d low = number_at all ns ks h.2 i d (omega arith)
 
--- numbers of keys that all differ do all differ
+-- where keys all differ, their numbers all differ
 numbers_differ : (all : List KeyParts) (ns : List ℕ) (ks : List KeyParts) → HaveNumbers all ns ks → AllPairs (λ a b. a ≢ b) ks → AllPairs (λ a b. a ≢ b) ns
 numbers_differ all ns ks have apart i j d less low same =
     let (a, a_at, a_there) = number_at all ns ks have i d (omega arith) in

@@ -23,6 +23,7 @@ use Rattle.consequences.proofs.lemmas.client.Once.{IsInvited, invites-once, over
 use Rattle.consequences.proofs.lemmas.run.Running.{Runs, IsKept, left_at, step-of, stands-run, Cut, cut, run-keeps}
 use Rattle.consequences.proofs.lemmas.client.InviteClients.{Row, Receiving, client, IsDone, Answers, IsReceiving, pays-nothing, sends-idle, sends-calling, sends-proceeding, sends-accepted, sends-completed, sends-ended}
 
+-- an INVITE is no CANCEL
 no-cancel : ¬ (Request Invite ≡ Request Cancel)
 no-cancel is = cc
 
@@ -37,11 +38,13 @@ abbrev pub CallsFrom : MachineEvent → InviteClientPhase → Type 0
 CallsFrom invite (Calling w) = (w.start ≡ invite.moment) × (w.request ≡ invite.text) × (w.reliable ≡ invite.reliable)
 CallsFrom invite x = ⊥
 
+-- a client in completed does not call
 not-calling : {A : Type 0} (x : InviteClientPhase) (reliable : Bool) (request : List ℕ) (set : ℕ) (invite : MachineEvent) → x ≡ Completed reliable request set → CallsFrom invite x → A
 not-calling x reliable request set invite is calls = absurd (subst (CallsFrom invite) is calls)
 
 -- What follows is of an INVITE client with these rows.
 module _ (R : Receiving) (is : IsReceiving R) (p : Times) where
+  -- the client
   abbrev f : Figure InviteClientPhase
   f = client R
 
@@ -258,6 +261,7 @@ module _ (R : Receiving) (is : IsReceiving R) (p : Times) where
   began-emits e x y began (inr (inl (left, pays, to))) = rw to began
   began-emits e x y began (inr (inr (stays, same))) = absurd stays
 
+  -- a message that the transport refused keeps BeganBy
   began-fails : (ends : Bool) (e : MachineEvent) (x y : Owing InviteClientPhase) → BeganBy e.moment x.phase → Fails ends f p e x y → BeganBy e.moment y.phase
   began-fails true e x y began fails = rw fails.1 tt
   began-fails false e x y began emits = began-emits e x y began emits
@@ -347,9 +351,9 @@ module _ (R : Receiving) (is : IsReceiving R) (p : Times) where
         as_it_takes es e x y (inr (inl ended)) take = inr (inl (over-steps f p IsInvited (λ k. k ≡ Request Invite) (λ k. k ≡ Request Cancel) (invites-once R is p) e.action e y (subst (λ z. Takes f p z e y) ended take)))
         as_it_takes es e x y (inr (inr came)) take = inr (inr (any-earlier (GetsResponse IsAnyCode) es (e ∷ []) came))
 
-  -- timer B, section 17.1.1.2: an INVITE without a response is over by it, where what stands lasts
+  -- the transaction of an INVITE without a response ends by timer B (section 17.1.1.2), where what stands lasts
   module _ (lasts : (events : List MachineEvent) (m : ℕ) (x : Owing InviteClientPhase) → Stands f p events m x → Lasts f p x m) where
-    -- an INVITE that has no response is over once timer B has to have fired
+    -- the transaction of an INVITE that has no response has ended once timer B has to have fired
     pub over-by-timer-b : (before after : List MachineEvent) (invite : MachineEvent) (m : ℕ) (y : Owing InviteClientPhase) → SendsRequest Invite invite →
         All (λ g. ¬ (GetsResponse IsAnyCode g)) after → Stands f p (before ++ invite ∷ after) m y → close_at p invite.moment (64 * p.t1) < m → y ≡ quiet Ended
     over-by-timer-b before after invite m y sent unanswered stands late =

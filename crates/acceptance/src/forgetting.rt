@@ -7,8 +7,8 @@ use std::alloc::{AllocError, Global};
 use std::process::Abort;
 use std::test::Fail;
 
-/// The words of a log; by how many entries the newest one comes after that up to which a survey forgets; how many transactions are left after
-/// each entry; and the entry and the transaction of each breach that is found.
+/// The words of a log; how many of the newest entries keep the transactions that they concern; how many transactions are left after each
+/// entry; and the entry and the transaction of each breach that is found.
 type Row = (&'static str, u32, &'static [u32], &'static [(u32, u32)]);
 
 /// Each row is worked by hand, with T1 500, T4 5000 and a tolerance of 50 milliseconds.

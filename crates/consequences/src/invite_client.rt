@@ -17,7 +17,7 @@ ghost use Rattle.consequences.specs.Events.{SendsRequest, GetsResponse, IsAnyCod
 ghost use Rattle.consequences.specs.Machines.{figure_of, StateOf};
 ghost use Rattle.consequences.specs.Repeats.{IsSpaced, invites_of};
 
-/// No CANCEL is sent before a response to the INVITE has come, unless the transaction may be over: its transport refused a message, the
+/// No CANCEL is sent before a response to the INVITE has come, unless the transaction may have ended: its transport refused a message, the
 /// element started again, or timer B may have fired, 64*T1 after the INVITE, the tolerance aside. Section 9.1 wants a provisional
 /// response, and says that a CANCEL should not be sent after a final one. This law leaves open which of the two has come.
 pub fn a_cancel_waits_for_a_response()
@@ -27,8 +27,8 @@ pub fn a_cancel_waits_for_a_response()
         Any (GetsResponse IsAnyCode) after ⊎ Any (λ f. IsRefused f ⊎ IsRestart f) after ⊎ (open_at p invite.moment (64 * p.t1) ≤ e.moment) }
 {}
 
-/// An INVITE that gets no response is over by 64*T1 and as much as an element may be late (timer B of section 17.1.1.2), and only a CANCEL
-/// is sent after that.
+/// The transaction of an INVITE that gets no response has ended by 64*T1 and as much as an element may be late (timer B of section
+/// 17.1.1.2). Only a CANCEL is sent after that.
 pub fn an_unanswered_invite_ends_by_timer_b()
     ensures over { (p : Times) (rules : Rules) (before after : List MachineEvent) (invite : MachineEvent) (m : ℕ) (y : StateOf rules Client true) →
         SendsRequest Invite invite → All (λ f. ¬ (GetsResponse IsAnyCode f)) after →

@@ -13,8 +13,8 @@ ghost use Rattle.consequences.specs.Events.{SendsAnyRequest, GetsResponse};
 ghost use Rattle.consequences.specs.Machines.{figure_of, StateOf};
 ghost use Rattle.consequences.specs.Repeats.{IsSpaced, requests_of};
 
-/// A request that gets no final response is over by 64*T1 and as much as an element may be late (timer F of section 17.1.2.2). Whatever
-/// response it gets, nothing is sent after that.
+/// The transaction of a request that gets no final response has ended by 64*T1 and as much as an element may be late (timer F of section
+/// 17.1.2.2). Whatever response the request gets, nothing is sent after that.
 pub fn an_unanswered_request_ends_by_timer_f()
     ensures over { (p : Times) (rules : Rules) (before after : List MachineEvent) (request : MachineEvent) (m : ℕ) (y : StateOf rules Client false) →
         SendsAnyRequest request → All (λ f. ¬ (GetsResponse IsFinal f)) after →

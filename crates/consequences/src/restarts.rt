@@ -13,7 +13,7 @@ ghost use Rattle.sip_standard.specs.Stands.{StandsAfter};
 ghost use Rattle.consequences.specs.Events.{SendsRequest, SendsAnyRequest, GetsAnyRequest, IsRestart};
 ghost use Rattle.consequences.specs.Machines.{figure_of, StateOf};
 
-/// After a restart a transaction is idle or over, and owes nothing.
+/// After a restart a transaction is idle or has ended, and owes nothing.
 pub fn after_a_restart_nothing_is_owed()
     ensures { (machine : MachineKind) (p : Times) (events : List MachineEvent) (restart : MachineEvent) (y : Owing (transaction_of machine).Phase) → IsRestart restart →
         StandsAfter (transaction_of machine).figure p events restart y → (y ≡ quiet (transaction_of machine).figure.idle) ⊎ (y ≡ quiet (transaction_of machine).figure.ended) }

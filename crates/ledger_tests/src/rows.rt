@@ -260,7 +260,7 @@ fn of_equal_entries(rt: &(impl Abort + AllocGlobal)) -> Result<Ledger, Fail> {
     Ok(ledger)
 }
 
-/// Asserts that rows which pay at once come to owe the same as one that owed no more.
+/// Asserts that the last two rows pay the first of their equal debts: the third then owes the same as the first, which has paid nothing.
 fn pay_at_once(rt: &(impl Abort + AllocGlobal), ledger: &mut Ledger) -> Result<(), Fail> {
     ledger.pay_each(1, 1, 0);
     owes(rt, ledger, 1, &[must(2, 10), must(3, 10), must(1, 10)])?;

@@ -8,7 +8,7 @@ pub(crate) fn is<T: PartialEq + Debug + Drop>(rt: &impl Abort, read: T, want: T,
     assert_eq!(rt; read, want, "{row}");
 }
 
-/// Asserts that what the row wants is so.
+/// Asserts that something holds, as the row wants it.
 pub(crate) fn holds(rt: &impl Abort, is_so: bool, row: &str) {
     assert!(rt; is_so, "{row}");
 }

@@ -188,7 +188,7 @@ impl Accounts {
         Ok(())
     }
 
-    /// Of what the row owes, nothing has to be sent any more.
+    /// Makes all that the row owes something that it may send, and need not.
     pub fn soften(&mut self, row: usize)
         requires { row < length self.old }
         ensures { self.new ≡ set self.old row (map softened_debt (owed_in self.old row)) }
@@ -200,7 +200,7 @@ impl Accounts {
         };
     }
 
-    /// The row owes nothing any more.
+    /// Lets the row owe nothing.
     pub fn clear(&mut self, row: usize)
         requires { row < length self.old }
         ensures { self.new ≡ set self.old row [] }

@@ -79,7 +79,7 @@ pub fn each_input_has_a_stream()
     ensures { (input : List ℕ) → LacksHeader input ⊎ ((p : Times) × (items : List Item) × (end : LogEnd) × StreamSays input p items end) }
 {}
 
-/// And only one of the two, and only one log.
+/// Where any number of entries may come, no input both has a log and lacks a header, and none has two logs.
 pub fn an_input_has_one_stream()
     ensures either { (input : List ℕ) (p : Times) (items : List Item) (end : LogEnd) → LacksHeader input → StreamSays input p items end → ⊥ }
     ensures one { (input : List ℕ) (p q : Times) (items others : List Item) (end close : LogEnd) → StreamSays input p items end → StreamSays input q others close →

@@ -4,7 +4,7 @@ ghost use Rattle.std.specs.Char.{IsNotAsciiDigit};
 ghost use Rattle.std.specs.Str.Parse.{AllDigits, digits_value};
 ghost use Rattle.sip_log.specs.inner.Number.{IsNumber, IsPlain, cut};
 
-/// As this a number that is larger is kept. It is above every limit of a log.
+/// A larger number is kept as this one, which is above every limit of a log.
 const MOST: u64 = 1_000_000_000_000_000;
 
 /// Reads `0`, or a digit 1 to 9 and any further digits. A number above 10^15 is kept as 10^15.

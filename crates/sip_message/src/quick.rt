@@ -200,7 +200,7 @@ fn is_value_at<'a>(
 
 // Keeps the first element of Via between two places, if elements stand there and none is kept yet.
 // Answers whether elements stand there.
-#[inline(always)]
+#[inline(never)]
 fn keep_via<'a>(masks: &Masks<'a, '_>, at: usize, end: usize, kept: &mut Option<Via<'a>>) -> bool
     requires { (at ≤ end) × (end ≤ length masks.now) }
     ensures { KeepsVia (segment at end masks.now) result kept.old kept.new }

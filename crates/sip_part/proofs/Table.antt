@@ -8,7 +8,7 @@ use Rattle.sip_part.specs.declared.lower.TheConstants.{LOWER}
 abbrev pub is_lower_at : ℕ → Bool
 is_lower_at byte = eqb (get_or LOWER byte 0) (to_ascii_lowercase byte)
 
--- so it is at each of the 256 bytes, by computing
+-- the table has the lower case of each of the 256 bytes, by computing
 table-agrees : agree_below is_lower_at (λ _. true) 256 ≡ true
 table-agrees = refl
 

@@ -10,7 +10,7 @@ use Rattle.sip_machine.specs.inner.Coded.{idle_state, ended_state}
 use Rattle.sip_states.specs.Runs.{IsWide}
 use Rattle.sip_states.specs.Held.{Held}
 use Rattle.sip_standard.specs.KeyMachine.{MachineKind, machine_of_key, transaction_of}
-use Rattle.sip_states.specs.KeySets.{coded_of, PhaseOf, StateOf, held_of, by_machine, by_one_machine, start_of_machine}
+use Rattle.sip_states.specs.KeySets.{coded_of, PhaseOf, StateOf, set_of, by_machine, start_of_machine}
 use Rattle.sip_states.specs.Meaning.{Meaning, IsKeptBy, IsKnown, Given, HasWaited, HasTaken, HasAgenda}
 use Rattle.sip_states.specs.declared.any_set.AnySet.{AnySet}
 
@@ -37,6 +37,12 @@ module _ (P : (X M S : Type 0) → Meaning X M S → Held M S → Type 0) where
   abbrev pub OfSet : AnySet → Type 0
   OfSet set = by_machine OfHeld set
 
+-- the set is of this machine, and P holds of what it holds
+pub record IsSetOf (machine : MachineKind) (P : Held Times (StateOf machine) → Type 0) (set : AnySet) : Type 0 where
+  pub held : Held Times (StateOf machine)
+  pub is : set ≡ set_of machine held
+  pub holds : P held
+
 module _ (P : (X M S : Type 0) → Meaning X M S → Held M S → Held M S → Type 0) where
   -- P holds of two sets of this machine
   abbrev pub OfHelds : (machine : MachineKind) → Held Times (StateOf machine) → Held Times (StateOf machine) → Type 0
@@ -44,11 +50,11 @@ module _ (P : (X M S : Type 0) → Meaning X M S → Held M S → Held M S → T
 
   -- the new set is of the machine of the old one, and P holds of the two
   abbrev pub OfSets : AnySet → AnySet → Type 0
-  OfSets set new = by_one_machine OfHelds set new
+  OfSets set new = by_machine (λ machine s. IsSetOf machine (λ t. OfHelds machine s t) new) set
 
 -- the moment of the set
 abbrev pub moment_of : AnySet → ℕ
-moment_of set = (held_of set).1.moment
+moment_of set = by_machine (λ machine s. s.moment) set
 
 -- each state of the set is in it once, is in range and can wait at the set's moment, and there are no more than are followed
 abbrev pub IsKeptSet : AnySet → Type 0

@@ -49,39 +49,23 @@ set_of OfPlainServer s = PlainServer s
 set_of OfInviteClient3261 s = InviteClient3261 s
 set_of OfInviteServer3261 s = InviteServer3261 s
 
--- the machine of a set, and what it holds
-abbrev pub held_of : AnySet → (machine : MachineKind) × Held Times (StateOf machine)
-held_of (InviteClient s) = (OfInviteClient, s)
-held_of (PlainClient s) = (OfPlainClient, s)
-held_of (InviteServer s) = (OfInviteServer, s)
-held_of (PlainServer s) = (OfPlainServer, s)
-held_of (InviteClient3261 s) = (OfInviteClient3261, s)
-held_of (InviteServer3261 s) = (OfInviteServer3261, s)
+module _ {ℓ} (P : AnySet → Type ℓ) (of : (machine : MachineKind) (s : Held Times (StateOf machine)) → P (set_of machine s)) where
+  -- what is given of the set of each machine, given of any set
+  abbrev pub each_set : (set : AnySet) → P set
+  each_set (InviteClient s) = of OfInviteClient s
+  each_set (PlainClient s) = of OfPlainClient s
+  each_set (InviteServer s) = of OfInviteServer s
+  each_set (PlainServer s) = of OfPlainServer s
+  each_set (InviteClient3261 s) = of OfInviteClient3261 s
+  each_set (InviteServer3261 s) = of OfInviteServer3261 s
 
--- P holds of the set, as one of its machine
-abbrev pub by_machine : ((machine : MachineKind) → Held Times (StateOf machine) → Type 0) → AnySet → Type 0
-by_machine P (InviteClient s) = P OfInviteClient s
-by_machine P (PlainClient s) = P OfPlainClient s
-by_machine P (InviteServer s) = P OfInviteServer s
-by_machine P (PlainServer s) = P OfPlainServer s
-by_machine P (InviteClient3261 s) = P OfInviteClient3261 s
-by_machine P (InviteServer3261 s) = P OfInviteServer3261 s
-
--- P holds of two sets, which are of one machine
-abbrev pub by_one_machine : ((machine : MachineKind) → Held Times (StateOf machine) → Held Times (StateOf machine) → Type 0) → AnySet → AnySet → Type 0
-by_one_machine P (InviteClient s) (InviteClient t) = P OfInviteClient s t
-by_one_machine P (PlainClient s) (PlainClient t) = P OfPlainClient s t
-by_one_machine P (InviteServer s) (InviteServer t) = P OfInviteServer s t
-by_one_machine P (PlainServer s) (PlainServer t) = P OfPlainServer s t
-by_one_machine P (InviteClient3261 s) (InviteClient3261 t) = P OfInviteClient3261 s t
-by_one_machine P (InviteServer3261 s) (InviteServer3261 t) = P OfInviteServer3261 s t
-by_one_machine P old new = ⊥
+-- what is given of the machine of the set and of what the set holds
+abbrev pub by_machine {ℓ} : {A : Type ℓ} → ((machine : MachineKind) → Held Times (StateOf machine) → A) → AnySet → A
+by_machine {A} of set = each_set (λ any. A) of set
 
 -- the set that a machine starts with: its first state, at moment 0
+abbrev pub held_at_start : Times → (machine : MachineKind) → Held Times (StateOf machine)
+held_at_start p machine = record { machine = p; moment = 0; states = idle_state (coded_of machine) ∷ [] }
+
 abbrev pub start_of_machine : Times → MachineKind → AnySet
-start_of_machine p OfInviteClient = InviteClient (record { machine = p; moment = 0; states = idle_state (coded_of OfInviteClient) ∷ [] })
-start_of_machine p OfPlainClient = PlainClient (record { machine = p; moment = 0; states = idle_state (coded_of OfPlainClient) ∷ [] })
-start_of_machine p OfInviteServer = InviteServer (record { machine = p; moment = 0; states = idle_state (coded_of OfInviteServer) ∷ [] })
-start_of_machine p OfPlainServer = PlainServer (record { machine = p; moment = 0; states = idle_state (coded_of OfPlainServer) ∷ [] })
-start_of_machine p OfInviteClient3261 = InviteClient3261 (record { machine = p; moment = 0; states = idle_state (coded_of OfInviteClient3261) ∷ [] })
-start_of_machine p OfInviteServer3261 = InviteServer3261 (record { machine = p; moment = 0; states = idle_state (coded_of OfInviteServer3261) ∷ [] })
+start_of_machine p machine = set_of machine (held_at_start p machine)

@@ -9,5 +9,6 @@ pub mod Agenda
 pub mod Tables
 pub mod Kept
 pub mod TablesLends
+pub mod Naming
 pub mod Sweep
 pub mod Restarting

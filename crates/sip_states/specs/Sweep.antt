@@ -1,11 +1,12 @@
 -- What a sweep over the sets of tables does: it lets them wait, and tells which messages they name.
-use Rattle.std.specs.Prelude.{◌≡◌, ◌<◌, ◌⊎◌, ◌↔◌, ◌++◌, [], ℕ, List, Some, AllPairs, Contains, flat_map, length, slice_get}
+use Rattle.std.specs.Prelude.{◌≡◌, ◌<◌, ◌⊎◌, ◌↔◌, ◌++◌, [], ℕ, List, Some, AllPairs, Any, Contains, flat_map, length, slice_get}
 use Rattle.sip_standard.specs.Times.{Times}
 use Rattle.sip_machine.specs.Owing.{owing_names}
 use Rattle.sip_machine.specs.Naming.{AppendsAll}
 use Rattle.sip_states.specs.Held.{Held}
+use Rattle.sip_states.specs.Naming.{MayName}
 use Rattle.sip_standard.specs.KeyMachine.{MachineKind}
-use Rattle.sip_states.specs.KeySets.{coded_of, StateOf, held_of, by_machine}
+use Rattle.sip_states.specs.KeySets.{coded_of, StateOf, by_machine}
 use Rattle.sip_states.specs.declared.any_set.AnySet.{AnySet}
 use Rattle.sip_states.specs.AnySet.{SetWaits}
 use Rattle.sip_states.specs.Tables.{Tabled}
@@ -16,11 +17,15 @@ names_of machine s = flat_map (owing_names (coded_of machine).names) s.states
 
 -- the numbers of the messages that the states of any set name
 abbrev pub numbers_of : AnySet → List ℕ
-numbers_of set = names_of (held_of set).0 (held_of set).1
+numbers_of set = by_machine names_of set
 
 -- the numbers of the messages that the set names were appended, each at least once
 abbrev pub AppendsNumbers : AnySet → List ℕ → List ℕ → Type 0
 AppendsNumbers set old new = by_machine (λ machine s. AppendsAll (names_of machine s) old new) set
+
+-- some state of the set may name the message with this number
+abbrev pub SetMayName : ℕ → AnySet → Type 0
+SetMayName number set = by_machine (λ machine s. Any (MayName (coded_of machine).names number) s.states) set
 
 -- the set has waited until the moment; or it names no message, and is as before
 abbrev pub IsAdvanced : ℕ → AnySet → AnySet → Type 0

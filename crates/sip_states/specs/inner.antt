@@ -2,3 +2,4 @@ pub mod Lines
 pub mod Ways
 pub mod Marks
 pub mod Advance
+pub mod Touching

@@ -2,7 +2,7 @@
 ghost use Rattle.std.specs.Prelude.{◌≡◌, ◌↔◌, ◌≤◌, false, Contains, IfOk, IsErrOf, IsTrue, OnErr, OnOk};
 ghost use Rattle.sip_machine.specs.NumberedEvent.{FitsBook};
 ghost use Rattle.sip_states.specs.AnySet.{moment_of, start_of, IsEmpty, IsKeptSet, IsQuietSet, IsKnownSet, SetWaits, SetTakes, IsSetTooWide, IsAgendaOf};
-ghost use Rattle.sip_states.specs.Sweep.{AppendsNumbers, numbers_of};
+ghost use Rattle.sip_states.specs.Sweep.{AppendsNumbers, SetMayName, numbers_of};
 ghost use Rattle.sip_states.specs.Told.{AreTold};
 
 use crate::state_set::{StateSet, TakeError};
@@ -127,9 +127,11 @@ impl AnySet {
         each_machine!(self, set => set.names(out))
     }
 
-    /// Whether one of its states may name the message with this number. A number that none may name is named by none.
+    /// Whether one of its states may name the message with this number: its phase names it, or it owes something. A number that none may
+    /// name is named by none.
     pub fn may_name(&self, number: u32) -> bool
-        ensures { result ≡ false → ¬ Contains (numbers_of self.now) number }
+        ensures may { IsTrue result ↔ SetMayName number self.now }
+        ensures none { result ≡ false → ¬ Contains (numbers_of self.now) number }
     {
         each_machine!(self, set => set.may_name(number))
     }

@@ -1,14 +1,15 @@
 //! The states in which the runs of a machine can stand at a moment.
-ghost use Rattle.std.specs.Prelude.{◌≡◌, ◌≢◌, ◌↔◌, ◌+◌, ◌⊎◌, [], ◌∷◌, ◌<◌, ◌≤◌, OnOk, OnErr, All, AllPairs, Contains, IfOk, IsErrOf, IsTrue, false, flat_map, length, map, take};
+ghost use Rattle.std.specs.Prelude.{◌≡◌, ◌≢◌, ◌↔◌, ◌+◌, ◌⊎◌, [], ◌∷◌, ◌<◌, ◌≤◌, OnOk, OnErr, All, AllPairs, Any, Contains, IfOk, IsErrOf, IsTrue, flat_map, length, map, take};
 ghost use Rattle.std.specs.Bool.{OnTrue, OnFalse};
 ghost use Rattle.std.specs.List.{HoldsAt};
 ghost use Rattle.sip_machine.specs.Texts.{Texts, IsBook};
 ghost use Rattle.sip_machine.specs.NumberedEvent.{FitsBook, event_in};
 ghost use Rattle.sip_machine.specs.Naming.{AppendsAll};
-ghost use Rattle.sip_machine.specs.Owing.{CodeOwing, owing_names};
+ghost use Rattle.sip_machine.specs.Owing.{CodeOwing};
 ghost use Rattle.sip_machine.specs.Rules.{Knows, StandFor};
 ghost use Rattle.sip_machine.specs.Pools.{picked};
 ghost use Rattle.sip_states.specs.Held.{IsKept};
+ghost use Rattle.sip_states.specs.Naming.{MayName};
 ghost use Rattle.sip_states.specs.Runs.{Wait, RunGives, IsAgenda, IsWide, widest};
 ghost use Rattle.sip_states.specs.inner.Ways.{GivesAfter};
 
@@ -229,7 +230,7 @@ impl<M: Machine> StateSet<M> {
 impl<M: Phases> StateSet<M> {
     /// Whether a state may name the message with this number. A state that owes something is taken to name any.
     pub(crate) fn may_name(&self, number: u32) -> bool
-        ensures { result ≡ false → ¬ Contains (flat_map (owing_names M.names) self.now.states) number }
+        ensures { IsTrue result ↔ Any (MayName M.names number) self.now.states }
     {
         for at in 0..self.states.len() {
             if state_may_name(&self.machine, &self.states, at, number) {
@@ -243,7 +244,7 @@ impl<M: Phases> StateSet<M> {
 /// Whether the state at the index may name the message with this number.
 fn state_may_name<M: Phases>(machine: &M, states: &Pool<M::Phase>, at: usize, number: u32) -> bool
     requires { at < length states.now }
-    ensures { HoldsAt (λ x. result ≡ false → ¬ Contains (owing_names M.names x) number) states.now at }
+    ensures { HoldsAt (λ x. IsTrue result ↔ MayName M.names number x) states.now at }
 {
     let phase = states.phase(at);
     if !states.is_at_rest(at, phase) {

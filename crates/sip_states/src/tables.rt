@@ -1,5 +1,5 @@
 //! The states of every transaction, found by its key.
-ghost use Rattle.std.specs.Prelude.{◌≡◌, ◌≢◌, ◌<◌, ◌≤◌, ◌+◌, ◌++◌, ◌-◌, ◌∷◌, [], All, AllPairs, length, slice_get, slice_index_or, ℕ, IfNone, IfOk, IfSome, None, OnErr, OnOk, Some, true, ◌↔◌};
+ghost use Rattle.std.specs.Prelude.{◌≡◌, ◌≢◌, ◌<◌, ◌≤◌, ◌+◌, ◌++◌, ◌-◌, ◌∷◌, [], All, AllPairs, length, slice_get, slice_index_or, ℕ, IfNone, IfOk, IfSome, None, OnErr, OnOk, Some, false, true, ◌↔◌};
 ghost use Rattle.std.specs.Borrow.{sem};
 ghost use Rattle.indexmap.specs.IndexMap.{keys, values, index_map_len, with_value_at};
 ghost use Rattle.sip_states.specs.Agenda.{is_overdue};
@@ -7,9 +7,10 @@ ghost use Rattle.sip_states.specs.AnySet.{moment_of, SetWaits};
 ghost use Rattle.sip_states.specs.Sweep.{AdvancesAll, AdvancesSome, AppendsNamed, ChangesSets};
 ghost use Rattle.sip_states.specs.inner.Advance.{AdvancesAt, AdvancesSomeAt};
 ghost use Rattle.sip_states.specs.inner.Marks.{AreMarked, AreMoved, IsMarked};
+ghost use Rattle.sip_states.specs.inner.Touching.{FindsOrStarts};
 ghost use Rattle.sip_states.specs.Kept.{kept_tables};
 ghost use Rattle.sip_states.specs.Restarting.{AreToRestart};
-ghost use Rattle.sip_states.specs.Tables.{IsGiven, HasState, Settles, StartsAnew, Touches, due_of, most_keys, with_key};
+ghost use Rattle.sip_states.specs.Tables.{IsGiven, HasState, Settles, StartsAnew, Touches, due_of, most_keys};
 
 use crate::agenda::Agenda;
 use crate::any_set::AnySet;
@@ -17,6 +18,7 @@ use crate::each_once::keep_ascending;
 use crate::keeping::keep_entries;
 use crate::marks::Marks;
 use indexmap::IndexMap;
+use indexmap::map::Entry;
 use sip_key::Key;
 use sip_machine::Params;
 use std::alloc::{AllocError, Global};
@@ -51,17 +53,46 @@ impl<H: BuildHasher> Model for Tables<H> {
         × (length t.moved ≡ index_map_len t.sets) × AreMoved t.moved t.marks (values t.sets) };
 }
 
-/// Puts a new key and its set after the others. On an error nothing changes, and the key and its set are dropped.
-fn append<H: BuildHasher>(
+/// Returns the index of the key. A new key goes after the others, with the set that it starts with. On an error nothing changes, and
+/// the key is dropped.
+fn find_or_start<H: BuildHasher>(
     sets: &mut IndexMap<Key, AnySet, H>,
+    params: Params,
     key: Key,
-    set: AnySet,
-) -> Result<(), AllocError>
-    requires new { All (λ k. k ≢ key) (keys sets.old) }
-    ensures ok { OnOk result (sets.new.entries ≡ sets.old.entries ++ (key, set) ∷ []) }
+) -> Result<usize, AllocError>
+    ensures ok { IfOk result (λ index. FindsOrStarts params key index sets.old.entries sets.new.entries) }
     ensures err { OnErr result (sets.new.entries ≡ sets.old.entries) }
 {
-    sets.insert(key, set)?;
+    let alloc = *sets.allocator();
+    match sets.entry(key)? {
+        Entry::Occupied(entry) => Ok(entry.index()),
+        Entry::Vacant(entry) => {
+            let set = AnySet::start(alloc, params, entry.key())?;
+            let index = entry.index();
+            entry.insert(set);
+            Ok(index)
+        }
+    }
+}
+
+/// Makes room for one more index, which has no last moment on record and no mark. On an error nothing changes.
+fn push_index(agenda: &mut Agenda, marks: &mut Marks, moved: &mut Marks) -> Result<(), AllocError>
+    requires room { (length marks.old < most_keys) × (length moved.old < most_keys) }
+    ensures agenda { OnOk result (agenda.new ≡ agenda.old ++ None ∷ []) }
+    ensures marks { OnOk result (marks.new ≡ marks.old ++ false ∷ []) }
+    ensures moved { OnOk result (moved.new ≡ moved.old ++ false ∷ []) }
+    ensures err { OnErr result ((agenda.new ≡ agenda.old) × (marks.new ≡ marks.old) × (moved.new ≡ moved.old)) }
+{
+    agenda.push()?;
+    if let Err(refused) = marks.push() {
+        agenda.pop();
+        return Err(refused);
+    }
+    if let Err(refused) = moved.push() {
+        marks.pop();
+        agenda.pop();
+        return Err(refused);
+    }
     Ok(())
 }
 
@@ -179,35 +210,13 @@ impl<H: BuildHasher> Tables<H> {
         ensures given { IfOk result (IsGiven self.new) }
         ensures err { OnErr result (self.new ≡ self.old) }
     {
-        match self.sets.get_index_of(&key) {
-            Some(index) => Ok(index as u32 + 1),
-            None => self.add(key),
+        let count = self.sets.len();
+        let index = find_or_start(&mut self.sets, self.params, key)?;
+        if index < count {
+            return Ok(index as u32 + 1);
         }
-    }
-
-    /// Gives a new key the next number, and the set that it starts with. On an error nothing changes,
-    /// and the key is dropped.
-    fn add(&mut self, key: Key) -> Result<u32, AllocError>
-        requires room { length self.old.keys < most_keys }
-        requires new { All (λ k. k ≢ key) self.old.keys }
-        ensures ok { IfOk result (λ number. (number ≡ length self.old.keys + 1) × (self.new ≡ with_key self.old key)) }
-        ensures err { OnErr result (self.new ≡ self.old) }
-    {
-        let set = AnySet::start(*self.sets.allocator(), self.params, &key)?;
-        self.agenda.push()?;
-        if let Err(refused) = self.marks.push() {
-            self.agenda.pop();
-            return Err(refused);
-        }
-        if let Err(refused) = self.moved.push() {
-            self.marks.pop();
-            self.agenda.pop();
-            return Err(refused);
-        }
-        if let Err(refused) = append(&mut self.sets, key, set) {
-            self.moved.pop();
-            self.marks.pop();
-            self.agenda.pop();
+        if let Err(refused) = push_index(&mut self.agenda, &mut self.marks, &mut self.moved) {
+            self.sets.truncate(count);
             return Err(refused);
         }
         Ok(self.sets.len() as u32)

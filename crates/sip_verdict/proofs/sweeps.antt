@@ -4,3 +4,4 @@ pub mod NewestLemmas
 pub mod SweptBook
 pub mod SweptSets
 pub mod SweptTables
+pub mod MayNameLemmas

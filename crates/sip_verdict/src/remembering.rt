@@ -27,9 +27,9 @@ use std::alloc::Global;
 use std::hash::BuildHasher;
 
 /// Writes what is wrong in the log of the reader's bytes, or in a part of it, in the words of `survey` and `survey_part`, and forgets
-/// transactions as it goes, so that a long log takes little memory. From time to time it forgets those that are over, or in trouble, and
-/// whose last entry came at least `age` milliseconds before the newest one. A message that comes later begins a new transaction: for a client
-/// that ended, or was in trouble, the findings can be others then. A finding has the number of its transaction among those that are not
+/// transactions as it goes, so that a long log takes little memory. From time to time it forgets those that are over (in trouble, idle again or
+/// ended), and whose last entry came at least `age` milliseconds before the newest one. A message that comes later begins a new transaction: for
+/// a client that ended, or was in trouble, the findings can be others then. A finding has the number of its transaction among those that are not
 /// forgotten, and the last line counts those that are left.
 pub fn survey_forgetting<R: Source, W: Sink, H: BuildHasher + Drop>(
     alloc: Global,
@@ -112,7 +112,7 @@ fn write_on<R: Source, W: Sink, H: BuildHasher + Drop>(
     }
 }
 
-/// Forgets the transactions that came to their end long ago, where the horizon says that it is time to.
+/// Forgets the transactions that are over and whose last entry is old enough, where the horizon says that it is time to.
 fn forget_due<H: BuildHasher + Drop>(
     survey: &mut Survey<H>,
     horizon: &mut Horizon,

@@ -1,5 +1,5 @@
 //! What a judge holds of the entries that it has judged: the messages, and the transactions with their sets.
-ghost use Rattle.std.specs.Prelude.{◌≡◌, ◌≢◌, ◌≤◌, ◌<◌, ◌+◌, ◌++◌, ◌∷◌, [], ℕ, Bool, false, None, List, All, AllPairs, Contains, IfOk, IfNone, OnOk, length, string_bytes, ◌↔◌, IfSome, MatchOption};
+ghost use Rattle.std.specs.Prelude.{◌≡◌, ◌≢◌, ◌≤◌, ◌<◌, ◌+◌, ◌++◌, ◌∷◌, [], ℕ, Bool, false, None, List, All, AllPairs, Contains, IfOk, IfNone, IsTrue, OnOk, length, string_bytes, ◌↔◌, IfSome, MatchOption};
 ghost use Rattle.std.specs.Option.{ForSome, option_copied};
 ghost use Rattle.sip_standard.specs.Key.{KeyParts};
 ghost use Rattle.sip_standard.specs.Times.{last_moment};
@@ -22,7 +22,7 @@ ghost use Rattle.sip_verdict.specs.Surveys.{IsStillNamed};
 ghost use Rattle.sip_verdict.specs.inner.Forgetting.{AreQuietIfOver};
 ghost use Rattle.sip_verdict.specs.inner.Surveying.{TablesSurvey};
 ghost use Rattle.sip_verdict.specs.inner.Tracking.{IsJudged};
-ghost use Rattle.sip_verdict.specs.inner.TablesTracking.{key_keeping, transactions_of, TablesTrack, TablesTrackBefore, AreTold, LeavesOthers, OthersAre, NamesNot, DropsUnnamed, TouchesEach, HaveNumbers, hearers, MayPass, MayHear, AreOnRecord, AllAreOnRecord, MayTake};
+ghost use Rattle.sip_verdict.specs.inner.TablesTracking.{key_keeping, transactions_of, TablesTrack, TablesTrackBefore, AreTold, LeavesOthers, OthersAre, NamesNot, MayBeNamed, DropsUnnamed, TouchesEach, HaveNumbers, hearers, MayPass, MayHear, AreOnRecord, AllAreOnRecord, MayTake};
 
 use crate::concerned::Concerned;
 use crate::observing::{Observed, observe};
@@ -71,10 +71,11 @@ pub(crate) fn touch_each<H: BuildHasher>(
     })
 }
 
-/// Whether one of these transactions may name the message with this number.
+/// Whether one of these transactions may name the message with this number. Where all are concerned, it may be.
 fn may_name<H: BuildHasher>(tables: &Tables<H>, number: u32, concerned: Concerned<u32>) -> bool
     requires { All (IsGiven tables.now) (each concerned) }
-    ensures { result ≡ false → (is_all concerned ≡ false) × All (NamesNot tables.now number) (each concerned) }
+    ensures may { IsTrue result ↔ MayBeNamed tables.now number concerned }
+    ensures none { result ≡ false → (is_all concerned ≡ false) × All (NamesNot tables.now number) (each concerned) }
 {
     match concerned {
         Concerned::None => false,
@@ -239,12 +240,13 @@ impl<H: BuildHasher> Standing<H> {
         Ok(None)
     }
 
-    /// Drops the message with this number, if it is the newest one and none of these transactions names it. No other transaction names it.
+    /// Drops the message with this number, if it is the newest one and none of these transactions may name it. No other transaction names it.
     fn drop_unnamed(&mut self, number: u32, concerned: Concerned<u32>)
         requires given { All (IsGiven self.old.tables) (each concerned) }
         requires others { OthersAre (λ set. ¬ Contains (numbers_of set) number) concerned self.old.tables }
         ensures tables { self.new.tables ≡ self.old.tables }
         ensures book { DropsUnnamed self.old.tables.sets number self.old.book self.new.book }
+        ensures named { MayBeNamed self.old.tables number concerned → self.new.book ≡ self.old.book }
     {
         if !may_name(&self.tables, number, concerned) {
             self.book.forget_newest(number);

@@ -1,6 +1,6 @@
-//! `sipsurvey`: reads the log on its standard input or in a file and writes a line for each trouble as its entry passes, of each transaction
-//! only the first one, and a last line that counts them. With `--part K/N` before the file it judges only the transactions whose branch
-//! falls into part K of N. With `--forget MILLISECONDS` before both it forgets a transaction that is over or in trouble so many milliseconds
+//! `sipsurvey`: reads the log on its standard input or in a file. It writes a line for each malformed message and for the first trouble of each
+//! transaction, as the entry passes, and a last line that counts them. With `--part K/N` before the file it judges only the transactions
+//! whose branch falls into part K of N. With `--forget MILLISECONDS` before both it forgets a transaction that is over so many milliseconds
 //! after its last entry.
 //!
 //! It ends with 0 where nothing is found, 1 where a message is malformed or a transaction breaks, 2 where the log cannot be read to its

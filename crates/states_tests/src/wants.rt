@@ -19,7 +19,7 @@ pub(crate) fn is_at<T: PartialEq + Debug + Drop>(
     assert_eq!(rt; read, want, "row {row} at {moment}");
 }
 
-/// Asserts that what the row wants is so.
+/// Asserts that something holds, as the row wants it.
 pub(crate) fn holds(rt: &impl Abort, is_so: bool, row: &str) {
     assert!(rt; is_so, "{row}");
 }

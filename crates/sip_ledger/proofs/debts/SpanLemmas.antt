@@ -19,13 +19,13 @@ span-one d = record {
   between = All-cons (λ (x : Debt). (d.message ≤ x.message) × (x.message ≤ d.message)) d [] (omega arith, omega arith) (All-nil (λ (x : Debt). (d.message ≤ x.message) × (x.message ≤ d.message)));
 }
 
--- where a debt of a message is among debts, one of an equal message is among them and a further one
+-- where a debt of a message is among debts, a debt of an equal message is among these debts and one more
 more-any : (ds : List Debt) (d : Debt) (m n : ℕ) → list_any (λ (x : Debt). x.message == m) ds ≡ true → m ≡ n → list_any (λ (x : Debt). x.message == n) (ds ++ d ∷ []) ≡ true
 more-any ds d m n is same =
     subst (λ k. list_any (λ (x : Debt). x.message == k) (ds ++ d ∷ []) ≡ true) same
     (list_any-append (λ (x : Debt). x.message == m) ds (d ∷ []) ∙ or_left (list_any (λ (x : Debt). x.message == m) ds) (list_any (λ (x : Debt). x.message == m) (d ∷ [])) is)
 
--- where the last of debts is of a message, a debt of it is among them
+-- where the last debt is of a message, a debt of that message is among the debts
 last-any : (ds : List Debt) (d : Debt) (n : ℕ) → d.message ≡ n → list_any (λ (x : Debt). x.message == n) (ds ++ d ∷ []) ≡ true
 last-any ds d n same =
     subst (λ k. list_any (λ (x : Debt). x.message == k) (ds ++ d ∷ []) ≡ true) same

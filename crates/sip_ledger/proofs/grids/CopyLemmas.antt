@@ -51,12 +51,12 @@ copy-part width rows from count j words long low =
     ∙ part-take width count j (drop (from * width) words) low
     ∙ part-drop width from j words
 
--- the grid with the copies is one, and its rows owe what those of the old one do and what the copied ones do
+-- the grid with the copies is a grid, and its rows owe what the old rows owe, and then what the copied rows owe
 pub record IsCopied (t : Grid) (from count : ℕ) : Type 0 where
   pub ledger : IsGrid (with_copies t from count)
   pub rows : grid_rows (with_copies t from count) ≡ grid_rows t ++ from_to from (from + count) (grid_rows t)
 
--- a grid with copies of some of its rows after the others is one, and the copies owe what the rows do
+-- a grid with copies of some of its rows after the others is a grid, and the copies owe what these rows owe
 pub copied-rows : (t : Grid) (from count : ℕ) → IsGrid t → from + count ≤ t.rows → IsCopied t from count
 copied-rows t from count ledger le =
     let t' = with_copies t from count in

@@ -117,7 +117,7 @@ row-along entries o m o' m' owed must row = record {
   leftmost = λ i k e before set gap. row.leftmost i k e before (sym (owed k) ∙ set) (λ j above below. sym (owed j) ∙ gap j above below);
 }
 
--- where a row gains a debt at a place, one with the same bits does
+-- where a row gains a debt at a place, a row with the same bits gains it there
 pub gained-along : (entries : List Entry) (entry : Entry) (o o' : ℕ → Bool) (at : ℕ) → ((k : ℕ) → o' k ≡ o k) → IsGainedAt entries o entry at → IsGainedAt entries o' entry at
 gained-along entries entry o o' at same gained = record {
   within = gained.within;
@@ -126,7 +126,7 @@ gained-along entries entry o o' at same gained = record {
   apart = λ i e before gap. gained.apart i e before (λ j above below. sym (same j) ∙ gap j above below);
 }
 
--- with one row more the grid is one, and the rows owe what they did and then what the new one does
+-- with one row more the grid is a grid, and its rows owe what they owed, and then what the new row owes
 pub record IsPushed (t : Grid) (owed' must' : List ℕ) : Type 0 where
   pub ledger : IsGrid (grid_of t.entries t.width (t.rows + 1) (t.owed ++ owed') (t.must ++ must'))
   pub rows : grid_rows (grid_of t.entries t.width (t.rows + 1) (t.owed ++ owed') (t.must ++ must')) ≡ grid_rows t ++ row_debts t.entries owed' must' ∷ []

@@ -52,7 +52,7 @@ pub test-with_other : (w i j : ℕ) → i < 64 → j ≢ i → test (with_bit w 
 unfolding test
 test-with_other w i j low other = ap (λ n. n == 1) (bit_at_set_other w64 w i low j other)
 
--- where a bit of words is set, it is
+-- once a bit of words was set, it is set
 pub has-with_same : (words : List ℕ) (bit : ℕ) → bit / 64 < length words →
     has (set words (bit / 64) (with_bit (get_or words (bit / 64) 0) (bit % 64))) bit ≡ true
 has-with_same words bit within =
@@ -83,7 +83,7 @@ pub test-without_other : (w i j : ℕ) → i < 64 → j < 64 → j ≢ i → tes
 unfolding test
 test-without_other w i j low also other = ap (λ n. n == 1) (bit_at_clear_other w64 w i low j also other)
 
--- where a bit of words is cleared, it is
+-- once a bit of words was cleared, it is not set
 pub has-without_same : (words : List ℕ) (bit : ℕ) → bit / 64 < length words →
     has (set words (bit / 64) (without_bit (get_or words (bit / 64) 0) (bit % 64))) bit ≡ false
 has-without_same words bit within =

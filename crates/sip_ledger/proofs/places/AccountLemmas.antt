@@ -1,4 +1,4 @@
--- Accounts over gains and strikes that grow.
+-- Accounts stay accounts, and owe what they owed, while gains and strikes grow, are let go or are dropped.
 use Rattle.std.proofs.Common.{◌≡◌, ◌≢◌, ℕ, zero, suc, ◌+◌, ◌<◌, ◌≤◌, ◌==◌, ◌&&◌, ◌||◌, Bool, true, false, cond, not, List, [], ◌∷◌, ◌++◌, length, take, drop, get_or, set, map, filter, refl, sym, ap, ap₂, ◌∙◌, subst, inl, inr, arith}
 use Rattle.std.specs.Prelude.{All, nat_le, nat_lt}
 use Rattle.std.proofs.lemmas.Bool.{cases_eq, cases_lt, false_from_ne_true, true≢false}
@@ -22,7 +22,7 @@ use Rattle.sip_ledger.proofs.places.LeftLemmas.{entries-long, left-kept, listed-
 lt-no : (m n : ℕ) → n ≤ m → nat_lt m n ≡ false
 lt-no m n is = grind (arith, nat_tests)
 
--- strikes that were put after the others are no account's that was there
+-- an account keeps its strikes when others are put after them
 pub kept-strikes : (old new : List Strike) (a : Account) → take (length old) new ≡ old → a.last ≤ length old → strikes_of new a ≡ strikes_of old a
 kept-strikes old new a kept last = ap (drop a.first) (sym (take-take a.last (length old) new last) ∙ ap (take a.last) kept)
 
@@ -71,7 +71,7 @@ kept-all gains old new (a ∷ rows) kept each =
       ap₂ (λ d ds. d ∷ ds) (kept-debts gains old new a kept here.last) rest.1,
     )
 
--- one of the accounts changes, and the strikes may have grown
+-- where one of the accounts is replaced, and the strikes may have grown, all are accounts, and the others owe what they owed
 pub changed : (gains : Gains) (old new : List Strike) (rows : List Account) (row : ℕ) (a : Account) → take (length old) new ≡ old → AreAccounts gains old rows →
     IsAccount gains new a →
     AreAccounts gains new (set rows row a) × (accounts_debts gains new (set rows row a) ≡ set (accounts_debts gains old rows) row (account_debts gains new a))
@@ -82,12 +82,12 @@ changed gains old new rows row a kept are is =
       map-set (account_debts gains new) rows row a ∙ ap (λ l. set l row (account_debts gains new a)) all.1,
     )
 
--- accounts of which as much may be sent
+-- two accounts with the same `soft` must send the same gains
 pub soft-must : (gains : Gains) (a b : Account) (k : ℕ) → b.soft ≡ a.soft → must_at gains b k ≡ must_at gains a k
 unfolding must_at
 soft-must gains a b k soft = ap (λ s. holds gains.musts 0 k && nat_le s k) soft
 
--- what was gained below soft may be sent
+-- a gain below `soft` need not be sent
 le-no : (m n : ℕ) → n < m → nat_le m n ≡ false
 le-no m n is = grind (arith, nat_tests)
 
@@ -123,7 +123,7 @@ owed-within gains strikes a k is = elim (cases_lt k a.end) [
   | inr past ↦ absurd (true≢false (sym is ∙ past-end gains strikes a k past))
 ]
 
--- an account that owes something owes what is kept, from its start on
+-- where an account owes something, each gain from its start up to its end is kept
 pub kept-from : (gains : Gains) (strikes : List Strike) (a : Account) (k : ℕ) → AreGains gains → IsAccount gains strikes a → a.start < a.end → a.start ≤ k → k < a.end → IsKept gains k
 kept-from gains strikes a k are is some low high =
     let first = left-kept gains a.start are (owed-left gains strikes a a.start (is.begins some)) in
@@ -132,7 +132,7 @@ kept-from gains strikes a k are is some low high =
     let count = entries-long gains are.long in
     record { from = omega (arith, from, low); within = omega (arith, high, end, count) }
 
--- and so is all that was gained since
+-- where an account owes something, each gain from its start on is kept
 pub kept-passed : (gains : Gains) (strikes : List Strike) (a : Account) (k : ℕ) → AreGains gains → IsAccount gains strikes a → a.start < a.end → a.start ≤ k → k < length (entries_of gains) → IsKept gains k
 kept-passed gains strikes a k are is some low high =
     let first = left-kept gains a.start are (owed-left gains strikes a a.start (is.begins some)) in
@@ -140,7 +140,7 @@ kept-passed gains strikes a k are is some low high =
     let count = entries-long gains are.long in
     record { from = omega (arith, from, low); within = omega (arith, high, count) }
 
--- the same entry, and as much of it left: as much gone
+-- where an entry is the same among old and new gains, and is left in both or in neither, it is gone in both or in neither
 gone-over : (old new : Gains) (own : List Strike) (k : ℕ) → entry_at (entries_of new) k ≡ entry_at (entries_of old) k → is_left new k ≡ is_left old k → is_gone new own k ≡ is_gone old own k
 unfolding is_gone
 gone-over old new own k entry left = ap₂ (λ (l : Bool) (e : Entry). not l || is_struck own e.message k) left entry
@@ -158,7 +158,7 @@ not-left : (gains : Gains) (k : ℕ) → ((m : ℕ) → holds gains.messages m k
 unfolding is_left
 not-left gains k none = none (entry_at (entries_of gains) k).message
 
--- an account owes over other gains what it owed
+-- an account owes over the new gains what it owes over the old ones
 pub record OwesAlike (old new : Gains) (strikes : List Strike) (a : Account) : Type 0 where
   pub owes : (k : ℕ) → owes_at new strikes a k ≡ owes_at old strikes a k
   pub same : (k : ℕ) → owes_at old strikes a k ≡ true → (entry_at (entries_of new) k ≡ entry_at (entries_of old) k) × (holds new.musts 0 k ≡ holds old.musts 0 k)
@@ -205,12 +205,12 @@ over-all old new strikes (a ∷ rows) long alike each =
       ap₂ (λ d ds. d ∷ ds) (over-debts old new strikes a long here) rest.1,
     )
 
--- all of them do, as one does
+-- where each account owes alike over both gains, all accounts of a list do
 pub all-alike : (old new : Gains) (strikes : List Strike) (rows : List Account) → ((a : Account) → OwesAlike old new strikes a) → All (OwesAlike old new strikes) rows
 all-alike old new strikes [] each = All-nil (OwesAlike old new strikes)
 all-alike old new strikes (a ∷ rows) each = All-cons (OwesAlike old new strikes) a rows (each a) (all-alike old new strikes rows each)
 
--- over the same gains
+-- accounts are kept over gains that are the same
 pub same-keeps : (old new : Gains) → AreSameGains old new → KeepsAccounts old new
 same-keeps old new same = record {
   each = λ strikes accounts are.
@@ -222,7 +222,7 @@ same-keeps old new same = record {
       })) are;
 }
 
--- where one that the account does not owe is let go
+-- an account owes alike where a gain is let go that it does not owe
 pub let_go-alike : (old new : Gains) (strikes : List Strike) (a : Account) (place : ℕ) → IsLetGo place old new → owes_at old strikes a place ≡ false → OwesAlike old new strikes a
 let_go-alike old new strikes a place gone unowed =
     let entry = λ (k : ℕ). ap (λ l. entry_at l k) gone.entries in
@@ -239,7 +239,7 @@ let_go-alike old new strikes a place gone unowed =
       ];
     }
 
--- where those are dropped of which nothing is left
+-- an account owes alike where gains are dropped of which nothing is left
 pub dropped-alike : (old new : Gains) (strikes : List Strike) (a : Account) (place : ℕ) → IsDropped place old new → ((m k : ℕ) → k < place → holds old.messages m k ≡ false) →
     OwesAlike old new strikes a
 dropped-alike old new strikes a place dropped none =
@@ -257,7 +257,7 @@ dropped-alike old new strikes a place dropped none =
       ];
     }
 
--- one gain more: no account that was there has it
+-- an account that ends before a new gain does not owe the new gain, and owes what it owed
 pub grown-owes : (old new : Gains) (debt : Debt) (strikes : List Strike) (a : Account) (k : ℕ) → IsGain debt old new → a.end ≤ length (entries_of old) →
     owes_at new strikes a k ≡ owes_at old strikes a k
 grown-owes old new debt strikes a k gain end = elim (cases_lt k a.end) [
@@ -312,7 +312,7 @@ grown-all old new debt strikes (a ∷ rows) gain each =
       ap₂ (λ d ds. d ∷ ds) (grown-debts_of old new debt strikes a gain here.end) rest.1,
     )
 
--- what one of the accounts owes
+-- the debts in a row of the list are the debts of the account of that row
 pub row-debts : (gains : Gains) (strikes : List Strike) (rows : List Account) (row : ℕ) (a : Account) → row < length rows → a ≡ get_or rows row a →
     get_or (accounts_debts gains strikes rows) row [] ≡ account_debts gains strikes a
 unfolding accounts_debts
@@ -327,7 +327,7 @@ pub debts-length : (gains : Gains) (strikes : List Strike) (rows : List Account)
 unfolding accounts_debts
 debts-length gains strikes rows = length-map rows (account_debts gains strikes)
 
--- an account that owes nothing
+-- an account that ends where it starts has no debts
 pub empty-debts : (gains : Gains) (strikes : List Strike) (a : Account) → a.end ≤ a.start → account_debts gains strikes a ≡ []
 unfolding account_debts owes_at
 empty-debts gains strikes a none =
@@ -355,7 +355,7 @@ empty-account gains strikes =
       print = sym (ap debts_print (empty-debts gains strikes a (omega arith)));
     }
 
--- one account more, and some fewer
+-- all are accounts when one account is put after the others, or when some are left out
 pub pushed : (gains : Gains) (strikes : List Strike) (rows : List Account) (a : Account) → AreAccounts gains strikes rows → IsAccount gains strikes a →
     AreAccounts gains strikes (rows ++ a ∷ []) × (accounts_debts gains strikes (rows ++ a ∷ []) ≡ accounts_debts gains strikes rows ++ account_debts gains strikes a ∷ [])
 unfolding accounts_debts
@@ -380,7 +380,7 @@ without-first_rows gains strikes rows n are = (
   sym (drop-map (account_debts gains strikes) n rows),
 )
 
--- accounts over gains in which they owe what they owed
+-- accounts that are kept over new gains are accounts there, and owe what they owed
 pub over : (old new : Gains) (strikes : List Strike) (rows : List Account) → KeepsAccounts old new → AreGains new → AreAccounts old strikes rows →
     AreAccounts new strikes rows × (accounts_debts new strikes rows ≡ accounts_debts old strikes rows)
 over old new strikes rows keeps gained are = let all = keeps.each strikes rows are.each in (record { gained = gained; each = all.0 }, all.1)

@@ -1,4 +1,4 @@
--- An account of which what is past goes, place by place.
+-- An account drops what is past, place by place.
 use Rattle.std.proofs.Common.{◌≡◌, ◌≢◌, ℕ, ◌+◌, ◌<◌, ◌≤◌, ◌==◌, ◌&&◌, ◌||◌, Bool, true, false, not, List, [], ◌∷◌, length, take, get_or, filter, refl, sym, ap, ap₂, ◌∙◌, subst, inl, inr, arith}
 use Rattle.std.specs.Prelude.{nat_le, nat_lt}
 use Rattle.std.proofs.Math.Bool.{and-false, or-false}
@@ -17,7 +17,7 @@ use Rattle.sip_ledger.proofs.debts.ListedLemmas.{listed-counting, listed-same, n
 use Rattle.sip_ledger.proofs.places.AccountLemmas.{past-end, soft-must}
 use Rattle.sip_ledger.proofs.places.WithoutLemmas.{before-start, le-no, le-yes}
 
--- what counts still at t of what is owed at a place
+-- whether what is owed at a place counts still at t: it must be sent, or its deadline is not past
 abbrev counting : ℕ → List Entry → (ℕ → Bool) → (ℕ → Bool) → ℕ → Bool
 counting t entries m o k = o k && (m k || nat_le t (entry_at entries k).deadline)
 
@@ -38,7 +38,7 @@ expired-start t gains strikes m a = record {
   later = λ k late. refl;
 }
 
--- what was gained at the place stays, since it counts still or is not owed
+-- where the gain at the place counts still at t, or is not owed, the account has expired one place further
 stays : (t : ℕ) (entries : List Entry) (m o o' : ℕ → Bool) (place : ℕ) → IsExpiredTo t entries m o o' place → o' place ≡ counting t entries m o place →
     IsExpiredTo t entries m o o' (place + 1)
 stays t entries m o o' place was here = record {
@@ -69,7 +69,7 @@ stays-must t entries m o o' place was must =
     stays t entries m o o' place was
     (counted t entries m o o' place (was.later place (omega arith)) (ap (λ b. b || nat_le t (entry_at entries place).deadline) must))
 
--- what was gained at the place goes
+-- where the gain at the place is past, may be sent, and is taken out, the account has expired one place further
 pub goes : (t : ℕ) (entries : List Entry) (m o o' o'' : ℕ → Bool) (place : ℕ) → IsExpiredTo t entries m o o' place → (entry_at entries place).deadline < t → m place ≡ false →
     IsWithout place o' o'' → IsExpiredTo t entries m o o'' (place + 1)
 goes t entries m o o' o'' place was late may without = record {
@@ -84,7 +84,7 @@ goes t entries m o o' o'' place was late may without = record {
   later = λ k past. let other : k ≢ place = omega (arith, past) in without.others k other ∙ was.later k (omega (arith, past));
 }
 
--- all that is past has gone
+-- an account that owes at each place just what counts still at t has the debts that count at t
 finished : (gains : Gains) (old new : List Strike) (a b : Account) (t : ℕ) → b.soft ≡ a.soft →
     ((k : ℕ) → k < length (entries_of gains) → owes_at gains new b k ≡ counting t (entries_of gains) (must_at gains a) (owes_at gains old a) k) →
     account_debts gains new b ≡ filter (counts_at t) (account_debts gains old a)
@@ -108,7 +108,7 @@ expired-end gains old new a b t place soft end is =
           unowed t (entries_of gains) (must_at gains a) (owes_at gains old a) (owes_at gains new b) k (is.later k late) (sym (is.later k late) ∙ none)
     ])
 
--- where deadlines rise, and this one is not past, no later one is
+-- where deadlines rise, and that of this place is not past, the account has expired whole
 pub expired-rising : (gains : Gains) (old new : List Strike) (a b : Account) (t place : ℕ) → b.soft ≡ a.soft → AreGains gains → gains.rises ≡ true → IsKept gains place →
     t ≤ (entry_at (entries_of gains) place).deadline → IsExpiredTo t (entries_of gains) (must_at gains a) (owes_at gains old a) (owes_at gains new b) place →
     account_debts gains new b ≡ filter (counts_at t) (account_debts gains old a)
@@ -127,7 +127,7 @@ expired-rising gains old new a b t place soft gained rises kept early is =
     or-true true = refl
     or-true false = refl
 
--- an account of which what is past has gone up to a place
+-- the account b is a, without what is past at t before the place
 pub record IsExpiring (gains : Gains) (old new : List Strike) (a b : Account) (t place : ℕ) : Type 0 where
   pub kept : take (length old) new ≡ old
   pub low : a.start ≤ place

@@ -21,11 +21,11 @@ use Rattle.sip_ledger.proofs.grids.RowLemmas.{listed-any, removed}
 use Rattle.sip_ledger.proofs.debts.PayLemmas.{paid-is, unpaid-is}
 use Rattle.sip_ledger.proofs.places.AccountLemmas.{owed-within, soft-must}
 
--- a place of another message
+-- a send of the message does not pay a gain of another message
 pub unnamed-unpaid : (entries : List Entry) (message t k : ℕ) → (entry_at entries k).message ≢ message → pays_at entries message t k ≡ false
 unnamed-unpaid entries message t k other = ap (λ b. b && nat_le t (entry_at entries k).deadline) (ne_eqb (entry_at entries k).message message other)
 
--- a place that is past
+-- a send does not pay a gain that is past
 pub late-unpaid : (entries : List Entry) (message t k : ℕ) → (entry_at entries k).deadline < t → pays_at entries message t k ≡ false
 late-unpaid entries message t k late = ap (λ b. (entry_at entries k).message == message && b) (le-no t (entry_at entries k).deadline late) ∙ and-false ((entry_at entries k).message == message)
   where
@@ -50,11 +50,11 @@ struck-unowed gains strikes a k struck =
     no-more true false = refl
     no-more false y = refl
 
--- so far no place that is owed is paid
+-- no gain before the place `to` is owed and is paid by a send of the message at t
 abbrev pub NonePays : List Entry → (ℕ → Bool) → ℕ → ℕ → ℕ → Type 0
 NonePays entries owes message t to = (k : ℕ) → k < to → owes k ≡ true → pays_at entries message t k ≡ false
 
--- up to the next place of the message, and on where that is struck
+-- NonePays goes on from one place to another where the message is left at no place between, or is struck at all of them
 pub none-pays_to : (gains : Gains) (strikes : List Strike) (a : Account) (message t from at : ℕ) → NonePays (entries_of gains) (owes_at gains strikes a) message t from →
     ((k : ℕ) → from ≤ k → k < at → holds gains.messages message k ≡ false) → NonePays (entries_of gains) (owes_at gains strikes a) message t at
 none-pays_to gains strikes a message t from at before others k early owed = elim (cases_lt k from) [
@@ -82,7 +82,7 @@ none-pays_late entries owes message t at before late k early owed = elim (cases_
   | inr other ↦ before k (omega (arith, early, other)) owed
 ]
 
--- the place that is found is the first that is owed and pays
+-- what is not gone, at a place of the account, is owed
 pub owed-here : (gains : Gains) (strikes : List Strike) (a : Account) (at : ℕ) → a.start ≤ at → at < a.end →
     is_gone gains (strikes_of strikes a) at ≡ false → owes_at gains strikes a at ≡ true
 unfolding owes_at
@@ -104,7 +104,7 @@ first-payable gains strikes a message t at before low high is held free early = 
   before = before;
 }
 
--- what is left of the debts
+-- where the first debt that a send pays is taken out of an account, the account owes the debts that the payment leaves
 pub paid-account : (gains : Gains) (old new : List Strike) (a b : Account) (message t place : ℕ) → IsAccount gains old a →
     IsFirstPayable (entries_of gains) (owes_at gains old a) message t place →
     IsWithout place (owes_at gains old a) (owes_at gains new b) → b.soft ≡ a.soft →

@@ -1,4 +1,4 @@
--- What is kept beside each gain, so that the index is not asked.
+-- What is known beside each gain by its flags, so that the index is not asked.
 use Rattle.std.proofs.Common.{◌≡◌, ◌≢◌, ℕ, ◌+◌, ◌-◌, ◌<◌, ◌≤◌, true, false, List, [], ◌∷◌, ◌++◌, length, drop, set, get_or, refl, sym, ap, ◌∙◌, subst, inl, inr, arith}
 use Rattle.std.proofs.lemmas.Bool.{cases_eq}
 use Rattle.std.proofs.lemmas.List.{get_or_default, get_or-drop, get_or-set_other, get_or-set_same, get_or_append_left, get_or_push, length-append, length-drop, length-set}
@@ -38,7 +38,7 @@ flags-same old new are entries flags end same =
       must = λ k is. ap (λ (f : Flags). f.must) (at k) ∙ are.must k (kept k is) ∙ sym (same.musts k);
     }
 
--- one gain more: the last flags are its own
+-- where a gain is put after the others, with flags of its own, the flags are right still
 pub flags-more : (old new : Gains) (debt : Debt) → AreFlags old → length old.entries.items ≤ old.end → length (entries_of old) ≡ old.end →
     new.entries.items ≡ old.entries.items ++ (record { message = debt.message; deadline = debt.deadline }) ∷ [] →
     new.flags.items ≡ old.flags.items ++ (record { must = debt.must; left = true }) ∷ [] → new.end ≡ old.end + 1 → IsGain debt old new → AreFlags new
@@ -84,7 +84,7 @@ flags-more old new debt are long count entries flags end gain =
       ];
     }
 
--- a gain is let go: its flags are blank
+-- where a gain is let go, and its flags are blank then, the flags are right still
 pub flags-let_go : (old new : Gains) (place : ℕ) → AreFlags old → length old.entries.items ≤ old.end → IsKept old place → new.entries.items ≡ old.entries.items →
     new.flags.items ≡ set old.flags.items (place - (old.end - length old.entries.items)) no_flags → holds new.musts 0 place ≡ false → IsLetGo place old new → AreFlags new
 unfolding is_left
@@ -123,7 +123,7 @@ flags-let_go old new place are long kept entries flags must gone =
       ];
     }
 
--- the first ones are dropped, with their flags
+-- where the first gains are dropped, with their flags, the flags are right still
 pub flags-dropped : (old new : Gains) (place count : ℕ) → AreFlags old → length old.entries.items ≤ old.end → count + (old.end - length old.entries.items) ≡ place → place ≤ old.end →
     new.entries.items ≡ drop count old.entries.items → new.flags.items ≡ drop count old.flags.items → new.end ≡ old.end → IsDropped place old new → AreFlags new
 flags-dropped old new place count are long here within entries flags end dropped =
@@ -148,7 +148,7 @@ flags-dropped old new place count are long here within entries flags end dropped
       must = λ k is. ap (λ (f : Flags). f.must) (at k is) ∙ are.must k (was k is) ∙ sym (ap (λ l. holds l 0 k) dropped.musts);
     }
 
--- the flags at a place stand at its index
+-- the flags at the index of a kept gain are those of its place
 pub flags-index : (gains : Gains) (k i : ℕ) (f : Flags) → AreFlags gains → length gains.entries.items ≤ gains.end → IsKept gains k → i + (gains.end - length gains.entries.items) ≡ k →
     f ≡ get_or gains.flags.items i f → f ≡ flags_at gains k
 flags-index gains k i f are long kept here is =

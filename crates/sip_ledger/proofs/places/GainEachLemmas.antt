@@ -1,4 +1,4 @@
--- Many rows that gain, and many of which nothing is past.
+-- Many rows gain a debt, and rows of which nothing is past lose nothing.
 use Rattle.std.proofs.Common.{◌≡◌, ◌<◌, ◌≤◌, ℕ, ◌+◌, Bool, true, false, List, [], ◌∷◌, ◌++◌, length, drop, take, get_or, set, map, filter, refl, sym, ap, ◌∙◌, subst, arith}
 use Rattle.std.specs.Prelude.{All, ◌||◌, cond, nat_le}
 use Rattle.std.proofs.lemmas.Bool.Decides.{nat_tests}
@@ -18,11 +18,11 @@ use Rattle.sip_ledger.proofs.lists.EachLemmas.{changing, changing-front, changin
 use Rattle.sip_ledger.proofs.places.LeftLemmas.{left-kept, owed-left}
 use Rattle.sip_ledger.proofs.places.SeenLemmas.{account-at, changed-to, over-to, row-inside, unchanged}
 
--- a debt more
+-- what is owed, with one debt more
 abbrev pub with_debt : Debt → List Debt → List Debt
 with_debt debt owes = owes ++ debt ∷ []
 
--- the rows from one up to another have gained
+-- the rows from `from` up to k have gained the debt, and the others owe what they owed
 pub record HaveGained (debt : Debt) (from k : ℕ) (old : List (List Debt)) (gains : Gains) (strikes : List Strike) (rows : List Account) : Type 0 where
   pub accounts : AreAccounts gains strikes rows
   pub debts : accounts_debts gains strikes rows ≡ changing (with_debt debt) from k old
@@ -41,7 +41,7 @@ pub gained-at : (debt : Debt) (from k row : ℕ) (old : List (List Debt)) (gains
 gained-at debt from k row old gains strikes rows a are low within is =
     (account-at gains strikes rows (changing (with_debt debt) from k old) row a are.accounts are.debts (omega (arith, within, changing-length (with_debt debt) from k old low)) is).0
 
--- over more gains, and over more strikes
+-- HaveGained stays true over more gains, and over more strikes
 pub gained-over : (debt : Debt) (from k : ℕ) (old : List (List Debt)) (gains new : Gains) (strikes : List Strike) (rows : List Account) → KeepsAccounts gains new → AreGains new →
     HaveGained debt from k old gains strikes rows → HaveGained debt from k old new strikes rows
 gained-over debt from k old gains new strikes rows keeps gained are =
@@ -54,7 +54,7 @@ gained-grown debt from k old gains one new rows kept are =
     let all = unchanged gains one new rows (changing (with_debt debt) from k old) kept are.accounts are.debts in
     record { accounts = all.0; debts = all.1 }
 
--- one row more
+-- HaveGained stays true with one row more that gains the debt
 pub gained-more : (debt : Debt) (from k : ℕ) (old : List (List Debt)) (gains : Gains) (one new : List Strike) (rows : List Account) (a b : Account) → take (length one) new ≡ one →
     HaveGained debt from k old gains one rows → from ≤ k → k < length old → a ≡ get_or rows k a → IsAccount gains new b → account_debts gains new b ≡ with_debt debt (account_debts gains one a) →
     HaveGained debt from (k + 1) old gains new (set rows k b)
@@ -68,7 +68,7 @@ pub gained-front : (debt : Debt) (from k : ℕ) (old : List (List Debt)) (gains 
     take from (accounts_debts gains strikes rows) ≡ take from old
 gained-front debt from k old gains strikes rows are low = ap (take from) are.debts ∙ changing-front (with_debt debt) from k old low
 
--- where no deadline is past, nothing goes
+-- where no debt is past, none goes
 kept-each : (t : ℕ) (xs : List Debt) → All (λ d. counts_at t d ≡ true) xs → filter (counts_at t) xs ≡ xs
 kept-each t [] all = refl
 kept-each t (x ∷ xs) all =

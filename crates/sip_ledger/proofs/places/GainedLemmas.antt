@@ -1,4 +1,4 @@
--- An account with one more debt.
+-- An account gains one debt.
 use Rattle.std.proofs.Common.{◌≡◌, ◌≢◌, ℕ, zero, suc, ◌+◌, ◌<◌, ◌≤◌, ◌%◌, ◌^◌, ◌==◌, ◌&&◌, ◌||◌, Bool, true, false, not, List, [], ◌∷◌, ◌++◌, length, take, drop, get_or, refl, sym, ap, ap₂, ◌∙◌, subst, inl, inr, arith}
 use Rattle.std.specs.Prelude.{All, nat_le, nat_lt}
 use Rattle.std.specs.List.{sum_by}
@@ -21,14 +21,14 @@ use Rattle.sip_ledger.proofs.places.LeftLemmas.{gone-left, gone-same, gone-struc
 use Rattle.sip_ledger.proofs.places.AccountLemmas.{grown-all, owed-within, past-end}
 use Rattle.sip_ledger.proofs.places.WithoutLemmas.{before-start, le-no, le-yes, lt-yes, lt-no}
 
--- the print of debts with one more
+-- the print of debts with one debt more is their print and the worth of that debt
 pub print-more : (debts : List Debt) (debt : Debt) → debts_print (debts ++ debt ∷ []) ≡ (debts_print debts + worth_of debt.message debt.deadline) % 2 ^ 64
 unfolding debts_print
 print-more debts debt =
     ap (λ n. n % 2 ^ 64) (sum_by_push (λ debt. worth_of debt.message debt.deadline) debts debt)
     ∙ sym (mod-add-mod (sum_by (λ debt. worth_of debt.message debt.deadline) debts) (2 ^ 64) (worth_of debt.message debt.deadline))
 
--- the debts of an account that owes what was gained at one place more, after all that it owes
+-- an account that owes what was gained at one place more, after all that it owes, has that debt more, and is an account
 pub gained-account : (gains : Gains) (old new : List Strike) (a b : Account) (debt : Debt) (place : ℕ) → IsAccount gains old a → IsNextGain gains old a debt place →
     owes_at gains new b place ≡ true → ((k : ℕ) → k ≢ place → owes_at gains new b k ≡ owes_at gains old a k) →
     b.soft ≡ a.soft → b.start ≤ place → b.end ≡ place + 1 → b.first ≤ b.last → b.last ≤ length new →
@@ -69,7 +69,7 @@ gained-account gains old new a b debt place is next here others soft low end fir
         ap₂ (λ (m t : ℕ). let x : Debt = record { message = m; deadline = t; must = must } in x) message deadline
         ∙ ap (λ (b : Bool). let x : Debt = record { message = d.message; deadline = d.deadline; must = b } in x) due
 
--- an account that owes nothing owes what was gained at one place
+-- an account that owes nothing, and gains at a place, owes that gain alone
 pub first-gain : (gains : Gains) (old new : List Strike) (a b : Account) (debt : Debt) (place : ℕ) → IsAccount gains old a → IsNextGain gains old a debt place → a.start ≡ a.end →
     b ≡ record { start = place; end = place + 1; soft = a.soft; first = 0; last = 0; print = b.print } → b.print ≡ (a.print + worth_of debt.message debt.deadline) % 2 ^ 64 →
     IsAccount gains new b × (account_debts gains new b ≡ account_debts gains old a ++ debt ∷ [])
@@ -113,7 +113,7 @@ no-more true true = refl
 no-more true false = refl
 no-more false y = refl
 
--- the other places of an account that passed what was gained before the place
+-- at other places an account that gains at a place owes what it owed, where the gains between its end and the place are struck
 passed-others : (gains : Gains) (old new : List Strike) (a p b : Account) (place k : ℕ) → IsStruck gains a.end place old new a p → a.end ≤ length (entries_of gains) → a.end ≤ place →
     place < length (entries_of gains) → b.start ≡ a.start → b.end ≡ place + 1 → strikes_of new b ≡ strikes_of new p → k ≢ place → owes_at gains new b k ≡ owes_at gains old a k
 unfolding owes_at
@@ -143,7 +143,7 @@ passed-others gains old new a p b place k passed within low inside start end own
       ]
     ]
 
--- an account that passed what was gained before the place, and owes what was gained there
+-- an account that owes something gains at a place, where the gains between its end and the place are struck
 pub more-gain : (gains : Gains) (old new : List Strike) (a p b : Account) (debt : Debt) (place : ℕ) → IsAccount gains old a → IsNextGain gains old a debt place → a.start ≢ a.end →
     IsStruck gains a.end place old new a p → b ≡ record p { end = place + 1; print = b.print } → b.print ≡ (a.print + worth_of debt.message debt.deadline) % 2 ^ 64 →
     IsAccount gains new b × (account_debts gains new b ≡ account_debts gains old a ++ debt ∷ [])
@@ -181,7 +181,7 @@ more-gain gains old new a p b debt place is next some passed same print =
     and-no true = refl
     and-no false = refl
 
--- what was gained stands after the others: there the account can gain it
+-- an account can gain what was gained last, after all other gains
 pub new-gain : (old new : Gains) (strikes : List Strike) (a : Account) (debt : Debt) → IsGain debt old new → IsAccount old strikes a → IsNextGain new strikes a debt (length (entries_of old))
 new-gain old new strikes a debt gain is =
     let entries = (entries_of old) in

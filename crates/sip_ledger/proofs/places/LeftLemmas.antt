@@ -1,4 +1,4 @@
--- What was gained, and what is left of it.
+-- Which gains are left, and what changes of that when gains come, are let go or are dropped.
 use Rattle.std.proofs.Common.{◌≡◌, ◌≢◌, ℕ, zero, suc, ◌+◌, ◌-◌, ◌^◌, ◌<◌, ◌≤◌, ◌==◌, ◌&&◌, ◌||◌, Bool, true, false, cond, not, List, [], ◌∷◌, ◌++◌, length, drop, get_or, refl, sym, ap, ap₂, ◌∙◌, subst, inl, inr, arith, lit<}
 use Rattle.std.specs.Prelude.{nat_le, nat_lt, replicate}
 use Rattle.std.proofs.lemmas.Bool.{cases_eq, cases_lt, eq-eqb, false_from_ne_true, ne_eqb, true≢false}
@@ -24,7 +24,7 @@ entries-long gains long =
     let blanks = length-replicate (gains.end - length gains.entries.items) blank in
     omega (arith, all, blanks, long)
 
--- one that is kept stands after the blanks
+-- a gain that is kept stands after the blanks, at the index of its place
 pub entry-kept : (gains : Gains) (k : ℕ) → length gains.entries.items ≤ gains.end → IsKept gains k →
     entry_at (entries_of gains) k ≡ get_or gains.entries.items (k - (gains.end - length gains.entries.items)) blank
 unfolding entries_of
@@ -41,7 +41,7 @@ entry-index gains k i e long kept here is =
     let at : i ≡ k - (gains.end - length gains.entries.items) = omega (arith, here) in
     is ∙ get_or_default gains.entries.items i e blank (omega (arith, here, within, from, long)) ∙ ap (λ n. get_or gains.entries.items n blank) at ∙ sym (entry-kept gains k long kept)
 
--- what is left is kept
+-- a gain that is left is kept, and stands under its message
 pub left-place : (gains : Gains) (k : ℕ) → AreGains gains → is_left gains k ≡ true → IsPlaceOf gains (entry_at (entries_of gains) k).message k
 unfolding is_left
 left-place gains k are left = are.messages (entry_at (entries_of gains) k).message k left
@@ -49,12 +49,12 @@ left-place gains k are left = are.messages (entry_at (entries_of gains) k).messa
 pub left-kept : (gains : Gains) (k : ℕ) → AreGains gains → is_left gains k ≡ true → IsKept gains k
 left-kept gains k are left = (left-place gains k are left).kept
 
--- what stands under a message is left, and what does not is not
+-- a gain stands under its message exactly if it is left
 pub held-left : (gains : Gains) (m k : ℕ) → (entry_at (entries_of gains) k).message ≡ m → holds gains.messages m k ≡ is_left gains k
 unfolding is_left
 held-left gains m k is = sym (ap (λ n. holds gains.messages n k) is)
 
--- nothing stands where nothing was gained, or where what was gained is not kept
+-- under no message stands a place at which nothing was gained, or whose gain is not kept
 pub not-noted : (gains : Gains) (m k : ℕ) → AreGains gains → gains.end ≤ k → holds gains.messages m k ≡ false
 not-noted gains m k are past = false_from_ne_true (holds gains.messages m k) (λ is.
     let within = (are.messages m k is).kept.within in
@@ -70,11 +70,11 @@ not-must gains k are past = false_from_ne_true (holds gains.musts 0 k) (λ is.
     let within = are.musts k is in
     absurd (omega (arith, within, past)))
 
--- a gain of another message does not stand under this one
+-- under a message stands no place of a gain of another message
 pub not-other : (gains : Gains) (m k : ℕ) → AreGains gains → (entry_at (entries_of gains) k).message ≢ m → holds gains.messages m k ≡ false
 not-other gains m k are other = false_from_ne_true (holds gains.messages m k) (λ is. absurd (other (are.messages m k is).message))
 
--- one gain more of another message
+-- where the message is left at none of some places, and the next gain is of another message, it is not left there either
 pub others-more : (gains : Gains) (m from at k : ℕ) → AreGains gains → ((j : ℕ) → from ≤ j → j < at → holds gains.messages m j ≡ false) → (entry_at (entries_of gains) at).message ≢ m →
     from ≤ k → k < at + 1 → holds gains.messages m k ≡ false
 others-more gains m from at k are none other low high = elim (cases_lt k at) [
@@ -84,7 +84,7 @@ others-more gains m from at k are none other low high = elim (cases_lt k at) [
       subst (λ n. holds gains.messages m n ≡ false) here (not-other gains m at are other)
 ]
 
--- nothing was gained
+-- empty lists are right gains
 pub none-gained : (gains : Gains) → gains.entries.items ≡ [] → gains.flags.items ≡ [] → gains.end ≡ 0 → gains.messages ≡ [] → gains.musts ≡ [] → AreGains gains
 unfolding holds
 none-gained gains entries flags end messages musts = record {
@@ -114,7 +114,7 @@ rising-kept gains i k are rises kept order within =
     let other = ap (λ (e : Entry). e.deadline) (entry-kept gains k long kept_k) in
     omega (arith, above, one, other)
 
--- what is not left is gone, and what is left is gone where it is struck
+-- a gain that is not left is gone, and one that is left is gone exactly if it is struck
 pub gone-unleft : (gains : Gains) (own : List Strike) (k : ℕ) → is_left gains k ≡ false → is_gone gains own k ≡ true
 unfolding is_gone
 gone-unleft gains own k none = ap (λ b. not b || is_struck own (entry_at (entries_of gains) k).message k) none
@@ -123,7 +123,7 @@ pub gone-left : (gains : Gains) (own : List Strike) (k : ℕ) → is_left gains 
 unfolding is_gone
 gone-left gains own k left = ap (λ b. not b || is_struck own (entry_at (entries_of gains) k).message k) left
 
--- strikes that strike the same of what is left
+-- where two lists of strikes strike the same of what is left, the same is gone by both
 pub gone-same : (gains : Gains) (own own' : List Strike) (k : ℕ) →
     (is_left gains k ≡ true → is_struck own' (entry_at (entries_of gains) k).message k ≡ is_struck own (entry_at (entries_of gains) k).message k) →
     is_gone gains own' k ≡ is_gone gains own k
@@ -143,7 +143,7 @@ gone-struck gains own k struck = by (is_left gains k) struck
     by true struck = struck refl
     by false struck = refl
 
--- what is owed is left
+-- a gain that is not gone is left, and so is one that is owed
 pub not-gone : (gains : Gains) (own : List Strike) (k : ℕ) → is_gone gains own k ≡ false → is_left gains k ≡ true
 unfolding is_gone
 not-gone gains own k is = by (is_left gains k) is
@@ -165,7 +165,7 @@ owed-left gains strikes a k is = not-gone gains (strikes_of strikes a) k (last (
 pub unleft-unowed : (gains : Gains) (strikes : List Strike) (a : Account) (k : ℕ) → is_left gains k ≡ false → owes_at gains strikes a k ≡ false
 unleft-unowed gains strikes a k none = false_from_ne_true (owes_at gains strikes a k) (λ is. true≢false (sym (owed-left gains strikes a k is) ∙ none))
 
--- one more gain
+-- all gains with one more are the gains and this one after them
 pub more-entries : (old new : Gains) (entry : Entry) → length old.entries.items ≤ old.end → new.entries.items ≡ old.entries.items ++ entry ∷ [] → new.end ≡ old.end + 1 →
     entries_of new ≡ entries_of old ++ entry ∷ []
 unfolding entries_of
@@ -175,7 +175,7 @@ more-entries old new entry long entries end =
     let same : new.end - length new.entries.items ≡ old.end - length xs = omega (arith, ap length entries, longer, end, long) in
     ap₂ (λ (n : ℕ) (l : List Entry). replicate n blank ++ l) same entries ∙ sym (append_assoc (replicate (old.end - length xs) blank) xs (entry ∷ []))
 
--- the gains with one more, which stands under its message
+-- where a gain comes and stands under its message, the gains are right, and the new one is theirs
 pub gains-more : (old new : Gains) (debt : Debt) → AreGains old → new.entries.items ≡ old.entries.items ++ (record { message = debt.message; deadline = debt.deadline }) ∷ [] →
     new.end ≡ old.end + 1 → new.end < 2 ^ 64 → IsNoted old.end debt old.messages old.musts new.messages new.musts →
     (new.rises ≡ true → AreRising (old.entries.items ++ (record { message = debt.message; deadline = debt.deadline }) ∷ [])) → (IsGain debt old new → AreFlags new) →
@@ -240,7 +240,7 @@ gains-more old new debt are entries end small noted rises flags =
           ∙ not-noted old m k are (omega (arith, there))))
     ]
 
--- the gains are as they were, and so is where they stand
+-- where the entries and the places under the messages stay, the gains are right still, and the same
 pub gains-same : (old new : Gains) → AreGains old → new.entries.items ≡ old.entries.items → new.end ≡ old.end → ((m k : ℕ) → holds new.messages m k ≡ holds old.messages m k) →
     ((k : ℕ) → holds new.musts 0 k ≡ holds old.musts 0 k) → new.rises ≡ old.rises → (AreSameGains old new → AreFlags new) → AreGains new × AreSameGains old new
 unfolding entries_of
@@ -266,7 +266,7 @@ gains-same old new are entries end messages musts rises flags =
       record { entries = all; messages = messages; musts = musts },
     )
 
--- a gain is let go
+-- where a gain is taken from under its message, the gains are right still, and it is let go
 pub gains-let_go : (old new : Gains) (place : ℕ) → AreGains old → new.entries.items ≡ old.entries.items → new.end ≡ old.end → new.rises ≡ old.rises →
     ((m k : ℕ) → holds new.messages m k ≡ cond (m == (entry_at (entries_of old) place).message && k == place) false (holds old.messages m k)) →
     ((m k : ℕ) → holds new.musts m k ≡ cond (m == 0 && k == place) false (holds old.musts m k)) → (IsLetGo place old new → AreFlags new) →
@@ -314,7 +314,7 @@ gains-let_go old new place are entries end rises messages musts flags =
     fewer true was is = absurd (true≢false (sym is))
     fewer false was is = is
 
--- gains are dropped of which nothing is left
+-- where the first gains are dropped, none of which is left, the gains are right still
 pub gains-dropped : (old new : Gains) (place count : ℕ) → AreGains old → count + (old.end - length old.entries.items) ≡ place → place ≤ old.end →
     new.entries.items ≡ drop count old.entries.items → new.end ≡ old.end → new.messages ≡ old.messages → new.musts ≡ old.musts → new.rises ≡ old.rises →
     ((m k : ℕ) → k < place → holds old.messages m k ≡ false) → (IsDropped place old new → AreFlags new) → AreGains new × IsDropped place old new
@@ -371,7 +371,7 @@ gains-dropped old new place count are here within entries end messages musts ris
     past-entry : (gains : Gains) (k : ℕ) → length (entries_of gains) ≤ k → entry_at (entries_of gains) k ≡ blank
     past-entry gains k past = get_or_past (entries_of gains) k blank past
 
--- debts told over other entries, of which those of what is owed are the same
+-- debts that are told over two lists of entries are the same where the entries that are owed are
 pub listed-alike : (o m o' m' : ℕ → Bool) (i : ℕ) (xs ys : List Entry) → length xs ≡ length ys → ((j : ℕ) → j < length xs → o (i + j) ≡ o' (i + j)) →
     ((j : ℕ) → j < length xs → o (i + j) ≡ true → (get_or xs j no_entry ≡ get_or ys j no_entry) × (m (i + j) ≡ m' (i + j))) →
     debts_from o m i xs ≡ debts_from o' m' i ys

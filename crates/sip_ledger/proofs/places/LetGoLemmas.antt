@@ -13,11 +13,11 @@ use Rattle.sip_ledger.proofs.places.LeftLemmas.{not-kept}
 use Rattle.sip_ledger.proofs.places.AccountLemmas.{OwesAlike, all-alike, dropped-alike, let_go-alike, over-all, past-end}
 use Rattle.sip_ledger.proofs.places.WithoutLemmas.{before-start}
 
--- nothing is let go yet
+-- all accounts are kept where nothing has been let go
 pub kept-start : (gains : Gains) (strikes : List Strike) (rows : List Account) → AreAccounts gains strikes rows → AreKept strikes rows gains gains
 kept-start gains strikes rows are = record { accounts = are; debts = refl }
 
--- one that no account owes is let go
+-- all accounts are kept where a gain is let go that none of them owes
 pub kept-less : (first old new : Gains) (strikes : List Strike) (rows : List Account) (place : ℕ) → AreKept strikes rows first old → IsLetGo place old new → AreGains new →
     All (λ a. owes_at old strikes a place ≡ false) rows → AreKept strikes rows first new
 kept-less first old new strikes rows place was gone are unowed =
@@ -39,7 +39,7 @@ pub none-before : (gains : Gains) (strikes : List Strike) (rows : List Account) 
 none-before gains strikes rows place k from early =
     All-weaker (λ (a : Account). a.start < a.end → place ≤ a.start) (λ a. owes_at gains strikes a k ≡ false) (λ a low. unowed-before gains strikes a place k low early) rows from
 
--- what is dropped already is not left
+-- all gains before the first that is kept are cleared, since none of them is left
 pub cleared-start : (gains : Gains) (strikes : List Strike) (rows : List Account) (place : ℕ) → AreAccounts gains strikes rows → place + length gains.entries.items ≡ gains.end →
     IsClearedTo place strikes rows gains gains
 cleared-start gains strikes rows place are first = record {
@@ -49,7 +49,7 @@ cleared-start gains strikes rows place are first = record {
   none = λ m k early. not-kept gains m k are.gained (omega (arith, early, first));
 }
 
--- one more place is cleared
+-- where the gains before a place are cleared, and that of the place is let go or was not left, those before the next place are cleared
 pub cleared-kept : (first old : Gains) (strikes : List Strike) (rows : List Account) (from start place : ℕ) → IsClearedTo place strikes rows first old → from + length first.entries.items ≡ first.end →
     from ≤ place → place < start → start ≤ first.end → IsKept old place
 cleared-kept first old strikes rows from start place was begins low high within =
@@ -69,7 +69,7 @@ cleared-more first old new strikes rows start place was gone are from early = re
   ];
 }
 
--- what is cleared is dropped
+-- all accounts are kept where gains are dropped that are cleared
 pub cleared-dropped : (first old new : Gains) (strikes : List Strike) (rows : List Account) (place : ℕ) → IsClearedTo place strikes rows first old → IsDropped place old new → AreGains new →
     AreKept strikes rows first new
 cleared-dropped first old new strikes rows place was dropped are =
@@ -77,7 +77,7 @@ cleared-dropped first old new strikes rows place was dropped are =
     let all = over-all old new strikes rows dropped.long alike was.kept.accounts.each in
     record { accounts = record { gained = are; each = all.0 }; debts = all.1 ∙ was.kept.debts }
 
--- the first place at which one of the accounts owes something
+-- no account owes anything before the place, so far
 pub start-none : (rows : List Account) (place : ℕ) → StartFrom place (take 0 rows)
 start-none rows place = All-nil (λ (a : Account). a.start < a.end → place ≤ a.start)
 

@@ -23,7 +23,7 @@ use Rattle.sip_ledger.proofs.debts.ListedLemmas.{listed-same}
 use Rattle.sip_ledger.proofs.places.AccountLemmas.{kept-all, soft-must}
 use Rattle.sip_ledger.proofs.places.WithoutLemmas.{before-start}
 
--- one strike more
+-- strikes with one more strike what they struck and what the new one strikes
 struck-push : (xs : List Strike) (s : Strike) (m k : ℕ) → is_struck (xs ++ s ∷ []) m k ≡ (is_struck xs m k || is_out m k s)
 unfolding is_struck
 struck-push xs s m k = list_any-append (is_out m k) xs (s ∷ []) ∙ ap (λ b. list_any (is_out m k) xs || b) (or-false (is_out m k s))
@@ -39,7 +39,7 @@ or-right : (a b : Bool) → (a || b) ≡ false → b ≡ false
 or-right true b none = absurd (true≢false none)
 or-right false b none = none
 
--- none of the strikes is written yet
+-- AreAppended holds where no strike has been looked at
 pub appended-none : (gains : Gains) (from : ℕ) (strikes old : List Strike) → AreAppended gains from (take 0 strikes) old old
 appended-none gains from strikes old = record {
   more = [];
@@ -47,7 +47,7 @@ appended-none gains from strikes old = record {
   thinned = record { same = λ k low left. refl; among = λ m k none. none };
 }
 
--- one more is written
+-- AreAppended goes on with a strike that is written
 pub appended-more : (gains : Gains) (from : ℕ) (strikes old new new' : List Strike) (at : ℕ) (d : Strike) → at < length strikes → AreAppended gains from (take at strikes) old new →
     new' ≡ new ++ get_or strikes at d ∷ [] → AreAppended gains from (take (at + 1) strikes) old new'
 appended-more gains from strikes old new new' at d within was is =
@@ -67,7 +67,7 @@ appended-more gains from strikes old new new' at d within was is =
       };
     }
 
--- or one that strikes nothing that is left is not
+-- AreAppended goes on with a strike that is left out, since it strikes nothing that is left
 pub appended-fewer : (gains : Gains) (from : ℕ) (strikes old new : List Strike) (at : ℕ) (d : Strike) → at < length strikes → AreAppended gains from (take at strikes) old new →
     StrikesNoneFrom gains from (get_or strikes at d) → AreAppended gains from (take (at + 1) strikes) old new
 appended-fewer gains from strikes old new at d within was free = record {
@@ -83,7 +83,7 @@ appended-fewer gains from strikes old new at d within was free = record {
   };
 }
 
--- a strike of which no place is left from one on
+-- what a strike strikes stands at its first place or after it
 out-from : (m sm from to k : ℕ) → (sm == m && (nat_le from k && nat_lt k to)) ≡ true → from ≤ k
 out-from m sm from to k is = grind (arith, nat_tests)
 
@@ -101,7 +101,7 @@ strikes-none gains place low s within none k above left =
     let same : m ≡ s.message = sym (out-of m s.message s.from s.to k out) in
     true≢false (sym (held-left gains s.message k same ∙ left) ∙ none k (omega (arith, from, above, within)) (out-to m s.message s.from s.to k out)))
 
--- one account
+-- the strikes of each account stand among all strikes
 pub has-strikes : (gains : Gains) (strikes : List Strike) (rows : List Account) → All (IsAccount gains strikes) rows → All (HasStrikes strikes) rows
 has-strikes gains strikes rows each =
     All-weaker (IsAccount gains strikes) (HasStrikes strikes) (λ a is. record { first = is.first; last = is.last }) rows each
@@ -160,7 +160,7 @@ moved-account gains strikes old new a b moved is =
       print = moved.print ∙ is.print ∙ ap debts_print (sym (moved-debts gains strikes old new a b moved));
     }
 
--- all of them, one by one
+-- AreMoved holds of no accounts, and goes on with one account more
 pub moved-none : (gains : Gains) (strikes : List Strike) (rows : List Account) → AreMoved gains strikes (take 0 rows) [] []
 unfolding accounts_debts
 moved-none gains strikes rows = record { each = All-nil (IsAccount gains []); debts = refl }
@@ -179,7 +179,7 @@ moved-more gains strikes old new rows rows' at d b within was moved each =
           ∙ sym (ap (map (account_debts gains strikes)) (take_more rows at d within) ∙ map-append (account_debts gains strikes) (take at rows) (a ∷ []));
     }
 
--- where a test fails
+-- what holds where a test is false is said of its answer
 pub on-false : {P : Type 0} (b : Bool) → (b ≡ false → P) → OnFalse b P
 on-false true p = tt
 on-false false p = p refl

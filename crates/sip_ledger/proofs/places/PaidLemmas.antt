@@ -1,4 +1,4 @@
--- Rows of which a send pays a debt.
+-- Rows that a send pays are put after the others, without the debt that it pays.
 use Rattle.std.proofs.Common.{◌≡◌, ◌<◌, ◌≤◌, ℕ, ◌+◌, Bool, true, false, cond, List, [], ◌∷◌, ◌++◌, length, take, get_or, map, filter, refl, sym, ap, ap₂, ◌∙◌, subst, arith}
 use Rattle.std.specs.Prelude.{◌&&◌, Option, Some, None, IfSome, option_to_list}
 use Rattle.std.specs.List.{list_any}
@@ -40,7 +40,7 @@ paid-row message t owes debts some timely same =
     let is : is_paid message t owes ≡ true = ap₂ (λ a b. a && b) some timely in
     ap (λ l. l ∷ []) same ∙ ap (λ b. map (left_by message t) (cond b (owes ∷ []) [])) (sym is)
 
--- one row more
+-- paid rows up to the next row are those up to it, and that row if it is paid
 paid-more : (message t from k : ℕ) (rows : List (List Debt)) → from ≤ k → k < length rows →
     paid_rows message t (from_to from (k + 1) rows) ≡ paid_rows message t (from_to from k rows) ++ paid_rows message t (owed_in rows k ∷ [])
 paid-more message t from k rows low within =
@@ -53,12 +53,12 @@ next-left : (message t from k : ℕ) (old : List (List Debt)) (owes : List Debt)
 next-left message t from k old owes d debts same low within =
     ap (λ l. paid_rows message t (from_to from k old) ++ l) (debts ∙ ap (λ o. paid_rows message t (o ∷ [])) same) ∙ sym (paid-more message t from k old low within)
 
--- the rows that were there, and after them what is left to those that are paid, up to one of them
+-- the accounts owe what the old rows owed, and after them what is left to each paid row from `from` up to k
 pub record ArePaidTo (gains : Gains) (message t from k : ℕ) (old : List (List Debt)) (strikes : List Strike) (rows : List Account) : Type 0 where
   pub accounts : AreAccounts gains strikes rows
   pub debts : accounts_debts gains strikes rows ≡ old ++ paid_rows message t (from_to from k old)
 
--- one of the rows that were there
+-- a row of the old ones is one of the accounts
 pub row-there : (gains : Gains) (message t from k row : ℕ) (old : List (List Debt)) (strikes : List Strike) (rows : List Account) → ArePaidTo gains message t from k old strikes rows →
     row < length old → row < length rows
 row-there gains message t from k row old strikes rows are within =
@@ -72,14 +72,14 @@ account-there gains message t from k row old strikes rows a are within is =
     let at = account-at gains strikes rows (old ++ more) row a are.accounts are.debts (omega (arith, within, length-append old more)) is in
     (at.0, at.1 ∙ get_or_append_left old more [] row within)
 
--- the strikes have grown
+-- ArePaidTo stays true where strikes are put after the others
 pub paid-grown : (gains : Gains) (message t from k : ℕ) (old : List (List Debt)) (one new : List Strike) (rows : List Account) → take (length one) new ≡ one →
     ArePaidTo gains message t from k old one rows → ArePaidTo gains message t from k old new rows
 paid-grown gains message t from k old one new rows kept are =
     let over = unchanged gains one new rows (old ++ paid_rows message t (from_to from k old)) kept are.accounts are.debts in
     record { accounts = over.0; debts = over.1 }
 
--- the next row
+-- ArePaidTo goes on with the next row, which is put after the others if it is paid
 pub paid-next : (gains : Gains) (message t from k : ℕ) (old : List (List Debt)) (strikes : List Strike) (rows : List Account) (owes : List Debt) (left : Option Account) →
     ArePaidTo gains message t from k old strikes rows → IfSome left (IsAccount gains strikes) → map (account_debts gains strikes) (option_to_list left) ≡ paid_rows message t (owes ∷ []) →
     owes ≡ owed_in old k → from ≤ k → k < length old → ArePaidTo gains message t from (k + 1) old strikes (rows ++ option_to_list left)
@@ -98,7 +98,7 @@ paid-next gains message t from k old strikes rows owes (Some b) are is debts sam
       debts = put.1 ∙ append_assoc old more (d ∷ []) ∙ ap (λ l. old ++ l) (next-left message t from k old owes (d ∷ []) debts same low within);
     }
 
--- none of them yet
+-- ArePaidTo holds where no row has been looked at
 pub paid-none : (gains : Gains) (message t from : ℕ) (strikes : List Strike) (rows : List Account) → AreAccounts gains strikes rows →
     from_to from from (accounts_debts gains strikes rows) ≡ [] → ArePaidTo gains message t from from (accounts_debts gains strikes rows) strikes rows
 paid-none gains message t from strikes rows are none = record {
@@ -106,7 +106,7 @@ paid-none gains message t from strikes rows are none = record {
   debts = sym (ap (λ l. accounts_debts gains strikes rows ++ paid_rows message t l) none ∙ append-nil (accounts_debts gains strikes rows));
 }
 
--- the rows that were there are still the first ones
+-- the first rows are the old ones still
 pub paid-front : (gains : Gains) (message t from k n : ℕ) (old : List (List Debt)) (strikes : List Strike) (rows : List Account) → ArePaidTo gains message t from k old strikes rows →
     n ≡ length old → take n (accounts_debts gains strikes rows) ≡ old
 paid-front gains message t from k n old strikes rows are is =

@@ -1,4 +1,4 @@
--- Where a message is left.
+-- The next place at which a message is left.
 use Rattle.std.proofs.Common.{◌≡◌, ◌<◌, ◌≤◌, ℕ, Bool, true, false, refl, arith}
 use Rattle.std.specs.Prelude.{Option, Some, None, IfSome, nat_le}
 use Rattle.std.specs.Bool.{OnTrue}
@@ -7,7 +7,7 @@ use Rattle.sip_ledger.specs.declared.accounts.gains.Gains.{Gains}
 use Rattle.sip_ledger.specs.inner.Accounts.{IsNext}
 use Rattle.sip_ledger.specs.inner.Indexes.{holds}
 
--- what holds where a test says yes
+-- what holds where a test is true is said of its answer
 pub on-is : {P : Type 0} (b : Bool) → (b ≡ true → P) → OnTrue b P
 on-is true p = p refl
 on-is false p = tt
@@ -15,7 +15,7 @@ on-is false p = tt
 pub le-is : (m n : ℕ) → nat_le m n ≡ true → m ≤ n
 le-is m n is = grind (arith, nat_tests)
 
--- the first place from one on is that from a later one on too, if it does not lie before that
+-- the first place after `low` at which a message is left is the first after a later place too, if it does not lie before that place
 pub next-later : (gains : Gains) (message low from : ℕ) (place : Option ℕ) → IsNext gains message low place → low ≤ from → IfSome place (λ at. from ≤ at) →
     IsNext gains message from place
 next-later gains message low from None is order reach = record { order = tt; left = tt; before = tt; none = λ k above. is.none k (omega (arith, order, above)) }
@@ -26,7 +26,7 @@ next-later gains message low from (Some at) is order reach = record {
   none = tt;
 }
 
--- it is the place itself, where the message is left there
+-- where the message is left at a place, that is the first place from itself on
 pub next-here : (gains : Gains) (message from : ℕ) → holds gains.messages message from ≡ true → IsNext gains message from (Some from)
 next-here gains message from left = record {
   order = omega arith;

@@ -20,7 +20,7 @@ use Rattle.sip_ledger.proofs.grids.RowLemmas.{listed-any, some-debt}
 use Rattle.sip_ledger.proofs.places.AccountLemmas.{changed, debts-length, empty-debts, kept-all, must-below, over, owed-within, pushed, row-account, row-debts}
 use Rattle.sip_ledger.proofs.places.FindLemmas.{unpaid-account}
 
--- what holds holds where there is an error
+-- what holds is said of an answer that is an error
 pub on-error : {T E P : Type 0} (r : Result T E) → IsErr r → P → OnErr r P
 on-error (Ok x) is p = tt
 on-error (Err e) is p = p
@@ -29,7 +29,7 @@ pub on-err : {T E : Type 0} (r : Result T E) (P : Type 0) → is_err r ≡ true 
 on-err (Ok x) P is p = absurd (true≢false (sym is))
 on-err (Err e) P is p = p
 
--- a row of the list is one of the accounts
+-- a row of the list that contracts see is the row of one of the accounts
 pub row-inside : (gains : Gains) (strikes : List Strike) (rows : List Account) (seen : List (List Debt)) (row : ℕ) → accounts_debts gains strikes rows ≡ seen → row < length seen → row < length rows
 row-inside gains strikes rows seen row view inside = omega (arith, inside, ap length view, debts-length gains strikes rows)
 
@@ -41,7 +41,7 @@ account-at gains strikes rows seen row a are view inside is =
       sym (row-debts gains strikes rows row a within is) ∙ ap (λ l. owed_in l row) view,
     )
 
--- one of them changes
+-- where one of the accounts changes, contracts see its row changed
 pub changed-to : (gains : Gains) (old new : List Strike) (rows : List Account) (seen : List (List Debt)) (row : ℕ) (a : Account) (debts : List Debt) → take (length old) new ≡ old →
     AreAccounts gains old rows → accounts_debts gains old rows ≡ seen → IsAccount gains new a → account_debts gains new a ≡ debts →
     AreAccounts gains new (set rows row a) × (accounts_debts gains new (set rows row a) ≡ set seen row debts)
@@ -49,21 +49,21 @@ changed-to gains old new rows seen row a debts kept are view is owes =
     let all = changed gains old new rows row a kept are is in
     (all.0, all.1 ∙ ap₂ (λ l d. set l row d) view owes)
 
--- none of them changes, and the strikes may have grown
+-- where no account changes, and the strikes may have grown, contracts see the same rows
 pub unchanged : (gains : Gains) (old new : List Strike) (rows : List Account) (seen : List (List Debt)) → take (length old) new ≡ old → AreAccounts gains old rows →
     accounts_debts gains old rows ≡ seen → AreAccounts gains new rows × (accounts_debts gains new rows ≡ seen)
 unchanged gains old new rows seen kept are view =
     let all = kept-all gains old new rows kept are.each in
     (record { gained = are.gained; each = all.0 }, all.1 ∙ view)
 
--- the gains may have grown
+-- where the gains may have grown, contracts see the same rows
 pub over-to : (old new : Gains) (strikes : List Strike) (rows : List Account) (seen : List (List Debt)) → KeepsAccounts old new → AreGains new → AreAccounts old strikes rows →
     accounts_debts old strikes rows ≡ seen → AreAccounts new strikes rows × (accounts_debts new strikes rows ≡ seen)
 over-to old new strikes rows seen keeps gained are view =
     let all = over old new strikes rows keeps gained are in
     (all.0, all.1 ∙ view)
 
--- one more
+-- where an account is put after the others, contracts see one row more
 pub pushed-to : (gains : Gains) (strikes : List Strike) (rows : List Account) (seen : List (List Debt)) (a : Account) (debts : List Debt) → AreAccounts gains strikes rows →
     accounts_debts gains strikes rows ≡ seen → IsAccount gains strikes a → account_debts gains strikes a ≡ debts →
     AreAccounts gains strikes (rows ++ a ∷ []) × (accounts_debts gains strikes (rows ++ a ∷ []) ≡ seen ++ debts ∷ [])
@@ -71,11 +71,11 @@ pushed-to gains strikes rows seen a debts are view is owes =
     let all = pushed gains strikes rows a are is in
     (all.0, all.1 ∙ ap₂ (λ l d. l ++ d ∷ []) view owes)
 
--- a row that owes what it owed
+-- where a row owes what it owed, contracts see the same rows
 pub row-same : (seen : List (List Debt)) (row : ℕ) (debts : List Debt) → debts ≡ owed_in seen row → seen ≡ set seen row debts
 row-same seen row debts is = sym (ap (set seen row) is ∙ set-get_or seen row [])
 
--- an account of which all that was gained below a place may be sent
+-- the account, of which no gain below the place must be sent any more
 abbrev pub softened_account : ℕ → Account → Account
 softened_account place a = record { start = a.start; end = a.end; soft = place; first = a.first; last = a.last; print = a.print }
 
@@ -141,7 +141,7 @@ owes-nothing gains strikes a debts is owes = (
   ],
 )
 
--- whether a send pays one of its debts
+-- whether a send pays one of the debts of an account
 none-payable : (message t : ℕ) (debts : List Debt) → All (λ debt. ¬ (IsTrue (is_payable message t debt))) debts → All (λ debt. is_payable message t debt ≡ false) debts
 none-payable message t [] none = All-nil (λ debt. is_payable message t debt ≡ false)
 none-payable message t (debt ∷ debts) none =

@@ -1,4 +1,4 @@
--- Which gains strikes strike.
+-- Which gains the strikes of an account strike, as strikes are made longer, written and looked for.
 use Rattle.std.proofs.Common.{◌≡◌, ◌≢◌, ℕ, zero, suc, ◌+◌, ◌-◌, ◌<◌, ◌≤◌, ◌==◌, ◌&&◌, ◌||◌, Bool, true, false, cond, List, [], ◌∷◌, ◌++◌, length, take, drop, get_or, set, filter, refl, sym, ap, ap₂, ◌∙◌, subst, inl, inr, arith}
 use Rattle.std.specs.Prelude.{nat_le, nat_lt}
 use Rattle.std.specs.List.{list_any}
@@ -36,7 +36,7 @@ any-ending m k start (s ∷ xs) above = by (any-ending m k start xs above) (nat_
         ap (λ b. list_any (is_out m k) (cond b (s ∷ ending start xs) (ending start xs))) is ∙ rest
         ∙ sym (ap (λ b. b || list_any (is_out m k) xs) (strike-past m k start s above is))
 
--- where none passes, none of some of them does
+-- where no strike passes a test, none of those that end after the start does
 none-ending : (p : Strike → Bool) (start : ℕ) (xs : List Strike) → list_any p xs ≡ false → list_any p (ending start xs) ≡ false
 none-ending p start [] none = refl
 none-ending p start (s ∷ xs) none = by (none-ending p start xs) (p s) refl none (nat_lt start s.to) refl
@@ -47,7 +47,7 @@ none-ending p start (s ∷ xs) none = by (none-ending p start xs) (p s) refl non
     by rest false is none true test = ap (λ b. list_any p (cond b (s ∷ ending start xs) (ending start xs))) test ∙ ap (λ b. b || list_any p (ending start xs)) is ∙ rest none
     by rest false is none false test = ap (λ b. list_any p (cond b (s ∷ ending start xs) (ending start xs))) test ∙ rest none
 
--- one of the elements passes now where it did, or where q is so
+-- where the strike at a place is replaced, some strike passes if one did before, or if q holds
 any-set : (p : Strike → Bool) (q : Bool) (xs : List Strike) (at : ℕ) (s : Strike) → at < length xs → p s ≡ (p (get_or xs at s) || q) →
     list_any p (set xs at s) ≡ (list_any p xs || q)
 any-set p q [] at s within same = absurd (omega (arith, within))
@@ -56,7 +56,7 @@ any-set p q (x ∷ xs) zero s within same =
 any-set p q (x ∷ xs) (suc at) s within same =
     ap (λ b. p x || b) (any-set p q xs at s (omega (arith, within)) same) ∙ sym (or_assoc (p x) (list_any p xs) q)
 
--- none passes still where an element that does not pass takes the place of another one
+-- where no strike passes, none passes after one that does not pass took the place of another
 none-set : (p : Strike → Bool) (xs : List Strike) (at : ℕ) (s : Strike) → p s ≡ false → list_any p xs ≡ false → list_any p (set xs at s) ≡ false
 none-set p [] at s not none = refl
 none-set p (x ∷ xs) zero s not none = by (p x) none
@@ -70,12 +70,12 @@ none-set p (x ∷ xs) (suc at) s not none = by (none-set p xs at s not) (p x) re
     by rest true is none = cc
     by rest false is none = ap (λ b. b || list_any p (set xs at s)) is ∙ rest none
 
--- a strike that is made longer strikes one gain more
+-- a strike that is made longer up to a place strikes the gain there too, and nothing else that is left
 longer-out : (m mp sm from to place k : ℕ) → sm ≡ mp → from ≤ place → to ≤ place → (to ≤ k → k < place → m ≢ mp) → (k ≡ place → m ≡ mp) →
     (sm == m && (nat_le from k && nat_lt k (place + 1))) ≡ ((sm == m && (nat_le from k && nat_lt k to)) || k == place)
 longer-out m mp sm from to place k is low high between here = grind (arith, nat_tests)
 
--- a strike of one place strikes what was gained there
+-- a new strike of one place strikes the gain there alone
 one-out : (m mp place k : ℕ) → (k ≡ place → m ≡ mp) → (mp == m && (nat_le place k && nat_lt k (place + 1))) ≡ (k == place)
 one-out m mp place k here = grind (arith, nat_tests)
 
@@ -130,7 +130,7 @@ pub bound-ending : (m k start : ℕ) (xs : List Strike) → is_struck xs m k ≡
 unfolding is_struck
 bound-ending m k start xs none = none-ending (is_out m k) start xs none
 
--- one of the strikes from the first on is longer
+-- where one of the strikes from `first` on is made longer, they strike the gain at the place too
 pub longer-too : (gains : Gains) (place first : ℕ) (old new : List Strike) → Lengthens gains place first old new → StrikeToo gains place first old new
 longer-too gains place first old new l =
     let s : Strike = record { message = 0; from = 0; to = 0 } in
@@ -155,7 +155,7 @@ longer-too gains place first old new l =
       bound = λ m k past none. ap (λ x. is_struck x m k) rest ∙ lengthened-bound gains place m k own i s past none;
     }
 
--- there is one more
+-- where a new strike of the place is put after the others, the strikes strike the gain at the place too
 pub more-too : (gains : Gains) (place first : ℕ) (old new : List Strike) → first ≤ length old →
     new ≡ old ++ (record { message = (entry_at (entries_of gains) place).message; from = place; to = place + 1 }) ∷ [] → StrikeToo gains place first old new
 more-too gains place first old new within is =
@@ -177,7 +177,7 @@ one-more from at k low = grind (arith, nat_tests)
 none-too : (from to k : ℕ) (w : Bool) → to ≤ from → w ≡ (w || (nat_le from k && nat_lt k to))
 none-too from to k w order = sym (ap (λ b. w || b) (none-between from to k order) ∙ or-false w)
 
--- the account's strikes are written, and then strike what was gained at one place after another
+-- IsWritten holds once the account's strikes are written, and goes on with the gain at the next place
 pub written-none : (gains : Gains) (from : ℕ) (old new : List Strike) (a : Account) → new ≡ old ++ ending a.start (strikes_of old a) → IsWritten gains from from old new a
 written-none gains from old new a is =
     let own = strikes_of old a in
@@ -201,7 +201,7 @@ written-more gains from at old one new a w too low inside = record {
   bound = λ m k past none. too.bound m k (omega (arith, past, inside)) (w.bound m k past none);
 }
 
--- an account with strikes that stand after the others
+-- an account that has the written strikes as its own has the gains struck
 pub struck-own : (gains : Gains) (from to : ℕ) (old new : List Strike) (a b : Account) → IsWritten gains from to old new a →
     b ≡ record a { first = length old; last = length new } → IsStruck gains from to old new a b
 struck-own gains from to old new a b w is =
@@ -218,7 +218,7 @@ struck-own gains from to old new a b w is =
       bound = λ m k past none. ap (λ own. is_struck own m k) whole ∙ w.bound m k past none;
     }
 
--- where there is no place, it is as it was
+-- where no gain stands between the end of an account and the place, the account as it is has them all struck
 pub struck-none : (gains : Gains) (place : ℕ) (strikes : List Strike) (a : Account) → a.first ≤ a.last → a.last ≤ length strikes → a.end ≡ place →
     IsStruck gains a.end place strikes strikes a a
 struck-none gains place strikes a first last here = record {
@@ -232,7 +232,7 @@ struck-none gains place strikes a first last here = record {
   bound = λ m k past none. none;
 }
 
--- the strikes from one up to another, with one more
+-- the elements from one index up to another, and those up to the next index
 pub from_to-none : (xs : List Strike) (n : ℕ) → from_to n n xs ≡ []
 from_to-none xs n = drop_all n (take n xs) (omega (arith, length-take n xs))
 
@@ -246,7 +246,7 @@ pub ending-more : (xs : List Strike) (first at start : ℕ) (d : Strike) → fir
 ending-more xs first at start d order within =
     ap (ending start) (from_to-more xs first at d order within) ∙ filter-append (λ s. nat_lt start s.to) (from_to first at xs) (get_or xs at d ∷ [])
 
--- strikes looked at one by one
+-- what a list of strikes strikes, looked at strike by strike
 pub none-struck : (m k : ℕ) → is_struck [] m k ≡ false
 unfolding is_struck
 none-struck m k = refl
@@ -277,7 +277,7 @@ out-high m sm from to k is = grind (arith, nat_tests)
 out-is : (m sm from to k : ℕ) → (sm == m && (nat_le from k && nat_lt k to)) ≡ true → sm ≡ m
 out-is m sm from to k is = grind (arith, nat_tests)
 
--- a place that a strike strikes, and those up to its end
+-- where a strike strikes a place, it strikes each place from there up to its end
 pub out-struck : (xs : List Strike) (i m k : ℕ) (s : Strike) → i < length xs → is_out m k (get_or xs i s) ≡ true →
     (k < (get_or xs i s).to) × ((j : ℕ) → k ≤ j → j < (get_or xs i s).to → is_struck xs m j ≡ true)
 out-struck xs i m k s within out =

@@ -1,4 +1,4 @@
--- What an account owes, told place by place: all of it, beside that of another one, and the least deadline of what must be sent.
+-- What an account owes, place by place: its debts, whether another account owes the same, and the least deadline of what it must send.
 use Rattle.std.proofs.Common.{◌≡◌, ◌≢◌, ℕ, ◌+◌, ◌<◌, ◌≤◌, ◌==◌, ◌&&◌, Bool, true, false, cond, not, List, [], ◌∷◌, ◌++◌, length, take, drop, get_or, map, refl, sym, ap, ap₂, ◌∙◌, subst, inl, inr, ◌⊎◌, arith, append-nil}
 use Rattle.std.specs.Prelude.{All, IsTrue, Option, Some, None, ◌↔◌, nat_le, nat_lt, option_to_list}
 use Rattle.std.specs.Bool.{OnTrue}
@@ -21,7 +21,7 @@ use Rattle.sip_ledger.proofs.debts.ListedLemmas.{back, back-none, back-over, bac
 use Rattle.sip_ledger.proofs.places.AccountLemmas.{must-below, must-from, past-end, soft-must}
 use Rattle.sip_ledger.proofs.places.WithoutLemmas.{before-start, le-yes}
 
--- all of it: what was owed up to a place is told
+-- What follows is of all debts: what is told up to a place, and the next debt.
 pub front-start : (gains : Gains) (strikes : List Strike) (m : ℕ → Bool) (a : Account) → a.start ≤ length (entries_of gains) → front (owes_at gains strikes a) m (entries_of gains) a.start ≡ []
 front-start gains strikes m a within =
     listed-none (owes_at gains strikes a) m 0 (take a.start (entries_of gains))
@@ -48,7 +48,7 @@ all-told gains strikes a at is past within =
     let end = is.end in
     sym (front-end gains strikes (must_at gains a) a at past (omega (arith, within, end)))
 
--- beside another one: both lists are the same where what is left of them is
+-- both lists are the same exactly if what is left of them is
 pub record AreBeside (one other left right : List Debt) : Type 0 where
   pub to : one ≡ other → left ≡ right
   pub from : left ≡ right → one ≡ other
@@ -84,7 +84,7 @@ beside-longer one other left left' d are first same = none (sym first ∙ are.to
     none : d ∷ left' ≡ [] → ⊥
     none same = cc
 
--- two accounts, each at a place where it owes something, or at its end: what is left of both is the same where all of it is
+-- each account stands at a place where it owes something, or at its end: what is left of both is the same exactly if all of it is
 pub record AreAt (gains : Gains) (strikes : List Strike) (one other : Account) (at beside : ℕ) : Type 0 where
   pub left : AreBeside (account_debts gains strikes one) (account_debts gains strikes other) (back (owes_at gains strikes one) (must_at gains one) (entries_of gains) at)
       (back (owes_at gains strikes other) (must_at gains other) (entries_of gains) beside)
@@ -118,7 +118,7 @@ at-start gains strikes one other is is_other =
       owed_beside = is_other.begins;
     }
 
--- the next place at which an account owes something after this one, or its end
+-- `next` is the next place after `at` at which the account owes something, or its end
 pub record IsAfter (gains : Gains) (strikes : List Strike) (a : Account) (at next : ℕ) : Type 0 where
   pub within : (at + 1 ≤ next) × (next ≤ a.end)
   pub before : (k : ℕ) → at + 1 ≤ k → k < next → owes_at gains strikes a k ≡ false
@@ -159,7 +159,7 @@ at-more gains strikes one other at beside next next_beside is is_other are insid
       owed_beside = after_beside.is;
     }
 
--- what is left at a place where something is owed is not what is left where that is something else
+-- what is left from a place at which something is owed begins with that debt
 back-here : (gains : Gains) (strikes : List Strike) (a : Account) (at : ℕ) → IsAccount gains strikes a → at < a.end → owes_at gains strikes a at ≡ true →
     back (owes_at gains strikes a) (must_at gains a) (entries_of gains) at
     ≡ debt_of (entry_at (entries_of gains) at) (must_at gains a at) ∷ back (owes_at gains strikes a) (must_at gains a) (entries_of gains) (at + 1)
@@ -179,7 +179,7 @@ at-apart gains strikes one other at beside is is_other are inside inside_beside 
     (debt_of (entry_at entries beside) (must_at gains other beside)) are.left (back-here gains strikes one at is inside (are.owed inside))
     (back-here gains strikes other beside is_other inside_beside (are.owed_beside inside_beside)) differ
 
--- nothing is left at the end
+-- nothing is left at the end of an account
 back-end : (gains : Gains) (strikes : List Strike) (a : Account) (at : ℕ) → a.end ≤ at → back (owes_at gains strikes a) (must_at gains a) (entries_of gains) at ≡ []
 back-end gains strikes a at past =
     back-none (owes_at gains strikes a) (must_at gains a) (entries_of gains) at (λ j above. past-end gains strikes a j (omega (arith, above, past)))
@@ -191,7 +191,7 @@ at-end gains strikes one other at beside is is_other are past past_beside = are.
 cons≢nil : (d : Debt) (ds : List Debt) → d ∷ ds ≢ []
 cons≢nil d ds none = cc
 
--- accounts at one place from which on they owe the same
+-- accounts at one place that owe the same from there on owe the same
 pub rest-same : (gains : Gains) (strikes : List Strike) (one other : Account) (at beside : ℕ) → AreAt gains strikes one other at beside → at ≡ beside →
     SharesRest strikes one other at → account_debts gains strikes one ≡ account_debts gains strikes other
 rest-same gains strikes one other at beside are here shared =
@@ -200,7 +200,7 @@ rest-same gains strikes one other at beside are here shared =
     (λ k above. (shared.owes gains k above, soft-must gains other one k shared.soft))
     ∙ ap (back (owes_at gains strikes other) (must_at gains other) entries) here)
 
--- accounts that begin and end alike and have the same strikes
+-- accounts that begin and end alike and have the same strikes owe the same
 pub alike-debts : (gains : Gains) (strikes : List Strike) (one other : Account) → AreAlike strikes one other → account_debts gains strikes one ≡ account_debts gains strikes other
 unfolding account_debts owes_at
 alike-debts gains strikes one other alike =
@@ -210,7 +210,7 @@ alike-debts gains strikes one other alike =
       soft-must gains other one k alike.soft,
     ))
 
--- accounts that end at one place, and of which no strike goes past this one
+-- accounts that end at one place, and have no strike that goes past this one, owe the same from here on
 pub shares-rest : (strikes : List Strike) (one other : Account) (place : ℕ) → one.end ≡ other.end → one.soft ≡ other.soft → one.start ≤ place → other.start ≤ place →
     ((m k : ℕ) → place ≤ k → is_struck (strikes_of strikes one) m k ≡ false) → ((m k : ℕ) → place ≤ k → is_struck (strikes_of strikes other) m k ≡ false) →
     SharesRest strikes one other place
@@ -230,7 +230,7 @@ pub on-true : {P Q : Type 0} (b : Bool) → OnTrue b P → (P → Q) → OnTrue 
 on-true true p more = more p
 on-true false p more = p
 
--- one of them has something left, and the other one has not
+-- an account with something left does not owe what an account at its end owes
 pub at-longer : (gains : Gains) (strikes : List Strike) (one other : Account) (at beside : ℕ) → IsAccount gains strikes one → AreAt gains strikes one other at beside →
     at < one.end → other.end ≤ beside → account_debts gains strikes one ≢ account_debts gains strikes other
 at-longer gains strikes one other at beside is are inside past same =
@@ -243,7 +243,7 @@ at-shorter gains strikes one other at beside is_other are past inside same =
     cons≢nil (debt_of (entry_at (entries_of gains) beside) (must_at gains other beside)) (back (owes_at gains strikes other) (must_at gains other) (entries_of gains) (beside + 1))
     (sym (back-here gains strikes other beside is_other inside (are.owed_beside inside)) ∙ sym (are.left.to same) ∙ back-end gains strikes one at past)
 
--- what the code asks at the end
+-- where one account is at its end, both owe the same exactly if the other one is at its end too
 pub end-same : (gains : Gains) (strikes : List Strike) (one other : Account) (at beside : ℕ) → IsAccount gains strikes one → IsAccount gains strikes other →
     AreAt gains strikes one other at beside → at ≡ one.end → IsTrue (beside == other.end) ↔ (account_debts gains strikes one ≡ account_debts gains strikes other)
 end-same gains strikes one other at beside is is_other are here = (
@@ -264,7 +264,7 @@ end-other gains strikes one other at beside is are short past =
       λ same. absurd (at-longer gains strikes one other at beside is are (omega (arith, short, end)) past same),
     )
 
--- what must be sent of what is owed
+-- whether what is owed at a place must be sent
 abbrev pub due : (ℕ → Bool) → (ℕ → Bool) → ℕ → Bool
 due o m k = o k && m k
 
@@ -286,7 +286,7 @@ due-among o m k is = by (o k) (m k) is
 pub due-deadlines : (entries : List Entry) (o m : ℕ → Bool) → debt_deadlines (debts_from o m 0 entries) ≡ map (λ d. d.deadline) (debts_from (due o m) (due o m) 0 entries)
 due-deadlines entries o m = ap debt_deadlines (owed-due o m 0 entries) ∙ listed-must o (due o m) 0 entries (due-among o m)
 
--- the least deadline up to a place
+-- the least deadline of what must be sent before a place
 abbrev pub least_to : List Entry → (ℕ → Bool) → ℕ → Option ℕ
 least_to entries m to = earliest (map (λ d. d.deadline) (front m m entries to))
 
@@ -294,11 +294,11 @@ pub least-start : (entries : List Entry) (m : ℕ → Bool) (from : ℕ) → fro
 least-start entries m from within none =
     sym (ap (λ l. earliest (map (λ (d : Debt). d.deadline) l)) (listed-none m m 0 (take from entries) (λ k _ below. none k (omega (arith, below, length-take-le from entries within)))))
 
--- nothing is due between
+-- the least deadline stays where nothing is due between two places
 pub least-over : (entries : List Entry) (m : ℕ → Bool) (from to : ℕ) → from ≤ to → to ≤ length entries → IsGap m from to → least_to entries m to ≡ least_to entries m from
 least-over entries m from to order within gap = ap (λ l. earliest (map (λ (d : Debt). d.deadline) l)) (front-gap m m entries from to order within gap)
 
--- what is due next
+-- the least deadline takes in that of the next place at which something is due
 pub least-more : (entries : List Entry) (m : ℕ → Bool) (from at : ℕ) → from ≤ at → at < length entries → IsGap m from at → m at ≡ true →
     least_to entries m (at + 1) ≡ earliest ((entry_at entries at).deadline ∷ option_to_list (least_to entries m from))
 least-more entries m from at order inside gap is =
@@ -312,7 +312,7 @@ least-end entries m from within none =
     ap (λ l. earliest (map (λ (d : Debt). d.deadline) l))
     (parts m m entries from within ∙ ap (λ l. front m m entries from ++ l) (back-none m m entries from none) ∙ append-nil (front m m entries from))
 
--- where no deadline after it is below it, the first one is the least
+-- where no later deadline is below that of the first gain that is due, it is the least
 pub least-rising : (entries : List Entry) (m : ℕ → Bool) (at : ℕ) → ((k : ℕ) → at ≤ k → k < length entries → (entry_at entries at).deadline ≤ (entry_at entries k).deadline) →
     at < length entries → ((k : ℕ) → k < at → m k ≡ false) → m at ≡ true → Some (entry_at entries at).deadline ≡ earliest (map (λ d. d.deadline) (debts_from m m 0 entries))
 least-rising entries m at rising inside none is =
@@ -336,7 +336,7 @@ least-rising entries m at rising inside none is =
         let here : get_or entries (at + 1 + j) e ≡ entry_at entries (at + 1 + j) = get_or_default entries (at + 1 + j) e no_entry there in
         subst (λ (x : Entry). (entry_at entries at).deadline ≤ x.deadline) (sym (same ∙ here)) first
 
--- the least deadline of what an account must send before a place; where deadlines rise there is none so far
+-- `least` is the least deadline of what the account must send before the place; where deadlines rise there is none yet
 pub record IsLeastTo (gains : Gains) (strikes : List Strike) (a : Account) (from : ℕ) (least : Option ℕ) : Type 0 where
   pub is : least ≡ least_to (entries_of gains) (due (owes_at gains strikes a) (must_at gains a)) from
   pub low : a.start ≤ from
@@ -378,7 +378,7 @@ least-first gains strikes a from is low soft one =
       none = λ _ k early. not-due-before gains strikes a from k one early;
     }
 
--- up to the next place of what must be sent nothing is due
+-- nothing is due before the next place of a gain that must be sent
 gap-due : (gains : Gains) (strikes : List Strike) (a : Account) (from at : ℕ) → ((k : ℕ) → from ≤ k → k < at → holds gains.musts 0 k ≡ false) →
     IsGap (due (owes_at gains strikes a) (must_at gains a)) from at
 gap-due gains strikes a from at none k above below = and-no (owes_at gains strikes a k) (must_at gains a k) (unmust gains a k (none k above below))
@@ -447,7 +447,7 @@ least-first_due gains strikes a from at moment least gained was above inside gap
     ]) (is-due gains strikes a at (omega (arith, soft, above)) held owed)
     ∙ sym (ap earliest (due-deadlines entries o (must_at gains a)))
 
--- nothing is due from here on
+-- where nothing is due from a place on, the least deadline so far is that of all
 pub least-last : (gains : Gains) (strikes : List Strike) (a : Account) (from at : ℕ) (least : Option ℕ) → IsLeastTo gains strikes a from least →
     ((k : ℕ) → from ≤ k → k < at → holds gains.musts 0 k ≡ false) → a.end ≤ at → least ≡ earliest (debt_deadlines (account_debts gains strikes a))
 unfolding account_debts
@@ -462,7 +462,7 @@ least-last gains strikes a from at least was gap past =
     ]))
     ∙ sym (ap earliest (due-deadlines entries o (must_at gains a)))
 
--- the first debt must be sent, and deadlines rise
+-- a gain that must be sent was gained so, at `soft` or after it
 must-parts : (gains : Gains) (a : Account) (k : ℕ) → must_at gains a k ≡ true → (holds gains.musts 0 k ≡ true) × (a.soft ≤ k)
 must-parts gains a k is = elim (cases_lt k a.soft) [
   | inl low ↦ absurd (true≢false (sym is ∙ sym (must-below gains a k low)))

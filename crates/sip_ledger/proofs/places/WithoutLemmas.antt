@@ -1,4 +1,4 @@
--- An account without one of its debts.
+-- An account loses one of its debts.
 use Rattle.std.proofs.Common.{◌≡◌, ◌≢◌, ℕ, ◌+◌, ◌-◌, ◌<◌, ◌≤◌, ◌%◌, ◌^◌, ◌==◌, ◌&&◌, ◌||◌, Bool, true, false, cond, not, List, [], ◌∷◌, ◌++◌, length, take, drop, get_or, refl, sym, ap, ap₂, ◌∙◌, subst, inl, inr, arith, lit<}
 use Rattle.std.specs.Prelude.{nat_le, nat_lt}
 use Rattle.std.specs.List.{sum_by}
@@ -20,7 +20,7 @@ use Rattle.sip_ledger.proofs.debts.ListedLemmas.{no_entry, front, back, parts, b
 use Rattle.sip_ledger.proofs.places.LeftLemmas.{gone-same, gone-struck}
 use Rattle.sip_ledger.proofs.places.AccountLemmas.{owed-within, past-end, soft-must}
 
--- debts without one of them
+-- the new debts are the old ones without this one
 pub record IsCut (debt : Debt) (old new : List Debt) : Type 0 where
   pub before : List Debt
   pub after : List Debt
@@ -42,7 +42,7 @@ cut-at entries o m o' m' at within is without must =
           ∙ back-same o' m' o m entries (at + 1) (λ j above. let other : j ≢ at = omega (arith, above) in (without.others j other, must j)));
     }
 
--- the print of debts without one of them
+-- the print of debts without one of them is their print less the worth of that one
 abbrev worths : List Debt → ℕ
 worths debts = sum_by (λ debt. worth_of debt.message debt.deadline) debts
 
@@ -64,7 +64,7 @@ pub print-fits : (debts : List Debt) → debts_print debts < 2 ^ 64
 unfolding debts_print
 print-fits debts = mod_below (worths debts) (2 ^ 64) (lit< tt)
 
--- a number is taken away as it was added
+-- a number that was added modulo 2^64 can be taken away again
 taken-print : (q w : ℕ) → q < 2 ^ 64 → w < 2 ^ 64 → ((q + w) % 2 ^ 64 + (2 ^ 64 - w)) % 2 ^ 64 ≡ q
 taken-print q w fits less =
     let all : q + w + (2 ^ 64 - w) ≡ q + 2 ^ 64 = omega (arith, less) in
@@ -73,7 +73,7 @@ taken-print q w fits less =
     ∙ add-mod_right q (2 ^ 64)
     ∙ mod-eq_of_lt fits
 
--- what an account owes at a place from its start on, before its end
+-- whether the account owes what was gained at a place, from its start on
 abbrev rest : Gains → List Strike → Account → ℕ → Bool
 rest gains own a k = nat_lt k a.end && not (is_gone gains own k)
 
@@ -94,7 +94,7 @@ unfolding owes_at
 before-start gains strikes a k early =
     ap (λ b. b && (nat_lt k a.end && not (is_gone gains (strikes_of strikes a) k))) (le-no a.start k early)
 
--- the account begins later: nothing else that it owed stood between
+-- where the account begins later, and owed nothing between, it is without its first gain
 pub later-start : (gains : Gains) (strikes : List Strike) (a b : Account) (place : ℕ) → a.start ≡ place → place < b.start → b.end ≡ a.end → b.first ≡ a.first → b.last ≡ a.last →
     ((k : ℕ) → place < k → k < b.start → owes_at gains strikes a k ≡ false) → IsWithout place (owes_at gains strikes a) (owes_at gains strikes b)
 unfolding owes_at
@@ -113,7 +113,7 @@ later-start gains strikes a b place start later end first last none = record {
   ];
 }
 
--- the account ends earlier
+-- where the account ends one place earlier, it is without its last gain
 pub earlier-end : (gains : Gains) (strikes : List Strike) (a b : Account) (place : ℕ) → place + 1 ≡ a.end → b.end ≡ place → b.start ≡ a.start → b.first ≡ a.first → b.last ≡ a.last →
     IsWithout place (owes_at gains strikes a) (owes_at gains strikes b)
 unfolding owes_at
@@ -129,7 +129,7 @@ earlier-end gains strikes a b place end now start first last = record {
   ];
 }
 
--- what was gained at the place is struck
+-- where the gain at the place is struck, the account is without it
 or-last : (x : Bool) → (x || true) ≡ true
 or-last true = refl
 or-last false = refl
@@ -166,7 +166,7 @@ struck-without gains old new a b c place s low start end first last = record {
         ap₂ (λ x y. nat_le x k && (nat_lt k y && not (is_gone gains (strikes_of new c) k))) (start ∙ s.start) (end ∙ s.end)
         ∙ ap₂ (λ f l. nat_le a.start k && (nat_lt k a.end && not (is_gone gains (drop f (take l new)) k))) first last
 
--- the account that is left
+-- an account without one of its gains is an account, and owes the debts without that one
 pub without-account : (gains : Gains) (old new : List Strike) (a b : Account) (place w : ℕ) → IsAccount gains old a → owes_at gains old a place ≡ true →
     IsWithout place (owes_at gains old a) (owes_at gains new b) → b.soft ≡ a.soft → b.start ≤ b.end → b.end ≤ a.end → b.first ≤ b.last → b.last ≤ length new →
     ((m k : ℕ) → length (entries_of gains) ≤ k → is_struck (strikes_of new b) m k ≡ false) → (b.start < b.end → owes_at gains new b b.start ≡ true) →
@@ -207,7 +207,7 @@ pub worth-fits : (m d : ℕ) → worth_of m d < 2 ^ 64
 unfolding worth_of
 worth-fits m d = mod_below _ (2 ^ 64) (lit< tt)
 
--- without its first debt
+-- an account without its first debt is an account, and owes the others
 pub without-first : (gains : Gains) (strikes : List Strike) (a : Account) (place w next print : ℕ) → IsAccount gains strikes a → owes_at gains strikes a place ≡ true →
     place ≡ a.start → w ≡ worth_of (entry_at (entries_of gains) place).message (entry_at (entries_of gains) place).deadline → print ≡ (a.print + (2 ^ 64 - w)) % 2 ^ 64 →
     (place + 1 ≤ next) × (next ≤ a.end) → ((k : ℕ) → place + 1 ≤ k → k < next → owes_at gains strikes a k ≡ false) →
@@ -227,7 +227,7 @@ without-first gains strikes a place w next print is owed here worth printed orde
       without,
     )
 
--- without its last debt
+-- an account without its last debt is an account, and owes the others
 pub without-last : (gains : Gains) (strikes : List Strike) (a : Account) (place w print : ℕ) → IsAccount gains strikes a → owes_at gains strikes a place ≡ true →
     place ≢ a.start → place + 1 ≡ a.end → w ≡ worth_of (entry_at (entries_of gains) place).message (entry_at (entries_of gains) place).deadline →
     print ≡ (a.print + (2 ^ 64 - w)) % 2 ^ 64 →
@@ -245,7 +245,7 @@ without-last gains strikes a place w print is owed later last worth printed =
       without,
     )
 
--- without a debt between others
+-- an account without a debt between others is an account, and owes the others
 pub without-middle : (gains : Gains) (old new : List Strike) (a b : Account) (place w print : ℕ) → IsAccount gains old a → owes_at gains old a place ≡ true →
     place ≢ a.start → IsStruck gains place (place + 1) old new a b → w ≡ worth_of (entry_at (entries_of gains) place).message (entry_at (entries_of gains) place).deadline →
     print ≡ (a.print + (2 ^ 64 - w)) % 2 ^ 64 →

@@ -36,7 +36,7 @@ pub record IsKept (gains : Gains) (k : ℕ) : Type 0 where
   pub from : gains.end ≤ k + length gains.entries.items
   pub within : k < gains.end
 
--- it is one of the message
+-- the gain at the place is kept, and is of this message
 pub record IsPlaceOf (gains : Gains) (m k : ℕ) : Type 0 where
   pub kept : IsKept gains k
   pub message : (entry_at (entries_of gains) k).message ≡ m
@@ -48,7 +48,7 @@ no_flags = record { must = false; left = false }
 abbrev pub flags_at : Gains → ℕ → Flags
 flags_at gains k = get_or gains.flags.items (k - (gains.end - length gains.entries.items)) no_flags
 
--- each gain that is kept has them
+-- each gain that is kept has its flags, and they are right
 pub record AreFlags (gains : Gains) : Type 0 where
   pub many : length gains.flags.items ≡ length gains.entries.items
   pub left : (k : ℕ) → IsKept gains k → (flags_at gains k).left ≡ is_left gains k
@@ -69,7 +69,7 @@ pub record IsNoted (place : ℕ) (debt : Debt) (named must_be named' must_be' : 
   pub must : holds must_be' 0 place ≡ debt.must
   pub musts : (k : ℕ) → k ≢ place → holds must_be' 0 k ≡ holds must_be 0 k
 
--- one more gain
+-- a gain of the debt is put after the others, and stands under its message
 pub record IsGain (debt : Debt) (old new : Gains) : Type 0 where
   pub entries : entries_of new ≡ entries_of old ++ (record { message = debt.message; deadline = debt.deadline }) ∷ []
   pub message : holds new.messages debt.message (length (entries_of old)) ≡ true
@@ -77,7 +77,7 @@ pub record IsGain (debt : Debt) (old new : Gains) : Type 0 where
   pub must : holds new.musts 0 (length (entries_of old)) ≡ debt.must
   pub musts : (k : ℕ) → k ≢ length (entries_of old) → holds new.musts 0 k ≡ holds old.musts 0 k
 
--- the gains and where they stand are the same
+-- old and new gains are the same, and stand under the same messages
 pub record AreSameGains (old new : Gains) : Type 0 where
   pub entries : entries_of new ≡ entries_of old
   pub messages : (m k : ℕ) → holds new.messages m k ≡ holds old.messages m k
@@ -103,7 +103,7 @@ pub record IsDropped (place : ℕ) (old new : Gains) : Type 0 where
 abbrev pub is_out : ℕ → ℕ → Strike → Bool
 is_out message k strike = strike.message == message && (nat_le strike.from k && nat_lt k strike.to)
 
--- whether one of the strikes does
+-- whether one of the strikes says that a gain of this message at place k is not owed
 unfoldable pub is_struck : List Strike → ℕ → ℕ → Bool
 is_struck strikes message k = list_any (is_out message k) strikes
 
@@ -119,11 +119,11 @@ is_gone gains strikes k = not (is_left gains k) || is_struck strikes (entry_at (
 unfoldable pub owes_at : Gains → List Strike → Account → ℕ → Bool
 owes_at gains strikes account k = nat_le account.start k && (nat_lt k account.end && not (is_gone gains (strikes_of strikes account) k))
 
--- whether it must send it
+-- whether the account must send what was gained at place k
 unfoldable pub must_at : Gains → Account → ℕ → Bool
 must_at gains account k = holds gains.musts 0 k && nat_le account.soft k
 
--- what it owes
+-- the debts of an account
 unfoldable pub account_debts : Gains → List Strike → Account → List Debt
 account_debts gains strikes account = debts_from (owes_at gains strikes account) (must_at gains account) 0 (entries_of gains)
 
@@ -148,7 +148,7 @@ pub record AreAccounts (gains : Gains) (strikes : List Strike) (accounts : List 
   pub gained : AreGains gains
   pub each : All (IsAccount gains strikes) accounts
 
--- what each owes
+-- the debts of each account
 unfoldable pub accounts_debts : Gains → List Strike → List Account → List (List Debt)
 accounts_debts gains strikes accounts = map (account_debts gains strikes) accounts
 
@@ -179,7 +179,7 @@ pub record IsNext (gains : Gains) (message from : ℕ) (place : Option ℕ) : Ty
   pub before : IfSome place (λ at. (k : ℕ) → from ≤ k → k < at → holds gains.messages message k ≡ false)
   pub none : IfNone place ((k : ℕ) → from ≤ k → holds gains.messages message k ≡ false)
 
--- what is remembered of the message's places is so
+-- what a seek knows is right: from its `low` on, the message is left first at its place, or nowhere
 abbrev pub IsSeek : Gains → ℕ → Seek → Type 0
 IsSeek gains message seek = IsNext gains message seek.low seek.place
 
@@ -227,19 +227,19 @@ pub record IsGainAt (gains : Gains) (debt : Debt) (place : ℕ) : Type 0 where
   pub deadline : (entry_at (entries_of gains) place).deadline ≡ debt.deadline
   pub must : holds gains.musts 0 place ≡ debt.must
 
--- the account may owe it after all that it owes
+-- the account can gain the debt at this place, after all that it owes
 pub record IsNextGain (gains : Gains) (strikes : List Strike) (account : Account) (debt : Debt) (place : ℕ) : Type 0 where
   pub gain : IsGainAt gains debt place
   pub end : account.end ≤ place
   pub soft : account.soft ≤ place
   pub free : is_struck (strikes_of strikes account) debt.message place ≡ false
 
--- all accounts owe what they owed
+-- all accounts over the old gains are accounts over the new ones, and owe what they owed
 pub record KeepsAccounts (old new : Gains) : Type 0 where
   pub each : (strikes : List Strike) (accounts : List Account) → All (IsAccount old strikes) accounts →
       All (IsAccount new strikes) accounts × (accounts_debts new strikes accounts ≡ accounts_debts old strikes accounts)
 
--- what is past has gone up to a place
+-- before the place what is past at t is no longer owed; from the place on the same is owed as before
 pub record IsExpiredTo (t : ℕ) (entries : List Entry) (m o o' : ℕ → Bool) (place : ℕ) : Type 0 where
   pub gone : (k : ℕ) → k < place → o' k ≡ (o k && (m k || nat_le t (entry_at entries k).deadline))
   pub later : (k : ℕ) → place ≤ k → o' k ≡ o k
@@ -277,7 +277,7 @@ pub record HasStrikes (strikes : List Strike) (a : Account) : Type 0 where
   pub first : a.first ≤ a.last
   pub last : a.last ≤ length strikes
 
--- of some strikes those that strike something that is left from a place on, and maybe others
+-- the new strikes strike what the old ones strike of what is left from a place on, and strike nothing that the old ones do not
 pub record AreThinned (gains : Gains) (from : ℕ) (old new : List Strike) : Type 0 where
   pub same : (k : ℕ) → from ≤ k → is_left gains k ≡ true → is_struck new (entry_at (entries_of gains) k).message k ≡ is_struck old (entry_at (entries_of gains) k).message k
   pub among : (m k : ℕ) → is_struck old m k ≡ false → is_struck new m k ≡ false
@@ -286,7 +286,7 @@ pub record AreThinned (gains : Gains) (from : ℕ) (old new : List Strike) : Typ
 abbrev pub StrikesNoneFrom : Gains → ℕ → Strike → Type 0
 StrikesNoneFrom gains from strike = (k : ℕ) → from ≤ k → is_left gains k ≡ true → is_out (entry_at (entries_of gains) k).message k strike ≡ false
 
--- such strikes of some are written after others
+-- strikes that are thinned from these strikes are written after the old ones
 pub record AreAppended (gains : Gains) (from : ℕ) (strikes old new : List Strike) : Type 0 where
   pub more : List Strike
   pub whole : new ≡ old ++ more
@@ -303,7 +303,7 @@ pub record IsMoved (gains : Gains) (strikes old new : List Strike) (a b : Accoun
   pub last : b.last ≤ length new
   pub own : AreThinned gains a.start (strikes_of strikes a) (strikes_of new b)
 
--- accounts that owe over other strikes what those before them owe
+-- the new rows are accounts over the new strikes, and owe what the rows owe over the old ones
 pub record AreMoved (gains : Gains) (strikes : List Strike) (rows : List Account) (strikes' : List Strike) (rows' : List Account) : Type 0 where
   pub each : All (IsAccount gains strikes') rows'
   pub debts : accounts_debts gains strikes' rows' ≡ accounts_debts gains strikes rows

@@ -276,7 +276,7 @@ pub(crate) fn place_for(
     Ok(place)
 }
 
-/// The same. The place is looked at first at which another account gained the debt, if there is one.
+/// A place at which the account can gain the debt. The place at which another account gained it, if there is one, is looked at first.
 pub(crate) fn place_near(
     gains: &mut Gains,
     strikes: &[Strike],

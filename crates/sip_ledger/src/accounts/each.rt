@@ -25,8 +25,8 @@ impl Accounts {
         }
     }
 
-    /// Puts a copy of each row from one up to another after the others, but of those that must send something that is past at the
-    /// moment. On an error all is as before.
+    /// Puts copies of the rows from one up to another after the others. A row that must send something that is past at the moment gets
+    /// no copy. On an error all is as before.
     pub fn push_timely(&mut self, from: usize, to: usize, moment: u64) -> Result<(), AllocError>
         requires { to ≤ length self.old }
         ensures ok { OnOk result (self.new ≡ self.old ++ filter (is_timely moment) (from_to from to self.old)) }
@@ -42,7 +42,7 @@ impl Accounts {
         Ok(())
     }
 
-    /// Lets each row from one on owe one more debt, after its others. On an error they are gone, and the rows before them are left.
+    /// Lets each row from one on owe one more debt, after its others. On an error these rows are gone, and those before them are left.
     pub fn gain_each(&mut self, from: usize, debt: Debt) -> Result<(), AllocError>
         ensures ok { OnOk result (self.new ≡ take from self.old ++ map (λ owes. owes ++ debt ∷ []) (drop from self.old)) }
         ensures err { OnErr result (self.new ≡ take from self.old) }
@@ -62,8 +62,8 @@ impl Accounts {
         Ok(())
     }
 
-    /// Drops what each row from one on may send and whose deadline is below the moment. On an error they are gone, and the rows before them
-    /// are left.
+    /// Drops what each row from one on may send and whose deadline is below the moment. On an error these rows are gone, and those before
+    /// them are left.
     pub fn expire_each(&mut self, from: usize, moment: u64) -> Result<(), AllocError>
         ensures ok { OnOk result (self.new ≡ take from self.old ++ map (filter (counts_at moment)) (drop from self.old)) }
         ensures err { OnErr result (self.new ≡ take from self.old) }
@@ -92,8 +92,8 @@ impl Accounts {
         Ok(prints)
     }
 
-    /// Puts rows after the others: of each row from one up to another that has a debt that a send of the message at the moment pays, and
-    /// that must send nothing that is past then, one that owes the rest, without what is past. On an error all is as before.
+    /// Puts after the others what a send of the message at the moment leaves of the rows from one up to another, without what is past.
+    /// A row gives one only if the send pays a debt of it, and if it must send nothing that is past. On an error all is as before.
     pub fn push_paid(
         &mut self,
         from: usize,
@@ -152,8 +152,8 @@ fn gain_some(
     Ok(())
 }
 
-/// Puts what is left of the accounts from one up to another after the others, of those that a send of the message at the moment pays. On an
-/// error some of them are there.
+/// Puts after the others what a send of the message at the moment leaves of each account from one up to another that it pays. On an error
+/// some of these may be there.
 fn push_some(
     gains: &Gains,
     strikes: &mut Vec<Strike>,

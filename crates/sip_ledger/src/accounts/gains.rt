@@ -10,7 +10,7 @@ use crate::index::Index;
 use crate::words;
 use std::alloc::{AllocError, Global};
 
-/// What is asked of a gain most.
+/// What is asked of a gain most often.
 #[derive(Clone, Copy, Debug)]
 pub(crate) struct Flags {
     /// Whether it must be sent.
@@ -22,9 +22,9 @@ pub(crate) struct Flags {
 /// What was gained, in order. A place is the number of a gain: it stays when gains before it are dropped.
 #[derive(Debug, Drop)]
 pub(crate) struct Gains {
-    /// The message and the deadline of each gain that is kept: of the last ones.
+    /// The message and the deadline of each gain that is kept: these are the last ones.
     pub entries: Vec<Entry>,
-    /// The flags of each of them.
+    /// The flags of each gain that is kept.
     pub flags: Vec<Flags>,
     /// How many gains there were.
     pub end: usize,

@@ -8,10 +8,10 @@ use crate::accounts::account::Account;
 use crate::accounts::gains::Gains;
 use std::alloc::AllocError;
 
-/// So many gains are looked at one by one, where the index would be asked else.
+/// How many gains are looked at one by one before the index is asked.
 const FEW: usize = 8;
 
-/// Of this message nothing is owed at the places from one up to another.
+/// Nothing of this message is owed at the places from one up to another.
 #[derive(Clone, Copy, Debug, PartialEq, Eq)]
 pub(crate) struct Strike {
     pub message: u32,

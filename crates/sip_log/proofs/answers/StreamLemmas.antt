@@ -22,7 +22,7 @@ pub record Starts (input : List ℕ) (format : Format) (p : Times) (items : List
   pub header : Header format p input (flat_map entry_says items ++ rest)
   pub order : InOrder format 0 items
 
--- these are known of an input, of which this is left
+-- where the input is known, a header and these entries stand at its front, and this is left after them
 abbrev pub StartsAt : Option (List ℕ) → Format → Times → List Item → Option (List ℕ) → Type 0
 StartsAt start format p items left = IfSome start (λ input. (rest : List ℕ) × (left ≡ Some rest) × Starts input format p items rest)
 
@@ -34,14 +34,14 @@ pub record HasStreamed (start : Option (List ℕ)) (p : Times) (items : List Ite
   pub starts : StartsAt start now.format p items now.left
 
 module _ (input : List ℕ) (format : Format) (p : Times) (items : List Item) (rest : List ℕ) (is : Starts input format p items rest) where
-  -- one more entry
+  -- where an entry comes next in the rest, the header and the entries with that one stand at the front of the input
   starts_push : (e : Item) (behind : List ℕ) → ComesNext format 0 (last_of 0 items) rest (gives e behind) → Starts input format p (items ++ e ∷ []) behind
   starts_push e behind next = record {
     header = subst (Header format p input) (ap (λ (t : List ℕ). flat_map entry_says items ++ t) next.0 ∙ texts-push items e behind) is.header;
     order = InOrder-push format 0 items e is.order next.2 next.3;
   }
 
-  -- where the rest ends so, they are the log of the input
+  -- where the rest ends in this way, the log of the input has these entries and ends so
   starts_end : (end : LogEnd) → EndsWith format 0 (last_of 0 items) rest end → StreamSays input p items end
   starts_end end next = record { format = format; rest = rest; header = is.header; order = is.order; next = next }
 
@@ -119,7 +119,7 @@ streamed_log start p items now has = go start has.starts
           },
         )
 
--- what was read of a log was read so too
+-- what was read of a log was read of it as a stream too
 pub stands_streamed : (start : Option (List ℕ)) (p : Times) (items : List Item) (now : ReaderState) → now.stage ≡ entries → now.times ≡ Some p → Stands start items now → HasStreamed start p items now
 stands_streamed start p items now on times stands =
     let at = subst (λ s. StandsAt s start items now) on stands in

@@ -84,7 +84,7 @@ Tolerances-length One text early late low low2 is = omega (arith, NumberAfter-le
 Tolerances-length Two text early late low low2 is =
     omega (arith, NumberAfter-length (codes " early ") text early is.0 low is.1, NumberAfter-length (codes " late ") is.0 late [] low2 is.2)
 
--- What was read of line 2, word by word, is what stands there.
+-- What follows shows that the times that are read of line 2, word by word, are those that stand there.
 module _ (format : Format) (line : List ℕ) (p : Times) (is : TimesLine format line p) (n1 : ℕ) (rest1 : List ℕ) (first : NumberAfter (codes "t1 ") line n1 rest1) where
   same1 : (p.t1 ≡ n1) × (is.rest1 ≡ rest1)
   same1 = NumberAfter-one (codes "t1 ") line p.t1 n1 is.rest1 rest1 is.t1_is first

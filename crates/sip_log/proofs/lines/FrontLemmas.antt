@@ -15,14 +15,14 @@ use Rattle.sip_log.proofs.lines.SplitLemmas.{Cut, first-cut, first-none, first-o
 
 -- What follows is of the first line feed among the first `most` bytes that are held.
 module _ (most : ℕ) (held ys : List ℕ) where
-  -- where a search finds it at the place k, the line there is the first one of what is left
+  -- where a search finds the line feed at the place k, the bytes before k are the first line of what is left
   pub line-held : (k : ℕ) → IsFirstByte (is_byte line_feed) (take most held) (Some k)
       → Cut line_feed (held ++ ys) (take k held) (drop (k + 1) held ++ ys)
   line-held k found =
       let at = first-cut line_feed held k (first-of-front line_feed most held k found) in
       record { whole = cut-more (take k held) (drop (k + 1) held) line_feed held ys at.whole; first = at.first }
 
-  -- where a search finds none, and `most` bytes are held or no more are left, what is left has no line shorter than `most`
+  -- where a search finds no line feed, and `most` bytes are held or no more are left, what is left has no line shorter than `most`
   pub line-none : IsFirstByte (is_byte line_feed) (take most held) None → (most ≤ length held) ⊎ (ys ≡ [])
       → (line behind : List ℕ) → held ++ ys ≡ line ++ line_feed ∷ behind → ¬ (length line < most)
   line-none none enough line behind whole short =

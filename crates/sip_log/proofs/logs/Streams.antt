@@ -15,12 +15,12 @@ use Rattle.sip_log.proofs.answers.NextRead.{next-read}
 use Rattle.sip_log.proofs.logs.LogLaws.{Header-one, ComesNext-one, next_at-one, next_at-not_gives}
 use Rattle.sip_log.proofs.logs.LogExists.{header-or-not, next-some, next-shorter}
 
--- the rest of an input, where the last entry had this moment, has these entries in a row, and then ends so
+-- the rest of an input, where the last entry had this moment, has these entries in a row, and then ends in this way
 abbrev pub Follows : Format → ℕ → List ℕ → List Item → LogEnd → Type 0
 Follows format last rest [] end = EntryComes format 0 last rest (next_at end)
 Follows format last rest (e ∷ es) end = (behind : List ℕ) × EntryComes format 0 last rest (gives e behind) × Follows format e.moment behind es end
 
--- There are such.
+-- What follows shows that each rest has some entries and an end.
 
 abbrev pub SomeFollow : Format → ℕ → List ℕ → Type 0
 SomeFollow format last rest = (es : List Item) × (end : LogEnd) × Follows format last rest es end
@@ -42,7 +42,7 @@ follows_within format (suc most) last rest short =
 pub follows_some : (format : Format) (last : ℕ) (rest : List ℕ) → SomeFollow format last rest
 follows_some format last rest = follows_within format (suc (length rest)) last rest (omega arith)
 
--- There is one.
+-- What follows shows that a rest has only one list of entries and one end.
 
 follows_one : (format : Format) (last : ℕ) (rest : List ℕ) (es es2 : List Item) (end end2 : LogEnd) → Follows format last rest es end → Follows format last rest es2 end2 → (es ≡ es2) × (end ≡ end2)
 follows_one format last rest [] [] end end2 a b = (refl, next_at-one end end2 (ComesNext-one format 0 last rest _ _ a b))
@@ -55,9 +55,9 @@ follows_one format last rest (e ∷ es) (e2 ∷ es2) end end2 a b =
     let more = follows_one format e2.moment b.0 es es2 end end2 (coe 0 1 (i. Follows format ((first i).moment) (behind i) es end) a.2) b.2 in
     (λ i. first i ∷ more.0 i, more.1)
 
--- They are what is spelled.
+-- What follows shows that the entries are what the rest spells.
 
--- what follows a place of an input, spelled
+-- the rest of an input spells these entries, one after another, and ends in this way after them
 pub record Spelled (format : Format) (last : ℕ) (rest : List ℕ) (items : List Item) (end : LogEnd) : Type 0 where
   pub left : List ℕ
   pub whole : rest ≡ flat_map entry_says items ++ left

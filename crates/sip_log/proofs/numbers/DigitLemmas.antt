@@ -28,7 +28,7 @@ digits-len text front back at whole digits within run other =
       ]
     ]
 
--- they are the digits, and what stands from there on is the blank and the rest
+-- where digits and a blank begin a text, the run of digits at its front is these digits, and the blank and the rest come after it
 pub digits-front : (text front back : List ℕ) (at : ℕ) → text ≡ front ++ space ∷ back → AllDigits 10 front → at ≤ length text → AllDigits 10 (take at text)
     → (at < length text → IsNotAsciiDigit (get_or text at 0)) → (take at text ≡ front) × (drop at text ≡ space ∷ back)
 digits-front text front back at whole digits within run other =

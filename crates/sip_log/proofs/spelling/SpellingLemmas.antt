@@ -1,4 +1,4 @@
--- Lemmas of the spelling of a header and of an entry's line, beside the relations by which the code reads them.
+-- A header and an entry's line are read as what they spell, by the relations by which the code reads them, and spell what is read of them.
 use Rattle.std.proofs.Common.{◌≡◌, ◌⊎◌, inl, inr, ◌<◌, ℕ, List, [], ◌∷◌, ◌++◌, length, refl, sym, ap, ◌∙◌, arith, append_assoc}
 use Rattle.std.specs.Prelude.{codes, decimal}
 use Rattle.std.proofs.lemmas.List.{append-nil, length-append}

@@ -152,7 +152,7 @@ many-among low high (n ∷ ns) (m ∷ ms) up up' all =
           omega (arith, a, rest)
     ]
 
--- where ms are a part of ns, both rise, and as many of both are from low up to high, each of ns that is so is one of ms
+-- where ms are a part of ns, both rise, and as many of both lie from low up to high, each of ns from low up to high is one of ms
 pub among-all : (low high : ℕ) (ns ms : List ℕ) → AllPairs (λ a b. a < b) ns → AllPairs (λ a b. a < b) ms → ((x : ℕ) → Contains ms x → Contains ns x) →
     many low high ns ≤ many low high ms → (x : ℕ) → Contains ns x → low ≤ x → x ≤ high → Contains ms x
 among-all low high [] ms up up' all few x has le le' = absurd (Contains-nil x has)

@@ -134,7 +134,7 @@ Contains-insert xs i y x has =
 Contains-inserted : {X : Type 0} (xs : List X) (i : ℕ) (y : X) → Contains (insert xs i y) y
 Contains-inserted xs i y = Contains-append_right (take i xs) (y ∷ drop i xs) y (Contains-get_or (y ∷ drop i xs) 0 y (omega arith))
 
--- a map of a list with y inserted is the map of the list with the map of y inserted
+-- the map of a list with y inserted is the map of the list with f y inserted
 map-insert : {X Y : Type 0} (f : X → Y) (xs : List X) (i : ℕ) (y : X) → map f (insert xs i y) ≡ insert (map f xs) i (f y)
 map-insert f xs i y = rw (map-append, take-map, drop-map) refl
 

@@ -1,27 +1,34 @@
 -- What `AnySet` says of waiting and of taking an event, put together from the clauses of `StateSet`.
-use Rattle.std.proofs.Common.{◌≡◌, ◌≤◌, ◌+◌, ℕ, Result, Ok, Err, OnOk, length}
+use Rattle.std.proofs.Common.{◌≡◌, ◌≤◌, ◌+◌, ℕ, Result, Ok, Err, OnOk, length, refl}
+use Rattle.sip_standard.specs.KeyMachine.{MachineKind}
+use Rattle.sip_standard.specs.Times.{Times}
 use Rattle.sip_machine.specs.NumberedEvent.{NumberedEvent}
 use Rattle.sip_machine.specs.Texts.{Texts, IsBook}
 use Rattle.sip_machine.specs.Rules.{StandFor}
 use Rattle.sip_states.specs.Runs.{widest}
 use Rattle.sip_states.specs.Held.{Held}
-use Rattle.sip_states.specs.Meaning.{Meaning, IsKnown, Waiting, Given, HasWaited, HasTaken}
+use Rattle.sip_states.specs.KeySets.{StateOf, set_of}
+use Rattle.sip_states.specs.Meaning.{IsKnown, Waiting, Given, HasWaited, HasTaken}
+use Rattle.sip_states.specs.AnySet.{meaning_of, IsSetOf}
 
-module _ {X M S T E : Type 0} (m : Meaning X M S) (old new : Held M S) where
+module _ {T E : Type 0} (machine : MachineKind) (old new : Held Times (StateOf machine)) where
   -- the clauses of `StateSet::advance`, taken together, say that the set has waited
   pub has_waited : (moment : ℕ) (r : Result T E)
       → OnOk r ((new.machine ≡ old.machine) × (new.moment ≡ moment))
-      → OnOk r ((texts : Texts) → IsBook texts → IsKnown m texts old → StandFor m.names m.in_range m.seen texts (Waiting m texts old moment) new.states)
+      → OnOk r ((texts : Texts) → IsBook texts → IsKnown (meaning_of machine) texts old →
+      StandFor (meaning_of machine).names (meaning_of machine).in_range (meaning_of machine).seen texts (Waiting (meaning_of machine) texts old moment) new.states)
       → OnOk r (length new.states ≤ length old.states + 1)
-      → OnOk r (HasWaited m moment old new)
-  has_waited moment (Ok x) at states one_more = record { machine = at.0; at = at.1; states = states; one_more = one_more }
+      → OnOk r (IsSetOf machine (λ t. HasWaited (meaning_of machine) moment old t) (set_of machine new))
+  has_waited moment (Ok x) at states one_more =
+      record { held = new; is = refl; holds = record { machine = at.0; at = at.1; states = states; one_more = one_more } }
   has_waited moment (Err e) at states one_more = tt
 
   -- the clauses of `StateSet::take`, taken together, say that the set has taken the event
   pub has_taken : (texts : Texts) (e : NumberedEvent) (r : Result T E)
       → OnOk r ((new.machine ≡ old.machine) × (new.moment ≡ e.moment))
-      → OnOk r (StandFor m.names m.in_range m.seen texts (Given m texts old e) new.states)
+      → OnOk r (StandFor (meaning_of machine).names (meaning_of machine).in_range (meaning_of machine).seen texts (Given (meaning_of machine) texts old e) new.states)
       → OnOk r (length new.states ≤ widest)
-      → OnOk r (HasTaken m texts e old new)
-  has_taken texts e (Ok x) at states few = record { machine = at.0; at = at.1; states = states; few = few }
+      → OnOk r (IsSetOf machine (λ t. HasTaken (meaning_of machine) texts e old t) (set_of machine new))
+  has_taken texts e (Ok x) at states few =
+      record { held = new; is = refl; holds = record { machine = at.0; at = at.1; states = states; few = few } }
   has_taken texts e (Err _) at states few = tt

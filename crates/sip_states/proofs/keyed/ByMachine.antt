@@ -12,10 +12,10 @@ use Rattle.sip_machine.specs.inner.FigureLaws.{rules_lawful}
 use Rattle.sip_machine.specs.inner.OwingLaws.{owing_by_names, quiet_stands}
 use Rattle.sip_states.specs.Held.{Held}
 use Rattle.sip_standard.specs.KeyMachine.{MachineKind, transaction_of}
-use Rattle.sip_states.specs.KeySets.{coded_of, PhaseOf, StateOf, set_of, held_of, start_of_machine}
-use Rattle.sip_states.proofs.keyed.KeySetLaws.{coded_holds, held_is, set_is, start_is, of_machine, to_machine, of_one_machine}
+use Rattle.sip_states.specs.KeySets.{coded_of, PhaseOf, StateOf, set_of, each_set, held_at_start, start_of_machine}
+use Rattle.sip_states.proofs.keyed.KeySetLaws.{coded_holds, by_machine_is, of_machine, to_machine}
 use Rattle.sip_states.specs.Meaning.{Meaning}
-use Rattle.sip_states.specs.AnySet.{meaning_of, IsQuietIn, IsQuietSet, OfHeld, OfSet, OfHelds, OfSets, moment_of}
+use Rattle.sip_states.specs.AnySet.{meaning_of, IsQuietIn, IsQuietSet, OfHeld, OfSet, IsSetOf, OfHelds, OfSets, moment_of}
 use Rattle.sip_states.specs.Sweep.{names_of, numbers_of, AppendsNumbers}
 use Rattle.sip_states.specs.declared.any_set.AnySet.{AnySet}
 
@@ -42,15 +42,15 @@ first_knows machine texts = subst (λ names. All (Keeps texts) (names ++ [])) (s
 
 -- every set is the set of some machine
 pub some_machine : (set : AnySet) → (machine : MachineKind) × (s : Held Times (StateOf machine)) × (set ≡ set_of machine s)
-some_machine set = ((held_of set).0, (held_of set).1, set_is set)
+some_machine set = each_set (λ any. (machine : MachineKind) × (s : Held Times (StateOf machine)) × (any ≡ set_of machine s)) (λ machine s. (machine, s, refl)) set
 
 -- the moment of the set of a machine is the moment of what it holds
 pub moment_is : (machine : MachineKind) (s : Held Times (StateOf machine)) → moment_of (set_of machine s) ≡ s.moment
-moment_is machine s = ap (λ (h : (kind : MachineKind) × Held Times (StateOf kind)). h.1.moment) (held_is machine s)
+moment_is machine s = by_machine_is (λ kind held. held.moment) machine s
 
 -- the numbers of the messages that the set of a machine names are those that its states name
 pub numbers_are : (machine : MachineKind) (s : Held Times (StateOf machine)) → numbers_of (set_of machine s) ≡ names_of machine s
-numbers_are machine s = ap (λ (h : (kind : MachineKind) × Held Times (StateOf kind)). names_of h.0 h.1) (held_is machine s)
+numbers_are machine s = by_machine_is names_of machine s
 
 -- what a set appended are the numbers of the messages that it names
 pub numbers_appended : (set : AnySet) (old new : List ℕ) → AppendsNumbers set old new → AppendsAll (numbers_of set) old new
@@ -62,7 +62,7 @@ numbers_appended set old new appends =
 -- the set that a machine starts with names no message
 pub start_silent : (p : Times) (machine : MachineKind) → numbers_of (start_of_machine p machine) ≡ []
 start_silent p machine =
-    ap numbers_of (start_is p machine) ∙ numbers_are machine (record { machine = p; moment = 0; states = first_of machine ∷ [] }) ∙ ap (λ names. (names ++ []) ++ []) (coded_holds machine).idle_fits.0
+    numbers_are machine (held_at_start p machine) ∙ ap (λ names. (names ++ []) ++ []) (coded_holds machine).idle_fits.0
 
 -- What follows is of the ended state.
 
@@ -86,7 +86,7 @@ quiet_in machine s quiet = of_machine IsQuietIn machine s quiet
 -- the set that a machine starts with is quiet
 pub start_is_quiet : (p : Times) (machine : MachineKind) → IsQuietSet (start_of_machine p machine)
 start_is_quiet p machine =
-    subst IsQuietSet (sym (start_is p machine)) (to_machine IsQuietIn machine (record { machine = p; moment = 0; states = first_of machine ∷ [] }) (inl refl))
+    to_machine IsQuietIn machine (held_at_start p machine) (inl refl)
 
 -- a quiet set names no message
 pub quiet_silent : (set : AnySet) → IsQuietSet set → numbers_of set ≡ []
@@ -109,4 +109,6 @@ module _ (P : (X M S : Type 0) → Meaning X M S → Held M S → Type 0) where
 -- where P holds of the set of a machine and of a new set, the new one is of the same machine, and P holds of what the two hold
 pub of_sets : (P : (X M S : Type 0) → Meaning X M S → Held M S → Held M S → Type 0) (machine : MachineKind) (s : Held Times (StateOf machine)) (new : AnySet) → OfSets P (set_of machine s) new
     → (t : Held Times (StateOf machine)) × (new ≡ set_of machine t) × P (PhaseOf machine) Times (StateOf machine) (meaning_of machine) s t
-of_sets P machine s new both = of_one_machine (OfHelds P) machine s new both
+of_sets P machine s new both =
+    let both_are = of_machine (λ kind held. IsSetOf kind (λ t. OfHelds P kind held t) new) machine s both in
+    (both_are.held, both_are.is, both_are.holds)

@@ -1,10 +1,10 @@
--- Laws of the sets of each machine: the code has each machine as the standard has it, and a set is a set of its own machine.
-use Rattle.std.specs.Prelude.{◌≡◌, [], ◌∷◌}
-use Rattle.std.proofs.Common.{refl}
+-- Laws of the sets of each machine: the code has each machine as the standard has it, and what is given by the machine of a set is given of that machine.
+use Rattle.std.specs.Prelude.{◌≡◌}
+use Rattle.std.proofs.Common.{refl, subst, sym}
 use Rattle.sip_standard.specs.Times.{Times}
 use Rattle.sip_standard.specs.KeyMachine.{MachineKind, OfInviteClient, OfPlainClient, OfInviteServer, OfPlainServer, OfInviteClient3261, OfInviteServer3261, transaction_of}
 use Rattle.sip_standard.specs.PhaseWords.{words_of}
-use Rattle.sip_machine.specs.inner.Coded.{IsCoded, idle_state}
+use Rattle.sip_machine.specs.inner.Coded.{IsCoded}
 use Rattle.sip_machine.specs.inner.InviteClient.Laws.{invite_client_is_coded}
 use Rattle.sip_machine.specs.inner.PlainClient.Laws.{plain_client_is_coded}
 use Rattle.sip_machine.specs.inner.InviteServer.Laws.{invite_server_is_coded}
@@ -12,9 +12,7 @@ use Rattle.sip_machine.specs.inner.InviteClient3261.Laws.{invite_client_3261_is_
 use Rattle.sip_machine.specs.inner.InviteServer3261.Laws.{invite_server_3261_is_coded}
 use Rattle.sip_machine.specs.inner.PlainServer.Laws.{plain_server_is_coded}
 use Rattle.sip_states.specs.Held.{Held}
-use Rattle.sip_states.specs.declared.any_set.AnySet.{AnySet}
-use Rattle.sip_states.specs.declared.any_set.AnySet.TheVariants.{InviteClient, PlainClient, InviteServer, PlainServer, InviteClient3261, InviteServer3261}
-use Rattle.sip_states.specs.KeySets.{coded_of, StateOf, set_of, held_of, by_machine, by_one_machine, start_of_machine}
+use Rattle.sip_states.specs.KeySets.{coded_of, StateOf, set_of, by_machine}
 
 -- the code has the figure of each machine
 pub coded_holds : (machine : MachineKind) → IsCoded (transaction_of machine).figure (words_of machine) (coded_of machine)
@@ -25,60 +23,21 @@ coded_holds OfPlainServer = plain_server_is_coded
 coded_holds OfInviteClient3261 = invite_client_3261_is_coded
 coded_holds OfInviteServer3261 = invite_server_3261_is_coded
 
--- the set that holds something of a machine is of that machine and holds that
-pub held_is : (machine : MachineKind) (s : Held Times (StateOf machine)) → held_of (set_of machine s) ≡ (machine, s)
-held_is OfInviteClient s = refl
-held_is OfPlainClient s = refl
-held_is OfInviteServer s = refl
-held_is OfPlainServer s = refl
-held_is OfInviteClient3261 s = refl
-held_is OfInviteServer3261 s = refl
-
--- each set is the set of its machine that holds what it holds
-pub set_is : (set : AnySet) → set ≡ set_of (held_of set).0 (held_of set).1
-set_is (InviteClient s) = refl
-set_is (PlainClient s) = refl
-set_is (InviteServer s) = refl
-set_is (PlainServer s) = refl
-set_is (InviteClient3261 s) = refl
-set_is (InviteServer3261 s) = refl
-
--- the set that a machine starts with has its idle state, at moment 0
-pub start_is : (p : Times) (machine : MachineKind) → start_of_machine p machine ≡ set_of machine (record { machine = p; moment = 0; states = idle_state (coded_of machine) ∷ [] })
-start_is p OfInviteClient = refl
-start_is p OfPlainClient = refl
-start_is p OfInviteServer = refl
-start_is p OfPlainServer = refl
-start_is p OfInviteClient3261 = refl
-start_is p OfInviteServer3261 = refl
+-- what is given by the machine of a set is, of the set of this machine, what is given of this machine
+pub by_machine_is {ℓ} : {A : Type ℓ} (of : (machine : MachineKind) → Held Times (StateOf machine) → A) (machine : MachineKind) (s : Held Times (StateOf machine)) → by_machine of (set_of machine s) ≡ of machine s
+by_machine_is of OfInviteClient s = refl
+by_machine_is of OfPlainClient s = refl
+by_machine_is of OfInviteServer s = refl
+by_machine_is of OfPlainServer s = refl
+by_machine_is of OfInviteClient3261 s = refl
+by_machine_is of OfInviteServer3261 s = refl
 
 -- a fact of the set of a machine, told by cases of the set, is the fact of that machine
 module _ (P : (machine : MachineKind) → Held Times (StateOf machine) → Type 0) where
   -- what holds by the machine of a set holds of the machine whose set it is
   pub of_machine : (machine : MachineKind) (s : Held Times (StateOf machine)) → by_machine P (set_of machine s) → P machine s
-  of_machine OfInviteClient s holds = holds
-  of_machine OfPlainClient s holds = holds
-  of_machine OfInviteServer s holds = holds
-  of_machine OfPlainServer s holds = holds
-  of_machine OfInviteClient3261 s holds = holds
-  of_machine OfInviteServer3261 s holds = holds
+  of_machine machine s holds = subst (λ (T : Type 0). T) (by_machine_is P machine s) holds
 
   -- what holds of a machine and what its set holds, holds by the machine of the set
   pub to_machine : (machine : MachineKind) (s : Held Times (StateOf machine)) → P machine s → by_machine P (set_of machine s)
-  to_machine OfInviteClient s holds = holds
-  to_machine OfPlainClient s holds = holds
-  to_machine OfInviteServer s holds = holds
-  to_machine OfPlainServer s holds = holds
-  to_machine OfInviteClient3261 s holds = holds
-  to_machine OfInviteServer3261 s holds = holds
-
--- where P holds of the set of a machine and of another set, that one is of the same machine, and P holds of what the two hold
-pub of_one_machine : (P : (machine : MachineKind) → Held Times (StateOf machine) → Held Times (StateOf machine) → Type 0) (machine : MachineKind) (s : Held Times (StateOf machine)) (new : AnySet)
-    → by_one_machine P (set_of machine s) new → (t : Held Times (StateOf machine)) × (new ≡ set_of machine t) × P machine s t
-of_one_machine P OfInviteClient s (InviteClient t) holds = (t, refl, holds)
-of_one_machine P OfPlainClient s (PlainClient t) holds = (t, refl, holds)
-of_one_machine P OfInviteServer s (InviteServer t) holds = (t, refl, holds)
-of_one_machine P OfPlainServer s (PlainServer t) holds = (t, refl, holds)
-of_one_machine P OfInviteClient3261 s (InviteClient3261 t) holds = (t, refl, holds)
-of_one_machine P OfInviteServer3261 s (InviteServer3261 t) holds = (t, refl, holds)
-of_one_machine P machine s new holds = absurd holds
+  to_machine machine s holds = subst (λ (T : Type 0). T) (sym (by_machine_is P machine s)) holds

@@ -1,35 +1,29 @@
 -- A key that starts anew: the set with which it comes can wait for ever and needs no mark.
-use Rattle.std.proofs.Common.{ℕ, Bool, List, [], ◌∷◌, None, Contains, inl, inr, map, slice_set, refl, sym, subst}
+use Rattle.std.proofs.Common.{ℕ, Bool, List, None, Contains, inl, inr, map, slice_set, refl, sym, subst}
 use Rattle.sip_standard.specs.Key.{KeyParts}
 use Rattle.sip_standard.specs.Times.{Times}
 use Rattle.sip_machine.specs.Texts.{Texts}
 use Rattle.sip_states.specs.Runs.{IsAgenda}
-use Rattle.sip_states.specs.Held.{Held}
 use Rattle.sip_standard.specs.KeyMachine.{MachineKind, machine_of_key}
-use Rattle.sip_states.specs.KeySets.{StateOf, start_of_machine}
-use Rattle.sip_states.proofs.keyed.KeySetLaws.{start_is}
+use Rattle.sip_states.specs.KeySets.{held_at_start, start_of_machine}
 use Rattle.sip_states.specs.Meaning.{HasAgenda}
 use Rattle.sip_states.specs.AnySet.{IsAgendaOf, meaning_of, start_of}
 use Rattle.sip_states.specs.declared.any_set.AnySet.{AnySet}
 use Rattle.sip_states.specs.inner.Marks.{ElseHolds}
 use Rattle.sip_states.proofs.lists.Places.{set_place}
-use Rattle.sip_states.proofs.keyed.ByMachine.{first_of, to_set}
+use Rattle.sip_states.proofs.keyed.ByMachine.{to_set}
 use Rattle.sip_states.proofs.keyed.QuietLemmas.{quiet_still, waits_still}
 
 module _ (p : Times) (machine : MachineKind) where
-  -- what the set of a new key of this machine holds
-  abbrev new : Held Times (StateOf machine)
-  new = record { machine = p; moment = 0; states = first_of machine ∷ [] }
-
   -- one can wait in the set of a new key for ever
-  waits_on : (texts : Texts) → IsAgenda ((meaning_of machine).rules p) (Contains (map ((meaning_of machine).seen texts) new.states)) 0 None
+  waits_on : (texts : Texts) → IsAgenda ((meaning_of machine).rules p) (Contains (map ((meaning_of machine).seen texts) (held_at_start p machine).states)) 0 None
   waits_on texts =
-      let (x, one, still) = quiet_still p machine texts new (inl refl) in
+      let (x, one, still) = quiet_still p machine texts (held_at_start p machine) (inl refl) in
       subst (λ xs. IsAgenda ((meaning_of machine).rules p) (Contains (map ((meaning_of machine).seen texts) xs)) 0 None) (sym one)
       (λ n low. (λ run. tt, λ within. ((meaning_of machine).seen texts x, (waits_still p machine texts x still 0 n low ((meaning_of machine).seen texts x)).1 refl)))
 
   start_waits : IsAgendaOf None (start_of_machine p machine)
-  start_waits = subst (IsAgendaOf None) (sym (start_is p machine)) (to_set (λ X M S m s. HasAgenda m None s) machine new waits_on)
+  start_waits = to_set (λ X M S m s. HasAgenda m None s) machine (held_at_start p machine) waits_on
 
 pub start_endless : (p : Times) (key : KeyParts) → IsAgendaOf None (start_of p key)
 start_endless p key = start_waits p (machine_of_key p.rules key)

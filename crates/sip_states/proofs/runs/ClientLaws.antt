@@ -236,7 +236,7 @@ module _ (p : Times) (one : MachineEvent) where
   Awaits (invite.Completed reliable request set) = ⊤
   Awaits invite.Ended = ⊤
 
-  -- no message that the client receives changes that
+  -- no message that the client receives makes Awaits false
   awaits_received : (x : invite.InviteClientPhase) (k : Kind) (e : MachineEvent) (y : Row invite.InviteClientPhase) → invite.Receives p x k e y → Awaits x → Awaits y.0
   awaits_received (invite.Calling w) (Response code) e y (inl h) holds = rw h.1 tt
   awaits_received (invite.Calling w) (Response code) e y (inr (inl h)) holds = rw h.1 tt
@@ -246,7 +246,7 @@ module _ (p : Times) (one : MachineEvent) where
   awaits_received (invite.Completed reliable request set) (Response code) e y h holds = rw h.1 tt
   awaits_received x k e y h holds = absurd h
 
-  -- no message that the client sends changes that
+  -- no message that the client sends makes Awaits false
   awaits_sent : (x : invite.InviteClientPhase) (k : Kind) (e : MachineEvent) (y : Row invite.InviteClientPhase) → invite.Sends p x k e y → Awaits x → Awaits y.0
   awaits_sent invite.Idle k e y h holds = absurd holds
   awaits_sent (invite.Calling w) (Request Invite) e y h holds = rw h.1 (holds.0, holds.1, omega (arith, h.0.fires, holds.2), omega (arith, holds.3))
@@ -260,14 +260,14 @@ module _ (p : Times) (one : MachineEvent) where
   awaits_kept : IsKept invite.invite_client p Awaits
   awaits_kept = record { ended = tt; received = awaits_received; sent = awaits_sent }
 
-  -- it holds after `one` was sent from the idle state
+  -- Awaits holds after `one` was sent from the idle state
   awaits_opens : (y : Owing invite.InviteClientPhase) → Emits invite.invite_client p one (record { phase = invite.Idle; owes = [] }) y → one.kind ≡ Request Invite → Awaits y.phase
   awaits_opens y (inl (row, is_row, to)) is =
       rw to (rw (subst (λ k. invite.Sends p invite.Idle k one row) is is_row) (refl, refl, omega arith, omega arith))
   awaits_opens y (inr (inr (stays, same))) is = absurd stays
   awaits_opens y (inr (inl (left, pays, to))) is = absurd (no_invite (sym is ∙ pays_ack invite.Idle one.kind one pays.first.message pays.holds.0))
 
-  -- where it holds, an INVITE that is sent by its row has the bytes of `one`, over an unreliable transport, T1 after `one` or later
+  -- where Awaits holds, an INVITE that is sent by its row has the bytes of `one`, over an unreliable transport, T1 after `one` or later
   again : (x : invite.InviteClientPhase) (e : MachineEvent) (y : Row invite.InviteClientPhase) → invite.Sends p x (Request Invite) e y → Awaits x → (e.text ≡ one.text) × (one.reliable ≡ false) × (open_at p one.moment p.t1 ≤ e.moment)
   again invite.Idle e y h holds = absurd holds
   again (invite.Calling w) e y h holds = (h.0.same ∙ holds.0, sym holds.1 ∙ h.0.unreliable, omega (arith, h.0.fires, holds.2, holds.3))
@@ -275,13 +275,13 @@ module _ (p : Times) (one : MachineEvent) where
   again (invite.Proceeding reliable request (Some first)) e y h holds = absurd h
   again x e y h holds = absurd h
 
-  -- where it holds, an INVITE that is sent in whatever way has the bytes of `one`, over an unreliable transport, T1 after `one` or later
+  -- where Awaits holds, an INVITE that is sent in whatever way has the bytes of `one`, over an unreliable transport, T1 after `one` or later
   again_emits : (e : MachineEvent) (x y : Owing invite.InviteClientPhase) → Emits invite.invite_client p e x y → e.kind ≡ Request Invite → Awaits x.phase → (e.text ≡ one.text) × (one.reliable ≡ false) × (open_at p one.moment p.t1 ≤ e.moment)
   again_emits e x y (inl (row, is_row, to)) is holds = again x.phase e row (subst (λ k. invite.Sends p x.phase k e row) is is_row) holds
   again_emits e x y (inr (inr (stays, same))) is holds = absurd stays
   again_emits e x y (inr (inl (left, pays, to))) is holds = absurd (no_invite (sym is ∙ pays_ack x.phase e.kind e pays.first.message pays.holds.0))
 
-  -- it holds after the steps of a run that begins with `one`
+  -- Awaits holds after the steps of a run that begins with `one`
   from_first : (h : ℕ) (steps : List Step) (y : Owing invite.InviteClientPhase) (m : ℕ) (between : List MachineEvent) → one.action ≡ Sent → one.kind ≡ Request Invite →
       Goes (key_rules p OfInviteClient) (record { phase = invite.Idle; owes = [] }) h steps y m → taken steps ≡ one ∷ between → Awaits y.phase
   from_first h [] y m between sent is goes takes = absurd (cc)

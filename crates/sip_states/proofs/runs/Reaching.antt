@@ -31,7 +31,7 @@ module _ {S : Type 0} (window : S → Option (ℕ × Option ℕ)) (until : S →
   abbrev pub IsLastSoFar : List S → ℕ → Type 0
   IsLastSoFar xs last = (m : ℕ) → h ≤ m → ((m ≤ h) ⊎ SomeCanReach window until h m xs) ↔ (m ≤ last)
 
-  -- the last moment of the states so far and one more is the later of theirs and that of the one
+  -- the last moment of the states so far and one more is the later of the last moment so far and that of the new state
   pub last_push : (xs : List S) (x : S) (last r new : ℕ) → IsLastSoFar xs last →
       IsLastOf (CanReach (window x) (until x) h) h (Some r) → new ≡ max last r → IsLastSoFar (xs ++ x ∷ []) new
   last_push xs x last r new so_far reach is m low = (

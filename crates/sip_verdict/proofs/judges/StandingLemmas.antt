@@ -270,7 +270,7 @@ number_at all (n ∷ ns) [] h i d low = absurd h
 number_at all (n ∷ ns) (k ∷ ks) h zero d low = (k, refl, h.1)
 number_at all (n ∷ ns) (k ∷ ks) h (suc i) d low = number_at all ns ks h.2 i d (omega arith)
 
--- numbers of keys that all differ do all differ
+-- where keys all differ, their numbers all differ
 numbers_differ : (all : List KeyParts) (ns : List ℕ) (ks : List KeyParts) → HaveNumbers all ns ks → AllPairs (λ a b. a ≢ b) ks → AllPairs (λ a b. a ≢ b) ns
 numbers_differ all ns ks have apart i j d less low same =
     let (a, a_at, a_there) = number_at all ns ks have i d (omega arith) in

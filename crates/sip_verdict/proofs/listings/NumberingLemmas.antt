@@ -111,7 +111,7 @@ numbered_heard i number name old new says some keeps is below book (inl same) it
 numbered_heard i number name old new says some keeps is below book (inr more) items a counts =
     subst (AreNumbered (items ++ i ∷ [])) (sym more) (more_book items i old a number counts says some below (subst IsBook more book))
 
--- what holds at all holds where there is no trouble
+-- what holds in any case holds where there is no trouble
 pub unless_trouble : (P : Type 0) (verdict : Option Verdict) → P → IfNone verdict P
 unless_trouble P None p = p
 unless_trouble P (Some v) p = tt

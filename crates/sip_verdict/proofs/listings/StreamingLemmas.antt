@@ -1,4 +1,4 @@
--- What each answer adds to the entries that were read, where they are counted anew before each.
+-- What each answer of the reader adds to the entries that were read, where the entries are counted anew before each answer.
 use Rattle.std.proofs.Common.{◌≡◌, ◌≤◌, ◌+◌, Bool, Ok, Err, Result, Option, Some, None, IfSome, ℕ, List, [], ◌∷◌, ◌++◌, length, refl, sym, ap, ◌∙◌, subst}
 use Rattle.sip_standard.specs.Times.{Times, last_moment}
 use Rattle.sip_standard.specs.LogEntry.{Item}
@@ -15,11 +15,11 @@ use Rattle.sip_verdict.specs.inner.Judging.{told_as}
 use Rattle.sip_verdict.specs.inner.ForgettingLogs.{StreamGives, StreamsOn}
 use Rattle.sip_verdict.proofs.listings.WalkingLemmas.{told-fault}
 
--- a place, counted anew
+-- the place of a reader in its log, as it is after the entries are counted anew
 abbrev pub anew : ProgressState → ProgressState
 anew p = record { stage = p.stage; held = p.held; format = p.format; times = p.times; count = 0; last = p.last }
 
--- what was read up to a place was read up to it counted anew
+-- what was read up to a place was read up to the same place after the entries are counted anew
 pub counted_anew : (old mid : ProgressState) (left : Option (List ℕ)) (has_failed : Bool) → mid ≡ anew old → (start : Option (List ℕ)) (p : Times) (items : List Item)
     → HasStreamed start p items (beside_source old left has_failed) → HasStreamed start p items (beside_source mid left has_failed) × ((beside_source mid left has_failed).count ≡ 0)
 counted_anew old mid left has_failed is start p items read = (
@@ -27,7 +27,7 @@ counted_anew old mid left has_failed is start p items read = (
   ap (λ (q : ProgressState). q.count) is,
 )
 
--- one more entry, which is given the number after so many
+-- where the reader gives an entry, and the entry gets the number after `count`, the log goes on with that entry
 pub streams_on : (count : ℕ) (old mid new : ProgressState) (left : Option (List ℕ)) (before : Bool) (rest : Option (List ℕ)) (after : Bool) → mid ≡ anew old → old.stage ≡ entries
     → (e numbered : Entry) → numbered.number ≡ count + 1 → numbered.moment ≡ e.moment → numbered.bytes ≡ e.bytes → Nexts (beside_source mid left before) (beside_source new rest after) (Ok (Some e))
     → StreamsOn count old new (next.Entry numbered)
@@ -44,7 +44,7 @@ streams_on count old mid new left before rest after is on e numbered number mome
       steps.moves.3 ∙ sym moment,
     )
 
--- what is no entry
+-- where the reader gives an error that is told as the reason of a fault, no read failed, and the log stops at this fault after the items
 pub stream_fault : (start : Option (List ℕ)) (p : Times) (items : List Item) (old new : ReaderState) → HasStreamed start p items old → old.count ≡ 0 → (e : LogError) (reason : LogReason) → Ok reason ≡ told_as e → Nexts old new (Err e)
     → (new.has_failed ≡ old.has_failed) × StreamGives start p items new (next.Fault reason)
 stream_fault start p items old new has none e reason is nexts =

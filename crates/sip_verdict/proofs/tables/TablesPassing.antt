@@ -57,7 +57,7 @@ place-zip (u ∷ xs) (v ∷ ys) (suc n) z at = place-zip xs ys n z at
 pub keys_are : (t : Tabled) → length t.sets ≡ length t.keys → map (λ x. x.0) (transactions_of t) ≡ t.keys
 keys_are t long = firsts-zip t.keys t.sets long
 
--- a number among these with one more before them, which is not the one, is among these
+-- a number that is the first of a list or among the others, and is not the first, is among the others
 pub among_one : (n number : ℕ) (ns : List ℕ) → is_among (number ∷ ns) n ≡ true → n ≢ number → is_among ns n ≡ true
 among_one n number ns h differ = go (nat_eq n number) refl
   where
@@ -65,7 +65,7 @@ among_one n number ns h differ = go (nat_eq n number) refl
     go true same = absurd (differ ((unsigned_Decides n number).0 same))
     go false same = sym (ap (λ b. b || is_among ns n) same) ∙ h
 
--- a number that is not among these is not among them with one more before them, or it is the one
+-- a number that is not among some numbers is not among them with one more before them, unless it is that one
 pub among_not : (n number : ℕ) (ns : List ℕ) → is_among ns n ≡ false → (is_among (number ∷ ns) n ≡ false) ⊎ (n ≡ number)
 among_not n number ns h = go (nat_eq n number) refl
   where
@@ -77,7 +77,7 @@ among_not n number ns h = go (nat_eq n number) refl
 pub among_first : (n number : ℕ) (ns : List ℕ) → n ≡ number → is_among (number ∷ ns) n ≡ true
 among_first n number ns same = ap (λ b. b || is_among ns n) ((unsigned_Decides n number).1 same)
 
--- a number among these is among them with one more before them
+-- a number that is among some numbers is among them with one more before them
 pub among_rest : (n number : ℕ) (ns : List ℕ) → is_among ns n ≡ true → is_among (number ∷ ns) n ≡ true
 among_rest n number ns h = go (nat_eq n number)
   where

@@ -1,4 +1,4 @@
-use Rattle.std.specs.Prelude.{◌≡◌, ◌≢◌, ◌||◌, ◌≤◌, ◌<◌, ◌+◌, ◌-◌, ◌⊎◌, ◌++◌, [], ◌∷◌, ℕ, nat_eq, Bool, true, false, Option, Some, None, List, All, AllPairs, Contains, IfSome, length, slice_get, ⊤}
+use Rattle.std.specs.Prelude.{◌≡◌, ◌≢◌, ◌||◌, ◌≤◌, ◌<◌, ◌+◌, ◌-◌, ◌⊎◌, ◌++◌, [], ◌∷◌, ℕ, nat_eq, Bool, true, false, Option, Some, None, List, All, AllPairs, Any, Contains, IfSome, length, slice_get, ⊤}
 use Rattle.std.specs.List.{zip, list_any}
 use Rattle.sip_standard.specs.Key.{KeyParts}
 use Rattle.sip_standard.specs.Times.{Times}
@@ -12,7 +12,7 @@ use Rattle.sip_standard.specs.KeyMachine.{MachineKind, machine_of_key}
 use Rattle.sip_states.specs.KeySets.{key_rules, StateOf, set_of}
 use Rattle.sip_states.specs.Meaning.{Meaning}
 use Rattle.sip_states.specs.AnySet.{meaning_of, moment_of, IsKnownSet, IsQuietSet, IsAgendaOf}
-use Rattle.sip_states.specs.Sweep.{numbers_of}
+use Rattle.sip_states.specs.Sweep.{SetMayName, numbers_of}
 use Rattle.sip_states.specs.Tables.{Tabled, IsGiven, Touches, with_set, with_record}
 use Rattle.sip_states.specs.declared.any_set.AnySet.{AnySet}
 use Rattle.sip_standard.specs.declared.action.Action.TheVariants.{Restart}
@@ -92,6 +92,14 @@ AreTold texts keys moment hearing e = (n : ℕ) (key : KeyParts) → slice_get k
 -- no state of the transaction with this number names the message
 abbrev pub NamesNot : Tabled → ℕ → ℕ → Type 0
 NamesNot t message number = (set : AnySet) → slice_get t.sets (number - 1) ≡ Some set → ¬ Contains (numbers_of set) message
+
+-- a state of the transaction with this number may name the message
+abbrev pub OneMayName : Tabled → ℕ → ℕ → Type 0
+OneMayName t message number = (set : AnySet) × (slice_get t.sets (number - 1) ≡ Some set) × SetMayName message set
+
+-- the message may be named: the entry concerns all transactions, or a state of one that it concerns may name it
+abbrev pub MayBeNamed : Tabled → ℕ → Concerned ℕ → Type 0
+MayBeNamed t message concerned = (is_all concerned ≡ true) ⊎ Any (OneMayName t message) (each concerned)
 
 -- no set names the newest message and it was dropped, or no message was dropped
 abbrev pub DropsUnnamed : List AnySet → ℕ → Texts → Texts → Type 0

@@ -194,7 +194,7 @@ module _ (p : Times) where
             let waits = emits-waits request (record { phase = found.from.phase; owes = left_at request found.from }) found.to began (step-of plain_client p Sent request found.from found.to sends.1.0 found.step) in
             run-keeps plain_client p (Asks request.moment) (asks-kept request.moment) after found.to request.moment m y (inl waits) found.goes
 
-    -- a request that has no final response is over once timer F must have fired
+    -- the transaction of a request that has no final response has ended once timer F must have fired
     pub over-by-timer-f : (m : ℕ) (y : Owing PlainClientPhase) → All (λ g. ¬ (GetsResponse IsFinal g)) after → Stands plain_client p (before ++ request ∷ after) m y → close_at p request.moment (64 * p.t1) < m → y ≡ quiet Ended
     over-by-timer-f m y unanswered stands late = by (asked m y stands)
       where

@@ -347,9 +347,9 @@ module _ (R : Receiving) (is : IsReceiving R) (p : Times) where
         as_it_takes es e x y (inr (inl ended)) take = inr (inl (over-steps f p IsInvited (λ k. k ≡ Request Invite) (λ k. k ≡ Request Cancel) (invites-once R is p) e.action e y (subst (λ z. Takes f p z e y) ended take)))
         as_it_takes es e x y (inr (inr came)) take = inr (inr (any-earlier (GetsResponse IsAnyCode) es (e ∷ []) came))
 
-  -- timer B, section 17.1.1.2: an INVITE without a response is over by it, where what stands lasts
+  -- the transaction of an INVITE without a response ends by timer B (section 17.1.1.2), where what stands lasts
   module _ (lasts : (events : List MachineEvent) (m : ℕ) (x : Owing InviteClientPhase) → Stands f p events m x → Lasts f p x m) where
-    -- an INVITE that has no response is over once timer B has to have fired
+    -- the transaction of an INVITE that has no response has ended once timer B has to have fired
     pub over-by-timer-b : (before after : List MachineEvent) (invite : MachineEvent) (m : ℕ) (y : Owing InviteClientPhase) → SendsRequest Invite invite →
         All (λ g. ¬ (GetsResponse IsAnyCode g)) after → Stands f p (before ++ invite ∷ after) m y → close_at p invite.moment (64 * p.t1) < m → y ≡ quiet Ended
     over-by-timer-b before after invite m y sent unanswered stands late =

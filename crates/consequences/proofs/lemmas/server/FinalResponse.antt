@@ -31,7 +31,7 @@ pub one-code : (e : MachineEvent) → IsResponse IsUnsuccessful e → ¬ (IsResp
 one-code e (code, told, refused) (other, told_too, accepted) = absurd (omega (arith, codes-are-one code other (sym told ∙ told_too), refused.0, accepted.1))
 
 module _ {X : Type 0} (f : Figure X) (p : Times) (held : InviteServerPhase → X) (is : IsServer f p held) where
-  -- the state is one of a phase of the corrected machine, as this one holds it, and K holds of that phase and the debts
+  -- the state has a phase of the corrected machine, as this server holds it, and K holds of that phase and the debts
   abbrev pub HoldsIn : (InviteServerPhase → List Owed → Type 0) → Owing X → Type 0
   HoldsIn K y = (x : InviteServerPhase) × (owes : List Owed) × (y ≡ record { phase = held x; owes = owes }) × K x owes
 
@@ -63,7 +63,7 @@ module _ {X : Type 0} (f : Figure X) (p : Times) (held : InviteServerPhase → X
   opens-later es more h m (Proceeding reliable set last) owes low opens = (said-last-later es more last opens.0, are-said-later es more h m owes low opens.1)
   opens-later es more h m x owes low opens = absurd opens
 
-  -- that is so of what is still owed when an event comes
+  -- Opens stays true where only what is still owed is left when an event comes
   pub opens-left : (es : List MachineEvent) (e : MachineEvent) (m : ℕ) (x : InviteServerPhase) (y : Owing X) → Opens es m x y.owes → Opens es m x (left_at e y)
   opens-left es e m Idle y opens = rw opens refl
   opens-left es e m (Proceeding reliable set last) y opens = (opens.0, All-filter _ (λ o. (o.deadline ≤ close_at p m 0) × IsSaid es o.message) y.owes opens.1)
@@ -138,7 +138,7 @@ module _ {X : Type 0} (f : Figure X) (p : Times) (held : InviteServerPhase → X
   abbrev pub BeforeFinal : List MachineEvent → ℕ → Owing X → Type 0
   BeforeFinal es m y = All (λ g. ¬ (SendsResponse IsFinal g)) es → HoldsIn (Opens es m) y
 
-  -- a run keeps that
+  -- a run without a final response keeps the server idle or proceeding
   pub before-final-kept : IsKept f p BeforeFinal
   before-final-kept = record { as_it_waits = as_it_waits; as_it_ends = as_it_ends; as_it_takes = as_it_takes }
     where

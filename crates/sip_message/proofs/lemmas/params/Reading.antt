@@ -112,7 +112,7 @@ value-stops v rest (inr (inr (inr reference))) =
     let bracket = reference-bracket (v ++ rest) (v, rest) (reference, refl) in
     subst (λ t. StopsBlank (t ++ rest)) (sym bracket.2) (stops-byte left_bracket ((bracket.0 ++ right_bracket ∷ []) ++ rest) refl)
 
--- where nothing or a separator follows a value, the value is read at the front of both
+-- where nothing or a separator follows a value, the value is read at the front of it and what follows
 value-front : (v rest : List ℕ) → GenValue v → Next is_separator rest → ValueFront (v ++ rest) (v, rest)
 value-front v rest (inl token) next = inr (inr (inl token, next-stops is_separator is_bare_byte rest blank-bare separator-bare next, refl))
 value-front v rest (inr (inl quoted)) next = inl (quoted, refl)
@@ -132,7 +132,7 @@ is_equals b = nat_eq b equals
 equals-token : (b : ℕ) → is_equals b ≡ true → is_token_byte b ≡ false
 equals-token b is = subst (λ x. is_token_byte x ≡ false) (sym (eqb-true b equals is)) refl
 
--- where nothing or a separator follows a parameter, the parameter is read at the front of both
+-- where nothing or a separator follows a parameter, the parameter is read at the front of it and what follows
 param-front : (m x rest : List ℕ) (p : Param) → Mark semicolon m → ParamText x p → Next is_separator rest → ParamFront ((m ++ x) ++ rest) (p, rest)
 param-front m x rest (name, None) mark (token, x_is) next =
     both (name ++ rest) (token-stops name rest token, (m, name ++ rest, mark, refl, append_assoc m x rest ∙ ap (λ t. m ++ (t ++ rest)) x_is))
@@ -148,13 +148,13 @@ param-front m x rest (name, Some value) mark (token, kind, (u, w, u_is, (e, v, e
         ap (λ t. t ++ rest) (x_is ∙ ap (λ t. t ++ w) u_is ∙ ap (λ t. name ++ t) (w_is ∙ ap (λ t. e ++ t) v_is))
         ∙ append_assoc name (e ++ value) rest ∙ ap (λ t. name ++ t) (append_assoc e value rest)
 
--- where nothing or a separator follows parameters, a separator or nothing stands at the front of both
+-- where nothing or a separator follows parameters, a separator or nothing stands at the front of them and what follows
 pub params-next : (ps : List Param) (u rest : List ℕ) → ParamsText u ps → Next is_separator rest → Next is_separator (u ++ rest)
 params-next [] u rest is next = subst (λ t. Next is_separator (t ++ rest)) (sym is) next
 params-next (p ∷ ps) u rest (m, t, mark, more, whole) next =
     subst (Next is_separator) (sym (ap (λ x. x ++ rest) whole ∙ append_assoc m t rest)) (mark-next is_separator semicolon m (t ++ rest) refl refl mark)
 
--- where nothing or a separator follows parameters, they are read at the front of both
+-- where nothing or a separator follows parameters, they are read at the front of their text and what follows
 pub params-front : (ps : List Param) (u rest : List ℕ) → ParamsText u ps → Next is_separator rest → ParamsFront (u ++ rest) ps rest
 params-front [] u rest is next = sym (ap (λ t. t ++ rest) is)
 params-front (p ∷ ps) u rest (m, t, mark, (x, y, param, more, t_is), whole) next =

@@ -109,11 +109,11 @@ pub next-after_host : (text : List ℕ) → Next is_separator text → Next is_a
 next-after_host text (inl none) = inl none
 next-after_host text (inr (b, inner, is, behind)) = inr (b, inner, or_right (nat_eq b colon) (is_separator b) is, behind)
 
--- where no byte of a token follows a token, it is read at the front of both
+-- where no byte of a token follows a token, it is read at the front of it and what follows
 token-front : (u rest : List ℕ) → Token u → Stops is_token_byte rest → TokenFront (u ++ rest) (u, rest)
 token-front u rest token stops = (token, stops, (u, rest, refl, refl, refl))
 
--- where nothing follows a host, or after blanks a byte that may, the host is read at the front of both
+-- where nothing follows a host, or after blanks a byte that may, the host is read at the front of it and what follows
 pub host-front : (h : HostParts) (rest : List ℕ) → HostText (host_text h) h → Next is_after_host rest → HostFront (host_text h ++ rest) (h, rest)
 host-front (name x) rest is next = both (x, rest) (inr (token-front x rest (hostname-token x is.0) (next-stops is_after_host is_token_byte rest blank-token after-token next))) (is, refl)
 host-front (v4 x) rest is next = both (x, rest) (inr (token-front x rest (v4-token x is.0) (next-stops is_after_host is_token_byte rest blank-token after-token next))) (is, refl)
@@ -142,7 +142,7 @@ front-host text h rest (both (part, left) cut (is, rest_is)) =
     whole (inl bracket) = bracket.3
     whole (inr token) = token.2.4 ∙ ap (λ z. z ++ token.2.1) token.2.2 ∙ ap (λ z. part ++ z) token.2.3
 
--- where nothing follows an optional port, or after blanks a separator, the port is read at the front of both
+-- where nothing follows an optional port, or after blanks a separator, the port is read at the front of it and what follows
 pub port-front : (port : Option (List ℕ)) (p rest : List ℕ) → IfSome port Port → ColonPort port p → Next is_separator rest → LedFront colon PortFront (p ++ rest) (port, rest)
 port-front None p rest fits p_is next =
     let whole : p ++ rest ≡ rest = ap (λ t. t ++ rest) p_is in

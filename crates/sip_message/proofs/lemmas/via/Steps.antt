@@ -77,7 +77,7 @@ part-behind (p ∷ ps) q part (m, t, (s, c, sws, (byte, after, byte_is, after_is
     part_is : part ≡ semicolon ∷ (after ++ t)
     part_is = same-behind q part (semicolon ∷ (after ++ t)) behind (stops-byte semicolon (after ++ t) refl, (s, semicolon ∷ (after ++ t), sws, refl, flat))
 
--- where a separator or nothing follows an optional port, a byte that may follow a host, or nothing, stands at the front of both
+-- where a separator or nothing follows an optional port, a byte that may follow a host, or nothing, stands at the front of it and what follows
 port-next : (port : Option (List ℕ)) (p rest : List ℕ) → ColonPort port p → Next is_separator rest → Next is_after_host (p ++ rest)
 port-next None p rest p_is next = subst (λ t. Next is_after_host (t ++ rest)) (sym p_is) (next-after_host rest next)
 port-next (Some port) p rest (m, t, mark, t_is, p_is) next =

@@ -122,7 +122,7 @@ two_more es item e sees = by (direction_of item.action) refl sees
     by None is saw = silent item.action saw
     by (Some direction) is saw = heard direction saw
 
--- nothing is forgotten before any entry, and there is room for each of so few
+-- a survey that forgets nothing before any entry is told as one that may forget: there is room for each of at most 1,000,000 entries
 never_after : (age : ℕ) (part : Option PartOf) (p : Times) (es : Entries) (items taken : List Item) (close : LogEnd) (found : List Finding) (end : SurveyEnd) (after : Entries) (lines : List ℕ) → AreTaken part items taken
     → length es + length items ≤ most_entries → length (keys_in es) ≤ length es + length es → IsSurveyAfter p es taken close found end → AreSeen es taken after
     → IsTextOf (es ++ after) found lines → IsToldAfter age part p es items close found end lines
@@ -160,7 +160,7 @@ never_after age part p es (item ∷ items) (x ∷ taken) close found end (f ∷ 
       ),
     )
 
--- after the most entries a log stops for that alone
+-- a log that stops after 1,000,000 entries stops for no other fault than their number
 cut_off : (format : Format) (count last : ℕ) (rest : List ℕ) (fault : LogReason) → most_entries ≤ count → EndsWith format count last rest (Stops fault) → fault ≡ Limit
 cut_off format count last rest fault many (some, inl (most, same)) = same
 cut_off format count last rest fault many (some, inr (under, at)) = absurd (under many)

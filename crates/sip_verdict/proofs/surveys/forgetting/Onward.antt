@@ -1,5 +1,5 @@
--- The same items, as they are observed where nothing was forgotten and where transactions were. A restart concerns other keys then, and yet the same is
--- found of a transaction that was kept, and of one that was forgotten when idle again.
+-- The same items are observed where nothing was forgotten and where some transactions were. A restart then concerns other keys. Yet the same is found of a
+-- transaction that was kept, and of one that was forgotten when idle again.
 use Rattle.std.proofs.Common.{◌≡◌, ◌≢◌, ◌≤◌, ◌<◌, ◌↔◌, ◌⊎◌, inl, inr, ℕ, Bool, true, false, cond, List, [], ◌∷◌, ◌++◌, ◌||◌, All, AllPairs, length, map, get_or, append_assoc, append-nil, refl, sym, ap, ap₂, ◌∙◌, subst, arith, zero-le}
 use Rattle.std.specs.Prelude.{filter, fold, flat_map}
 use Rattle.std.specs.List.{list_any, AllZip}

@@ -1,4 +1,4 @@
--- The horizon of a survey that forgets, where entries come and where some are forgotten.
+-- The horizon of a survey that forgets stays right when entries come and when transactions are forgotten.
 use Rattle.std.proofs.Common.{◌≡◌, ◌≢◌, ◌≤◌, ◌+◌, ◌⊎◌, ◌∙◌, inl, inr, ℕ, Bool, List, [], ◌∷◌, ◌++◌, take, sym, ap, arith, length-append}
 use Rattle.std.specs.Prelude.{filter}
 use Rattle.std.proofs.lemmas.List.{take-append-le, take-map}
@@ -12,7 +12,7 @@ use Rattle.sip_verdict.specs.inner.ForgettingLogs.{IsHorizonOf}
 use Rattle.sip_verdict.proofs.keys.Keys.{newest_moment-push}
 use Rattle.sip_verdict.proofs.surveys.forgetting.Forgotten.{newest_kept, long_kept}
 
--- a horizon of entries is one still when an entry more comes, which is not before the newest
+-- a horizon of entries stays one when another entry comes, which is not before the newest
 pub horizon_push : (m : Horizon) (es : List (Observation KeyParts)) (e : Observation KeyParts) → IsHorizonOf m es → newest_moment es ≤ e.event.moment → IsHorizonOf m (es ++ e ∷ [])
 horizon_push m es e are later =
     let long = length-append es (e ∷ []) in
@@ -32,7 +32,7 @@ horizon_push m es e are later =
         let now = newest_moment-push es e in
         inr (omega (arith, same, now, ago, later))
 
--- a horizon of entries is one still when some transactions are forgotten
+-- a horizon of entries stays one when some transactions are forgotten
 pub horizon_kept : (kept : KeyParts → Bool) (m : Horizon) (es : List (Observation KeyParts)) → IsHorizonOf m es → IsHorizonOf m (remembered kept es)
 horizon_kept kept m es are =
     let long = long_kept kept es in

@@ -3,6 +3,6 @@ use Rattle.sip_ledger.specs.Debts.{counts_at}
 use Rattle.sip_ledger.proofs.lists.EachLemmas.{changing}
 use Rattle.sip_ledger.proofs.accounts.Accounts.expire_each.Given as goal
 
--- the rows so far have lost what expired
+-- the rows before the index have lost what is past
 abbrev pub invariant-loop-row : goal.invariant-loop-row
 invariant-loop-row l = (l.from ≤ l.row) × (l.self ≡ changing (filter (counts_at l.moment)) l.from l.row l.initial.self)

@@ -3,7 +3,7 @@ use Rattle.std.specs.Vec.{vec_capacity}
 use Rattle.sip_ledger.specs.Accounts.{debts_print, owed_in}
 use Rattle.sip_ledger.proofs.accounts.Accounts.prints.Given as goal
 
--- the rows so far have their numbers
+-- the prints of the rows before the index are in the list
 abbrev pub invariant-loop-row : goal.invariant-loop-row
 invariant-loop-row l = (l.from ≤ l.row) × ((l.row ≤ length l.self) ⊎ (l.row ≤ l.from)) × (length l.prints.items ≡ l.row - l.from) × (length l.self - l.from ≤ vec_capacity l.prints)
     × ((k : ℕ) → l.from + k < l.row → get_or l.prints.items k 0 ≡ debts_print (owed_in l.self (l.from + k)))

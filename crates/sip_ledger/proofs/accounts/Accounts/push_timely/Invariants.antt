@@ -3,7 +3,7 @@ use Rattle.sip_ledger.specs.Debts.{is_timely}
 use Rattle.sip_ledger.specs.Ledgers.{from_to}
 use Rattle.sip_ledger.proofs.accounts.Accounts.push_timely.Given as goal
 
--- the rows so far stand after the others
+-- the timely rows before the index stand after the others
 abbrev pub invariant-loop-row : goal.invariant-loop-row
 invariant-loop-row l = (l.from ≤ l.row) × ((l.row ≤ l.to) ⊎ (l.row ≤ l.from)) × (l.before ≡ length l.initial.self)
     × (l.self ≡ l.initial.self ++ filter (is_timely l.moment) (from_to l.from l.row l.initial.self))

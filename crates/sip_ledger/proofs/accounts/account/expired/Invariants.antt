@@ -3,7 +3,7 @@ use Rattle.sip_ledger.specs.inner.Accounts.{IsAccount, entries_of, must_at, owes
 use Rattle.sip_ledger.proofs.places.ExpiringLemmas.{IsExpiring}
 use Rattle.sip_ledger.proofs.accounts.account.expired.Given as goal
 
--- what is past has gone up to the place
+-- the account has lost what is past before the place
 abbrev pub invariant-loop-place : goal.invariant-loop-place
 invariant-loop-place l = IsExpiring l.gains l.fn.strikes.items l.strikes.items l.fn.account l.left l.moment l.place
 

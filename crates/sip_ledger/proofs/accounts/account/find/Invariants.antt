@@ -3,7 +3,7 @@ use Rattle.sip_ledger.specs.inner.Accounts.{IsSeek, entries_of, owes_at}
 use Rattle.sip_ledger.proofs.places.FindLemmas.{NonePays}
 use Rattle.sip_ledger.proofs.accounts.account.find.Given as goal
 
--- nothing that is owed so far is paid
+-- nothing that the account owes before the place is paid
 abbrev pub invariant-loop-place : goal.invariant-loop-place
 invariant-loop-place l = (l.account.start ≤ l.from) × NonePays (entries_of l.gains) (owes_at l.gains l.strikes l.account) l.message l.moment l.from
     × IsSeek l.gains l.message l.seek

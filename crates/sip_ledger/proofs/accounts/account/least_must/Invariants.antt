@@ -3,7 +3,7 @@ use Rattle.sip_ledger.specs.inner.Accounts.{entries_of}
 use Rattle.sip_ledger.proofs.places.ToldLemmas.{IsLeastTo}
 use Rattle.sip_ledger.proofs.accounts.account.least_must.Given as goal
 
--- the least of what must be sent before the place
+-- `least` is the least deadline of what the account must send before the place
 abbrev pub invariant-loop-place : goal.invariant-loop-place
 invariant-loop-place l = IsLeastTo l.gains l.strikes l.account l.from l.least
 

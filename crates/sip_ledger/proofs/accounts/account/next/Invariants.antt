@@ -2,7 +2,7 @@ use Rattle.std.proofs.Common.{◌≡◌, ◌<◌, ◌≤◌, ◌-◌, ℕ, false
 use Rattle.sip_ledger.specs.inner.Accounts.{owes_at}
 use Rattle.sip_ledger.proofs.accounts.account.next.Given as goal
 
--- nothing so far is owed
+-- the account owes nothing from the first place up to this one
 abbrev pub invariant-loop-place : goal.invariant-loop-place
 invariant-loop-place l = (l.from ≤ l.place) × (l.place ≤ l.account.end)
     × ((k : ℕ) → l.from ≤ k → k < l.place → owes_at l.gains l.strikes l.account k ≡ false)

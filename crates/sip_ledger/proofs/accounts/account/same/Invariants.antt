@@ -2,7 +2,7 @@ use Rattle.std.proofs.Common.{◌-◌}
 use Rattle.sip_ledger.proofs.places.ToldLemmas.{AreAt}
 use Rattle.sip_ledger.proofs.accounts.account.same.Given as goal
 
--- what is left of both is the same where all of it is
+-- what is left of both accounts is the same exactly if all that they owe is
 abbrev pub invariant-loop-at : goal.invariant-loop-at
 invariant-loop-at l = AreAt l.gains l.strikes l.one l.other l.at l.beside
 

@@ -4,7 +4,7 @@ use Rattle.sip_ledger.specs.inner.Accounts.{IsGainAt, accounts_debts}
 use Rattle.sip_ledger.proofs.places.GainEachLemmas.{HaveGained}
 use Rattle.sip_ledger.proofs.accounts.each.gain_some.Given as goal
 
--- the rows so far owe one more, and the last of them gained it at the place
+-- the rows before the index owe one debt more, and the last of them gained it at the place
 abbrev pub invariant-loop-row : goal.invariant-loop-row
 invariant-loop-row l = record {
   low : l.from ≤ l.row;

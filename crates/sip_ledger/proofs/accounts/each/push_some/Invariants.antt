@@ -4,7 +4,7 @@ use Rattle.sip_ledger.specs.inner.Accounts.{IsSeek, accounts_debts}
 use Rattle.sip_ledger.proofs.places.PaidLemmas.{ArePaidTo}
 use Rattle.sip_ledger.proofs.accounts.each.push_some.Given as goal
 
--- what is left to the rows so far stands after the others
+-- what is left to the paid rows before the index stands after the others
 abbrev pub invariant-loop-row : goal.invariant-loop-row
 invariant-loop-row l = (l.from ≤ l.row) × ((l.row ≤ l.to) ⊎ (l.row ≤ l.from)) × IsSeek l.gains l.message l.seek
     × ArePaidTo l.gains l.message l.moment l.from l.row (accounts_debts l.gains l.fn.strikes.items l.fn.rows.items) l.strikes.items l.rows.items

@@ -1,6 +1,6 @@
 use Rattle.sip_ledger.specs.inner.Accounts.{IsClearedTo}
 use Rattle.sip_ledger.proofs.accounts.left.clear_to.Given as goal
 
--- what was gained before the place is gone
+-- no gain before the place is left
 abbrev pub invariant-loop-place : goal.invariant-loop-place
 invariant-loop-place l = IsClearedTo l.place l.strikes l.rows l.fn.gains l.gains

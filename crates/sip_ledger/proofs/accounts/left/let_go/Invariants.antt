@@ -2,7 +2,7 @@ use Rattle.std.proofs.Common.{◌-◌}
 use Rattle.sip_ledger.specs.inner.Accounts.{AreKept}
 use Rattle.sip_ledger.proofs.accounts.left.let_go.Given as goal
 
--- what is gone no account owed
+-- the gains that were let go are owed by no account
 abbrev pub invariant-loop-place : goal.invariant-loop-place
 invariant-loop-place l = AreKept l.strikes l.rows l.fn.gains l.gains
 

@@ -2,6 +2,6 @@ use Rattle.std.proofs.Common.{◌≡◌, ◌<◌, ◌≤◌, ℕ, false}
 use Rattle.sip_ledger.specs.inner.Indexes.{holds}
 use Rattle.sip_ledger.proofs.accounts.strikes.are_others.Given as goal
 
--- none of those so far is of the message
+-- none of the gains looked at so far is of the message
 abbrev pub invariant-loop-at : goal.invariant-loop-at
 invariant-loop-at l = (k : ℕ) → l.from ≤ k → k < l.at → holds l.gains.messages l.message k ≡ false

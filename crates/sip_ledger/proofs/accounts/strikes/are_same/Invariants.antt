@@ -1,6 +1,6 @@
 use Rattle.std.proofs.Common.{◌≡◌, take}
 use Rattle.sip_ledger.proofs.accounts.strikes.are_same.Given as goal
 
--- those before the index are the same
+-- the strikes before the index are the same in both lists
 abbrev pub invariant-loop-at : goal.invariant-loop-at
 invariant-loop-at l = take l.at l.one ≡ take l.at l.other

@@ -2,6 +2,6 @@ use Rattle.std.proofs.Common.{◌≡◌, ◌≤◌, ℕ, false, take}
 use Rattle.sip_ledger.specs.inner.Accounts.{is_struck}
 use Rattle.sip_ledger.proofs.accounts.strikes.end_by.Given as goal
 
--- none of those so far goes past the place
+-- none of the strikes before the index goes past the place
 abbrev pub invariant-loop-strike : goal.invariant-loop-strike
 invariant-loop-strike l = (m k : ℕ) → l.place ≤ k → is_struck (take l.strike-index l.strikes) m k ≡ false

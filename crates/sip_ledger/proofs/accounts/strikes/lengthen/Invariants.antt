@@ -1,6 +1,6 @@
 use Rattle.std.proofs.Common.{◌≡◌}
 use Rattle.sip_ledger.proofs.accounts.strikes.lengthen.Given as goal
 
--- nothing has changed yet
+-- no strike has been made longer yet
 abbrev pub invariant-loop-at : goal.invariant-loop-at
 invariant-loop-at l = l.strikes ≡ l.fn.strikes

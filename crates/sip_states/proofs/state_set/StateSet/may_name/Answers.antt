@@ -1,14 +1,15 @@
 use Rattle.std.specs.Prelude.{◌≡◌, ◌<◌, length}
-use Rattle.std.specs.List.{flat_map}
-use Rattle.std.proofs.Common.{Contains, ap, arith, subst}
-use Rattle.std.proofs.lemmas.List.{take_all}
-use Rattle.sip_machine.specs.Owing.{at_rest, owing_names}
-use Rattle.sip_machine.proofs.texts.TextLaws.{Contains-nil}
-use Rattle.sip_states.proofs.keyed.NamesLemmas.{unnamed_more}
+use Rattle.std.specs.List.{Any}
+use Rattle.std.proofs.Common.{◌∙◌, ap, arith, get_or, refl, subst, sym}
+use Rattle.std.proofs.lemmas.Bool.{false≢true}
+use Rattle.std.proofs.lemmas.List.{get_or_default, take_all}
+use Rattle.sip_machine.specs.Owing.{at_rest}
+use Rattle.sip_states.specs.Naming.{MayName}
+use Rattle.sip_states.proofs.keyed.NamesLemmas.{none_more}
 use Rattle.sip_states.proofs.state_set.StateSet.may_name.Goals as goal
 
 pub loop-at-init : goal.loop-at-init
-loop-at-init g c = Contains-nil c.args.number
+loop-at-init g c any = omega (arith, any.2)
 
 pub loop-at-preserved : goal.loop-at-preserved
 loop-at-preserved g c =
@@ -16,12 +17,23 @@ loop-at-preserved g c =
     let same : length c.self.inside.states ≡ length xs = ap (λ h. length h.states) c.self.view_is in
     let low : c.loop-at.at < length xs = omega (arith, same) in
     let d = at_rest (g.M.Phases.ended c.self.inside.machine) in
-    unnamed_more (owing_names g.M.Phases.names) xs c.loop-at.at d c.args.number low c.loop-at.invariant
-    (rw (ap (λ h. h.states) c.self.view_is) at c.state_may_name.ensures d c.if-state_may_name.false)
+    let tells = rw (ap (λ h. h.states) c.self.view_is) at c.state_may_name.ensures d in
+    none_more (MayName g.M.Phases.names c.args.number) xs c.loop-at.at d low c.loop-at.invariant
+    (λ may. false≢true (sym c.if-state_may_name.false ∙ tells.1 may))
+
+pub returns-then-state_may_name : goal.returns-then-state_may_name
+returns-then-state_may_name g c =
+    let xs = c.args.self.now.states in
+    let same : length c.self.inside.states ≡ length xs = ap (λ h. length h.states) c.self.view_is in
+    let low : c.loop-at.at < length xs = omega (arith, same) in
+    let d = at_rest (g.M.Phases.ended c.self.inside.machine) in
+    let tells = rw (ap (λ h. h.states) c.self.view_is) at c.state_may_name.ensures d in
+    (λ _. (c.loop-at.at, get_or xs c.loop-at.at d, low, get_or_default xs c.loop-at.at (get_or xs c.loop-at.at d) d low, tells.0 c.if-state_may_name.true), λ _. refl)
 
 pub returns : goal.returns
 returns g c =
     let xs = c.args.self.now.states in
     let same : length c.self.inside.states ≡ length xs = ap (λ h. length h.states) c.self.view_is in
     let all = take_all c.loop-at.at xs (omega (arith, same)) in
-    λ none. subst (λ ss. ¬ Contains (flat_map (owing_names g.M.Phases.names) ss) c.args.number) all c.loop-at.invariant
+    let none = subst (λ ss. ¬ Any (MayName g.M.Phases.names c.args.number) ss) all c.loop-at.invariant in
+    (λ yes. absurd (false≢true yes), λ any. absurd (none any))

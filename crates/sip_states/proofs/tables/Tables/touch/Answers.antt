@@ -1,19 +1,36 @@
-use Rattle.std.proofs.Common.{◌≢◌, All, inl, inr, refl, sym}
-use Rattle.std.proofs.lemmas.Result.{IfOk-weaker}
-use Rattle.indexmap.specs.IndexMap.{keys}
-use Rattle.sip_states.proofs.keyed.TablesLemmas.{number-found, All-absent, none-from-is_some}
+use Rattle.std.proofs.Common.{◌≡◌, ◌<◌, ◌≤◌, ◌+◌, ◌∙◌, ◌++◌, ◌∷◌, [], None, false, ap, length, sym, subst, arith}
+use Rattle.std.specs.Map.{values_of}
+use Rattle.std.proofs.lemmas.List.{length-append, map-append}
+use Rattle.std.proofs.lemmas.Map.Entries.{length-values_of, length-keys_of}
+use Rattle.indexmap.specs.IndexMap.{keys, values, index_map_len}
+use Rattle.sip_states.specs.AnySet.{IsQuietSet, start_of}
+use Rattle.sip_states.specs.Sweep.{numbers_of}
+use Rattle.sip_states.specs.Tables.{Tabled, most_keys}
+use Rattle.sip_states.specs.inner.Marks.{AreMarked, AreMoved}
+use Rattle.sip_states.proofs.due.AdvanceLemmas.{marked_push, within_push, start_names, start_quiet}
+use Rattle.sip_states.proofs.keyed.TablesLemmas.{fresh-index}
 use Rattle.sip_states.proofs.tables.Tables.touch.Goals as goal
 
-pub add-requires-clause-new : goal.add-requires-clause-new
-add-requires-clause-new g c =
-    rw (← c.self.view_is) (All-absent c.self.inside.sets.entries c.args.key (none-from-is_some _ c.in-None.ensures.found))
-
-pub returns-in-Some-clause-ok : goal.returns-in-Some-clause-ok
-returns-in-Some-clause-ok g c =
-    rw (← c.self.view_is) (inl (number-found (keys c.self.inside.sets) c.args.key c.in-Some.index (sym c.in-Some.ensures.index), refl))
-
-pub returns-in-None-clause-ok : goal.returns-in-None-clause-ok
-returns-in-None-clause-ok g c =
-    let absent : All (λ k. k ≢ c.args.key) c.args.self.now.keys =
-    rw (← c.self.view_is) (All-absent c.self.inside.sets.entries c.args.key (none-from-is_some _ c.in-None.ensures.found)) in
-    IfOk-weaker c.add.result _ _ (λ number added. inr (absent, added.0, added.1)) c.add.ensures.ok
+pub invariant_of-self-2 : goal.invariant_of-self-2
+invariant_of-self-2 g c =
+    let inv = c.self.invariant in
+    let t = c.self.inside in
+    let sets = t.sets in
+    let new = c.find_or_start.new.sets in
+    let set = start_of t.params c.args.key in
+    let high : length sets.entries ≤ c.in_ok-index.index = omega (arith, c.if-index-count.false, c.len-count.ensures.len) in
+    let entries = (fresh-index t.params c.args.key c.in_ok-index.index sets.entries new.entries c.in_ok-index.ensures.ok high).2 in
+    let size : index_map_len new ≡ index_map_len sets + 1 = ap length entries ∙ length-append sets.entries ((c.args.key, set) ∷ []) in
+    let room : length (keys sets) < most_keys = subst (λ (t : Tabled). length t.keys < most_keys) (sym c.self.view_is) c.requires in
+    let many = length-keys_of sets.entries in
+    let agenda : length c.push_index.new.agenda ≡ length t.agenda + 1 = ap length c.in_default.ensures.agenda ∙ length-append t.agenda (None ∷ []) in
+    let marks : length c.push_index.new.marks ≡ length t.marks + 1 = ap length c.in_default.ensures.marks ∙ length-append t.marks (false ∷ []) in
+    let after : values new ≡ values sets ++ set ∷ [] = ap values_of entries ∙ map-append (λ e. e.1) sets.entries ((c.args.key, set) ∷ []) in
+    let marked : AreMarked c.push_index.new.marks (values new)
+    = rw (c.in_default.ensures.marks, after) (marked_push (λ s. numbers_of s ≡ []) t.marks (values sets) set (inv.2 ∙ sym (length-values_of sets.entries)) inv.3 (start_names t.params c.args.key)) in
+    let moved : length c.push_index.new.moved ≡ length t.moved + 1 = ap length c.in_default.ensures.moved ∙ length-append t.moved (false ∷ []) in
+    let moves : AreMoved c.push_index.new.moved c.push_index.new.marks (values new) = rw (c.in_default.ensures.marks, c.in_default.ensures.moved, after) (record {
+      quiet = marked_push IsQuietSet t.moved (values sets) set (inv.4 ∙ sym (length-values_of sets.entries)) inv.5.quiet (start_quiet t.params c.args.key);
+      within = within_push t.marks t.moved (inv.2 ∙ sym inv.4) inv.5.within;
+    }) in
+    (omega (arith, size, room, many), omega (arith, size, agenda, inv.1), omega (arith, size, marks, inv.2), marked, omega (arith, size, moved, inv.4), moves)

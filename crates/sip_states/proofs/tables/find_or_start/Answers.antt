@@ -1,0 +1,36 @@
+use Rattle.std.proofs.Common.{◌≡◌, ◌<◌, ◌∙◌, ◌++◌, ◌∷◌, [], Some, inl, inr, length, slice_get, sym, subst, ap}
+use Rattle.std.specs.Map.{keys_of}
+use Rattle.indexmap.proofs.CallerLemmas.{insert_entry-new}
+use Rattle.indexmap.specs.Entry.{Vacant, entry_index, map_with_value}
+use Rattle.sip_standard.specs.Key.{same_key}
+use Rattle.sip_states.proofs.keyed.TablesLemmas.{found-at, All-absent}
+use Rattle.sip_states.proofs.tables.find_or_start.Goals as goal
+
+pub returns-in_err-set-in-Vacant-clause-err : goal.returns-in_err-set-in-Vacant-clause-err
+returns-in_err-set-in-Vacant-clause-err g c =
+    let same = rw c.in-Vacant.is at c.in_ok-entry.ensures.unchanged in
+    let link = rw c.in_ok-entry.was at (c.entry.follows.holds c.in-Vacant.entry.map.now) in
+    ap (λ m. m.entries) link ∙ same
+
+pub returns-in-Occupied-clause-ok : goal.returns-in-Occupied-clause-ok
+returns-in-Occupied-clause-ok g c =
+    let old = c.args.sets.now.entries in
+    let found = rw c.in-Occupied.is at c.in_ok-entry.ensures.found in
+    let index = rw c.in-Occupied.is at c.in_ok-entry.ensures.index in
+    let same = rw c.in-Occupied.is at c.in_ok-entry.ensures.unchanged in
+    let link = rw c.in_ok-entry.was at (c.entry.follows.holds c.in-Occupied.entry.map.now) in
+    let place = found-at old c.args.key found.0 in
+    let is = c.index.ensures ∙ index in
+    inl (subst (λ i. slice_get (keys_of old) i ≡ Some c.args.key) (sym is) place.0, subst (λ i. i < length old) (sym is) place.1, ap (λ m. m.entries) link ∙ same)
+
+pub returns-in_ok-set-in-Vacant-clause-ok : goal.returns-in_ok-set-in-Vacant-clause-ok
+unfolding entry_index
+returns-in_ok-set-in-Vacant-clause-ok g c =
+    let old = c.args.sets.now in
+    let set = c.in_ok-set-in-Vacant.set in
+    let none = rw c.in-Vacant.is at c.in_ok-entry.ensures.found in
+    let same = rw c.in-Vacant.is at c.in_ok-entry.ensures.unchanged in
+    let writes = rw c.in-Vacant.is at c.in_ok-entry.ensures.update in
+    let link = rw c.in_ok-entry.was at (c.entry.follows.holds (map_with_value (Vacant c.in-Vacant.entry) set)) in
+    let grown = ap (λ m. m.entries) link ∙ writes.1 set ∙ insert_entry-new same_key old c.args.key set none in
+    inr (All-absent old.entries c.args.key none, c.index-index.ensures ∙ ap length same, grown ∙ ap (λ s. old.entries ++ (c.args.key, s) ∷ []) c.in_ok-set-in-Vacant.ensures)

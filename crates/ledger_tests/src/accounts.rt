@@ -217,8 +217,13 @@ impl Played {
         assert!(rt; debts.as_slice() == list, "{row}");
         assert!(rt; row < self.accounts.len());
         assert!(rt; self.accounts.owes_nothing(row) == list.is_empty(), "{row}");
+        let least = earliest_must(list);
+        assert!(rt; self.accounts.earliest_must(row) == least, "{row}");
+        let moment = least.unwrap_or(0);
+        assert!(rt; self.accounts.is_timely(row, moment), "{row}");
+        let late = moment.saturating_add(1);
         assert!(rt;
-            self.accounts.earliest_must(row) == earliest_must(list),
+            self.accounts.is_timely(row, late) == least.is_none(),
             "{row}"
         );
         let mut names = Vec::new(rt.alloc());
@@ -241,9 +246,26 @@ impl Played {
         assert!(rt; !same || self.accounts.print(row) == self.accounts.print(other));
     }
 
+    /// The messages that rows owe are told, from the least on, each once.
+    fn names_all(&self, rt: &(impl Abort + AllocGlobal)) -> Result<(), Fail> {
+        let mut names = Vec::new(rt.alloc());
+        self.accounts.all_names(&mut names)?;
+        let mut wants = Vec::new(rt.alloc());
+        for list in &self.lists {
+            for debt in list {
+                wants.push(debt.message)?;
+            }
+        }
+        wants.sort_unstable();
+        wants.dedup();
+        assert!(rt; names.as_slice() == wants.as_slice());
+        Ok(())
+    }
+
     /// All rows owe their lists.
     fn agree(&self, rt: &(impl Abort + AllocGlobal)) -> Result<(), Fail> {
         assert!(rt; self.accounts.len() == self.lists.len());
+        self.names_all(rt)?;
         let prints = self.accounts.prints(rt.alloc(), 0)?;
         for (row, list) in self.lists.iter().enumerate() {
             self.owes(rt, row, list)?;

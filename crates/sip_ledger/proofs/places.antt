@@ -7,6 +7,7 @@ pub mod GainedLemmas
 pub mod LeftLemmas
 pub mod LetGoLemmas
 pub mod MovedLemmas
+pub mod NamedLemmas
 pub mod PaidLemmas
 pub mod SeekLemmas
 pub mod SeenLemmas

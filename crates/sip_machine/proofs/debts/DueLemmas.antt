@@ -4,7 +4,7 @@ use Rattle.std.specs.Prelude.{◌≡◌, ◌<◌, ◌≤◌, ◌-◌, ◌||◌, 
 use Rattle.std.specs.Bool.{OnTrue, OnFalse}
 use Rattle.std.specs.List.{list_any}
 use Rattle.std.proofs.Common.{refl, sym, ◌∙◌, ap, ap₂, subst, arith, cond, true≢false, length-set}
-use Rattle.std.proofs.lemmas.List.Elements.{All-nil, All-cons, All-head, All-tail, All-push, All-set, All-get_or, All-weaker, filter-append}
+use Rattle.std.proofs.lemmas.List.Elements.{All-nil, All-cons, All-head, All-tail, All-push, All-set, All-get_or, All-weaker, All-filter, filter-append}
 use Rattle.std.proofs.lemmas.Bool.Decides.{nat_tests}
 use Rattle.std.proofs.lemmas.List.{get_or-set_same, set-get_or}
 use Rattle.sip_ledger.specs.declared.debt.Debt.{Debt}
@@ -156,15 +156,16 @@ between-wider low high message rows all =
     (λ debts between. All-weaker (λ (d : Debt). (low ≤ d.message) × (d.message ≤ high)) (λ (d : Debt). (min low message ≤ d.message) × (d.message ≤ max high message))
     (λ d is. let a = is.0 in let b = is.1 in (omega (arith, a), omega (arith, b))) debts between) rows all
 
--- where a row gains a debt, the messages of all rows lie between the numbers widened by that of the debt
-pub AreDues-gain : (rows : List (List Debt)) (count low high row : ℕ) (debt : Debt) → row < length rows → AreDues rows count low high →
-    AreDues (set rows row (owed_in rows row ++ debt ∷ [])) count (min low debt.message) (max high debt.message)
-AreDues-gain rows count low high row debt low_row dues =
+-- where a row gains a debt, and keeps what passes a test, the messages of all rows lie between the numbers widened by that of the debt
+pub AreDues-gain : (p : Debt → Bool) (rows : List (List Debt)) (count low high row : ℕ) (debt : Debt) → row < length rows → AreDues rows count low high →
+    AreDues (set rows row (filter p (owed_in rows row ++ debt ∷ []))) count (min low debt.message) (max high debt.message)
+AreDues-gain p rows count low high row debt low_row dues =
     let wider = between-wider low high debt.message rows dues.between in
     let m = debt.message in
-    AreDues-set rows count (min low m) (max high m) row (owed_in rows row ++ debt ∷ []) (record { long = dues.long; between = wider })
-    (All-push (λ (d : Debt). (min low m ≤ d.message) × (d.message ≤ max high m)) (owed_in rows row) debt
-    (All-get_or (AreBetween (min low m) (max high m)) rows row [] low_row wider) (omega arith, omega arith))
+    let P = λ (d : Debt). (min low m ≤ d.message) × (d.message ≤ max high m) in
+    AreDues-set rows count (min low m) (max high m) row (filter p (owed_in rows row ++ debt ∷ [])) (record { long = dues.long; between = wider })
+    (All-filter p P (owed_in rows row ++ debt ∷ [])
+    (All-push P (owed_in rows row) debt (All-get_or (AreBetween (min low m) (max high m)) rows row [] low_row wider) (omega arith, omega arith)))
 
 -- a row that is changed and then changed again is as if it was changed once, to what the second change makes of the first
 pub set-again : (rows : List (List Debt)) (row : ℕ) (debts : List Debt) (f : List Debt → List Debt) → row < length rows →

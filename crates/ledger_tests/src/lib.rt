@@ -16,6 +16,8 @@ mod long;
 #[cfg(test)]
 mod played;
 #[cfg(test)]
+mod refused;
+#[cfg(test)]
 mod rows;
 #[cfg(test)]
 mod wants;

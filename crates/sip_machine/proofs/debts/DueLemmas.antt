@@ -1,14 +1,13 @@
 -- What many states owe: what a send takes out of the debts of one state, and states that owe nothing.
 use Prim.Native.Nat.{suc, zero}
 use Rattle.std.specs.Prelude.{◌≡◌, ◌<◌, ◌≤◌, ◌-◌, ◌||◌, ℕ, Bool, true, false, IsTrue, None, List, [], ◌∷◌, ◌++◌, All, drop, filter, length, max, min, set, take}
-use Rattle.std.specs.Bool.{OnTrue, OnFalse}
 use Rattle.std.specs.List.{list_any}
 use Rattle.std.proofs.Common.{refl, sym, ◌∙◌, ap, ap₂, subst, arith, cond, true≢false, length-set}
 use Rattle.std.proofs.lemmas.List.Elements.{All-nil, All-cons, All-head, All-tail, All-push, All-set, All-get_or, All-weaker, All-filter, filter-append}
 use Rattle.std.proofs.lemmas.Bool.Decides.{nat_tests}
 use Rattle.std.proofs.lemmas.List.{get_or-set_same, set-get_or}
 use Rattle.sip_ledger.specs.declared.debt.Debt.{Debt}
-use Rattle.sip_ledger.specs.Debts.{counts_at, is_payable, IsWithoutFirst as LedgerWithoutFirst, paid_by}
+use Rattle.sip_ledger.specs.Debts.{counts_at, is_payable, paid_by}
 use Rattle.sip_standard.specs.Debts.{IsWithoutFirst}
 use Rattle.sip_machine.specs.Owes.{owed_in}
 use Rattle.sip_machine.specs.inner.Dues.{rows_in, AreBetween, AreDues}
@@ -22,36 +21,6 @@ is_false false never = refl
 -- a send leaves a debt that it cannot pay, and pays what it can of those after it
 pub unpaid-front : (message t : ℕ) (debt : Debt) (debts : List Debt) → ¬ (IsTrue (is_payable message t debt)) → paid_by message t (debt ∷ debts) ≡ debt ∷ paid_by message t debts
 unpaid-front message t debt debts unpaid = ap (λ b. cond b debts (debt ∷ paid_by message t debts)) (is_false (is_payable message t debt) unpaid)
-
--- a send pays the first debt that it can pay: those before it and after it stay
-paid-behind : (message t : ℕ) (before : List Debt) (first : Debt) (after : List Debt) → All (λ debt. ¬ (IsTrue (is_payable message t debt))) before →
-    IsTrue (is_payable message t first) → paid_by message t (before ++ first ∷ after) ≡ before ++ after
-paid-behind message t [] first after none pays = ap (λ b. cond b after (first ∷ paid_by message t after)) pays
-paid-behind message t (debt ∷ before) first after none pays =
-    let unpaid = is_false (is_payable message t debt) (All-head (λ debt. ¬ (IsTrue (is_payable message t debt))) debt before none) in
-    ap (λ b. cond b (before ++ first ∷ after) (debt ∷ paid_by message t (before ++ first ∷ after))) unpaid
-    ∙ ap (λ debts. debt ∷ debts) (paid-behind message t before first after (All-tail (λ debt. ¬ (IsTrue (is_payable message t debt))) debt before none) pays)
-
--- what is left where a ledger took out the first payable debt is what is left after the payment
-pub paid-is : (message t : ℕ) (debts left : List Debt) → LedgerWithoutFirst (λ debt. IsTrue (is_payable message t debt)) debts left → left ≡ paid_by message t debts
-paid-is message t debts left a =
-    a.rest ∙ sym (paid-behind message t a.before a.first a.after a.none_before a.holds) ∙ ap (paid_by message t) (sym a.whole)
-
--- where a send can pay none of the debts, all stay
-pub unpaid-is : (message t : ℕ) (debts : List Debt) → All (λ debt. ¬ (IsTrue (is_payable message t debt))) debts → paid_by message t debts ≡ debts
-unpaid-is message t [] none = refl
-unpaid-is message t (debt ∷ debts) none =
-    let unpaid = is_false (is_payable message t debt) (All-head (λ debt. ¬ (IsTrue (is_payable message t debt))) debt debts none) in
-    ap (λ b. cond b debts (debt ∷ paid_by message t debts)) unpaid
-    ∙ ap (λ ds. debt ∷ ds) (unpaid-is message t debts (All-tail (λ debt. ¬ (IsTrue (is_payable message t debt))) debt debts none))
-
--- a row from which the first payable debt was taken, or which is as before since it has none, owes what is left after the payment
-pub paid-row : (message t : ℕ) (is : Bool) (old new : List Debt) (rows more : List (List Debt)) (row : ℕ) → old ≡ owed_in rows row → new ≡ owed_in more row →
-    OnTrue is (LedgerWithoutFirst (λ debt. IsTrue (is_payable message t debt)) old new) →
-    OnFalse is ((more ≡ rows) × All (λ debt. ¬ (IsTrue (is_payable message t debt))) old) → new ≡ paid_by message t old
-paid-row message t true old new rows more row is_old is_new paid unpaid = paid-is message t old new paid
-paid-row message t false old new rows more row is_old is_new paid unpaid =
-    is_new ∙ ap (λ rs. owed_in rs row) unpaid.0 ∙ sym is_old ∙ sym (unpaid-is message t old unpaid.1)
 
 -- where P does not hold of a debt, it and a list without the first debt of which P holds are the debt and the list without that one
 pub without-behind : (P : Debt → Type 0) (debt : Debt) (debts left : List Debt) → ¬ (P debt) → IsWithoutFirst P debts left → IsWithoutFirst P (debt ∷ debts) (debt ∷ left)

@@ -43,3 +43,8 @@ returns-clause-ok c =
     let rows = c.args.rows.now in
     named-all (accounts_debts g s rows) c.loop-message.low c.args.numbers.now.items c.loop-message.numbers.items c.loop-message.invariant
     (λ m after. unleft-unnamed g s rows m (λ k. c.in_default.ensures.none m k after))
+
+pub loop-message-smaller : goal.loop-message-smaller
+loop-message-smaller c =
+    let low = c.in-Some.ensures.low in
+    omega (arith, low, c.from.ensures)

@@ -29,10 +29,10 @@ loop-message-preserved c =
     let between : (m : ℕ) → low ≤ m → m < message → some_owes m seen ≡ false = λ m after before. unleft-unnamed g s rows m (λ k. c.in-Some.ensures.before m k after before) in
     elim c.if-is_named.branch [
       | then-is_named+in_ok-push w ↦
-          rw w.numbers-is (subst (λ n. AreNamedTo seen (n + 1) old w.push.new.self.items) (sym c.from.ensures)
+          rw w.numbers-is (subst (λ n. AreNamedTo seen (n + 1) old w.push.new.self.items) (sym c.from-low.ensures)
           (named-more seen low message old one w.push.new.self.items c.loop-message.invariant c.in-Some.ensures.low between (sym c.is_named.ensures ∙ w.if-is_named.true) w.in_ok-push.ensures.items))
       | else-is_named w ↦
-          rw w.numbers-is (subst (λ n. AreNamedTo seen (n + 1) old one) (sym c.from.ensures)
+          rw w.numbers-is (subst (λ n. AreNamedTo seen (n + 1) old one) (sym c.from-low.ensures)
           (named-past seen low message old one c.loop-message.invariant c.in-Some.ensures.low between (sym c.is_named.ensures ∙ w.if-is_named.false)))
     ]
 
@@ -47,4 +47,4 @@ returns-clause-ok c =
 pub loop-message-smaller : goal.loop-message-smaller
 loop-message-smaller c =
     let low = c.in-Some.ensures.low in
-    omega (arith, low, c.from.ensures)
+    omega (arith, low, c.from-low.ensures)

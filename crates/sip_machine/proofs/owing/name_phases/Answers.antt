@@ -19,15 +19,15 @@ pub loop-at-preserved : goal.loop-at-preserved
 loop-at-preserved g c =
     let xs = c.args.pool.now in
     let at = c.loop-at.at in
-    let end = c.run_end.result in
-    let order = c.run_end.ensures.order in
+    let end = c.run_end-at.result in
+    let order = c.run_end-at.ensures.order in
     let low = order.0 in
     let high : end ≤ length xs = omega (arith, order.1) in
     let d = some-at xs at (omega (arith, low, high)) in
     let phase = (get_or xs at d).phase in
     let named : option_to_list c.message.result ≡ g.M.Phases.names phase = c.message.ensures ∙ ap g.M.Phases.names (c.phase-phase.ensures d) in (
       high,
-      run-appends g.M.Phases.names xs at end phase c.args.out.now.items c.loop-at.out.items c.push_some.new.out.items low high c.loop-at.invariant.1 (c.run_end.ensures.same d)
+      run-appends g.M.Phases.names xs at end phase c.args.out.now.items c.loop-at.out.items c.push_some.new.out.items low high c.loop-at.invariant.1 (c.run_end-at.ensures.same d)
           (c.in_ok-push_some.ensures.ok ∙ ap (λ ns. c.loop-at.out.items ++ ns) named),
     )
 

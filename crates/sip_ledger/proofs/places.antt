@@ -9,6 +9,7 @@ pub mod LetGoLemmas
 pub mod MovedLemmas
 pub mod NamedLemmas
 pub mod PaidLemmas
+pub mod RisingLemmas
 pub mod SeekLemmas
 pub mod SeenLemmas
 pub mod StrikeLemmas

@@ -27,7 +27,7 @@ use crate::accounts::seek::Seek;
 use crate::accounts::strikes::Strike;
 use crate::debt::Debt;
 use crate::run::{Run, runs_of};
-use crate::words;
+use crate::front;
 use std::alloc::{AllocError, Global};
 use std::marker::Model;
 
@@ -104,7 +104,7 @@ impl Accounts {
         ensures { self.new ≡ drop rows self.old }
     {
         let count = rows.min(self.rows.len());
-        words::drop_first(&mut self.rows, count);
+        front::drop_first(&mut self.rows, count);
     }
 
     /// Keeps the rows of these numbers, which rise.

@@ -7,7 +7,7 @@ ghost use Rattle.sip_ledger.specs.inner.Places.{AreRising};
 
 use crate::debt::{Debt, Entry};
 use crate::index::Index;
-use crate::words;
+use crate::front;
 use std::alloc::{AllocError, Global};
 
 /// What is asked of a gain most often.
@@ -236,8 +236,8 @@ impl Gains {
         ensures dropped { IsDropped place self.old self.new }
     {
         let count = place - (self.end - self.entries.len());
-        words::drop_first(&mut self.entries, count);
-        words::drop_first(&mut self.flags, count);
+        front::drop_first(&mut self.entries, count);
+        front::drop_first(&mut self.flags, count);
     }
 }
 

@@ -1,6 +1,6 @@
 use Rattle.std.specs.Prelude.{ℕ, ◌*◌, ◌%◌, ◌^◌, bit_xor}
 
--- A number for what a row owes, which tells most rows apart at once.
+-- Numbers that are made of others, and tell most of them apart.
 
 -- a number that is made of another one and a word
 abbrev pub mixed : ℕ → ℕ → ℕ

@@ -2,7 +2,7 @@ use Rattle.std.specs.Prelude.{◌≡◌, ◌<◌, ◌≤◌, ◌+◌, ℕ, Bool,
 use Rattle.sip_ledger.specs.declared.debt.Debt.{Debt}
 use Rattle.sip_ledger.specs.declared.debt.Entry.{Entry}
 
--- Rows of bits over a list of entries: which of them are owed, and which must be sent.
+-- Which entries of a list are owed, and which of these must be sent: a bit for each says so.
 
 -- the debt of an entry: it must be sent, or it may be
 abbrev pub debt_of : Entry → Bool → Debt

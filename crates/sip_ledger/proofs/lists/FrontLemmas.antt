@@ -1,4 +1,4 @@
--- The words of all rows, when some are moved within their list.
+-- The front of a list is dropped.
 use Rattle.std.proofs.Common.{◌≡◌, ℕ, ◌+◌, ◌-◌, ◌≤◌, List, ◌++◌, length, take, drop, ap, ◌∙◌, arith}
 use Rattle.std.specs.List.{copy_within}
 use Rattle.std.proofs.lemmas.List.{length-drop, length-take-le, take_at, take_rest}

@@ -1,7 +1,7 @@
 use Rattle.std.specs.Prelude.{◌<◌, ◌≤◌, ℕ, List, get_or, length}
 use Rattle.sip_ledger.specs.declared.debt.Entry.{Entry}
 
--- Places of bits in a row.
+-- Deadlines of a list of entries.
 
 -- the deadlines of the entries never fall
 abbrev pub AreRising : List Entry → Type 0

@@ -1,4 +1,4 @@
-use Rattle.std.specs.Prelude.{◌≡◌, flat_map, length, take}
+use Rattle.std.specs.Prelude.{flat_map, length, take}
 use Rattle.std.proofs.Common.{sym, ap, subst, ◌∙◌}
 use Rattle.sip_machine.proofs.texts.RunLaws.{always_err}
 use Rattle.sip_machine.specs.Naming.{AppendsAll}

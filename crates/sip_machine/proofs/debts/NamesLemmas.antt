@@ -1,6 +1,6 @@
 -- Which messages states name: what their phases name, and what they owe.
 use Prim.Native.Nat.{suc, zero}
-use Rattle.std.specs.Prelude.{◌≡◌, ◌↔◌, ◌||◌, ◌<◌, ◌≤◌, ◌==◌, ℕ, Bool, true, false, IsTrue, None, List, [], ◌∷◌, ◌++◌, All, Contains, drop, flat_map, get_or, length, take}
+use Rattle.std.specs.Prelude.{◌≡◌, ◌||◌, ◌<◌, ◌≤◌, ◌==◌, ℕ, Bool, true, false, None, List, [], ◌∷◌, ◌++◌, All, Contains, flat_map, length, take}
 use Rattle.std.proofs.Common.{refl, sym, ◌∙◌, ap, subst, inl, inr, arith, append-nil, append_assoc, take-append-drop, true≢false}
 use Rattle.std.proofs.Math.Seq.{take-append_seam}
 use Rattle.std.proofs.lemmas.Bool.{cases_eq, eq-eqb, ne_eqb, or_left, or_right}
@@ -40,13 +40,14 @@ named-some m (owes ∷ rows) there = elim (Contains-append_cases (owes_names owe
   | inr later ↦ or_right (owes_message m owes) (some_owes m rows) (named-some m rows later)
 ]
 
+some-step : (m : ℕ) (owes : List Debt) (rows : List (List Debt)) (b : Bool) → owes_message m owes ≡ b → (b || some_owes m rows) ≡ true →
+    (some_owes m rows ≡ true → Contains (flat_map owes_names rows) m) → Contains (flat_map owes_names (owes ∷ rows)) m
+some-step m owes rows true here is later = Contains-append_left (owes_names owes) (flat_map owes_names rows) m (owed-named m owes here)
+some-step m owes rows false here is later = Contains-append_right (owes_names owes) (flat_map owes_names rows) m (later is)
+
 some-named : (m : ℕ) (rows : List (List Debt)) → some_owes m rows ≡ true → Contains (flat_map owes_names rows) m
 some-named m [] is = absurd (true≢false (sym is))
-some-named m (owes ∷ rows) is = by (owes_message m owes) refl
-  where
-    by : (b : Bool) → owes_message m owes ≡ b → Contains (flat_map owes_names (owes ∷ rows)) m
-    by true here = Contains-append_left (owes_names owes) (flat_map owes_names rows) m (owed-named m owes here)
-    by false here = Contains-append_right (owes_names owes) (flat_map owes_names rows) m (some-named m rows (sym (ap (λ b. b || some_owes m rows) here) ∙ is))
+some-named m (owes ∷ rows) is = some-step m owes rows (owes_message m owes) refl is (some-named m rows)
 
 pub owed-appends : (rows : List (List Debt)) (old new : List ℕ) → AppendsOwed rows old new → AppendsAll (flat_map owes_names rows) old new
 owed-appends rows old new a = (a.names, a.whole, λ m. (λ there. some-named m rows ((a.each m).0 there), λ there. (a.each m).1 (named-some m rows there)))

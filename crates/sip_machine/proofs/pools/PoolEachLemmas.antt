@@ -51,6 +51,10 @@ from_to-map f (suc from) zero xs = refl
 from_to-map f (suc from) (suc to) [] = refl
 from_to-map f (suc from) (suc to) (x ∷ xs) = from_to-map f from to xs
 
+map-again : {X Y Z : Type 0} (f : X → Y) (g : Y → Z) (xs : List X) → map g (map f xs) ≡ map (λ x. g (f x)) xs
+map-again f g [] = refl
+map-again f g (x ∷ xs) = ap (λ ys. g (f x) ∷ ys) (map-again f g xs)
+
 -- where f and g give the same of each element, they give the same list
 pub map-same : {X Y : Type 0} (f g : X → Y) (xs : List X) → All (λ x. f x ≡ g x) xs → map f xs ≡ map g xs
 map-same f g [] same = refl

@@ -7,8 +7,8 @@ use Rattle.sip_machine.specs.Owes.{owed_in}
 use Rattle.sip_machine.proofs.debts.DueLemmas.{set-again, counted-gain}
 use Rattle.sip_machine.proofs.effects.lead.Goals as goal
 
-pub returns-in-Softens-clause-ok : goal.returns-in-Softens-clause-ok
-returns-in-Softens-clause-ok c =
+pub returns-in_ok-expire-in-Softens-clause-ok : goal.returns-in_ok-expire-in-Softens-clause-ok
+returns-in_ok-expire-in-Softens-clause-ok c =
     let rows = c.args.dues.now in
     rw c.in-Softens.is
     (rw c.in_ok-expire-in-Softens.ensures.ok at c.soften.ensures

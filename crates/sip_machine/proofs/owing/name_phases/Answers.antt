@@ -1,7 +1,7 @@
-use Rattle.std.specs.Prelude.{◌≡◌, ◌<◌, ◌≤◌, ◌++◌, [], flat_map, get_or, length, option_to_list, take}
+use Rattle.std.specs.Prelude.{◌≡◌, ◌≤◌, ◌++◌, [], flat_map, get_or, length, option_to_list, take}
 use Rattle.std.proofs.Common.{sym, ap, subst, ◌∙◌, append-nil, arith}
 use Rattle.std.proofs.lemmas.List.{take_all}
-use Rattle.sip_ledger.proofs.lists.EachLemmas.{always_err}
+use Rattle.sip_machine.proofs.texts.RunLaws.{always_err}
 use Rattle.sip_machine.specs.Naming.{AppendsAll}
 use Rattle.sip_machine.proofs.debts.NamesLemmas.{appended-front, run-appends}
 use Rattle.sip_machine.proofs.pools.PoolLemmas.{some-at}

@@ -1,6 +1,6 @@
-use Rattle.std.specs.Prelude.{◌≡◌, flat_map, length, take}
+use Rattle.std.specs.Prelude.{flat_map, length, take}
 use Rattle.std.proofs.Common.{sym, ap, subst, ◌∙◌}
-use Rattle.sip_ledger.proofs.lists.EachLemmas.{always_err}
+use Rattle.sip_machine.proofs.texts.RunLaws.{always_err}
 use Rattle.sip_machine.specs.Naming.{AppendsAll}
 use Rattle.sip_machine.specs.Owing.{owing_names}
 use Rattle.sip_machine.proofs.debts.NamesLemmas.{appended-front, pool-appends}

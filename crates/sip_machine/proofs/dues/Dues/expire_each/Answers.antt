@@ -13,8 +13,8 @@ returns-in_default-clause-ok c =
     let is : rows_in c.self.inside.rows None ≡ c.args.self.now = rw c.in_default.is at c.self.view_is in
     rw (c.in_default.is, ← is) (mapped-none (filter (counts_at c.args.moment)) c.self.inside.rows c.args.from refl)
 
-pub invariant_of-self-2 : goal.invariant_of-self-2
-invariant_of-self-2 c =
+pub invariant_of-self-else-is_err : goal.invariant_of-self-else-is_err
+invariant_of-self-else-is_err c =
     let own = c.self.inside in
     let rows = c.in-Some.ledger.value in
     let dues : AreDues rows own.rows own.lowest own.highest = rw c.in-Some.is at c.self.invariant in

@@ -6,7 +6,7 @@ use Rattle.sip_machine.proofs.dues.Dues.prints.Goals as goal
 
 pub returns-in_ok-prints-in-Some : goal.returns-in_ok-prints-in-Some
 returns-in_ok-prints-in-Some c =
-    let rows = c.in-Some.ledger.now.value in
+    let rows = c.in-Some.ledger.value in
     let is : rows ≡ c.args.self.now = rw c.in-Some.is at c.self.view_is in
     let low : c.args.from ≤ length rows = subst (λ rs. c.args.from ≤ length rs) (sym is) c.requires in
     let all = rw c.deref.ensures.value at c.in_ok-prints.ensures in

@@ -1,4 +1,4 @@
-use Rattle.std.proofs.Common.{None, [], ◌+◌, ◌||◌, length, ap, inl, refl, sym, ◌∙◌, subst, arith}
+use Rattle.std.proofs.Common.{◌+◌, None, [], ◌||◌, length, ap, inl, refl, sym, ◌∙◌, subst, arith}
 use Rattle.std.proofs.lemmas.Option.{same_Some}
 use Rattle.sip_machine.specs.Texts.{Keeps}
 use Rattle.sip_log.specs.Told.{item}

@@ -1,4 +1,4 @@
-use Rattle.std.proofs.Common.{◌≡◌, ◌||◌, false, [], ◌∷◌, ◌+◌, sym, ap, ◌∙◌, subst, arith}
+use Rattle.std.proofs.Common.{◌≡◌, ◌+◌, ◌||◌, false, [], ◌∷◌, sym, ap, ◌∙◌, subst, arith}
 use Rattle.std.proofs.lemmas.Bool.{false≢true}
 use Rattle.std.proofs.lemmas.Result.{on_ok_weaker}
 use Rattle.sip_verdict.specs.inner.Concerned.{each, is_all}

@@ -1,5 +1,5 @@
 -- What the transactions of a survey are after an entry of each kind.
-use Rattle.std.proofs.Common.{◌≡◌, ◌≢◌, ◌≤◌, ◌<◌, inl, inr, ℕ, Bool, true, false, ◌+◌, Option, Some, None, List, [], ◌∷◌, ◌++◌, All, AllPairs, Contains, length, slice_get, refl, sym, ap, ◌∙◌, subst, true≢false, arith}
+use Rattle.std.proofs.Common.{◌≡◌, ◌≢◌, ◌≤◌, ◌<◌, ◌+◌, inl, inr, ℕ, Bool, true, false, Option, Some, None, List, [], ◌∷◌, ◌++◌, All, AllPairs, Contains, length, slice_get, refl, sym, ap, ◌∙◌, subst, true≢false, arith}
 use Rattle.std.specs.Prelude.{fold}
 use Rattle.std.proofs.Math.Decide.{dec_le}
 use Rattle.sip_standard.specs.declared.action.Action.TheVariants.{Restart}

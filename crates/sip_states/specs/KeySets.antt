@@ -67,7 +67,7 @@ by_machine {A} of set = each_set (λ any. A) of set
 abbrev pub held_at_start : Times → (machine : MachineKind) → Held Times (StateOf machine)
 held_at_start p machine = record { machine = p; moment = 0; states = idle_state (coded_of machine) ∷ [] }
 
--- the set that a machine starts with
+-- the set that a machine starts with, as one of the sets of all machines
 abbrev pub start_of_machine : Times → MachineKind → AnySet
 start_of_machine p OfInviteClient = InviteClient (held_at_start p OfInviteClient)
 start_of_machine p OfPlainClient = PlainClient (held_at_start p OfPlainClient)

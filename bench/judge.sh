@@ -5,7 +5,8 @@
 #
 #   bench/judge.sh [ENTRIES ..]
 #   bench/judge.sh growth                     some kinds alone, of 10,000, 100,000 and 1,000,000 entries side by side, timed
-#   bench/judge.sh beside PROGRAM [ENTRIES]   the kinds, timed in turn with another program
+#   bench/judge.sh beside PROGRAM [ENTRIES]   the kinds, timed in turn with another program: with that of 27 November 2026 (git show
+#                                             4397bff9:built/) it prints the goals of time and memory too
 #   bench/judge.sh shapes                     hostile messages and wide transactions, counted: what a byte takes in a message of 4 KiB and in one of
 #                                             64 KiB, which is about the same where reading is linear, and what an entry takes by how many states there
 #                                             are and how much is owed

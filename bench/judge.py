@@ -353,8 +353,13 @@ KINDS = {
     calls: (5500, False), registers: (5500, False), served_registers: (6050, False), options: (4000, False), served_options: (4400, False),
     proxy: (6000, False), keys: (5500, False), mixed: (8000, False), wide: (120000, True),
 }
+# A server is to take at most a tenth more than its client: that was met.
+CLIENTS, AT_A_SERVER = {served_registers: registers, served_options: options}, 1.1
 # A goal that was met is lost where an entry takes more instructions than the goal by this factor.
 LOST = 1.03
+# The most processor time of a log, in shares of what the program of 27 November 2026 takes for it; and the most memory, in MB, of a log of 1,000,000 entries.
+SHARES, SHARE, SHARE_OF_SHOW = {calls: 0.45, proxy: 0.45, keys: 0.45}, 0.55, 0.6
+PEAKS = {calls: 60, many_live_keys: 320}
 COUNTED = (2000, 6000)
 COUNTED_WIDE = (128, 256)
 # The worst cases, each with the share of the entries of the kinds that it takes.
@@ -425,7 +430,7 @@ def counted(program, log, out):
 def print_counted(program, folder):
     print(f"{'counted, an entry':<18} {'bytes':>6} {'instructions':>12} {'goal':>7} {'branches':>9} {'I1 misses':>9} {'D1 misses':>9} "
           f"{'LL misses':>9} {'code KB':>8}")
-    lost = []
+    lost, takes = [], {}
     for kind, (goal, was_met) in KINDS.items():
         got, sizes = [], []
         for entries in COUNTED_WIDE if kind is wide else COUNTED:
@@ -443,11 +448,17 @@ def print_counted(program, folder):
 
         often = {place // LINE for place, count in runs.items() if count - runs_before.get(place, 0) >= entries / 10}
         code = len(often) * LINE / 1024
-        told = "met" if each("Ir") <= goal else f"{each('Ir') / goal:.2f} times its goal"
+        told = told_goal(each("Ir"), goal)
         print(f"{name_of(kind):<18} {(sizes[1] - sizes[0]) / entries:>6.0f} {each('Ir'):>12.0f} {goal:>7} {each('Bcm', 'Bim'):>9.1f} {each('I1mr'):>9.1f} "
               f"{each('D1mr', 'D1mw'):>9.1f} {each('ILmr', 'DLmr', 'DLmw'):>9.1f} {code:>8.1f}   {told}", flush=True)
+        takes[kind] = each("Ir")
         if was_met and each("Ir") > LOST * goal:
             lost.append(f"{name_of(kind)}: {each('Ir'):.0f} instructions an entry, and its goal of {goal} was met before")
+    for server, client in CLIENTS.items():
+        times = takes[server] / takes[client]
+        print(f"{name_of(server)}: {times:.3f} times its client, of {AT_A_SERVER}: {told_goal(times, AT_A_SERVER)}")
+        if times > LOST * AT_A_SERVER:
+            lost.append(f"{name_of(server)}: {times:.3f} times its client, and its goal of {AT_A_SERVER} was met before")
     if lost:
         sys.exit("\n".join(f"a goal is lost: {it}" for it in lost))
 
@@ -506,20 +517,33 @@ def print_growth(program, folder):
         print(line, flush=True)
 
 
+def told_goal(value, goal):
+    return "met" if value <= goal else f"{value / goal:.2f} times its goal"
+
+
 def print_beside(program, other, folder, size):
-    """Prints, for logs of the kinds, each judged by two programs in turn, the fewest processor seconds of five runs, and the most memory."""
-    print(f"{'beside':<18} {'entries':>8}   {'seconds':>8} {'peak MB':>8}   {'other':>8} {'peak MB':>8}   {'times':>6}")
+    """Prints, for logs of the kinds, each judged by two programs in turn, the fewest processor seconds of five runs, and the most memory. The goals are
+    shares of the program of 27 November 2026."""
+    print(f"{'beside':<18} {'entries':>8}   {'seconds':>8} {'peak MB':>8}   {'other':>8} {'peak MB':>8}   {'times':>6} {'goal':>5}")
     log = folder / "log"
-    for kind in KINDS:
+    for kind in [*KINDS, many_live_keys]:
         entries = write_log(log, kind, size // 10 if kind is wide else size)
-        runs = {it: [] for it in (program, other)}
-        for _ in range(5):
-            for it, told in runs.items():
-                text, seconds, peak, _ = measured([it, "check", log])
-                check_legal(kind, entries, text)
-                told.append((seconds, peak))
-        (own, own_peak), (others, others_peak) = ((min(it[0] for it in told), max(it[1] for it in told)) for told in runs.values())
-        print(f"{name_of(kind):<18} {entries:>8}   {own:>8.3f} {own_peak / 1e3:>8.1f}   {others:>8.3f} {others_peak / 1e3:>8.1f}   {own / others:>6.2f}", flush=True)
+        for verb in ["check", "show"] if kind is calls else ["check"]:
+            runs = {it: [] for it in (program, other)}
+            for _ in range(5):
+                for it, told in runs.items():
+                    text, seconds, peak, _ = measured([it, verb, log])
+                    if verb == "check":
+                        check_legal(kind, entries, text)
+                    told.append((seconds, peak))
+            (own, own_peak), (others, others_peak) = ((min(it[0] for it in told), max(it[1] for it in told)) for told in runs.values())
+            goal = SHARE_OF_SHOW if verb == "show" else SHARES.get(kind, SHARE)
+            told = told_goal(own / others, goal)
+            if verb == "check" and entries == 1_000_000 and kind in PEAKS:
+                told += f"; peak, of {PEAKS[kind]} MB: {told_goal(own_peak / 1e3, PEAKS[kind])}"
+            name = name_of(kind) if verb == "check" else f"{verb} of {name_of(kind)}"
+            print(f"{name:<18} {entries:>8}   {own:>8.3f} {own_peak / 1e3:>8.1f}   {others:>8.3f} {others_peak / 1e3:>8.1f}   {own / others:>6.2f} {goal:>5}   {told}",
+                  flush=True)
 
 
 def main():

@@ -4,7 +4,6 @@ Each log stands in three lengths, each twice the one before. Where a length take
 the last line of all names it. A run ends after SECONDS of processor time, and is told as over.
 """
 
-import subprocess
 import sys
 import tempfile
 from pathlib import Path

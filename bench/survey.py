@@ -88,4 +88,5 @@ def main():
         print_silent(sys.argv[1:], Path(folder))
 
 
-main()
+if __name__ == "__main__":
+    main()

@@ -38,6 +38,7 @@ class Ends:
 
 
 def ends_of(source, target, ports):
+    """The two ends of a packet with its ports, and whether it is of a tunnel."""
     family = socket.AF_INET if len(source) == 4 else socket.AF_INET6
     numbers = struct.unpack(">HH", ports)
     address = socket.inet_ntop(family, source)
@@ -58,6 +59,7 @@ class Packet(NamedTuple):
 # What a frame carries, by the type of its link: the kind, as Ethernet numbers it, and the place where it begins.
 
 def carried(frame, kind_at, at):
+    """The kind of packet that a frame carries, and where it begins, after any VLAN tags."""
     kind = int.from_bytes(frame[kind_at:kind_at + 2], "big")
     while kind in VLANS:
         kind, at = int.from_bytes(frame[at + 2:at + 4], "big"), at + 4
@@ -65,14 +67,17 @@ def carried(frame, kind_at, at):
 
 
 def on_ethernet(frame):
+    """What an Ethernet frame carries, and where."""
     return carried(frame, 12, 14)
 
 
 def on_cooked(frame):
+    """What a frame of Linux' cooked captures carries, and where."""
     return carried(frame, 14, 16)
 
 
 def on_cooked_2(frame):
+    """What a frame of Linux' cooked captures of version 2 carries, and where."""
     return carried(frame, 0, 20)
 
 
@@ -82,6 +87,7 @@ def on_loopback(frame):
 
 
 def on_raw(frame):
+    """What a frame without a head of its own carries: IPv4 or IPv6, by its first byte."""
     return (IPV6 if frame[:1] >= b"\x60" else IPV4), 0
 
 
@@ -143,6 +149,7 @@ def behind_extensions(packet):
 
 
 def packet_in(kind, data, at):
+    """The packet of this kind that the bytes have from here on, if it is one of IP."""
     return ipv4(data, at) if kind == IPV4 else ipv6(data, at) if kind == IPV6 else None
 
 

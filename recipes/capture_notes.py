@@ -19,6 +19,8 @@ WRONG_LENGTH = "UDP packets have a length that does not fit, and are left out"
 
 
 class Notes:
+    """What is noted while a capture is read: what is missing in it, which datagrams were refused, and with which TTLs messages came."""
+
     def __init__(self):
         self.missing, self.refused, self.ttls, self.known = Counter(), 0, {}, set()
         self.refusals, self.last = [], None  # the last packet's moment, in nanoseconds

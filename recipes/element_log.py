@@ -33,6 +33,8 @@ class Making(NamedTuple):
 
 
 class Message(NamedTuple):
+    """A message of an element: its moment, its letter, its bytes, and whence and whither it went."""
+
     moment: int
     letter: str
     data: bytes

@@ -55,6 +55,7 @@ def table(heads, rows):
 
 
 def page(title, body):
+    """The whole page, which loads nothing from elsewhere."""
     head = ('<meta charset="utf-8"><meta name="viewport" content="width=device-width,initial-scale=1"><meta name="referrer" content="no-referrer">'
             '<meta http-equiv="Content-Security-Policy" content="%s">' % POLICY + tag("title", shown(title)) + tag("style", STYLE))
     return '<!DOCTYPE html>\n<html lang="en"><head>%s</head><body><main>%s</main></body></html>\n' % (head, body)

@@ -201,6 +201,7 @@ def fields(data, *names):
 
 
 def field(data, *names):
+    """The value of the first field of these names, or nothing."""
     return next(iter(fields(data, *names)), b"")
 
 
@@ -362,6 +363,7 @@ class Log:
 
 
 def entry(letter, moment, data):
+    """The text of an entry of a log."""
     if letter in SILENT:
         return b"%s %d\n" % (letter.encode(), moment)
     return b"".join((b"%s %d %d\n" % (letter.encode(), moment, len(data)), data, b"\n"))

@@ -9,6 +9,7 @@ from collections import defaultdict
 from random_logs import SILENT, random_log
 
 PATIENCE = 60  # seconds for which a program may be silent
+ENVIRONMENT = dict(os.environb)  # posix_spawn would decode and encode os.environ at each call
 CANCEL = re.compile(rb"(?<![\w-])CANCEL")
 
 
@@ -25,7 +26,7 @@ class Program:
         os.lseek(self.file.fileno(), 0, os.SEEK_SET)
         ours, theirs = os.pipe()
         actions = [(os.POSIX_SPAWN_DUP2, self.file.fileno(), 0), (os.POSIX_SPAWN_DUP2, theirs, 1)]
-        pid = os.posix_spawn(self.path, [self.path, *words], os.environ, file_actions=actions)
+        pid = os.posix_spawn(self.path, [self.path, *words], ENVIRONMENT, file_actions=actions)
         os.close(theirs)
         if not select.select([ours], [], [], PATIENCE)[0]:
             os.kill(pid, signal.SIGKILL)  # the program is silent

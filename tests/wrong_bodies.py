@@ -6,6 +6,7 @@ An edit is a file crates/NAME/edits/WHAT_IT_DOES.edit. It breaks the code in one
 in crates/NAME/allowed/ is wrong and no contract refuses it, since it lies in the platform, or has no memory where a contract lets it have none: the
 prover is not asked, and a test alone sees it."""
 
+import functools
 import os
 import re
 import shutil
@@ -75,10 +76,10 @@ def impl_of(head):
 
 
 class Function:
-    """A function of the crate: where its body lies, and how a check names it and the closures in it."""
+    """A function of the crate: where it and its body lie, and how a check names it and the closures in it."""
 
-    def __init__(self, path, name, impl, before, body, end, line, is_const):
-        self.path, self.body, self.end, self.is_const = path, body, end, is_const
+    def __init__(self, path, name, impl, before, start, body, end, line, is_const):
+        self.path, self.name, self.start, self.body, self.end, self.is_const = path, name, start, body, end, is_const
         self.says = f"{path}:{line} {name}"
         tail = (f"{impl}::" if impl else "") + name
         self.named = before + tail
@@ -111,12 +112,13 @@ def functions(path, text, types):
             words = plain[plain.rfind("\n", 0, it.start()) + 1 : it.start()]
             end, line = close_of(plain, brace.start()), text.count("\n", 0, it.start()) + 1
             before = types.get(impl, module_of(path))
-            found.append(Function(path, it[1], impl, before, brace.start(), end, line, "const" in words.split()))
+            found.append(Function(path, it[1], impl, before, it.start(), brace.start(), end, line, "const" in words.split()))
     return found
 
 
 class Edit:
-    """An edit: what it changes, and for each change the function whose body holds it, if one does."""
+    """An edit: what it changes, and for each change the function whose body holds it, if one does. Its function is the one whose body holds all of it; or
+    the one whose contract does, where nothing cites that contract, as that of a law."""
 
     def __init__(self, crate, file, found):
         self.file, self.label = file, f"{crate.name}/{os.path.basename(file)}"
@@ -140,6 +142,10 @@ class Edit:
         if not self.why:
             self.holders = [self.holder(crate, found, *pair) for pair in self.pairs]
             self.function = self.holders[0] if len(set(self.holders)) == 1 else None
+        if not self.why and not self.function and not self.is_harmless:
+            holders = {self.holder(crate, found, *pair, is_whole=True) for pair in self.pairs}
+            law = holders.pop()
+            self.function = law if law and not holders and self.by in ([], [law.named]) and not crate.cites(law) else None
         if self.function:
             self.by = [self.function.named]
         by_hand = self.function and f"{crate.folder}/proofs/{self.function.named.replace('::', '/')}"
@@ -162,7 +168,8 @@ class Edit:
         texts.update(changed)
         return "" if self.pairs else "it has no 'old:' and 'new:' pair"
 
-    def holder(self, crate, found, path, old, new):
+    def holder(self, crate, found, path, old, new, is_whole=False):
+        """Returns the function whose body holds this change, or which holds it in its contract or its body."""
         text = read(f"{crate.folder}/{path}")
         # A pair may change what the pair before it put there.
         if text.count(old) != 1:
@@ -170,7 +177,7 @@ class Edit:
         # What both texts begin and end with stays as it is: an old text may name the function whose body it changes.
         start = text.find(old) + len(os.path.commonprefix([old, new]))
         end = max(start, text.find(old) + len(old) - len(os.path.commonprefix([old[::-1], new[::-1]])))
-        holds = [it for it in found if it.path == path and it.body < start and end < it.end]
+        holds = [it for it in found if it.path == path and (it.start if is_whole else it.body) < start and end < it.end]
         holds = min(holds, key=lambda it: it.end - it.body, default=None)
         # The value of a const fn may stand in a type or in a constant, so that its edit changes more than a body.
         return None if not holds or holds.is_const else holds
@@ -210,6 +217,21 @@ class Crate:
         for it in self.uses:
             if it in lines:
                 self.below += [low for low in Crate(it, lines).below + [it] if low not in self.below]
+
+    @functools.cached_property
+    def texts(self):
+        """The files of the crate by their paths, without comments, and the sources without what passes names on."""
+        found = {}
+        for path in (f"{at}/{it}" for part in PARTS for at, _, names in os.walk(f"{self.folder}/{part}") for it in names):
+            text = read(path) if path.endswith((".rt", ".antt")) else ""
+            text = re.sub(r"(?m)^(pub )?use [^;]*;", "", blank(text)) if path.endswith(".rt") else re.sub(r"--.*", "", text)
+            found[os.path.relpath(path, self.folder)] = text
+        return found
+
+    def cites(self, function):
+        """Returns whether the crate names the function anywhere but where it is declared and in its own proofs."""
+        own, word = f"proofs/{function.named.replace('::', '/')}/", re.compile(rf"\b{function.name}\b")
+        return any(len(word.findall(text)) > (path == function.path) for path, text in self.texts.items() if not path.startswith(own))
 
     def root(self):
         return "src/main.rt" if os.path.isfile(f"{self.folder}/src/main.rt") else "src/lib.rt"

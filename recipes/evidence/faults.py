@@ -104,6 +104,7 @@ CHANGES = {1: Faulty.with_line_ends, 2: Faulty.with_line_ends, 3: Faulty.with_by
 
 
 def byte_told(byte):
+    """A byte in words: by its sign, its name or its number."""
     return "the %s" % {32: "blank", 9: "tab"}[byte] if byte in (32, 9) else "%s" % chr(byte) if 33 <= byte <= 126 else "the byte 0x%02x" % byte
 
 

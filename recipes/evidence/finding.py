@@ -26,6 +26,8 @@ NO_BRANCH, OF_ALL = 0, 1  # the sums of a mark, and of a restart, which is every
 
 
 class Entry(NamedTuple):
+    """An entry of a log, with its number."""
+
     number: int
     letter: str
     moment: int
@@ -53,6 +55,7 @@ def key_in(text):
 
 
 def mapped(name):
+    """The bytes of a file, which are read again and again."""
     try:
         with open(name, "rb") as file:
             return mmap.mmap(file.fileno(), 0, access=mmap.ACCESS_READ)

@@ -29,12 +29,14 @@ def kind_of(case):
 
 
 def disagree():
+    """Ends the program where two answers contradict each other."""
     die("the answers of siptrace to several short logs do not agree with each other")
 
 
 # What follows is of a response without a request.
 
 def not_begun(case):
+    """The kind of a response to no request of the log, and the request of the same call that it may mean."""
     facts = {"kind": "not begun", "sent": sent_as(case.breach).told(entry=case.at, moment=case.moment), "act": "no request"}
     for one in requests_of_call(case):
         for names in ((b"via",), (b"cseq",), (b"via", b"cseq")):
@@ -109,6 +111,7 @@ def owed_messages(case, until=LAST):
 
 
 def settle_together(case, candidates):
+    """Whether all these sends together take the history past its last moment of silence."""
     until = case.history.last_wait()
     return case.history.allows(*[one.at(until) for one in candidates], mark(until + 1))
 
@@ -213,10 +216,12 @@ def would_be_ack(case, one):
 # What follows is of an ACK of no response that was received.
 
 def differing_parts(ack, right):
+    """The parts in which an ACK is not the right one."""
     return [part_told(ack, right, part) for part in ACK_PARTS if compared_part(ack, part) != compared_part(right, part)]
 
 
 def part_told(ack, right, part):
+    """A part of an ACK, as it is and as it should be."""
     return {"part": part, "has": part_of_ack(ack, part), "should": part_of_ack(right, part)}
 
 

@@ -20,6 +20,7 @@ def lines_and_rest(data):
 
 
 def name_of(line):
+    """The name of a line's field, in full and in lower case."""
     name = line.partition(b":")[0].strip().lower()
     return COMPACT.get(name, name)
 
@@ -50,14 +51,17 @@ def with_top_via(data, pattern, text):
 
 
 def over_udp(data):
+    """The message with UDP as the transport of its top Via."""
     return with_top_via(data, rb"^([^:]*:\s*[^/]*/[^/]*/\s*)\S+", rb"\1UDP")
 
 
 def with_branch(data, branch):
+    """The message with this branch in its top Via."""
     return with_top_via(data, rb"(;\s*branch\s*=\s*)[^;,\s]+", rb"\1" + branch)
 
 
 def transport_of(data):
+    """The transport of the top Via."""
     found = re.match(rb"[^/]*/[^/]*/\s*([^\s;,]+)", field(data, b"via", b"v"))
     return latin(found[1]) if found else ""
 
@@ -136,6 +140,7 @@ def with_part(ack, part, right):
 
 
 def with_parts(ack, parts, right):
+    """The ACK with these parts of the right one."""
     for part in parts:
         ack = with_part(ack, part, right)
     return ack

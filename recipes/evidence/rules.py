@@ -84,6 +84,7 @@ FAULTS = {
 
 
 def rule_for(role, is_invite, act, phases, is_for_udp, was_restarted):
+    """The rule that a breach is of: its timer, its section and its meaning."""
     if was_restarted:
         return RESTARTED
     if is_for_udp:
@@ -95,9 +96,11 @@ def rule_for(role, is_invite, act, phases, is_for_udp, was_restarted):
 
 
 def phase_in_words(role, phase):
+    """What a phase of this role means."""
     return PHASES.get((role, phase)) or PHASES.get(phase, phase)
 
 
 def fault_told(number):
+    """A fault by its number: its name and its meaning."""
     name, meaning = FAULTS[number]
     return {"number": number, "name": name, "meaning": meaning}

@@ -48,6 +48,7 @@ class Trouble(NamedTuple):
 
 
 def read_whole(index):
+    """The index, read to the end of the log."""
     while index.read():
         pass
     return index

@@ -139,7 +139,8 @@ def page(files):
     doubles = [name for file in files for name in file.names()]
     doubles = {name for name in doubles if doubles.count(name) > 1}
     types = {path.stem: f"[crates/{path}]\n\n" + re.sub(r"\n{3,}", "\n\n", re.sub(r"(?m)^(ghost )?use .*;\n", "", text)).strip() for path, text, _ in code()}
-    yield from [text for name, text in types.items() if name not in ("lib", "judges")]
+    contracts = ("judges", "program")
+    yield from [text for name, text in types.items() if name not in ("lib", *contracts)]
     for file in files:
         kept = []
         for line in file.text.strip().split("\n"):
@@ -147,7 +148,7 @@ def page(files):
             if not found or found[3] or " as " in (found[2] or "") or doubles & {it.strip() for it in (found[2] or "").split(",")}:
                 kept.append(f"[{line[4:]}]" if found else line)
         yield f"[crates/{file.path}]\n\n" + re.sub(r"\n{3,}", "\n\n", "\n".join(kept)).strip()
-    yield types["judges"]
+    yield from [types[name] for name in contracts]
 
 
 def table(files):

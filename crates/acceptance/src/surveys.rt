@@ -210,7 +210,7 @@ fn takes_all(
     surveyed: &mut Surveyed<'_>,
     found: &mut Vec<Finding>,
 ) -> Result<Option<StepError>, Fail> {
-    for _ in 0..100 {
+    for _ in 0..200 {
         let Some(entry) = surveyed.next()? else {
             break;
         };
@@ -221,11 +221,11 @@ fn takes_all(
     Ok(None)
 }
 
-/// A survey needs a request until its response has come. The first sweep comes after entry 65 and leaves one request, and five messages come after
-/// it.
+/// A survey needs a request until its response has come, and keeps no response. The first sweep comes after the 65th request, which is entry
+/// 129, and leaves that request alone. Three requests come after it.
 #[test]
 fn a_survey_keeps_few_messages_of_many(rt: HostRuntime) -> Result<(), Fail> {
-    let log = answered(rt.alloc(), 35)?;
+    let log = answered(rt.alloc(), 68)?;
     let mut surveyed = Surveyed::open(rt.alloc(), log.as_str().as_bytes())?;
     let mut found = Vec::new(rt.alloc());
     let failed = takes_all(&rt, &mut surveyed, &mut found);
@@ -236,7 +236,7 @@ fn a_survey_keeps_few_messages_of_many(rt: HostRuntime) -> Result<(), Fail> {
         failed?.is_none() && found.is_empty(),
         "nothing is found",
     );
-    holds(&rt, kept == 6, "kept at the end");
+    holds(&rt, kept == 4, "kept at the end");
     Ok(())
 }
 

@@ -67,10 +67,17 @@ fn find_or_start<H: BuildHasher>(
     match sets.entry(key)? {
         Entry::Occupied(entry) => Ok(entry.index()),
         Entry::Vacant(entry) => {
-            let set = AnySet::start(alloc, params, entry.key())?;
             let index = entry.index();
-            entry.insert(set);
-            Ok(index)
+            match AnySet::start(alloc, params, entry.key()) {
+                Ok(set) => {
+                    entry.insert(set);
+                    Ok(index)
+                }
+                Err(refused) => {
+                    entry.into_key();
+                    Err(refused)
+                }
+            }
         }
     }
 }

@@ -30,7 +30,8 @@ use std::alloc::{AllocError, Global};
 use std::hash::BuildHasher;
 
 /// Takes the entry that comes next, and answers the fault of its message, if it has one. Transactions that come into trouble are added to
-/// those in trouble, and the entry is written into the history of each transaction that it concerns.
+/// those in trouble, and the entry is written into the history of each transaction that it concerns. Its message is not kept if no transaction
+/// names it.
 fn take<H: BuildHasher>(
     alloc: Global,
     standing: &mut Standing<H>,
@@ -106,6 +107,7 @@ fn take<H: BuildHasher>(
                 entry.moment,
                 Some(&hearing),
             )?;
+            standing.drop_unnamed(entry.number, concerned);
             Ok(None)
         }
     }

@@ -1,15 +1,17 @@
 //! Lets an entry pass in a survey: a transaction that comes into trouble starts anew and hears nothing more, and the others go on.
-ghost use Rattle.std.specs.Prelude.{◌≡◌, ◌≤◌, ◌∷◌, [], ℕ, false, None, List, All, OnOk, length};
+ghost use Rattle.std.specs.Prelude.{◌≡◌, ◌≢◌, ◌≤◌, ◌+◌, ◌∷◌, [], ℕ, false, Some, None, List, All, OnOk, length, slice_get};
 ghost use Rattle.std.specs.Option.{ForSome, option_copied};
 ghost use Rattle.sip_standard.specs.Key.{KeyParts};
 ghost use Rattle.sip_standard.specs.Times.{Times};
 ghost use Rattle.sip_machine.specs.Texts.{Texts};
 ghost use Rattle.sip_machine.specs.NumberedEvent.{FitsBook};
+ghost use Rattle.sip_states.specs.AnySet.{IsKnownSet};
 ghost use Rattle.sip_states.specs.Tables.{IsGiven, due_of};
+ghost use Rattle.sip_states.specs.declared.any_set.AnySet.{AnySet};
 ghost use Rattle.sip_standard.specs.Observation.{Observation};
 ghost use Rattle.sip_verdict.specs.Entries.{newest_moment};
 ghost use Rattle.sip_verdict.specs.inner.Concerned.{each};
-ghost use Rattle.sip_verdict.specs.inner.TablesTracking.{hearers, is_among, AreHearers, AreTold, MayHear, MayPass};
+ghost use Rattle.sip_verdict.specs.inner.TablesTracking.{concerns_number, hearers, is_among, AreHearers, AreTold, LeavesOthers, MayHear, MayPass};
 ghost use Rattle.sip_verdict.specs.inner.Surveying.{AreConcerned, ArePassing, AreWatched, HearsNumbers, any};
 
 use crate::concerned::Concerned;
@@ -35,6 +37,7 @@ fn hear_or_release<H: BuildHasher>(
     ensures times { OnOk result (tables.new.times ≡ tables.old.times) }
     ensures keys { OnOk result (tables.new.keys ≡ tables.old.keys) }
     ensures may { OnOk result (MayPass book.now tables.new event.now.moment) }
+    ensures others { OnOk result ((n : ℕ) → n + 1 ≢ number → slice_get tables.new.sets n ≡ slice_get tables.old.sets n) }
     ensures long { OnOk result (length troubled.new.deaf.items ≡ length tables.new.keys) }
     ensures watched { OnOk result ((waits : List ℕ) → AreWatched (number ∷ waits) tables.old troubled.old → AreWatched waits tables.new troubled.new) }
     ensures heard { OnOk result ((p : Times) (es : List (Observation KeyParts)) (e : Observation KeyParts) (waits : List ℕ) → tables.old.times ≡ p → newest_moment es ≤ event.now.moment
@@ -117,6 +120,7 @@ fn hear_each<H: BuildHasher>(
     ensures times { OnOk result (tables.new.times ≡ tables.old.times) }
     ensures keys { OnOk result (tables.new.keys ≡ tables.old.keys) }
     ensures may { OnOk result (MayPass book.now tables.new hearing.now.event.moment) }
+    ensures others { OnOk result (LeavesOthers (Some hearing.now) tables.old tables.new) }
     ensures watched { OnOk result (AreWatched (each hearing.now.concerned) tables.old troubled.old → AreWatched [] tables.new troubled.new) }
     ensures heard { OnOk result ((numbers : List ℕ) × AreHearers tables.old hearing.now.concerned numbers
         × HearsNumbers book.now hearing.now.event numbers tables.old troubled.old tables.new troubled.new) }
@@ -170,6 +174,8 @@ pub(crate) fn pass_each<H: BuildHasher>(
     ensures times { OnOk result (tables.new.times ≡ tables.old.times) }
     ensures keys { OnOk result (tables.new.keys ≡ tables.old.keys) }
     ensures may { OnOk result (MayPass book.now tables.new moment) }
+    ensures others { OnOk result ((texts : Texts) (n : ℕ) (set : AnySet) → MayPass texts tables.old moment → concerns_number (option_copied hearing.entry) (n + 1) ≡ false
+        → slice_get tables.new.sets n ≡ Some set → IsKnownSet texts set) }
     ensures watched { OnOk result (AreWatched [] tables.new troubled.new) }
     ensures passed { OnOk result ((p : Times) (es : List (Observation KeyParts)) (e : Observation KeyParts)
         → tables.old.times ≡ p → newest_moment es ≤ moment → e.event.moment ≡ moment → AreTold book.now tables.old.keys moment (option_copied hearing.entry) e

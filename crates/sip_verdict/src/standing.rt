@@ -241,7 +241,7 @@ impl<H: BuildHasher> Standing<H> {
     }
 
     /// Drops the message with this number, if it is the newest one and none of these transactions may name it. No other transaction names it.
-    fn drop_unnamed(&mut self, number: u32, concerned: Concerned<u32>)
+    pub(crate) fn drop_unnamed(&mut self, number: u32, concerned: Concerned<u32>)
         requires given { All (IsGiven self.old.tables) (each concerned) }
         requires others { OthersAre (λ set. ¬ Contains (numbers_of set) number) concerned self.old.tables }
         ensures tables { self.new.tables ≡ self.old.tables }

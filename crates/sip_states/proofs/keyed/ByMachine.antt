@@ -13,7 +13,7 @@ use Rattle.sip_machine.specs.inner.OwingLaws.{owing_by_names, quiet_stands}
 use Rattle.sip_states.specs.Held.{Held}
 use Rattle.sip_standard.specs.KeyMachine.{MachineKind, transaction_of}
 use Rattle.sip_states.specs.KeySets.{coded_of, PhaseOf, StateOf, set_of, each_set, held_at_start, start_of_machine}
-use Rattle.sip_states.proofs.keyed.KeySetLaws.{coded_holds, by_machine_is, of_machine, to_machine}
+use Rattle.sip_states.proofs.keyed.KeySetLaws.{coded_holds, by_machine_is, start_is, of_machine, to_machine}
 use Rattle.sip_states.specs.Meaning.{Meaning}
 use Rattle.sip_states.specs.AnySet.{meaning_of, IsQuietIn, IsQuietSet, OfHeld, OfSet, IsSetOf, OfHelds, OfSets, moment_of}
 use Rattle.sip_states.specs.Sweep.{names_of, numbers_of, AppendsNumbers}
@@ -32,6 +32,7 @@ seen_by_names_of machine a b x h = owing_by_names (coded_of machine).names (code
 abbrev pub first_of : (machine : MachineKind) → StateOf machine
 first_of machine = idle_state (coded_of machine)
 
+-- the first state of the code stands for the first state of the rules
 pub first_is_of : (machine : MachineKind) (texts : Texts) (p : Times) → (meaning_of machine).seen texts (first_of machine) ≡ ((meaning_of machine).rules p).first
 first_is_of machine texts p =
     quiet_stands (coded_of machine).seen texts (coded_of machine).idle (transaction_of machine).figure.idle ((coded_holds machine).idle_is texts)
@@ -62,10 +63,11 @@ numbers_appended set old new appends =
 -- the set that a machine starts with names no message
 pub start_silent : (p : Times) (machine : MachineKind) → numbers_of (start_of_machine p machine) ≡ []
 start_silent p machine =
-    numbers_are machine (held_at_start p machine) ∙ ap (λ names. (names ++ []) ++ []) (coded_holds machine).idle_fits.0
+    ap numbers_of (start_is p machine) ∙ numbers_are machine (held_at_start p machine) ∙ ap (λ names. (names ++ []) ++ []) (coded_holds machine).idle_fits.0
 
 -- What follows is of the ended state.
 
+-- the ended state of the code
 abbrev pub last_of : (machine : MachineKind) → StateOf machine
 last_of machine = ended_state (coded_of machine)
 
@@ -86,7 +88,7 @@ quiet_in machine s quiet = of_machine IsQuietIn machine s quiet
 -- the set that a machine starts with is quiet
 pub start_is_quiet : (p : Times) (machine : MachineKind) → IsQuietSet (start_of_machine p machine)
 start_is_quiet p machine =
-    to_machine IsQuietIn machine (held_at_start p machine) (inl refl)
+    subst IsQuietSet (sym (start_is p machine)) (to_machine IsQuietIn machine (held_at_start p machine) (inl refl))
 
 -- a quiet set names no message
 pub quiet_silent : (set : AnySet) → IsQuietSet set → numbers_of set ≡ []
@@ -103,6 +105,7 @@ module _ (P : (X M S : Type 0) → Meaning X M S → Held M S → Type 0) where
   pub of_set : (machine : MachineKind) (s : Held Times (StateOf machine)) → OfSet P (set_of machine s) → P (PhaseOf machine) Times (StateOf machine) (meaning_of machine) s
   of_set machine s holds = of_machine (OfHeld P) machine s holds
 
+  -- what holds of what the set of a machine holds, holds of the set
   pub to_set : (machine : MachineKind) (s : Held Times (StateOf machine)) → P (PhaseOf machine) Times (StateOf machine) (meaning_of machine) s → OfSet P (set_of machine s)
   to_set machine s holds = to_machine (OfHeld P) machine s holds
 

@@ -10,6 +10,7 @@ use Rattle.sip_states.specs.AnySet.{start_of}
 use Rattle.sip_states.specs.inner.Touching.{FindsOrStarts}
 use Rattle.sip_key.specs.inner.KeyLaws.{same_key-decides}
 
+-- something is not nothing
 some-is-none : {X : Type 0} (x : X) → Some x ≡ None → ⊥
 some-is-none x e = cc
 
@@ -40,12 +41,6 @@ All-absent {X} (e ∷ es) key none = at (same_key key e.0) refl (All-absent es k
     at true p rest k d l = absurd (some-is-none e.1 (subst (λ b. cond b (Some e.1) (lookup (same_key key) es) ≡ None) p none))
     at false p rest zero d l = λ same. true≢false (sym ((same_key-decides key e.0).1 (sym same)) ∙ p)
     at false p rest (suc k) d l = rest (subst (λ b. cond b (Some e.1) (lookup (same_key key) es) ≡ None) p none) k d (omega (arith, l))
-
--- where a look for a key gives an index below the number of the keys, the key was there
-pub known-index : (times : Times) (key : KeyParts) (index : ℕ) (old new : List (KeyParts × AnySet)) → FindsOrStarts times key index old new → index < length old
-    → (slice_get (keys_of old) index ≡ Some key) × (new ≡ old)
-known-index times key index old new finds low =
-    elim finds [ inl known ↦ (known.0, known.2) | inr fresh ↦ absurd (omega (arith, fresh.1, low)) ]
 
 -- where it gives another index, the key was not there
 pub fresh-index : (times : Times) (key : KeyParts) (index : ℕ) (old new : List (KeyParts × AnySet)) → FindsOrStarts times key index old new → length old ≤ index

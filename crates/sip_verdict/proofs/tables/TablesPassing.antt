@@ -233,7 +233,7 @@ hears_more texts event (m ∷ ns) n t u v before mid one (between, first, hears,
 -- What follows is of sets that do not hear an event.
 
 -- the element at a place stays where the element at another place is replaced
-set-other : {A : Type 0} (xs : List A) (i n : ℕ) (a : A) → n ≢ i → slice_get (set xs i a) n ≡ slice_get xs n
+pub set-other : {A : Type 0} (xs : List A) (i n : ℕ) (a : A) → n ≢ i → slice_get (set xs i a) n ≡ slice_get xs n
 set-other [] i n a other = refl
 set-other (x ∷ xs) zero zero a other = absurd (other refl)
 set-other (x ∷ xs) zero (suc n) a other = refl
@@ -241,7 +241,7 @@ set-other (x ∷ xs) (suc i) zero a other = refl
 set-other (x ∷ xs) (suc i) (suc n) a other = set-other xs i n a (λ same. other (ap suc same))
 
 -- a number that is not among numbers is neither the first of them nor among the others
-among_none : (n number : ℕ) (ns : List ℕ) → is_among (number ∷ ns) n ≡ false → (n ≢ number) × (is_among ns n ≡ false)
+pub among_none : (n number : ℕ) (ns : List ℕ) → is_among (number ∷ ns) n ≡ false → (n ≢ number) × (is_among ns n ≡ false)
 among_none n number ns h = (λ same. false≢true (sym h ∙ among_first n number ns same), go (is_among ns n) refl)
   where
     go : (b : Bool) → is_among ns n ≡ b → b ≡ false

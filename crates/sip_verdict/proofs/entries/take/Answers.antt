@@ -1,14 +1,16 @@
-use Rattle.std.proofs.Common.{None, length, ap, inl, refl, ◌∙◌, subst, arith}
+use Rattle.std.proofs.Common.{◌+◌, None, [], ◌||◌, length, ap, inl, refl, sym, ◌∙◌, subst, arith}
 use Rattle.std.proofs.lemmas.Option.{same_Some}
 use Rattle.sip_machine.specs.Texts.{Keeps}
 use Rattle.sip_log.specs.Told.{item}
 use Rattle.sip_verdict.specs.inner.Concerned.{each}
-use Rattle.sip_verdict.specs.inner.TablesTracking.{MayHear}
-use Rattle.sip_verdict.proofs.judges.StandingLemmas.{grown_may, few_keys, may_hear, may_next}
-use Rattle.sip_verdict.proofs.tables.TablesTouching.{touches_may}
+use Rattle.sip_verdict.specs.inner.TablesTracking.{is_among, HaveNumbers, MayHear, MayTake}
+use Rattle.sip_verdict.specs.inner.Surveying.{AreWatched, ArePassing}
+use Rattle.sip_verdict.proofs.judges.StandingLemmas.{are_given, grown_may, few_keys, may_hear, may_next}
+use Rattle.sip_verdict.proofs.sweeps.NewestLemmas.{known_unnamed, dropped_take}
+use Rattle.sip_verdict.proofs.tables.TablesTouching.{have_numbers, touches_may}
 use Rattle.sip_verdict.proofs.verdicts.MessageUnique.{observes_one}
 use Rattle.sip_verdict.proofs.surveys.kept.Histories.{silent_histories, restart_histories, heard_histories, message_says, touched_low}
-use Rattle.sip_verdict.proofs.surveys.passing.Taken.{unheard_taken, fault_taken, restart_taken, heard_taken, watched_touched}
+use Rattle.sip_verdict.proofs.surveys.passing.Taken.{unheard_taken, fault_taken, restart_taken, heard_taken, dropped_passing, watched_touched}
 use Rattle.sip_verdict.proofs.entries.take.Goals as goal
 
 pub pass_each-requires-in-Heard-clause-may : goal.pass_each-requires-in-Heard-clause-may
@@ -35,6 +37,22 @@ pass_each-requires-in-Heard-clause-watched g c =
 pub note_each-requires : goal.note_each-requires
 note_each-requires g c =
     touched_low (each c.in-Heard.concerned) (each c.in_ok-concerned-in-Heard.concerned) c.args.standing.now.tables c.touch_each.new.tables c.in_ok-concerned-in-Heard.ensures.touched
+
+pub drop_unnamed-requires-clause-given : goal.drop_unnamed-requires-clause-given
+drop_unnamed-requires-clause-given g c =
+    let keys = each c.in-Heard.concerned in
+    let numbers = each c.in_ok-concerned-in-Heard.concerned in
+    are_given c.pass_each-in-Heard.new.tables numbers keys
+    (subst (λ all. HaveNumbers all numbers keys) (sym c.in_ok-pass_each-in-Heard.ensures.keys)
+    (have_numbers keys numbers c.args.standing.now.tables c.touch_each.new.tables c.in_ok-concerned-in-Heard.ensures.touched))
+
+pub drop_unnamed-requires-clause-others : goal.drop_unnamed-requires-clause-others
+drop_unnamed-requires-clause-others g c some n set among at =
+    let s = c.args.standing.now in
+    let e = c.args.entry.now in
+    let numbers = each c.in_ok-concerned-in-Heard.concerned in
+    let may = touches_may s.book e.moment (each c.in-Heard.concerned) numbers s.tables c.touch_each.new.tables c.requires.may.passes c.in_ok-concerned-in-Heard.ensures.touched in
+    known_unnamed s.book e.number c.requires.may.numbered set (c.in_ok-pass_each-in-Heard.ensures.others s.book n set may (ap (λ b. b || is_among numbers (n + 1)) some ∙ among) at)
 
 pub returns-in_ok-pass_each-in-Unheard-clause-histories : goal.returns-in_ok-pass_each-in-Unheard-clause-histories
 returns-in_ok-pass_each-in-Unheard-clause-histories g c = λ es e told keys counts seen.
@@ -116,22 +134,44 @@ pub returns-in_ok-pass_each-in-Heard-clause-may : goal.returns-in_ok-pass_each-i
 returns-in_ok-pass_each-in-Heard-clause-may g c =
     let s = c.args.standing.now in
     let e = c.args.entry.now in
+    let mid = c.observe.new.book in
+    let t = c.pass_each-in-Heard.new.tables in
+    let new = c.drop_unnamed.new.self in
     let passed = c.in_ok-pass_each-in-Heard.ensures in
-    may_next None s.book c.observe.new.book c.observe.new.book s.tables c.touch_each.new.tables c.pass_each-in-Heard.new.tables e.number e.moment e.bytes.items c.requires.may
+    subst (λ x. MayTake new.book x (e.number + 1) e.moment) (sym c.drop_unnamed.ensures.tables)
+    (dropped_take e.number mid new.book t (e.number + 1) e.moment c.drop_unnamed.ensures.book
+    (may_next None s.book mid mid s.tables c.touch_each.new.tables t e.number e.moment e.bytes.items c.requires.may
     (rw c.in-Heard.is at c.in_ok-told.ensures.kept).4
     (few_keys c.in-Heard.concerned (each c.in_ok-concerned-in-Heard.concerned) s.tables c.touch_each.new.tables c.in_ok-concerned-in-Heard.ensures.touched)
-    passed.keys refl passed.may passed.watched.recorded
+    passed.keys refl passed.may passed.watched.recorded))
+
+pub returns-in_ok-pass_each-in-Heard-clause-watched : goal.returns-in_ok-pass_each-in-Heard-clause-watched
+returns-in_ok-pass_each-in-Heard-clause-watched g c =
+    subst (λ x. AreWatched [] x c.pass_each-in-Heard.new.troubled) (sym c.drop_unnamed.ensures.tables) c.in_ok-pass_each-in-Heard.ensures.watched
 
 pub returns-in_ok-pass_each-in-Heard-clause-taken : goal.returns-in_ok-pass_each-in-Heard-clause-taken
 returns-in_ok-pass_each-in-Heard-clause-taken g c = λ es fresh tracks late.
     let s = c.args.standing.now in
     let e = c.args.entry.now in
+    let mid = c.observe.new.book in
+    let t = c.pass_each-in-Heard.new.tables in
+    let b = c.pass_each-in-Heard.new.troubled in
+    let new = c.drop_unnamed.new.self in
+    let dropped = c.drop_unnamed.ensures in
     let grown = c.in_ok-grow-in-Heard.ensures in
     let is_heard = rw c.in-Heard.is at c.in_ok-told.ensures.heard in
-    heard_taken s.book c.observe.new.book e.number e.bytes.items (rw c.in-Heard.is at c.in_ok-told.ensures.kept).4 (item e) e.moment refl c.in-Heard.event c.in-Heard.concerned c.in_ok-concerned-in-Heard.concerned
-    s.tables c.touch_each.new.tables c.pass_each-in-Heard.new.tables c.args.troubled.now c.grow.new.self c.pass_each-in-Heard.new.troubled grown.deaf.0
+    let (f, seen, fine, now, keys, passing) =
+    heard_taken s.book mid e.number e.bytes.items (rw c.in-Heard.is at c.in_ok-told.ensures.kept).4 (item e) e.moment refl c.in-Heard.event c.in-Heard.concerned c.in_ok-concerned-in-Heard.concerned
+    s.tables c.touch_each.new.tables t c.args.troubled.now c.grow.new.self b grown.deaf.0
     c.requires.watched.long c.requires.may.passes.long fresh grown.deaf.1 grown.deaf.2 grown.broken grown.wide c.in_ok-concerned-in-Heard.ensures.touched c.known-in-Heard.ensures.unique
-    c.in_ok-pass_each-in-Heard.ensures.keys is_heard.1 (c.in_ok-concerned-in-Heard.ensures.same ∙ is_heard.3) (rw c.in-Heard.is at c.in_ok-told.ensures.observed) c.in_ok-pass_each-in-Heard.ensures.passed es tracks late
+    c.in_ok-pass_each-in-Heard.ensures.keys is_heard.1 (c.in_ok-concerned-in-Heard.ensures.same ∙ is_heard.3) (rw c.in-Heard.is at c.in_ok-told.ensures.observed) c.in_ok-pass_each-in-Heard.ensures.passed es tracks late in (
+      f,
+      seen,
+      fine,
+      now,
+      ap (λ x. x.keys) dropped.tables ∙ keys,
+      subst (λ x. ArePassing new.book s.tables.times es f (is_among []) x b) (sym dropped.tables) (dropped_passing e.number mid new.book s.tables.times es f t b dropped.book passing),
+    )
 
 pub returns-in_ok-pass_each-in-Unheard-clause-keys : goal.returns-in_ok-pass_each-in-Unheard-clause-keys
 returns-in_ok-pass_each-in-Unheard-clause-keys g c = let same = ap length c.in_ok-pass_each-in-Unheard.ensures.keys in omega arith
@@ -145,5 +185,5 @@ returns-in_ok-pass_each-in-Restart-clause-keys g c = let same = ap length c.in_o
 pub returns-in_ok-pass_each-in-Heard-clause-keys : goal.returns-in_ok-pass_each-in-Heard-clause-keys
 returns-in_ok-pass_each-in-Heard-clause-keys g c =
     let few = few_keys c.in-Heard.concerned (each c.in_ok-concerned-in-Heard.concerned) c.args.standing.now.tables c.touch_each.new.tables c.in_ok-concerned-in-Heard.ensures.touched in
-    let same = ap length c.in_ok-pass_each-in-Heard.ensures.keys in
+    let same = ap length (ap (λ x. x.keys) c.drop_unnamed.ensures.tables ∙ c.in_ok-pass_each-in-Heard.ensures.keys) in
     omega arith

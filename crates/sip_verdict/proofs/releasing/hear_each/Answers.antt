@@ -1,8 +1,10 @@
-use Rattle.std.proofs.Common.{[], ◌∷◌, sym, ap, subst, arith}
+use Rattle.std.proofs.Common.{◌≡◌, ◌+◌, ◌||◌, false, [], ◌∷◌, sym, ap, ◌∙◌, subst, arith}
+use Rattle.std.proofs.lemmas.Bool.{false≢true}
 use Rattle.std.proofs.lemmas.Result.{on_ok_weaker}
 use Rattle.sip_verdict.specs.inner.Concerned.{each, is_all}
+use Rattle.sip_verdict.specs.inner.TablesTracking.{is_among}
 use Rattle.sip_verdict.specs.inner.Surveying.{HearsNumbers}
-use Rattle.sip_verdict.proofs.tables.TablesPassing.{given_still, named_hearers}
+use Rattle.sip_verdict.proofs.tables.TablesPassing.{given_still, named_hearers, among_none}
 use Rattle.sip_verdict.proofs.surveys.found.Numbered.{hears_none, hears_one, hears_two}
 use Rattle.sip_verdict.proofs.releasing.hear_each.Goals as goal
 
@@ -16,6 +18,21 @@ returns-in-None-clause-heard g c =
     let h = c.args.hearing.now in
     let hear = c.requires.hear in
     (each h.concerned, named_hearers t h.concerned (ap is_all c.in-None.is) hear.given hear.apart, subst (λ x. HearsNumbers c.args.book.now h.event (each x) t b t b) (sym c.in-None.is) (hears_none c.args.book.now h.event t b))
+
+pub returns-in-Own-clause-others : goal.returns-in-Own-clause-others
+returns-in-Own-clause-others g c =
+    on_ok_weaker c.hear_or_release.result (λ still n none. still n (among_none (n + 1) c.in-Own.own [] (subst (λ x. (is_all x || is_among (each x) (n + 1)) ≡ false) c.in-Own.is none)).0) c.hear_or_release.ensures.others
+
+pub returns-in_ok-hear_or_release-in-OwnAndCancelled-clause-others : goal.returns-in_ok-hear_or_release-in-OwnAndCancelled-clause-others
+returns-in_ok-hear_or_release-in-OwnAndCancelled-clause-others g c =
+    let own = c.in-OwnAndCancelled.own in
+    let cancelled = c.in-OwnAndCancelled.cancelled in
+    on_ok_weaker c.hear_or_release-in-OwnAndCancelled-2.result (λ still n none.
+    let apart = among_none (n + 1) own (cancelled ∷ []) (subst (λ x. (is_all x || is_among (each x) (n + 1)) ≡ false) c.in-OwnAndCancelled.is none) in
+    still n (among_none (n + 1) cancelled [] apart.1).0 ∙ c.in_ok-hear_or_release-in-OwnAndCancelled.ensures.others n apart.0) c.hear_or_release-in-OwnAndCancelled-2.ensures.others
+
+pub returns-in-All-clause-others : goal.returns-in-All-clause-others
+returns-in-All-clause-others g c = on_ok_weaker c.restart.result (λ keys n none. absurd (false≢true (sym (subst (λ x. (is_all x || is_among (each x) (n + 1)) ≡ false) c.in-All.is none)))) c.restart.ensures.keys
 
 pub hear_or_release-requires-in-OwnAndCancelled-2-clause-given : goal.hear_or_release-requires-in-OwnAndCancelled-2-clause-given
 hear_or_release-requires-in-OwnAndCancelled-2-clause-given g c =

@@ -3,7 +3,7 @@ use Rattle.std.proofs.lemmas.Result.{on_ok_weaker}
 use Rattle.sip_states.specs.AnySet.{moment_of, start_of, IsKnownSet, IsEmpty}
 use Rattle.sip_states.proofs.lists.Places.{set_place}
 use Rattle.sip_verdict.proofs.tables.TablesPassing.{All-place, settles_leaves}
-use Rattle.sip_verdict.proofs.surveys.passing.Watching.{watched_on, watched_off, watched_deaf, passes_with, passes_anew, anew_sets}
+use Rattle.sip_verdict.proofs.surveys.passing.Watching.{watched_on, watched_off, watched_deaf, others_still, passes_with, passes_anew, anew_sets}
 use Rattle.sip_verdict.proofs.surveys.passing.Hearing.{deaf_on, heard_on, heard_broken, heard_wide}
 use Rattle.sip_verdict.proofs.releasing.hear_or_release.Goals as goal
 
@@ -49,6 +49,26 @@ returns-in-Fine-clause-heard g c =
     let (limit, agenda, is) = settles_leaves c.args.number c.hear.new.set t c.settle.new.self settles in
     heard_on c.args.book.now p es e t c.args.troubled.now c.args.number c.requires.given waits c.args.event.now late once concerned h (c.has.ensures ∙ ap Some c.if-has.false) c.set_mut.result.now c.hear.new.set c.set_mut.ensures.value
     c.in_ok-hear.field-0 c.in_ok-hear.ensures.stepped c.in-Fine.is c.settle.new.self (ap (λ x. x.keys) is) (ap (λ x. x.sets) is)) c.settle.ensures.ok
+
+pub returns-in-Fine-clause-others : goal.returns-in-Fine-clause-others
+returns-in-Fine-clause-others g c =
+    let t = c.args.tables.now in
+    on_ok_weaker c.settle.result (λ settles.
+    let (limit, agenda, is) = settles_leaves c.args.number c.hear.new.set t c.settle.new.self settles in others_still t c.settle.new.self c.args.number c.hear.new.set c.requires.given (ap (λ x. x.sets) is)) c.settle.ensures.ok
+
+pub returns-in_ok-restart_key-in-NoRun-clause-others : goal.returns-in_ok-restart_key-in-NoRun-clause-others
+returns-in_ok-restart_key-in-NoRun-clause-others g c =
+    let t = c.args.tables.now in
+    let anew = c.in_ok-restart_key-in-NoRun.ensures.ok in
+    on_ok_weaker c.add_broken.result (λ added. others_still t c.restart_key.new.self c.args.number (start_of t.times anew.key) c.requires.given
+    (anew_sets t c.restart_key.new.self c.args.number c.hear.new.set anew.key (ap (λ x. x.sets) anew.begun))) c.add_broken.ensures
+
+pub returns-in_ok-restart_key-in-TooWide-clause-others : goal.returns-in_ok-restart_key-in-TooWide-clause-others
+returns-in_ok-restart_key-in-TooWide-clause-others g c =
+    let t = c.args.tables.now in
+    let anew = c.in_ok-restart_key-in-TooWide.ensures.ok in
+    on_ok_weaker c.add_wide.result (λ added. others_still t c.restart_key-in-TooWide.new.self c.args.number (start_of t.times anew.key) c.requires.given
+    (anew_sets t c.restart_key-in-TooWide.new.self c.args.number c.hear.new.set anew.key (ap (λ x. x.sets) anew.begun))) c.add_wide.ensures
 
 pub returns-in_ok-restart_key-in-NoRun-clause-may : goal.returns-in_ok-restart_key-in-NoRun-clause-may
 returns-in_ok-restart_key-in-NoRun-clause-may g c =

@@ -1,14 +1,24 @@
 use Rattle.std.proofs.Common.{◌≤◌, Some, None, [], sym, ◌∙◌, subst}
 use Rattle.std.proofs.lemmas.Result.{on_ok_weaker}
+use Rattle.sip_states.specs.AnySet.{IsKnownSet}
 use Rattle.sip_verdict.specs.Entries.{newest_moment}
 use Rattle.sip_verdict.specs.inner.Concerned.{each}
 use Rattle.sip_verdict.specs.inner.TablesTracking.{AreTold, MayPass, MayHear}
+use Rattle.sip_verdict.proofs.tables.TablesPassing.{All-place}
 use Rattle.sip_verdict.proofs.surveys.passing.Waiting.{mark_passes, event_waits, event_concerns, hear_still}
 use Rattle.sip_verdict.proofs.surveys.passing.Watching.{watched_more}
 use Rattle.sip_verdict.proofs.releasing.pass_each.Goals as goal
 
 pub returns-in_default-clause-may : goal.returns-in_default-clause-may
 returns-in_default-clause-may g c = c.in_ok-release_overdue.ensures.may c.args.book.now c.requires.may
+
+pub returns-in_default-clause-others : goal.returns-in_default-clause-others
+returns-in_default-clause-others g c = λ texts n set may none at. All-place (IsKnownSet texts) c.release_overdue.new.tables.sets n set at (c.in_ok-release_overdue.ensures.may texts may).known
+
+pub returns-clause-others : goal.returns-clause-others
+returns-clause-others g c =
+    on_ok_weaker c.hear_each.result (λ still texts n set may none at.
+    All-place (IsKnownSet texts) c.release_overdue.new.tables.sets n set (sym (still n (rw c.in-Some.is at none)) ∙ at) (c.in_ok-release_overdue.ensures.may texts may).known) c.hear_each.ensures.others
 
 pub returns-in_default-clause-watched : goal.returns-in_default-clause-watched
 returns-in_default-clause-watched g c = c.in_ok-release_overdue.ensures.watched [] (rw c.in_default.is at c.requires.watched)

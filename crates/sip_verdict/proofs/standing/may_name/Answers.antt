@@ -1,4 +1,4 @@
-use Rattle.std.proofs.Common.{◌≡◌, [], inl, inr, true, false, All, refl, sym, subst, ◌∙◌}
+use Rattle.std.proofs.Common.{◌≡◌, [], inl, inr, true, false, All, refl, sym, subst, ◌∙◌, arith}
 use Rattle.std.specs.Prelude.{◌↔◌, IsTrue}
 use Rattle.std.proofs.lemmas.Bool.{false≢true}
 use Rattle.std.proofs.lemmas.List.Elements.{All-cons, All-nil}
@@ -42,7 +42,10 @@ returns-then-may_name-clause-may g c =
     let two = c.in-OwnAndCancelled in
     let its = c.may_name-in-OwnAndCancelled.ensures.may.0 c.if-may_name.true in
     let named = first_may t number two.own two.cancelled c.set-in-OwnAndCancelled.result.now c.set-in-OwnAndCancelled.ensures its in
-    subst (λ x. IsTrue true ↔ MayBeNamed t number x) (sym two.is) (λ _. named, λ _. refl)
+    subst (λ x. IsTrue c.may_name-in-OwnAndCancelled.result ↔ MayBeNamed t number x) (sym two.is) (λ _. named, λ _. c.if-may_name.true)
+
+pub set-requires-else-may_name : goal.set-requires-else-may_name
+set-requires-else-may_name g c = (rw c.in-OwnAndCancelled.is at c.requires) 1 0 (omega arith)
 
 pub returns-else-may_name-clause-may : goal.returns-else-may_name-clause-may
 returns-else-may_name-clause-may g c =

@@ -1,5 +1,5 @@
 -- What the transactions of a survey are after an entry of each kind.
-use Rattle.std.proofs.Common.{◌≡◌, ◌≢◌, ◌≤◌, ◌<◌, inl, inr, ℕ, Bool, true, false, Option, Some, None, List, [], ◌∷◌, ◌++◌, All, AllPairs, length, slice_get, refl, sym, ap, ◌∙◌, subst, true≢false, arith}
+use Rattle.std.proofs.Common.{◌≡◌, ◌≢◌, ◌≤◌, ◌<◌, ◌+◌, inl, inr, ℕ, Bool, true, false, Option, Some, None, List, [], ◌∷◌, ◌++◌, All, AllPairs, Contains, length, slice_get, refl, sym, ap, ◌∙◌, subst, true≢false, arith}
 use Rattle.std.specs.Prelude.{fold}
 use Rattle.std.proofs.Math.Decide.{dec_le}
 use Rattle.sip_standard.specs.declared.action.Action.TheVariants.{Restart}
@@ -12,6 +12,7 @@ use Rattle.sip_machine.specs.NumberedEvent.{NumberedEvent, event_in}
 use Rattle.sip_standard.specs.MachineEvent.{MachineEvent}
 use Rattle.sip_standard.specs.KeyMachine.{MachineKind, machine_of_key}
 use Rattle.sip_states.specs.AnySet.{meaning_of}
+use Rattle.sip_states.specs.Sweep.{numbers_of}
 use Rattle.sip_states.specs.Tables.{Tabled}
 use Rattle.sip_states.specs.declared.any_set.AnySet.{AnySet}
 use Rattle.sip_states.proofs.keyed.ByMachine.{seen_by_names_of}
@@ -26,14 +27,16 @@ use Rattle.sip_verdict.specs.declared.troubled.Troubled.{Troubled}
 use Rattle.sip_standard.specs.Observation.{Observation}
 use Rattle.sip_verdict.specs.Entries.{newest_moment}
 use Rattle.sip_verdict.specs.inner.Keyed.{with_key}
-use Rattle.sip_standard.specs.VerdictOf.{keys_in, Sees}
+use Rattle.sip_standard.specs.VerdictOf.{events_for, keys_in, Sees}
 use Rattle.sip_verdict.specs.inner.Concerned.{each, is_all}
 use Rattle.sip_verdict.specs.inner.Observing.{IsObserved, restart_observation}
-use Rattle.sip_verdict.specs.inner.TablesTracking.{LeadsOf, is_among, AreTold, TouchesEach}
-use Rattle.sip_verdict.specs.inner.Surveying.{AreWatched, IsFresh, IsFollowed, TablesSurvey, ArePassing, any}
+use Rattle.sip_verdict.specs.inner.TablesTracking.{LeadsOf, is_among, AreTold, DropsUnnamed, TouchesEach}
+use Rattle.sip_verdict.specs.inner.Surveying.{AreWatched, IsFresh, IsFollowed, TablesSurvey, IsPassing, ArePassing, any}
 use Rattle.sip_verdict.proofs.keys.Keys.{keys_in-push, keys_in-none, keys_in-all}
 use Rattle.sip_verdict.proofs.keys.Leading.{Leads-grow}
 use Rattle.sip_verdict.proofs.judges.StandingLemmas.{IsGrown, text_of_none, touched_recorded}
+use Rattle.sip_verdict.proofs.sweeps.NewestLemmas.{unnamed_leads, unnamed_stands}
+use Rattle.sip_verdict.proofs.tables.TablesPassing.{All-place}
 use Rattle.sip_verdict.proofs.tables.TablesTouching.{touches_elim, touches_times, have_numbers, slice_get-more, told_unheard, told_event, told_restart}
 use Rattle.sip_verdict.proofs.surveys.passing.Begun.{begun_same, begun_touched, touched_keys, front_place, back_place}
 
@@ -144,6 +147,31 @@ module _ (old mid : Texts) (number : ℕ) (bytes : List ℕ) (grown : IsGrown ol
       -- what is observed of the message
       seen : Observation KeyParts
       seen = record { fault = None; event = event_in mid event; keys = each concerned }
+
+-- each transaction has passed an entry as before, where a message that no set names was dropped after it
+pub dropped_passing : (number : ℕ) (before new : Texts) (p : Times) (es : List (Observation KeyParts)) (e : Observation KeyParts) (t : Tabled) (b : Troubled) → DropsUnnamed t.sets number before new
+    → ArePassing before p es e (is_among []) t b → ArePassing new p es e (is_among []) t b
+dropped_passing number before new p es e t b (inl same) h = subst (λ texts. ArePassing texts p es e (is_among []) t b) (sym same) h
+dropped_passing number before new p es e t b (inr (bytes, is, unnamed)) h =
+    let passing = subst (λ texts. ArePassing texts p es e (is_among []) t b) is h in
+    record {
+      broken = passing.broken;
+      wide = passing.wide;
+      each = λ n key s d at here deaf. by n key s d (All-place (λ set. ¬ Contains (numbers_of set) number) t.sets n s here unnamed) (passing.each n key s d at here deaf);
+    }
+  where
+    by : (n : ℕ) (key : KeyParts) (s : AnySet) (d : Bool) → ¬ Contains (numbers_of s) number → IsPassing (new ++ (number, bytes) ∷ []) p es e (is_among []) b (n + 1) key s d
+        → IsPassing new p es e (is_among []) b (n + 1) key s d
+    by n key s true none (leads, why) = (unnamed_leads number bytes new p (machine_of_key p.rules key) [] e.event.moment s none leads, why)
+    by n key s false none (sound, goes) = (
+      sound,
+      record {
+        runs = goes.runs;
+        narrow = goes.narrow;
+        ready = unnamed_leads number bytes new p (machine_of_key p.rules key) (events_for key (es ++ e ∷ [])) (newest_moment (es ++ e ∷ [])) s none goes.ready;
+        stands = λ concerned. unnamed_stands number bytes new p (machine_of_key p.rules key) (events_for key es) e.event s none (goes.stands concerned);
+      },
+    )
 
 -- after keys were looked up, each last moment is on record, except those of the keys, which are to hear the event
 pub watched_touched : (ks : List KeyParts) (ns : List ℕ) (t w : Tabled) (b d : Troubled) (more : List Bool) → TouchesEach ks ns t w → length t.sets ≡ length t.keys → AreWatched [] t b

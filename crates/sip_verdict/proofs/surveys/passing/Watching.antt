@@ -13,7 +13,7 @@ use Rattle.sip_states.proofs.lists.Places.{set_place, set_other, set_here, set_t
 use Rattle.sip_verdict.specs.declared.troubled.Troubled.{Troubled}
 use Rattle.sip_verdict.specs.inner.TablesTracking.{is_among, IsOnRecord, MayPass}
 use Rattle.sip_verdict.specs.inner.Surveying.{AreWatched}
-use Rattle.sip_verdict.proofs.tables.TablesPassing.{among_one, among_rest, settled, recorded_more}
+use Rattle.sip_verdict.proofs.tables.TablesPassing.{among_one, among_rest, settled, recorded_more, set-other}
 use Rattle.sip_verdict.proofs.tables.TablesTouching.{start_at, start_known}
 
 -- the record without a last moment is not one with a last moment
@@ -21,9 +21,11 @@ none_some : {A : Type 0} (x : A) → Some None ≡ Some (Some x) → ⊥
 none_some x h = cc
 
 module _ (t : Tabled) (b : Troubled) (number : ℕ) (waits : List ℕ) (given : IsGiven t number) (h : AreWatched (number ∷ waits) t b) where
+  -- the place of the transaction, which counts from 0
   abbrev place : ℕ
   place = number - 1
 
+  -- the transaction has a flag that says whether it is deaf
   inside : number - 1 < length b.deaf.items
   inside = (let low = given.low in let high = given.high in let long = h.long in omega arith)
 
@@ -74,6 +76,11 @@ watched_released t u b c number waits given h after agenda deaf keys sets record
 -- a set that starts anew is the same whatever set it replaces
 pub anew_sets : (t u : Tabled) (number : ℕ) (mid : AnySet) (key : KeyParts) → u.sets ≡ slice_set (slice_set t.sets (number - 1) mid) (number - 1) (start_of t.times key) → u.sets ≡ slice_set t.sets (number - 1) (start_of t.times key)
 anew_sets t u number mid key sets = sets ∙ set_twice t.sets (number - 1) mid (start_of t.times key)
+
+-- where the set of a transaction was replaced, each other set is as it was
+pub others_still : (t u : Tabled) (number : ℕ) (after : AnySet) → IsGiven t number → u.sets ≡ slice_set t.sets (number - 1) after → (n : ℕ) → n + 1 ≢ number → slice_get u.sets n ≡ slice_get t.sets n
+others_still t u number after given sets n other =
+    let low = given.low in ap (λ xs. slice_get xs n) sets ∙ set-other t.sets (number - 1) n after (λ same. other (omega (arith, same, low)))
 
 -- where an entry may pass tables, it may pass them with another set that has no later moment and names only messages of the book
 pub passes_with : (texts : Texts) (t u : Tabled) (place moment : ℕ) (after : AnySet) → MayPass texts t moment → moment_of after ≤ moment → IsKnownSet texts after → u.keys ≡ t.keys → u.sets ≡ slice_set t.sets place after → MayPass texts u moment

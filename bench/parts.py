@@ -1,0 +1,80 @@
+"""What the parts of a log take beside the whole: what bench/judge.sh counts and times under the word parts. Its words are the program sipsurvey, and how
+many entries of calls are timed.
+
+Four parts run at once, each on a processor of its own. Beside them stand one part alone, four surveys of the whole at once, and a loop that needs no memory:
+they tell what of the time is the machine's."""
+
+import os
+import statistics
+import subprocess
+import sys
+import tempfile
+import time
+from pathlib import Path
+
+from judge import COUNTED, calls, write_log
+from survey import instructions
+
+PARTS = 4
+TIMED = 1_000_000
+ROUNDS = 5
+LOOP = [sys.executable, "-c", "sum(range(20_000_000))"]
+
+
+def part(program, number, log, parts=PARTS):
+    return [program, "--part", f"{number}/{parts}", log]
+
+
+def print_counted(program, folder):
+    """Prints what an entry of calls takes: the difference of a long log and a short one."""
+    surveys = {"the whole": lambda log: [program, log]}
+    surveys |= {f"part {number} of {PARTS}": lambda log, number=number: part(program, number, log) for number in range(1, PARTS + 1)}
+    surveys |= {"part 1 of 16": lambda log: part(program, 1, log, 16), "part 1 of 1": lambda log: part(program, 1, log, 1)}
+    got = dict.fromkeys(surveys, 0)
+    for size, sign in zip(COUNTED, (-1, 1)):
+        write_log(folder / "log", calls, size)
+        for name, survey in surveys.items():
+            got[name] += sign * instructions(survey(folder / "log"))[0] / (COUNTED[1] - COUNTED[0])
+    for name, count in got.items():
+        print(f"{name:<24} {count:>8.0f} instructions an entry {got['the whole'] / count:>6.2f}", flush=True)
+
+
+def at_once(commands):
+    """Runs the commands at once, each on a processor of its own. Answers the seconds until the last has ended, and the processor seconds of each."""
+    began = time.monotonic()
+    processes = [subprocess.Popen(command, stdin=subprocess.DEVNULL, stdout=subprocess.DEVNULL, preexec_fn=lambda cpu=cpu: os.sched_setaffinity(0, {cpu}))
+                 for cpu, command in zip(sorted(os.sched_getaffinity(0)), commands)]
+    used = []
+    for process in processes:
+        _, status, usage = os.wait4(process.pid, 0)
+        process.returncode = os.waitstatus_to_exitcode(status)
+        used.append(usage.ru_utime + usage.ru_stime)
+    return time.monotonic() - began, used
+
+
+def print_timed(program, folder, entries):
+    log = folder / "log"
+    write_log(log, calls, entries)
+    log.read_bytes()  # so that it is in memory
+    whole, numbers = [program, log], range(1, PARTS + 1)
+    runs = {"the whole": [whole], "a part": [part(program, 1, log)], "four parts at once": [part(program, number, log) for number in numbers],
+            "four wholes at once": [whole] * PARTS, "a loop": [LOOP], "four loops at once": [LOOP] * PARTS}
+    got = {name: [] for name in runs}
+    for _ in range(ROUNDS):
+        for name, commands in runs.items():
+            got[name].append(at_once(commands))
+    print(f"{'seconds, ' + str(entries) + ' entries':<24} {'by the clock, middle':>22} {'fewest, most':>14} {'of a processor, middle':>24} {'fewest, most':>14}")
+    for name, told in got.items():
+        clock, used = [seconds for seconds, _ in told], [seconds for _, each in told for seconds in each]
+        print(f"{name:<24} {statistics.median(clock):>22.3f} {min(clock):>7.3f}{max(clock):>7.3f} {statistics.median(used):>24.3f} {min(used):>7.3f}{max(used):>7.3f}", flush=True)
+
+
+def main():
+    program, *sizes = sys.argv[1:]
+    with tempfile.TemporaryDirectory() as folder:
+        print_counted(program, Path(folder))
+        print_timed(program, Path(folder), int(sizes[0]) if sizes else TIMED)
+
+
+if __name__ == "__main__":
+    main()

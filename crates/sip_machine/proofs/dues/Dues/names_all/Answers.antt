@@ -8,7 +8,7 @@ use Rattle.sip_machine.proofs.dues.Dues.names_all.Goals as goal
 
 pub returns-in_ok-all_names-clause-ok : goal.returns-in_ok-all_names-clause-ok
 returns-in_ok-all_names-clause-ok c =
-    let rows = c.in-Some.ledger.now.value in
+    let rows = c.in-Some.ledger.value in
     let is : rows ≡ c.args.self.now = rw c.in-Some.is at c.self.view_is in
     let old = c.args.numbers.now.items in
     let new = c.all_names.new.numbers.items in

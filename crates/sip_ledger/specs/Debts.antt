@@ -1,4 +1,4 @@
-use Rattle.std.specs.Prelude.{◌≡◌, ◌==◌, ◌&&◌, ◌||◌, ℕ, Bool, false, true, Option, None, Some, List, [], ◌∷◌, ◌++◌, All, filter, map, min, nat_le}
+use Rattle.std.specs.Prelude.{if◌then◌else◌, ◌≡◌, ◌==◌, ◌&&◌, ◌||◌, ℕ, Bool, false, true, Option, None, Some, List, [], ◌∷◌, ◌++◌, All, filter, map, min, nat_le}
 use Rattle.std.specs.List.{reduce}
 use Rattle.sip_ledger.specs.declared.debt.Debt.{Debt}
 

@@ -1,20 +1,22 @@
 -- An account loses one of its debts.
-use Rattle.std.proofs.Common.{◌≡◌, ◌≢◌, ℕ, ◌+◌, ◌-◌, ◌<◌, ◌≤◌, ◌%◌, ◌^◌, ◌==◌, ◌&&◌, ◌||◌, Bool, true, false, not, List, ◌∷◌, ◌++◌, length, take, drop, refl, sym, ap, ap₂, ◌∙◌, subst, inl, inr, arith, lit<}
+use Rattle.std.proofs.Common.{◌≡◌, ◌≢◌, ℕ, ◌+◌, ◌-◌, ◌<◌, ◌≤◌, ◌%◌, ◌^◌, ◌==◌, ◌&&◌, ◌||◌, Bool, true, false, cond, not, List, [], ◌∷◌, ◌++◌, length, take, drop, get_or, refl, sym, ap, ap₂, ◌∙◌, subst, inl, inr, arith, lit<}
 use Rattle.std.specs.Prelude.{nat_le, nat_lt}
 use Rattle.std.specs.List.{sum_by}
-use Rattle.std.proofs.lemmas.Bool.{cases_lt, eq-eqb, ne_eqb, true≢false}
+use Rattle.std.proofs.lemmas.Bool.{cases_eq, cases_lt, eq-eqb, ne_eqb, true≢false}
 use Rattle.std.proofs.Math.Bool.{or-false}
 use Rattle.std.proofs.lemmas.Bool.Decides.{nat_tests}
 use Rattle.std.proofs.lemmas.List.Sums.{sum_by-append, sum_by-cons}
 use Rattle.std.proofs.lemmas.Nat.{mod_below}
 use Rattle.std.proofs.Math.Nat.{add-mod_right, mod-add-mod, mod-eq_of_lt}
 use Rattle.sip_ledger.specs.declared.debt.Debt.{Debt}
+use Rattle.sip_ledger.specs.declared.debt.Entry.{Entry}
 use Rattle.sip_ledger.specs.declared.accounts.account.Account.{Account}
 use Rattle.sip_ledger.specs.declared.accounts.gains.Gains.{Gains}
 use Rattle.sip_ledger.specs.declared.accounts.strikes.Strike.{Strike}
 use Rattle.sip_ledger.specs.Accounts.{debts_print, worth_of}
-use Rattle.sip_ledger.specs.Rows.{debt_of}
-use Rattle.sip_ledger.specs.inner.Accounts.{IsAccount, IsStruck, IsWithout, account_debts, entries_of, entry_at, is_gone, is_struck, must_at, owes_at, strikes_of}
+use Rattle.sip_ledger.specs.Rows.{debt_of, debts_from}
+use Rattle.sip_ledger.specs.inner.Accounts.{AreGains, IsAccount, IsStruck, IsWithout, account_debts, entries_of, entry_at, is_gone, is_left, is_struck, must_at, owes_at, strikes_of}
+use Rattle.sip_ledger.proofs.debts.ListedLemmas.{no_entry, front, back, parts, back-set, back-unset, back-same, front-same}
 use Rattle.sip_ledger.proofs.places.LeftLemmas.{gone-same, gone-struck}
 use Rattle.sip_ledger.proofs.places.AccountLemmas.{owed-within, past-end, soft-must}
 
@@ -24,6 +26,21 @@ pub record IsCut (debt : Debt) (old new : List Debt) : Type 0 where
   pub after : List Debt
   pub whole : old ≡ before ++ debt ∷ after
   pub rest : new ≡ before ++ after
+
+pub cut-at : (entries : List Entry) (o m o' m' : ℕ → Bool) (at : ℕ) → at < length entries → o at ≡ true → IsWithout at o o' → ((k : ℕ) → m' k ≡ m k) →
+    IsCut (debt_of (get_or entries at no_entry) (m at)) (debts_from o m 0 entries) (debts_from o' m' 0 entries)
+cut-at entries o m o' m' at within is without must =
+    let less : at ≤ length entries = omega (arith, within) in
+    record {
+      before = front o m entries at;
+      after = back o m entries (at + 1);
+      whole = parts o m entries at less ∙ ap (λ l. front o m entries at ++ l) (back-set o m entries at no_entry within is);
+      rest = parts o' m' entries at less
+          ∙ ap₂ (λ a b. a ++ b)
+          (front-same o' m' o m entries at less (λ j below. let other : j ≢ at = omega (arith, below) in (without.others j other, must j)))
+          (back-unset o' m' entries at within without.gone
+          ∙ back-same o' m' o m entries (at + 1) (λ j above. let other : j ≢ at = omega (arith, above) in (without.others j other, must j)));
+    }
 
 -- the print of debts without one of them is their print less the worth of that one
 abbrev worths : List Debt → ℕ

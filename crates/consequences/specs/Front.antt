@@ -19,12 +19,6 @@ abbrev pub IsUntroubled : Times → List (Observation KeyParts) → Observation 
 IsUntroubled p front e =
     (e.fault ≡ None) × AllRun p (front ++ e ∷ []) × All (λ key. ¬ (IsWideAt p front e key)) (keys_in (front ++ e ∷ []))
 
--- `es` is what is observed of the items that come after the entries `front`, one after another
-abbrev pub AreSeen : List (Observation KeyParts) → List Item → List (Observation KeyParts) → Type 0
-AreSeen front [] [] = ⊤
-AreSeen front (item ∷ items) (e ∷ es) = Sees front item e × AreSeen (front ++ e ∷ []) items es
-AreSeen front items es = ⊥
-
 -- `es` is what is observed of the items that come after the entries `front`, one after another, and none of them is in trouble
 abbrev pub GoWell : Times → List (Observation KeyParts) → List Item → List (Observation KeyParts) → Type 0
 GoWell p front [] [] = ⊤

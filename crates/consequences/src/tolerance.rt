@@ -9,8 +9,8 @@ ghost use Rattle.sip_standard.specs.Times.{Times};
 ghost use Rattle.sip_standard.specs.KeyMachine.{MachineKind, transaction_of};
 ghost use Rattle.sip_standard.specs.Stands.{Stands};
 ghost use Rattle.sip_standard.specs.Observation.{Observation};
+ghost use Rattle.sip_standard.specs.Seen.{AreSeen};
 ghost use Rattle.sip_standard.specs.VerdictOf.{RunsOver};
-ghost use Rattle.consequences.specs.Front.{AreSeen};
 ghost use Rattle.consequences.specs.Tolerance.{tolerant, AreOneKind};
 
 /// A wider tolerance keeps a run: where an element may be earlier and later, a run over the same events stands in the same phase.

@@ -90,13 +90,12 @@ pub(crate) fn observe(alloc: Global, book: &mut Book, entry: &Entry) -> Result<O
     let Some(direction) = direction_of(entry.action) else {
         return Ok(told_without_message(entry.action));
     };
-    let read = Message::read(alloc, entry.bytes.as_slice());
-    let message = match &read {
+    let message = match Message::read(alloc, entry.bytes.as_slice()) {
         Ok(message) => message,
-        Err(ReadError::Fault(fault)) => return Ok(Observed::Fault(*fault)),
+        Err(ReadError::Fault(fault)) => return Ok(Observed::Fault(fault)),
         Err(ReadError::Memory) => return Err(AllocError),
     };
-    let concerned = match keys_of(alloc, message, direction) {
+    let concerned = match keys_of(alloc, &message, direction) {
         Ok(concerned) => concerned,
         Err(KeyError::NoCookie) => return Ok(Observed::Fault(NO_COOKIE)),
         Err(KeyError::Memory) => return Err(AllocError),
@@ -105,7 +104,7 @@ pub(crate) fn observe(alloc: Global, book: &mut Book, entry: &Entry) -> Result<O
         return Ok(Observed::Unheard);
     }
     let number = book.add(entry.number, entry.bytes.as_slice())?;
-    book.keep_to(number, message);
-    let event = Event::of(entry.moment, entry.action, number, message);
+    book.keep_to(number, &message);
+    let event = Event::of(entry.moment, entry.action, number, &message);
     Ok(Observed::Heard { event, concerned })
 }

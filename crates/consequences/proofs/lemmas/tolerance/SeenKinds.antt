@@ -15,9 +15,9 @@ use Rattle.sip_standard.specs.Kind.{kind_of}
 use Rattle.sip_standard.specs.Outcome.{gives}
 use Rattle.sip_standard.specs.Says.{Said, Says}
 use Rattle.sip_standard.specs.Observation.{Observation, direction_of, silent_observation, ObservesMessage, has_fault, has_no_cookie, is_heard}
+use Rattle.sip_standard.specs.Seen.{AreSeen}
 use Rattle.sip_standard.specs.VerdictOf.{keys_in, events_for}
 use Rattle.sip_message.proofs.lemmas.says.Reading.{said-one}
-use Rattle.consequences.specs.Front.{AreSeen}
 use Rattle.consequences.specs.Tolerance.{AreOneKind}
 
 -- the event has no bytes and is of no kind of its own, or it has bytes and is of the kind that they say
@@ -48,7 +48,8 @@ all-known : (format : Format) (last : ℕ) (front : List (Observation KeyParts))
 all-known format last front [] [] order seen = All-nil IsKnown
 all-known format last front (item ∷ items) (e ∷ es) order seen =
     All-cons IsKnown e es (seen-known item.action front item e (λ has. (order.1.1.1 has).0) seen.0) (all-known format item.moment (front ++ e ∷ []) items es order.2 seen.1)
-all-known format last front items es order seen = absurd seen
+all-known format last front [] (e ∷ es) order seen = absurd seen
+all-known format last front (item ∷ items) [] order seen = absurd seen
 
 -- an entry that concerns no key does not concern this one
 no-keys : (key : KeyParts) (keys : List KeyParts) → keys ≡ [] → ¬ (list_any (same_key key) keys ≡ true)

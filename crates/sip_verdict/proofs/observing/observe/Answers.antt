@@ -1,5 +1,4 @@
-use Rattle.std.proofs.Common.{[], Err, inl, inr, refl, sym, ap, subst, ◌∙◌}
-use Rattle.sip_message.specs.Reads.{ReadsTo}
+use Rattle.std.proofs.Common.{[], inl, inr, refl, sym, ap, ◌∙◌}
 use Rattle.sip_message.specs.SaidOf.{said_of}
 use Rattle.sip_log.specs.Told.{item}
 use Rattle.sip_standard.specs.Observation.{silent_observation}
@@ -26,18 +25,17 @@ returns-in-None-clause-observed c es =
     let keys = rw c.in-None.is at c.in-Ok-keys_of.ensures in (
       keyless_observation i (said_of c.in-Ok.message),
       observes es i _ c.in-Some.direction (sym c.direction_of.ensures ∙ c.in-Some.is)
-          (observes_none i c.in-Some.direction c.as_slice.result.now c.in-Ok.message c.as_slice.ensures.value (rw c.in-Ok.is at c.read-read.ensures) keys.0 keys.1),
+          (observes_none i c.in-Some.direction c.as_slice.result.now c.in-Ok.message c.as_slice.ensures.value c.in-Ok.ensures keys.0 keys.1),
       (refl, refl, refl),
     )
 
 pub returns-in-Err-Fault-clause-observed : goal.returns-in-Err-Fault-clause-observed
 returns-in-Err-Fault-clause-observed c es =
     let i = item c.args.entry.now in
-    let fault = rw c.in-Err-Fault.is at c.in-Err-Fault.field-0-is in
     rw c.in-Err-Fault.fault-is (
       _,
       observes es i _ c.in-Some.direction (sym c.direction_of.ensures ∙ c.in-Some.is)
-          (observes_fault i c.in-Some.direction c.as_slice.result.now _ c.as_slice.ensures.value (subst (λ e. ReadsTo c.as_slice.result.now (Err e)) fault (rw c.in-Err-Fault.is at c.read-read.ensures))),
+          (observes_fault i c.in-Some.direction c.as_slice.result.now _ c.as_slice.ensures.value (rw c.in-Err-Fault.field-0-is at c.in-Err-Fault.ensures)),
       refl,
     )
 
@@ -46,7 +44,7 @@ returns-in-Err-NoCookie-clause-observed c es =
     let i = item c.args.entry.now in (
       _,
       observes es i _ c.in-Some.direction (sym c.direction_of.ensures ∙ c.in-Some.is)
-          (observes_no_cookie i c.in-Some.direction c.as_slice.result.now c.in-Ok.message c.as_slice.ensures.value (rw c.in-Ok.is at c.read-read.ensures) (rw c.in-Err-NoCookie.field-0-is at c.in-Err-NoCookie.ensures)),
+          (observes_no_cookie i c.in-Some.direction c.as_slice.result.now c.in-Ok.message c.as_slice.ensures.value c.in-Ok.ensures (rw c.in-Err-NoCookie.field-0-is at c.in-Err-NoCookie.ensures)),
       refl,
     )
 
@@ -57,7 +55,7 @@ pub of-event-requires-clause-message : goal.of-event-requires-clause-message
 of-event-requires-clause-message c = going_on c.args.entry.now.action c.in-Some.direction (sym c.direction_of.ensures ∙ c.in-Some.is)
 
 pub keep_to-requires-clause-read : goal.keep_to-requires-clause-read
-keep_to-requires-clause-read c = rw (c.in_ok-number.ensures.ok.1, c.as_slice-2.ensures.value, ← c.as_slice.ensures.value) (rw c.in-Ok.is at c.read-read.ensures)
+keep_to-requires-clause-read c = rw (c.in_ok-number.ensures.ok.1, c.as_slice-2.ensures.value, ← c.as_slice.ensures.value) c.in-Ok.ensures
 
 pub returns-clause-observed : goal.returns-clause-observed
 returns-clause-observed c es =
@@ -66,7 +64,7 @@ returns-clause-observed c es =
       _,
       observes es i _ c.in-Some.direction (sym c.direction_of.ensures ∙ c.in-Some.is)
           (observes_heard i c.in-Some.direction c.as_slice.result.now c.in-Ok.message c.add.new.self c.of-event.result c.in_ok-number.number (each c.in-Ok-keys_of.concerned)
-          c.as_slice.ensures.value (rw c.in-Ok.is at c.read-read.ensures) c.in-Ok-keys_of.ensures.0 c.in-Ok-keys_of.ensures.1 c.of-event.ensures (c.in_ok-number.ensures.ok.1 ∙ c.as_slice-2.ensures.value)),
+          c.as_slice.ensures.value c.in-Ok.ensures c.in-Ok-keys_of.ensures.0 c.in-Ok-keys_of.ensures.1 c.of-event.ensures (c.in_ok-number.ensures.ok.1 ∙ c.as_slice-2.ensures.value)),
       refl,
     )
 

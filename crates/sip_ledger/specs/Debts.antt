@@ -47,4 +47,3 @@ is_within t (Some last) = nat_le t last
 -- no deadline of what must be sent is before t
 abbrev pub is_timely : ℕ → List Debt → Bool
 is_timely t debts = is_within t (earliest (debt_deadlines debts))
-

@@ -5,4 +5,3 @@ use Rattle.std.specs.Prelude.{ℕ, ◌*◌, ◌%◌, ◌^◌, bit_xor}
 -- a number that is made of another one and a word
 abbrev pub mixed : ℕ → ℕ → ℕ
 mixed print word = bit_xor print word * 11400714819323198485 % 2 ^ 64
-

@@ -17,4 +17,3 @@ debts_from owed must i (entry ∷ entries) =
 -- no bit from i up to k is set
 abbrev pub IsGap : (ℕ → Bool) → ℕ → ℕ → Type 0
 IsGap owed i k = (j : ℕ) → i ≤ j → j < k → owed j ≡ false
-

@@ -26,8 +26,8 @@ use crate::accounts::named::name_all;
 use crate::accounts::seek::Seek;
 use crate::accounts::strikes::Strike;
 use crate::debt::Debt;
-use crate::run::{Run, runs_of};
 use crate::front;
+use crate::run::{Run, runs_of};
 use std::alloc::{AllocError, Global};
 use std::marker::Model;
 

@@ -29,4 +29,3 @@ module _ (message t : ℕ) where
       let unpaid = false_from_ne_true (is_payable message t debt) (All-head Unpaid debt debts none) in
       ap (λ b. cond b debts (debt ∷ paid_by message t debts)) unpaid
       ∙ ap (λ ds. debt ∷ ds) (unpaid-is debts (All-tail Unpaid debt debts none))
-

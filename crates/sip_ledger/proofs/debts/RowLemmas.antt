@@ -79,4 +79,3 @@ some-debt entries o m k within is none =
     let behind = back o m entries (k + 1) in
     let whole = sym (parts o m entries k (omega (arith, within)) ∙ ap (λ l. before ++ l) (back-set o m entries k no_entry within is)) ∙ none in
     absurd (omega (arith, ap length whole, length-append before (debt ∷ behind)))
-

@@ -13,4 +13,3 @@ dropped-first count len xs is few =
     ap (λ n. take kept (take kept (drop count xs) ++ drop n xs)) zero
     ∙ take_at (take kept (drop count xs)) (drop kept xs) kept (length-take-le kept (drop count xs) (omega (arith, long)))
     ∙ ap (λ n. take n (drop count xs)) all ∙ take_rest xs count
-

@@ -31,4 +31,3 @@ range-first s key number p rest h = record {
 pub range-none : (s : BTreeSet (ℕ × ℕ)) (key number : ℕ) → IsKeyRangeOf pair_cmp (Included (key, number)) Unbounded s [] → NoneFrom s.keys key number
 unfolding holds
 range-none s key number h k n after = h.5 refl (k, n) (not_gt-from key number k n after, tt)
-

@@ -63,4 +63,3 @@ kept-all d places to old new was done few =
     ∙ get_or_default new k e d (omega (arith, inside, few, long))
     ∙ was.front k (omega (arith, inside, done))
     ∙ sym (get_or-map (λ place. get_or old place d) places k 0 e inside))
-

@@ -29,4 +29,3 @@ rising-push entries entry rises last i k e order below =
                 omega (arith, one)
           ]
     ]
-

@@ -33,4 +33,3 @@ pub record IsNextUnder (pairs : List (ℕ × ℕ)) (key from number : ℕ) : Typ
   pub is : holds pairs key number ≡ true
   pub after : from ≤ number
   pub none_before : (n : ℕ) → from ≤ n → n < number → holds pairs key n ≡ false
-

@@ -6,8 +6,8 @@ ghost use Rattle.sip_ledger.specs.inner.Indexes.{holds};
 ghost use Rattle.sip_ledger.specs.inner.Places.{AreRising};
 
 use crate::debt::{Debt, Entry};
-use crate::index::Index;
 use crate::front;
+use crate::index::Index;
 use std::alloc::{AllocError, Global};
 
 /// What is asked of a gain most often.

@@ -13,6 +13,7 @@ use Rattle.sip_standard.specs.Observation.{Observation}
 use Rattle.sip_standard.specs.VerdictOf.{Sees, HasTrouble, IsVerdictAfter, IsVerdictOf}
 use Rattle.consequences.specs.Front.{GoWell, IsFirstInTrouble, IsFirstFault, IsFirstBreach, IsFirstWide, CannotBeRead}
 
+-- entries as they are observed
 abbrev Entries : Type 0
 Entries = List (Observation KeyParts)
 

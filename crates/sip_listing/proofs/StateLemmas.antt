@@ -27,6 +27,7 @@ use Rattle.sip_listing.specs.inner.StateLine.{state_line}
 abbrev owing_text : {X : Type 0} → (X → Told (List ℕ)) → (List ℕ → ℕ) → Owing X → List ℕ
 owing_text words number x = phase_text (told_by number (words x.phase)) ++ owes_fields number x.owes
 
+-- a phase in words, of its name and its fields
 abbrev telling : List ℕ → List (ToldField ℕ) → Told ℕ
 telling name fields = record { name = name; fields = fields }
 
@@ -41,6 +42,7 @@ module _ (number : List ℕ → ℕ) (texts : Texts) where
       ap₂ (λ m more. Message name (Some m) ∷ more) (first_told number texts n (filter_map field_message fields) tells)
       (fields_back fields (others_told number texts n (filter_map field_message fields) tells))
 
+  -- a phase that is told by what its numbers stand for is the phase again, where messages are told by their numbers in the book
   told_back : (told : Told ℕ) → Tells number texts (messages_told told) → told_by number (told_by (text_of texts) told) ≡ told
   told_back told tells = ap (telling told.name) (fields_back told.fields tells)
 

@@ -33,15 +33,19 @@ slash_at (x ∷ xs) ys (other, lacks) =
     ap (λ b. cond (not b) (1 + position_or_len is_slash (xs ++ 47 ∷ ys)) 0) other ∙ omega (arith, on)
 
 module _ (k n : ℕ) (low : k < 2 ^ 64) where
+  -- the first slash of K/N comes right after K
   at : position_or_len is_slash (decimal k ++ 47 ∷ decimal n) ≡ length (decimal k)
   at = slash_at (decimal k) (decimal n) (decimal_lacks k low)
 
+  -- what stands before the slash of K/N is K
   pub number_before : before_first is_slash (decimal k ++ 47 ∷ decimal n) ≡ decimal k
   number_before = ap (λ i. take i (decimal k ++ 47 ∷ decimal n)) at ∙ take-append_seam (decimal k) (47 ∷ decimal n)
 
+  -- what stands after the slash of K/N is N
   pub number_after : after_first is_slash (decimal k ++ 47 ∷ decimal n) ≡ decimal n
   number_after = ap (λ i. drop (i + 1) (decimal k ++ 47 ∷ decimal n)) at ∙ drop-append-add (decimal k) (47 ∷ decimal n) 1
 
+  -- K/N has a slash
   pub has_slash : position_or_len is_slash (decimal k ++ 47 ∷ decimal n) ≢ length (decimal k ++ 47 ∷ decimal n)
   has_slash same = let long = length-append (decimal k) (47 ∷ decimal n) in let here = at in omega (arith, long, here, same)
 

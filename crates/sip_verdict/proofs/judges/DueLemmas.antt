@@ -54,9 +54,11 @@ module _ (texts : Texts) (t : Tabled) (es : List (Observation KeyParts)) (from :
   set_of_key : (n : ℕ) (key : KeyParts) → slice_get t.keys n ≡ Some key → (s : AnySet) × (slice_get t.sets n ≡ Some s)
   set_of_key n key at = at_place t.sets n (let within = slice_get_within t.keys n key at in let long = may.long in omega arith)
 
+  -- each key has a last moment on record
   record_of_key : (n : ℕ) (key : KeyParts) → slice_get t.keys n ≡ Some key → (r : Option (Option ℕ)) × (slice_get t.records n ≡ Some r)
   record_of_key n key at = at_place t.records n (let within = slice_get_within t.keys n key at in let long = recorded.long in omega arith)
 
+  -- the keys of the tables are those of the entries
   keys_of_all : t.keys ≡ keys_in es
   keys_of_all = sym (keys_are t may.long) ∙ tracks.keys
 

@@ -89,6 +89,7 @@ silent_kept old new entry stays same = go entry.action refl
 pub going : (action : Action) (direction : Direction) → direction_of action ≡ Some direction → action ≡ Mark → ⊥
 going action direction goes mark = let e : None ≡ Some direction = sym (ap direction_of mark) ∙ goes in cc
 
+-- an entry whose message went some way is not a restart
 pub going_on : (action : Action) (direction : Direction) → direction_of action ≡ Some direction → action ≡ Restart → ⊥
 going_on action direction goes restart = let e : None ≡ Some direction = sym (ap direction_of restart) ∙ goes in cc
 

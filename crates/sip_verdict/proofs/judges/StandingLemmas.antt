@@ -101,6 +101,7 @@ module _ (old new : Texts) (number : ℕ) (bytes : List ℕ) where
         subst (λ texts. All (IsReady (key_keeping texts p) es) ts) (sym more)
         (All-weaker (IsReady (key_keeping old p) es) (IsReady (key_keeping (old ++ (number, bytes) ∷ []) p) es) ready_more ts ready)
 
+  -- tables that track the entries beside a book track them beside the grown book
   pub grown_track : IsGrown old number bytes new → (es : List (Observation KeyParts)) (t : Tabled) → TablesTrack old es t → TablesTrack new es t
   grown_track grown es t s = record { keys = s.keys; ready = grown_ready t.times es grown (transactions_of t) s.ready; good = s.good }
 

@@ -33,6 +33,7 @@ takes_known texts e old new takes =
 none_of : (machine : MachineKind) (t : Held Times (StateOf machine)) (new : AnySet) → new ≡ set_of machine t → IsEmpty new → t.states ≡ []
 none_of machine t new is none = of_set (λ X M S m s. s.states ≡ []) machine t (subst IsEmpty is none)
 
+-- a set of a machine that is not empty has a state
 some_of : (machine : MachineKind) (t : Held Times (StateOf machine)) (new : AnySet) → new ≡ set_of machine t → ¬ IsEmpty new → t.states ≢ []
 some_of machine t new is some none = some (subst IsEmpty (sym is) (to_set (λ X M S m s. s.states ≡ []) machine t none))
 

@@ -21,9 +21,11 @@ use Rattle.sip_verdict.proofs.keys.RunsStand.{run-stands, stands-run}
 abbrev IsNotAfter : Observation KeyParts → Observation KeyParts → Type 0
 IsNotAfter a b = a.event.moment ≤ b.event.moment
 
+-- the entry is not before the moment
 abbrev IsFrom : ℕ → Observation KeyParts → Type 0
 IsFrom moment e = moment ≤ e.event.moment
 
+-- the entry is not after the moment
 abbrev IsTo : ℕ → Observation KeyParts → Type 0
 IsTo moment e = e.event.moment ≤ moment
 

@@ -26,12 +26,15 @@ use Rattle.sip_verdict.proofs.keys.Stepped.{own_passed, other_passed, run_still}
 
 module _ (texts : Texts) (p : Times) (es : List (Observation KeyParts)) (e : Observation KeyParts) (key : KeyParts) (s : AnySet)
     (ready : IsReady (key_keeping texts p) es (key, s)) (late : newest_moment es ≤ e.event.moment) where
+  -- what is kept of each key: its set, beside these texts
   abbrev k : Keeping (KeyParts × AnySet)
   k = key_keeping texts p
 
+  -- the machine of the key
   abbrev machine : MachineKind
   machine = machine_of_key p.rules key
 
+  -- the events of the key in the entries
   abbrev events : List MachineEvent
   events = events_for key es
 

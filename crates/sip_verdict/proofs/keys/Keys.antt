@@ -20,6 +20,7 @@ pub or_false : (a b : Bool) → (a || b) ≡ false → (a ≡ false) × (b ≡ f
 or_false true b h = absurd (false≢true (sym h))
 or_false false b h = (refl, h)
 
+-- a disjunction is true where its second test is
 or_true : (a b : Bool) → b ≡ true → (a || b) ≡ true
 or_true true b h = refl
 or_true false b h = h

@@ -33,6 +33,7 @@ module _ (texts : Texts) (p : Times) (machine : MachineKind) (events : List Mach
       subst (λ q. IsAgenda ((meaning_of machine).rules q) (Contains (map ((meaning_of machine).seen texts) leads.0.states)) leads.0.moment limit) leads.2.machine_is
       (of_set (λ X M S m s. HasAgenda m limit s) machine leads.0 (subst (IsAgendaOf limit) leads.1 agenda) texts)
 
+  -- the moment of the set's states is not after the moment to which it waits
   not_later : leads.0.moment ≤ moment
   not_later = subst (λ m. m ≤ moment) (ap moment_of leads.1 ∙ moment_is machine leads.0) low
 

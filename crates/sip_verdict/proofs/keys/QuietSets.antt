@@ -28,9 +28,11 @@ leads_later texts p machine events from later set low (s, is, leads) =
 
 module _ (texts : Texts) (p : Times) (machine : MachineKind) (events : List MachineEvent) (from : ℕ) (set : AnySet) (leads : LeadsOf texts p machine events from set) (quiet : IsQuietSet set)
     (e : NumberedEvent) (is : e.action ≡ Restart) (late : from ≤ e.moment) (low : moment_of set ≤ e.moment) where
+  -- the states of the set that lead to the runs
   abbrev held : Held Times (StateOf machine)
   held = leads.0
 
+  -- the rules of the machine, for states as texts have them
   abbrev r : MachineRules (PhaseOf machine)
   r = (meaning_of machine).rules p
 
@@ -38,6 +40,7 @@ module _ (texts : Texts) (p : Times) (machine : MachineKind) (events : List Mach
   abbrev new : Held Times (StateOf machine)
   new = record { machine = held.machine; moment = e.moment; states = held.states }
 
+  -- the moment of the states is not after that of the restart
   not_later : held.moment ≤ e.moment
   not_later = subst (λ m. m ≤ e.moment) (ap moment_of leads.1 ∙ moment_is machine held) low
 

@@ -23,6 +23,7 @@ module _ {T : Type 0} (p : Times) (k : Keeping T) (es : List (Observation KeyPar
   abbrev machine : MachineKind
   machine = machine_of_key p.rules (k.key t)
 
+  -- the rules of that machine
   abbrev r : MachineRules (PhaseOf machine)
   r = key_rules p machine
 

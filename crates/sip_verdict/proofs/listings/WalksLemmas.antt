@@ -150,6 +150,7 @@ legal_until p items es count observed good counts =
     subst (λ all. IsVerdictAfter p [] all Clean v) (append-nil items) (judges_front p Clean v [] items [] es observed good (ap (λ n. Legal n (length (keys_in es))) counts))
 
 module _ (way : Aim) (start : Option (List ℕ)) (now : log.ReaderState) (count left : ℕ) (texts : Texts) (t : Tabled) (walks : Walks way start now count left texts t) where
+  -- the tables track the entries that were read on the walk
   tracks : TablesTrack texts walks.es t
   tracks = tracks_of way texts t left walks.items walks.es walks.follows
 

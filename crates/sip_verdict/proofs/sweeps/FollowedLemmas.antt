@@ -116,6 +116,7 @@ module _ (old mid : Texts) (t u : Tabled) (times : u.times ≡ t.times) (number 
   Says verdict = (es : List (Observation KeyParts)) → TablesTrack old es t → number ≡ length es + 1 → newest_moment es ≤ i.moment
       → (e : Observation KeyParts) × Sees es i e × IsJudged t.times (key_keeping mid t.times) es e (transactions_of u) verdict
 
+  -- where the entry is in no trouble, the new sets track the entries and it
   tracks_on : (es : List (Observation KeyParts)) (e : Observation KeyParts) → IsJudged t.times (key_keeping mid t.times) es e (transactions_of u) None → TablesTrack mid (es ++ e ∷ []) u
   tracks_on es e judged = subst (λ p. Tracks p (key_keeping mid p) (es ++ e ∷ []) (transactions_of u)) (sym times) judged.0
 

@@ -20,9 +20,11 @@ any_cases P x xs any =
       | inr rest ↦ inr (rest.0, any.1, rest.1, rest.2, any.4)
     ]
 
+-- what holds of the first element of a list holds of some element
 any_first : {X : Type 0} (P : X → Type 0) (x : X) (xs : List X) → P x → Any P (x ∷ xs)
 any_first P x xs p = let here = Contains-get_or (x ∷ xs) 0 x (omega arith) in (here.0, x, here.1, here.2, p)
 
+-- what holds of some later element of a list holds of some element
 any_rest : {X : Type 0} (P : X → Type 0) (x : X) (xs : List X) → Any P xs → Any P (x ∷ xs)
 any_rest P x xs any = let there = Contains-append_right (x ∷ []) xs any.1 (any.0, any.2, any.3) in (there.0, any.1, there.1, there.2, any.4)
 
@@ -32,6 +34,7 @@ module _ (t : Tabled) (message : ℕ) where
   none_may (inl all) = false≢true all
   none_may (inr any) = omega (arith, any.2)
 
+  -- where the set of a transaction may name the message, the set at its place may
   one_may : (own : ℕ) (set : AnySet) → slice_get t.sets (own - 1) ≡ Some set → OneMayName t message own → SetMayName message set
   one_may own set at may = (let same : Some may.0 ≡ Some set = sym may.1 ∙ at in let one : may.0 ≡ set = cc in subst (SetMayName message) one may.2)
 

@@ -51,6 +51,7 @@ known_unnamed texts number below set known has =
     omega (arith, low)
 
 module _ (number : ℕ) (bytes : List ℕ) (new : Texts) where
+  -- the texts with the newest message, which is dropped
   abbrev old : Texts
   old = new ++ (number, bytes) ∷ []
 

@@ -130,6 +130,7 @@ agenda_waited {X} names InRange seen texts r lawful at moment old new low stand 
 window_of : (machine : MachineKind) (p : Times) (a b : Texts) (x : StateOf machine) → ((meaning_of machine).rules p).window ((meaning_of machine).seen a x) ≡ ((meaning_of machine).rules p).window ((meaning_of machine).seen b x)
 window_of machine p a b x = window_same (transaction_of machine).figure (coded_of machine).seen a b p x ((coded_holds machine).window_same a b p x.phase)
 
+-- until when a state can be waited in does not depend on the book
 until_of : (machine : MachineKind) (p : Times) (a b : Texts) (x : StateOf machine) → ((meaning_of machine).rules p).until ((meaning_of machine).seen a x) ≡ ((meaning_of machine).rules p).until ((meaning_of machine).seen b x)
 until_of machine p a b x = until_same (transaction_of machine).figure (coded_of machine).seen a b p x ((coded_holds machine).closes_same a b p x.phase)
 

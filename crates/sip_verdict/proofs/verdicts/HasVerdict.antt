@@ -50,12 +50,15 @@ all_of P (key ∷ keys) all never =
     All-head (λ k. ¬ (¬ (P k))) key keys all (λ holds. all_of P keys (All-tail (λ k. ¬ (¬ (P k))) key keys all) (λ later. never (All-cons P key keys holds later)))
 
 module _ (p : Times) (es : List (Observation KeyParts)) (e : Observation KeyParts) where
+  -- the keys of the entries and e
   abbrev keys : List KeyParts
   keys = keys_in (es ++ e ∷ [])
 
+  -- the key has a run over the entries and e
   abbrev Runs : KeyParts → Type 0
   Runs key = RunsOver p (es ++ e ∷ []) key
 
+  -- the key has too many last states after e
   abbrev Wide : KeyParts → Type 0
   Wide key = IsWideAt p es e key
 

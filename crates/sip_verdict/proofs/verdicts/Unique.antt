@@ -37,6 +37,7 @@ pub first_not_run : (P : KeyParts → Type 0) (keys : List KeyParts) (n : ℕ) �
 first_not_run P keys n (before, key, rest, is, none, earlier, counts) h = none (All-middle P before rest key (subst (All P) is h))
 
 module _ (p : Times) (front : List (Observation KeyParts)) (e : Observation KeyParts) where
+  -- the keys of the entries and e
   abbrev keys : List KeyParts
   keys = keys_in (front ++ e ∷ [])
 
@@ -44,6 +45,7 @@ module _ (p : Times) (front : List (Observation KeyParts)) (e : Observation KeyP
   abbrev Runs : KeyParts → Type 0
   Runs key = RunsOver p (front ++ e ∷ []) key
 
+  -- the key has too many last states after e
   abbrev Wide : KeyParts → Type 0
   Wide key = IsWideAt p front e key
 

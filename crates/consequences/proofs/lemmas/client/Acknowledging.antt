@@ -28,11 +28,13 @@ use Rattle.consequences.proofs.lemmas.server.Said.{codes-are-one}
 
 -- What follows is of an INVITE, and of a client with these rows.
 module _ (R : Receiving) (is : IsReceiving R) (p : Times) (invite : MachineEvent) where
+  -- the client
   abbrev f : Figure InviteClientPhase
   f = client R
 
   -- What follows leads from the INVITE to the response.
 
+  -- the event is a 2xx, a message that the transport refused, or a restart
   abbrev IsBroken : MachineEvent → Type 0
   IsBroken g = GetsResponse IsSuccess g ⊎ IsRefused g ⊎ IsRestart g
 
@@ -65,6 +67,7 @@ module _ (R : Receiving) (is : IsReceiving R) (p : Times) (invite : MachineEvent
   waits-later es more (Completed reliable request set) waits = (waits.0, waits.1, waits.2, any-earlier (GetsResponse IsUnsuccessful) es more waits.3)
   waits-later es more x waits = absurd waits
 
+  -- from the INVITE on, the client waits for the response that it must acknowledge, or it need not acknowledge any more
   abbrev Awaits : List MachineEvent → ℕ → Owing InviteClientPhase → Type 0
   Awaits es m y = (invite.moment ≤ m) × (Waits es y.phase ⊎ Over es m)
 

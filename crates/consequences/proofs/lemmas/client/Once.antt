@@ -36,6 +36,7 @@ module _ {X : Type 0} (f : Figure X) (p : Times) (HasAsked : X → Type 0) (IsRe
   emits e x y asked (inr (inl (left, pays, to))) = rw to asked
   emits e x y asked (inr (inr (stays, same))) = rw same asked
 
+  -- a message that the transport refused leads from a phase after the request to a phase after the request
   fails : (ends : Bool) (e : MachineEvent) (x y : Owing X) → HasAsked x.phase → Fails ends f p e x y → HasAsked y.phase
   fails true e x y asked h = rw h.1 once.ended
   fails false e x y asked h = emits e x y asked h
@@ -64,6 +65,7 @@ module _ {X : Type 0} (f : Figure X) (p : Times) (HasAsked : X → Type 0) (IsRe
   over-emits e y (inr (inl (left, pays, to))) = absurd (nothing-to-pay _ left pays)
   over-emits e y (inr (inr (stays, same))) = absurd (once.unmoved f.ended e.kind stays)
 
+  -- the client stays in the ended phase where the transport refuses a message
   over-fails : (ends : Bool) (e : MachineEvent) (y : Owing X) → Fails ends f p e (quiet f.ended) y → y ≡ quiet f.ended
   over-fails true e y h = h.1
   over-fails false e y h = (over-emits e y h).1
@@ -170,6 +172,7 @@ module _ (R : Receiving) (is : IsReceiving R) (p : Times) where
   sent-invite (invite.Completed reliable request set) k e row asks h = sent (invite.Completed reliable request set) k e row tt h
   sent-invite invite.Ended k e row asks h = sent invite.Ended k e row tt h
 
+  -- an INVITE is no ACK
   no-ack : ¬ (Request Invite ≡ Request Ack)
   no-ack same = cc
 

@@ -28,6 +28,7 @@ one-more p next first interval [] last more m spaced low =
     (subst (λ i. open_at p first i ≤ m) spaced.1 (subst (λ l. open_at p l more ≤ m) spaced.0 low), (refl, ap next spaced.1))
 one-more p next first interval (k ∷ ms) last more m spaced low = (spaced.0, one-more p next k (next interval) ms last more m spaced.1 low)
 
+-- moments that SpacedTo holds of lie no closer than the intervals
 are-spaced : (p : Times) (next : ℕ → ℕ) (first interval : ℕ) (ms : List ℕ) (last more : ℕ) → SpacedTo p next first interval ms last more → AreSpaced p next first interval ms
 are-spaced p next first interval [] last more spaced = tt
 are-spaced p next first interval (m ∷ ms) last more spaced = (spaced.0, are-spaced p next m (next interval) ms last more spaced.1)
@@ -36,9 +37,11 @@ are-spaced p next first interval (m ∷ ms) last more spaced = (spaced.0, are-sp
 abbrev Begins : Times → (ℕ → ℕ) → List ℕ → ℕ → ℕ → Type 0
 Begins p next moments last more = (first : ℕ) × (ms : List ℕ) × (moments ≡ first ∷ ms) × SpacedTo p next first p.t1 ms last more
 
+-- moments that begin so lie no closer than the intervals
 begins-spaced : (p : Times) (next : ℕ → ℕ) (moments : List ℕ) (last more : ℕ) → Begins p next moments last more → IsSpaced p next moments
 begins-spaced p next moments last more (first, ms, is, spaced) = rw is (are-spaced p next first p.t1 ms last more spaced)
 
+-- Begins stays true with one moment more, which comes after the next interval or later
 begins-more : (p : Times) (next : ℕ → ℕ) (moments : List ℕ) (last more m : ℕ) → Begins p next moments last more → open_at p last more ≤ m → Begins p next (moments ++ m ∷ []) m (next more)
 begins-more p next moments last more m (first, ms, is, spaced) low = (first, ms ++ m ∷ [], ap (λ xs. xs ++ m ∷ []) is, one-more p next first p.t1 ms last more m spaced low)
 
@@ -46,6 +49,7 @@ begins-more p next moments last more m (first, ms, is, spaced) low = (first, ms 
 abbrev passed : (MachineEvent → Bool) → List MachineEvent → List ℕ
 passed test events = map (λ e. e.moment) (filter test events)
 
+-- the moment of the first event stands first if the event passes the test, and else is left out
 pass-cons : (test : MachineEvent → Bool) (e : MachineEvent) (es : List MachineEvent) (b : Bool) → test e ≡ b → passed test (e ∷ es) ≡ (if b then e.moment ∷ passed test es else passed test es)
 pass-cons test e es true is = rw is refl
 pass-cons test e es false is = rw is refl
@@ -80,12 +84,15 @@ not-an-invite (Response code) other = refl
 
 -- What follows is of the moments at which an INVITE client with these rows sends INVITEs.
 module _ (R : Receiving) (is : IsReceiving R) (p : Times) where
+  -- the client
   abbrev f : Figure invite.InviteClientPhase
   f = client R
 
+  -- each interval is twice the one before
   abbrev next : ℕ → ℕ
   next = λ interval. 2 * interval
 
+  -- whether the event is an INVITE that is sent
   abbrev test : MachineEvent → Bool
   test = λ e. sends_invite e.action e.kind
 
@@ -127,6 +134,7 @@ module _ (R : Receiving) (is : IsReceiving R) (p : Times) where
   invited-received ms (invite.Proceeding reliable request cancel) e row invited h = answers-invited ms reliable request e.kind e row invited (is.proceeding p reliable request cancel e.kind e row h)
   invited-received ms (invite.Completed reliable request set) e row invited h = rw (is.completed p reliable request set e.kind e row h).3 invited
 
+  -- a CANCEL is no INVITE
   no-invite : ¬ (Request Cancel ≡ Request Invite)
   no-invite same = cc
 
@@ -157,6 +165,7 @@ module _ (R : Receiving) (is : IsReceiving R) (p : Times) where
   invited-sent ms now invite.Ended e row one other invited h =
       let sends = sends-ended p e.kind e row h in rw (sends.1, other (λ is_invite. no-invite (sym sends.0 ∙ is_invite))) invited
 
+  -- an ACK is no INVITE
   ack-is-none : ¬ (Request Ack ≡ Request Invite)
   ack-is-none same = cc
 
@@ -169,6 +178,7 @@ module _ (R : Receiving) (is : IsReceiving R) (p : Times) where
       rw to (subst (λ ks. Invited ks x.phase) (sym same) invited)
   invited-emits ms now e x y one other invited (inr (inr (stays, same))) = absurd stays
 
+  -- an INVITE that the transport refuses ends the transaction in every phase
   ended-by-an-invite : (x : invite.InviteClientPhase) → ¬ (invite.ends_refused x (Request Invite) ≡ false)
   ended-by-an-invite x same = cc
 
@@ -214,9 +224,11 @@ module _ (R : Receiving) (is : IsReceiving R) (p : Times) where
 
 -- What follows is of the moments at which a non-INVITE client sends its request.
 module _ (p : Times) where
+  -- each interval is twice the one before, and at most T2
   abbrev next-plain : ℕ → ℕ
   next-plain = λ interval. min (2 * interval) p.t2
 
+  -- whether the event is a request that is sent
   abbrev test-plain : MachineEvent → Bool
   test-plain = λ e. sends_request e.action e.kind
 
@@ -243,6 +255,7 @@ module _ (p : Times) where
   asked-received ms (plain.Proceeding w) (Response code) e row asked h = rw h.1 (asked-spaced ms (plain.Proceeding w) asked)
   asked-received ms x k e row asked h = absurd h
 
+  -- where an interval has passed, a shorter one has
   fires-too : (set interval more m : ℕ) → more ≤ interval → open_at p set interval ≤ m → open_at p set more ≤ m
   fires-too set interval more m low fires = omega (arith, low, fires)
 

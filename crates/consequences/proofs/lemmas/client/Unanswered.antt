@@ -23,6 +23,7 @@ use Rattle.consequences.proofs.lemmas.client.Once.{IsInvited, invites-once, over
 use Rattle.consequences.proofs.lemmas.run.Running.{Runs, IsKept, left_at, step-of, stands-run, Cut, cut, run-keeps}
 use Rattle.consequences.proofs.lemmas.client.InviteClients.{Row, Receiving, client, IsDone, Answers, IsReceiving, pays-nothing, sends-idle, sends-calling, sends-proceeding, sends-accepted, sends-completed, sends-ended}
 
+-- an INVITE is no CANCEL
 no-cancel : ¬ (Request Invite ≡ Request Cancel)
 no-cancel is = cc
 
@@ -37,11 +38,13 @@ abbrev pub CallsFrom : MachineEvent → InviteClientPhase → Type 0
 CallsFrom invite (Calling w) = (w.start ≡ invite.moment) × (w.request ≡ invite.text) × (w.reliable ≡ invite.reliable)
 CallsFrom invite x = ⊥
 
+-- a client in completed does not call
 not-calling : {A : Type 0} (x : InviteClientPhase) (reliable : Bool) (request : List ℕ) (set : ℕ) (invite : MachineEvent) → x ≡ Completed reliable request set → CallsFrom invite x → A
 not-calling x reliable request set invite is calls = absurd (subst (CallsFrom invite) is calls)
 
 -- What follows is of an INVITE client with these rows.
 module _ (R : Receiving) (is : IsReceiving R) (p : Times) where
+  -- the client
   abbrev f : Figure InviteClientPhase
   f = client R
 
@@ -258,6 +261,7 @@ module _ (R : Receiving) (is : IsReceiving R) (p : Times) where
   began-emits e x y began (inr (inl (left, pays, to))) = rw to began
   began-emits e x y began (inr (inr (stays, same))) = absurd stays
 
+  -- a message that the transport refused keeps BeganBy
   began-fails : (ends : Bool) (e : MachineEvent) (x y : Owing InviteClientPhase) → BeganBy e.moment x.phase → Fails ends f p e x y → BeganBy e.moment y.phase
   began-fails true e x y began fails = rw fails.1 tt
   began-fails false e x y began emits = began-emits e x y began emits

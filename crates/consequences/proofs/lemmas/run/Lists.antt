@@ -22,6 +22,7 @@ any-earlier P xs ys any = let (k, x, low, at, holds) = any in let c = Contains-a
 pub any-none : {X : Type 0} (P : X → Type 0) (xs : List X) → All (λ x. ¬ (P x)) xs → ¬ (Any P xs)
 any-none P xs none any = let (k, x, low, at, holds) = any in All-contains (λ y. ¬ (P y)) xs x none (k, low, at) holds
 
+-- false is not true
 false_true : ¬ (false ≡ true)
 false_true is = cc
 

@@ -35,14 +35,17 @@ pub step-of : {X : Type 0} (f : Figure X) (p : Times) (a : Action) (e : MachineE
 step-of f p a e x y is take = subst (λ b. Steps f p b e (record { phase = x.phase; owes = left_at e x }) y) is take
 
 module _ {X : Type 0} (f : Figure X) (p : Times) where
+  -- a run that can wait on leads to the same state at the later moment
   run-waits : (x : Owing X) (h : ℕ) (es : List MachineEvent) (k m : ℕ) (y : Owing X) → Runs f p x h es k y → k ≤ m → Lasts f p y m → Runs f p x h es m y
   run-waits x h [] k m y run low lasts = rest_waits k m y run low lasts
   run-waits x h (e ∷ es) k m y (a, b, rest, take, run) low lasts = (a, b, rest, take, run-waits b e.moment es k m y run low lasts)
 
+  -- a run to a state that may end leads to the ended state
   run-ends : (x : Owing X) (h : ℕ) (es : List MachineEvent) (m : ℕ) (y : Owing X) → Runs f p x h es m y → MayEnd f p y m → Runs f p x h es m (quiet f.ended)
   run-ends x h [] m y run may = rest_ends m y run may
   run-ends x h (e ∷ es) m y (a, b, rest, take, run) may = (a, b, rest, take, run-ends b e.moment es m y run may)
 
+  -- a run to a state that takes an event leads over this event too
   run-takes : (x : Owing X) (h : ℕ) (es : List MachineEvent) (e : MachineEvent) (y z : Owing X) → Runs f p x h es e.moment y → Takes f p y e z → Runs f p x h (es ++ e ∷ []) e.moment z
   run-takes x h [] e y z run take = (y, z, run, take, rests)
   run-takes x h (g ∷ es) e y z (a, b, rest, taken, run) take = (a, b, rest, taken, run-takes b g.moment es e y z run take)

@@ -41,6 +41,7 @@ module _ {X : Type 0} (f : Figure X) (p : Times) (Wakes : Kind → Type 0) (asle
   asleep-emits e y (inr (inl (left, pays, to))) = nothing-to-pay _ left pays
   asleep-emits e y (inr (inr (stays, same))) = asleep.unmoved e.kind stays
 
+  -- the transport refuses nothing of a server that sleeps, since the server sends nothing
   asleep-fails : (ends : Bool) (e : MachineEvent) (y : Owing X) → ¬ (Fails ends f p e (quiet f.idle) y)
   asleep-fails true e y fails = asleep-emits e fails.0.0 fails.0.1
   asleep-fails false e y emits = asleep-emits e y emits
@@ -55,6 +56,7 @@ module _ {X : Type 0} (f : Figure X) (p : Times) (Wakes : Kind → Type 0) (asle
   asleep-steps Restart e y was (inl (idle, to)) = inl to
   asleep-steps Restart e y was (inr (other, to)) = absurd (other refl)
 
+  -- where there is no window, none has opened
   no-window : (window : Option (ℕ × Option ℕ)) (h : ℕ) → window ≡ None → ¬ (IsSomeAnd window (λ w. w.0 ≤ h))
   no-window window h is some = absurd (subst (λ w. IsSomeAnd w (λ v. v.0 ≤ h)) is some)
 
@@ -99,6 +101,7 @@ IsInvite k = k ≡ Request Invite
 abbrev pub IsAnyRequest : Kind → Type 0
 IsAnyRequest k = (method : Method) × (k ≡ Request method)
 
+-- what the INVITE server by RFC 6026 takes in idle is an INVITE
 corrected-woken : (p : Times) (k : Kind) (e : MachineEvent) (y : corrected.InviteServerPhase × Change) → corrected.Receives p corrected.Idle k e y → IsInvite k
 corrected-woken p (Request Invite) e y h = refl
 corrected-woken p k e y h = absurd h
@@ -107,6 +110,7 @@ corrected-woken p k e y h = absurd h
 pub corrected-asleep : (p : Times) → IsAsleep corrected.invite_server p IsInvite
 corrected-asleep p = record { ended_is = refl; no_end = refl; silent = λ k e y h. h; woken = corrected-woken p; unmoved = λ k h. h }
 
+-- in idle, the INVITE server by RFC 3261 alone sends nothing that leaves it as it is
 without-stays : (k : Kind) → ¬ (without.Stays (without.In corrected.Idle false) k)
 without-stays (Response code) h = cc
 without-stays (Request method) h = absurd h
@@ -116,6 +120,7 @@ pub without-asleep : (p : Times) → IsAsleep without.invite_server_3261 p IsInv
 without-asleep p =
     record { ended_is = refl; no_end = refl; silent = λ k e y h. h; woken = λ k e y h. corrected-woken p k e h.0 h.1; unmoved = without-stays }
 
+-- what the non-INVITE server takes in idle is a request
 plain-woken : (p : Times) (k : Kind) (e : MachineEvent) (y : plain.PlainServerPhase × Change) → plain.Receives p plain.Idle k e y → IsAnyRequest k
 plain-woken p (Request method) e y h = (method, refl)
 plain-woken p k e y h = absurd h

@@ -42,6 +42,7 @@ module _ {X : Type 0} (f : Figure X) (p : Times) (held : InviteServerPhase → X
 
   -- What follows is of the time before the final response: what is owed was sent as a provisional response.
 
+  -- each debt was sent before as a provisional response, and its deadline is at most as late as an element may be after m
   abbrev AreSaid : List MachineEvent → ℕ → List Owed → Type 0
   AreSaid es m owes = All (λ o. (o.deadline ≤ close_at p m 0) × IsSaid es o.message) owes
 

@@ -30,6 +30,7 @@ pub record IsServer {X : Type 0} (f : Figure X) (p : Times) (held : InviteServer
   pub window : (x : InviteServerPhase) → f.window p (held x) ≡ corrected.timer_window p x
   pub sends_by : (x : InviteServerPhase) → f.sends_by p (held x) ≡ corrected.sends_by p x
 
+-- by RFC 6026 a response pays for the message that has its bytes
 paid-6026 : (x : InviteServerPhase) (k : Kind) (e : MachineEvent) (message : List ℕ) → corrected.Satisfies x k e message → message ≡ e.text
 paid-6026 x (Response code) e message h = h
 paid-6026 x (Request method) e message h = absurd h
@@ -62,6 +63,7 @@ sent-3261 p (Proceeding reliable set last) (Response code) e y (inr h) = inl h.1
 sent-3261 p (Completed reliable final set repeat interval) (Response code) e y h = inl h.1
 sent-3261 p x k e y h = absurd h
 
+-- by RFC 3261 alone a response pays for the message that has its bytes
 paid-3261 : (x : InviteServerPhase) (k : Kind) (e : MachineEvent) (message : List ℕ) → without.Satisfies (first_in x) k e message → message ≡ e.text
 paid-3261 x (Response code) e message h = h.1
 paid-3261 x (Request method) e message h = absurd h

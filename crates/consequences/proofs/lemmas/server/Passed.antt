@@ -22,6 +22,7 @@ use Rattle.consequences.proofs.lemmas.run.Running.{IsKept, left_at, step-of, sta
 use Rattle.consequences.proofs.lemmas.server.FinalResponse.{HoldsIn, Opens, BeforeFinal, before-final-kept, opens-left, final-paid}
 use Rattle.consequences.proofs.lemmas.server.Said.{codes-are-one}
 
+-- the INVITE server by RFC 3261 alone
 abbrev f : Figure InviteServer3261Phase
 f = invite_server_3261
 
@@ -37,10 +38,12 @@ module _ (p : Times) where
   passed-emits e y (inr (inl (left, pays, to))) = absurd (nothing-to-pay _ left pays)
   passed-emits e y (inr (inr (stays, same))) = absurd stays
 
+  -- after a 2xx the server stays where it is when the transport refuses a message
   passed-fails : (ends : Bool) (e : MachineEvent) (y : Owing InviteServer3261Phase) → f.ends_refused Passed e.kind ≡ ends → Fails ends f p e (quiet Passed) y → y ≡ quiet Passed
   passed-fails true e y ends fails = cc
   passed-fails false e y ends emits = (passed-emits e y emits).1
 
+  -- what the server takes after a 2xx is an INVITE
   passed-received : (k : Kind) (e : MachineEvent) (row : InviteServer3261Phase × Change) → Receives p Passed k e row → k ≡ Request Invite
   passed-received (Request Invite) e row h = refl
   passed-received k e row h = absurd h
@@ -59,6 +62,7 @@ module _ (p : Times) where
   passed-steps Restart e y was never (inl (idle, to)) = inr to
   passed-steps Restart e y was never (inr (other, to)) = inr to
 
+  -- where no INVITE came, the server is after its 2xx, or idle after a restart
   abbrev Stays-so : List MachineEvent → ℕ → Owing InviteServer3261Phase → Type 0
   Stays-so es m y = All (λ g. ¬ (GetsRequest Invite g)) es → Sits y
 

@@ -25,12 +25,15 @@ use Rattle.consequences.proofs.lemmas.server.Said.{IsOut, IsSaid, all-first, sai
 use Rattle.consequences.proofs.lemmas.run.MustSend.{still-owed, other-paid, more-owed, no-end, in-time}
 use Rattle.consequences.proofs.lemmas.run.Running.{IsKept, left_at, step-of, stands-run, Cut, cut, run-keeps}
 
+-- where a row leads: a phase, and what becomes of the debts
 abbrev Row : Type 0
 Row = PlainServerPhase × Change
 
+-- the non-INVITE server
 abbrev f : Figure PlainServerPhase
 f = plain_server
 
+-- true is not false
 true-false : ¬ (true ≡ false)
 true-false same = cc
 
@@ -38,9 +41,11 @@ true-false same = cc
 module _ (p : Times) where
   -- What follows is of the time before the final response.
 
+  -- each debt was sent before as a provisional response
   abbrev AreSaid : List MachineEvent → List Owed → Type 0
   AreSaid es owes = All (λ o. IsSaid es o.message) owes
 
+  -- AreSaid stays true after more events
   are-said-later : (es more : List MachineEvent) (owes : List Owed) → AreSaid es owes → AreSaid (es ++ more) owes
   are-said-later es more owes all = All-weaker (λ o. IsSaid es o.message) (λ o. IsSaid (es ++ more) o.message) (λ o said. said-later es more o.message said) owes all
 
@@ -65,6 +70,7 @@ module _ (p : Times) where
   opens-fewer es (Proceeding reliable last) owes left none said opens = (opens.0, opens.1, said opens.2)
   opens-fewer es x owes left none said opens = absurd opens
 
+  -- Opens stays true when the debts that are past are left out
   opens-left : (es : List MachineEvent) (e : MachineEvent) (x : Owing PlainServerPhase) → Opens es x.phase x.owes → Opens es x.phase (left_at e x)
   opens-left es e x opens = opens-fewer es x.phase x.owes (left_at e x) (λ none. rw none refl) (λ said. All-filter _ (λ o. IsSaid es o.message) x.owes said) opens
 
@@ -126,9 +132,11 @@ module _ (p : Times) where
     opens-steps Restart x owes y was unreliable never opens (inl (idle, to)) = rw to refl
     opens-steps Restart x owes y was unreliable never opens (inr (other, to)) = rw to refl
 
+  -- the event is over an unreliable transport, and is no final response that is sent
   abbrev IsBefore : MachineEvent → Type 0
   IsBefore g = (g.reliable ≡ false) × ¬ (SendsResponse IsFinal g)
 
+  -- where no final response was sent, over an unreliable transport, Opens holds
   abbrev BeforeFinal : List MachineEvent → ℕ → Owing PlainServerPhase → Type 0
   BeforeFinal es m y = All IsBefore es → Opens es y.phase y.owes
 

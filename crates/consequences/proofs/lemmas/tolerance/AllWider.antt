@@ -20,6 +20,7 @@ use Rattle.consequences.proofs.lemmas.tolerance.Wider.{wider-keeps}
 
 -- What follows is of a tolerance that is at least as early and as late.
 module _ (p : Times) (early late : ℕ) where
+  -- the times with the wider tolerance
   abbrev q : Times
   q = tolerant early late p
 

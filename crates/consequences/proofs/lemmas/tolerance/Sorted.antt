@@ -51,6 +51,7 @@ pub record AreFirm {X : Type 0} (f : Figure X) (p : Times) : Type 0 where
   pub sent : (x : X) (k : Kind) (e : MachineEvent) (row : X × Change) → f.Sends p x k e row → IsFirm row.1
 
 module _ {X : Type 0} (f : Figure X) (p : Times) (firm : AreFirm f p) where
+  -- each debt must be sent
   abbrev AllMust : List Owed → Type 0
   AllMust owes = All (λ o. o.must ≡ true) owes
 
@@ -68,6 +69,7 @@ module _ {X : Type 0} (f : Figure X) (p : Times) (firm : AreFirm f p) where
   must-emits e x y all (inr (inl (left, pays, to))) = rw to (All-without {X = Owed} _ (λ o. o.must ≡ true) x.owes left pays all)
   must-emits e x y all (inr (inr (stays, same))) = rw same all
 
+  -- a message that the transport refused keeps that all debts must be sent
   must-fails : (ends : Bool) (e : MachineEvent) (x y : Owing X) → AllMust x.owes → Fails ends f p e x y → AllMust y.owes
   must-fails true e x y all fails = rw fails.1 (All-nil (λ o. o.must ≡ true))
   must-fails false e x y all emits = must-emits e x y all emits
@@ -167,6 +169,7 @@ plain-client-sorted p = firm-sorted plain.plain_client p (record { received = pl
 
 -- What follows is of INVITE servers: in proceeding a 100 only may be sent and any other response must be, and later all that is owed only may be.
 
+-- the debt is sorted in proceeding: it only may be sent exactly if it is a 100
 abbrev IsTold : Owed → Type 0
 IsTold o = (o.must ≡ true → ¬ (Is100 o.message)) × (o.must ≡ false → Is100 o.message)
 
@@ -181,9 +184,11 @@ AreSorted server.Idle owes = owes ≡ []
 AreSorted (server.Proceeding reliable set last) owes = All IsTold owes
 AreSorted x owes = All (λ o. o.must ≡ false) owes
 
+-- false is not true
 no-must : ¬ (false ≡ true)
 no-must same = cc
 
+-- true is not false
 yes-must : ¬ (true ≡ false)
 yes-must same = cc
 
@@ -266,10 +271,12 @@ module _ (p : Times) where
     as_it_takes = λ es e x y sorted take. steps e.action e (record { phase = x.phase; owes = left_at e x }) y (sorted-left x.phase e x.owes _ sorted) take;
   }
 
+  -- a message is paid by a send, or it is not
   pays : (x : server.InviteServerPhase) (k : Kind) (e : MachineEvent) (message : List ℕ) → Dec (server.Satisfies x k e message)
   pays x (Request method) e message = no (λ h. h)
   pays x (Response code) e message = same-bytes message e.text
 
+  -- two messages for which one send pays are the same
   both-pay : (x : server.InviteServerPhase) (k : Kind) (e : MachineEvent) (a b : List ℕ) → server.Satisfies x k e a → server.Satisfies x k e b → b ≡ a
   both-pay x (Request method) e a b one other = absurd one
   both-pay x (Response code) e a b one other = other ∙ sym one
@@ -285,6 +292,7 @@ module _ (p : Times) where
 
   -- What follows is of the INVITE server by RFC 3261 alone.
 
+  -- the debts are sorted in this phase of the server by RFC 3261 alone
   abbrev AreSorted3261 : server_3261.InviteServer3261Phase → List Owed → Type 0
   AreSorted3261 server_3261.Passed owes = owes ≡ []
   AreSorted3261 (server_3261.In x again) owes = AreSorted x owes
@@ -312,6 +320,7 @@ module _ (p : Times) where
       rw to (sorted-sent (server.Completed reliable final set repeat interval) (Response code) e after owes sorted is_row)
   sent-3261 x k e row owes sorted h = absurd h
 
+  -- a debt that is paid leaves the debts sorted
   without-3261 : (P : Owed → Type 0) (x : server_3261.InviteServer3261Phase) (owes left : List Owed) → IsWithoutFirst P owes left → AreSorted3261 x owes → AreSorted3261 x left
   without-3261 P server_3261.Passed owes left pays sorted = absurd (nothing-to-pay P left (subst (λ os. IsWithoutFirst P os left) sorted pays))
   without-3261 P (server_3261.In x again) owes left pays sorted = sorted-without P x owes left pays sorted
@@ -332,6 +341,7 @@ module _ (p : Times) where
   steps-3261 Restart e x y sorted (inl (idle, to)) = rw to refl
   steps-3261 Restart e x y sorted (inr (other, to)) = rw to refl
 
+  -- debts that are left out leave the others sorted
   left-3261 : (x : server_3261.InviteServer3261Phase) (e : MachineEvent) (owes : List Owed) (test : Owed → Bool) → AreSorted3261 x owes → AreSorted3261 x (filter test owes)
   left-3261 server_3261.Passed e owes test sorted = rw sorted refl
   left-3261 (server_3261.In x again) e owes test sorted = sorted-left x e owes test sorted
@@ -344,6 +354,7 @@ module _ (p : Times) where
     as_it_takes = λ es e x y sorted take. steps-3261 e.action e (record { phase = x.phase; owes = left_at e x }) y (left-3261 x.phase e x.owes _ sorted) take;
   }
 
+  -- of sorted debts exactly those only may be sent of which MayIn3261 says so
   told-3261 : (x : server_3261.InviteServer3261Phase) (owes : List Owed) → AreSorted3261 x owes → All (λ o. (o.must ≡ true → ¬ (MayIn3261 x o.message)) × (o.must ≡ false → MayIn3261 x o.message)) owes
   told-3261 server_3261.Passed owes sorted = rw sorted (All-nil (λ o. (o.must ≡ true → ¬ (Unit {0})) × (o.must ≡ false → Unit {0})))
   told-3261 (server_3261.In x again) owes sorted = told x owes sorted
@@ -367,6 +378,7 @@ module _ (p : Times) where
       by (no other) (yes same) = yes (other, same)
       by (no other) (no never) = no (λ h. never h.1)
 
+  -- two messages for which one send of the server by RFC 3261 alone pays are the same
   both-pay-3261 : (x : server_3261.InviteServer3261Phase) (k : Kind) (e : MachineEvent) (a b : List ℕ) → server_3261.Satisfies x k e a → server_3261.Satisfies x k e b → b ≡ a
   both-pay-3261 x (Request method) e a b one other = absurd one
   both-pay-3261 x (Response code) e a b one other = other.1 ∙ sym one.1

@@ -27,9 +27,11 @@ use Rattle.consequences.proofs.lemmas.tolerance.Wider.{IsSorted}
 abbrev IsFinalSaid : List MachineEvent → List ℕ → Type 0
 IsFinalSaid es final = Any (λ g. IsResponse IsFinal g × (g.text ≡ final)) es
 
+-- the debt is sorted in proceeding: it was sent before as a provisional response, and only may be sent exactly if it is a 100
 abbrev IsTold : List MachineEvent → Owed → Type 0
 IsTold es o = (o.must ≡ true → ¬ (Is100 o.message)) × (o.must ≡ false → Is100 o.message) × IsSaid es o.message
 
+-- the debt is sorted in completed: it must be sent and is the final response, or it was sent before as a provisional one
 abbrev IsFinalOr : List MachineEvent → List ℕ → Owed → Type 0
 IsFinalOr es final o = (o.must ≡ true → o.message ≡ final) × (o.must ≡ false → IsSaid es o.message)
 
@@ -46,9 +48,11 @@ May es (Proceeding reliable last) message = Is100 message
 May es (Completed reliable final set) message = IsSaid es message
 May es x message = Unit {0}
 
+-- false is not true
 no-must : ¬ (false ≡ true)
 no-must same = cc
 
+-- true is not false
 yes-must : ¬ (true ≡ false)
 yes-must same = cc
 

@@ -20,15 +20,19 @@ use Rattle.consequences.proofs.lemmas.tolerance.Wider.{IsSteady}
 
 -- What follows is of the times p, and of q, the same with a wider tolerance.
 module _ (p : Times) (early late : ℕ) (earlier : p.early ≤ early) (later : p.late ≤ late) where
+  -- the times with the wider tolerance
   abbrev q : Times
   q = tolerant early late p
 
+  -- what is sent again in time by the times p is so by the wider times q
   retransmits : (reliable : Bool) (message : List ℕ) (set interval : ℕ) (e : MachineEvent) → Retransmits p reliable message set interval e → Retransmits q reliable message set interval e
   retransmits reliable message set interval e h = let fires = h.fires in record { same = h.same; unreliable = h.unreliable; fires = omega (arith, fires, earlier) }
 
+  -- a window that has opened by the times p has opened by the wider times q
   opens-earlier : (set duration h : ℕ) → open_at p set duration ≤ h → open_at q set duration ≤ h
   opens-earlier set duration h opening = omega (arith, opening, earlier)
 
+  -- a window that has not closed by the times p has not closed by the wider times q
   closes-later : (set duration h : ℕ) → h ≤ close_at p set duration → h ≤ close_at q set duration
   closes-later set duration h closing = omega (arith, closing, later)
 
@@ -200,14 +204,17 @@ module _ (p : Times) (early late : ℕ) (earlier : p.early ≤ early) (later : p
       (h.0, (h.1.0, server-sent (server.Completed reliable final set repeat interval) (Response code) e h.1.0 h.1.1, h.1.2))
   server-3261-sent x k e row h = absurd h
 
+  -- of the server by RFC 3261 alone, a window that has opened by the times p has opened by the wider times q
   server-3261-opens : (x : server_3261.InviteServer3261Phase) (h : ℕ) → IsSomeAnd (server_3261.timer_window p x) (λ w. w.0 ≤ h) → IsSomeAnd (server_3261.timer_window q x) (λ w. w.0 ≤ h)
   server-3261-opens server_3261.Passed h opening = absurd opening
   server-3261-opens (server_3261.In x again) h opening = server-opens x h opening
 
+  -- of the server by RFC 3261 alone, a window that has not closed by the times p has not closed by the wider times q
   server-3261-closes : (x : server_3261.InviteServer3261Phase) (h : ℕ) → IfSome (server_3261.timer_window p x) (λ w. IfSome w.1 (λ close. h ≤ close)) → IfSome (server_3261.timer_window q x) (λ w. IfSome w.1 (λ close. h ≤ close))
   server-3261-closes server_3261.Passed h closing = tt
   server-3261-closes (server_3261.In x again) h closing = server-closes x h closing
 
+  -- the server by RFC 3261 alone need not send earlier by the wider times q
   server-3261-sends-by : (x : server_3261.InviteServer3261Phase) (h : ℕ) → All (λ last. h ≤ last) (server_3261.sends_by p x) → All (λ last. h ≤ last) (server_3261.sends_by q x)
   server-3261-sends-by server_3261.Passed h all = all
   server-3261-sends-by (server_3261.In x again) h all = server-sends-by x h all
@@ -225,6 +232,7 @@ module _ (p : Times) (early late : ℕ) (earlier : p.early ≤ early) (later : p
 
   -- What follows is of the server of any other method.
 
+  -- of the non-INVITE server, a window that has opened by the times p has opened by the wider times q
   plain-server-opens : (x : plain_server.PlainServerPhase) (h : ℕ) → IsSomeAnd (plain_server.timer_window p x) (λ w. w.0 ≤ h) → IsSomeAnd (plain_server.timer_window q x) (λ w. w.0 ≤ h)
   plain-server-opens (plain_server.Completed reliable final set) h opening = opens-earlier set (if reliable then 0 else 64 * p.t1) h opening
   plain-server-opens x h opening = absurd opening

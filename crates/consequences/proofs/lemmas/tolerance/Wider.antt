@@ -42,6 +42,7 @@ later-softened _ _ (extra n os ns may rest) = extra (record { message = n.messag
 abbrev keep_at : ℕ → Owed → Bool
 keep_at t = λ o. o.must || nat_le t o.deadline
 
+-- what is at most one number is at most a larger one
 nat-le-weaker : (t a b : ℕ) → a ≤ b → nat_le t a ≡ true → nat_le t b ≡ true
 nat-le-weaker t a b low is = let before = leb-true t a is in le-leb t b (omega (arith, low, before))
 
@@ -131,6 +132,7 @@ from-without P _ _ (passes o os left never rest) =
 
 -- What follows is of the messages that a send satisfies, and its moment.
 module _ (S : List ℕ → Type 0) (t : ℕ) where
+  -- the send pays for the debt: it satisfies the message, and the deadline is not past
   abbrev Pays : Owed → Type 0
   Pays = λ o. S o.message × (t ≤ o.deadline)
 
@@ -185,6 +187,7 @@ pub record IsSorted {X : Type 0} (f : Figure X) (q : Times) (May : List MachineE
   pub decides : (es : List MachineEvent) (x : X) (k : Kind) (e : MachineEvent) (message : List ℕ) → May es x message → Dec (f.Satisfies x k e message)
   pub alike : (es : List MachineEvent) (x : X) (k : Kind) (e : MachineEvent) (a b : List ℕ) → f.Satisfies x k e a → f.Satisfies x k e b → May es x b → May es x a
 
+-- what follows of an element from two facts holds of all elements of which both hold
 all-both : {A : Type 0} (P Q R : A → Type 0) (xs : List A) → ((x : A) → P x → Q x → R x) → All P xs → All Q xs → All R xs
 all-both P Q R xs by ps qs k d low = by _ (ps k d low) (qs k d low)
 
@@ -199,6 +202,7 @@ fresh-at e x due =
     by o false is is_due kept = leb-true e.moment o.deadline (subst (λ a. (a || nat_le e.moment o.deadline) ≡ true) is kept)
 
 module _ {X : Type 0} (f : Figure X) (p : Times) (early late : ℕ) (wider : p.late ≤ late) (steady : IsSteady f p (tolerant early late p)) where
+  -- the times with the wider tolerance
   abbrev q : Times
   q = tolerant early late p
 
@@ -215,6 +219,7 @@ module _ {X : Type 0} (f : Figure X) (p : Times) (early late : ℕ) (wider : p.l
   abbrev IsNear : Owing X → Owing X → Type 0
   IsNear x y = (y.phase ≡ x.phase) × Later x.owes y.owes
 
+  -- a state that is near to another one is near to what equals it
   near : (x y z : Owing X) → z ≡ x → IsNear x y → IsNear z y
   near x y z same is_near = subst (λ w. IsNear w y) (sym same) is_near
 
@@ -222,6 +227,7 @@ module _ {X : Type 0} (f : Figure X) (p : Times) (early late : ℕ) (wider : p.l
   near-lasts : (m : ℕ) (phase : X) (os ns : List Owed) → Later os ns → Lasts f p (record { phase = phase; owes = os }) m → Lasts f q (record { phase = phase; owes = ns }) m
   near-lasts m phase os ns later lasts = (steady.closes phase m lasts.0, steady.sends_by phase m lasts.1, later-due m os ns later lasts.2)
 
+  -- the second state may end where the first may
   near-ends : (h : ℕ) (phase : X) (os ns : List Owed) → Later os ns → MayEnd f p (record { phase = phase; owes = os }) h → MayEnd f q (record { phase = phase; owes = ns }) h
   near-ends h phase os ns later may = (steady.opens phase h may.0, later-must os ns later ∙ may.1)
 
@@ -267,6 +273,7 @@ module _ {X : Type 0} (f : Figure X) (p : Times) (early late : ℕ) (wider : p.l
     steps-near Restart z (inl (idle, to)) = (quiet f.idle, inl (idle, refl), near (quiet f.idle) (quiet f.idle) z to (refl, nothing))
     steps-near Restart z (inr (other, to)) = (quiet f.ended, inr (other, refl), near (quiet f.ended) (quiet f.ended) z to (refl, nothing))
 
+  -- where events with equal bytes are of one kind, so are those of the first of the events
   one-kind-front : (es more : List MachineEvent) → AreOneKind (es ++ more) → AreOneKind es
   one-kind-front es more one a b in-a in-b same = one a b (Contains-append_left es more a in-a) (Contains-append_left es more b in-b) same
 

@@ -35,6 +35,7 @@ split_of {A} (y ∷ xs) ys (z ∷ front) x rest is = by (split_of xs ys front x 
     by (inr (zs, e, f)) = inr (zs, cc, f)
 
 module _ (p : Times) (key : KeyParts) (old : List (Observation KeyParts)) (again : IsIdleAgain (machine_of_key p.rules key) p (events_for key old) (newest_moment old)) where
+  -- the old entries and these later ones are in order of their moments
   abbrev order_of : List (Observation KeyParts) → Type 0
   order_of more = AllPairs (λ a b. a.event.moment ≤ b.event.moment) (old ++ more)
 

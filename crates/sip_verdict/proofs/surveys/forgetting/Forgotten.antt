@@ -104,6 +104,7 @@ pub All-kept : {A : Type 0} (P : A → Type 0) (flags : List Bool) (xs : List A)
 All-kept P flags xs all = All-places P (kept_of flags xs) (λ n x at. All-place P xs (place_of flags n) x (kept_at flags xs n x at).0 all)
 
 module _ (kept : KeyParts → Bool) (key : KeyParts) (is : kept key ≡ true) where
+  -- an entry without the keys that are not kept is of a kept key exactly if the entry is
   same_of : (e : Observation KeyParts) → is_of key (record { fault = e.fault; event = e.event; keys = filter kept e.keys }) ≡ is_of key e
   same_of e = among_chosen kept key is e.keys
 
@@ -114,6 +115,7 @@ module _ (kept : KeyParts → Bool) (key : KeyParts) (is : kept key ≡ true) wh
       All-cons (λ o. is_of key o ≡ false) (record { fault = e.fault; event = e.event; keys = filter kept e.keys }) (remembered kept es)
       (same_of e ∙ All-head (λ o. is_of key o ≡ false) e es all) (none_of es (All-tail (λ o. is_of key o ≡ false) e es all))
 
+  -- an entry as it is remembered: with the kept keys alone
   abbrev one : Observation KeyParts → Observation KeyParts
   one e = record { fault = e.fault; event = e.event; keys = filter kept e.keys }
 
@@ -122,10 +124,12 @@ module _ (kept : KeyParts → Bool) (key : KeyParts) (is : kept key ≡ true) wh
   first_kept es n branch (before, e, after, whole, at, none, counts, says) =
       (remembered kept before, one e, remembered kept after, ap (remembered kept) whole ∙ map-append one before (e ∷ after), same_of e ∙ at, none_of before none, counts ∙ ap (λ k. k + 1) (sym (length-map before one)), says)
 
+  -- where an entry is the last of the key, it is the last of the key as the entries are remembered
   last_kept : (es : List (Observation KeyParts)) (n : ℕ) → IsLastOf es key n → IsLastOf (remembered kept es) key n
   last_kept es n (before, e, after, whole, at, none, counts) =
       (remembered kept before, one e, remembered kept after, ap (remembered kept) whole ∙ map-append one before (e ∷ after), same_of e ∙ at, none_of after none, counts ∙ ap (λ k. k + 1) (sym (length-map before one)))
 
+  -- a history of the key is its history as the entries are remembered
   history_kept : (es : List (Observation KeyParts)) (restart : ℕ) (h : History) → IsHistoryOf es restart key h → IsHistoryOf (remembered kept es) restart key h
   history_kept es restart h told = record { first = first_kept es h.first h.branch.items told.first; last = last_kept es (max h.last restart) told.last }
 
@@ -186,17 +190,21 @@ take_waited old new t u number moment book keys passes recorded may = record {
   few = (let few = may.few in let same = ap length keys in omega (arith, few, same));
 }
 
+-- tables with the same keys and records are watched as those before were
 pub watched_waited : (t u : Tabled) (b : Troubled) → u.keys ≡ t.keys → u.records ≡ t.records → AllAreOnRecord u → AreWatched [] t b → AreWatched [] u b
 watched_waited t u b keys records recorded h =
     record { long = h.long ∙ sym (ap length keys); recorded = recorded; silent = λ n is. ap (λ rs. slice_get rs n) records ∙ h.silent n is }
 
 module _ (flags : List Bool) (t : Tabled) (long : length flags ≡ length t.keys) (apart : AllPairs (λ a b. a ≢ b) t.keys) where
+  -- whether a key is kept by the flags, which are those of the tables' keys
   abbrev pub kept : KeyParts → Bool
   kept = kept_by flags t.keys
 
+  -- the keys that are kept are those whose flag is true
   keys_kept : filter (kept_by flags t.keys) t.keys ≡ kept_of flags t.keys
   keys_kept = filter_flags (kept_by flags t.keys) flags t.keys long (λ n key b at flag. kept_by_at flags t.keys apart n key b at flag)
 
+  -- each key that is left after forgetting is kept
   is_kept : (n : ℕ) (key : KeyParts) → slice_get (kept_of flags t.keys) n ≡ Some key → kept_by flags t.keys key ≡ true
   is_kept n key at = let (there, flag) = kept_at flags t.keys n key at in kept_by_at flags t.keys apart (place_of flags n) key true there flag
 

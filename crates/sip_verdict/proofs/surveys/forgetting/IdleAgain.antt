@@ -14,9 +14,11 @@ use Rattle.sip_verdict.proofs.verdicts.LegalRuns.{empty_or_last}
 use Rattle.sip_verdict.proofs.verdicts.Unique.{All-middle}
 use Rattle.sip_verdict.proofs.surveys.forgetting.Lasting.{idle_lasts, idle_stays, lasts_earlier}
 
+-- the event is not after the moment m
 abbrev IsTo : ℕ → MachineEvent → Type 0
 IsTo m e = e.moment ≤ m
 
+-- the event is not before the moment m
 abbrev IsFrom : ℕ → MachineEvent → Type 0
 IsFrom m e = m ≤ e.moment
 

@@ -38,6 +38,7 @@ use Rattle.sip_verdict.proofs.verdicts.MessageUnique.{observes_one}
 use Rattle.sip_verdict.proofs.surveys.found.OneSurvey.{says_same}
 use Rattle.sip_verdict.proofs.surveys.parts.Taking.{mark_of}
 
+-- entries as they are observed
 abbrev Entries : Type 0
 Entries = List (Observation KeyParts)
 
@@ -72,6 +73,7 @@ number_here p es e (Undecided entry transaction) is = is.0 ∙ sym (length-appen
 
 -- An entry brings at most two transactions.
 
+-- no more keys are known after more keys than there were before and are added
 few_more : (keys more : List KeyParts) → length (fold with_key keys more) ≤ length keys + length more
 few_more keys [] = omega arith
 few_more keys (key ∷ more) =
@@ -83,6 +85,7 @@ few_more keys (key ∷ more) =
     one_more true = omega arith
     one_more false = let long = length-append keys (key ∷ []) in omega arith
 
+-- a message concerns at most two keys
 two_keys : (s : Said) (direction : Direction) (keys : List KeyParts) → Concerns s direction keys → length keys ≤ 2
 two_keys s direction keys is =
     let own = at_most_one (own_key s direction) in
@@ -94,6 +97,7 @@ two_keys s direction keys is =
     at_most_one None = omega arith
     at_most_one (Some key) = omega arith
 
+-- an entry brings at most two keys
 two_more : (es : Entries) (item : Item) (e : Observation KeyParts) → Sees es item e → length (keys_in (es ++ e ∷ [])) ≤ length (keys_in es) + 2
 two_more es item e sees = by (direction_of item.action) refl sees
   where
@@ -189,6 +193,7 @@ survey_stops p es (item ∷ items) close found end (e, here, later, sees, both, 
     let sum : length (es ++ e ∷ []) + length items + 1 ≡ length es + suc (length items) + 1 = omega arith in
     survey_stops p (es ++ e ∷ []) items close later end left same ∙ ap (λ n. LogFault n Limit) sum
 
+-- a survey that does not end at the limit of entries is of a log that does not stop there
 not_cut_off : (p : Times) (items taken : List Item) (close : LogEnd) (found : List Finding) (end : SurveyEnd) → length taken ≡ length items → IsSurveyAfter p [] taken close found end → end ≢ LogFault (most_entries + 1) Limit
     → close ≡ Stops Limit → length items ≢ most_entries
 not_cut_off p items taken close found end long is other cut many =
@@ -200,6 +205,7 @@ whole_taken : (items : List Item) → AreTaken None items items
 whole_taken [] = tt
 whole_taken (item ∷ items) = (refl, whole_taken items)
 
+-- the log of a part is taken of the whole, item by item
 part_taken : (part : PartOf) (items cuts : List Item) → IsPartLog part items cuts → AreTaken (Some part) items cuts × (length cuts ≡ length items)
 part_taken part [] [] is = (tt, refl)
 part_taken part [] (x ∷ cuts) is = absurd is

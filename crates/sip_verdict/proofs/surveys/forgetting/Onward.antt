@@ -39,6 +39,7 @@ use Rattle.sip_verdict.proofs.surveys.found.Once.{ordered_front}
 use Rattle.sip_verdict.proofs.surveys.forgetting.Remembered.{idle_forgotten, order_kept, restart_stands, sound_forgotten, stands_idle, zip_left, zip_remembered}
 use Rattle.sip_verdict.proofs.surveys.found.Sound.{sound_push}
 
+-- entries as they are observed
 abbrev pub Entries : Type 0
 Entries = List (Observation KeyParts)
 
@@ -54,6 +55,7 @@ seen_moments done [] (e ∷ es) seen = absurd seen
 seen_moments done (item ∷ items) [] seen = absurd seen
 seen_moments done (item ∷ items) (e ∷ es) (sees, seen) = ap₂ (λ m ms. m ∷ ms) (seen_moment done item e item.action sees) (seen_moments (done ++ e ∷ []) items es seen)
 
+-- entries as they are remembered have the moments of the entries
 remembered_moments : (kept : KeyParts → Bool) (es : Entries) → map (λ e. e.event.moment) (remembered kept es) ≡ map (λ e. e.event.moment) es
 remembered_moments kept [] = refl
 remembered_moments kept (e ∷ es) = ap (λ ms. e.event.moment ∷ ms) (remembered_moments kept es)
@@ -75,6 +77,7 @@ module _ (key : KeyParts) where
   abbrev own : List KeyParts → List KeyParts
   own keys = filter (same_key key) keys
 
+  -- a key that the test finds equal to the one key is that key
   same_back : (k : KeyParts) → same_key key k ≡ true → k ≡ key
   same_back k e = sym ((same_key-decides key k).0 e)
 
@@ -103,6 +106,7 @@ module _ (key : KeyParts) where
       go true e any rest =
           ap (λ b. fold with_key [] (cond b (k ∷ own keys) (own keys))) e ∙ ap (λ z. fold with_key (z ∷ []) (own keys)) (same_back k e) ∙ stays_one keys
 
+  -- a disjunction is true where its second test is
   or_last : (a b : Bool) → b ≡ true → (a || b) ≡ true
   or_last true b e = refl
   or_last false b e = e
@@ -119,6 +123,7 @@ module _ (key : KeyParts) where
   abbrev cut_of : Observation KeyParts → Observation KeyParts
   cut_of e = record { fault = e.fault; event = e.event; keys = own e.keys }
 
+  -- the entry with no other key is a cut of the entry
   cut_self : (e : Observation KeyParts) → IsCutOf (same_key key) e (cut_of e)
   cut_self e = (refl, refl, λ some. refl)
 

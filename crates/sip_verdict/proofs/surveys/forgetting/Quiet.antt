@@ -20,9 +20,11 @@ use Rattle.sip_verdict.specs.SurveyLaws.{IsIdleAgain}
 use Rattle.sip_verdict.specs.inner.TablesTracking.{LeadsOf}
 
 module _ (texts : Texts) (p : Times) (machine : MachineKind) (events : List MachineEvent) (n : ℕ) (set : AnySet) (leads : LeadsOf texts p machine events n set) (low : moment_of set ≤ n) where
+  -- the states of the set that lead to the runs
   abbrev held : Held Times (StateOf machine)
   held = leads.0
 
+  -- the moment of the states is not after the moment n
   not_later : held.moment ≤ n
   not_later = subst (λ m. m ≤ n) (ap moment_of leads.1 ∙ moment_is machine held) low
 

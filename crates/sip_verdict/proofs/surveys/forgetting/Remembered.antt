@@ -31,6 +31,7 @@ use Rattle.sip_verdict.proofs.surveys.found.Sound.{idle_runs}
 abbrev pub IsFoundAlike : Times → KeyParts → List (Observation KeyParts) → List (Observation KeyParts) → Observation KeyParts → Type 0
 IsFoundAlike p key front back e = (Breaks p front e key ↔ Breaks p back e key) × (Widens p front e key ↔ Widens p back e key)
 
+-- what is found alike after a first list and a second, and after a third and the second, is found alike after the first and the third
 pub alike_through : (p : Times) (key : KeyParts) (front mid back : List (Observation KeyParts)) (e : Observation KeyParts) → IsFoundAlike p key front mid e → IsFoundAlike p key back mid e → IsFoundAlike p key front back e
 alike_through p key front mid back e a b =
     ((λ h. b.0.1 (a.0.0 h), λ h. a.0.1 (b.0.0 h)), (λ h. b.1.1 (a.1.0 h), λ h. a.1.1 (b.1.0 h)))
@@ -70,6 +71,7 @@ zip_remembered kept [] = tt
 zip_remembered kept (e ∷ es) = ((refl, refl, λ some. refl), zip_remembered kept es)
 
 module _ (kept : KeyParts → Bool) where
+  -- an entry as it is remembered: with the kept keys alone
   abbrev one_of : Observation KeyParts → Observation KeyParts
   one_of e = record { fault = e.fault; event = e.event; keys = filter kept e.keys }
 

@@ -129,12 +129,15 @@ module _ (texts : Texts) (book : IsBook texts) (t u : Tabled) (moment : ℕ) (wa
   before : (n : ℕ) (new : AnySet) → slice_get u.sets n ≡ Some new → (old : AnySet) × (slice_get t.sets n ≡ Some old)
   before n new at = at_place t.sets n (let inside = slice_get_within u.sets n new at in let long = waited.long in omega (arith, inside, long))
 
+  -- no set stood at a later moment before the wait
   low : (n : ℕ) (old : AnySet) → slice_get t.sets n ≡ Some old → moment_of old ≤ moment
   low n old was = All-place (λ set. moment_of set ≤ moment) t.sets n old was may.order
 
+  -- the book kept what each set named before the wait
   known : (n : ℕ) (old : AnySet) → slice_get t.sets n ≡ Some old → IsKnownSet texts old
   known n old was = All-place (IsKnownSet texts) t.sets n old was may.known
 
+  -- after the wait each set stands at the moment, and the book keeps what it names
   one_known : (n : ℕ) (new : AnySet) → slice_get u.sets n ≡ Some new → IsKnownSet texts new × (moment_of new ≡ moment)
   one_known n new at = let (old, was) = before n new at in waited_known texts book moment old new (waited.each n old new was at) (known n old was)
 

@@ -36,6 +36,7 @@ found_none : (P Q : KeyParts → Type 0) (keys : List KeyParts) (k : ℕ) → Ho
 found_none P Q keys k (front, key, rest, is, has, number) all not = not key has (All-middle P front rest key (subst (All P) is all))
 
 module _ (p : Times) (es : List (Observation KeyParts)) (e : Observation KeyParts) (here : List Finding) (at : AreFoundAt p es e here) where
+  -- the keys of the entries and e
   abbrev keys : List KeyParts
   keys = keys_in (es ++ e ∷ [])
 

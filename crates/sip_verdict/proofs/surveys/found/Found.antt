@@ -17,6 +17,7 @@ use Rattle.sip_verdict.proofs.surveys.passing.Ended.{ended_tracks, ended_found}
 use Rattle.sip_verdict.proofs.surveys.found.FoundParts.{fault_found}
 use Rattle.sip_verdict.proofs.surveys.passing.Taken.{IsTaken}
 
+-- the definitions' list of an entry's fault is the proofs' list of it
 same_fault : (entry : ℕ) (fault : Option Fault) → fault_found entry fault ≡ fault_listing entry fault
 same_fault entry None = refl
 same_fault entry (Some fault) = refl

@@ -43,10 +43,12 @@ use Rattle.sip_verdict.proofs.tables.TablesTouching.{have_numbers, same_numbers}
 abbrev pub Entries : Type 0
 Entries = List (Observation KeyParts)
 
+-- a disjunction with false is its first test
 or_none : (b : Bool) → (b || false) ≡ b
 or_none true = refl
 or_none false = refl
 
+-- a disjunction with true is true
 or_some : (b : Bool) → (b || true) ≡ true
 or_some true = refl
 or_some false = refl
@@ -88,6 +90,7 @@ none_in key (e ∷ es) none =
     let (here, later) = or_false _ _ (sym (list_any-append (same_key key) e.keys (flat_map (λ f. f.keys) es)) ∙ none) in
     All-cons (λ o. is_of key o ≡ false) e es here (none_in key es later)
 
+-- where a key is not among the keys of the entries, no entry is of the key
 none_of : (key : KeyParts) (es : Entries) → ¬ Contains (keys_in es) key → All (λ o. is_of key o ≡ false) es
 none_of key es none =
     none_in key es (among-fold key [] (flat_map (λ e. e.keys) es) (not_among key (keys_in es) none)).1
@@ -211,9 +214,11 @@ module _ (es : Entries) (e : Observation KeyParts) (b c : Histories) (number : �
     (h : AreHistories es b) (t_keys : t.keys ≡ keys_in es) (sets : length t.sets ≡ length t.keys) (counts : number ≡ length es + 1) (touched : TouchesEach ks ns t w) (apart : AllPairs (λ x y. x ≢ y) w.keys)
     (notes : NotesEach number text ns b.each.items c.each.items) (same_restart : c.restart ≡ b.restart) (keys : e.keys ≡ ks)
     (says : (key : KeyParts) → is_of key e ≡ true → (s : Said) × Says text (gives s) × ((branch : List ℕ) × (s.via.branch ≡ Some branch))) (told : e.event.text ≡ text) where
+  -- the keys of the new tables are those of the entries and e
   w_keys : w.keys ≡ keys_in (es ++ e ∷ [])
   w_keys = touched_keys ks ns t w touched ∙ ap (λ xs. fold with_key xs ks) t_keys ∙ ap (fold with_key (keys_in es)) (sym keys) ∙ sym (keys_in-push es e)
 
+  -- there were as many histories as keys before the entry
   t_long : length b.each.items ≡ length t.keys
   t_long = h.long ∙ ap length (sym t_keys)
 
@@ -274,6 +279,7 @@ branch_of s direction keys concerns some = by s.via.branch refl
     by (Some b) is = (b, refl)
     by None is = absurd (some (concerns ∙ no_keys _ _ (is_sent (λ method. bytes_eq method (codes "CANCEL")) s.start direction) (cookie_branch s.via.branch) (ap cookie_branch is)))
 
+-- keys among which the test finds a key are not none
 some_keys : (key : KeyParts) (keys : List KeyParts) → list_any (same_key key) keys ≡ true → keys ≢ []
 some_keys key keys is none = false≢true (sym (ap (list_any (same_key key)) none) ∙ is)
 

@@ -31,9 +31,11 @@ use Rattle.sip_verdict.proofs.tables.TablesPassing.{at_place, All-place}
 module _ (texts : Texts) (book : IsBook texts) (t u : Tabled) (moment : ℕ) (advances : AdvancesAll moment t u) (may : MayPass texts t moment)
     (numbers : List ℕ) (up : AllPairs (λ a b. a < b) numbers) (same : (n : ℕ) → Contains numbers n ↔ Contains (flat_map numbers_of u.sets) n) (kept : All (Keeps texts) numbers)
     (es : List (Observation KeyParts)) (deaf : List Bool) (tracks : TablesSurvey texts es t deaf) (newest : newest_moment es ≡ moment) (as_many : length deaf ≡ length t.keys) where
+  -- the times of the tables
   abbrev p : Times
   p = t.times
 
+  -- no set stood at a later moment before the sweep
   low : (n : ℕ) (old : AnySet) → slice_get t.sets n ≡ Some old → moment_of old ≤ moment
   low n old was = All-place (λ set. moment_of set ≤ moment) t.sets n old was may.order
 
@@ -44,6 +46,7 @@ module _ (texts : Texts) (book : IsBook texts) (t u : Tabled) (moment : ℕ) (ad
       swept_leads texts numbers book up kept p (machine_of_key p.rules key) events (newest_moment es) moment old new (low n old was) (advances.each n old new was is)
       (within texts book t u moment advances may numbers up same n new is) h
 
+  -- a set that follows the entries for a key follows them beside the kept messages alone
   follows : (n : ℕ) (old new : AnySet) → slice_get t.sets n ≡ Some old → slice_get u.sets n ≡ Some new → (key : KeyParts) (d : Bool) → IsFollowed texts p es key old d → IsFollowed (only numbers texts) p es key new d
   follows n old new was is key true (h, unsound) = (leads n old new was is key [] h, unsound)
   follows n old new was is key false (h, sound) = (leads n old new was is key (events_for key es) h, sound)
@@ -75,6 +78,7 @@ module _ (texts : Texts) (book : IsBook texts) (t u : Tabled) (moment : ℕ) (ad
       let (d, deaf_is) = at_place deaf n (omega (arith, inside, as_many)) in
       (old, new, d, was, is, tracks.each n key old d at was deaf_is)
 
+  -- a text that a set names is a text that some set names
   into : (n : ℕ) (new : AnySet) → slice_get u.sets n ≡ Some new → (text : List ℕ) → IsNumberOf texts (numbers_of new) text → IsNumberOf texts (flat_map numbers_of u.sets) text
   into n new is text (number, has, text_is) = (number, Contains-flat_map numbers_of u.sets new number (n, slice_get_within u.sets n new is, get_or_from_slice_get u.sets n new new is) has, text_is)
 
@@ -118,6 +122,7 @@ module _ (texts : Texts) (book : IsBook texts) (t u : Tabled) (moment : ℕ) (ad
             names = has_it;
           }
 
+  -- as many messages are kept as are still named
   pub swept_many : AreMany (IsStillNamed p es) (length (only numbers texts))
   swept_many =
       many_texts texts book (IsStillNamed p es) (flat_map numbers_of u.sets) (λ text. (λ h. from_sound (text, h) (list_any (same_key h.key) (keys_in es)) refl, from_number text)) numbers up same kept

@@ -47,6 +47,7 @@ module _ (chosen : KeyParts → Bool) where
   abbrev Cut : List (Observation KeyParts) → Item → Observation KeyParts → Action → Type 0
   Cut back item e a = (c : Observation KeyParts) × SeenAs back item c a × IsCutOf chosen e c
 
+  -- an entry all of whose keys are chosen is a cut of itself
   heard_stays : (back : List (Observation KeyParts)) (item : Item) (e : Observation KeyParts) → All (λ key. chosen key ≡ true) e.keys → IsCutOf chosen e e
   heard_stays back item e all = (refl, sym (filter_all e.keys all), λ some. refl)
 

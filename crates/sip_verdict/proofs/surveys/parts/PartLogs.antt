@@ -52,6 +52,7 @@ module _ (part : PartOf) where
       (λ key of. ap (falls_into part) (sym (told ∙ cookie_compared s.via.branch key.branch of))) keys (of_one_branch s direction keys concerns) in
       kept item cut e (falls_into part branch) (subst (All (λ key. Chosen key ≡ falls_into part branch)) (sym (ap (λ f. f.keys) is)) all) same
 
+  -- an item whose message went some way stays in the log of the part, or becomes a mark, as the branch of its message falls
   abbrev CutSo : Item → Item → Action → Type 0
   CutSo item cut a =
       MatchOption (direction_of a) (cut ≡ item) (λ direction. (branch : List ℕ) × TellsBranch item.text branch × (cut ≡ if falls_into part branch then item else mark_of item))

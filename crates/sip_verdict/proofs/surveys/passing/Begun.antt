@@ -43,6 +43,7 @@ none_more t long = record { times = refl; long = long; few = omega arith; among 
 
 -- What follows is of tables in which one key more was looked up.
 module _ (old t : Tabled) (h : AreMore old t) (k : KeyParts) (n : ℕ) where
+  -- a key that differs from each of some keys is none of them
   absent : (ks : List KeyParts) → All (λ key. key ≢ k) ks → ¬ Contains ks k
   absent ks all (i, low, is) = all i k low is
 

@@ -47,12 +47,15 @@ module _ (texts : Texts) (p q : Times) (moment : ℕ) (t u : Tabled) (number : �
       by (inr other) = inr other
 
 module _ (texts : Texts) (p : Times) (es : List (Observation KeyParts)) (e : Observation KeyParts) (t : Tabled) (b : Troubled) (number : ℕ) (given : IsGiven t number) where
+  -- what is kept of each key: its set, beside these texts
   abbrev k : Keeping (KeyParts × AnySet)
   k = key_keeping texts p
 
+  -- the place of the transaction's set, which counts from 0
   abbrev place : ℕ
   place = number - 1
 
+  -- the number is one more than the place
   back : number - 1 + 1 ≡ number
   back = (let low = given.low in omega arith)
 

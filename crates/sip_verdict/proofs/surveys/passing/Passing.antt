@@ -32,6 +32,7 @@ pub same_at : {A : Type 0} (xs : List A) (n : ℕ) (x y : A) → slice_get xs n 
 same_at xs n x y a b = let both : Some x ≡ Some y = sym a ∙ b in cc
 
 module _ (texts : Texts) (p : Times) (es : List (Observation KeyParts)) (e : Observation KeyParts) where
+  -- what is kept of each key: its set, beside these texts
   abbrev k : Keeping (KeyParts × AnySet)
   k = key_keeping texts p
 

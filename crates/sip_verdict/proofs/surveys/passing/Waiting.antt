@@ -39,9 +39,11 @@ decided false = inr refl
 
 module _ (texts : Texts) (p : Times) (es : List (Observation KeyParts)) (e : Observation KeyParts) (moment : ℕ) (late : newest_moment es ≤ moment) (now : e.event.moment ≡ moment) (t : Tabled) (b : Troubled)
     (may : MayPass texts t moment) (none : due_of t moment ≡ None) (h : ArePassing texts p es e any t b) where
+  -- what is kept of each key: its set, beside these texts
   abbrev k : Keeping (KeyParts × AnySet)
   k = key_keeping texts p
 
+  -- the entry is not before the newest of the entries
   since : newest_moment es ≤ e.event.moment
   since = subst (λ n. newest_moment es ≤ n) (sym now) late
 

@@ -21,9 +21,11 @@ none_some : {A : Type 0} (x : A) → Some None ≡ Some (Some x) → ⊥
 none_some x h = cc
 
 module _ (t : Tabled) (b : Troubled) (number : ℕ) (waits : List ℕ) (given : IsGiven t number) (h : AreWatched (number ∷ waits) t b) where
+  -- the place of the transaction, which counts from 0
   abbrev place : ℕ
   place = number - 1
 
+  -- the transaction has a flag that says whether it is deaf
   inside : number - 1 < length b.deaf.items
   inside = (let low = given.low in let high = given.high in let long = h.long in omega arith)
 

@@ -65,6 +65,7 @@ entries_in None input p items takens es close found end text log are seen survey
     (survey, (es, inr (p, items, close, log, subst (λ is. AreSeen [] is es) (taken_whole items takens are) seen), told))
 entries_in (Some part) input p items takens es close found end text log are seen survey told = (survey, (es, inr (p, items, close, takens, log, taken_part part items takens are, seen), told))
 
+-- the survey of an input that lacks a header is told by the line of its end alone
 pub told_without : (part : Option PartOf) (input : List ℕ) (end : SurveyEnd) → LacksHeader input → end ≡ ended.LogFault 0 Header → IsToldIn part input [] end (end_text end 0)
 told_without None input end lacks same = (inl (lacks, refl, same), ([], inl (lacks, refl), ([], refl, refl)))
 told_without (Some part) input end lacks same = (inl (lacks, refl, same), ([], inl (lacks, refl), ([], refl, refl)))
@@ -116,6 +117,7 @@ module _ (part : Option PartOf) (start : Option (List ℕ)) (now : log.ReaderSta
       subst (λ fs. IsSurveyAfter p [] read.taken close fs end) (append-nil found) (subst (λ is. IsSurveyAfter p [] is close (found ++ []) end) (append-nil read.taken) (read.front [] close [] end left)) in
       survey_in part input p read.items read.taken close found end log_is read.are_taken whole
 
+  -- where the input is known and its log ends after the items that were read, what was found is its survey, or the part's
   gathered : (close : LogEnd) (end : SurveyEnd) → IsSurveyAfter s.tables.times read.es [] close [] end → IfSome start (λ input. LogSays input s.tables.times read.items close)
       → IfSome start (λ input. IsSurveyIn part input found end)
   gathered close end left logs = IfSome-map start (λ input. LogSays input s.tables.times read.items close) (λ input. IsSurveyIn part input found end) (gathered_of close end left) logs

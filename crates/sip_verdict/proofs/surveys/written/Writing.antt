@@ -64,6 +64,7 @@ counted_more found f a b c o told one is =
     let s = next.undecided in
     record { findings = omega (arith, long, p, q); undecided = omega (arith, undecided, r, s) }
 
+-- an option that gives a value in place of an error holds this value
 pub some_of_ok : {A E : Type 0} (o : Option A) (e : E) (a : A) → ok_or o e ≡ Ok a → o ≡ Some a
 some_of_ok None e a is = absurd cc
 some_of_ok (Some x) e a is = let same : x ≡ a = cc in ap Some same
@@ -153,10 +154,12 @@ pub record ToldSoFar (part : Option PartOf) (s : Surveying) (found : List Findin
   pub read : SurveysRead part s found start now
   pub lines_are : IsTextOf read.es found lines
 
+-- a survey that has found nothing yet has told no text
 pub told_nothing : (part : Option PartOf) (s : Surveying) (start : Option (List ℕ)) (now : log.ReaderState) → SurveysRead part s [] start now → ToldSoFar part s [] [] start now
 told_nothing part s start now read = record { read = read; lines_are = refl }
 
 module _ (part : Option PartOf) (start : Option (List ℕ)) (now : log.ReaderState) (s : Surveying) (found : List Finding) (lines : List ℕ) (told_so : ToldSoFar part s found lines start now) where
+  -- what the survey has read so far
   abbrev pub read : SurveysRead part s found start now
   read = told_so.read
 

@@ -8,6 +8,7 @@ pub data Step : Type 0 where
   Hides : ℕ → Step
   Takes : MachineEvent → Step
 
+-- the moment of a step
 abbrev pub moment_of_step : Step → ℕ
 moment_of_step (Hides h) = h
 moment_of_step (Takes e) = e.moment

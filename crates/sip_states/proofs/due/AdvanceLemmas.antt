@@ -177,6 +177,7 @@ not_unmarked marks index n mark = elim (set_place marks index n false true mark)
 
 -- What follows is of two lists of marks: what the first marks, the second marks too.
 
+-- each index that the first list marks, the second marks
 abbrev pub AreAmong : List Bool → List Bool → Type 0
 AreAmong marks moved = (index : ℕ) → IsMarked marks index → IsMarked moved index
 

@@ -11,29 +11,37 @@ use Rattle.sip_states.specs.inner.Marks.{marks, IsPlaced, IsMarked, exchanged_or
 pub at_second : (xs : List ℕ) (i j a b d : ℕ) → j < length xs → get_or (set (set xs i a) j b) j d ≡ b
 at_second xs i j a b d low = get_or-set_same (set xs i a) j b d (let long = length-set xs i a in omega arith)
 
+-- after two writes at different places the first place has what was written first
 pub at_first : (xs : List ℕ) (i j a b d : ℕ) → i < length xs → i ≢ j → get_or (set (set xs i a) j b) i d ≡ a
 at_first xs i j a b d low differ = get_or-set_other (set xs i a) j i b d differ ∙ get_or-set_same xs i a d low
 
+-- after two writes any other place has what it had
 pub at_other : (xs : List ℕ) (i j k a b d : ℕ) → k ≢ i → k ≢ j → get_or (set (set xs i a) j b) k d ≡ get_or xs k d
 at_other xs i j k a b d one two = get_or-set_other (set xs i a) j k b d two ∙ get_or-set_other xs i k a d one
 
 -- What follows is of an order in which the indices a and b, at the places p and q, were exchanged.
 module _ (order places : List ℕ) (count : ℕ) (is : IsPlaced order places count) (p q : ℕ) (p_low : p < length order) (q_low : q < length order) where
+  -- the index at the place p
   abbrev a : ℕ
   a = get_or order p 0
 
+  -- the index at the place q
   abbrev b : ℕ
   b = get_or order q 0
 
+  -- the order after the exchange
   abbrev new_order : List ℕ
   new_order = exchanged_order order p q
 
+  -- the place of each index after the exchange
   abbrev new_places : List ℕ
   new_places = exchanged_places order places p q
 
+  -- the index a has a place
   a_low : a < length places
   a_low = (let low = (is.ordered p p_low).0 in let long = is.long in omega arith)
 
+  -- the index b has a place
   b_low : b < length places
   b_low = (let low = (is.ordered q q_low).0 in let long = is.long in omega arith)
 
@@ -49,12 +57,15 @@ module _ (order places : List ℕ) (count : ℕ) (is : IsPlaced order places cou
         | inr differ ↦ at_first places a b q p 0 a_low differ.1
       ]
 
+  -- after the exchange the index b has the place p
   pub place_of_b : get_or new_places b 0 ≡ p
   place_of_b = at_second places a b q p 0 b_low
 
+  -- after the exchange any other index has the place that it had
   pub place_of_other : (i : ℕ) → i ≢ a → i ≢ b → get_or new_places i 0 ≡ get_or places i 0
   place_of_other i one two = at_other places a b i q p 0 one two
 
+  -- after the exchange the index a stands at the place q
   pub at_q : get_or new_order q 0 ≡ a
   at_q = at_second order p q b a 0 q_low
 
@@ -66,9 +77,11 @@ module _ (order places : List ℕ) (count : ℕ) (is : IsPlaced order places cou
         | inr differ ↦ at_first order p q b a 0 p_low differ.1
       ]
 
+  -- the exchange leaves as many indices as there were
   size : length new_order ≡ length order
   size = length-set (set order p b) q a ∙ length-set order p b
 
+  -- the exchange leaves as many places as there were
   pub new_long : length new_places ≡ length places
   new_long = length-set (set places a q) b p ∙ length-set places a q
 

@@ -32,6 +32,7 @@ seen_by_names_of machine a b x h = owing_by_names (coded_of machine).names (code
 abbrev pub first_of : (machine : MachineKind) → StateOf machine
 first_of machine = idle_state (coded_of machine)
 
+-- the first state of the code stands for the first state of the rules
 pub first_is_of : (machine : MachineKind) (texts : Texts) (p : Times) → (meaning_of machine).seen texts (first_of machine) ≡ ((meaning_of machine).rules p).first
 first_is_of machine texts p =
     quiet_stands (coded_of machine).seen texts (coded_of machine).idle (transaction_of machine).figure.idle ((coded_holds machine).idle_is texts)
@@ -66,6 +67,7 @@ start_silent p machine =
 
 -- What follows is of the ended state.
 
+-- the ended state of the code
 abbrev pub last_of : (machine : MachineKind) → StateOf machine
 last_of machine = ended_state (coded_of machine)
 
@@ -103,6 +105,7 @@ module _ (P : (X M S : Type 0) → Meaning X M S → Held M S → Type 0) where
   pub of_set : (machine : MachineKind) (s : Held Times (StateOf machine)) → OfSet P (set_of machine s) → P (PhaseOf machine) Times (StateOf machine) (meaning_of machine) s
   of_set machine s holds = of_machine (OfHeld P) machine s holds
 
+  -- what holds of what the set of a machine holds, holds of the set
   pub to_set : (machine : MachineKind) (s : Held Times (StateOf machine)) → P (PhaseOf machine) Times (StateOf machine) (meaning_of machine) s → OfSet P (set_of machine s)
   to_set machine s holds = to_machine (OfHeld P) machine s holds
 

@@ -49,6 +49,7 @@ ended_restarts f decided y = (
 
 -- What follows is of an event that restarts the element.
 module _ (p : Times) (machine : MachineKind) (e : MachineEvent) (is : e.action ≡ Restart) where
+  -- the figure of the machine
   abbrev f : Figure (transaction_of machine).Phase
   f = (transaction_of machine).figure
 
@@ -70,6 +71,7 @@ module _ (p : Times) (machine : MachineKind) (e : MachineEvent) (is : e.action �
 first_in_range : (machine : MachineKind) → (meaning_of machine).in_range (first_of machine)
 first_in_range machine = ((coded_holds machine).idle_fits.1, All-nil (λ debt. debt.deadline < 2 ^ 50))
 
+-- the moments of the ended state are in range
 last_in_range : (machine : MachineKind) → (meaning_of machine).in_range (last_of machine)
 last_in_range machine = ((coded_holds machine).ended_fits.1, All-nil (λ debt. debt.deadline < 2 ^ 50))
 
@@ -116,12 +118,15 @@ quiet_still p machine texts s (inl is) = (first_of machine, is, first_still p ma
 quiet_still p machine texts s (inr is) = (last_of machine, is, last_still p machine texts)
 
 module _ (p : Times) (machine : MachineKind) (texts : Texts) (x : StateOf machine) (still : IsStill p machine texts x) where
+  -- the rules of the machine, for states as texts have them
   abbrev r : MachineRules (PhaseOf machine)
   r = (meaning_of machine).rules p
 
+  -- the state, as texts have it
   abbrev q : PhaseOf machine
   q = (meaning_of machine).seen texts x
 
+  -- y is the one state
   abbrev Alone : PhaseOf machine → Type 0
   Alone y = Contains (map ((meaning_of machine).seen texts) (x ∷ [])) y
 

@@ -22,9 +22,11 @@ module _ (p : Times) (machine : MachineKind) where
       subst (λ xs. IsAgenda ((meaning_of machine).rules p) (Contains (map ((meaning_of machine).seen texts) xs)) 0 None) (sym one)
       (λ n low. (λ run. tt, λ within. ((meaning_of machine).seen texts x, (waits_still p machine texts x still 0 n low ((meaning_of machine).seen texts x)).1 refl)))
 
+  -- the set that a machine starts with can wait for ever
   start_waits : IsAgendaOf None (start_of_machine p machine)
   start_waits = to_set (λ X M S m s. HasAgenda m None s) machine (held_at_start p machine) waits_on
 
+-- the set that a key starts with can wait for ever
 pub start_endless : (p : Times) (key : KeyParts) → IsAgendaOf None (start_of p key)
 start_endless p key = start_waits p (machine_of_key p.rules key)
 

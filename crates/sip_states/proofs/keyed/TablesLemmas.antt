@@ -10,6 +10,7 @@ use Rattle.sip_states.specs.AnySet.{start_of}
 use Rattle.sip_states.specs.inner.Touching.{FindsOrStarts}
 use Rattle.sip_key.specs.inner.KeyLaws.{same_key-decides}
 
+-- something is not nothing
 some-is-none : {X : Type 0} (x : X) → Some x ≡ None → ⊥
 some-is-none x e = cc
 

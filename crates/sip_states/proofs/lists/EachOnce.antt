@@ -7,6 +7,7 @@ use Rattle.sip_machine.specs.Pools.{AreFirstOnes, picked}
 use Rattle.sip_states.proofs.lists.Listed.{Contains-map, Contains-from_map}
 
 module _ {S : Type 0} (ys : List S) (first : ℕ) (rows : List ℕ) (x : S) (ones : AreFirstOnes ys first (length ys) rows) where
+  -- the element at this place
   abbrev at : ℕ → S
   at row = get_or ys row x
 
@@ -31,6 +32,7 @@ module _ {S : Type 0} (ys : List S) (first : ℕ) (rows : List ℕ) (x : S) (one
       let value : at row ≡ z = same ∙ get_or_default ys (first + k) x z high ∙ sym (get_or-drop first ys k z) ∙ is in
       subst (Contains (picked ys x rows)) value (Contains-map at rows row (i, within, is_row))
 
+  -- the elements that are picked are those from `first` on
   pub picked-members : (z : S) → Contains (picked ys x rows) z ↔ Contains (drop first ys) z
   picked-members z = (picked-there z, there-picked z)
 

@@ -34,6 +34,7 @@ module _ {X : Type 0} where
   appends_more flags xs ys i x low within flag is whole =
       append_assoc ys (x ∷ []) (kept_of (drop (i + 1) flags) (drop (i + 1) xs)) ∙ ap (λ l. ys ++ l) (sym (kept_more flags xs i true x low within flag is)) ∙ whole
 
+  -- a loop that passes over the element at the place i, whose flag is false, has what is kept before i + 1
   pub appends_not : (flags : List Bool) (xs ys : List X) (i : ℕ) (x : X) → i < length flags → i < length xs → false ≡ get_or flags i false → x ≡ get_or xs i x
       → ys ++ kept_of (drop i flags) (drop i xs) ≡ kept_of flags xs → ys ++ kept_of (drop (i + 1) flags) (drop (i + 1) xs) ≡ kept_of flags xs
   appends_not flags xs ys i x low within flag is whole = ap (λ l. ys ++ l) (sym (kept_more flags xs i false x low within flag is)) ∙ whole
@@ -45,6 +46,7 @@ module _ {X : Type 0} where
     pub behind : k ≤ i
     pub long : length ys ≡ length xs
 
+  -- at the end of the flags or of the list, what was moved to the front is what is kept
   pub keeps_done : (flags : List Bool) (xs ys : List X) (k i : ℕ) → KeepsInPlace flags xs ys k i → min (length flags) (length xs) ≤ i → take k ys ≡ kept_of flags xs
   keeps_done flags xs ys k i h past = sym (append-nil (take k ys)) ∙ ap (λ l. take k ys ++ l) (sym (kept_end flags xs i past)) ∙ h.whole
 

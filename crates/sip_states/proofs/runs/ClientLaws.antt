@@ -40,6 +40,7 @@ module _ {X : Type 0} (f : Figure X) (p : Times) (P : X → Type 0) (kept : IsKe
   emits_keeps e x y (inr (inl (left, pays, is))) holds = rw is holds
   emits_keeps e x y (inr (inr (stays, same))) holds = rw same holds
 
+  -- a message that the transport refused keeps P of the phase
   fails_keeps : (ends : Bool) (e : MachineEvent) (x y : Owing X) → Fails ends f p e x y → P x.phase → P y.phase
   fails_keeps true e x y (some, is) holds = rw is kept.ended
   fails_keeps false e x y h holds = emits_keeps e x y h holds
@@ -69,8 +70,9 @@ module _ {X : Type 0} (f : Figure X) (p : Times) where
   step_of : (a : Action) (e : MachineEvent) (x y : Owing X) → e.action ≡ a → Does (rules_of_figure f p) x (Takes e) y → Steps f p a e (when e x) y
   step_of a e x y is does = subst (λ b. Steps f p b e (when e x) y) is does.1.1
 
--- Ranks: 0 before a request, 1 before its final response, 2 after it; no row leads to a lower one.
+-- What follows is of ranks: 0 before a request, 1 before its final response, 2 after it.
 
+-- no row of the figure leads to a lower rank
 record IsRanked {X : Type 0} (f : Figure X) (p : Times) (rank : X → ℕ) : Type 0 where
   pub ended : rank f.ended ≡ 2
   pub received : (x : X) (k : Kind) (e : MachineEvent) (y : Row X) → f.Receives p x k e y → rank x ≤ rank y.0
@@ -105,8 +107,8 @@ module _ {X : Type 0} (f : Figure X) (p : Times) (rank : X → ℕ) (ranked : Is
         let still = goes_keep f p (λ x. 2 ≤ rank x) (rank_kept 2 (omega arith)) two.reached final.moment two.steps last.before last.at two.goes finished in
         sends e (when f p e last.before) y (step_of f p Sent e last.before y e_sent last.does) still
 
--- a received message for which there is a row leads to rank 2 where each row for it does
 module _ {X : Type 0} (f : Figure X) (p : Times) (rank : X → ℕ) (x y : Owing X) (e : MachineEvent) (row : Row X) where
+  -- a received message for which there is a row leads to rank 2 where each row for it does
   leads_on : (k : Kind) → e.kind ≡ k → f.Receives p x.phase k e row → ((other : Row X) → f.Receives p x.phase k e other → 2 ≤ rank other.0) → Steps f p Received e x y → 2 ≤ rank y.phase
   leads_on k is is_row all (inl (other, is_other, to)) = rw to (all other (subst (λ j. f.Receives p x.phase j e other) is is_other))
   leads_on k is is_row all (inr (none, same)) = absurd (none (led_to p e.moment x.owes row) (row, subst (λ j. f.Receives p x.phase j e row) (sym is) is_row, refl))
@@ -143,6 +145,7 @@ invite_sent p (invite.Completed reliable request set) (Request Cancel) e y h = r
 invite_sent p invite.Ended (Request Cancel) e y h = rw h (omega arith)
 invite_sent p x k e y h = absurd h
 
+-- no row of the INVITE client leads to a lower rank
 invite_ranked : (p : Times) → IsRanked invite.invite_client p invite_rank
 invite_ranked p = record { ended = refl; received = invite_received p; sent = invite_sent p }
 
@@ -159,6 +162,7 @@ pays_ack : (x : invite.InviteClientPhase) (k : Kind) (e : MachineEvent) (respons
 pays_ack (invite.Completed reliable request set) (Request Ack) e response h = refl
 pays_ack x k e response h = absurd h
 
+-- an INVITE is no ACK
 no_invite : Request Invite ≡ Request Ack → ⊥
 no_invite same = cc
 
@@ -170,6 +174,7 @@ invite_opens p e x y (inr (inr (stays, same))) is = absurd stays
 
 -- What follows is of a final response that an INVITE client receives.
 module _ (p : Times) (code : ℕ) (e : MachineEvent) (y : Owing invite.InviteClientPhase) (is : e.kind ≡ Response code) (final : IsFinal code) where
+  -- a final response leaves rank 2 as it is
   still_over : (phase : invite.InviteClientPhase) (owes : List Owed) → 2 ≤ invite_rank phase → Steps invite.invite_client p Received e (record { phase = phase; owes = owes }) y → 2 ≤ invite_rank y.phase
   still_over phase owes over h = steps_keep invite.invite_client p (λ x. 2 ≤ invite_rank x) (rank_kept invite.invite_client p invite_rank (invite_ranked p) 2 (omega arith)) Received e _ y h over
 
@@ -257,6 +262,7 @@ module _ (p : Times) (one : MachineEvent) where
   awaits_sent invite.Ended (Request Cancel) e y h holds = rw h tt
   awaits_sent x k e y h holds = absurd h
 
+  -- waits and events of the INVITE client keep Awaits
   awaits_kept : IsKept invite.invite_client p Awaits
   awaits_kept = record { ended = tt; received = awaits_received; sent = awaits_sent }
 
@@ -325,9 +331,11 @@ plain_sent p (plain.Trying w) (Request method) e y h = rw h.1 (omega arith)
 plain_sent p (plain.Proceeding w) (Request method) e y h = rw h.1 (omega arith)
 plain_sent p x k e y h = absurd h
 
+-- no row of the non-INVITE client leads to a lower rank
 plain_ranked : (p : Times) → IsRanked plain.plain_client p plain_rank
 plain_ranked p = record { ended = refl; received = plain_received p; sent = plain_sent p }
 
+-- the kind is a request, of any method
 abbrev IsRequest : Kind → Type 0
 IsRequest k = (method : Method) × (k ≡ Request method)
 
@@ -346,6 +354,7 @@ plain_opens p e x y (inr (inl (left, pays, to))) is = absurd pays.holds.0
 
 -- What follows is of a final response that a non-INVITE client receives.
 module _ (p : Times) (code : ℕ) (e : MachineEvent) (y : Owing plain.PlainClientPhase) (is : e.kind ≡ Response code) (final : IsFinal code) where
+  -- a final response leaves rank 2 of the non-INVITE client as it is
   plain_still_over : (phase : plain.PlainClientPhase) (owes : List Owed) → 2 ≤ plain_rank phase → Steps plain.plain_client p Received e (record { phase = phase; owes = owes }) y → 2 ≤ plain_rank y.phase
   plain_still_over phase owes over h = steps_keep plain.plain_client p (λ x. 2 ≤ plain_rank x) (rank_kept plain.plain_client p plain_rank (plain_ranked p) 2 (omega arith)) Received e _ y h over
 

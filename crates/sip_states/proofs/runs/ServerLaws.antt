@@ -43,6 +43,7 @@ module _ {X : Type 0} (f : Figure X) (p : Times) (asleep : IsAsleep f p) where
       none_owed [] is = cc
       none_owed (owed ∷ before) is = cc
 
+  -- the transport refuses nothing that an idle server sends, since the server sends nothing
   fails_nothing : (ends : Bool) (e : MachineEvent) (y : Owing X) → Fails ends f p e (quiet f.idle) y → ⊥
   fails_nothing true e y (some, to) = emits_nothing e some.0 some.1
   fails_nothing false e y h = emits_nothing e y h

@@ -31,6 +31,7 @@ open-within h None opening low = opening
 open-within h (Some (from, None)) opening low = (opening, tt)
 open-within h (Some (from, Some to)) opening low = (opening, low)
 
+-- a window that is open has opened
 within-open : (h : ℕ) (window : Option (ℕ × Option ℕ)) → IsOpenAt h window → IsSomeAnd window (λ w. w.0 ≤ h)
 within-open h None opening = opening
 within-open h (Some (from, to)) opening = opening.0
@@ -64,6 +65,7 @@ module _ {X : Type 0} (f : Figure X) (is : IsFigure f) (p : Times) where
         gives = refl;
       }
 
+  -- a state that ends by the rules may end by the figure
   hide-may : (x : Owing X) (h : ℕ) (y : Owing X) → Hide (rules_of f p) x h y → MayEnd f p x h
   hide-may x h y hide =
       let opened = open-owed h (list_any (λ owed. owed.must) x.owes) (f.window p x.phase) hide.opened in (within-open h (f.window p x.phase) opened.1, opened.0)
@@ -127,6 +129,7 @@ module _ {X : Type 0} (f : Figure X) (is : IsFigure f) (p : Times) where
   pub stands-lasts : (events : List MachineEvent) (m : ℕ) (y : Owing X) → Stands f p events m y → Lasts f p y m
   stands-lasts events m y stands = (lasts-waits y m).1 (stands-run events m y stands).stands.waits
 
+  -- a run stands in the words of the standard exactly if it stands by the rules
   pub stands-runs : (events : List MachineEvent) (m : ℕ) (y : Owing X) → Stands f p events m y ↔ RuledRun (rules_of f p) events m y
   stands-runs events m y = (stands-run events m y, run-stands events m y)
 

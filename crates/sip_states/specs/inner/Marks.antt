@@ -20,6 +20,7 @@ pub record IsPlaced (order places : List ℕ) (count : ℕ) : Type 0 where
 abbrev pub exchanged_order : List ℕ → ℕ → ℕ → List ℕ
 exchanged_order order p q = set (set order p (get_or order q 0)) q (get_or order p 0)
 
+-- the place of each index, with the places of the two indices exchanged
 abbrev pub exchanged_places : List ℕ → List ℕ → ℕ → ℕ → List ℕ
 exchanged_places order places p q = set (set places (get_or order p 0) q) (get_or order q 0) p
 

@@ -67,6 +67,6 @@ by_machine {A} of set = each_set (λ any. A) of set
 abbrev pub held_at_start : Times → (machine : MachineKind) → Held Times (StateOf machine)
 held_at_start p machine = record { machine = p; moment = 0; states = idle_state (coded_of machine) ∷ [] }
 
--- the set of a machine with this first state
+-- the set that a machine starts with, as one of the sets of all machines
 abbrev pub start_of_machine : Times → MachineKind → AnySet
 start_of_machine p machine = set_of machine (held_at_start p machine)

@@ -57,22 +57,26 @@ def evidence_of(name, side):
 
 
 def tell_breach(judge, index, name, side, at, number):
+    """The evidence of a breach, by the numbers of the verdict's line."""
     return breach(judge, index, int(at), int(number), side)
 
 
 def tell_malformed(judge, index, name, side, at, unit, number):
+    """The evidence of a message with a fault, by the numbers of the verdict's line."""
     facts = malformed(judge, index_at(index, int(at)), int(at), unit, int(number))
     one = index.entry(int(at))
     return {**facts, "rows": [row_of(one, None, None, side, first_line(one.data))], "repeat": repeat_of(judge, index.times, [one]), "sentence": of_malformed(facts)}
 
 
 def tell_undecided(judge, index, name, side, at, number):
+    """The evidence of an undecided transaction, by the numbers of the verdict's line."""
     found = found_in(index, int(at), int(number))
     facts = undecided(judge, found, int(at), transaction_told(Case(judge, found, int(at), int(number))))
     return {**facts, "sentence": of_undecided(facts)}
 
 
 def tell_log_fault(judge, index, name, side, at, number):
+    """The evidence of a log that cannot be read on, by the numbers of the verdict's line."""
     if index is not None:
         index_up_to(index, int(at))
     facts = {"word": "log fault", **log_fault(index, name, int(at), int(number))}
@@ -80,6 +84,7 @@ def tell_log_fault(judge, index, name, side, at, number):
 
 
 def tell_legal(judge, index, name, side, entries, transactions):
+    """What is told of a legal log."""
     return {"sentence": "Nothing is wrong in these %s entries." % entries}
 
 
@@ -90,10 +95,12 @@ FORMS = [(re.compile(form), tell) for form, tell in (
 
 
 def index_at(index, at):
+    """The index of the log, which has to reach this entry."""
     return index if index_up_to(index, at) else die("the log has no entry %d: it was changed meanwhile" % at)
 
 
 def found_in(index, at, number):
+    """The transaction with this number, as the log has it up to this entry."""
     key = index_at(index, at).key_of(number)
     return Found(index, at, key) if key else die("siptrace numbers the transactions of this log otherwise than this script")
 
@@ -115,12 +122,14 @@ def breach(judge, index, at, number, side):
 
 
 def transaction_told(case):
+    """What tells a transaction: its number and key, and the call of its first message."""
     first = next((one for one in case.before if one.data), case.breach)
     return {"number": case.number, "role": case.role, "method": latin(case.method), "branch": latin(spelled_branch(first.data)), "sent_by": latin(case.sent_by),
             "call_id": latin(call_id(first.data)), "cseq": latin(b" ".join(cseq(first.data))), "transport": transport_of(first.data)}
 
 
 def row_of(one, before, again, side, line):
+    """An entry as a row of the ladder: with the entry before it, and the one that it repeats, if there is one."""
     return {"number": one.number, "letter": one.letter, "moment": one.moment, "since": None if before is None else one.moment - before.moment, "line": line,
             "again": again, **side.of(one.number, one.moment)}
 

@@ -47,6 +47,7 @@ def text_of(told):
 # What follows tells a breach.
 
 def breach(told):
+    """The lines on a breach, from what is wrong to what has to be settled."""
     yield from ("  " + line for line in details(told))
     rule = told["rule"]
     yield "Rule (%s%s): %s" % (rule["section"], ", timer %s" % rule["timer"] if rule["timer"] else "", rule["meaning"])
@@ -94,6 +95,7 @@ def difference(found, subject):
 
 
 def instead_of(told):
+    """The lines on what was allowed in place of a message that is allowed at no moment, and on what took it away."""
     moment = told["sent"]["moment"]
     allowed = [one["what"] for one in told["allowed_then"]]
     if allowed:
@@ -111,6 +113,7 @@ def instead_of(told):
 
 
 def transaction(told):
+    """The lines on whose transaction it is: its number, key and call, and the times of the element."""
     own, times = told["transaction"], told["times"]
     alike = times["early"] == times["late"]
     yield "Transaction %d: %s, %s, branch %s%s" % (own["number"], own["role"], own["method"], own["branch"], ", from " + own["sent_by"] if own["sent_by"] else "")
@@ -153,6 +156,7 @@ def row(one, is_breach, has_date):
 
 
 def standing(told):
+    """The lines on the phases in which the transaction stood before the breach, and how long it could be silent."""
     role = told["transaction"]["role"]
     phases = told["phases"][:MOST_STATES]
     if phases:
@@ -162,6 +166,7 @@ def standing(told):
 
 
 def nearby(told):
+    """The lines on messages of the same call that the log has in other transactions."""
     near = told.get("near")
     if near:
         yield "What else the log has of this call on this side, in other transactions:"
@@ -174,6 +179,7 @@ def nearby(told):
 
 
 def settled(told):
+    """The lines on what would excuse the breach, and on what was asked and would not."""
     helping = [one for one in told["excuses"] if one["helps"]]
     if helping:
         yield "Settle these before you send it. A yes to any of them, and it is no breach:"
@@ -192,6 +198,7 @@ def settled(told):
 # What follows tells the other verdicts.
 
 def malformed(told):
+    """The lines on a message that has a fault."""
     if told["whose"] == "received":
         yield "The element did not write this message. The fault is its sender's, and says nothing against this element."
     else:
@@ -208,6 +215,7 @@ def malformed(told):
 
 
 def undecided(told):
+    """The lines on a transaction that could stand in too many states."""
     yield from transaction(told)
     yield "It has %s." % runs(told["entries"])
     yield "How many states it could stand in grew so: %s." % ", ".join("%d after entry %d" % (states, number) for number, states in told["growth"])
@@ -221,6 +229,7 @@ def undecided(told):
 
 
 def log_fault(told):
+    """The lines on a log that cannot be read on."""
     yield "At byte %d the file has:" % told["at_byte"]
     yield "    " + repr(told["there"])
 
@@ -245,6 +254,7 @@ def repeated(told, room):
 
 
 def wrapped(line):
+    """A line as lines of the text's width."""
     if isinstance(line, Row):
         return [line]
     line = printable(line)

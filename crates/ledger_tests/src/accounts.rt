@@ -154,6 +154,41 @@ impl Played {
         Ok(())
     }
 
+    fn gain_and_expire(
+        &mut self,
+        rt: &impl Abort,
+        row: usize,
+        debt: Debt,
+        moment: u64,
+    ) -> Result<(), Fail> {
+        assert!(rt; row < self.accounts.len());
+        assert!(rt; row < self.lists.len());
+        self.accounts.gain_and_expire(row, debt, moment)?;
+        self.lists[row].push(debt)?;
+        self.lists[row].retain(|debt| debt.must || moment <= debt.deadline);
+        Ok(())
+    }
+
+    fn pay_and_expire(
+        &mut self,
+        rt: &impl Abort,
+        row: usize,
+        message: u32,
+        moment: u64,
+    ) -> Result<(), Fail> {
+        assert!(rt; row < self.accounts.len());
+        assert!(rt; row < self.lists.len());
+        let first = self.lists[row]
+            .iter()
+            .position(|debt| debt.message == message && moment <= debt.deadline);
+        self.accounts.pay_and_expire(row, message, moment)?;
+        if let Some(first) = first {
+            self.lists[row].remove(first);
+        }
+        self.lists[row].retain(|debt| debt.must || moment <= debt.deadline);
+        Ok(())
+    }
+
     fn soften(&mut self, rt: &impl Abort, row: usize) {
         assert!(rt; row < self.accounts.len());
         assert!(rt; row < self.lists.len());
@@ -217,8 +252,13 @@ impl Played {
         assert!(rt; debts.as_slice() == list, "{row}");
         assert!(rt; row < self.accounts.len());
         assert!(rt; self.accounts.owes_nothing(row) == list.is_empty(), "{row}");
+        let least = earliest_must(list);
+        assert!(rt; self.accounts.earliest_must(row) == least, "{row}");
+        let moment = least.unwrap_or(0);
+        assert!(rt; self.accounts.is_timely(row, moment), "{row}");
+        let late = moment.saturating_add(1);
         assert!(rt;
-            self.accounts.earliest_must(row) == earliest_must(list),
+            self.accounts.is_timely(row, late) == least.is_none(),
             "{row}"
         );
         let mut names = Vec::new(rt.alloc());
@@ -241,9 +281,26 @@ impl Played {
         assert!(rt; !same || self.accounts.print(row) == self.accounts.print(other));
     }
 
+    /// The messages that rows owe are told, from the least on, each once.
+    fn names_all(&self, rt: &(impl Abort + AllocGlobal)) -> Result<(), Fail> {
+        let mut names = Vec::new(rt.alloc());
+        self.accounts.all_names(&mut names)?;
+        let mut wants = Vec::new(rt.alloc());
+        for list in &self.lists {
+            for debt in list {
+                wants.push(debt.message)?;
+            }
+        }
+        wants.sort_unstable();
+        wants.dedup();
+        assert!(rt; names.as_slice() == wants.as_slice());
+        Ok(())
+    }
+
     /// All rows owe their lists.
     fn agree(&self, rt: &(impl Abort + AllocGlobal)) -> Result<(), Fail> {
         assert!(rt; self.accounts.len() == self.lists.len());
+        self.names_all(rt)?;
         let prints = self.accounts.prints(rt.alloc(), 0)?;
         for (row, list) in self.lists.iter().enumerate() {
             self.owes(rt, row, list)?;
@@ -393,6 +450,41 @@ fn play(rt: &(impl Abort + AllocGlobal), seed: u64, steps: u64, rises: bool) -> 
 fn accounts_owe_what_plain_lists_have(rt: HostRuntime) -> Result<(), Fail> {
     for seed in 0..12 {
         play(&rt, seed, 80, seed % 2 == 0)?;
+    }
+    Ok(())
+}
+
+/// So many steps from this number on, in each of which a row gains or pays, and loses what is past.
+fn play_with_past(rt: &(impl Abort + AllocGlobal), seed: u64, steps: u64) -> Result<(), Fail> {
+    let mut chance = Chance::new(seed);
+    let mut played = Played::new(rt)?;
+    let mut now: u64 = 0;
+    for _ in 0..steps {
+        let row = played.row(rt, &mut chance);
+        let message = u32::try_from(chance.below(3)).unwrap_or(0);
+        match chance.below(6) {
+            0 => now = now.saturating_add(chance.below(4)),
+            1 if played.lists.len() < 6 => played.push_copy(rt, row)?,
+            1 => played.soften(rt, row),
+            2 | 3 => {
+                let debt = Debt {
+                    message,
+                    deadline: now.saturating_add(5),
+                    must: chance.below(2) == 0,
+                };
+                played.gain_and_expire(rt, row, debt, now)?;
+            }
+            _ => played.pay_and_expire(rt, row, message, now)?,
+        }
+        played.agree(rt)?;
+    }
+    Ok(())
+}
+
+#[test]
+fn rows_gain_and_pay_and_lose_what_is_past(rt: HostRuntime) -> Result<(), Fail> {
+    for seed in 0..4 {
+        play_with_past(&rt, seed, 100)?;
     }
     Ok(())
 }

@@ -197,10 +197,7 @@ impl<M: Machine> StateSet<M> {
     pub(crate) fn names(&self, out: &mut Vec<u32>) -> Result<(), AllocError>
         ensures { OnOk result (AppendsAll (flat_map M.names self.now.states) out.old.items out.new.items) }
     {
-        for at in 0..self.states.len() {
-            self.machine.names(&self.states, at, out)?;
-        }
-        Ok(())
+        self.machine.names_all(&self.states, out)
     }
 
     /// Whether its only state is the first or the ended one.

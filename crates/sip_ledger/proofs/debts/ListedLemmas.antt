@@ -204,22 +204,6 @@ pub earliest-push : (ms : List ℕ) (m : ℕ) → earliest (ms ++ m ∷ []) ≡ 
 earliest-push [] m = refl
 earliest-push (x ∷ xs) m = let turned : min (fold min x xs) m ≡ min m (fold min x xs) = omega arith in ap Some (fold-push x m xs ∙ turned)
 
--- the messages of the debts at bits do not rest on which of the debts must be sent
-pub listed-messages : (o m m' : ℕ → Bool) (i : ℕ) (xs : List Entry) → map (λ (d : Debt). d.message) (debts_from o m i xs) ≡ map (λ (d : Debt). d.message) (debts_from o m' i xs)
-listed-messages o m m' i [] = refl
-listed-messages o m m' i (x ∷ xs) =
-    cond-map (λ (d : Debt). d.message) (o i) (debt_of x (m i)) (debts_from o m (i + 1) xs)
-    ∙ ap (λ l. cond (o i) (x.message ∷ l) l) (listed-messages o m m' (i + 1) xs)
-    ∙ sym (cond-map (λ (d : Debt). d.message) (o i) (debt_of x (m' i)) (debts_from o m' (i + 1) xs))
-
--- the debts at bits that stand n places later are those of entries whose bits begin n places later
-pub listed-shift : (o m : ℕ → Bool) (n i : ℕ) (xs : List Entry) → debts_from (λ k. o (n + k)) (λ k. m (n + k)) i xs ≡ debts_from o m (n + i) xs
-listed-shift o m n i [] = refl
-listed-shift o m n i (x ∷ xs) =
-    let next : n + (i + 1) ≡ n + i + 1 = omega arith in
-    cond-same (o (n + i)) (o (n + i)) (debt_of x (m (n + i))) (debt_of x (m (n + i))) (debts_from (λ k. o (n + k)) (λ k. m (n + k)) (i + 1) xs) (debts_from o m (n + i + 1) xs) refl refl
-    (listed-shift o m n (i + 1) xs ∙ ap (λ j. debts_from o m j xs) next)
-
 -- the least of moments of which none is below the first is the first
 fold-first : (x : ℕ) (xs : List ℕ) → All (λ y. x ≤ y) xs → fold min x xs ≡ x
 fold-first x [] above = refl

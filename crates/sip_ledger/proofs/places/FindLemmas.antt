@@ -17,7 +17,7 @@ use Rattle.sip_ledger.specs.inner.Accounts.{IsAccount, IsFirstPayable, IsWithout
 use Rattle.sip_ledger.specs.inner.Indexes.{holds}
 use Rattle.sip_ledger.proofs.places.LeftLemmas.{gone-left, gone-struck, held-left, owed-left}
 use Rattle.sip_ledger.proofs.debts.ListedLemmas.{no_entry, listed-All}
-use Rattle.sip_ledger.proofs.grids.RowLemmas.{listed-any, removed}
+use Rattle.sip_ledger.proofs.debts.RowLemmas.{listed-any, removed}
 use Rattle.sip_ledger.proofs.debts.PayLemmas.{paid-is, unpaid-is}
 use Rattle.sip_ledger.proofs.places.AccountLemmas.{owed-within, soft-must}
 

@@ -16,7 +16,7 @@ use Rattle.sip_ledger.specs.Debts.{is_payable, softened_debt}
 use Rattle.sip_ledger.specs.Rows.{debts_from}
 use Rattle.sip_ledger.specs.inner.Accounts.{AreAccounts, AreGains, IsAccount, IsFirstPayable, KeepsAccounts, account_debts, accounts_debts, entries_of, must_at, owes_at, pays_at}
 use Rattle.sip_ledger.proofs.debts.ListedLemmas.{listed-same, listed-softened, no_entry}
-use Rattle.sip_ledger.proofs.grids.RowLemmas.{listed-any, some-debt}
+use Rattle.sip_ledger.proofs.debts.RowLemmas.{listed-any, some-debt}
 use Rattle.sip_ledger.proofs.places.AccountLemmas.{changed, debts-length, empty-debts, kept-all, must-below, over, owed-within, pushed, row-account, row-debts}
 use Rattle.sip_ledger.proofs.places.FindLemmas.{unpaid-account}
 

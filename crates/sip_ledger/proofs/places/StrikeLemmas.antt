@@ -1,18 +1,15 @@
 -- Which gains the strikes of an account strike, as strikes are made longer, written and looked for.
-use Rattle.std.proofs.Common.{◌≡◌, ◌≢◌, ℕ, zero, suc, ◌+◌, ◌-◌, ◌<◌, ◌≤◌, ◌==◌, ◌&&◌, ◌||◌, Bool, true, false, cond, List, [], ◌∷◌, ◌++◌, length, take, drop, get_or, set, filter, refl, sym, ap, ap₂, ◌∙◌, subst, inl, inr, arith}
+use Rattle.std.proofs.Common.{◌≡◌, ◌≢◌, ℕ, zero, suc, ◌+◌, ◌-◌, ◌<◌, ◌≤◌, ◌==◌, ◌&&◌, ◌||◌, Bool, true, false, cond, List, [], ◌∷◌, ◌++◌, length, take, drop, get_or, set, filter, refl, sym, ap, ap₂, ◌∙◌, subst, arith}
 use Rattle.std.specs.Prelude.{nat_le, nat_lt}
 use Rattle.std.specs.List.{list_any}
 use Rattle.std.proofs.Math.Bool.{or-false, or_assoc, or_comm}
-use Rattle.std.proofs.lemmas.Bool.{cases_eq, cases_lt, ne_eqb, true≢false}
+use Rattle.std.proofs.lemmas.Bool.{true≢false}
 use Rattle.std.proofs.lemmas.Bool.Decides.{nat_tests}
 use Rattle.std.proofs.lemmas.List.Folds.{list_any-append, list_any_at}
-use Rattle.std.proofs.lemmas.List.Elements.{filter-append}
-use Rattle.std.proofs.Math.Seq.{take-append_seam, drop-append_seam, take-length}
-use Rattle.std.proofs.lemmas.List.{drop_all, drop-append-le, drop-set-add, get_or_default, get_or-drop, length-drop, length-take, length-take-le, take-append-le, take-set-le, take_more}
-use Rattle.sip_ledger.specs.declared.debt.Entry.{Entry}
+use Rattle.std.proofs.Math.Seq.{take-append_seam, drop-append_seam}
+use Rattle.std.proofs.lemmas.List.{drop-append-le, drop-set-add, get_or_default, get_or-drop, length-drop, take-append-le, take-set-le, take_more}
 use Rattle.sip_ledger.specs.declared.accounts.account.Account.{Account}
 use Rattle.sip_ledger.specs.declared.accounts.strikes.Strike.{Strike}
-use Rattle.sip_ledger.specs.Ledgers.{from_to}
 use Rattle.sip_ledger.specs.declared.accounts.gains.Gains.{Gains}
 use Rattle.sip_ledger.specs.inner.Accounts.{IsStruck, IsWritten, Lengthens, Reaches, StrikeToo, entries_of, entry_at, is_left, is_struck, strikes_of, is_out}
 use Rattle.sip_ledger.proofs.places.LeftLemmas.{held-left}
@@ -201,23 +198,6 @@ written-more gains from at old one new a w too low inside = record {
   bound = λ m k past none. too.bound m k (omega (arith, past, inside)) (w.bound m k past none);
 }
 
--- an account that has the written strikes as its own has the gains struck
-pub struck-own : (gains : Gains) (from to : ℕ) (old new : List Strike) (a b : Account) → IsWritten gains from to old new a →
-    b ≡ record a { first = length old; last = length new } → IsStruck gains from to old new a b
-struck-own gains from to old new a b w is =
-    let longer : length old ≤ length new = omega (arith, ap length w.kept, length-take (length old) new) in
-    let whole : strikes_of new b ≡ drop (length old) new = ap (λ (x : Account). strikes_of new x) is ∙ ap (drop (length old)) (take-length new) in
-    record {
-      start = ap (λ (x : Account). x.start) is;
-      end = ap (λ (x : Account). x.end) is;
-      soft = ap (λ (x : Account). x.soft) is;
-      print = ap (λ (x : Account). x.print) is;
-      first = subst (λ (x : Account). x.first ≤ x.last) (sym is) longer;
-      last = subst (λ (x : Account). x.last ≤ length new) (sym is) (omega arith);
-      struck = λ k above left. ap (λ own. is_struck own (entry_at (entries_of gains) k).message k) whole ∙ w.struck k above left;
-      bound = λ m k past none. ap (λ own. is_struck own m k) whole ∙ w.bound m k past none;
-    }
-
 -- where no gain stands between the end of an account and the place, the account as it is has them all struck
 pub struck-none : (gains : Gains) (place : ℕ) (strikes : List Strike) (a : Account) → a.first ≤ a.last → a.last ≤ length strikes → a.end ≡ place →
     IsStruck gains a.end place strikes strikes a a
@@ -231,20 +211,6 @@ struck-none gains place strikes a first last here = record {
   struck = λ k above left. none-too a.end place k (is_struck (strikes_of strikes a) (entry_at (entries_of gains) k).message k) (omega (arith, here));
   bound = λ m k past none. none;
 }
-
--- the elements from one index up to another, and those up to the next index
-pub from_to-none : (xs : List Strike) (n : ℕ) → from_to n n xs ≡ []
-from_to-none xs n = drop_all n (take n xs) (omega (arith, length-take n xs))
-
-from_to-more : (xs : List Strike) (first at : ℕ) (d : Strike) → first ≤ at → at < length xs → from_to first (at + 1) xs ≡ from_to first at xs ++ get_or xs at d ∷ []
-from_to-more xs first at d order within =
-    ap (drop first) (take_more xs at d within)
-    ∙ drop-append-le first (take at xs) (get_or xs at d ∷ []) (omega (arith, order, length-take-le at xs (omega (arith, within))))
-
-pub ending-more : (xs : List Strike) (first at start : ℕ) (d : Strike) → first ≤ at → at < length xs →
-    ending start (from_to first (at + 1) xs) ≡ ending start (from_to first at xs) ++ ending start (get_or xs at d ∷ [])
-ending-more xs first at start d order within =
-    ap (ending start) (from_to-more xs first at d order within) ∙ filter-append (λ s. nat_lt start s.to) (from_to first at xs) (get_or xs at d ∷ [])
 
 -- what a list of strikes strikes, looked at strike by strike
 pub none-struck : (m k : ℕ) → is_struck [] m k ≡ false

@@ -1,9 +1,8 @@
 -- What an account owes, place by place: its debts, whether another account owes the same, and the least deadline of what it must send.
 use Rattle.std.proofs.Common.{◌≡◌, ◌≢◌, ℕ, ◌+◌, ◌<◌, ◌≤◌, ◌==◌, ◌&&◌, Bool, true, false, cond, not, List, [], ◌∷◌, ◌++◌, length, take, drop, get_or, map, refl, sym, ap, ap₂, ◌∙◌, subst, inl, inr, ◌⊎◌, arith, append-nil}
-use Rattle.std.specs.Prelude.{All, IsTrue, Option, Some, None, ◌↔◌, nat_le, nat_lt, option_to_list}
+use Rattle.std.specs.Prelude.{IsTrue, Option, Some, None, ◌↔◌, nat_le, nat_lt, option_to_list}
 use Rattle.std.specs.Bool.{OnTrue}
 use Rattle.std.proofs.lemmas.Bool.{cases_eq, cases_lt, eq-eqb, eqb-true, true≢false}
-use Rattle.std.proofs.lemmas.Bool.Decides.{nat_tests}
 use Rattle.std.proofs.lemmas.List.{get_or-drop, get_or_default, length-drop, length-take-le, map-append}
 use Rattle.std.proofs.lemmas.List.Elements.{All-map}
 use Rattle.sip_ledger.specs.declared.debt.Debt.{Debt}
@@ -13,10 +12,9 @@ use Rattle.sip_ledger.specs.declared.accounts.gains.Gains.{Gains}
 use Rattle.sip_ledger.specs.declared.accounts.strikes.Strike.{Strike}
 use Rattle.sip_ledger.specs.Debts.{debt_deadlines, earliest}
 use Rattle.sip_ledger.specs.Rows.{debt_of, debts_from, IsGap}
-use Rattle.sip_ledger.specs.inner.Accounts.{AreAlike, AreGains, IsAccount, SharesRest, account_debts, entries_of, entry_at, is_gone, is_left, is_struck, must_at, owes_at, strikes_of}
+use Rattle.sip_ledger.specs.inner.Accounts.{AreAlike, AreGains, IsAccount, SharesRest, account_debts, entries_of, entry_at, is_gone, is_struck, must_at, owes_at, strikes_of}
 use Rattle.sip_ledger.proofs.places.LeftLemmas.{entries-long, gone-same, left-kept, owed-left, rising-kept}
 use Rattle.sip_ledger.specs.inner.Indexes.{holds}
-use Rattle.sip_ledger.specs.inner.Places.{AreRising}
 use Rattle.sip_ledger.proofs.debts.ListedLemmas.{back, back-none, back-over, back-same, back-set, earliest-first, earliest-push, front, front-gap, front-next, listed-All, listed-must, listed-none, listed-same, no_entry, parts}
 use Rattle.sip_ledger.proofs.places.AccountLemmas.{must-below, must-from, past-end, soft-must}
 use Rattle.sip_ledger.proofs.places.WithoutLemmas.{before-start, le-yes}
@@ -71,18 +69,6 @@ beside-more one other left right left' right' d are first second = record {
   where
     tails : d ∷ left' ≡ d ∷ right' → left' ≡ right'
     tails same = cc
-
-pub beside-apart : (one other left right left' right' : List Debt) (d e : Debt) → AreBeside one other left right → left ≡ d ∷ left' → right ≡ e ∷ right' → d ≢ e → one ≢ other
-beside-apart one other left right left' right' d e are first second differ same = differ (heads (sym first ∙ are.to same ∙ second))
-  where
-    heads : d ∷ left' ≡ e ∷ right' → d ≡ e
-    heads same = cc
-
-pub beside-longer : (one other left left' : List Debt) (d : Debt) → AreBeside one other left [] → left ≡ d ∷ left' → one ≢ other
-beside-longer one other left left' d are first same = none (sym first ∙ are.to same)
-  where
-    none : d ∷ left' ≡ [] → ⊥
-    none same = cc
 
 -- each account stands at a place where it owes something, or at its end: what is left of both is the same exactly if all of it is
 pub record AreAt (gains : Gains) (strikes : List Strike) (one other : Account) (at beside : ℕ) : Type 0 where
@@ -166,18 +152,6 @@ back-here : (gains : Gains) (strikes : List Strike) (a : Account) (at : ℕ) →
 back-here gains strikes a at is inside owed =
     let end = is.end in
     back-set (owes_at gains strikes a) (must_at gains a) (entries_of gains) at no_entry (omega (arith, inside, end)) owed
-
-pub at-apart : (gains : Gains) (strikes : List Strike) (one other : Account) (at beside : ℕ) → IsAccount gains strikes one → IsAccount gains strikes other →
-    AreAt gains strikes one other at beside → at < one.end → beside < other.end →
-    debt_of (entry_at (entries_of gains) at) (must_at gains one at) ≢ debt_of (entry_at (entries_of gains) beside) (must_at gains other beside) →
-    account_debts gains strikes one ≢ account_debts gains strikes other
-at-apart gains strikes one other at beside is is_other are inside inside_beside differ =
-    let entries = (entries_of gains) in
-    beside-apart (account_debts gains strikes one) (account_debts gains strikes other) (back (owes_at gains strikes one) (must_at gains one) entries at)
-    (back (owes_at gains strikes other) (must_at gains other) entries beside) (back (owes_at gains strikes one) (must_at gains one) entries (at + 1))
-    (back (owes_at gains strikes other) (must_at gains other) entries (beside + 1)) (debt_of (entry_at entries at) (must_at gains one at))
-    (debt_of (entry_at entries beside) (must_at gains other beside)) are.left (back-here gains strikes one at is inside (are.owed inside))
-    (back-here gains strikes other beside is_other inside_beside (are.owed_beside inside_beside)) differ
 
 -- nothing is left at the end of an account
 back-end : (gains : Gains) (strikes : List Strike) (a : Account) (at : ℕ) → a.end ≤ at → back (owes_at gains strikes a) (must_at gains a) (entries_of gains) at ≡ []

@@ -6,8 +6,8 @@ ghost use Rattle.sip_ledger.specs.inner.Indexes.{holds};
 ghost use Rattle.sip_ledger.specs.inner.Places.{AreRising};
 
 use crate::debt::{Debt, Entry};
+use crate::front;
 use crate::index::Index;
-use crate::words;
 use std::alloc::{AllocError, Global};
 
 /// What is asked of a gain most often.
@@ -162,7 +162,20 @@ impl Gains {
         }
     }
 
-    /// The first place from this one on of what must be sent.
+    /// The first message from this one on of which something is left.
+    pub(crate) fn next_message(&self, low: u64) -> Option<u32>
+        requires { AreGains self.now }
+        ensures low { IfSome result (λ message. low ≤ message) }
+        ensures before { IfSome result (λ message. (m k : ℕ) → low ≤ m → m < message → holds self.now.messages m k ≡ false) }
+        ensures none { IfNone result ((m k : ℕ) → low ≤ m → holds self.now.messages m k ≡ false) }
+    {
+        match self.messages.first_from(low, 0) {
+            Some(found) => Some(self.entry(found.1 as usize).message),
+            None => None,
+        }
+    }
+
+    /// The first place from this one on of what must be sent. The place itself is looked at before the index is asked.
     pub(crate) fn next_must(&self, from: usize) -> Option<usize>
         requires { AreGains self.now }
         ensures within { IfSome result (λ at. (from ≤ at) × (at < self.now.end)) }
@@ -170,10 +183,30 @@ impl Gains {
         ensures before { IfSome result (λ at. (k : ℕ) → from ≤ k → k < at → holds self.now.musts 0 k ≡ false) }
         ensures none { IfNone result ((k : ℕ) → from ≤ k → holds self.now.musts 0 k ≡ false) }
     {
+        if self.end <= from {
+            return None;
+        }
+        if self.has_must(from) {
+            return Some(from);
+        }
         match self.musts.next(0, from as u64) {
             Some(at) => Some(at as usize),
             None => None,
         }
+    }
+
+    /// Whether the gain at the place is kept, and must be sent.
+    fn has_must(&self, place: usize) -> bool
+        requires { AreGains self.now }
+        ensures { OnTrue result ((place < self.now.end) × (holds self.now.musts 0 place ≡ true)) }
+    {
+        if place < self.first() {
+            return false;
+        }
+        if self.end <= place {
+            return false;
+        }
+        self.flags(place).must
     }
 
     /// Lets the gain at the place go: it is not left any more.
@@ -203,8 +236,8 @@ impl Gains {
         ensures dropped { IsDropped place self.old self.new }
     {
         let count = place - (self.end - self.entries.len());
-        words::drop_first(&mut self.entries, count);
-        words::drop_first(&mut self.flags, count);
+        front::drop_first(&mut self.entries, count);
+        front::drop_first(&mut self.flags, count);
     }
 }
 

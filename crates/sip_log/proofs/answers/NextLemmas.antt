@@ -49,9 +49,11 @@ end-comes format count last rest (Stops fault) next = next
 abbrev Told : (LogReason → Type 0) → (Item → List ℕ → Type 0) → Next Item → Type 0
 Told P G next = ((fault : LogReason) × (next ≡ stops fault) × P fault) ⊎ ((e : Item) × (after : List ℕ) × (next ≡ gives e after) × G e after)
 
+-- what is not below a number is at least it
 pub not_below : (a b : ℕ) → ¬ (a < b) → b ≤ a
 not_below a b other = elim (cases_lt a b) as (λ _. b ≤ a) [ inl lt ↦ absurd (other lt) | inr le ↦ le ]
 
+-- what is not at most a number is above it
 pub not_above : (a b : ℕ) → ¬ (a ≤ b) → b < a
 not_above a b other = elim (cases_lt b a) as (λ _. b < a) [ inl lt ↦ lt | inr le ↦ absurd (other le) ]
 

@@ -66,6 +66,7 @@ follow-spelled format count last rest (e ∷ es) end few (behind, next, follow) 
       next = subst (λ n. EndsWith format n (last_of e.moment es) more.left end) sum more.next;
     }
 
+-- a number is the sum of 0 and the number
 from_zero : (n : ℕ) → n ≡ 0 + n
 from_zero n = omega arith
 

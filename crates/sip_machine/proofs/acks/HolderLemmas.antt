@@ -25,6 +25,7 @@ pays-it n t debt = (λ pays. (grind (arith, nat_tests), grind (arith, nat_tests)
 
 module _ (texts : Texts) (to : List ℕ) (low high t : ℕ) (rows : List (List Debt)) (row : ℕ) (inside : row < length rows)
     (spans : All (AreBetween low high) rows) (kept : All (Keeps texts) (owes_names (owed_in rows row))) where
+  -- what the row owes
   abbrev debts : List Debt
   debts = owed_in rows row
 

@@ -12,6 +12,7 @@ use Rattle.sip_standard.specs.Debts.{IsWithoutFirst}
 use Rattle.sip_machine.specs.Owes.{owed_in}
 use Rattle.sip_machine.specs.inner.Dues.{rows_in, AreBetween, AreDues}
 
+-- what is not true is false
 is_false : (b : Bool) → ¬ (b ≡ true) → b ≡ false
 is_false true never = absurd (never refl)
 is_false false never = refl
@@ -36,6 +37,7 @@ without-behind P debt debts left fails a = record {
 
 -- What follows is of debts of which a send can pay one, or none.
 module _ (message t : ℕ) where
+  -- the debt is payable: it is of the message, and its deadline is not past
   abbrev Pays : Debt → Type 0
   Pays debt = IsTrue (is_payable message t debt)
 
@@ -60,6 +62,7 @@ module _ (message t : ℕ) where
   none-step debt debts true is any more = absurd (true≢false any)
   none-step debt debts false is any more = All-cons (λ x. ¬ (Pays x)) debt debts (λ pays. true≢false (sym pays ∙ is)) (more any)
 
+  -- where the test finds no payable debt, none of the debts is payable
   pub pays-none : (debts : List Debt) → list_any (is_payable message t) debts ≡ false → All (λ x. ¬ (Pays x)) debts
   pays-none [] any = All-nil (λ x. ¬ (Pays x))
   pays-none (debt ∷ debts) any = none-step debt debts (is_payable message t debt) refl any (pays-none debts)

@@ -69,6 +69,7 @@ pub invite_server_3261_window_same : SameWindow invite_server_3261 invite_server
 invite_server_3261_window_same a b p code.Passed = refl
 invite_server_3261_window_same a b p (code.In phase again) = invite_server_window_same a b p phase
 
+-- until when a phase can be waited in does not depend on the book
 pub invite_server_3261_closes_same : SameCloses invite_server_3261 invite_server_3261_seen
 invite_server_3261_closes_same a b p code.Passed = refl
 invite_server_3261_closes_same a b p (code.In phase again) = invite_server_closes_same a b p phase

@@ -73,9 +73,11 @@ message-told action moment len behind next other (inr (long, (text, b, after, wh
 abbrev Entered : Format → ℕ → List ℕ → List ℕ → Item → List ℕ → Type 0
 Entered format last line behind e after = (line ++ line_feed ∷ behind ≡ entry_says e ++ after) × (last ≤ e.moment) × IsEntry format e
 
+-- a line of a message that keeps the limits tells an entry within them
 pub message-within : (action : Action) (moment len : ℕ) → KeepsLimits (message action moment len) → IsWithinLimits action moment len
 message-within action moment len is = (is.0, λ other. (is.1, is.2))
 
+-- an entry with a message that is within the limits has a line that keeps them
 pub within-message : (action : Action) (moment len : ℕ) → HasMessage action → IsWithinLimits action moment len → KeepsLimits (message action moment len)
 within-message action moment len other is = (is.0, (is.1 other).0, (is.1 other).1)
 

@@ -120,10 +120,12 @@ some-none zero (suc from) (suc to) le = absurd (omega (arith, le))
 some-none (suc count) (suc from) (suc to) le =
     let e : to - from ≡ suc to - suc from = omega arith in some-none count from to (omega (arith, le)) ∙ ap (λ n. rows_in n None) e
 
+-- where a row that owes nothing passes the test, all rows of nobody pass it
 passing-all : (p : List Debt → Bool) (n : ℕ) → p [] ≡ true → filter p (rows_in n None) ≡ rows_in n None
 passing-all p zero is = refl
 passing-all p (suc n) is = ap (λ b. cond b ([] ∷ filter p (rows_in n None)) (filter p (rows_in n None))) is ∙ ap (λ rows. [] ∷ rows) (passing-all p n is)
 
+-- where a row that owes nothing does not pass the test, no row of nobody does
 passing-no : (p : List Debt → Bool) (n : ℕ) → p [] ≡ false → filter p (rows_in n None) ≡ []
 passing-no p zero is = refl
 passing-no p (suc n) is = ap (λ b. cond b ([] ∷ filter p (rows_in n None)) (filter p (rows_in n None))) is ∙ passing-no p n is

@@ -62,7 +62,7 @@ impl Played {
         Ok(())
     }
 
-    fn pay(&mut self, rt: &impl Abort, row: usize, message: u32, moment: u64) -> Result<(), Fail> {
+    fn pay(&mut self, rt: &impl Abort, row: usize, message: u64, moment: u64) -> Result<(), Fail> {
         assert!(rt; row < self.accounts.len());
         assert!(rt; row < self.lists.len());
         let first = self.lists[row]
@@ -83,7 +83,7 @@ impl Played {
         rt: &impl Abort,
         from: usize,
         to: usize,
-        message: u32,
+        message: u64,
         moment: u64,
     ) -> Result<(), Fail> {
         assert!(rt; to <= self.accounts.len());
@@ -173,7 +173,7 @@ impl Played {
         &mut self,
         rt: &impl Abort,
         row: usize,
-        message: u32,
+        message: u64,
         moment: u64,
     ) -> Result<(), Fail> {
         assert!(rt; row < self.accounts.len());
@@ -341,7 +341,7 @@ fn gain_some(
     let must = chance.below(2) == 0;
     for row in 0..played.lists.len() {
         if chance.below(3) != 0 {
-            let message = u32::try_from(chance.below(3)).unwrap_or(0);
+            let message = chance.below(3);
             let debt = Debt {
                 message,
                 deadline,
@@ -390,7 +390,7 @@ fn change_many(
 ) -> Result<(), Fail> {
     let from = played.row(rt, chance);
     let to = played.row(rt, chance);
-    let message = u32::try_from(chance.below(3)).unwrap_or(0);
+    let message = chance.below(3);
     match chance.below(6) {
         0 if played.lists.len() < 12 => played.push_timely(rt, from, to, moment),
         1 => played.expire_each(rt, from, moment),
@@ -427,7 +427,7 @@ fn play(rt: &(impl Abort + AllocGlobal), seed: u64, steps: u64, rises: bool) -> 
             1 => now = now.saturating_add(chance.below(3)),
             2 | 3 => played.expire(rt, row, moment)?,
             4..11 => {
-                let message = u32::try_from(chance.below(4)).unwrap_or(0);
+                let message = chance.below(4);
                 played.pay(rt, row, message, moment)?;
             }
             11..15 => change_rows(rt, &mut chance, &mut played)?,
@@ -461,7 +461,7 @@ fn play_with_past(rt: &(impl Abort + AllocGlobal), seed: u64, steps: u64) -> Res
     let mut now: u64 = 0;
     for _ in 0..steps {
         let row = played.row(rt, &mut chance);
-        let message = u32::try_from(chance.below(3)).unwrap_or(0);
+        let message = chance.below(3);
         match chance.below(6) {
             0 => now = now.saturating_add(chance.below(4)),
             1 if played.lists.len() < 6 => played.push_copy(rt, row)?,
@@ -519,14 +519,14 @@ fn what_is_owed_is_told_after_a_long_life(rt: HostRuntime) -> Result<(), Fail> {
     played.push_copy(&rt, 0)?;
     for moment in 0..150_u64 {
         let debt = Debt {
-            message: u32::try_from(moment % 5).unwrap_or(0),
+            message: moment % 5,
             deadline: moment + 3,
             must: moment % 7 == 0,
         };
         played.gain(&rt, 0, debt)?;
         played.gain(&rt, 1, debt)?;
-        played.pay(&rt, 0, u32::try_from((moment + 3) % 5).unwrap_or(0), moment)?;
-        played.pay(&rt, 1, u32::try_from((moment + 4) % 5).unwrap_or(0), moment)?;
+        played.pay(&rt, 0, (moment + 3) % 5, moment)?;
+        played.pay(&rt, 1, (moment + 4) % 5, moment)?;
         played.expire(&rt, 0, moment)?;
         played.expire(&rt, 1, moment)?;
         played.accounts.tidy();
@@ -547,7 +547,7 @@ fn one_row_pays_in_any_order(rt: HostRuntime) -> Result<(), Fail> {
         };
         played.gain(&rt, 0, debt)?;
     }
-    for step in 0..100_u32 {
+    for step in 0..100_u64 {
         played.pay(&rt, 0, step * 37 % 100, 5)?;
         played.accounts.tidy();
         played.agree(&rt)?;

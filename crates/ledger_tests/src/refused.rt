@@ -23,8 +23,8 @@ fn alike(
 }
 
 /// Does what the step with this number does: a row comes, gains, or pays one of three messages.
-fn step(rt: &impl Abort, accounts: &mut Accounts, number: u32) -> Result<(), AllocError> {
-    let moment = u64::from(number);
+fn step(rt: &impl Abort, accounts: &mut Accounts, number: u64) -> Result<(), AllocError> {
+    let moment = number;
     let debt = Debt {
         message: number % 3,
         deadline: moment + 9,
@@ -48,7 +48,7 @@ fn step_again(
     rt: &(impl Abort + AllocGlobal),
     accounts: &mut Accounts,
     twin: &mut Accounts,
-    number: u32,
+    number: u64,
 ) -> Result<(), Fail> {
     let done = step(rt, accounts, number);
     if done.is_err() {
@@ -82,7 +82,7 @@ fn accounts_are_as_before_after_a_refused_growth(rt: HostRuntime) -> Result<(), 
         accounts.push()?;
         twin.push()?;
     }
-    for number in 0..48_u32 {
+    for number in 0..48_u64 {
         step_again(&rt, &mut accounts, &mut twin, number)?;
         names_again(&rt, &accounts)?;
         if number % 8 == 7 {

@@ -38,7 +38,7 @@ pub struct Accounts {
     strikes: Vec<Strike>,
     rows: Vec<Account>,
     /// The message that was paid last, while what was gained of it may stand before what is owed of it.
-    paid: Option<u32>,
+    paid: Option<u64>,
 }
 
 impl Model for Accounts {
@@ -142,7 +142,7 @@ impl Accounts {
 
     /// Takes out of the row the first debt that a send of the message at the moment pays, if there is one. On an error all is
     /// as before.
-    pub fn pay(&mut self, row: usize, message: u32, moment: u64) -> Result<(), AllocError>
+    pub fn pay(&mut self, row: usize, message: u64, moment: u64) -> Result<(), AllocError>
         requires { row < length self.old }
         ensures ok { OnOk result (self.new ≡ set self.old row (paid_by message moment (owed_in self.old row))) }
         ensures err { OnErr result (self.new ≡ self.old) }
@@ -164,7 +164,7 @@ impl Accounts {
     }
 
     /// Whether the row has a debt that a send of the message at the moment pays.
-    pub fn can_pay(&self, row: usize, message: u32, moment: u64) -> bool
+    pub fn can_pay(&self, row: usize, message: u64, moment: u64) -> bool
         requires { row < length self.now }
         ensures { result ≡ list_any (is_payable message moment) (owed_in self.now row) }
     {
@@ -216,7 +216,7 @@ impl Accounts {
     pub fn pay_and_expire(
         &mut self,
         row: usize,
-        message: u32,
+        message: u64,
         moment: u64,
     ) -> Result<(), AllocError>
         requires { row < length self.old }
@@ -289,7 +289,7 @@ impl Accounts {
     }
 
     /// Puts the number of each message that the row owes after the others, once for each debt.
-    pub fn names(&self, alloc: Global, row: usize, numbers: &mut Vec<u32>) -> Result<(), AllocError>
+    pub fn names(&self, alloc: Global, row: usize, numbers: &mut Vec<u64>) -> Result<(), AllocError>
         requires { row < length self.now }
         ensures { OnOk result (numbers.new.items ≡ numbers.old.items ++ map (λ debt. debt.message) (owed_in self.now row)) }
     {
@@ -302,7 +302,7 @@ impl Accounts {
 
     /// Puts the numbers of the messages that rows owe after the others, from the least on, each once. On an error the vector is as
     /// before.
-    pub fn all_names(&self, numbers: &mut Vec<u32>) -> Result<(), AllocError>
+    pub fn all_names(&self, numbers: &mut Vec<u64>) -> Result<(), AllocError>
         ensures ok { OnOk result (AppendsOwed self.now numbers.old.items numbers.new.items) }
         ensures err { OnErr result (numbers.new.items ≡ numbers.old.items) }
     {

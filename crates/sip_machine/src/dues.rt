@@ -21,8 +21,8 @@ use std::marker::Model;
 pub struct Dues {
     rows: usize,
     ledger: Option<Box<Accounts>>,
-    lowest: u32,
-    highest: u32,
+    lowest: u64,
+    highest: u64,
 }
 
 impl Model for Dues {
@@ -46,7 +46,7 @@ impl Dues {
         Dues {
             rows: 0,
             ledger: None,
-            lowest: u32::MAX,
+            lowest: u64::MAX,
             highest: 0,
         }
     }
@@ -137,7 +137,7 @@ impl Dues {
     pub(crate) fn pay_and_expire(
         &mut self,
         row: usize,
-        message: u32,
+        message: u64,
         moment: u64,
     ) -> Result<(), AllocError>
         requires { row < length self.old }
@@ -151,7 +151,7 @@ impl Dues {
     }
 
     /// Whether the row has a debt that a send of the message at the moment pays.
-    pub(crate) fn can_pay(&mut self, row: usize, message: u32, moment: u64) -> bool
+    pub(crate) fn can_pay(&mut self, row: usize, message: u64, moment: u64) -> bool
         requires { row < length self.old }
         ensures same { self.new ≡ self.old }
         ensures can { result ≡ list_any (is_payable message moment) (owed_in self.old row) }
@@ -250,7 +250,7 @@ impl Dues {
         &self,
         alloc: Global,
         row: usize,
-        numbers: &mut Vec<u32>,
+        numbers: &mut Vec<u64>,
     ) -> Result<(), AllocError>
         requires { row < length self.now }
         ensures ok { OnOk result (numbers.new.items ≡ numbers.old.items ++ owes_names (owed_in self.now row)) }
@@ -265,7 +265,7 @@ impl Dues {
     }
 
     /// Appends the numbers of the messages that rows owe, each once. On an error the vector is as before.
-    pub(crate) fn names_all(&self, numbers: &mut Vec<u32>) -> Result<(), AllocError>
+    pub(crate) fn names_all(&self, numbers: &mut Vec<u64>) -> Result<(), AllocError>
         ensures ok { OnOk result (AppendsAll (flat_map owes_names self.now) numbers.old.items numbers.new.items) }
         ensures err { OnErr result (numbers.new.items ≡ numbers.old.items) }
     {
@@ -287,7 +287,7 @@ impl Dues {
     }
 
     /// Two numbers between which the numbers of all messages are that are owed.
-    pub(crate) fn span(&self) -> (u32, u32)
+    pub(crate) fn span(&self) -> (u64, u64)
         ensures { All (AreBetween result.0 result.1) self.now }
     {
         (self.lowest, self.highest)
@@ -302,7 +302,7 @@ impl Dues {
         };
         if is_blank(ledger) {
             self.ledger = None;
-            self.lowest = u32::MAX;
+            self.lowest = u64::MAX;
             self.highest = 0;
         } else {
             ledger.tidy();

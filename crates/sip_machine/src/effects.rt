@@ -28,7 +28,7 @@ pub(crate) enum Rest {
     /// Nothing changes.
     Stays,
     /// It pays the first debt that a send of the message with this number pays.
-    Pays(u32),
+    Pays(u64),
 }
 
 /// Drops what has expired of what the state owes, and does to the rest what the row does. On an error all is as before.

@@ -126,14 +126,14 @@ pub trait Machine: Drop {
         &self,
         pool: &Pool<Self::Phase>,
         at: usize,
-        out: &mut Vec<u32>,
+        out: &mut Vec<u64>,
     ) -> Result<(), AllocError>
         requires { at < length pool.now }
         ensures ok { HoldsAt (λ x. OnOk result (AppendsAll (names x) out.old.items out.new.items)) pool.now at }
         ensures err { OnErr result (out.new.items ≡ out.old.items) };
 
     /// Appends the numbers of the messages that the states name, each at least once. On an error the vector is as before.
-    fn names_all(&self, pool: &Pool<Self::Phase>, out: &mut Vec<u32>) -> Result<(), AllocError>
+    fn names_all(&self, pool: &Pool<Self::Phase>, out: &mut Vec<u64>) -> Result<(), AllocError>
         ensures ok { OnOk result (AppendsAll (flat_map names pool.now) out.old.items out.new.items) }
         ensures err { OnErr result (out.new.items ≡ out.old.items) };
 

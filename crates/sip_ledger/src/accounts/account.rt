@@ -94,10 +94,10 @@ fn next(gains: &Gains, strikes: &[Strike], account: Account, from: usize) -> usi
 }
 
 /// A number for a message and a deadline, which tells most apart at once.
-fn worth(message: u32, deadline: u64) -> u64
+fn worth(message: u64, deadline: u64) -> u64
     ensures { result ≡ worth_of message deadline }
 {
-    let number = mixed(mixed(1, u64::from(message)), deadline);
+    let number = mixed(mixed(1, message), deadline);
     mixed(number, number >> 32)
 }
 
@@ -154,7 +154,7 @@ pub(crate) fn find(
     strikes: &[Strike],
     account: Account,
     seek: &mut Seek,
-    message: u32,
+    message: u64,
     moment: u64,
 ) -> Option<usize>
     requires gained { AreGains gains.now }
@@ -261,7 +261,7 @@ pub(crate) fn paid_and_expired(
     gains: &Gains,
     strikes: &mut Vec<Strike>,
     account: Account,
-    message: u32,
+    message: u64,
     moment: u64,
 ) -> Result<Account, AllocError>
     requires gained { AreGains gains.now }
@@ -280,7 +280,7 @@ fn without_paid(
     gains: &Gains,
     strikes: &mut Vec<Strike>,
     account: Account,
-    message: u32,
+    message: u64,
     moment: u64,
 ) -> Result<Account, AllocError>
     requires gained { AreGains gains.now }
@@ -344,7 +344,7 @@ pub(crate) fn place_near(
 }
 
 /// Whether the account can gain the message at the place, as far as it is the account's own.
-fn fits(strikes: &[Strike], account: Account, message: u32, place: usize) -> bool
+fn fits(strikes: &[Strike], account: Account, message: u64, place: usize) -> bool
     requires first { account.first ≤ account.last }
     requires last { account.last ≤ length strikes.now }
     ensures end { OnTrue result (account.end ≤ place) }

@@ -98,7 +98,7 @@ impl Accounts {
         &mut self,
         from: usize,
         to: usize,
-        message: u32,
+        message: u64,
         moment: u64,
     ) -> Result<(), AllocError>
         requires { to ≤ length self.old }
@@ -160,7 +160,7 @@ fn push_some(
     rows: &mut Vec<Account>,
     from: usize,
     to: usize,
-    message: u32,
+    message: u64,
     moment: u64,
 ) -> Result<(), AllocError>
     requires accounts { AreAccounts gains.now strikes.old.items rows.old.items }
@@ -196,7 +196,7 @@ fn paid(
     strikes: &mut Vec<Strike>,
     account: Account,
     seek: &mut Seek,
-    message: u32,
+    message: u64,
     moment: u64,
 ) -> Result<Option<Account>, AllocError>
     requires gained { AreGains gains.now }

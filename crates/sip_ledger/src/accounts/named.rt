@@ -15,24 +15,24 @@ pub(crate) fn name_all(
     gains: &Gains,
     strikes: &[Strike],
     rows: &[Account],
-    numbers: &mut Vec<u32>,
+    numbers: &mut Vec<u64>,
 ) -> Result<(), AllocError>
     requires { AreAccounts gains.now strikes.now rows.now }
     ensures ok { OnOk result (AppendsOwed (accounts_debts gains.now strikes.now rows.now) numbers.old.items numbers.new.items) }
     ensures err { OnErr result (take (length numbers.old.items) numbers.new.items ≡ numbers.old.items) }
 {
-    let mut low: u64 = 0;
-    while let Some(message) = gains.next_message(low) {
+    let mut last: Option<u64> = None;
+    while let Some(message) = gains.next_message(last) {
         if is_named(gains, strikes, rows, message) {
             numbers.push(message)?;
         }
-        low = u64::from(message) + 1;
+        last = Some(message);
     }
     Ok(())
 }
 
 /// Whether one of the accounts owes the message.
-fn is_named(gains: &Gains, strikes: &[Strike], rows: &[Account], message: u32) -> bool
+fn is_named(gains: &Gains, strikes: &[Strike], rows: &[Account], message: u64) -> bool
     requires { AreAccounts gains.now strikes.now rows.now }
     ensures { result ≡ some_owes message (accounts_debts gains.now strikes.now rows.now) }
 {
@@ -46,7 +46,7 @@ fn is_named(gains: &Gains, strikes: &[Strike], rows: &[Account], message: u32) -
 }
 
 /// Whether the account owes the message.
-fn names(gains: &Gains, strikes: &[Strike], account: Account, seek: &mut Seek, message: u32) -> bool
+fn names(gains: &Gains, strikes: &[Strike], account: Account, seek: &mut Seek, message: u64) -> bool
     requires gained { AreGains gains.now }
     requires account { IsAccount gains.now strikes.now account }
     requires seek { IsSeek gains.now message seek.old }

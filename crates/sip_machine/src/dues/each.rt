@@ -62,7 +62,7 @@ impl Dues {
         &mut self,
         from: usize,
         to: usize,
-        message: u32,
+        message: u64,
         moment: u64,
     ) -> Result<(), AllocError>
         requires { to ≤ length self.old }

@@ -65,7 +65,7 @@ impl<P: Phase> Pool<P> {
         moment: u64,
         from: usize,
         to: usize,
-        message: u32,
+        message: u64,
     ) -> Result<(), AllocError>
         requires from { from < length self.old }
         requires to { to ≤ length self.old }

@@ -489,7 +489,7 @@ fn rows_gain_and_pay_and_lose_what_is_past(rt: HostRuntime) -> Result<(), Fail> 
     Ok(())
 }
 
-/// Equal debts side by side, at the counts at which words of bits end.
+/// A row owes equal debts as often as it gained them, also about the counts at which a word of 64 bits would end.
 #[test]
 fn equal_debts_count_as_often_as_they_were_gained(rt: HostRuntime) -> Result<(), Fail> {
     let debt = Debt {

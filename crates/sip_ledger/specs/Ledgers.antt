@@ -1,6 +1,6 @@
 use Rattle.std.specs.Prelude.{◌<◌, ℕ, length, List, drop, get_or, take}
 
--- What many rows owe.
+-- Parts of lists, and lists of numbers that rise.
 
 -- the elements of a list from one index up to another
 abbrev pub from_to : {X : Type 0} → ℕ → ℕ → List X → List X

@@ -1,4 +1,4 @@
-//! What many rows owe: one list of what they gained, and for each row which of it.
+//! What many rows owe: one list of what they gained, and for each row an account of what it owes of that list.
 ghost use Rattle.std.specs.Prelude.{◌≡◌, ◌↔◌, ◌<◌, ◌++◌, ◌∷◌, [], ℕ, List, IsTrue, OnOk, OnErr, IfOk, IfSome, IfNone, All, length, set, map, filter, take, drop, get_or};
 ghost use Rattle.std.specs.List.{list_any};
 ghost use Rattle.sip_ledger.specs.Accounts.{owed_in, debts_print, AppendsOwed};

@@ -1,4 +1,4 @@
-//! What the states of one set owe: one list of what they gained for all of them, and for each state which of it.
+//! What the states of one set owe: one list of what they gained for all of them, and for each state a row, which tells what of that list it owes.
 #![tactic(auto)]
 
 mod accounts;

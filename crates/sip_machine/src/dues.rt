@@ -1,4 +1,4 @@
-//! What each of many states owes: a ledger of accounts, if any of them owes something.
+//! What each of many states owes: accounts of all of them, if any owes something.
 ghost use Rattle.std.specs.Prelude.{◌≡◌, ◌↔◌, ◌<◌, ◌≤◌, ◌++◌, ◌∷◌, [], List, IsTrue, IfOk, OnOk, OnErr, None, All, flat_map, length, set, map, filter, take, drop};
 ghost use Rattle.std.specs.List.{list_any};
 ghost use Rattle.sip_ledger.specs.Debts.{counts_at, softened_debt, is_payable, debt_deadlines, paid_by};
@@ -310,7 +310,7 @@ impl Dues {
     }
 }
 
-/// A ledger of `rows` rows, of which the row `row` owes this debt, as far as it counts at the moment, and no other owes anything.
+/// Accounts of `rows` rows, of which the row `row` owes this debt, as far as it counts at the moment, and no other owes anything.
 fn opened(
     alloc: Global,
     rows: usize,
@@ -326,7 +326,7 @@ fn opened(
     Ok(Box::new(alloc, ledger)?)
 }
 
-/// A ledger of `rows` rows that owe nothing.
+/// Accounts of `rows` rows that owe nothing.
 fn blank(alloc: Global, rows: usize) -> Result<Accounts, AllocError>
     ensures { IfOk result (λ ledger. ledger ≡ rows_in rows None) }
 {
@@ -337,7 +337,7 @@ fn blank(alloc: Global, rows: usize) -> Result<Accounts, AllocError>
     Ok(ledger)
 }
 
-/// Whether no row of the ledger owes anything.
+/// Whether no row of the accounts owes anything.
 fn is_blank(ledger: &Accounts) -> bool
     ensures { IsTrue result → (ledger.now ≡ rows_in (length ledger.now) None) }
 {

@@ -165,8 +165,8 @@ impl<H: BuildHasher + Drop> Survey<H> {
     /// are numbered anew, in their order, and the messages that are kept then are just those that they name.
     ///
     /// Of a transaction that was idle again, as a server is that has ended, nothing is lost. A later message of another forgotten transaction
-    /// begins a new one: that a client that ended sends its request again is no breach then. So `until` is best the number that the newest
-    /// entry had so long ago that no message of an ended transaction can be on its way. After an error every call answers `StepError::Failed`.
+    /// begins a new one, so a client that ended may then send its request again without a breach. `until` is best the number of the newest of
+    /// the entries that are so old that no message of an ended transaction can be on its way. After an error every call answers `StepError::Failed`.
     pub fn forget(&mut self, until: u64) -> Result<(), StepError>
         ensures forgets { OnOk result ((es : List (Observation KeyParts)) → SurveysFor self.old es
             → (kept : KeyParts → Bool) × ForgetsUpTo until self.old.tables.times es kept × SurveysFor self.new (remembered kept es)

@@ -1,4 +1,4 @@
--- Rows whose bits change, and what they owe then.
+-- What is owed once a place is owed no more, or is owed too.
 use Rattle.std.proofs.Common.{◌≡◌, ◌≢◌, ℕ, ◌+◌, ◌<◌, ◌≤◌, Bool, true, false, List, [], ◌∷◌, ◌++◌, length, take, get_or, append-nil, sym, ap, ap₂, ◌∙◌, subst, arith}
 use Rattle.std.specs.List.{list_any}
 use Rattle.std.proofs.lemmas.Bool.{false_from_ne_true, or_left, or_right}
@@ -10,7 +10,7 @@ use Rattle.sip_ledger.specs.Debts.{IsWithoutFirst}
 use Rattle.sip_ledger.specs.Rows.{debt_of, debts_from}
 use Rattle.sip_ledger.proofs.debts.ListedLemmas.{no_entry, front, back, parts, back-set, back-unset, back-same, back-none, front-same, listed-All, listed-append, listed-none}
 
--- where the bit at `at` is cleared, and its debt is the first of which P holds, what is left is without the first of which P holds
+-- where the place `at` is owed no more, and its debt is the first of which P holds, what is left is without the first of which P holds
 pub removed : (P : Debt → Type 0) (entries : List Entry) (o m o' m' : ℕ → Bool) (at : ℕ) (left : List Debt) → at < length entries → o at ≡ true → o' at ≡ false →
     ((k : ℕ) → k ≢ at → o' k ≡ o k) → ((k : ℕ) → k ≢ at → m' k ≡ m k) → P (debt_of (get_or entries at no_entry) (m at)) →
     ((k : ℕ) → k < at → o k ≡ true → ¬ (P (debt_of (get_or entries k no_entry) (m k)))) → left ≡ debts_from o' m' 0 entries →
@@ -34,7 +34,7 @@ removed P entries o m o' m' at left within is gone others must_others holds none
       ∙ back-same o' m' o m entries (at + 1) (λ j above. let not_at : j ≢ at = omega (arith, above) in (others j not_at, must_others j not_at)));
 }
 
--- with one entry more after the others a row owes what it did
+-- with one entry more after the others, which is not owed, the same is owed
 pub grown-debts : (entries : List Entry) (entry : Entry) (o m : ℕ → Bool) → ((k : ℕ) → o k ≡ true → k < length entries) →
     debts_from o m 0 (entries ++ entry ∷ []) ≡ debts_from o m 0 entries
 grown-debts entries entry o m within =
@@ -45,7 +45,7 @@ grown-debts entries entry o m within =
     unset : (k : ℕ) → 0 + length entries ≤ k → o k ≡ false
     unset k from = false_from_ne_true (o k) (λ set. absurd (omega (arith, within k set, from)))
 
--- where the bit at `at` is set after all others, the row owes its debt after what it did
+-- where the place `at`, after all others that are owed, is owed too, its debt stands after the others
 pub gained-debts : (entries : List Entry) (o m o' m' : ℕ → Bool) (at : ℕ) → at < length entries → ((k : ℕ) → at ≤ k → o k ≡ false) →
     o' at ≡ true → ((k : ℕ) → k ≢ at → o' k ≡ o k) → ((k : ℕ) → k ≢ at → m' k ≡ m k) →
     debts_from o' m' 0 entries ≡ debts_from o m 0 entries ++ debt_of (get_or entries at no_entry) (m' at) ∷ []
@@ -60,7 +60,7 @@ gained-debts entries o m o' m' at inside last here others must_others =
     (back-set o' m' entries at no_entry inside here
     ∙ ap (λ l. debt ∷ l) (back-none o' m' entries (at + 1) (λ j above. let not : j ≢ at = omega (arith, above) in others j not ∙ last j (omega (arith, above)))))
 
--- where the debt at a bit that is set passes a test, one of the debts that are owed does
+-- where the debt of a place that is owed passes a test, one of the debts does
 pub listed-any : (test : Debt → Bool) (entries : List Entry) (o m : ℕ → Bool) (at : ℕ) → at < length entries → o at ≡ true →
     test (debt_of (get_or entries at no_entry) (m at)) ≡ true → list_any test (debts_from o m 0 entries) ≡ true
 listed-any test entries o m at within is passes =
@@ -71,7 +71,7 @@ listed-any test entries o m at within is passes =
     ∙ list_any-append test before (debt ∷ behind)
     ∙ or_right (list_any test before) (list_any test (debt ∷ behind)) (or_left (test debt) (list_any test behind) passes)
 
--- where a bit is set, something is owed
+-- where a place is owed, there is a debt
 pub some-debt : (entries : List Entry) (o m : ℕ → Bool) (k : ℕ) → k < length entries → o k ≡ true → debts_from o m 0 entries ≢ []
 some-debt entries o m k within is none =
     let debt = debt_of (get_or entries k no_entry) (m k) in

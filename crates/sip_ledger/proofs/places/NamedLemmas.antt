@@ -70,7 +70,7 @@ payable-owes message [] = refl
 payable-owes message (debt ∷ debts) =
     ap₂ (λ a b. a || b) (ap (λ late. debt.message == message && late) (le-yes 0 debt.deadline (omega arith)) ∙ and-true (debt.message == message)) (payable-owes message debts)
 
--- one of the accounts owes the message, or none does
+-- where one of the accounts owes the message, some row does
 pub named-here : (gains : Gains) (strikes : List Strike) (rows : List Account) (message at : ℕ) (none : Account) → at < length rows →
     owes_message message (account_debts gains strikes (get_or rows at none)) ≡ true → some_owes message (accounts_debts gains strikes rows) ≡ true
 named-here gains strikes rows message at none inside is =
@@ -78,6 +78,7 @@ named-here gains strikes rows message at none inside is =
     list_any_at (owes_message message) (accounts_debts gains strikes rows) at [] (omega (arith, inside, debts-length gains strikes rows))
     (ap (owes_message message) (row-debts gains strikes rows at a inside (get_or_default rows at none a inside)) ∙ is)
 
+-- where none of the accounts owes the message, none of their lists of debts has it
 pub named-nowhere : (gains : Gains) (strikes : List Strike) (rows : List Account) (message : ℕ) → All (λ a. owes_message message (account_debts gains strikes a) ≡ false) rows →
     some_owes message (accounts_debts gains strikes rows) ≡ false
 unfolding accounts_debts
@@ -98,6 +99,7 @@ unleft-account gains strikes a message none =
     let left = owed-left gains strikes a j (ap (owes_at gains strikes a) (sym here) ∙ owed) in
     absurd (true≢false (sym (held-left gains message j named ∙ left) ∙ none j)))))
 
+-- a message of which nothing is left is owed by none of the accounts
 pub unleft-unnamed : (gains : Gains) (strikes : List Strike) (rows : List Account) (message : ℕ) → ((k : ℕ) → holds gains.messages message k ≡ false) →
     some_owes message (accounts_debts gains strikes rows) ≡ false
 unleft-unnamed gains strikes rows message none = named-nowhere gains strikes rows message (λ k d below. unleft-account gains strikes (get_or rows k d) message none)
@@ -111,6 +113,7 @@ pub record AreNamedTo (rows : List (List Debt)) (low : ℕ) (old new : List ℕ)
   pub owed : (m : ℕ) → Contains names m → some_owes m rows ≡ true
   pub all : (m : ℕ) → m < low → some_owes m rows ≡ true → Contains names m
 
+-- AreNamedTo holds at the start: no message is below 0
 pub named-none : (rows : List (List Debt)) (old : List ℕ) → AreNamedTo rows 0 old old
 named-none rows old = record {
   names = [];
@@ -121,7 +124,7 @@ named-none rows old = record {
   all = λ m early. absurd (omega (arith, early));
 }
 
--- the next message is not owed
+-- AreNamedTo goes on over messages that are not owed
 pub named-past : (rows : List (List Debt)) (low message : ℕ) (old new : List ℕ) → AreNamedTo rows low old new → low ≤ message →
     ((m : ℕ) → low ≤ m → m < message → some_owes m rows ≡ false) → some_owes message rows ≡ false → AreNamedTo rows (message + 1) old new
 named-past rows low message old new are order between none = record {
@@ -139,7 +142,7 @@ named-past rows low message old new are order between none = record {
   ];
 }
 
--- or it is, and is told
+-- numbers rise with one more that is above all of them
 rise-more : (names : List ℕ) (low message : ℕ) → Rise names → ((m : ℕ) → Contains names m → m < low) → low ≤ message → Rise (names ++ message ∷ [])
 rise-more names low message rise below order = λ i k early late. elim (cases_lt k (length names)) [
   | inl inside ↦
@@ -155,6 +158,7 @@ rise-more names low message rise below order = λ i k early late. elim (cases_lt
       omega (arith, first, second, under, order)
 ]
 
+-- AreNamedTo goes on with the next message that is owed, once it is told
 pub named-more : (rows : List (List Debt)) (low message : ℕ) (old new now : List ℕ) → AreNamedTo rows low old new → low ≤ message →
     ((m : ℕ) → low ≤ m → m < message → some_owes m rows ≡ false) → some_owes message rows ≡ true → now ≡ new ++ message ∷ [] → AreNamedTo rows (message + 1) old now
 named-more rows low message old new now are order between some is = record {
@@ -178,11 +182,11 @@ named-more rows low message old new now are order between some is = record {
   ];
 }
 
--- what was there stands before them
+-- the old numbers stand before those that were appended
 pub named-front : (rows : List (List Debt)) (low : ℕ) (old new : List ℕ) → AreNamedTo rows low old new → take (length old) new ≡ old
 named-front rows low old new are = ap (take (length old)) are.whole ∙ take-append_seam old are.names
 
--- all are told
+-- where no message from `low` on is owed, all that are owed are told
 pub named-all : (rows : List (List Debt)) (low : ℕ) (old new : List ℕ) → AreNamedTo rows low old new → ((m : ℕ) → low ≤ m → some_owes m rows ≡ false) → AppendsOwed rows old new
 named-all rows low old new are none = record {
   names = are.names;

@@ -69,18 +69,18 @@ module _ (message t : ℕ) where
 
 -- What follows is of what each of many states owes, by rows.
 
--- rows without a ledger owe nothing
+-- rows without accounts owe nothing
 pub owed-none : (count row : ℕ) → owed_in (rows_in count None) row ≡ []
 owed-none zero row = refl
 owed-none (suc count) zero = refl
 owed-none (suc count) (suc row) = owed-none count row
 
--- rows that each owe nothing are the rows that there are without a ledger
+-- rows that each owe nothing are the rows that there are without accounts
 pub blank-rows : (rows : List (List Debt)) → ((k : ℕ) → k < length rows → owed_in rows k ≡ []) → rows ≡ rows_in (length rows) None
 blank-rows [] none = refl
 blank-rows (row ∷ rows) none = ap₂ (λ r rs. r ∷ rs) (none 0 (omega arith)) (blank-rows rows (λ k low. none (suc k) (omega (arith, low))))
 
--- where a row that owes nothing becomes what owes nothing, rows without a ledger stay as they are
+-- where a row that owes nothing is put in the place of one, rows without accounts stay as they are
 pub set-none : (count row : ℕ) (debts : List Debt) → debts ≡ [] → rows_in count None ≡ set (rows_in count None) row debts
 set-none count row debts is =
     sym (set-get_or (rows_in count None) row []) ∙ ap (set (rows_in count None) row) (owed-none count row ∙ sym is)
@@ -107,7 +107,7 @@ between-paid message t low high (debt ∷ debts) all =
     paid-step low high debt debts (paid_by message t debts) (is_payable message t debt) all
     (between-paid message t low high debts (All-tail (λ d. (low ≤ d.message) × (d.message ≤ high)) debt debts all))
 
--- without a ledger, the first n rows owe nothing
+-- without accounts, the first n rows owe nothing
 pub take-none : (count n : ℕ) → rows_in (min count n) None ≡ take n (rows_in count None)
 take-none zero zero = let e : min 0 0 ≡ 0 = omega arith in ap (λ k. rows_in k None) e
 take-none zero (suc n) = let e : min 0 (suc n) ≡ 0 = omega arith in ap (λ k. rows_in k None) e
@@ -115,7 +115,7 @@ take-none (suc count) zero = let e : min (suc count) 0 ≡ 0 = omega arith in ap
 take-none (suc count) (suc n) =
     let e : min (suc count) (suc n) ≡ suc (min count n) = omega arith in ap (λ k. rows_in k None) e ∙ ap (λ rows. [] ∷ rows) (take-none count n)
 
--- without a ledger, the rows after the first n owe nothing
+-- without accounts, the rows after the first n owe nothing
 pub drop-none : (count n : ℕ) → n ≤ count → rows_in (count - n) None ≡ drop n (rows_in count None)
 drop-none count zero le = let e : count - 0 ≡ count = omega arith in ap (λ k. rows_in k None) e
 drop-none zero (suc n) le = absurd (omega (arith, le))

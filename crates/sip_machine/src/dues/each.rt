@@ -117,7 +117,7 @@ impl Dues {
     }
 }
 
-/// A ledger of `rows` rows, of which each from `from` on owes this debt, and no other owes anything.
+/// Accounts of `rows` rows, of which each from `from` on owes this debt, and no other owes anything.
 fn opened_from(
     alloc: Global,
     rows: usize,

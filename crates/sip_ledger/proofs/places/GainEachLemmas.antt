@@ -1,6 +1,6 @@
 -- Many rows gain a debt, and rows of which nothing is past lose nothing.
 use Rattle.std.proofs.Common.{◌≡◌, ◌<◌, ◌≤◌, ℕ, ◌+◌, Bool, true, false, List, [], ◌∷◌, ◌++◌, length, drop, take, get_or, set, map, filter, refl, sym, ap, ◌∙◌, subst, arith}
-use Rattle.std.specs.Prelude.{All, ◌||◌, cond, nat_le}
+use Rattle.std.specs.Prelude.{All, ◌||◌, cond, fold, min, nat_le}
 use Rattle.std.proofs.lemmas.Bool.Decides.{nat_tests}
 use Rattle.std.proofs.lemmas.List.{get_or_default}
 use Rattle.std.proofs.lemmas.List.Elements.{All-cons, All-get_or, All-head, All-nil, All-tail}
@@ -10,7 +10,7 @@ use Rattle.sip_ledger.specs.declared.accounts.gains.Gains.{Gains}
 use Rattle.sip_ledger.specs.declared.accounts.strikes.Strike.{Strike}
 use Rattle.sip_ledger.specs.declared.debt.Entry.{Entry}
 use Rattle.sip_ledger.specs.Accounts.{owed_in}
-use Rattle.sip_ledger.specs.Debts.{counts_at}
+use Rattle.sip_ledger.specs.Debts.{counts_at, debt_deadlines, earliest, is_timely, is_within}
 use Rattle.sip_ledger.specs.Rows.{debt_of}
 use Rattle.sip_ledger.specs.inner.Accounts.{AreAccounts, AreGains, IsAccount, IsKept, KeepsAccounts, account_debts, accounts_debts, entries_of, entry_at, must_at, owes_at}
 use Rattle.sip_ledger.proofs.debts.ListedLemmas.{listed-All, no_entry}
@@ -81,7 +81,7 @@ kept-each t (x ∷ xs) all =
     ∙ ap (λ l. x ∷ l) (kept-each t xs (All-tail (λ d. counts_at t d ≡ true) x xs all))
 
 -- where no gain that is kept is past, an account has no debt that goes
-none-goes : (gains : Gains) (strikes : List Strike) (a : Account) (t : ℕ) → AreGains gains → ((k : ℕ) → IsKept gains k → t ≤ (entry_at (entries_of gains) k).deadline) →
+pub none-goes : (gains : Gains) (strikes : List Strike) (a : Account) (t : ℕ) → AreGains gains → ((k : ℕ) → IsKept gains k → t ≤ (entry_at (entries_of gains) k).deadline) →
     filter (counts_at t) (account_debts gains strikes a) ≡ account_debts gains strikes a
 unfolding account_debts
 none-goes gains strikes a t are late =
@@ -111,3 +111,39 @@ pub none-past : (gains : Gains) (strikes : List Strike) (rows : List Account) (s
 none-past gains strikes rows seen from t are view late =
     let all = subst (All (λ (owes : List Debt). filter (counts_at t) owes ≡ owes)) view (rows-same gains strikes rows t are late) in
     unchanged-each (filter (counts_at t)) from seen (λ k d below. All-get_or (λ (owes : List Debt). filter (counts_at t) owes ≡ owes) seen k d below all)
+
+-- the least of moments that are not before t is not before it
+least-late : (t x : ℕ) (ms : List ℕ) → t ≤ x → All (λ m. t ≤ m) ms → t ≤ fold min x ms
+least-late t x [] low all = low
+least-late t x (m ∷ ms) low all = least-late t (min x m) ms (omega (arith, low, All-head (λ n. t ≤ n) m ms all)) (All-tail (λ n. t ≤ n) m ms all)
+
+reaches-to : (t d : ℕ) → t ≤ d → nat_le t d ≡ true
+reaches-to t d low = grind (arith, nat_tests)
+
+within-all : (t : ℕ) (ms : List ℕ) → All (λ m. t ≤ m) ms → is_within t (earliest ms) ≡ true
+within-all t [] all = refl
+within-all t (m ∷ ms) all = reaches-to t (fold min m ms) (least-late t m ms (All-head (λ n. t ≤ n) m ms all) (All-tail (λ n. t ≤ n) m ms all))
+
+late-next : (t : ℕ) (debt : Debt) (rest : List Debt) (must : Bool) → t ≤ debt.deadline → All (λ m. t ≤ m) (map (λ (d : Debt). d.deadline) rest) →
+    All (λ m. t ≤ m) (map (λ (d : Debt). d.deadline) (cond must (debt ∷ rest) rest))
+late-next t debt rest true low all = All-cons (λ m. t ≤ m) debt.deadline (map (λ (d : Debt). d.deadline) rest) low all
+late-next t debt rest false low all = all
+
+late-deadlines : (t : ℕ) (debts : List Debt) → All (λ (d : Debt). t ≤ d.deadline) debts → All (λ m. t ≤ m) (debt_deadlines debts)
+late-deadlines t [] all = All-nil (λ m. t ≤ m)
+late-deadlines t (debt ∷ debts) all =
+    late-next t debt (filter (λ (d : Debt). d.must) debts) debt.must (All-head (λ (d : Debt). t ≤ d.deadline) debt debts all)
+    (late-deadlines t debts (All-tail (λ (d : Debt). t ≤ d.deadline) debt debts all))
+
+-- where no gain is past, a row is timely
+pub none-late : (gains : Gains) (strikes : List Strike) (a : Account) (t : ℕ) → AreGains gains → ((k : ℕ) → IsKept gains k → t ≤ (entry_at (entries_of gains) k).deadline) →
+    is_timely t (account_debts gains strikes a) ≡ true
+unfolding account_debts
+none-late gains strikes a t are late =
+    within-all t (debt_deadlines (account_debts gains strikes a)) (late-deadlines t (account_debts gains strikes a)
+    (listed-All (λ (d : Debt). t ≤ d.deadline) (owes_at gains strikes a) (must_at gains a) 0 (entries_of gains)
+    (λ j e below owed.
+    let here : 0 + j ≡ j = omega arith in
+    let same : get_or (entries_of gains) j e ≡ entry_at (entries_of gains) j = get_or_default (entries_of gains) j e no_entry below in
+    let is = late j (left-kept gains j are (owed-left gains strikes a j (ap (owes_at gains strikes a) (sym here) ∙ owed))) in
+    omega (arith, is, ap (λ (x : Entry). x.deadline) same))))

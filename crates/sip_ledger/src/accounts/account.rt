@@ -243,6 +243,9 @@ pub(crate) fn expired(
     if account.start == account.end {
         return Ok(account);
     }
+    if gains.all_count(moment) {
+        return Ok(account);
+    }
     let mut left = account;
     let mut place = account.start;
     while place < left.end {
@@ -479,6 +482,7 @@ pub(crate) fn gained_and_expired(
 }
 
 /// The least deadline of what the account must send. The first debt is looked at before the index is asked.
+#[inline(always)]
 pub(crate) fn earliest_must(gains: &Gains, strikes: &[Strike], account: Account) -> Option<u64>
     requires gained { AreGains gains.now }
     requires account { IsAccount gains.now strikes.now account }
@@ -511,6 +515,7 @@ fn first_must(gains: &Gains, account: Account) -> Option<u64>
 }
 
 /// The least deadline of what the account must send, by the index.
+#[inline(never)]
 fn least_must(gains: &Gains, strikes: &[Strike], account: Account) -> Option<u64>
     requires gained { AreGains gains.now }
     requires account { IsAccount gains.now strikes.now account }
@@ -533,12 +538,15 @@ fn least_must(gains: &Gains, strikes: &[Strike], account: Account) -> Option<u64
     least
 }
 
-/// Whether nothing that the account must send is past at the moment.
+/// Whether nothing that the account must send is past at the moment. It is asked first whether anything is past of what was gained.
 pub(crate) fn is_timely(gains: &Gains, strikes: &[Strike], account: Account, moment: u64) -> bool
     requires gained { AreGains gains.now }
     requires account { IsAccount gains.now strikes.now account }
     ensures { result ≡ is_timely moment (account_debts gains.now strikes.now account) }
 {
+    if gains.all_count(moment) {
+        return true;
+    }
     match earliest_must(gains, strikes, account) {
         Some(deadline) => moment <= deadline,
         None => true,

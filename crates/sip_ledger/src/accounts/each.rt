@@ -19,10 +19,7 @@ impl Accounts {
         requires { row < length self.now }
         ensures { result ≡ is_timely moment (owed_in self.now row) }
     {
-        match self.earliest_must(row) {
-            Some(deadline) => moment <= deadline,
-            None => true,
-        }
+        is_timely(&self.gains, &self.strikes, self.rows[row], moment)
     }
 
     /// Puts copies of the rows from one up to another after the others. A row that must send something that is past at the moment gets

@@ -109,6 +109,7 @@ fn mixed(number: u64, word: u64) -> u64
 }
 
 /// The account without what was gained at the place, which it owes. On an error the strikes are as before.
+#[inline(always)]
 pub(crate) fn without(
     gains: &Gains,
     strikes: &mut Vec<Strike>,
@@ -149,6 +150,7 @@ pub(crate) fn without(
 }
 
 /// The first place whose debt a send of the message at the moment pays.
+#[inline(always)]
 pub(crate) fn find(
     gains: &Gains,
     strikes: &[Strike],
@@ -228,6 +230,7 @@ fn expired_at(
 
 /// The account without what it may send and whose deadline is below the moment. On an error what is left of the others' strikes is
 /// as before.
+#[inline(always)]
 pub(crate) fn expired(
     gains: &Gains,
     strikes: &mut Vec<Strike>,

@@ -23,10 +23,11 @@ fn alike(
 }
 
 /// Does what the step with this number does: a row comes, gains, or pays one of three messages.
-fn step(rt: &impl Abort, accounts: &mut Accounts, number: u64) -> Result<(), AllocError> {
-    let moment = number;
+fn step(rt: &impl Abort, accounts: &mut Accounts, number: u32) -> Result<(), AllocError> {
+    let moment = u64::from(number);
+    let message = moment % 3;
     let debt = Debt {
-        message: number % 3,
+        message,
         deadline: moment + 9,
         must: number % 2 == 0,
     };
@@ -37,8 +38,8 @@ fn step(rt: &impl Abort, accounts: &mut Accounts, number: u64) -> Result<(), All
         1 => accounts.push_copy(0),
         2 | 3 => accounts.gain_and_expire(0, debt, moment),
         4 => accounts.gain(1, debt),
-        5 => accounts.pay_and_expire(0, number % 3, moment),
-        6 => accounts.push_paid(0, rows, number % 3, moment),
+        5 => accounts.pay_and_expire(0, message, moment),
+        6 => accounts.push_paid(0, rows, message, moment),
         _ => accounts.push_timely(0, rows, moment),
     }
 }
@@ -48,7 +49,7 @@ fn step_again(
     rt: &(impl Abort + AllocGlobal),
     accounts: &mut Accounts,
     twin: &mut Accounts,
-    number: u64,
+    number: u32,
 ) -> Result<(), Fail> {
     let done = step(rt, accounts, number);
     if done.is_err() {
@@ -82,7 +83,7 @@ fn accounts_are_as_before_after_a_refused_growth(rt: HostRuntime) -> Result<(), 
         accounts.push()?;
         twin.push()?;
     }
-    for number in 0..48_u64 {
+    for number in 0..48_u32 {
         step_again(&rt, &mut accounts, &mut twin, number)?;
         names_again(&rt, &accounts)?;
         if number % 8 == 7 {

@@ -1,4 +1,5 @@
-"""The logs of bench/judge.sh, what their entries are counted to cost, and its clock. Its words are the program and numbers of entries."""
+"""The logs of bench/judge.sh, what their entries are counted to cost, and its clock. Its words are the program, and then numbers of entries,
+or `growth`, or `beside PROGRAM [ENTRIES]`, as bench/judge.sh tells them."""
 
 import heapq
 import os
@@ -547,20 +548,20 @@ def print_beside(program, other, folder, size):
 
 
 def main():
-    program, *sizes = sys.argv[1:]
+    program, *words = sys.argv[1:]
     with tempfile.TemporaryDirectory() as name:
         folder = Path(name)
-        if sizes[:1] == ["beside"]:
-            print_beside(program, sizes[1], folder, int(sizes[2]) if sizes[2:] else 1_000_000)
+        if words[:1] == ["beside"]:
+            print_beside(program, words[1], folder, int(words[2]) if words[2:] else 1_000_000)
             return
-        if sizes == ["growth"]:
+        if words == ["growth"]:
             print_growth(program, folder)
             return
         if shutil.which("valgrind"):
             print_counted(program, folder)
         else:
             print("not counted: there is no valgrind, which is a package of this name")
-        for size in map(int, sizes or ["10000", "100000"]):
+        for size in map(int, words or ["10000", "100000"]):
             print()
             print_timed(program, folder, "check", {kind: 1 / 10 if kind is wide else 1 for kind in KINDS}, size)
             print_timed(program, folder, "check", WORST, size)

@@ -58,10 +58,10 @@ enum siptrace_unit { SIPTRACE_HEAD = 1, SIPTRACE_LINE = 2, SIPTRACE_BODY = 3 };
    transactions are numbered from 1. */
 struct siptrace_verdict {
   uint32_t kind;         /* enum siptrace_kind */
-  uint32_t entries;      /* SIPTRACE_LEGAL: how many entries the log has, 0 to 1,000,000 */
-  uint32_t transactions; /* SIPTRACE_LEGAL: how many transactions these concern */
-  uint32_t entry;        /* every other kind: the entry; 0 is the header of the log */
-  uint32_t transaction;  /* SIPTRACE_BREACH, SIPTRACE_UNDECIDED: the transaction */
+  uint64_t entries;      /* SIPTRACE_LEGAL: how many entries the log has, 0 to 1,000,000 */
+  uint64_t transactions; /* SIPTRACE_LEGAL: how many transactions these concern */
+  uint64_t entry;        /* every other kind: the entry; 0 is the header of the log */
+  uint64_t transaction;  /* SIPTRACE_BREACH, SIPTRACE_UNDECIDED: the transaction */
   uint32_t reason;       /* SIPTRACE_MALFORMED, SIPTRACE_LOG_FAULT: enum siptrace_reason */
   uint32_t unit;         /* SIPTRACE_MALFORMED: enum siptrace_unit */
   size_t line;           /* SIPTRACE_LINE: the logical line of the message; 0 is the start line */
@@ -86,9 +86,9 @@ enum siptrace_end {
 struct siptrace_summary {
   size_t findings;       /* how many findings the log has, however many of them had room */
   uint32_t end;          /* enum siptrace_end */
-  uint32_t entries;      /* SIPTRACE_END_OF_LOG: how many entries the log has, 0 to 1,000,000 */
-  uint32_t transactions; /* SIPTRACE_END_OF_LOG: how many transactions these concern */
-  uint32_t entry;        /* SIPTRACE_END_AT_FAULT: the entry that cannot be read; 0 is the header of the log */
+  uint64_t entries;      /* SIPTRACE_END_OF_LOG: how many entries the log has, 0 to 1,000,000 */
+  uint64_t transactions; /* SIPTRACE_END_OF_LOG: how many transactions these concern */
+  uint64_t entry;        /* SIPTRACE_END_AT_FAULT: the entry that cannot be read; 0 is the header of the log */
   uint32_t reason;       /* SIPTRACE_END_AT_FAULT: enum siptrace_reason, SIPTRACE_HEADER to SIPTRACE_LIMIT */
 };
 

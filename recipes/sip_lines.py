@@ -1,8 +1,8 @@
 """What the recipes share: the lines that from-* print, the parts of a SIP message, the log of one element, and the program.
 
 A line is a message that someone saw, `MOMENT FROM TO HEX` with single blanks: the moment in seconds with any fraction, ADDRESS:PORT
-twice (an IPv6 address stands without brackets: the last colon counts), and the bytes. A fifth word tells the place in the source, as the number
-of the packet does. `MOMENT ADDRESS:PORT restart` tells that the element with this address was started anew.
+twice (an IPv6 address stands without brackets: the last colon counts), and the bytes. A fifth word may tell the place in the source, for
+instance the number of the packet. `MOMENT ADDRESS:PORT restart` tells that the element with this address was started anew.
 """
 import gzip
 import hashlib

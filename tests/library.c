@@ -9,6 +9,7 @@
 #include "siptrace.h"
 
 #include <fcntl.h>
+#include <inttypes.h>
 #include <stdio.h>
 #include <stdlib.h>
 #include <string.h>
@@ -73,7 +74,7 @@ static int judge_with_refusals(const char *path, const uint8_t *log, size_t leng
     } else if (status == SIPTRACE_ANSWERED && verdict.kind != untold.kind) {
       /* std does without some growths that are refused. */
       if (was_refused) continue;
-      printf("%ld %u %u %u %u %u %u %u %zu\n", refused, verdict.kind, verdict.entries, verdict.transactions, verdict.entry, verdict.transaction,
+      printf("%ld %" PRIu32 " %" PRIu64 " %" PRIu64 " %" PRIu64 " %" PRIu64 " %" PRIu32 " %" PRIu32 " %zu\n", refused, verdict.kind, verdict.entries, verdict.transactions, verdict.entry, verdict.transaction,
              verdict.reason, verdict.unit, verdict.line);
       return 0;
     } else {
@@ -157,7 +158,7 @@ static int survey_with_refusals(const char *path, const uint8_t *log, size_t len
     } else if (status == SIPTRACE_ANSWERED && !is_unsaid(&summary)) {
       /* std does without some growths that are refused. */
       if (was_refused) continue;
-      printf("%ld %zu %u %u %u %u %u\n", refused, summary.findings, summary.end, summary.entries, summary.transactions, summary.entry, summary.reason);
+      printf("%ld %zu %" PRIu32 " %" PRIu64 " %" PRIu64 " %" PRIu64 " %" PRIu32 "\n", refused, summary.findings, summary.end, summary.entries, summary.transactions, summary.entry, summary.reason);
       return 0;
     } else {
       printf("%s: growth %ld: status %u\n", path, before_refusal + 1, status);

@@ -20,7 +20,12 @@ REASONS = dict([*enumerate(MESSAGE_REASONS.split(), 1), *enumerate(LOG_REASONS.s
 class Verdict(ctypes.Structure):
     """`struct siptrace_verdict` of siptrace.h."""
 
-    _fields_ = [(name, ctypes.c_uint32) for name in "kind entries transactions entry transaction reason unit".split()] + [("line", ctypes.c_size_t)]
+    _fields_ = [
+        ("kind", ctypes.c_uint32),
+        *((name, ctypes.c_uint64) for name in "entries transactions entry transaction".split()),
+        *((name, ctypes.c_uint32) for name in "reason unit".split()),
+        ("line", ctypes.c_size_t),
+    ]
 
     def __str__(self):
         told = f"{self.reason} {REASONS.get(self.reason)}"
@@ -38,7 +43,12 @@ class Verdict(ctypes.Structure):
 class Summary(ctypes.Structure):
     """`struct siptrace_summary` of siptrace.h."""
 
-    _fields_ = [("findings", ctypes.c_size_t)] + [(name, ctypes.c_uint32) for name in "end entries transactions entry reason".split()]
+    _fields_ = [
+        ("findings", ctypes.c_size_t),
+        ("end", ctypes.c_uint32),
+        *((name, ctypes.c_uint64) for name in "entries transactions entry".split()),
+        ("reason", ctypes.c_uint32),
+    ]
 
     def __str__(self):
         if self.end == END_OF_LOG:

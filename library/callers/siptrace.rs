@@ -9,10 +9,10 @@ use std::{fs, io, io::Read};
 #[derive(Clone, Copy, Default)]
 pub struct Verdict {
     kind: u32,
-    entries: u32,
-    transactions: u32,
-    entry: u32,
-    transaction: u32,
+    entries: u64,
+    transactions: u64,
+    entry: u64,
+    transaction: u64,
     reason: u32,
     unit: u32,
     line: usize,
@@ -24,9 +24,9 @@ pub struct Verdict {
 pub struct Summary {
     findings: usize,
     end: u32,
-    entries: u32,
-    transactions: u32,
-    entry: u32,
+    entries: u64,
+    transactions: u64,
+    entry: u64,
     reason: u32,
 }
 

@@ -23,9 +23,9 @@ static void print_survey(const struct survey *survey) {
   const struct siptrace_summary *summary = &survey->summary;
   for (size_t at = 0; at < summary->findings; at++) print_verdict(&survey->findings[at]);
   if (summary->end == SIPTRACE_END_OF_LOG)
-    printf("end entries %u transactions %u findings %zu\n", summary->entries, summary->transactions, summary->findings);
+    printf("end entries %" PRIu64 " transactions %" PRIu64 " findings %zu\n", summary->entries, summary->transactions, summary->findings);
   else
-    printf("log fault %u %u %s\n", summary->entry, summary->reason, reasons[summary->reason]);
+    printf("log fault %" PRIu64 " %" PRIu32 " %s\n", summary->entry, summary->reason, reasons[summary->reason]);
 }
 
 int main(int count, char **paths) {

@@ -4,6 +4,7 @@
 
 #include "siptrace.h"
 
+#include <inttypes.h>
 #include <stdio.h>
 #include <stdlib.h>
 #include <sys/random.h>
@@ -18,25 +19,26 @@ static const char *const reasons[] = {
 };
 
 static void print_verdict(const struct siptrace_verdict *verdict) {
-  const unsigned entry = verdict->entry, reason = verdict->reason;
+  const uint64_t entry = verdict->entry;
+  const uint32_t reason = verdict->reason;
   switch (verdict->kind) {
   case SIPTRACE_LEGAL:
-    printf("legal entries %u transactions %u\n", verdict->entries, verdict->transactions);
+    printf("legal entries %" PRIu64 " transactions %" PRIu64 "\n", verdict->entries, verdict->transactions);
     break;
   case SIPTRACE_MALFORMED:
-    printf("malformed %u ", entry);
+    printf("malformed %" PRIu64 " ", entry);
     if (verdict->unit == SIPTRACE_LINE) printf("line %zu", verdict->line);
     else printf(verdict->unit == SIPTRACE_HEAD ? "head" : "body");
-    printf(" %u %s\n", reason, reasons[reason]);
+    printf(" %" PRIu32 " %s\n", reason, reasons[reason]);
     break;
   case SIPTRACE_BREACH:
-    printf("breach %u transaction %u\n", entry, verdict->transaction);
+    printf("breach %" PRIu64 " transaction %" PRIu64 "\n", entry, verdict->transaction);
     break;
   case SIPTRACE_UNDECIDED:
-    printf("undecided %u transaction %u\n", entry, verdict->transaction);
+    printf("undecided %" PRIu64 " transaction %" PRIu64 "\n", entry, verdict->transaction);
     break;
   case SIPTRACE_LOG_FAULT:
-    printf("log fault %u %u %s\n", entry, reason, reasons[reason]);
+    printf("log fault %" PRIu64 " %" PRIu32 " %s\n", entry, reason, reasons[reason]);
     break;
   }
 }

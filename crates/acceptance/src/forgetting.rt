@@ -9,7 +9,7 @@ use std::test::Fail;
 
 /// The words of a log; how many of the newest entries keep the transactions that they concern; how many transactions are left after each
 /// entry; and the entry and the transaction of each breach that is found.
-type Row = (&'static str, u32, &'static [u32], &'static [(u32, u32)]);
+type Row = (&'static str, u64, &'static [u64], &'static [(u64, u64)]);
 
 /// Each row is worked by hand, with T1 500, T4 5000 and a tolerance of 50 milliseconds.
 const ROWS: [Row; 9] = [
@@ -70,7 +70,7 @@ const ROWS: [Row; 9] = [
 ];
 
 /// Appends how many transactions the survey has.
-fn push_count(survey: &Survey<Hasher>, left: &mut Vec<u32>) -> Result<(), AllocError> {
+fn push_count(survey: &Survey<Hasher>, left: &mut Vec<u64>) -> Result<(), AllocError> {
     if let Some(SurveyEnd::Clean { transactions, .. }) = survey.end() {
         left.push(transactions)?;
     }
@@ -82,9 +82,9 @@ fn push_count(survey: &Survey<Hasher>, left: &mut Vec<u32>) -> Result<(), AllocE
 fn takes_and_forgets(
     rt: &impl Abort,
     surveyed: &mut Surveyed<'_>,
-    behind: u32,
+    behind: u64,
     found: &mut Vec<Finding>,
-    left: &mut Vec<u32>,
+    left: &mut Vec<u64>,
 ) -> Result<(), Fail> {
     for _ in 0..100 {
         let Some(entry) = surveyed.next()? else {
@@ -98,7 +98,7 @@ fn takes_and_forgets(
 }
 
 /// The entry and the transaction of each breach among the findings.
-fn breaches(alloc: Global, found: &[Finding]) -> Result<Vec<(u32, u32)>, AllocError> {
+fn breaches(alloc: Global, found: &[Finding]) -> Result<Vec<(u64, u64)>, AllocError> {
     let mut numbers = Vec::new(alloc);
     for finding in found {
         if let Finding::Breach { entry, transaction } = *finding {
@@ -136,7 +136,7 @@ fn a_survey_forgets_what_is_over(rt: HostRuntime) -> Result<(), Fail> {
 fn first_is(
     rt: &impl Abort,
     survey: &Survey<Hasher>,
-    (entry, branch): (u32, &str),
+    (entry, branch): (u64, &str),
 ) -> Result<(), Fail> {
     let told = survey.transaction(1).ok_or("no transaction")?;
     holds(rt, told.first == entry && told.last == entry, "its entries");
@@ -150,7 +150,7 @@ fn takes_and_tells(
     rt: &impl Abort,
     surveyed: &mut Surveyed<'_>,
     found: &mut Vec<Finding>,
-    left: &mut Vec<u32>,
+    left: &mut Vec<u64>,
 ) -> Result<(), Fail> {
     takes_and_forgets(rt, surveyed, 0, found, left)?;
     first_is(rt, &surveyed.survey, (3, "z9hG4bKb"))
@@ -181,7 +181,7 @@ fn what_is_left_is_told_by_its_new_number(rt: HostRuntime) -> Result<(), Fail> {
 fn forgets_or_fails(
     rt: &impl Abort,
     survey: &mut Survey<Hasher>,
-    until: u32,
+    until: u64,
 ) -> Result<(), StepError> {
     let Err(error) = survey.forget(until) else {
         return Ok(());

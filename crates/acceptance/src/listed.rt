@@ -12,7 +12,7 @@ use std::process::Abort;
 use std::test::Fail;
 
 /// The words of a log, an entry, and what is listed of it.
-pub(crate) type Listed = (&'static str, u32, &'static str);
+pub(crate) type Listed = (&'static str, u64, &'static str);
 
 /// The text of a listing, `stopped` and the verdict, or `no entry`.
 fn text_of(alloc: Global, listing: Listing) -> Result<String, JudgeError> {
@@ -27,7 +27,7 @@ fn text_of(alloc: Global, listing: Listing) -> Result<String, JudgeError> {
 }
 
 /// The text of what is listed of an entry of the log that a source hands out.
-fn listing_of<S: Source>(alloc: Global, source: &mut S, entry: u32) -> Result<String, JudgeError>
+fn listing_of<S: Source>(alloc: Global, source: &mut S, entry: u64) -> Result<String, JudgeError>
     requires { S.has_failed source.old ≡ false }
 {
     let hasher = BuildHasherDefault::<FoldHasher>::new();
@@ -36,7 +36,7 @@ fn listing_of<S: Source>(alloc: Global, source: &mut S, entry: u32) -> Result<St
 }
 
 /// The text of what is listed of an entry of the log of these bytes.
-fn listing_on(alloc: Global, bytes: &[u8], entry: u32) -> Result<String, JudgeError> {
+fn listing_on(alloc: Global, bytes: &[u8], entry: u64) -> Result<String, JudgeError> {
     listing_of(alloc, &mut Pieces::cut_at(bytes, bytes.len()), entry)
 }
 
@@ -45,7 +45,7 @@ pub(crate) fn listing_failing(
     alloc: Global,
     bytes: &[u8],
     (size, calls): (usize, usize),
-    entry: u32,
+    entry: u64,
 ) -> Result<String, JudgeError> {
     listing_of(alloc, &mut Pieces::failing_in(bytes, size, calls), entry)
 }
@@ -53,7 +53,7 @@ pub(crate) fn listing_failing(
 /// Checks what is listed of an entry of the log of these words.
 pub(crate) fn lists(
     rt: &(impl Abort + AllocGlobal),
-    (words, entry, want): (&str, u32, &str),
+    (words, entry, want): (&str, u64, &str),
 ) -> Result<(), Fail> {
     let log = log_of(rt.alloc(), words)?;
     let text = listing_on(rt.alloc(), log.as_str().as_bytes(), entry)?;

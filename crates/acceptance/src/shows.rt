@@ -87,7 +87,7 @@ fn shows_or_wants_memory(
     rt: &(impl Abort + AllocGlobal),
     bytes: &[u8],
     want: &[u8],
-    entries: u32,
+    entries: u64,
 ) -> Result<(), Fail> {
     let whole = Shown::End { entries };
     // The text has room for all that is written, so that writing takes no memory.

@@ -116,7 +116,7 @@ fn reads_nothing_after_a_breach(rt: HostRuntime) -> Result<(), Fail> {
 }
 
 /// Checks that a listing answers a failed read, where the bytes come one by one and the source fails after so many calls.
-fn answers_io(rt: &(impl Abort + AllocGlobal), bytes: &[u8], calls: usize, entry: u32) {
+fn answers_io(rt: &(impl Abort + AllocGlobal), bytes: &[u8], calls: usize, entry: u64) {
     let answer = listing_failing(rt.alloc(), bytes, (1, calls), entry);
     fails_to_read(rt, &answer, calls);
 }
@@ -126,7 +126,7 @@ fn lists_before_a_read_fails(
     rt: &(impl Abort + AllocGlobal),
     bytes: &[u8],
     calls: usize,
-    entry: u32,
+    entry: u64,
     want: &str,
 ) -> Result<(), Fail> {
     let text = listing_failing(rt.alloc(), bytes, (1, calls), entry)?;
@@ -138,7 +138,7 @@ fn lists_before_a_read_fails(
 fn lists_until_a_read_fails(
     rt: &(impl Abort + AllocGlobal),
     bytes: &[u8],
-    entry: u32,
+    entry: u64,
     want: &str,
 ) -> Result<(), Fail> {
     for calls in 0..bytes.len() {

@@ -129,7 +129,7 @@ fn says(rt: &impl Abort, verdict: Option<Verdict>, want: Option<Verdict>, row: &
 }
 
 /// A legal log of so many entries and transactions.
-fn legal(entries: u32, transactions: u32) -> Option<Verdict> {
+fn legal(entries: u64, transactions: u64) -> Option<Verdict> {
     Some(Verdict::Legal {
         entries,
         transactions,
@@ -330,7 +330,7 @@ fn tells_what_is_due(rt: HostRuntime) -> Result<(), Fail> {
 }
 
 /// Whether the key of the transaction has this branch, or there is no such transaction.
-fn has_branch(judge: &Judge<Hasher>, transaction: u32, want: Option<&[u8]>) -> bool {
+fn has_branch(judge: &Judge<Hasher>, transaction: u64, want: Option<&[u8]>) -> bool {
     match judge.key(transaction) {
         Some(key) => Some(key.branch()) == want,
         None => want.is_none(),

@@ -14,7 +14,7 @@ fn malformed(unit: Unit, reason: Reason) -> Verdict {
 }
 
 /// The verdict on a log of which this entry cannot be read.
-fn log_fault(entry: u32, reason: LogReason) -> Verdict {
+fn log_fault(entry: u64, reason: LogReason) -> Verdict {
     Verdict::LogFault { entry, reason }
 }
 

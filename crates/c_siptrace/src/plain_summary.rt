@@ -13,11 +13,11 @@ pub struct PlainSummary {
     /// 1 where the log was read to its end, 2 where it was read up to a fault.
     pub end: u32,
     /// For a log that was read to its end: how many entries it has.
-    pub entries: u32,
+    pub entries: u64,
     /// For a log that was read to its end: how many transactions its entries concern.
-    pub transactions: u32,
+    pub transactions: u64,
     /// For a fault of the log: the number of its entry, from 1 on, and 0 for a fault of the header.
-    pub entry: u32,
+    pub entry: u64,
     /// For a fault of the log: the number of the reason, 20 to 24.
     pub reason: u32,
 }

@@ -12,13 +12,13 @@ pub struct PlainVerdict {
     /// 1 for a legal log, 2 for a malformed message, 3 for a breach, 4 for an undecided log, 5 for a fault of the log.
     pub kind: u32,
     /// For a legal log: how many entries it has.
-    pub entries: u32,
+    pub entries: u64,
     /// For a legal log: how many transactions its entries concern.
-    pub transactions: u32,
+    pub transactions: u64,
     /// For any verdict but legal: the number of its entry, from 1 on, and 0 for a fault of the header.
-    pub entry: u32,
+    pub entry: u64,
     /// For a breach and an undecided log: the number of the transaction, from 1 on.
-    pub transaction: u32,
+    pub transaction: u64,
     /// The number of the reason: 1 to 12 for a malformed message, 20 to 24 for a fault of the log.
     pub reason: u32,
     /// For a malformed message: where its fault is, which is 1 for the head, 2 for a line and 3 for the body.
@@ -92,7 +92,7 @@ impl PlainVerdict {
         }
     }
 
-    fn malformed(entry: u32, fault: Fault) -> PlainVerdict
+    fn malformed(entry: u64, fault: Fault) -> PlainVerdict
         ensures { result ≡ plain (Malformed entry fault) }
     {
         PlainVerdict {
@@ -105,7 +105,7 @@ impl PlainVerdict {
         }
     }
 
-    fn log_fault(entry: u32, reason: LogReason) -> PlainVerdict
+    fn log_fault(entry: u64, reason: LogReason) -> PlainVerdict
         ensures { result ≡ plain (LogFault entry reason) }
     {
         PlainVerdict {

@@ -8,7 +8,7 @@ use sip_verdict::{Judge, render};
 use std::hash::RandomState;
 
 /// The most entries of a log, and one more, so that the loop reaches the end of the log.
-const MOST: u32 = 1_000_001;
+const MOST: u64 = 1_000_001;
 
 fn main(rt: HostRuntime) -> Result<()> {
     let mut source = FromRead::new(rt.stdin());

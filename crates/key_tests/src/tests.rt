@@ -392,7 +392,8 @@ fn asks_again_for_its_key(
     lacked
 }
 
-/// Asserts that the message cancels the transaction of this key; where memory is refused, that a second call tells it.
+/// Asserts that the message cancels the transaction of this key; where memory is refused, that a second call tells it. Answers whether
+/// memory was refused.
 fn asks_again_for_the_second(
     rt: &(impl Abort + AllocGlobal),
     message: &Message<'_>,

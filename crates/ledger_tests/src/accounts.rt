@@ -62,7 +62,7 @@ impl Played {
         Ok(())
     }
 
-    fn pay(&mut self, rt: &impl Abort, row: usize, message: u32, moment: u64) -> Result<(), Fail> {
+    fn pay(&mut self, rt: &impl Abort, row: usize, message: u64, moment: u64) -> Result<(), Fail> {
         assert!(rt; row < self.accounts.len());
         assert!(rt; row < self.lists.len());
         let first = self.lists[row]
@@ -83,7 +83,7 @@ impl Played {
         rt: &impl Abort,
         from: usize,
         to: usize,
-        message: u32,
+        message: u64,
         moment: u64,
     ) -> Result<(), Fail> {
         assert!(rt; to <= self.accounts.len());
@@ -154,6 +154,41 @@ impl Played {
         Ok(())
     }
 
+    fn gain_and_expire(
+        &mut self,
+        rt: &impl Abort,
+        row: usize,
+        debt: Debt,
+        moment: u64,
+    ) -> Result<(), Fail> {
+        assert!(rt; row < self.accounts.len());
+        assert!(rt; row < self.lists.len());
+        self.accounts.gain_and_expire(row, debt, moment)?;
+        self.lists[row].push(debt)?;
+        self.lists[row].retain(|debt| debt.must || moment <= debt.deadline);
+        Ok(())
+    }
+
+    fn pay_and_expire(
+        &mut self,
+        rt: &impl Abort,
+        row: usize,
+        message: u64,
+        moment: u64,
+    ) -> Result<(), Fail> {
+        assert!(rt; row < self.accounts.len());
+        assert!(rt; row < self.lists.len());
+        let first = self.lists[row]
+            .iter()
+            .position(|debt| debt.message == message && moment <= debt.deadline);
+        self.accounts.pay_and_expire(row, message, moment)?;
+        if let Some(first) = first {
+            self.lists[row].remove(first);
+        }
+        self.lists[row].retain(|debt| debt.must || moment <= debt.deadline);
+        Ok(())
+    }
+
     fn soften(&mut self, rt: &impl Abort, row: usize) {
         assert!(rt; row < self.accounts.len());
         assert!(rt; row < self.lists.len());
@@ -217,8 +252,13 @@ impl Played {
         assert!(rt; debts.as_slice() == list, "{row}");
         assert!(rt; row < self.accounts.len());
         assert!(rt; self.accounts.owes_nothing(row) == list.is_empty(), "{row}");
+        let least = earliest_must(list);
+        assert!(rt; self.accounts.earliest_must(row) == least, "{row}");
+        let moment = least.unwrap_or(0);
+        assert!(rt; self.accounts.is_timely(row, moment), "{row}");
+        let late = moment.saturating_add(1);
         assert!(rt;
-            self.accounts.earliest_must(row) == earliest_must(list),
+            self.accounts.is_timely(row, late) == least.is_none(),
             "{row}"
         );
         let mut names = Vec::new(rt.alloc());
@@ -241,9 +281,26 @@ impl Played {
         assert!(rt; !same || self.accounts.print(row) == self.accounts.print(other));
     }
 
+    /// The messages that rows owe are told, from the least on, each once.
+    fn names_all(&self, rt: &(impl Abort + AllocGlobal)) -> Result<(), Fail> {
+        let mut names = Vec::new(rt.alloc());
+        self.accounts.all_names(&mut names)?;
+        let mut wants = Vec::new(rt.alloc());
+        for list in &self.lists {
+            for debt in list {
+                wants.push(debt.message)?;
+            }
+        }
+        wants.sort_unstable();
+        wants.dedup();
+        assert!(rt; names.as_slice() == wants.as_slice());
+        Ok(())
+    }
+
     /// All rows owe their lists.
     fn agree(&self, rt: &(impl Abort + AllocGlobal)) -> Result<(), Fail> {
         assert!(rt; self.accounts.len() == self.lists.len());
+        self.names_all(rt)?;
         let prints = self.accounts.prints(rt.alloc(), 0)?;
         for (row, list) in self.lists.iter().enumerate() {
             self.owes(rt, row, list)?;
@@ -284,7 +341,7 @@ fn gain_some(
     let must = chance.below(2) == 0;
     for row in 0..played.lists.len() {
         if chance.below(3) != 0 {
-            let message = u32::try_from(chance.below(3)).unwrap_or(0);
+            let message = chance.below(3);
             let debt = Debt {
                 message,
                 deadline,
@@ -333,7 +390,7 @@ fn change_many(
 ) -> Result<(), Fail> {
     let from = played.row(rt, chance);
     let to = played.row(rt, chance);
-    let message = u32::try_from(chance.below(3)).unwrap_or(0);
+    let message = chance.below(3);
     match chance.below(6) {
         0 if played.lists.len() < 12 => played.push_timely(rt, from, to, moment),
         1 => played.expire_each(rt, from, moment),
@@ -370,7 +427,7 @@ fn play(rt: &(impl Abort + AllocGlobal), seed: u64, steps: u64, rises: bool) -> 
             1 => now = now.saturating_add(chance.below(3)),
             2 | 3 => played.expire(rt, row, moment)?,
             4..11 => {
-                let message = u32::try_from(chance.below(4)).unwrap_or(0);
+                let message = chance.below(4);
                 played.pay(rt, row, message, moment)?;
             }
             11..15 => change_rows(rt, &mut chance, &mut played)?,
@@ -397,7 +454,42 @@ fn accounts_owe_what_plain_lists_have(rt: HostRuntime) -> Result<(), Fail> {
     Ok(())
 }
 
-/// Equal debts side by side, at the counts at which words of bits end.
+/// So many steps from this number on, in each of which a row gains or pays, and loses what is past.
+fn play_with_past(rt: &(impl Abort + AllocGlobal), seed: u64, steps: u64) -> Result<(), Fail> {
+    let mut chance = Chance::new(seed);
+    let mut played = Played::new(rt)?;
+    let mut now: u64 = 0;
+    for _ in 0..steps {
+        let row = played.row(rt, &mut chance);
+        let message = chance.below(3);
+        match chance.below(6) {
+            0 => now = now.saturating_add(chance.below(4)),
+            1 if played.lists.len() < 6 => played.push_copy(rt, row)?,
+            1 => played.soften(rt, row),
+            2 | 3 => {
+                let debt = Debt {
+                    message,
+                    deadline: now.saturating_add(5),
+                    must: chance.below(2) == 0,
+                };
+                played.gain_and_expire(rt, row, debt, now)?;
+            }
+            _ => played.pay_and_expire(rt, row, message, now)?,
+        }
+        played.agree(rt)?;
+    }
+    Ok(())
+}
+
+#[test]
+fn rows_gain_and_pay_and_lose_what_is_past(rt: HostRuntime) -> Result<(), Fail> {
+    for seed in 0..4 {
+        play_with_past(&rt, seed, 100)?;
+    }
+    Ok(())
+}
+
+/// A row owes equal debts as often as it gained them, also about the counts at which a word of 64 bits would end.
 #[test]
 fn equal_debts_count_as_often_as_they_were_gained(rt: HostRuntime) -> Result<(), Fail> {
     let debt = Debt {
@@ -427,14 +519,14 @@ fn what_is_owed_is_told_after_a_long_life(rt: HostRuntime) -> Result<(), Fail> {
     played.push_copy(&rt, 0)?;
     for moment in 0..150_u64 {
         let debt = Debt {
-            message: u32::try_from(moment % 5).unwrap_or(0),
+            message: moment % 5,
             deadline: moment + 3,
             must: moment % 7 == 0,
         };
         played.gain(&rt, 0, debt)?;
         played.gain(&rt, 1, debt)?;
-        played.pay(&rt, 0, u32::try_from((moment + 3) % 5).unwrap_or(0), moment)?;
-        played.pay(&rt, 1, u32::try_from((moment + 4) % 5).unwrap_or(0), moment)?;
+        played.pay(&rt, 0, (moment + 3) % 5, moment)?;
+        played.pay(&rt, 1, (moment + 4) % 5, moment)?;
         played.expire(&rt, 0, moment)?;
         played.expire(&rt, 1, moment)?;
         played.accounts.tidy();
@@ -455,7 +547,7 @@ fn one_row_pays_in_any_order(rt: HostRuntime) -> Result<(), Fail> {
         };
         played.gain(&rt, 0, debt)?;
     }
-    for step in 0..100_u32 {
+    for step in 0..100_u64 {
         played.pay(&rt, 0, step * 37 % 100, 5)?;
         played.accounts.tidy();
         played.agree(&rt)?;

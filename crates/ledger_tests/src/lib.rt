@@ -4,18 +4,8 @@
 #[cfg(test)]
 mod accounts;
 #[cfg(test)]
-mod at_rows;
-#[cfg(test)]
 mod chance;
 #[cfg(test)]
-mod growths;
-#[cfg(test)]
-mod lists;
-#[cfg(test)]
-mod long;
-#[cfg(test)]
-mod played;
-#[cfg(test)]
-mod rows;
+mod refused;
 #[cfg(test)]
 mod wants;

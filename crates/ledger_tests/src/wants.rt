@@ -1,19 +1,9 @@
 //! What is wanted of a value. A test that asks by a call is proved in a tenth of the time of one that expands `assert_eq!` itself.
 
-use std::fmt::{Debug, Display};
+use std::fmt::Debug;
 use std::process::Abort;
 
 /// What is found is what is wanted.
 pub(crate) fn is<T: PartialEq + Debug + Drop>(rt: &impl Abort, found: T, want: T) {
     assert_eq!(rt; found, want);
-}
-
-/// What is found in the row is what is wanted.
-pub(crate) fn is_in<T: PartialEq + Debug + Drop>(
-    rt: &impl Abort,
-    found: T,
-    want: T,
-    row: &impl Display,
-) {
-    assert_eq!(rt; found, want, "{row}");
 }

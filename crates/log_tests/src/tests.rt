@@ -16,7 +16,7 @@ pub(crate) const HEADER: &[u8] = b"sip-trace 1\nt1 500 t2 4000 t4 5000 tolerance
 const CALLS: usize = 64;
 
 /// Reads the log to its end. The answer is how many entries it has and why there are no more, or `None` where a further call differs.
-pub(crate) fn read<R: Source + Drop>(alloc: Global, source: R) -> Option<(u32, Option<LogError>)> {
+pub(crate) fn read<R: Source + Drop>(alloc: Global, source: R) -> Option<(u64, Option<LogError>)> {
     let mut reader = LogReader::new(alloc, source);
     let mut count = 0;
     for _ in 0..CALLS {
@@ -40,7 +40,7 @@ pub(crate) fn read<R: Source + Drop>(alloc: Global, source: R) -> Option<(u32, O
 }
 
 /// Reads the bytes whole, one by one, and in two pieces cut at each place. The answer is `None` where the readings differ.
-pub(crate) fn read_cut(alloc: Global, bytes: &[u8]) -> Option<(u32, Option<LogError>)> {
+pub(crate) fn read_cut(alloc: Global, bytes: &[u8]) -> Option<(u64, Option<LogError>)> {
     let whole = read(alloc, FromRead::new(bytes))?;
     if read(alloc, Pieces::single(bytes)) != Some(whole) {
         return None;
@@ -54,7 +54,7 @@ pub(crate) fn read_cut(alloc: Global, bytes: &[u8]) -> Option<(u32, Option<LogEr
 }
 
 /// A row: the bytes of a log, how many entries they have, and why there are no more.
-pub(crate) type Row = (&'static [u8], u32, Option<LogError>);
+pub(crate) type Row = (&'static [u8], u64, Option<LogError>);
 
 /// The index of the first row that, after these bytes, is read otherwise than it says.
 pub(crate) fn first_other(
@@ -258,7 +258,7 @@ fn registration(alloc: Global) -> Result<Vec<u8>, AllocError> {
 }
 
 /// The number of entries that are whole in the first `len` bytes of the log of a registration.
-fn whole_entries(len: usize) -> u32 {
+fn whole_entries(len: usize) -> u64 {
     match len {
         0..=255 => 0,
         256..=465 => 1,
@@ -491,7 +491,7 @@ fn tells_the_times_of_the_header(rt: HostRuntime) -> Result<(), Fail> {
 }
 
 /// The number of the entry that comes next, if one does.
-fn next_number(progress: &mut Progress, bytes: &mut &[u8]) -> Result<Option<u32>, LogError> {
+fn next_number(progress: &mut Progress, bytes: &mut &[u8]) -> Result<Option<u64>, LogError> {
     match progress.next(bytes)? {
         Some(entry) => Ok(Some(entry.number)),
         None => Ok(None),

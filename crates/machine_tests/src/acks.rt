@@ -17,7 +17,7 @@ const MESSAGES: [Numbered; 4] = [
 ];
 
 /// Keeps the To of the message with this number beside it.
-fn keep_to(alloc: Global, book: &mut Book, number: u32) -> Result<(), Fail> {
+fn keep_to(alloc: Global, book: &mut Book, number: u64) -> Result<(), Fail> {
     let Some(bytes) = book.bytes(number) else {
         return Err("not kept".into());
     };

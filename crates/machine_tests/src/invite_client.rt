@@ -8,29 +8,29 @@ use std::alloc::Global;
 use std::process::Abort;
 use std::test::Fail;
 
-const INVITE: u32 = 1;
+const INVITE: u64 = 1;
 
-const OTHER_INVITE: u32 = 2;
+const OTHER_INVITE: u64 = 2;
 
-const TRYING: u32 = 3;
+const TRYING: u64 = 3;
 
-const RINGING: u32 = 4;
+const RINGING: u64 = 4;
 
-const OK: u32 = 5;
+const OK: u64 = 5;
 
-const BUSY: u32 = 6;
+const BUSY: u64 = 6;
 
-const GONE: u32 = 7;
+const GONE: u64 = 7;
 
 /// The ACK for `BUSY`.
-const ACK: u32 = 8;
+const ACK: u64 = 8;
 
 /// The ACK for `GONE`.
-const OTHER_ACK: u32 = 9;
+const OTHER_ACK: u64 = 9;
 
-const CANCEL: u32 = 10;
+const CANCEL: u64 = 10;
 
-const OPTIONS: u32 = 11;
+const OPTIONS: u64 = 11;
 
 fn client(t1: u64) -> Result<InviteClient, Fail> {
     Ok(InviteClient::new(params(t1)?))

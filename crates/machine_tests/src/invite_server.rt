@@ -7,23 +7,23 @@ use sip_machine::{Action, InviteServer, InviteServerPhase, Machine};
 use std::process::Abort;
 use std::test::Fail;
 
-const INVITE: u32 = 1;
+const INVITE: u64 = 1;
 
-const RINGING: u32 = 2;
+const RINGING: u64 = 2;
 
-const TRYING: u32 = 3;
+const TRYING: u64 = 3;
 
-const PROGRESS: u32 = 4;
+const PROGRESS: u64 = 4;
 
-const BUSY: u32 = 5;
+const BUSY: u64 = 5;
 
-const OK: u32 = 6;
+const OK: u64 = 6;
 
-const ACK: u32 = 7;
+const ACK: u64 = 7;
 
-const CANCEL: u32 = 8;
+const CANCEL: u64 = 8;
 
-const OTHER: u32 = 9;
+const OTHER: u64 = 9;
 
 /// The messages by number: the start line of each, and its tag in To.
 const MESSAGES: [Numbered; 9] = [

@@ -16,7 +16,7 @@ pub(crate) enum Start {
 }
 
 /// A message: its number, how it begins, and its tag in To.
-pub(crate) type Numbered = (u32, Start, Option<u8>);
+pub(crate) type Numbered = (u64, Start, Option<u8>);
 
 /// The first line of a message that begins in this way.
 fn line_of(alloc: Global, start: Start) -> Result<String, AllocError> {
@@ -62,7 +62,7 @@ fn text_of(
 }
 
 /// Keeps a message under this number, which is above all others. Where memory is refused, the book is as before.
-pub(crate) fn keep(book: &mut Book, number: u32, bytes: &[u8]) -> Result<(), AllocError>
+pub(crate) fn keep(book: &mut Book, number: u64, bytes: &[u8]) -> Result<(), AllocError>
     requires { (n : ℕ) → Keeps book.old n → n < number }
     ensures ok { OnOk result ((n : ℕ) → Keeps book.new n → n ≤ number) }
     ensures err { OnErr result ((n : ℕ) → Keeps book.new n → n < number) }
@@ -72,7 +72,7 @@ pub(crate) fn keep(book: &mut Book, number: u32, bytes: &[u8]) -> Result<(), All
 }
 
 /// Forgets the newest message where it has this number. No number of the book is above `highest`, before and after.
-pub(crate) fn forget(book: &mut Book, number: u32, highest: u32)
+pub(crate) fn forget(book: &mut Book, number: u64, highest: u64)
     requires { (n : ℕ) → Keeps book.old n → n ≤ highest }
     ensures { (n : ℕ) → Keeps book.new n → n ≤ highest }
 {
@@ -106,7 +106,7 @@ pub(crate) fn event_of(
     book: &Book,
     moment: u64,
     action: Action,
-    number: u32,
+    number: u64,
 ) -> Result<Event, Fail>
     ensures { IfOk result (λ event. FitsBook book.now event) }
 {

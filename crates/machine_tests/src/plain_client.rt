@@ -7,9 +7,9 @@ use sip_machine::{Action, Machine, PlainClient, PlainClientPhase, Waiting};
 use std::process::Abort;
 use std::test::Fail;
 
-const REQUEST: u32 = 1;
+const REQUEST: u64 = 1;
 
-const OTHER: u32 = 2;
+const OTHER: u64 = 2;
 
 /// The messages by number, which is the code where it is a response.
 const MESSAGES: [Numbered; 6] = [

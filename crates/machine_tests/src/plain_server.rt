@@ -8,17 +8,17 @@ use std::alloc::Global;
 use std::process::Abort;
 use std::test::Fail;
 
-const REQUEST: u32 = 1;
+const REQUEST: u64 = 1;
 
-const RINGING: u32 = 2;
+const RINGING: u64 = 2;
 
-const TRYING: u32 = 3;
+const TRYING: u64 = 3;
 
-const FINAL: u32 = 4;
+const FINAL: u64 = 4;
 
-const PROGRESS: u32 = 5;
+const PROGRESS: u64 = 5;
 
-const LAST: u32 = 6;
+const LAST: u64 = 6;
 
 /// The messages by number: the start line of each, and its tag in To.
 const MESSAGES: [Numbered; 6] = [
@@ -315,7 +315,7 @@ fn are_turns(runs: &[Run], want: Turns) -> bool {
 }
 
 /// Whether the state is proceeding with this last response, and owes the responses in these turns.
-fn proceeds(state: &State<PlainServerPhase>, (number, turns): (u32, Turns)) -> bool {
+fn proceeds(state: &State<PlainServerPhase>, (number, turns): (u64, Turns)) -> bool {
     match &state.phase {
         PlainServerPhase::Proceeding { last, .. } => {
             *last == number && are_turns(&state.owes, turns)
@@ -345,7 +345,7 @@ static REPEATS: [Entry; 11] = [
 ];
 
 /// Whether the entries lead to as many states as are wanted, each with its last response and its debts.
-fn all_proceed(alloc: Global, entries: &[Entry], wants: &[(u32, Turns)]) -> Result<bool, Fail> {
+fn all_proceed(alloc: Global, entries: &[Entry], wants: &[(u64, Turns)]) -> Result<bool, Fail> {
     let pool = run(alloc, &server()?, &book(alloc)?, entries)?;
     let states = states_of(alloc, &pool)?;
     Ok(
@@ -358,7 +358,7 @@ fn all_proceed(alloc: Global, entries: &[Entry], wants: &[(u32, Turns)]) -> Resu
 }
 
 /// How many of the entries of `REPEATS` are taken, and the last response and the debts of each state then.
-static RUNS: &[(usize, &[(u32, Turns)])] = &[
+static RUNS: &[(usize, &[(u64, Turns)])] = &[
     (5, &[(RINGING, [3, 0, 0, 0])]),
     (7, &[(PROGRESS, [3, 1, 0, 0])]),
     (8, &[(RINGING, [3, 1, 0, 0]), (PROGRESS, [2, 1, 0, 0])]),

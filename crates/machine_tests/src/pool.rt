@@ -15,7 +15,7 @@ use std::process::Abort;
 use std::test::Fail;
 
 /// A debt of this message, which must be sent until 60.
-fn debt(message: u32) -> Debt {
+fn debt(message: u64) -> Debt {
     Debt {
         message,
         deadline: 60,
@@ -23,9 +23,9 @@ fn debt(message: u32) -> Debt {
     }
 }
 
-const REQUEST: u32 = 4;
+const REQUEST: u64 = 4;
 
-const LAST: u32 = 5;
+const LAST: u64 = 5;
 
 /// The messages by number: three that are owed, their request, and one that is sent after them.
 const MESSAGES: [Numbered; 5] = [
@@ -71,7 +71,7 @@ fn push_owing<M: Machine>(
     machine: &M,
     book: &Book,
     pool: &mut Pool<M::Phase>,
-    messages: &[u32],
+    messages: &[u64],
 ) -> Result<(), Fail>
     requires known { All (Knows M.names book.now) pool.old }
     requires in_range { All M.in_range pool.old }
@@ -97,7 +97,7 @@ fn push_each<M: Machine>(
     machine: &M,
     book: &Book,
     pool: &mut Pool<M::Phase>,
-    lists: &[&[u32]],
+    lists: &[&[u64]],
 ) -> Result<(), Fail>
     requires known { All (Knows M.names book.now) pool.old }
     requires in_range { All M.in_range pool.old }
@@ -111,7 +111,7 @@ fn push_each<M: Machine>(
 }
 
 /// A pool with a state for each of the lists, which owes the messages of the list.
-fn pool_of(alloc: Global, lists: &[&[u32]]) -> Result<Pool<PlainServerPhase>, Fail> {
+fn pool_of(alloc: Global, lists: &[&[u64]]) -> Result<Pool<PlainServerPhase>, Fail> {
     let server = server()?;
     let book = book_of(alloc, &MESSAGES, "OPTIONS", "UDP")?;
     let mut pool = Pool::new(alloc);
@@ -120,7 +120,7 @@ fn pool_of(alloc: Global, lists: &[&[u32]]) -> Result<Pool<PlainServerPhase>, Fa
 }
 
 /// A run of `count` debts of the message.
-fn run(message: u32, count: usize) -> Run {
+fn run(message: u64, count: usize) -> Run {
     Run {
         debt: debt(message),
         count,
@@ -166,13 +166,13 @@ fn are_from(rows: &[usize], from: usize, to: usize) -> bool {
 }
 
 /// Whether states that owe these messages and those others are the same state.
-fn make_one(alloc: Global, these: &[u32], others: &[u32]) -> Result<bool, Fail> {
+fn make_one(alloc: Global, these: &[u64], others: &[u64]) -> Result<bool, Fail> {
     let pool = pool_of(alloc, &[these, others])?;
     Ok(pool.first_ones(0)?.len() == 1)
 }
 
 /// Asserts that states with two of the lists are the same state exactly where the two are one list.
-fn pairs_are_told_apart(rt: &(impl Abort + AllocGlobal), lists: &[&[u32]]) -> Result<(), Fail> {
+fn pairs_are_told_apart(rt: &(impl Abort + AllocGlobal), lists: &[&[u64]]) -> Result<(), Fail> {
     for (place, these) in lists.iter().enumerate() {
         for (other, others) in lists.iter().enumerate() {
             let is_one = make_one(rt.alloc(), these, others)?;
@@ -183,7 +183,7 @@ fn pairs_are_told_apart(rt: &(impl Abort + AllocGlobal), lists: &[&[u32]]) -> Re
 }
 
 /// A pool with two states for each of the lists.
-fn twice(alloc: Global, lists: &[&[u32]]) -> Result<Pool<PlainServerPhase>, Fail> {
+fn twice(alloc: Global, lists: &[&[u64]]) -> Result<Pool<PlainServerPhase>, Fail> {
     let mut all = Vec::new(alloc);
     all.extend_from_slice(lists)?;
     all.extend_from_slice(lists)?;
@@ -204,7 +204,7 @@ fn first_ones_follow(
 }
 
 /// Asserts that equal lists make one state, and different lists two.
-fn are_told_apart(rt: &(impl Abort + AllocGlobal), lists: &[&[u32]]) -> Result<(), Fail> {
+fn are_told_apart(rt: &(impl Abort + AllocGlobal), lists: &[&[u64]]) -> Result<(), Fail> {
     pairs_are_told_apart(rt, lists)?;
     let count = lists.len();
     let mut pool = twice(rt.alloc(), lists)?;
@@ -220,7 +220,7 @@ fn are_told_apart(rt: &(impl Abort + AllocGlobal), lists: &[&[u32]]) -> Result<(
 
 #[test]
 fn what_is_owed_tells_states_apart(rt: HostRuntime) -> Result<(), Fail> {
-    let lists: [&[u32]; 9] = [
+    let lists: [&[u64]; 9] = [
         &[],
         &[1],
         &[1, 1],
@@ -237,7 +237,7 @@ fn what_is_owed_tells_states_apart(rt: HostRuntime) -> Result<(), Fail> {
 /// Lists with the same debts in another order have the same sum, so that only a comparison of the lists tells their states apart.
 #[test]
 fn the_same_debts_compare_as_lists(rt: HostRuntime) -> Result<(), Fail> {
-    let lists: [&[u32]; 6] = [
+    let lists: [&[u64]; 6] = [
         &[1, 1, 2, 3],
         &[1, 1, 3, 2],
         &[1, 2, 1, 3],
@@ -249,7 +249,7 @@ fn the_same_debts_compare_as_lists(rt: HostRuntime) -> Result<(), Fail> {
 }
 
 /// The messages that the states owe, one state after another.
-fn owed_in_turn<P: Phase>(alloc: Global, pool: &Pool<P>) -> Result<Vec<u32>, Fail> {
+fn owed_in_turn<P: Phase>(alloc: Global, pool: &Pool<P>) -> Result<Vec<u64>, Fail> {
     let mut messages = Vec::new(alloc);
     for state in &states_of(alloc, pool)? {
         for run in &state.owes {
@@ -263,7 +263,7 @@ fn owed_in_turn<P: Phase>(alloc: Global, pool: &Pool<P>) -> Result<Vec<u32>, Fai
 fn owe<P: Phase>(
     rt: &(impl Abort + AllocGlobal),
     pool: &Pool<P>,
-    messages: &[u32],
+    messages: &[u64],
 ) -> Result<(), Fail> {
     assert_eq!(rt; owed_in_turn(rt.alloc(), pool)?.as_slice(), messages);
     Ok(())
@@ -329,7 +329,7 @@ fn first_takes<M: Machine>(
 }
 
 /// What the five states owe after the first of three states took its event.
-static OWED_THEN: [u32; 9] = [1, 2, 1, 3, 1, 2, 1, 2, 1];
+static OWED_THEN: [u64; 9] = [1, 2, 1, 3, 1, 2, 1, 2, 1];
 
 /// Asserts that there are five states, which owe `OWED_THEN`.
 fn are_five<P: Phase>(rt: &(impl Abort + AllocGlobal), pool: &Pool<P>) -> Result<(), Fail> {

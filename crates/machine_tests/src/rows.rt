@@ -10,7 +10,7 @@ use std::process::Abort;
 use std::test::Fail;
 
 /// A debt that a row wants: its message, its deadline, and whether it must be sent.
-pub(crate) type Owed = (u32, u64, bool);
+pub(crate) type Owed = (u64, u64, bool);
 
 pub(crate) const MUST: bool = true;
 

@@ -13,18 +13,18 @@ use std::alloc::Global;
 use std::process::Abort;
 use std::test::Fail;
 
-const INVITE: u32 = 1;
+const INVITE: u64 = 1;
 
-const RINGING: u32 = 2;
+const RINGING: u64 = 2;
 
-const BUSY: u32 = 3;
+const BUSY: u64 = 3;
 
-const OK: u32 = 4;
+const OK: u64 = 4;
 
-const ACK: u32 = 5;
+const ACK: u64 = 5;
 
 /// The number that stands for no message, as a restart has none.
-const NONE: u32 = 0;
+const NONE: u64 = 0;
 
 /// The messages by number: the start line of each, and its tag in To.
 const MESSAGES: [Numbered; 5] = [

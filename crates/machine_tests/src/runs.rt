@@ -10,7 +10,7 @@ use std::alloc::Global;
 use std::test::Fail;
 
 /// An entry: its moment, what was done, and the number of its message.
-pub(crate) type Entry = (u64, Action, u32);
+pub(crate) type Entry = (u64, Action, u64);
 
 /// A state of a pool: its phase, and what it owes.
 #[derive(Drop)]

@@ -121,7 +121,7 @@ fn takes_the_next(rt: &impl Abort, book: &mut Book) -> Result<(), Fail>
 }
 
 /// Asserts that a book that was refused memory for the ACK under this number does not keep it, and keeps it once it is added again.
-fn goes_on(rt: &impl Abort, book: &mut Book, number: u32) -> Result<(), AllocError>
+fn goes_on(rt: &impl Abort, book: &mut Book, number: u64) -> Result<(), AllocError>
     requires { (n : ℕ) → Keeps book.old n → n < number }
 {
     keeps(rt, book, number, None);
@@ -131,7 +131,7 @@ fn goes_on(rt: &impl Abort, book: &mut Book, number: u32) -> Result<(), AllocErr
 }
 
 /// Asserts that the book keeps these bytes under the number, or that it keeps none there.
-fn keeps(rt: &impl Abort, book: &Book, number: u32, bytes: Option<&[u8]>) {
+fn keeps(rt: &impl Abort, book: &Book, number: u64, bytes: Option<&[u8]>) {
     assert_eq!(rt; book.bytes(number), bytes, "{number}");
 }
 
@@ -140,8 +140,8 @@ fn keeps(rt: &impl Abort, book: &Book, number: u32, bytes: Option<&[u8]>) {
 fn are_numbered(
     alloc: Global,
     book: &mut Book,
-    first: u32,
-    count: u32,
+    first: u64,
+    count: u64,
     end: &[u8],
 ) -> Result<bool, AllocError>
     requires limit { first + count < 4294967296 }

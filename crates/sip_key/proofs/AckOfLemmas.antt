@@ -29,6 +29,7 @@ ack-line method uri other target a i r a_is i_is ack r_is = (
 abbrev each : List (List ℕ) → List ℕ
 each values = flat_map (λ value. comma ∷ solid value) values
 
+-- the solid bytes of two texts in a row are those of the first and then those of the second
 solid-append : (a b : List ℕ) → solid (a ++ b) ≡ solid a ++ solid b
 solid-append a b = filter-append _ a b
 

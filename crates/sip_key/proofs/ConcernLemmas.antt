@@ -22,9 +22,11 @@ first-port (value ∷ vals) e es (f ∷ now, more, now_is, more_are, whole) =
     let P : Element → Type 0 = λ x. IfSome x.1.port Port in
     subst P same now_is.0.0.port
 
+-- the port of the top Via, where there is one, is a port of the grammar
 pub top-port : (fields : List Field) (p : Parts) → HasParts fields p → IfSome p.via.1.port Port
 top-port fields p has = first-port (values known_name.Via fields) p.via p.others has.vias
 
+-- a conjunction with false is false
 and-false : (a : Bool) → (a && false) ≡ false
 and-false true = refl
 and-false false = refl

@@ -72,10 +72,12 @@ length-folded count =
     map-append to_ascii_lowercase (replicate (count / 64) 64) (count % 64 ∷ [])
     ∙ ap₂ ◌++◌ (repeated-folded (count / 64)) (ap (λ byte. byte ∷ []) ((lowercase_is (count % 64)).1 (omega arith)))
 
+-- the byte of a role is no letter that lower case changes
 role-folded : (role : Role) → to_ascii_lowercase (role_byte role) ≡ role_byte role
 role-folded Client = refl
 role-folded Server = refl
 
+-- lower case leaves the head of a key as it is
 head-folded : (role : Role) (branch method : ℕ) → folded (key_head role branch method) ≡ key_head role branch method
 head-folded role branch method =
     ap₂ ◌∷◌ (role-folded role) (map-append to_ascii_lowercase (length_bytes branch) (length_bytes method) ∙ ap₂ ◌++◌ (length-folded branch) (length-folded method))

@@ -59,9 +59,11 @@ token_low b is =
       | inr mark ↦ one_of_low (codes "-.!%*_+`'~") refl b mark
     ]
 
+-- bytes of tokens are ASCII
 bytes_ascii : (u : List ℕ) → each.All is_token_byte u → IsAscii u
 bytes_ascii u all = IsAscii-from_all u (All-weaker (λ b. is_token_byte b ≡ true) (λ b. b < 128) token_low u (All-from_recursion (λ b. is_token_byte b ≡ true) u all))
 
+-- a token is ASCII
 pub token_ascii : (u : List ℕ) → Token u → IsAscii u
 token_ascii u token = bytes_ascii u (each-token u token)
 
@@ -74,6 +76,7 @@ either P false x y p q = q
 invite_ascii : IsAscii (codes "INVITE")
 invite_ascii = bytes_ascii (codes "INVITE") (refl, (refl, (refl, (refl, (refl, (refl, tt))))))
 
+-- the method of a message is ASCII
 method_ascii : (line cseq : List ℕ) (start : StartLine) → StartText line start → Token cseq → IsAscii (method_of start cseq)
 method_ascii line cseq (request method uri) is token = either IsAscii (bytes_eq method (codes "ACK")) (codes "INVITE") method invite_ascii (token_ascii method is.0)
 method_ascii line cseq (status code reason) is token = token_ascii cseq token

@@ -23,9 +23,11 @@ same-behind P (x ∷ xs) (y ∷ ys) t w z h =
     let more = same-behind P xs ys t w z.1 h in
     (λ p. ap₂ ◌∷◌ (eqb-true x y z.0) (more.0 p), λ e. more.1 (let tail : xs ++ t ≡ ys ++ w = cc in tail))
 
+-- an empty text has no first byte
 not-cons : (x : ℕ) (xs t : List ℕ) → t ≡ [] → t ≡ x ∷ xs → ⊥
 not-cons x xs t e f = let both : [] ≡ x ∷ xs = sym e ∙ f in cc
 
+-- false is not true
 no : false ≡ true → ⊥
 no e = cc
 

@@ -1,5 +1,4 @@
 pub mod ListedLemmas
-pub mod LongLemmas
 pub mod PayLemmas
+pub mod RowLemmas
 pub mod RunLemmas
-pub mod SpanLemmas

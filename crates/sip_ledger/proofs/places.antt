@@ -7,7 +7,9 @@ pub mod GainedLemmas
 pub mod LeftLemmas
 pub mod LetGoLemmas
 pub mod MovedLemmas
+pub mod NamedLemmas
 pub mod PaidLemmas
+pub mod RisingLemmas
 pub mod SeekLemmas
 pub mod SeenLemmas
 pub mod StrikeLemmas

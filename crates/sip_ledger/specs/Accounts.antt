@@ -1,7 +1,8 @@
-use Rattle.std.specs.Prelude.{ℕ, List, [], ◌/◌, ◌*◌, ◌%◌, ◌^◌, ◌&&◌, bit_xor, filter, get_or, map}
+use Rattle.std.specs.Prelude.{ℕ, Bool, List, [], ◌≡◌, ◌↔◌, ◌==◌, ◌/◌, ◌*◌, ◌%◌, ◌^◌, ◌&&◌, ◌++◌, Contains, IsTrue, bit_xor, filter, get_or, map}
 use Rattle.std.specs.List.{list_any, sum_by}
 use Rattle.sip_ledger.specs.declared.debt.Debt.{Debt}
 use Rattle.sip_ledger.specs.Debts.{counts_at, is_payable, is_timely, paid_by}
+use Rattle.sip_ledger.specs.Ledgers.{Rise}
 use Rattle.sip_ledger.specs.Prints.{mixed}
 
 -- What each of many states owes: a list of debts, oldest first.
@@ -22,3 +23,18 @@ worth_of message deadline = mixed (mixed (mixed 1 message) deadline) (mixed (mix
 -- a number for debts, whatever has to be paid: the sum of their numbers
 unfoldable pub debts_print : List Debt → ℕ
 debts_print debts = sum_by (λ debt. worth_of debt.message debt.deadline) debts % 2 ^ 64
+
+-- whether one of the debts is of the message
+abbrev pub owes_message : ℕ → List Debt → Bool
+owes_message message debts = list_any (λ debt. debt.message == message) debts
+
+-- whether one of the rows owes the message
+abbrev pub some_owes : ℕ → List (List Debt) → Bool
+some_owes message rows = list_any (owes_message message) rows
+
+-- the new numbers are the old ones, and after them those of the messages that rows owe, from the least on, each once
+pub record AppendsOwed (rows : List (List Debt)) (old new : List ℕ) : Type 0 where
+  pub names : List ℕ
+  pub whole : new ≡ old ++ names
+  pub rise : Rise names
+  pub each : (message : ℕ) → Contains names message ↔ IsTrue (some_owes message rows)

@@ -1,5 +1,5 @@
-use Rattle.std.specs.Prelude.{◌≡◌, ◌≤◌, ◌==◌, ◌&&◌, ◌||◌, if◌then◌else◌, IsTrue, ℕ, Bool, false, true, Option, None, Some, List, [], ◌∷◌, ◌++◌, All, filter, map, min, nat_le}
-use Rattle.std.specs.List.{list_any, reduce}
+use Rattle.std.specs.Prelude.{if◌then◌else◌, ◌≡◌, ◌==◌, ◌&&◌, ◌||◌, ℕ, Bool, false, true, Option, None, Some, List, [], ◌∷◌, ◌++◌, All, filter, map, min, nat_le}
+use Rattle.std.specs.List.{reduce}
 use Rattle.sip_ledger.specs.declared.debt.Debt.{Debt}
 
 -- What is owed: debts, of which the oldest is first.
@@ -26,10 +26,6 @@ softened_debt debt = record { message = debt.message; deadline = debt.deadline; 
 abbrev pub is_payable : ℕ → ℕ → Debt → Bool
 is_payable message t debt = debt.message == message && nat_le t debt.deadline
 
--- a send of one of the messages at t can pay the debt
-abbrev pub is_any_payable : List ℕ → ℕ → Debt → Bool
-is_any_payable messages t debt = list_any (λ message. is_payable message t debt) messages
-
 -- what is owed after a send of this message at t, which pays the first debt that it can pay
 abbrev pub paid_by : ℕ → ℕ → List Debt → List Debt
 paid_by message t [] = []
@@ -51,9 +47,3 @@ is_within t (Some last) = nat_le t last
 -- no deadline of what must be sent is before t
 abbrev pub is_timely : ℕ → List Debt → Bool
 is_timely t debts = is_within t (earliest (debt_deadlines debts))
-
--- low and high are the least and the greatest number of a message that is owed
-pub record IsSpan (debts : List Debt) (low high : ℕ) : Type 0 where
-  pub least : IsTrue (list_any (λ debt. debt.message == low) debts)
-  pub greatest : IsTrue (list_any (λ debt. debt.message == high) debts)
-  pub between : All (λ debt. (low ≤ debt.message) × (debt.message ≤ high)) debts

@@ -1,7 +1,7 @@
-//! What many rows owe: one list of what they gained, and for each row which of it.
+//! What many rows owe: one list of what they gained, and for each row an account of what it owes of that list.
 ghost use Rattle.std.specs.Prelude.{◌≡◌, ◌↔◌, ◌<◌, ◌++◌, ◌∷◌, [], ℕ, List, IsTrue, OnOk, OnErr, IfOk, IfSome, IfNone, All, length, set, map, filter, take, drop, get_or};
 ghost use Rattle.std.specs.List.{list_any};
-ghost use Rattle.sip_ledger.specs.Accounts.{owed_in, debts_print};
+ghost use Rattle.sip_ledger.specs.Accounts.{owed_in, debts_print, AppendsOwed};
 ghost use Rattle.sip_ledger.specs.Debts.{counts_at, softened_debt, is_payable, debt_deadlines, earliest, paid_by};
 ghost use Rattle.sip_ledger.specs.Ledgers.{Rise};
 ghost use Rattle.sip_ledger.specs.Runs.{AreRuns};
@@ -11,20 +11,23 @@ mod each;
 mod gains;
 mod left;
 mod moved;
+mod named;
 mod seek;
 mod strikes;
 
 use crate::accounts::account::{
-    Account, EMPTY, debts, earliest_must, expired, find, gained, place_for, same, without,
+    Account, EMPTY, debts, earliest_must, expired, find, gained, gained_and_expired,
+    paid_and_expired, place_for, same, without,
 };
 use crate::accounts::gains::Gains;
 use crate::accounts::left::{drop_front, let_go};
 use crate::accounts::moved::{held, move_all};
+use crate::accounts::named::name_all;
 use crate::accounts::seek::Seek;
 use crate::accounts::strikes::Strike;
 use crate::debt::Debt;
+use crate::front;
 use crate::run::{Run, runs_of};
-use crate::words;
 use std::alloc::{AllocError, Global};
 use std::marker::Model;
 
@@ -35,7 +38,7 @@ pub struct Accounts {
     strikes: Vec<Strike>,
     rows: Vec<Account>,
     /// The message that was paid last, while what was gained of it may stand before what is owed of it.
-    paid: Option<u32>,
+    paid: Option<u64>,
 }
 
 impl Model for Accounts {
@@ -101,7 +104,7 @@ impl Accounts {
         ensures { self.new ≡ drop rows self.old }
     {
         let count = rows.min(self.rows.len());
-        words::drop_first(&mut self.rows, count);
+        front::drop_first(&mut self.rows, count);
     }
 
     /// Keeps the rows of these numbers, which rise.
@@ -139,7 +142,7 @@ impl Accounts {
 
     /// Takes out of the row the first debt that a send of the message at the moment pays, if there is one. On an error all is
     /// as before.
-    pub fn pay(&mut self, row: usize, message: u32, moment: u64) -> Result<(), AllocError>
+    pub fn pay(&mut self, row: usize, message: u64, moment: u64) -> Result<(), AllocError>
         requires { row < length self.old }
         ensures ok { OnOk result (self.new ≡ set self.old row (paid_by message moment (owed_in self.old row))) }
         ensures err { OnErr result (self.new ≡ self.old) }
@@ -161,7 +164,7 @@ impl Accounts {
     }
 
     /// Whether the row has a debt that a send of the message at the moment pays.
-    pub fn can_pay(&self, row: usize, message: u32, moment: u64) -> bool
+    pub fn can_pay(&self, row: usize, message: u64, moment: u64) -> bool
         requires { row < length self.now }
         ensures { result ≡ list_any (is_payable message moment) (owed_in self.now row) }
     {
@@ -185,6 +188,49 @@ impl Accounts {
         ensures err { OnErr result (self.new ≡ self.old) }
     {
         self.rows[row] = expired(&self.gains, &mut self.strikes, self.rows[row], moment)?;
+        Ok(())
+    }
+
+    /// Lets the row owe one more debt, after its others, and drops what it may send and whose deadline is below the moment. On an error
+    /// all is as before.
+    pub fn gain_and_expire(&mut self, row: usize, debt: Debt, moment: u64) -> Result<(), AllocError>
+        requires { row < length self.old }
+        ensures ok { OnOk result (self.new ≡ set self.old row (filter (counts_at moment) (owed_in self.old row ++ debt ∷ []))) }
+        ensures err { OnErr result (self.new ≡ self.old) }
+    {
+        let account = self.rows[row];
+        let place = place_for(&mut self.gains, &self.strikes, account, debt)?;
+        self.rows[row] = gained_and_expired(
+            &self.gains,
+            &mut self.strikes,
+            account,
+            debt,
+            place,
+            moment,
+        )?;
+        Ok(())
+    }
+
+    /// Takes out of the row the first debt that a send of the message at the moment pays, if there is one, and drops what it may send and
+    /// whose deadline is below the moment. On an error all is as before.
+    pub fn pay_and_expire(
+        &mut self,
+        row: usize,
+        message: u64,
+        moment: u64,
+    ) -> Result<(), AllocError>
+        requires { row < length self.old }
+        ensures ok { OnOk result (self.new ≡ set self.old row (filter (counts_at moment) (paid_by message moment (owed_in self.old row)))) }
+        ensures err { OnErr result (self.new ≡ self.old) }
+    {
+        self.rows[row] = paid_and_expired(
+            &self.gains,
+            &mut self.strikes,
+            self.rows[row],
+            message,
+            moment,
+        )?;
+        self.paid = Some(message);
         Ok(())
     }
 
@@ -243,13 +289,27 @@ impl Accounts {
     }
 
     /// Puts the number of each message that the row owes after the others, once for each debt.
-    pub fn names(&self, alloc: Global, row: usize, numbers: &mut Vec<u32>) -> Result<(), AllocError>
+    pub fn names(&self, alloc: Global, row: usize, numbers: &mut Vec<u64>) -> Result<(), AllocError>
         requires { row < length self.now }
         ensures { OnOk result (numbers.new.items ≡ numbers.old.items ++ map (λ debt. debt.message) (owed_in self.now row)) }
     {
         let debts = debts(alloc, &self.gains, &self.strikes, self.rows[row])?;
         for debt in &debts {
             numbers.push(debt.message)?;
+        }
+        Ok(())
+    }
+
+    /// Puts the numbers of the messages that rows owe after the others, from the least on, each once. On an error the vector is as
+    /// before.
+    pub fn all_names(&self, numbers: &mut Vec<u64>) -> Result<(), AllocError>
+        ensures ok { OnOk result (AppendsOwed self.now numbers.old.items numbers.new.items) }
+        ensures err { OnErr result (numbers.new.items ≡ numbers.old.items) }
+    {
+        let before = numbers.len();
+        if name_all(&self.gains, &self.strikes, &self.rows, numbers).is_err() {
+            numbers.truncate(before);
+            return Err(AllocError);
         }
         Ok(())
     }

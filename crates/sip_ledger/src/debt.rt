@@ -4,7 +4,7 @@
 #[derive(Clone, Copy, Debug, PartialEq, Eq, PartialOrd, Ord)]
 pub struct Debt {
     /// The message's number.
-    pub message: u32,
+    pub message: u64,
     /// The last moment at which it may be sent.
     pub deadline: u64,
     /// Whether it must be sent.
@@ -15,7 +15,7 @@ pub struct Debt {
 #[derive(Clone, Copy, Debug, PartialEq, Eq)]
 pub struct Entry {
     /// The message's number.
-    pub message: u32,
+    pub message: u64,
     /// The last moment at which it may be sent.
     pub deadline: u64,
 }

@@ -1,6 +1,6 @@
 //! Indexes: numbers that stand under keys.
 ghost use Rattle.std.specs.Prelude.{◌≡◌, ◌≤◌, ◌==◌, ◌&&◌, ℕ, cond, true, false, [], IfSome, IfNone, OnOk, OnErr};
-ghost use Rattle.sip_ledger.specs.inner.Indexes.{holds, IsFirstFrom, IsLastPair, IsNextUnder, IsWithoutPair, NoneFrom};
+ghost use Rattle.sip_ledger.specs.inner.Indexes.{holds, IsFirstFrom, IsNextUnder, NoneFrom};
 
 use std::alloc::{AllocError, Global};
 use std::collections::BTreeSet;
@@ -28,13 +28,6 @@ impl Index {
         Index {
             pairs: BTreeSet::new(alloc),
         }
-    }
-
-    /// Whether the number stands under the key.
-    pub(crate) fn has(&self, key: u64, number: u64) -> bool
-        ensures { result ≡ holds self.now key number }
-    {
-        self.pairs.contains(&(key, number))
     }
 
     /// Puts the number under the key. On an error all is as before.
@@ -73,30 +66,5 @@ impl Index {
             Some((found, number)) if found == key => Some(number),
             _ => None,
         }
-    }
-
-    /// The first pair: the least key, and the least number under it.
-    pub(crate) fn first(&self) -> Option<(u64, u64)>
-        ensures found { IfSome result (IsFirstFrom self.now 0 0) }
-        ensures none { IfNone result (NoneFrom self.now 0 0) }
-    {
-        self.pairs.first().copied()
-    }
-
-    /// The last pair: the greatest key, and the greatest number under it.
-    pub(crate) fn last(&self) -> Option<(u64, u64)>
-        ensures found { IfSome result (IsLastPair self.now) }
-        ensures none { IfNone result ((k n : ℕ) → holds self.now k n ≡ false) }
-    {
-        self.pairs.last().copied()
-    }
-
-    /// Takes out the first pair.
-    pub(crate) fn pop_first(&mut self) -> Option<(u64, u64)>
-        ensures found { IfSome result (IsWithoutPair self.old self.new) }
-        ensures none { IfNone result ((k n : ℕ) → holds self.old k n ≡ false) }
-        ensures same { IfNone result (self.new ≡ self.old) }
-    {
-        self.pairs.pop_first()
     }
 }

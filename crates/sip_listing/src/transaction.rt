@@ -14,7 +14,7 @@ use std::alloc::{AllocError, Global};
 pub fn push_transaction(
     alloc: Global,
     text: &mut String,
-    number: u32,
+    number: u64,
     key: &Key,
     set: &AnySet,
 ) -> Result<(), AllocError>
@@ -29,7 +29,7 @@ pub fn push_transaction(
 }
 
 /// Appends the first line of a transaction: its number, its key in words, and how many states it has.
-fn push_line(text: &mut String, number: u32, key: &Key, count: usize) -> Result<(), AllocError>
+fn push_line(text: &mut String, number: u64, key: &Key, count: usize) -> Result<(), AllocError>
     ensures { OnOk result (IsAscii key.now.method → string_bytes text.new ≡ string_bytes text.old ++ transaction_line number key.now count) }
 {
     push_with_number(text, "transaction ", number.into())?;

@@ -19,12 +19,12 @@ use sip_times::Action;
 const LONGEST_LINE: usize = 32;
 
 /// The most entries of a log.
-const MOST_ENTRIES: u32 = 1_000_000;
+const MOST_ENTRIES: u64 = 1_000_000;
 
 /// An entry: what was done at a moment, in milliseconds, and with which message. A mark and a restart have no message.
 #[derive(Debug, Drop)]
 pub struct Entry {
-    pub number: u32,
+    pub number: u64,
     pub moment: u64,
     pub action: Action,
     pub bytes: Vec<u8>,
@@ -38,7 +38,7 @@ pub(crate) fn next_entry<R: Source>(
     window: &mut Window,
     source: &mut R,
     format: Format,
-    count: u32,
+    count: u64,
     last: u64,
 ) -> Result<Option<Entry>, LogError>
     requires { count ≤ most_entries }
@@ -66,7 +66,7 @@ fn read_entry<R: Source>(
     window: &mut Window,
     source: &mut R,
     format: Format,
-    number: u32,
+    number: u64,
     last: u64,
 ) -> Result<Entry, LogError>
     ensures entry { IfOk result (Continues number last) }
@@ -92,7 +92,7 @@ fn after_line<R: Source>(
     buffer: Vec<u8>,
     window: &mut Window,
     source: &mut R,
-    number: u32,
+    number: u64,
     last: u64,
     head: Head,
 ) -> Result<Entry, LogError>
@@ -115,7 +115,7 @@ fn read_body<R: Source>(
     mut buffer: Vec<u8>,
     window: &mut Window,
     source: &mut R,
-    number: u32,
+    number: u64,
     head: Head,
 ) -> Result<Entry, LogError>
     requires { KeepsLimits (head_of head) }
@@ -143,7 +143,7 @@ fn read_message<R: Source>(
     mut buffer: Vec<u8>,
     window: &mut Window,
     source: &mut R,
-    number: u32,
+    number: u64,
     action: Action,
     moment: u64,
     len: u64,

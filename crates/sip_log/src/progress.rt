@@ -31,7 +31,7 @@ pub struct Progress {
     stage: Stage,
     format: Format,
     params: Option<Params>,
-    count: u32,
+    count: u64,
     last: u64,
 }
 

@@ -12,6 +12,7 @@ abbrev pub field_message : {M : Type 0} → ToldField M → Option M
 field_message (Message name message) = message
 field_message field = None
 
+-- the messages that a phase in words tells, in order
 abbrev pub messages_told : {M : Type 0} → Told M → List M
 messages_told told = filter_map field_message told.fields
 
@@ -21,5 +22,6 @@ field_of_code (code.Flag name is) = Flag name.now is
 field_of_code (code.Number name value) = Number name.now value
 field_of_code (code.Message name message) = Message name.now message
 
+-- a phase in words of the code, as a phase in words
 abbrev pub told_of : CodeTold → Told ℕ
 told_of told = record { name = told.name.now; fields = map field_of_code told.fields.items }

@@ -40,7 +40,7 @@ pub struct Book {
 /// A message with the number of its first entry.
 #[derive(Debug, Drop)]
 struct KeptMessage {
-    number: u32,
+    number: u64,
     bytes: Vec<u8>,
 }
 
@@ -110,7 +110,7 @@ impl Book {
     }
 
     /// The bytes of the message with this number, and None if it is not kept.
-    pub fn bytes(&self, number: u32) -> Option<&[u8]>
+    pub fn bytes(&self, number: u64) -> Option<&[u8]>
         ensures { MatchOption result (Keeps self.now number → ⊥)
             (λ bytes. Keeps self.now number × (bytes.now ≡ text_of self.now number)) }
     {
@@ -121,7 +121,7 @@ impl Book {
     }
 
     /// The bytes of a message that is kept.
-    pub(crate) fn bytes_of(&self, number: u32) -> &[u8]
+    pub(crate) fn bytes_of(&self, number: u64) -> &[u8]
         requires { Keeps self.now number }
         ensures { result.now ≡ text_of self.now number }
     {
@@ -132,7 +132,7 @@ impl Book {
     pub(crate) fn message(
         &self,
         alloc: Global,
-        number: u32,
+        number: u64,
     ) -> Result<Option<Message<'_>>, AllocError>
         requires { Keeps self.now number }
         ensures { IfOk result (IsReadAs (text_of self.now number)) }
@@ -150,7 +150,7 @@ impl Book {
     pub(crate) fn has_to(
         &self,
         alloc: Global,
-        number: u32,
+        number: u64,
         to: &Hashed,
         near: &mut usize,
     ) -> Result<bool, AllocError>
@@ -164,7 +164,7 @@ impl Book {
     }
 
     /// Whether the message with this number, read anew, has this To.
-    fn is_read_with(&self, alloc: Global, number: u32, to: &Hashed) -> Result<bool, AllocError>
+    fn is_read_with(&self, alloc: Global, number: u64, to: &Hashed) -> Result<bool, AllocError>
         requires { Keeps self.now number }
         ensures { IfOk result (λ has. IsTrue has ↔ IsToOf (text_of self.now number) to.now) }
     {
@@ -176,7 +176,7 @@ impl Book {
 
     /// The To, without its blanks, of the message with this number, where it stands beside the message: at `near`, or
     /// where a search finds it.
-    fn to_of(&self, number: u32, near: &mut usize) -> Option<&Hashed>
+    fn to_of(&self, number: u64, near: &mut usize) -> Option<&Hashed>
         ensures { IfSome result (λ to. IsToOf (text_of self.now number) to.now) }
     {
         self.tos.get(number, near)
@@ -184,7 +184,7 @@ impl Book {
 
     /// Which of the messages with numbers from `low` up to `high` has this To, from which the blanks were taken. It is told without
     /// a look at each of them where each has its To beside it and no two have this one.
-    pub(crate) fn holder(&self, to: &Hashed, low: u32, high: u32) -> Holder
+    pub(crate) fn holder(&self, to: &Hashed, low: u64, high: u64) -> Holder
         ensures { HoldsBetween self.now to.now low high result }
     {
         if kept_between(&self.kept, low, high) != self.tos.between(low, high) {
@@ -195,7 +195,7 @@ impl Book {
 
     /// Puts the To of a message beside it where an ACK is owed for the message, so that no ACK reads it anew. Where there is
     /// no memory for the To, all is as before.
-    pub fn keep_to(&mut self, number: u32, message: &Message<'_>)
+    pub fn keep_to(&mut self, number: u64, message: &Message<'_>)
         requires kept { Keeps self.old number }
         requires read { Reads (text_of self.old number) message.now }
         ensures { self.new ≡ self.old }
@@ -213,7 +213,7 @@ impl Book {
 
     /// The number of the first kept message with these bytes. Where there is none, the bytes are kept under the number
     /// of their entry, which is above all that are kept.
-    pub fn add(&mut self, entry: u32, bytes: &[u8]) -> Result<u32, AllocError>
+    pub fn add(&mut self, entry: u64, bytes: &[u8]) -> Result<u64, AllocError>
         requires { (n : ℕ) → Keeps self.old n → n < entry }
         ensures ok { IfOk result (λ n. Keeps self.new n × (text_of self.new n ≡ bytes.now)) }
         ensures grows { IfOk result (λ n. ((self.new ≡ self.old) × Keeps self.old n)
@@ -237,7 +237,7 @@ impl Book {
     }
 
     /// Forgets the newest message, if it has this number and neither its place nor its To stands beside it yet.
-    pub fn forget_newest(&mut self, number: u32)
+    pub fn forget_newest(&mut self, number: u64)
         ensures { (self.new ≡ self.old) ⊎ ((bytes : List ℕ) × (self.old ≡ self.new ++ (number, bytes) ∷ [])) }
     {
         if self.loose.is_none() || !self.tos.are_below(number) {
@@ -257,7 +257,7 @@ impl Book {
     }
 
     /// Keeps the messages with these numbers alone, which rise. Their numbers and bytes stay. It takes no memory.
-    pub fn retain_only(&mut self, numbers: &[u32])
+    pub fn retain_only(&mut self, numbers: &[u64])
         requires rising { AllPairs (λ a b. a < b) numbers.now }
         requires kept { All (Keeps self.old) numbers.now }
         ensures { self.new ≡ only numbers.now self.old }
@@ -282,7 +282,7 @@ fn is_refusal(message: &Message<'_>) -> bool {
 }
 
 /// How many of the messages have numbers from `low` up to `high`.
-fn kept_between(kept: &[KeptMessage], low: u32, high: u32) -> usize
+fn kept_between(kept: &[KeptMessage], low: u64, high: u64) -> usize
     requires { AllPairs (λ a b. a.0 < b.0) (texts_of kept.now) }
     ensures { result ≡ count_between low high (map (λ k. k.0) (texts_of kept.now)) }
 {
@@ -390,7 +390,7 @@ fn loosened(kept: &[KeptMessage], runs: &[PlaceRun], is_loose: bool) -> Option<L
 }
 
 /// Takes the newest message out, if it has this number.
-fn pop_newest(kept: &mut Vec<KeptMessage>, number: u32) -> Option<KeptMessage>
+fn pop_newest(kept: &mut Vec<KeptMessage>, number: u64) -> Option<KeptMessage>
     ensures none { IfNone result (kept.new.items ≡ kept.old.items) }
     ensures some { IfSome result (λ newest. (newest.number ≡ number) × (kept.old.items ≡ kept.new.items ++ newest ∷ [])) }
 {

@@ -1,17 +1,17 @@
-//! What each of many states owes: a ledger, if any of them owes something.
-ghost use Rattle.std.specs.Prelude.{◌≡◌, ◌↔◌, ◌<◌, ◌≤◌, ◌++◌, ◌∷◌, [], List, IsTrue, IfOk, OnOk, OnErr, None, All, length, set, map, filter, take, drop};
+//! What each of many states owes: accounts of all of them, if any owes something.
+ghost use Rattle.std.specs.Prelude.{◌≡◌, ◌↔◌, ◌<◌, ◌≤◌, ◌++◌, ◌∷◌, [], List, IsTrue, IfOk, OnOk, OnErr, None, All, flat_map, length, set, map, filter, take, drop};
 ghost use Rattle.std.specs.List.{list_any};
 ghost use Rattle.sip_ledger.specs.Debts.{counts_at, softened_debt, is_payable, debt_deadlines, paid_by};
-ghost use Rattle.sip_ledger.specs.Ledgers.{rows_of};
 ghost use Rattle.sip_ledger.specs.Runs.{AreRuns};
 ghost use Rattle.sip_machine.specs.Deadlines.{earliest};
+ghost use Rattle.sip_machine.specs.Naming.{AppendsAll};
 ghost use Rattle.sip_machine.specs.Owes.{owed_in, owes_names};
 ghost use Rattle.sip_machine.specs.Prints.{ArePrints};
 ghost use Rattle.sip_machine.specs.inner.Dues.{AreBetween, rows_in};
 
 mod each;
 
-use sip_ledger::{Debt, Ledger, Run};
+use sip_ledger::{Accounts, Debt, Run};
 use std::alloc::{AllocError, Global};
 use std::marker::Model;
 
@@ -20,9 +20,9 @@ use std::marker::Model;
 #[derive(Debug, Drop)]
 pub struct Dues {
     rows: usize,
-    ledger: Option<Box<Ledger>>,
-    lowest: u32,
-    highest: u32,
+    ledger: Option<Box<Accounts>>,
+    lowest: u64,
+    highest: u64,
 }
 
 impl Model for Dues {
@@ -46,7 +46,7 @@ impl Dues {
         Dues {
             rows: 0,
             ledger: None,
-            lowest: u32::MAX,
+            lowest: u64::MAX,
             highest: 0,
         }
     }
@@ -110,33 +110,48 @@ impl Dues {
         }
     }
 
-    /// Lets the row owe one more debt, after its others. On an error all is as before.
-    pub(crate) fn gain(&mut self, alloc: Global, row: usize, debt: Debt) -> Result<(), AllocError>
+    /// Lets the row owe one more debt, after its others, and drops those of its debts that may be sent and whose deadline is below the
+    /// moment. On an error all is as before.
+    pub(crate) fn gain_and_expire(
+        &mut self,
+        alloc: Global,
+        row: usize,
+        debt: Debt,
+        moment: u64,
+    ) -> Result<(), AllocError>
         requires { row < length self.old }
-        ensures ok { OnOk result (self.new ≡ set self.old row (owed_in self.old row ++ debt ∷ [])) }
+        ensures ok { OnOk result (self.new ≡ set self.old row (filter (counts_at moment) (owed_in self.old row ++ debt ∷ []))) }
         ensures err { OnErr result (self.new ≡ self.old) }
     {
         match &mut self.ledger {
-            Some(ledger) => ledger.gain(row, debt)?,
-            None => self.ledger = Some(opened(alloc, self.rows, row, debt)?),
+            Some(ledger) => ledger.gain_and_expire(row, debt, moment)?,
+            None => self.ledger = Some(opened(alloc, self.rows, row, debt, moment)?),
         }
         self.lowest = self.lowest.min(debt.message);
         self.highest = self.highest.max(debt.message);
         Ok(())
     }
 
-    /// Takes out of the row the first debt that a send of the message at the moment pays, if there is one.
-    pub(crate) fn pay(&mut self, row: usize, message: u32, moment: u64)
+    /// Takes out of the row the first debt that a send of the message at the moment pays, if there is one, and drops those that may be sent
+    /// and whose deadline is below the moment. On an error all is as before.
+    pub(crate) fn pay_and_expire(
+        &mut self,
+        row: usize,
+        message: u64,
+        moment: u64,
+    ) -> Result<(), AllocError>
         requires { row < length self.old }
-        ensures { self.new ≡ set self.old row (paid_by message moment (owed_in self.old row)) }
+        ensures ok { OnOk result (self.new ≡ set self.old row (filter (counts_at moment) (paid_by message moment (owed_in self.old row)))) }
+        ensures err { OnErr result (self.new ≡ self.old) }
     {
         if let Some(ledger) = &mut self.ledger {
-            ledger.pay(row, message, moment);
+            ledger.pay_and_expire(row, message, moment)?;
         }
+        Ok(())
     }
 
     /// Whether the row has a debt that a send of the message at the moment pays.
-    pub(crate) fn can_pay(&mut self, row: usize, message: u32, moment: u64) -> bool
+    pub(crate) fn can_pay(&mut self, row: usize, message: u64, moment: u64) -> bool
         requires { row < length self.old }
         ensures same { self.new ≡ self.old }
         ensures can { result ≡ list_any (is_payable message moment) (owed_in self.old row) }
@@ -147,15 +162,17 @@ impl Dues {
         }
     }
 
-    /// Drops those debts of the row that may be sent, and whose deadline is below the moment.
+    /// Drops those debts of the row that may be sent, and whose deadline is below the moment. On an error all is as before.
     #[inline(always)]
-    pub(crate) fn expire(&mut self, row: usize, moment: u64)
+    pub(crate) fn expire(&mut self, row: usize, moment: u64) -> Result<(), AllocError>
         requires { row < length self.old }
-        ensures { self.new ≡ set self.old row (filter (counts_at moment) (owed_in self.old row)) }
+        ensures ok { OnOk result (self.new ≡ set self.old row (filter (counts_at moment) (owed_in self.old row))) }
+        ensures err { OnErr result (self.new ≡ self.old) }
     {
         if let Some(ledger) = &mut self.ledger {
-            ledger.expire(row, moment);
+            ledger.expire(row, moment)?;
         }
+        Ok(())
     }
 
     /// Lets the row owe what it did, but none of it must be sent any more.
@@ -220,7 +237,10 @@ impl Dues {
         ensures { IfOk result (λ prints. ArePrints self.now from prints.items) }
     {
         match &self.ledger {
-            Some(ledger) => ledger.prints(alloc, from),
+            Some(ledger) => {
+                let prints = ledger.prints(alloc, from)?;
+                Ok(prints)
+            }
             None => zeros(alloc, self.rows, from),
         }
     }
@@ -230,7 +250,7 @@ impl Dues {
         &self,
         alloc: Global,
         row: usize,
-        numbers: &mut Vec<u32>,
+        numbers: &mut Vec<u64>,
     ) -> Result<(), AllocError>
         requires { row < length self.now }
         ensures ok { OnOk result (numbers.new.items ≡ numbers.old.items ++ owes_names (owed_in self.now row)) }
@@ -240,8 +260,19 @@ impl Dues {
             return Ok(());
         };
         let mut owed = Vec::new(alloc);
-        ledger.names(row, &mut owed)?;
+        ledger.names(alloc, row, &mut owed)?;
         numbers.append(&mut owed)
+    }
+
+    /// Appends the numbers of the messages that rows owe, each once. On an error the vector is as before.
+    pub(crate) fn names_all(&self, numbers: &mut Vec<u64>) -> Result<(), AllocError>
+        ensures ok { OnOk result (AppendsAll (flat_map owes_names self.now) numbers.old.items numbers.new.items) }
+        ensures err { OnErr result (numbers.new.items ≡ numbers.old.items) }
+    {
+        if let Some(ledger) = &self.ledger {
+            ledger.all_names(numbers)?;
+        }
+        Ok(())
     }
 
     /// What the row owes, in runs: equal debts side by side stand in one.
@@ -256,7 +287,7 @@ impl Dues {
     }
 
     /// Two numbers between which the numbers of all messages are that are owed.
-    pub(crate) fn span(&self) -> (u32, u32)
+    pub(crate) fn span(&self) -> (u64, u64)
         ensures { All (AreBetween result.0 result.1) self.now }
     {
         (self.lowest, self.highest)
@@ -271,7 +302,7 @@ impl Dues {
         };
         if is_blank(ledger) {
             self.ledger = None;
-            self.lowest = u32::MAX;
+            self.lowest = u64::MAX;
             self.highest = 0;
         } else {
             ledger.tidy();
@@ -279,30 +310,36 @@ impl Dues {
     }
 }
 
-/// A ledger of `rows` rows, of which the row `row` owes this debt, and no other owes anything.
-fn opened(alloc: Global, rows: usize, row: usize, debt: Debt) -> Result<Box<Ledger>, AllocError>
+/// Accounts of `rows` rows, of which the row `row` owes this debt, as far as it counts at the moment, and no other owes anything.
+fn opened(
+    alloc: Global,
+    rows: usize,
+    row: usize,
+    debt: Debt,
+    moment: u64,
+) -> Result<Box<Accounts>, AllocError>
     requires { row < rows }
-    ensures { IfOk result (λ boxed. rows_of boxed.value ≡ set (rows_in rows None) row (owed_in (rows_in rows None) row ++ debt ∷ [])) }
+    ensures { IfOk result (λ boxed. boxed.value ≡ set (rows_in rows None) row (filter (counts_at moment) (owed_in (rows_in rows None) row ++ debt ∷ []))) }
 {
     let mut ledger = blank(alloc, rows)?;
-    ledger.gain(row, debt)?;
+    ledger.gain_and_expire(row, debt, moment)?;
     Ok(Box::new(alloc, ledger)?)
 }
 
-/// A ledger of `rows` rows that owe nothing.
-fn blank(alloc: Global, rows: usize) -> Result<Ledger, AllocError>
-    ensures { IfOk result (λ ledger. rows_of ledger ≡ rows_in rows None) }
+/// Accounts of `rows` rows that owe nothing.
+fn blank(alloc: Global, rows: usize) -> Result<Accounts, AllocError>
+    ensures { IfOk result (λ ledger. ledger ≡ rows_in rows None) }
 {
-    let mut ledger = Ledger::new(alloc);
+    let mut ledger = Accounts::new(alloc);
     for row in 0..rows {
         ledger.push()?;
     }
     Ok(ledger)
 }
 
-/// Whether no row of the ledger owes anything.
-fn is_blank(ledger: &Ledger) -> bool
-    ensures { IsTrue result → (rows_of ledger.now ≡ rows_in (length (rows_of ledger.now)) None) }
+/// Whether no row of the accounts owes anything.
+fn is_blank(ledger: &Accounts) -> bool
+    ensures { IsTrue result → (ledger.now ≡ rows_in (length ledger.now) None) }
 {
     for row in 0..ledger.len() {
         if !ledger.owes_nothing(row) {

@@ -28,7 +28,7 @@ pub(crate) enum Rest {
     /// Nothing changes.
     Stays,
     /// It pays the first debt that a send of the message with this number pays.
-    Pays(u32),
+    Pays(u64),
 }
 
 /// Drops what has expired of what the state owes, and does to the rest what the row does. On an error all is as before.
@@ -47,9 +47,9 @@ pub(crate) fn lead(
     ensures err { OnErr result (dues.new ≡ dues.old) }
 {
     match change {
-        Change::Keeps => dues.expire(row, moment),
+        Change::Keeps => dues.expire(row, moment)?,
         Change::Softens => {
-            dues.expire(row, moment);
+            dues.expire(row, moment)?;
             dues.soften(row);
         }
         Change::Drops => dues.clear(row),
@@ -60,8 +60,7 @@ pub(crate) fn lead(
                 deadline: params.deadline(moment),
                 must,
             };
-            dues.gain(alloc, row, debt)?;
-            dues.expire(row, moment);
+            dues.gain_and_expire(alloc, row, debt, moment)?;
         }
     }
     Ok(())
@@ -81,7 +80,7 @@ pub(crate) fn lead_each(
     ensures err { OnErr result (take from dues.new ≡ take from dues.old) }
 {
     match change {
-        Change::Keeps => dues.expire_each(from, moment),
+        Change::Keeps => dues.expire_each(from, moment)?,
         Change::Softens | Change::Drops => lead_rows(alloc, params, moment, change, dues, from)?,
         Change::Gains { must, message } => {
             // What is new counts at its own moment, so that it may come before what has expired goes.
@@ -91,7 +90,7 @@ pub(crate) fn lead_each(
                 must,
             };
             dues.gain_each(alloc, from, debt)?;
-            dues.expire_each(from, moment);
+            dues.expire_each(from, moment)?;
         }
     }
     Ok(())
@@ -116,14 +115,21 @@ fn lead_rows(
     Ok(())
 }
 
-/// Leaves the phase as it is: drops what has expired of what the state owes, and takes out the debt that is paid, if one is.
+/// Leaves the phase as it is: drops what has expired of what the state owes, and takes out the debt that is paid, if one is. On an error all is
+/// as before.
 #[inline(always)]
-pub(crate) fn come_to_rest(moment: u64, rest: Rest, dues: &mut Dues, row: usize)
+pub(crate) fn come_to_rest(
+    moment: u64,
+    rest: Rest,
+    dues: &mut Dues,
+    row: usize,
+) -> Result<(), AllocError>
     requires { row < length dues.old }
-    ensures { dues.new ≡ set dues.old row (rested_debts moment rest (owed_in dues.old row)) }
+    ensures ok { OnOk result (dues.new ≡ set dues.old row (rested_debts moment rest (owed_in dues.old row))) }
+    ensures err { OnErr result (dues.new ≡ dues.old) }
 {
-    if let Rest::Pays(message) = rest {
-        dues.pay(row, message, moment);
+    match rest {
+        Rest::Stays => dues.expire(row, moment),
+        Rest::Pays(message) => dues.pay_and_expire(row, message, moment),
     }
-    dues.expire(row, moment);
 }

@@ -71,7 +71,7 @@ pub(crate) fn is_unsuccessful(code: u16) -> bool
 pub struct Event {
     moment: u64,
     action: Action,
-    number: u32,
+    number: u64,
     kind: Kind,
     reliable: bool,
 }
@@ -93,7 +93,7 @@ impl Model for Event {
 
 impl Event {
     /// The event of a message, at a moment in milliseconds. Its transport is that of the top Via.
-    pub fn of(moment: u64, action: Action, number: u32, message: &Message<'_>) -> Event
+    pub fn of(moment: u64, action: Action, number: u64, message: &Message<'_>) -> Event
         requires action { action ≢ Mark }
         requires message { action ≢ Restart }
         requires limit { moment ≤ last_moment }
@@ -143,7 +143,7 @@ impl Event {
     }
 
     /// The number of the message in a `Book`.
-    pub fn number(&self) -> u32
+    pub fn number(&self) -> u64
         ensures { result ≡ self.now.number }
     {
         self.number

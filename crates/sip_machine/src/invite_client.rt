@@ -32,7 +32,7 @@ pub enum InviteClientPhase {
     /// A provisional response came, and `cancel` is when the INVITE was first cancelled.
     Proceeding {
         reliable: bool,
-        request: u32,
+        request: u64,
         cancel: Option<u64>,
     },
     /// A success came at the moment `set`, which starts timer M.
@@ -43,7 +43,7 @@ pub enum InviteClientPhase {
     /// it, an ACK is owed until it is sent.
     Completed {
         reliable: bool,
-        request: u32,
+        request: u64,
         set: u64,
     },
     Ended,
@@ -228,7 +228,7 @@ impl Phases for InviteClient {
         event: &Event,
         dues: &mut Dues,
         row: usize,
-    ) -> Result<Option<u32>, AllocError> {
+    ) -> Result<Option<u64>, AllocError> {
         let Kind::Request(Method::Ack) = event.kind() else {
             return Ok(None);
         };
@@ -278,7 +278,7 @@ impl Phases for InviteClient {
         }
     }
 
-    fn message(&self, phase: &InviteClientPhase) -> Option<u32> {
+    fn message(&self, phase: &InviteClientPhase) -> Option<u64> {
         match *phase {
             Calling(waiting) => Some(waiting.request),
             Proceeding { request, .. } | Completed { request, .. } => Some(request),

@@ -117,7 +117,7 @@ impl Phases for InviteClient3261 {
         event: &Event,
         dues: &mut Dues,
         row: usize,
-    ) -> Result<Option<u32>, AllocError> {
+    ) -> Result<Option<u64>, AllocError> {
         self.corrected.paid(alloc, book, phase, event, dues, row)
     }
 
@@ -137,7 +137,7 @@ impl Phases for InviteClient3261 {
         self.corrected.closes(phase)
     }
 
-    fn message(&self, phase: &InviteClientPhase) -> Option<u32> {
+    fn message(&self, phase: &InviteClientPhase) -> Option<u64> {
         self.corrected.message(phase)
     }
 

@@ -162,7 +162,7 @@ impl Phases for InviteServer3261 {
         event: &Event,
         dues: &mut Dues,
         row: usize,
-    ) -> Result<Option<u32>, AllocError> {
+    ) -> Result<Option<u64>, AllocError> {
         match event.kind() {
             Kind::Request(_) => Ok(None),
             Kind::Response(code) => {
@@ -174,7 +174,7 @@ impl Phases for InviteServer3261 {
         }
     }
 
-    fn pays(&self, book: &Book, _phase: &InviteServer3261Phase, event: &Event) -> Option<u32> {
+    fn pays(&self, book: &Book, _phase: &InviteServer3261Phase, event: &Event) -> Option<u64> {
         match event.kind() {
             Kind::Request(_) => None,
             Kind::Response(code) => {
@@ -217,7 +217,7 @@ impl Phases for InviteServer3261 {
         }
     }
 
-    fn message(&self, phase: &InviteServer3261Phase) -> Option<u32> {
+    fn message(&self, phase: &InviteServer3261Phase) -> Option<u64> {
         match *phase {
             InviteServer3261Phase::Passed => None,
             InviteServer3261Phase::In { phase, .. } => self.corrected.message(&phase),

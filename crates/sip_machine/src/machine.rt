@@ -1,5 +1,5 @@
 //! What every machine of a transaction (RFC 3261 section 17) offers, and the laws that it keeps.
-ghost use Rattle.std.specs.Prelude.{◌≡◌, ◌<◌, ◌≤◌, ◌++◌, [], ℕ, List, Option, IfOk, OnOk, OnErr, All, Contains, length, take};
+ghost use Rattle.std.specs.Prelude.{◌≡◌, ◌<◌, ◌≤◌, ◌++◌, [], ℕ, List, Option, IfOk, OnOk, OnErr, All, Contains, flat_map, length, take};
 ghost use Rattle.std.specs.List.{HoldsAt};
 ghost use Rattle.std.specs.Bool.{OnTrue, OnFalse};
 ghost use Rattle.sip_machine.specs.NumberedEvent.{FitsBook, event_in};
@@ -126,10 +126,15 @@ pub trait Machine: Drop {
         &self,
         pool: &Pool<Self::Phase>,
         at: usize,
-        out: &mut Vec<u32>,
+        out: &mut Vec<u64>,
     ) -> Result<(), AllocError>
         requires { at < length pool.now }
         ensures ok { HoldsAt (λ x. OnOk result (AppendsAll (names x) out.old.items out.new.items)) pool.now at }
+        ensures err { OnErr result (out.new.items ≡ out.old.items) };
+
+    /// Appends the numbers of the messages that the states name, each at least once. On an error the vector is as before.
+    fn names_all(&self, pool: &Pool<Self::Phase>, out: &mut Vec<u64>) -> Result<(), AllocError>
+        ensures ok { OnOk result (AppendsAll (flat_map names pool.now) out.old.items out.new.items) }
         ensures err { OnErr result (out.new.items ≡ out.old.items) };
 
     /// The first and the ended state stay for ever, and an event leads from and to states that can wait at its moment.

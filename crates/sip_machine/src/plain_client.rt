@@ -165,7 +165,7 @@ impl Phases for PlainClient {
         _event: &Event,
         _dues: &mut Dues,
         _row: usize,
-    ) -> Result<Option<u32>, AllocError> {
+    ) -> Result<Option<u64>, AllocError> {
         Ok(None)
     }
 
@@ -200,7 +200,7 @@ impl Phases for PlainClient {
         }
     }
 
-    fn message(&self, phase: &PlainClientPhase) -> Option<u32> {
+    fn message(&self, phase: &PlainClientPhase) -> Option<u64> {
         match *phase {
             Trying(waiting) | Proceeding(waiting) => Some(waiting.request),
             Completed { .. } | Idle | Ended => None,

@@ -335,12 +335,19 @@ impl<P: Phase> Pool<P> {
         Ok(())
     }
 
-    /// Leaves the state at the index in its phase, as a sent message does.
-    pub(crate) fn come_to_rest(&mut self, moment: u64, at: usize, rest: Rest)
+    /// Leaves the state at the index in its phase, as a sent message does. On an error all is as before.
+    pub(crate) fn come_to_rest(
+        &mut self,
+        moment: u64,
+        at: usize,
+        rest: Rest,
+    ) -> Result<(), AllocError>
         requires { at < length self.old }
-        ensures { HoldsAt (λ x. self.new ≡ set self.old at (rests_at moment rest x)) self.old at }
+        ensures ok { HoldsAt (λ x. OnOk result (self.new ≡ set self.old at (rests_at moment rest x))) self.old at }
+        ensures err { OnErr result (self.new ≡ self.old) }
     {
-        come_to_rest(moment, rest, &mut self.dues, at);
+        come_to_rest(moment, rest, &mut self.dues, at)?;
+        Ok(())
     }
 
     /// Puts the states that the effect of an event gives from the one at the index after the others. On an error all is as before.
@@ -405,9 +412,12 @@ impl<P: Phase> Pool<P> {
         let Some(rest) = rest else {
             return Ok(());
         };
-        let last = self.len();
+        let count = self.len();
         self.push_copy(at)?;
-        self.come_to_rest(moment, last, rest);
+        if self.come_to_rest(moment, count, rest).is_err() {
+            self.truncate(count);
+            return Err(AllocError);
+        }
         Ok(())
     }
 }

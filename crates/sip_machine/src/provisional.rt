@@ -10,7 +10,7 @@ use sip_message::StartLine;
 use std::alloc::{AllocError, Global};
 
 /// Whether the kept message is a 100 (Trying), which need not be sent again (RFC 3261, section 17.2.1).
-pub(crate) fn is_100(alloc: Global, book: &Book, number: u32) -> Result<bool, AllocError>
+pub(crate) fn is_100(alloc: Global, book: &Book, number: u64) -> Result<bool, AllocError>
     requires { Keeps book.now number }
     ensures { IfOk result (λ is. IsTrue is ↔ Is100 (text_of book.now number)) }
 {

@@ -14,7 +14,7 @@ pub(crate) fn retransmits(
     params: &Params,
     book: &Book,
     reliable: bool,
-    message: u32,
+    message: u64,
     set: u64,
     interval: u64,
     event: &Event,

@@ -11,7 +11,7 @@ pub enum ToldField {
     /// A moment or an interval in milliseconds, if there is one.
     Number(&'static str, Option<u64>),
     /// A message by its number in the `Book`, if there is one.
-    Message(&'static str, Option<u32>),
+    Message(&'static str, Option<u64>),
 }
 
 /// The name of a phase, and its fields in their order.

@@ -13,7 +13,7 @@ use std::marker::Model;
 /// The To of the message with this number, without its blanks.
 #[derive(Debug, Drop)]
 pub(crate) struct To {
-    number: u32,
+    number: u64,
     text: Hashed,
 }
 
@@ -21,7 +21,7 @@ pub(crate) struct To {
 #[derive(Clone, Copy, Debug)]
 enum Owner {
     /// They are those of the message with this number alone.
-    Only(u32),
+    Only(u64),
     /// They may be those of several messages.
     Several,
 }
@@ -29,7 +29,7 @@ enum Owner {
 /// Which of some messages has a To.
 #[derive(Clone, Copy, Debug)]
 pub(crate) enum Holder {
-    One(u32),
+    One(u64),
     Nobody,
     /// Only a look at each of the messages can tell.
     Unknown,
@@ -67,7 +67,7 @@ impl Tos {
 
     /// The To of the message with this number: at `near`, or where a search finds it. `near` is left after it, so that messages
     /// that are asked for in the order of their numbers cost one step each.
-    pub(crate) fn get(&self, number: u32, near: &mut usize) -> Option<&Hashed>
+    pub(crate) fn get(&self, number: u64, near: &mut usize) -> Option<&Hashed>
         ensures { IfSome result (λ text. Contains self.now (record { number = number; text = text.now })) }
     {
         let at = place_of(&self.list, number, *near)?;
@@ -76,7 +76,7 @@ impl Tos {
     }
 
     /// Whether the number is above those of all messages that have their Tos here.
-    pub(crate) fn are_below(&self, number: u32) -> bool
+    pub(crate) fn are_below(&self, number: u64) -> bool
         ensures { IsTrue result → All (λ to. to.number < number) self.now }
     {
         match self.list.last() {
@@ -86,7 +86,7 @@ impl Tos {
     }
 
     /// Puts the To of a message after the others. On an error the others are as before.
-    pub(crate) fn push(&mut self, number: u32, text: Hashed) -> Result<(), AllocError>
+    pub(crate) fn push(&mut self, number: u64, text: Hashed) -> Result<(), AllocError>
         requires { All (λ to. to.number < number) self.old }
         ensures ok { OnOk result (self.new ≡ self.old ++ (record { number = number; text = text }) ∷ []) }
         ensures err { OnErr result (self.new ≡ self.old) }
@@ -98,7 +98,7 @@ impl Tos {
 
     /// Keeps the Tos of the messages with these numbers, which rise. It takes no memory: where some Tos went, there is room for
     /// those that are left.
-    pub(crate) fn retain(&mut self, numbers: &[u32])
+    pub(crate) fn retain(&mut self, numbers: &[u64])
         ensures { All (λ to. Contains self.old to × Contains numbers.now to.number) self.new }
     {
         forget(&mut self.owners, &self.list, numbers);
@@ -119,7 +119,7 @@ impl Tos {
     }
 
     /// Which message of the list has this To, where no message but the one with this number can have it.
-    fn held_by(&self, number: u32, text: &Hashed) -> Holder
+    fn held_by(&self, number: u64, text: &Hashed) -> Holder
         requires { All (λ to. to.text ≡ text.now → to.number ≡ number) self.now }
         ensures { IsHolder self.now text.now result }
     {
@@ -134,7 +134,7 @@ impl Tos {
     }
 
     /// How many Tos of the list are of messages with numbers from `low` up to `high`.
-    pub(crate) fn between(&self, low: u32, high: u32) -> usize
+    pub(crate) fn between(&self, low: u64, high: u64) -> usize
         ensures count { result ≡ count_between low high (map (λ to. to.number) self.now) }
         ensures rising { AllPairs (λ a b. a.number < b.number) self.now }
     {
@@ -145,7 +145,7 @@ impl Tos {
 }
 
 /// The place of the To of the message with this number: `here`, or where a search finds it.
-fn place_of(list: &[To], number: u32, here: usize) -> Option<usize>
+fn place_of(list: &[To], number: u64, here: usize) -> Option<usize>
     ensures within { IfSome result (λ at. at < length list.now) }
     ensures number { IfSome result (λ at. HoldsAt (λ to. to.number ≡ number) list.now at) }
 {
@@ -159,14 +159,14 @@ fn place_of(list: &[To], number: u32, here: usize) -> Option<usize>
 }
 
 /// Whether the number is one of these numbers, which rise.
-fn is_among(numbers: &[u32], number: u32) -> bool
+fn is_among(numbers: &[u64], number: u64) -> bool
     ensures { IsTrue result → Contains numbers.now number }
 {
     numbers.binary_search(&number).is_ok()
 }
 
 /// Notes that the message with this number has a To of this hash as well.
-fn note(owners: &mut HashMap<u64, Owner>, hash: u64, number: u32) -> Result<(), AllocError>
+fn note(owners: &mut HashMap<u64, Owner>, hash: u64, number: u64) -> Result<(), AllocError>
     ensures ok { OnOk result (MayOwn owners.new hash number) }
     ensures others { (h n : ℕ) → MayOwn owners.old h n → MayOwn owners.new h n }
 {
@@ -176,7 +176,7 @@ fn note(owners: &mut HashMap<u64, Owner>, hash: u64, number: u32) -> Result<(), 
 }
 
 /// The owner of a hash, once the message with this number has a To of that hash as well.
-fn owner_with(owner: Option<Owner>, number: u32) -> Owner
+fn owner_with(owner: Option<Owner>, number: u64) -> Owner
     ensures { result ≡ owner_with owner number }
 {
     match owner {
@@ -187,7 +187,7 @@ fn owner_with(owner: Option<Owner>, number: u32) -> Owner
 }
 
 /// Forgets the owner of the hash of each To in the list whose message is not one of these numbers.
-fn forget(owners: &mut HashMap<u64, Owner>, list: &[To], numbers: &[u32]) {
+fn forget(owners: &mut HashMap<u64, Owner>, list: &[To], numbers: &[u64]) {
     for to in list {
         if !is_among(numbers, to.number) {
             owners.remove(&to.text.hash());

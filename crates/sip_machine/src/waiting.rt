@@ -23,7 +23,7 @@ pub struct Waiting {
     /// Whether its transport is reliable.
     pub reliable: bool,
     /// Its number in the `Book`.
-    pub request: u32,
+    pub request: u64,
     /// When it was first sent: timer B of an INVITE, and F of any other, runs from here.
     pub start: u64,
     /// When timer A of an INVITE, and E of any other, was set last.

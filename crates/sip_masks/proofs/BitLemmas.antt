@@ -38,6 +38,7 @@ pub test-one_low : test 1 0 ≡ true
 unfolding test
 test-one_low = refl
 
+-- of the number 1 only bit 0 is set
 pub test-one_high : (i : ℕ) → test 1 (suc i) ≡ false
 unfolding test
 test-one_high i = ap (λ n. n == 1) (bit_at_above 1 1 (suc i) (omega arith) (omega arith))

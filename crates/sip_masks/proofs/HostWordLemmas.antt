@@ -19,6 +19,7 @@ use Rattle.sip_masks.proofs.HostLemmas.{bad, at, good-from, good-labels}
 ones-low : (len i : ℕ) → i < len → len ≤ 32 → test (18446744073709551615 / 2 ^ (64 - len)) i ≡ true
 ones-low len i below small = test-shr 18446744073709551615 (64 - len) i ∙ test-ones (64 - len + i) (omega (arith, below, small))
 
+-- where a conjunction is false and its second test true, its first is false
 and-left : (a b : Bool) → (a && b) ≡ false → b ≡ true → a ≡ false
 and-left true b e h = absurd (false≢true (sym e ∙ h))
 and-left false b e h = refl
@@ -42,15 +43,19 @@ module _ (window : List ℕ) (len ss ds hs : ℕ) (room : 32 ≤ length window) 
     (strangers : (i : ℕ) → i < 32 → test ss i ≡ is_strange (get_or window i 0))
     (dots : (i : ℕ) → i < 32 → test ds i ≡ (get_or window i 0 == dot))
     (hyphens : (i : ℕ) → i < 32 → test hs i ≡ (get_or window i 0 == hyphen)) where
+  -- the text: the first bytes of the window
   abbrev pub text : List ℕ
   text = take len window
 
+  -- the byte before a place of the text
   abbrev pub prev_is : ℕ → ℕ
   prev_is i = get_or (dot ∷ text) i 0
 
+  -- the bytes of the text are those of the window
   here : (i : ℕ) → i < len → get_or text i 0 ≡ get_or window i 0
   here i below = get_or-take len window i 0 below
 
+  -- the text is as long as it is told to be
   long : length text ≡ len
   long = length-take-le len window (omega (arith, room, small))
 
@@ -61,10 +66,12 @@ module _ (window : List ℕ) (len ss ds hs : ℕ) (room : 32 ≤ length window) 
       test-or (shl 1 ds) 1 (suc j) ∙ ap₂ (λ a b. a || b) (test-shl_one j ds (omega (arith, below, small))) (test-one_high j)
       ∙ or-false (test ds j) ∙ dots j (omega (arith, below, small)) ∙ ap (λ x. x == dot) (sym (here j (omega (arith, below))))
 
+  -- the mask of hyphens, one bit higher, tells before which bytes a hyphen stands
   hyphen-before : (i : ℕ) → i < len → test (shl 1 hs) i ≡ (prev_is i == hyphen)
   hyphen-before zero below = test-shl_low 1 0 hs (omega arith) (omega arith)
   hyphen-before (suc j) below = test-shl_one j hs (omega (arith, below, small)) ∙ hyphens j (omega (arith, below, small)) ∙ ap (λ x. x == hyphen) (sym (here j (omega (arith, below))))
 
+  -- the bytes at which the text cannot be a hostname
   abbrev pub bad_word : ℕ
   bad_word = bit_or (bit_or ss (bit_and (bit_or (shl 1 ds) 1) (bit_or ds hs))) (bit_and ds (shl 1 hs))
 

@@ -19,9 +19,11 @@ IsBlock v = AreBytes 64 v
 abbrev pub hit : ℕ → ℕ → ℕ
 hit a b = cond (eqb a b) 255 0
 
+-- a byte of ones where one byte is below another, and else of zeros
 abbrev pub below : ℕ → ℕ → ℕ
 below a b = cond (ltb a b) 255 0
 
+-- a byte of ones where one byte is at most another, and else of zeros
 abbrev pub at_most : ℕ → ℕ → ℕ
 at_most a b = cond (leb a b) 255 0
 

@@ -23,14 +23,17 @@ lowest-set word some small =
     let found = bit_at-trailing_zeros w64 word some small in
     (found.0, ap (λ n. n == 1) found.1, λ i below. ap (λ n. n == 1) (found.2 i below))
 
+-- no bit of 0 is set
 pub none-set : (word j : ℕ) → word ≡ 0 → test word j ≡ false
 unfolding test
 none-set word j none = ap (λ n. n == 1) (ap (λ n. bit_at n j) none ∙ bit_at-zero j)
 
+-- where a test is the opposite of another and false, the other is true
 flipped : (a b : Bool) → a ≡ not b → a ≡ false → b ≡ true
 flipped a true same low = refl
 flipped a false same low = absurd (false≢true (sym low ∙ same))
 
+-- where a test is the opposite of another and true, the other is false
 flopped : (a b : Bool) → a ≡ not b → a ≡ true → b ≡ false
 flopped a false same high = refl
 flopped a true same high = absurd (false≢true (sym same ∙ high))
@@ -94,6 +97,7 @@ module _ (f q : ℕ → Bool) (opposite : (x : ℕ) → q x ≡ not (f x)) (nul 
       ])
       (λ _. flopped (q (get_or text (p + n) 0)) (f (get_or text (p + n) 0)) (opposite _) at)
 
+-- a test is the opposite of its opposite
 pub twice : (b : Bool) → b ≡ not (not b)
 twice true = refl
 twice false = refl

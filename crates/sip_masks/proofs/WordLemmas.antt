@@ -8,14 +8,17 @@ use Rattle.sip_masks.specs.Bits.{test}
 use Rattle.sip_masks.specs.Marks.{BitsTell, words_for}
 use Rattle.sip_masks.proofs.BitLemmas.{shl, test-or, test-shl_high, test-shl_low, test-ones}
 
+-- bit j of a number without its lowest r bits is bit r + j of the number
 pub test-shr : (x r j : ℕ) → test (x / 2 ^ r) j ≡ test x (r + j)
 unfolding test
 test-shr x r j = ap (λ n. n % 2 == 1) (shr-shr x r j)
 
+-- a number of 64 bits has no bit set above them
 pub test-above : (x i : ℕ) → x < 2 ^ 64 → 64 ≤ i → test x i ≡ false
 unfolding test
 test-above x i small high = ap (λ n. n == 1) (bit_at_above x 64 i small high)
 
+-- a disjunction with false is its first test
 pub or-false : (b : Bool) → (b || false) ≡ b
 or-false true = refl
 or-false false = refl

@@ -10,6 +10,7 @@ use Rattle.sip_masks.specs.Bits.{test}
 abbrev pub is_plain : ℕ → Bool
 is_plain byte = is_ascii_alphanumeric byte || is_among "-.!*_+'~" byte
 
+-- any byte that is not plain
 abbrev pub is_other : ℕ → Bool
 is_other byte = not (is_plain byte)
 

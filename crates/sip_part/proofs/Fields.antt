@@ -86,6 +86,7 @@ word_found number word line rest b f token full (passes named (n, r, (is_token, 
 word_found number word line rest b f token full (passes named is (stopped fault stops_at e)) spelled = absurd (cc)
 word_found number word line rest b f token full (stopped fault stops_at e) spelled = absurd (cc)
 
+-- a byte of tokens with more such bytes after it is a token
 token_of : (x : ℕ) (u : List ℕ) → is_token_byte x ≡ true → Many (One is_token_byte) u → Token (x ∷ u)
 token_of x u is many = (x ∷ [], u, (x, is, refl), many, refl)
 

@@ -56,6 +56,7 @@ blank_no_via (b ∷ text) rest blank = by (nat_eq b 32) (nat_eq b 9) refl refl b
     by false true one two is = ap (is_among "vV") (eqb-true b 9 two)
     by false false one two is = absurd (cc)
 
+-- the rest of a folded line is a folded line
 folded_rest : (front line : List ℕ) → Folded (front ++ line) → Folded line
 folded_rest front line folded u v is = folded (front ++ u) v (ap (λ t. front ++ t) is ∙ sym (append_assoc front u (codes "\r\n" ++ v)))
 

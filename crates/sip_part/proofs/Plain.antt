@@ -85,27 +85,35 @@ sws_no_token u rest sws ends = by (sws_open u sws)
 lack-wsp : AllLack semicolon Wsp
 lack-wsp = lack-one semicolon _ refl
 
+-- no LWS has a semicolon
 lack-lws : AllLack semicolon Lws
 lack-lws = lack-then semicolon _ _ (lack-optional semicolon _ (lack-then semicolon _ _ (lack-many semicolon _ lack-wsp) (lack-exactly semicolon _ (refl, (refl, tt))))) (lack-some semicolon _ lack-wsp)
 
+-- no blanks have a semicolon
 lack-blanks : AllLack semicolon Blanks
 lack-blanks = lack-some semicolon _ lack-lws
 
+-- no SWS has a semicolon
 lack-sws : AllLack semicolon Sws
 lack-sws = lack-optional semicolon _ lack-blanks
 
+-- no token has a semicolon
 lack-token : AllLack semicolon Token
 lack-token = lack-some semicolon _ (lack-one semicolon _ refl)
 
+-- no slash with its blanks has a semicolon
 lack-slash : AllLack semicolon (Mark "/")
 lack-slash = lack-then semicolon _ _ lack-sws (lack-then semicolon _ _ (lack-exactly semicolon _ (refl, tt)) lack-sws)
 
+-- no colon with its blanks has a semicolon
 lack-colon : AllLack semicolon (Mark ":")
 lack-colon = lack-then semicolon _ _ lack-sws (lack-then semicolon _ _ (lack-exactly semicolon _ (refl, tt)) lack-sws)
 
+-- no "=" with its blanks has a semicolon
 lack-equal : AllLack semicolon (Mark "=")
 lack-equal = lack-then semicolon _ _ lack-sws (lack-then semicolon _ _ (lack-exactly semicolon _ (refl, tt)) lack-sws)
 
+-- a semicolon is no byte of a host
 foreign : IsForeign semicolon
 foreign = record { label = refl; alphanumeric = refl; alphabetic = refl; hexdigit = refl; digit = refl; of_colon = refl; of_dot = refl; of_left = refl; of_right = refl }
 
@@ -114,6 +122,7 @@ lacks-front : (u v : List ℕ) → Lacks semicolon (u ++ v) → Lacks semicolon 
 lacks-front [] v lacks = tt
 lacks-front (b ∷ u) v (other, lacks) = (other, lacks-front u v lacks)
 
+-- no host has a semicolon
 lack-a-host : AllLack semicolon Host
 lack-a-host u host = let parts = host-parts u host in subst (Lacks semicolon) (sym parts.2) (lack-host semicolon _ parts.0 foreign parts.1)
 
@@ -171,6 +180,7 @@ record Led (c : ℕ) (m : List ℕ) : Type 0 where
   blanks : Sws before
   more : Sws after
 
+-- a mark of this byte begins with it, but for blanks
 mark_led : (char : String) (c : ℕ) (m : List ℕ) → codes char ≡ c ∷ [] → Mark char m → Led c m
 mark_led char c m one (s1, r, sws1, (e, s2, e_is, sws2, r_is), m_is) =
     record { before = s1; after = s2; is = m_is ∙ ap (λ t. s1 ++ t) (r_is ∙ ap (λ t. t ++ s2) (e_is ∙ one)); blanks = sws1; more = sws2 }

@@ -12,5 +12,6 @@ is_lower_at byte = eqb (get_or LOWER byte 0) (to_ascii_lowercase byte)
 table-agrees : agree_below is_lower_at (λ _. true) 256 ≡ true
 table-agrees = refl
 
+-- the table has the lower case of each byte
 pub table-is_lower : (byte : ℕ) → byte < 256 → get_or LOWER byte 0 ≡ to_ascii_lowercase byte
 table-is_lower byte below = eqb-true (get_or LOWER byte 0) (to_ascii_lowercase byte) (agree_below_at is_lower_at (λ _. true) 256 byte table-agrees below)

@@ -49,7 +49,7 @@ pub fn list_states<R: Source, W: Sink, H: BuildHasher + Drop>(
     alloc: Global,
     seed: H,
     reader: &mut R,
-    entry: u32,
+    entry: u64,
     writer: &mut W,
 ) -> Result<u8, Failure>
     requires { R.has_failed reader.old ≡ false }

@@ -7,16 +7,16 @@ use itoa::Buffer;
 use sip_standard::Asked;
 
 /// The number of the first entry of a log.
-const LEAST: u32 = 1;
+const LEAST: u64 = 1;
 
 /// The most entries of a log.
-const MOST: u32 = 1_000_000;
+const MOST: u64 = 1_000_000;
 
 /// The number of an entry: 1 to 1,000,000, without leading zeros.
-fn entry_number(word: &str) -> Option<u32>
+fn entry_number(word: &str) -> Option<u64>
     ensures { IsNumberFor word.now result }
 {
-    let Ok(number) = word.parse::<u32>() else {
+    let Ok(number) = word.parse::<u64>() else {
         return None;
     };
     if number < LEAST || number > MOST || Buffer::new().format(number) != word {

@@ -10,5 +10,5 @@ pub enum Asked<'a> {
     /// To show the log in a file.
     Show(&'a str),
     /// To list the states of the transactions that an entry of the log in a file concerns.
-    States(&'a str, u32),
+    States(&'a str, u64),
 }

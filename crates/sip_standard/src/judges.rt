@@ -54,7 +54,7 @@ pub trait Judges {
         alloc: Global,
         reader: &mut R,
         hasher: H,
-        entry: u32,
+        entry: u64,
     ) -> Result<Listing, JudgeError>
         requires { R.has_failed reader.old ≡ false }
         ensures listing { IfOk result (λ listing. IfSome (R.left reader.old) (λ input. IsListingOf input entry listing)) }

@@ -6,9 +6,9 @@ use crate::log_reason::LogReason;
 #[derive(Clone, Copy, Debug, PartialEq, Eq)]
 pub enum Shown {
     /// The log was shown to its end.
-    End { entries: u32 },
+    End { entries: u64 },
     /// The message of the entry has a fault.
-    Malformed { entry: u32, fault: Fault },
+    Malformed { entry: u64, fault: Fault },
     /// The entry cannot be read.
-    LogFault { entry: u32, reason: LogReason },
+    LogFault { entry: u64, reason: LogReason },
 }

@@ -7,13 +7,13 @@ use crate::log_reason::LogReason;
 pub enum Verdict {
     /// Each message is one by the profile of RFC 3261's grammar, and every transaction has a run that sends and receives
     /// exactly its messages at their moments.
-    Legal { entries: u32, transactions: u32 },
+    Legal { entries: u64, transactions: u64 },
     /// The message of the entry has a fault, or is a request that was sent, or refused, without the cookie in its top branch.
-    Malformed { entry: u32, fault: Fault },
+    Malformed { entry: u64, fault: Fault },
     /// After the entry the transaction has no run.
-    Breach { entry: u32, transaction: u32 },
+    Breach { entry: u64, transaction: u64 },
     /// The runs of the transaction can stand in more states after the entry than are followed.
-    Undecided { entry: u32, transaction: u32 },
+    Undecided { entry: u64, transaction: u64 },
     /// The entry cannot be read.
-    LogFault { entry: u32, reason: LogReason },
+    LogFault { entry: u64, reason: LogReason },
 }

@@ -121,7 +121,7 @@ impl AnySet {
     }
 
     /// Appends the numbers of the messages that its states name, each at least once.
-    pub(crate) fn names(&self, out: &mut Vec<u32>) -> Result<(), AllocError>
+    pub(crate) fn names(&self, out: &mut Vec<u64>) -> Result<(), AllocError>
         ensures { OnOk result (AppendsNumbers self.now out.old.items out.new.items) }
     {
         each_machine!(self, set => set.names(out))
@@ -129,7 +129,7 @@ impl AnySet {
 
     /// Whether one of its states may name the message with this number: its phase names it, or it owes something. A number that none may
     /// name is named by none.
-    pub fn may_name(&self, number: u32) -> bool
+    pub fn may_name(&self, number: u64) -> bool
         ensures may { IsTrue result ↔ SetMayName number self.now }
         ensures none { result ≡ false → ¬ Contains (numbers_of self.now) number }
     {

@@ -194,13 +194,10 @@ impl<M: Machine> StateSet<M> {
     }
 
     /// Appends the numbers of the messages that the states name, each at least once.
-    pub(crate) fn names(&self, out: &mut Vec<u32>) -> Result<(), AllocError>
+    pub(crate) fn names(&self, out: &mut Vec<u64>) -> Result<(), AllocError>
         ensures { OnOk result (AppendsAll (flat_map M.names self.now.states) out.old.items out.new.items) }
     {
-        for at in 0..self.states.len() {
-            self.machine.names(&self.states, at, out)?;
-        }
-        Ok(())
+        self.machine.names_all(&self.states, out)
     }
 
     /// Whether its only state is the first or the ended one.
@@ -229,7 +226,7 @@ impl<M: Machine> StateSet<M> {
 
 impl<M: Phases> StateSet<M> {
     /// Whether a state may name the message with this number. A state that owes something is taken to name any.
-    pub(crate) fn may_name(&self, number: u32) -> bool
+    pub(crate) fn may_name(&self, number: u64) -> bool
         ensures { IsTrue result ↔ Any (MayName M.names number) self.now.states }
     {
         for at in 0..self.states.len() {
@@ -242,7 +239,7 @@ impl<M: Phases> StateSet<M> {
 }
 
 /// Whether the state at the index may name the message with this number.
-fn state_may_name<M: Phases>(machine: &M, states: &Pool<M::Phase>, at: usize, number: u32) -> bool
+fn state_may_name<M: Phases>(machine: &M, states: &Pool<M::Phase>, at: usize, number: u64) -> bool
     requires { at < length states.now }
     ensures { HoldsAt (λ x. IsTrue result ↔ MayName M.names number x) states.now at }
 {

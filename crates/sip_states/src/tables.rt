@@ -211,7 +211,7 @@ impl<H: BuildHasher> Tables<H> {
 
     /// Returns the number of the key. A new key gets the next number and the set that it starts with. On an error nothing changes, and
     /// the key is dropped.
-    pub fn touch(&mut self, key: Key) -> Result<u32, AllocError>
+    pub fn touch(&mut self, key: Key) -> Result<u64, AllocError>
         requires { length self.old.keys < most_keys }
         ensures ok { IfOk result (λ number. Touches key number self.old self.new) }
         ensures given { IfOk result (IsGiven self.new) }
@@ -220,17 +220,17 @@ impl<H: BuildHasher> Tables<H> {
         let count = self.sets.len();
         let index = find_or_start(&mut self.sets, self.params, key)?;
         if index < count {
-            return Ok(index as u32 + 1);
+            return Ok(index as u64 + 1);
         }
         if let Err(refused) = push_index(&mut self.agenda, &mut self.marks, &mut self.moved) {
             self.sets.truncate(count);
             return Err(refused);
         }
-        Ok(self.sets.len() as u32)
+        Ok(self.sets.len() as u64)
     }
 
     /// The set of the key with this number.
-    pub fn set(&self, number: u32) -> &AnySet
+    pub fn set(&self, number: u64) -> &AnySet
         requires { IsGiven self.now number }
         ensures { slice_get self.now.sets (number - 1) ≡ Some result.now }
     {
@@ -238,7 +238,7 @@ impl<H: BuildHasher> Tables<H> {
     }
 
     /// The set of the key with this number, which the caller may change.
-    pub fn set_mut(&mut self, number: u32) -> &mut AnySet
+    pub fn set_mut(&mut self, number: u64) -> &mut AnySet
         requires { IsGiven self.old number }
         ensures* writes_back { sem 𝓛 (LendsSet H.row H.Hasher.row H.BuildHasher H.Hasher.Hasher self.entry number result) }
         ensures value { slice_get self.old.sets (number - 1) ≡ Some result.now }
@@ -250,7 +250,7 @@ impl<H: BuildHasher> Tables<H> {
     }
 
     /// Puts the last moment of the set of the key with this number on record, in place of an older one. On an error nothing changes.
-    pub fn settle(&mut self, number: u32) -> Result<(), AllocError>
+    pub fn settle(&mut self, number: u64) -> Result<(), AllocError>
         requires given { IsGiven self.old number }
         requires state { HasState self.old number }
         ensures ok { OnOk result (Settles number self.old self.new) }
@@ -263,23 +263,23 @@ impl<H: BuildHasher> Tables<H> {
 
     /// The least number whose last moment on record is below the moment, in milliseconds. It looks at the earliest last moment first,
     /// and no further where that one is not below.
-    pub fn due(&self, moment: u64) -> Option<u32>
+    pub fn due(&self, moment: u64) -> Option<u64>
         ensures { result ≡ due_of self.now moment }
     {
-        self.agenda.due(moment).map(|index| index as u32 + 1)
+        self.agenda.due(moment).map(|index| index as u64 + 1)
     }
 
     /// A number with the earliest last moment on record, if that is below the moment, in milliseconds. It looks no further than that one.
-    pub fn overdue(&self, moment: u64) -> Option<u32>
+    pub fn overdue(&self, moment: u64) -> Option<u64>
         ensures some { IfSome result (λ number. IsGiven self.now number × (is_overdue moment (slice_index_or self.now.records (number - 1) None) ≡ true)) }
         ensures none { IfNone result (due_of self.now moment ≡ None) }
     {
-        self.agenda.overdue(moment).map(|index| index as u32 + 1)
+        self.agenda.overdue(moment).map(|index| index as u64 + 1)
     }
 
     /// Lets the key with this number start anew: it gets the set that a new key has, which can wait for ever. The states that it had are
     /// dropped. On an error nothing changes.
-    pub fn restart_key(&mut self, number: u32) -> Result<(), AllocError>
+    pub fn restart_key(&mut self, number: u64) -> Result<(), AllocError>
         requires { IsGiven self.old number }
         ensures ok { OnOk result (StartsAnew number self.old self.new) }
         ensures err { OnErr result (self.new ≡ self.old) }
@@ -318,7 +318,7 @@ impl<H: BuildHasher> Tables<H> {
     }
 
     /// Appends the numbers of the messages that the sets name, ascending, each once. On an error the vector is as before.
-    pub fn named(&self, out: &mut Vec<u32>) -> Result<(), AllocError>
+    pub fn named(&self, out: &mut Vec<u64>) -> Result<(), AllocError>
         ensures ok { OnOk result (AppendsNamed self.now out.old.items out.new.items) }
         ensures err { OnErr result (out.new.items ≡ out.old.items) }
     {
@@ -332,12 +332,12 @@ impl<H: BuildHasher> Tables<H> {
 
     /// The numbers of the sets that a restart of the element may change: those that were lent to be changed since the last restart, and
     /// those that it left with more than one state. After `wait_all` or `keep` they are all of them.
-    pub fn to_restart(&self) -> Result<Vec<u32>, AllocError>
+    pub fn to_restart(&self) -> Result<Vec<u64>, AllocError>
         ensures { IfOk result (λ numbers. AreToRestart self.now numbers.items) }
     {
         let mut numbers = Vec::new(*self.sets.allocator());
         for index in self.moved.marked() {
-            numbers.push(*index + 1)?;
+            numbers.push(u64::from(*index) + 1)?;
         }
         Ok(numbers)
     }
@@ -367,7 +367,7 @@ impl<H: BuildHasher> Tables<H> {
     }
 
     /// The key with this number.
-    pub fn key(&self, number: u32) -> &Key
+    pub fn key(&self, number: u64) -> &Key
         requires { IsGiven self.now number }
         ensures { slice_get self.now.keys (number - 1) ≡ Some result.now }
     {
@@ -376,10 +376,10 @@ impl<H: BuildHasher> Tables<H> {
     }
 
     /// The number of keys.
-    pub fn len(&self) -> u32
+    pub fn len(&self) -> u64
         ensures { result ≡ length self.now.keys }
     {
-        self.sets.len() as u32
+        self.sets.len() as u64
     }
 
     /// What all tables keep: no key is there twice, and each has a set and a place for its last moment.

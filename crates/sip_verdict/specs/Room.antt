@@ -3,7 +3,7 @@ use Rattle.std.specs.Prelude.{◌<◌, ◌≤◌, ◌+◌, ℕ}
 
 -- the most entries of a survey
 abbrev pub most_surveyed : ℕ
-most_surveyed = 4000000000
+most_surveyed = 1000000000000000
 
 -- the most transactions that it has at a time
 abbrev pub most_transactions : ℕ

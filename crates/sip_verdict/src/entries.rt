@@ -114,7 +114,7 @@ fn take<H: BuildHasher>(
 }
 
 /// Appends the fault of the entry's message to the findings, if there is one.
-fn push_fault(entry: u32, fault: Option<Fault>, found: &mut Vec<Finding>) -> Result<(), AllocError>
+fn push_fault(entry: u64, fault: Option<Fault>, found: &mut Vec<Finding>) -> Result<(), AllocError>
     ensures pushed { OnOk result (found.new.items ≡ found.old.items ++ fault_listing entry fault) }
     ensures front { (more : List Finding) × (found.new.items ≡ found.old.items ++ more) }
 {

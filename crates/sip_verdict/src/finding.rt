@@ -8,11 +8,11 @@ use sip_standard::{Fault, Verdict};
 #[derive(Clone, Copy, Debug, PartialEq, Eq)]
 pub enum Finding {
     /// The message of the entry has a fault, or is a request that was sent, or refused, without the cookie in its top branch.
-    Malformed { entry: u32, fault: Fault },
+    Malformed { entry: u64, fault: Fault },
     /// After the entry the transaction has no run, and it was in no trouble before.
-    Breach { entry: u32, transaction: u32 },
+    Breach { entry: u64, transaction: u64 },
     /// The runs of the transaction can stand after the entry in more states than a survey follows, and it was in no trouble before.
-    Undecided { entry: u32, transaction: u32 },
+    Undecided { entry: u64, transaction: u64 },
 }
 
 impl From<Finding> for Verdict {

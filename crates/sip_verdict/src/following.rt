@@ -39,7 +39,7 @@ pub struct Survey<H: BuildHasher> {
     standing: Standing<H>,
     troubled: Troubled,
     histories: Histories,
-    number: u32,
+    number: u64,
     moment: u64,
     left: usize,
     failed: bool,
@@ -61,20 +61,20 @@ impl<H: BuildHasher> Model for Survey<H> {
 }
 
 /// The most entries of a survey.
-const MOST_ENTRIES: u32 = 4_000_000_000;
+const MOST_ENTRIES: u64 = 1_000_000_000_000_000;
 
 /// The most transactions that a survey has at a time.
-const MOST_TRANSACTIONS: u32 = 2_000_000;
+const MOST_TRANSACTIONS: u64 = 2_000_000;
 
 /// Whether a survey of so many entries and transactions has room for one entry more, which may begin two transactions.
-fn is_room(entries: u32, transactions: u32) -> bool
+fn is_room(entries: u64, transactions: u64) -> bool
     ensures { IsTrue result ↔ HasRoom entries transactions }
 {
     entries < MOST_ENTRIES && transactions <= MOST_TRANSACTIONS - 2
 }
 
 /// Whether the entry may come after one of this number and moment, where there are so many transactions.
-fn may_follow(number: u32, moment: u64, transactions: u32, entry: &Entry) -> bool
+fn may_follow(number: u64, moment: u64, transactions: u64, entry: &Entry) -> bool
     ensures { IsTrue result ↔ MayFollow number moment transactions entry.now.number entry.now.moment }
 {
     if !is_room(number, transactions) || entry.number != number + 1 {
@@ -102,7 +102,7 @@ impl<H: BuildHasher + Drop> Survey<H> {
         }
     }
 
-    /// Whether there is room for one entry more: a survey takes at most 4,000,000,000 entries, and has at most 2,000,000 transactions at a
+    /// Whether there is room for one entry more: a survey takes at most 1,000,000,000,000,000 entries, and has at most 2,000,000 transactions at a
     /// time that it did not forget. An entry begins at most two.
     pub fn has_room(&self) -> bool
         ensures { IsTrue result ↔ HasRoom self.now.number (length self.now.tables.keys) }
@@ -165,9 +165,9 @@ impl<H: BuildHasher + Drop> Survey<H> {
     /// are numbered anew, in their order, and the messages that are kept then are just those that they name.
     ///
     /// Of a transaction that was idle again, as a server is that has ended, nothing is lost. A later message of another forgotten transaction
-    /// begins a new one: that a client that ended sends its request again is no breach then. So `until` is best the number that the newest
-    /// entry had so long ago that no message of an ended transaction can be on its way. After an error every call answers `StepError::Failed`.
-    pub fn forget(&mut self, until: u32) -> Result<(), StepError>
+    /// begins a new one, so a client that ended may then send its request again without a breach. `until` is best the number of the newest of
+    /// the entries that are so old that no message of an ended transaction can be on its way. After an error every call answers `StepError::Failed`.
+    pub fn forget(&mut self, until: u64) -> Result<(), StepError>
         ensures forgets { OnOk result ((es : List (Observation KeyParts)) → SurveysFor self.old es
             → (kept : KeyParts → Bool) × ForgetsUpTo until self.old.tables.times es kept × SurveysFor self.new (remembered kept es)
             × AreMany (IsStillNamed self.old.tables.times (remembered kept es)) (length self.new.texts)) }
@@ -203,7 +203,7 @@ impl<H: BuildHasher + Drop> Survey<H> {
     }
 
     /// How many transactions the survey has that it did not forget.
-    pub fn transactions(&self) -> u32
+    pub fn transactions(&self) -> u64
         ensures transactions { result ≡ length self.now.tables.keys }
         ensures are { (es : List (Observation KeyParts)) → SurveysFor self.now es → result ≡ length (keys_in es) }
     {
@@ -225,7 +225,7 @@ impl<H: BuildHasher + Drop> Survey<H> {
     }
 
     /// The transaction with this number, by which a finding names it, and None where no transaction has the number.
-    pub fn transaction(&self, number: u32) -> Option<Transaction<'_>>
+    pub fn transaction(&self, number: u64) -> Option<Transaction<'_>>
         ensures { (es : List (Observation KeyParts)) → SurveysFor self.now es → 0 < number
             → IfSome (slice_get (keys_in es) (number - 1)) (λ key. IsSomeAnd result (λ t. (t.key.now ≡ key) × IsFirstOf es key t.first t.branch.now × IsLastOf es key t.last)) }
     {

@@ -25,8 +25,8 @@ use std::hash::BuildHasher;
 fn is_past<H: BuildHasher>(
     tables: &Tables<H>,
     histories: &Histories,
-    number: u32,
-    until: u32,
+    number: u64,
+    until: u64,
 ) -> bool
     requires { IsGiven tables.now number }
     ensures { (set : AnySetValue) (h : HistoryValue) → slice_get tables.now.sets (number - 1) ≡ Some set → slice_get histories.now.each.items (number - 1) ≡ Some h
@@ -45,7 +45,7 @@ fn kept_flags<H: BuildHasher>(
     alloc: Global,
     tables: &Tables<H>,
     histories: &Histories,
-    until: u32,
+    until: u64,
 ) -> Result<Vec<bool>, AllocError>
     ensures { IfOk result (λ flags. AreFlags until tables.now histories.now flags.items) }
 {
@@ -60,7 +60,7 @@ fn kept_flags<H: BuildHasher>(
 /// The number and the moment of the newest entry.
 #[derive(Clone, Copy)]
 pub(crate) struct Newest {
-    pub(crate) number: u32,
+    pub(crate) number: u64,
     pub(crate) moment: u64,
 }
 
@@ -73,7 +73,7 @@ pub(crate) fn forget<H: BuildHasher>(
     histories: &mut Histories,
     left: &mut usize,
     newest: Newest,
-    until: u32,
+    until: u64,
 ) -> Result<(), AllocError>
     requires count { newest.number ≤ most_surveyed }
     requires may { MayTake standing.old.book standing.old.tables (newest.number + 1) newest.moment }

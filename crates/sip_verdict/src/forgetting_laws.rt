@@ -60,8 +60,8 @@ pub fn what_is_idle_again_is_found_at_the_same_entries()
         → AreSeen old items es → AreSeen (remembered kept old) items others → HasSameTroubleAfter p old (remembered kept old) es others key }
 {}
 
-/// A survey that forgets nothing is one of those that may forget: what is found and written of an input then can be what is found and written
-/// of it by a survey that forgets. So it is unless more than 1,000,000 entries come, which only a survey that forgets reads on.
+/// A survey that may forget may also forget nothing: what `survey` and `survey_part` find and write of an input is one of the answers that
+/// `survey_forgetting` may give. This holds unless more than 1,000,000 entries come, which only a survey that forgets reads.
 pub fn a_survey_may_forget_nothing()
     ensures whole { (age : ℕ) (input : List ℕ) (found : List Finding) (end : SurveyEnd) (text : List ℕ) → end ≢ LogFault (most_entries + 1) Limit → IsToldOf input found end text → IsToldForgetting age None input found end text }
     ensures part { (age : ℕ) (part : PartOf) (input : List ℕ) (found : List Finding) (end : SurveyEnd) (text : List ℕ) → end ≢ LogFault (most_entries + 1) Limit → IsPartToldOf part input found end text → IsToldForgetting age (Some part) input found end text }

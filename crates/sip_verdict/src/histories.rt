@@ -15,9 +15,9 @@ pub(crate) struct History {
     /// The branch of its first message, as it is spelled there.
     pub(crate) branch: Vec<u8>,
     /// The number of its first entry.
-    pub(crate) first: u32,
+    pub(crate) first: u64,
     /// The number of its last entry that is no restart of the element.
-    pub(crate) last: u32,
+    pub(crate) last: u64,
 }
 
 /// The history of each transaction, by its number from 1.
@@ -25,7 +25,7 @@ pub(crate) struct History {
 pub(crate) struct Histories {
     pub(crate) each: Vec<History>,
     /// The number of the newest restart of the element, which concerns all transactions that there were; 0 before the first restart.
-    pub(crate) restart: u32,
+    pub(crate) restart: u64,
 }
 
 /// The branch of the top Via as the message spells it, and nothing where the bytes are no message or the message has no branch.
@@ -58,7 +58,7 @@ impl Histories {
     }
 
     /// Writes into the history of the transaction with this number that the entry concerns it. The number may be one above those that there are.
-    fn note(&mut self, alloc: Global, number: u32, entry: &Entry) -> Result<(), AllocError>
+    fn note(&mut self, alloc: Global, number: u64, entry: &Entry) -> Result<(), AllocError>
         requires { 0 < number }
         ensures noted { OnOk result (Notes entry.now.number entry.now.bytes.items number self.old.each.items self.new.each.items) }
         ensures restart { self.new.restart ≡ self.old.restart }
@@ -81,7 +81,7 @@ impl Histories {
     pub(crate) fn note_each(
         &mut self,
         alloc: Global,
-        numbers: Concerned<u32>,
+        numbers: Concerned<u64>,
         entry: &Entry,
     ) -> Result<(), AllocError>
         requires { All (λ number. 0 < number) (each numbers) }

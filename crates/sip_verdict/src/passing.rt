@@ -25,7 +25,7 @@ use std::hash::BuildHasher;
 #[derive(Clone, Copy)]
 pub(crate) struct Hearing {
     pub(crate) event: Event,
-    pub(crate) concerned: Concerned<u32>,
+    pub(crate) concerned: Concerned<u64>,
 }
 
 /// What an entry leaves of the runs of one transaction or of several, with the number of the first in trouble: it has no run, or more
@@ -33,8 +33,8 @@ pub(crate) struct Hearing {
 #[derive(Clone, Copy)]
 pub(crate) enum Outcome {
     Fine,
-    NoRun(u32),
-    TooWide(u32),
+    NoRun(u64),
+    TooWide(u64),
 }
 
 impl Outcome {
@@ -54,7 +54,7 @@ impl Outcome {
 /// Lets the set take the event of its key, and answers what the event leaves of its runs.
 pub(crate) fn hear(
     set: &mut AnySet,
-    number: u32,
+    number: u64,
     book: &Book,
     event: &Event,
 ) -> Result<Outcome, AllocError>
@@ -80,7 +80,7 @@ pub(crate) fn hear(
 fn hear_one<H: BuildHasher>(
     tables: &mut Tables<H>,
     book: &Book,
-    number: u32,
+    number: u64,
     event: &Event,
 ) -> Result<Outcome, AllocError>
     requires given { IsGiven tables.old number }
@@ -102,7 +102,7 @@ fn hear_one<H: BuildHasher>(
 fn hear_all<H: BuildHasher>(
     tables: &mut Tables<H>,
     book: &Book,
-    numbers: &[u32],
+    numbers: &[u64],
     event: &Event,
     others: Outcome,
 ) -> Result<Outcome, AllocError>

@@ -54,7 +54,7 @@ pub(crate) fn read_on<R: Source>(
     progress: &mut Progress,
     buffer: Vec<u8>,
     reader: &mut R,
-    count: u32,
+    count: u64,
 ) -> Result<Next, JudgeError>
     requires on { progress.old.stage ≡ entries }
     requires count { count ≤ most_surveyed }

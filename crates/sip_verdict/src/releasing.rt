@@ -27,7 +27,7 @@ fn hear_or_release<H: BuildHasher>(
     tables: &mut Tables<H>,
     troubled: &mut Troubled,
     book: &Book,
-    number: u32,
+    number: u64,
     event: &Event,
 ) -> Result<(), AllocError>
     requires given { IsGiven tables.old number }
@@ -65,7 +65,7 @@ fn hear_numbers<H: BuildHasher>(
     tables: &mut Tables<H>,
     troubled: &mut Troubled,
     book: &Book,
-    numbers: &[u32],
+    numbers: &[u64],
     event: &Event,
 ) -> Result<(), AllocError>
     requires given { All (IsGiven tables.old) numbers.now }

@@ -1,5 +1,5 @@
 //! Surveys a log from its first byte to its last, and forgets transactions that are over.
-ghost use Rattle.std.specs.Prelude.{◌≡◌, ◌++◌, [], ℕ, false, true, List, Option, IfOk, IfSome, OnOk, IsErrOf, option_copied};
+ghost use Rattle.std.specs.Prelude.{◌≡◌, ◌≢◌, ◌≤◌, ◌+◌, ◌++◌, [], ℕ, Bool, false, true, List, Option, IfOk, IfSome, OnOk, IsErrOf, length, option_copied};
 ghost use Rattle.std.specs.Result.{is_err};
 ghost use Rattle.std.specs.Io.KnownBytes.{Appends};
 ghost use Rattle.sip_log.specs.Reading.{beside_source};
@@ -7,6 +7,7 @@ ghost use Rattle.sip_standard.specs.Key.{KeyParts};
 ghost use Rattle.sip_standard.specs.Observation.{Observation};
 ghost use Rattle.sip_verdict.specs.declared.finding.Finding.{Finding};
 ghost use Rattle.sip_verdict.specs.declared.survey_error.SurveyError.TheVariants.{Read, Write};
+ghost use Rattle.sip_verdict.specs.Forgetting.{ForgetsUpTo, remembered};
 ghost use Rattle.sip_verdict.specs.ForgettingText.{IsLeftOf, IsToldForgetting};
 ghost use Rattle.sip_verdict.specs.SurveyText.{SumsUp};
 ghost use Rattle.sip_verdict.specs.Surveys.{SurveysFor};
@@ -119,6 +120,10 @@ fn forget_due<H: BuildHasher + Drop>(
 ) -> Result<(), StepError>
     ensures left { OnOk result ((es : List (Observation KeyParts)) → SurveysFor survey.old es → IsHorizonOf horizon.old es
         → (left : List (Observation KeyParts)) × IsLeftOf horizon.old.age survey.old.tables.times es left × SurveysFor survey.new left × IsHorizonOf horizon.new left) }
+    ensures due { OnOk result ((es : List (Observation KeyParts)) → SurveysFor survey.old es
+        → horizon.old.until ≢ 0 → 64 ≤ length survey.old.tables.keys → horizon.old.left + horizon.old.left ≤ length survey.old.tables.keys
+        → (kept : KeyParts → Bool) × ForgetsUpTo horizon.old.until survey.old.tables.times es kept × SurveysFor survey.new (remembered kept es)
+        × (horizon.new.left ≡ length survey.new.tables.keys)) }
     ensures newest { OnOk result ((survey.new.number ≡ survey.old.number) × (survey.new.moment ≡ survey.old.moment)) }
     ensures times { OnOk result (survey.new.tables.times ≡ survey.old.tables.times) }
     ensures age { horizon.new.age ≡ horizon.old.age }

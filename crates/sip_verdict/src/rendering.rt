@@ -50,7 +50,7 @@ pub(crate) fn last_line(alloc: Global, shown: &Shown) -> Result<String, AllocErr
     match *shown {
         Shown::End { entries } => {
             let mut text = String::new(alloc);
-            push_with_number(&mut text, "end ", entries.into())?;
+            push_with_number(&mut text, "end ", entries)?;
             Ok(text)
         }
         Shown::Malformed { entry, fault } => malformed(alloc, entry, fault),
@@ -125,8 +125,8 @@ pub fn end_line(alloc: Global, end: &SurveyEnd, findings: u64) -> Result<String,
 /// The line that says that the log of a survey was read to its end, with the numbers of entries, transactions and findings.
 fn clean_end(
     alloc: Global,
-    entries: u32,
-    transactions: u32,
+    entries: u64,
+    transactions: u64,
     findings: u64,
 ) -> Result<String, AllocError>
     ensures { IfOk result (λ text. string_bytes text
@@ -147,35 +147,35 @@ fn clean_end(
 fn two_numbers(
     alloc: Global,
     first_word: &str,
-    first: u32,
+    first: u64,
     second_word: &str,
-    second: u32,
+    second: u64,
 ) -> Result<String, AllocError>
     ensures { IfOk result (λ text.
         string_bytes text ≡ first_word.now ++ decimal first ++ second_word.now ++ decimal second) }
 {
     let mut text = String::new(alloc);
-    push_with_number(&mut text, first_word, first.into())?;
-    push_with_number(&mut text, second_word, second.into())?;
+    push_with_number(&mut text, first_word, first)?;
+    push_with_number(&mut text, second_word, second)?;
     Ok(text)
 }
 
-fn malformed(alloc: Global, entry: u32, fault: Fault) -> Result<String, AllocError>
+fn malformed(alloc: Global, entry: u64, fault: Fault) -> Result<String, AllocError>
     ensures { IfOk result (λ text. string_bytes text ≡ rendered (Malformed entry fault)) }
 {
     let mut text = String::new(alloc);
-    push_with_number(&mut text, "malformed ", entry.into())?;
+    push_with_number(&mut text, "malformed ", entry)?;
     text.push_str(" ")?;
     push_unit(&mut text, fault.unit)?;
     push_reason(&mut text, fault.reason.number(), fault.reason.name())?;
     Ok(text)
 }
 
-fn log_fault(alloc: Global, entry: u32, reason: LogReason) -> Result<String, AllocError>
+fn log_fault(alloc: Global, entry: u64, reason: LogReason) -> Result<String, AllocError>
     ensures { IfOk result (λ text. string_bytes text ≡ rendered (LogFault entry reason)) }
 {
     let mut text = String::new(alloc);
-    push_with_number(&mut text, "log fault ", entry.into())?;
+    push_with_number(&mut text, "log fault ", entry)?;
     push_reason(&mut text, reason.number(), reason.name())?;
     Ok(text)
 }

@@ -40,7 +40,7 @@ impl Judges for Siptrace {
         alloc: Global,
         reader: &mut R,
         hasher: H,
-        entry: u32,
+        entry: u64,
     ) -> Result<Listing, JudgeError> {
         states_at(alloc, reader, hasher, entry)
     }

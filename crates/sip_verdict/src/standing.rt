@@ -48,14 +48,14 @@ pub(crate) struct Standing<H: BuildHasher> {
 #[derive(Drop)]
 struct Taken {
     verdict: Option<Verdict>,
-    concerned: Concerned<u32>,
+    concerned: Concerned<u64>,
 }
 
 /// The number of the transaction of each key, which starts where the key is new.
 pub(crate) fn touch_each<H: BuildHasher>(
     tables: &mut Tables<H>,
     keys: Concerned<Key>,
-) -> Result<Concerned<u32>, AllocError>
+) -> Result<Concerned<u64>, AllocError>
     requires { length tables.old.keys + 2 ≤ most_keys }
     ensures touched { IfOk result (λ numbers. TouchesEach (each keys) (each numbers) tables.old tables.new) }
     ensures same { IfOk result (λ numbers. is_all numbers ≡ is_all keys) }
@@ -72,7 +72,7 @@ pub(crate) fn touch_each<H: BuildHasher>(
 }
 
 /// Whether one of these transactions may name the message with this number. Where all are concerned, it may be.
-fn may_name<H: BuildHasher>(tables: &Tables<H>, number: u32, concerned: Concerned<u32>) -> bool
+fn may_name<H: BuildHasher>(tables: &Tables<H>, number: u64, concerned: Concerned<u64>) -> bool
     requires { All (IsGiven tables.now) (each concerned) }
     ensures may { IsTrue result ↔ MayBeNamed tables.now number concerned }
     ensures none { result ≡ false → (is_all concerned ≡ false) × All (NamesNot tables.now number) (each concerned) }
@@ -100,7 +100,7 @@ impl<H: BuildHasher> Standing<H> {
     }
 
     /// How many transactions there are.
-    pub(crate) fn transactions(&self) -> u32
+    pub(crate) fn transactions(&self) -> u64
         ensures { result ≡ length self.now.tables.keys }
     {
         self.tables.len()
@@ -162,7 +162,7 @@ impl<H: BuildHasher> Standing<H> {
     #[inline(always)]
     fn pass(
         &mut self,
-        number: u32,
+        number: u64,
         moment: u64,
         hearing: Option<&Hearing>,
     ) -> Result<Option<Verdict>, AllocError>
@@ -241,7 +241,7 @@ impl<H: BuildHasher> Standing<H> {
     }
 
     /// Drops the message with this number, if it is the newest one and none of these transactions may name it. No other transaction names it.
-    pub(crate) fn drop_unnamed(&mut self, number: u32, concerned: Concerned<u32>)
+    pub(crate) fn drop_unnamed(&mut self, number: u64, concerned: Concerned<u64>)
         requires given { All (IsGiven self.old.tables) (each concerned) }
         requires others { OthersAre (λ set. ¬ Contains (numbers_of set) number) concerned self.old.tables }
         ensures tables { self.new.tables ≡ self.old.tables }
@@ -324,7 +324,7 @@ impl<H: BuildHasher> Standing<H> {
     }
 
     /// The listing of the transactions with these numbers, or the text that says that there is none.
-    fn text(&self, alloc: Global, numbers: Concerned<u32>) -> Result<String, AllocError>
+    fn text(&self, alloc: Global, numbers: Concerned<u64>) -> Result<String, AllocError>
         requires { All (IsGiven self.now.tables) (each numbers) }
         ensures text { IfOk result (λ text. IsTextOf self.now.tables (listed (length self.now.tables.keys) numbers) (string_bytes text)) }
         ensures apart { OnOk result (AllPairs (λ a b. a ≢ b) self.now.tables.keys) }
@@ -360,7 +360,7 @@ impl<H: BuildHasher> Standing<H> {
     }
 
     /// Appends the listing of the transaction with this number.
-    fn push_one(&self, alloc: Global, text: &mut String, number: u32) -> Result<(), AllocError>
+    fn push_one(&self, alloc: Global, text: &mut String, number: u64) -> Result<(), AllocError>
         requires { IsGiven self.now.tables number }
         ensures { OnOk result (Appends self.now.tables number (string_bytes text.old) (string_bytes text.new)) }
     {
@@ -369,7 +369,7 @@ impl<H: BuildHasher> Standing<H> {
     }
 
     /// The key of the transaction with this number, if there is one.
-    pub(crate) fn key(&self, number: u32) -> Option<&Key>
+    pub(crate) fn key(&self, number: u64) -> Option<&Key>
         ensures { MatchOption result (¬ (IsGiven self.now.tables number)) (λ key. IsGiven self.now.tables number × HasNumber self.now.tables key.now number) }
     {
         if number == 0 || number > self.tables.len() {

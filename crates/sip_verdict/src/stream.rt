@@ -28,7 +28,7 @@ use std::marker::Model;
 pub struct Judge<H: BuildHasher> {
     alloc: Global,
     standing: Standing<H>,
-    number: u32,
+    number: u64,
     moment: u64,
     left: usize,
     stage: Stage,
@@ -49,13 +49,13 @@ impl<H: BuildHasher> Model for Judge<H> {
 }
 
 /// The most entries of a log.
-const MOST_ENTRIES: u32 = 1_000_000;
+const MOST_ENTRIES: u64 = 1_000_000;
 
 /// The last moment of a log.
 pub(crate) const LAST_MOMENT: u64 = 9_999_999_999_999;
 
 /// Whether the entry may come after an entry with this number and moment.
-pub(crate) fn may_come_next(number: u32, moment: u64, entry: &Entry) -> bool
+pub(crate) fn may_come_next(number: u64, moment: u64, entry: &Entry) -> bool
     ensures { IsTrue result ↔ MayComeNext number moment entry.now.number entry.now.moment }
 {
     if number >= MOST_ENTRIES || entry.number != number + 1 {
@@ -149,7 +149,7 @@ impl<H: BuildHasher + Drop> Judge<H> {
     }
 
     /// The key of the transaction with this number, by which a verdict names it, and None where no transaction has the number.
-    pub fn key(&self, transaction: u32) -> Option<&Key>
+    pub fn key(&self, transaction: u64) -> Option<&Key>
         ensures none { MatchOption result (¬ (IsGiven self.now.tables transaction)) (λ key. IsGiven self.now.tables transaction × HasNumber self.now.tables key.now transaction) }
         ensures named { (es : List (Observation KeyParts)) → StandsFor self.now es
             → IfSome result (λ key. slice_get (keys_in es) (transaction - 1) ≡ Some key.now) }

@@ -5,7 +5,7 @@ use sip_standard::LogReason;
 #[derive(Clone, Copy, Debug, PartialEq, Eq)]
 pub enum SurveyEnd {
     /// The log was read to its end, and has so many entries and transactions.
-    Clean { entries: u32, transactions: u32 },
+    Clean { entries: u64, transactions: u64 },
     /// This entry of the log cannot be read.
-    LogFault { entry: u32, reason: LogReason },
+    LogFault { entry: u64, reason: LogReason },
 }

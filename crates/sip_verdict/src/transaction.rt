@@ -8,7 +8,7 @@ pub struct Transaction<'a> {
     /// The branch of the first message that concerns it, as it is spelled there.
     pub branch: &'a [u8],
     /// The number of the first entry that concerns it.
-    pub first: u32,
+    pub first: u64,
     /// The number of the last entry that concerns it.
-    pub last: u32,
+    pub last: u64,
 }

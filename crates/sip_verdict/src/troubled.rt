@@ -15,9 +15,9 @@ pub(crate) struct Troubled {
     /// Whether each transaction is in trouble, by its number from 1. A transaction in trouble hears nothing more.
     deaf: Vec<bool>,
     /// The numbers of the transactions that broke at the entry in hand.
-    broken: Vec<u32>,
+    broken: Vec<u64>,
     /// The numbers of the transactions that are followed no further from the entry in hand on.
-    wide: Vec<u32>,
+    wide: Vec<u64>,
 }
 
 impl Troubled {
@@ -34,7 +34,7 @@ impl Troubled {
     }
 
     /// Makes room for this many transactions. The new ones are in no trouble.
-    pub(crate) fn grow(&mut self, count: u32) -> Result<(), AllocError>
+    pub(crate) fn grow(&mut self, count: u64) -> Result<(), AllocError>
         requires { length self.old.deaf.items ≤ count }
         ensures long { OnOk result (length self.new.deaf.items ≡ count) }
         ensures deaf { OnOk result ((more : List Bool) × (self.new.deaf.items ≡ self.old.deaf.items ++ more) × All (λ is_deaf. is_deaf ≡ false) more) }
@@ -58,7 +58,7 @@ impl Troubled {
     }
 
     /// Whether the transaction with this number is in trouble.
-    pub(crate) fn has(&self, number: u32) -> bool
+    pub(crate) fn has(&self, number: u64) -> bool
         requires low { 0 < number }
         requires high { number ≤ length self.now.deaf.items }
         ensures { slice_get self.now.deaf.items (number - 1) ≡ Some result }
@@ -67,7 +67,7 @@ impl Troubled {
     }
 
     /// Adds that the transaction with this number breaks at the entry in hand.
-    pub(crate) fn add_broken(&mut self, number: u32) -> Result<(), AllocError>
+    pub(crate) fn add_broken(&mut self, number: u64) -> Result<(), AllocError>
         requires low { 0 < number }
         requires high { number ≤ length self.old.deaf.items }
         ensures { OnOk result (AddsBroken number self.old self.new) }
@@ -78,7 +78,7 @@ impl Troubled {
     }
 
     /// Adds that the transaction with this number is followed no further from the entry in hand on.
-    pub(crate) fn add_wide(&mut self, number: u32) -> Result<(), AllocError>
+    pub(crate) fn add_wide(&mut self, number: u64) -> Result<(), AllocError>
         requires low { 0 < number }
         requires high { number ≤ length self.old.deaf.items }
         ensures { OnOk result (AddsWide number self.old self.new) }
@@ -97,7 +97,7 @@ impl Troubled {
 
     /// Appends what came into trouble at the entry to the findings: the transactions that break by number, and then those that are followed no
     /// further by number. After it nothing has come into trouble at the next entry.
-    pub(crate) fn tell(&mut self, entry: u32, found: &mut Vec<Finding>) -> Result<(), AllocError>
+    pub(crate) fn tell(&mut self, entry: u64, found: &mut Vec<Finding>) -> Result<(), AllocError>
         ensures told { OnOk result (AppendsTroubled entry self.old found.old.items found.new.items) }
         ensures deaf { self.new.deaf.items ≡ self.old.deaf.items }
         ensures fresh { OnOk result (IsFresh self.new) }
@@ -117,7 +117,7 @@ impl Troubled {
 }
 
 /// Appends a finding for each of these transactions: it breaks at the entry.
-fn push_breaches(entry: u32, numbers: &[u32], found: &mut Vec<Finding>) -> Result<(), AllocError>
+fn push_breaches(entry: u64, numbers: &[u64], found: &mut Vec<Finding>) -> Result<(), AllocError>
     ensures pushed { OnOk result (found.new.items ≡ found.old.items ++ map (λ transaction. Breach entry transaction) numbers.now) }
     ensures front { (more : List Finding) × (found.new.items ≡ found.old.items ++ more) }
 {
@@ -129,7 +129,7 @@ fn push_breaches(entry: u32, numbers: &[u32], found: &mut Vec<Finding>) -> Resul
 }
 
 /// Appends a finding for each of these transactions: it is followed no further from the entry on.
-fn push_undecided(entry: u32, numbers: &[u32], found: &mut Vec<Finding>) -> Result<(), AllocError>
+fn push_undecided(entry: u64, numbers: &[u64], found: &mut Vec<Finding>) -> Result<(), AllocError>
     ensures pushed { OnOk result (found.new.items ≡ found.old.items ++ map (λ transaction. Undecided entry transaction) numbers.now) }
     ensures front { (more : List Finding) × (found.new.items ≡ found.old.items ++ more) }
 {

@@ -19,12 +19,12 @@ pub(crate) enum Aim {
     /// The walk ends at the end of the log. It keeps no message that no state names.
     End,
     /// The walk ends at the entry with this number. It keeps every message, since a message is told by the number of its first entry.
-    Entry(u32),
+    Entry(u64),
 }
 
 impl Aim {
     /// Whether the aim is the entry with this number.
-    fn is_entry(self, number: u32) -> bool
+    fn is_entry(self, number: u64) -> bool
         ensures is { result ≡ true → self ≡ Aim.Entry number }
         ensures is_not { result ≡ false → self ≢ Aim.Entry number }
     {

@@ -28,7 +28,7 @@ pub(crate) fn put(
     alloc: Global,
     tables: &mut Folded,
     book: &Book,
-    number: u32,
+    number: u64,
     entries: &[Entry],
 ) -> Result<(), Fail> {
     if number == 0 || number > tables.len() {
@@ -40,7 +40,7 @@ pub(crate) fn put(
 }
 
 /// Settles the key with this number, and returns what the tables answer. It fails where the set of the key has no state.
-pub(crate) fn settle(tables: &mut Folded, number: u32) -> Result<Result<(), AllocError>, Fail> {
+pub(crate) fn settle(tables: &mut Folded, number: u64) -> Result<Result<(), AllocError>, Fail> {
     if number == 0 || number > tables.len() {
         return Err("not given".into());
     }
@@ -51,7 +51,7 @@ pub(crate) fn settle(tables: &mut Folded, number: u32) -> Result<Result<(), Allo
 }
 
 /// The numbers of transactions whose machine is the INVITE server.
-const SERVERS: [u32; 4] = [2, 6, 10, 14];
+const SERVERS: [u64; 4] = [2, 6, 10, 14];
 
 /// Touches the keys of the servers, which get the numbers from 1 on.
 fn touch_servers(rt: &(impl Abort + AllocGlobal), tables: &mut Folded) -> Result<(), Fail> {
@@ -63,7 +63,7 @@ fn touch_servers(rt: &(impl Abort + AllocGlobal), tables: &mut Folded) -> Result
 }
 
 /// A row: the number of a key, the entries of its set, which is settled, and which key is then due at each moment.
-type Row = (u32, &'static [Entry], &'static [(u64, Option<u32>)]);
+type Row = (u64, &'static [Entry], &'static [(u64, Option<u64>)]);
 
 static ROWS: &[Row] = &[
     (

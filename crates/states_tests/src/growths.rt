@@ -243,7 +243,7 @@ fn a_wait_goes_on_after_a_refused_growth(rt: HostRuntime) -> Result<(), Fail> {
 fn touch_again(
     rt: &(impl Abort + AllocGlobal),
     tables: &mut Folded,
-    number: u32,
+    number: u64,
 ) -> Result<(), Fail> {
     let before = tables.len();
     let due = tables.due(u64::MAX);
@@ -281,7 +281,7 @@ fn tables_go_on_after_a_refused_growth(rt: HostRuntime) -> Result<(), Fail> {
 fn settle_again(
     rt: &impl Abort,
     tables: &mut Folded,
-    number: u32,
+    number: u64,
     moment: u64,
 ) -> Result<(), Fail> {
     is(rt, tables.due(moment), None, "before it is settled");
@@ -295,7 +295,7 @@ fn settle_again(
 }
 
 /// The numbers of the keys, and the moments of their INVITEs, each of which comes 100 ms before that of the key before it.
-static INVITES: &[(u32, u64)] = &[(1, 300), (2, 200), (3, 100), (1, 0)];
+static INVITES: &[(u64, u64)] = &[(1, 300), (2, 200), (3, 100), (1, 0)];
 
 /// Gives each key its INVITE, which waits 250 ms for its first response, and settles the key.
 fn settle_each_again(rt: &(impl Abort + AllocGlobal), tables: &mut Folded) -> Result<(), Fail> {

@@ -10,7 +10,7 @@ use std::hash::BuildHasher;
 use std::test::Fail;
 
 /// The request that begins the transaction with this number.
-fn request(alloc: Global, method: &str, number: u32) -> Result<String, AllocError> {
+fn request(alloc: Global, method: &str, number: u64) -> Result<String, AllocError> {
     let number = format!(in alloc; "{number}")?;
     [
         method,
@@ -30,7 +30,7 @@ fn key_in(alloc: Global, text: &str, direction: Direction) -> Result<Key, Fail> 
 }
 
 /// The key of the transaction with this number. The four machines take turns: numbers that differ by four have one machine.
-pub(crate) fn key(alloc: Global, number: u32) -> Result<Key, Fail> {
+pub(crate) fn key(alloc: Global, number: u64) -> Result<Key, Fail> {
     let (direction, method) = match number % 4 {
         0 => (Direction::Sent, "INVITE"),
         1 => (Direction::Sent, "OPTIONS"),
@@ -45,8 +45,8 @@ pub(crate) fn key(alloc: Global, number: u32) -> Result<Key, Fail> {
 pub(crate) fn touch<H: BuildHasher + Drop>(
     alloc: Global,
     tables: &mut Tables<H>,
-    number: u32,
-) -> Result<Result<u32, AllocError>, Fail>
+    number: u64,
+) -> Result<Result<u64, AllocError>, Fail>
     ensures { IfOk result (λ touched. IfOk touched (IsGiven tables.new)) }
 {
     let key = key(alloc, number)?;

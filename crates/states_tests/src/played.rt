@@ -12,17 +12,17 @@ use std::alloc::{AllocError, Global};
 use std::test::Fail;
 
 /// An entry: its moment in milliseconds, what was done, and the number of its message.
-pub(crate) type Entry = (u64, Action, u32);
+pub(crate) type Entry = (u64, Action, u64);
 
-pub(crate) const INVITE: u32 = 1;
+pub(crate) const INVITE: u64 = 1;
 
-pub(crate) const RINGING: u32 = 2;
+pub(crate) const RINGING: u64 = 2;
 
-pub(crate) const PROGRESS: u32 = 3;
+pub(crate) const PROGRESS: u64 = 3;
 
-pub(crate) const BUSY: u32 = 4;
+pub(crate) const BUSY: u64 = 4;
 
-pub(crate) const OK: u32 = 5;
+pub(crate) const OK: u64 = 5;
 
 /// The messages of the INVITE transaction, in the order of their numbers.
 static TEXTS: [&str; 5] = [
@@ -68,7 +68,7 @@ pub(crate) fn invite(moment: u64) -> Entry
     (moment, Action::Received, INVITE)
 }
 
-fn sent(moment: u64, number: u32) -> Entry
+fn sent(moment: u64, number: u64) -> Entry
     ensures { result.0 ≡ moment }
 {
     (moment, Action::Sent, number)

@@ -25,7 +25,7 @@ const OPTIONS: &[u8] = b"OPTIONS sip:bob@example.com SIP/2.0\r\n\
     \r\n";
 
 /// The event of the request with this number in a book, sent at this moment.
-fn sent(alloc: Global, number: u32, moment: u64) -> Result<Event, Fail>
+fn sent(alloc: Global, number: u64, moment: u64) -> Result<Event, Fail>
     requires { moment ≤ last_moment }
     ensures { IfOk result (λ event. (event.moment ≡ moment) × (event.number ≡ number)) }
 {
@@ -49,7 +49,7 @@ fn takes(
     rt: &(impl Abort + AllocGlobal),
     set: &mut StateSet<PlainClient>,
     book: &Book,
-    number: u32,
+    number: u64,
     moment: u64,
 ) -> Result<(), Fail>
     requires limit { moment ≤ last_moment }
@@ -74,7 +74,7 @@ fn waits(
     rt: &(impl Abort + AllocGlobal),
     set: &mut StateSet<PlainClient>,
     book: &Book,
-    number: u32,
+    number: u64,
 ) -> Result<(), Fail>
     requires start { set.old.moment ≡ 0 }
     requires kept { Keeps book.now number }
@@ -91,7 +91,7 @@ fn waits(
 
 /// Asserts that a new set takes the request at 0 and at 500, and then can wait until 1,550, for T1 500, T2 4000, T4 5000 and a
 /// tolerance of 50.
-fn starts_and_waits(rt: &(impl Abort + AllocGlobal), book: &Book, number: u32) -> Result<(), Fail>
+fn starts_and_waits(rt: &(impl Abort + AllocGlobal), book: &Book, number: u64) -> Result<(), Fail>
     requires { Keeps book.now number }
 {
     let params = Params::new(500, 4_000, 5_000, 50).ok_or("refused")?;

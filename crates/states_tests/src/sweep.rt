@@ -12,7 +12,7 @@ use std::alloc::{AllocError, Global};
 use std::process::Abort;
 use std::test::Fail;
 
-static SERVED: &[(u32, &[Entry])] = &[
+static SERVED: &[(u64, &[Entry])] = &[
     (
         2,
         &[(0, Action::Received, INVITE), (100, Action::Sent, BUSY)],
@@ -37,7 +37,7 @@ fn serve(
     alloc: Global,
     tables: &mut Folded,
     book: &Book,
-    server: u32,
+    server: u64,
     entries: &[Entry],
 ) -> Result<(), Fail> {
     let number = touch(alloc, tables, server)??;
@@ -58,7 +58,7 @@ fn serve_all(alloc: Global, tables: &mut Folded) -> Result<(), Fail> {
 fn append_again(
     rt: &impl Abort,
     tables: &Folded,
-    numbers: &mut Vec<u32>,
+    numbers: &mut Vec<u64>,
 ) -> Result<(), AllocError> {
     numbers.push(9)?;
     let named = tables.named(numbers);
@@ -122,7 +122,7 @@ fn wait_again(tables: &mut Folded, moment: u64) -> Result<Result<(), AllocError>
 }
 
 /// A row: the entries of the set, the moment until which it waits then, and the numbers of the messages that it names there.
-type Row = (&'static [Entry], u64, &'static [u32]);
+type Row = (&'static [Entry], u64, &'static [u64]);
 
 static ROWS: &[Row] = &[
     (

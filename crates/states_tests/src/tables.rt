@@ -45,8 +45,8 @@ fn number_of<H: BuildHasher + Drop>(
     alloc: Global,
     tables: &mut Tables<H>,
     rules: Rules,
-    number: u32,
-) -> Result<(u32, bool), Fail> {
+    number: u64,
+) -> Result<(u64, bool), Fail> {
     let given = touch(alloc, tables, number)??;
     let is_own = match tables.set(given) {
         AnySet::InviteClient(_) => number % 4 == 0 && rules == Rules::R6026,
@@ -64,8 +64,8 @@ fn is_numbered<H: BuildHasher + Drop>(
     rt: &(impl Abort + AllocGlobal),
     tables: &mut Tables<H>,
     rules: Rules,
-    number: u32,
-    count: u32,
+    number: u64,
+    count: u64,
 ) -> Result<(), Fail> {
     let (given, is_own) = number_of(rt.alloc(), tables, rules, number)?;
     is(

@@ -16,10 +16,12 @@ same_role-so Server Server h = refl
 same_role-so Client Server h = cc
 same_role-so Server Client h = cc
 
+-- the test finds a role equal to itself
 same_role-itself : (r : Role) → role_eq.ghosts.eq r r ≡ true
 same_role-itself Client = refl
 same_role-itself Server = refl
 
+-- the test finds a text equal to itself
 bytes_eq-itself : (xs : List ℕ) → bytes_eq xs xs ≡ true
 bytes_eq-itself xs = (bytes_decides xs xs).1 refl
 
@@ -34,6 +36,7 @@ same_key-exact a b h =
     let method : a.method ≡ b.method = (bytes_decides a.method b.method).0 (second_so _ _ last) in
     λ i. record { role = role i; branch = branch i; sent_by = sent_by i; method = method i }
 
+-- the test finds a key equal to itself
 same_key-itself : (a : KeyParts) → same_key a a ≡ true
 same_key-itself a =
     rw (same_role-itself a.role, bytes_eq-itself a.branch, bytes_eq-itself a.sent_by, bytes_eq-itself a.method) refl

@@ -1,4 +1,4 @@
--- The debts at bits of a list of entries.
+-- The debts of a list of entries: `o` tells which places are owed, and `m` which of them must be sent.
 use Rattle.std.proofs.Common.{◌≡◌, ℕ, zero, suc, ◌+◌, ◌-◌, ◌<◌, ◌≤◌, Bool, true, false, ◌&&◌, ◌||◌, cond, List, [], ◌∷◌, ◌++◌, length, take, drop, get_or, map, filter, refl, sym, ap, ◌∙◌, subst, arith}
 use Rattle.std.specs.Prelude.{All, nat_le, Some, option_to_list, min}
 use Rattle.std.specs.List.{fold}
@@ -9,31 +9,36 @@ use Rattle.sip_ledger.specs.declared.debt.Entry.{Entry}
 use Rattle.sip_ledger.specs.Debts.{counts_at, softened_debt, debt_deadlines, earliest}
 use Rattle.sip_ledger.specs.Rows.{debt_of, debts_from, IsGap}
 
+-- what stands where there is no entry
 abbrev pub no_entry : Entry
 no_entry = record { message = 0; deadline = 0 }
 
--- where all debts are xs and ys, all with d before them or not are xs, with d before them or not, and ys
+-- where all debts are xs and ys, it comes to the same to put d before all, or before xs, or to leave it out of both
 cond-append : (b : Bool) (d : Debt) (all xs ys : List Debt) → all ≡ xs ++ ys → cond b (d ∷ all) all ≡ cond b (d ∷ xs) xs ++ ys
 cond-append true d all xs ys e = ap (λ l. d ∷ l) e
 cond-append false d all xs ys e = e
 
+-- where tests, debts and lists are the same, what the test lets stand is the same
 cond-same : (b b' : Bool) (d d' : Debt) (xs xs' : List Debt) → b ≡ b' → d ≡ d' → xs ≡ xs' → cond b (d ∷ xs) xs ≡ cond b' (d' ∷ xs') xs'
 cond-same b b' d d' xs xs' same_b same_d same_xs =
     ap (λ a. cond a (d ∷ xs) xs) same_b ∙ ap (λ x. cond b' (x ∷ xs) xs) same_d ∙ ap (λ l. cond b' (d' ∷ l) l) same_xs
 
+-- where a list is filtered, a first debt that a test lets stand stays if it passes both tests
 cond-filter : (p : Debt → Bool) (b : Bool) (d : Debt) (xs : List Debt) → filter p (cond b (d ∷ xs) xs) ≡ cond (b && p d) (d ∷ filter p xs) (filter p xs)
 cond-filter p true d xs = refl
 cond-filter p false d xs = refl
 
+-- what a map gives of a list whose first debt a test lets stand
 cond-map : {X : Type 0} (f : Debt → X) (b : Bool) (d : Debt) (xs : List Debt) → map f (cond b (d ∷ xs) xs) ≡ cond b (f d ∷ map f xs) (map f xs)
 cond-map f true d xs = refl
 cond-map f false d xs = refl
 
+-- where P holds of all of a list, and of a first debt if the test lets it stand, it holds of all that stands
 cond-All : (P : Debt → Type 0) (b : Bool) (d : Debt) (xs : List Debt) → (b ≡ true → P d) → All P xs → All P (cond b (d ∷ xs) xs)
 cond-All P true d xs here rest = All-cons P d xs (here refl) rest
 cond-All P false d xs here rest = rest
 
--- the debts at the bits of two lists of entries are those of the first list and those of the second, whose bits follow
+-- the debts of two lists of entries together are those of the first list and those of the second, whose places follow
 pub listed-append : (o m : ℕ → Bool) (i : ℕ) (xs ys : List Entry) → debts_from o m i (xs ++ ys) ≡ debts_from o m i xs ++ debts_from o m (i + length xs) ys
 listed-append o m i [] ys = let none : i ≡ i + 0 = omega arith in ap (λ n. debts_from o m n ys) none
 listed-append o m i (x ∷ xs) ys =
@@ -41,7 +46,7 @@ listed-append o m i (x ∷ xs) ys =
     cond-append (o i) (debt_of x (m i)) (debts_from o m (i + 1) (xs ++ ys)) (debts_from o m (i + 1) xs) (debts_from o m (i + suc (length xs)) ys)
     (listed-append o m (i + 1) xs ys ∙ ap (λ n. debts_from o m (i + 1) xs ++ debts_from o m n ys) next)
 
--- where the bits of two rows agree at the entries, the debts at them are the same
+-- where the same places are owed and must be sent, the debts are the same
 pub listed-same : (o m o' m' : ℕ → Bool) (i : ℕ) (xs : List Entry) → ((k : ℕ) → i ≤ k → k < i + length xs → (o k ≡ o' k) × (m k ≡ m' k)) →
     debts_from o m i xs ≡ debts_from o' m' i xs
 listed-same o m o' m' i [] agree = refl
@@ -50,14 +55,14 @@ listed-same o m o' m' i (x ∷ xs) agree =
     cond-same (o i) (o' i) (debt_of x (m i)) (debt_of x (m' i)) (debts_from o m (i + 1) xs) (debts_from o' m' (i + 1) xs) here.0
     (ap (debt_of x) here.1) (listed-same o m o' m' (i + 1) xs (λ k from below. agree k (omega (arith, from)) (omega (arith, below))))
 
--- where no bit is set at the entries, there are no debts
+-- where no place of the entries is owed, there are no debts
 pub listed-none : (o m : ℕ → Bool) (i : ℕ) (xs : List Entry) → ((k : ℕ) → i ≤ k → k < i + length xs → o k ≡ false) → debts_from o m i xs ≡ []
 listed-none o m i [] none = refl
 listed-none o m i (x ∷ xs) none =
     ap (λ b. cond b (debt_of x (m i) ∷ debts_from o m (i + 1) xs) (debts_from o m (i + 1) xs)) (none i (omega arith) (omega arith))
     ∙ listed-none o m (i + 1) xs (λ k from below. none k (omega (arith, from)) (omega (arith, below)))
 
--- where P holds of each debt at a bit that is set, it holds of all debts at the bits
+-- where P holds of the debt of each place that is owed, it holds of all debts
 pub listed-All : (P : Debt → Type 0) (o m : ℕ → Bool) (i : ℕ) (xs : List Entry) →
     ((j : ℕ) (e : Entry) → j < length xs → o (i + j) ≡ true → P (debt_of (get_or xs j e) (m (i + j)))) → All P (debts_from o m i xs)
 listed-All P o m i [] each = All-nil P
@@ -69,52 +74,54 @@ listed-All P o m i (x ∷ xs) each =
     let next : i + 1 + j ≡ i + suc j = omega arith in
     subst (λ n. P (debt_of (get_or xs j e) (m n))) (sym next) (each (suc j) e (omega (arith, below)) (ap o (sym next) ∙ is))))
 
--- the debts at the bits before k
+-- the debts of the places before k
 abbrev pub front : (ℕ → Bool) → (ℕ → Bool) → List Entry → ℕ → List Debt
 front o m entries k = debts_from o m 0 (take k entries)
 
+-- the debts of the places from k on
 abbrev pub back : (ℕ → Bool) → (ℕ → Bool) → List Entry → ℕ → List Debt
 back o m entries k = debts_from o m k (drop k entries)
 
--- the debts at the bits are those before k and those from k on
+-- all debts are those before k and those from k on
 pub parts : (o m : ℕ → Bool) (entries : List Entry) (k : ℕ) → k ≤ length entries → debts_from o m 0 entries ≡ front o m entries k ++ back o m entries k
 parts o m entries k within =
     let long : 0 + length (take k entries) ≡ k = omega (arith, length-take-le k entries within) in
     ap (debts_from o m 0) (sym (take-append-drop k entries)) ∙ listed-append o m 0 (take k entries) (drop k entries)
     ∙ ap (λ n. front o m entries k ++ debts_from o m n (drop k entries)) long
 
--- where the bit k is set, the debts from k on are its debt and those from k + 1 on, and else those from k + 1 on
+-- where k is owed, the debts from k on are its debt and those from k + 1 on, and else those from k + 1 on
 pub back-at : (o m : ℕ → Bool) (entries : List Entry) (k : ℕ) (e : Entry) → k < length entries →
     back o m entries k ≡ cond (o k) (debt_of (get_or entries k e) (m k) ∷ back o m entries (k + 1)) (back o m entries (k + 1))
 back-at o m entries k e within = ap (debts_from o m k) (drop_more entries k e within)
 
--- where the bit k is set, the debts from k on are its debt and those from k + 1 on
+-- where k is owed, the debts from k on are its debt and those from k + 1 on
 pub back-set : (o m : ℕ → Bool) (entries : List Entry) (k : ℕ) (e : Entry) → k < length entries → o k ≡ true →
     back o m entries k ≡ debt_of (get_or entries k e) (m k) ∷ back o m entries (k + 1)
 back-set o m entries k e within is =
     back-at o m entries k e within ∙ ap (λ b. cond b (debt_of (get_or entries k e) (m k) ∷ back o m entries (k + 1)) (back o m entries (k + 1))) is
 
--- where the bit k is not set, the debts from k on are those from k + 1 on
+-- where k is not owed, the debts from k on are those from k + 1 on
 pub back-unset : (o m : ℕ → Bool) (entries : List Entry) (k : ℕ) → k < length entries → o k ≡ false → back o m entries k ≡ back o m entries (k + 1)
 back-unset o m entries k within is =
     back-at o m entries k no_entry within
     ∙ ap (λ b. cond b (debt_of (get_or entries k no_entry) (m k) ∷ back o m entries (k + 1)) (back o m entries (k + 1))) is
 
--- where no bit is set from k on, there are no debts from k on
+-- where no place from k on is owed, there are no debts from k on
 pub back-none : (o m : ℕ → Bool) (entries : List Entry) (k : ℕ) → ((j : ℕ) → k ≤ j → o j ≡ false) → back o m entries k ≡ []
 back-none o m entries k none = listed-none o m k (drop k entries) (λ j from below. none j from)
 
--- where the bits before k of two rows agree, the debts before k are the same
+-- where the same places before k are owed and must be sent, the debts before k are the same
 pub front-same : (o m o' m' : ℕ → Bool) (entries : List Entry) (k : ℕ) → k ≤ length entries → ((j : ℕ) → j < k → (o j ≡ o' j) × (m j ≡ m' j)) →
     front o m entries k ≡ front o' m' entries k
 front-same o m o' m' entries k within agree =
     listed-same o m o' m' 0 (take k entries) (λ j from below. agree j (omega (arith, below, length-take-le k entries within)))
 
+-- where the same places from k on are owed and must be sent, the debts from k on are the same
 pub back-same : (o m o' m' : ℕ → Bool) (entries : List Entry) (k : ℕ) → ((j : ℕ) → k ≤ j → (o j ≡ o' j) × (m j ≡ m' j)) →
     back o m entries k ≡ back o' m' entries k
 back-same o m o' m' entries k agree = listed-same o m o' m' k (drop k entries) (λ j from below. agree j from)
 
--- where no bit from i up to i + n is set, the debts from i on are those from i + n on
+-- where no place from i up to i + n is owed, the debts from i on are those from i + n on
 pub back-gap : (o m : ℕ → Bool) (entries : List Entry) (i n : ℕ) → i + n ≤ length entries → IsGap o i (i + n) → back o m entries i ≡ back o m entries (i + n)
 back-gap o m entries i zero within gap = let none : i ≡ i + 0 = omega arith in ap (back o m entries) none
 back-gap o m entries i (suc n) within gap =
@@ -123,13 +130,13 @@ back-gap o m entries i (suc n) within gap =
     ∙ back-gap o m entries (i + 1) n (omega (arith, within)) (λ j from below. gap j (omega (arith, from)) (omega (arith, below)))
     ∙ ap (back o m entries) next
 
--- where no bit from i up to k is set, the debts from i on are those from k on
+-- where no place from i up to k is owed, the debts from i on are those from k on
 pub back-over : (o m : ℕ → Bool) (entries : List Entry) (i k : ℕ) → i ≤ k → k ≤ length entries → IsGap o i k → back o m entries i ≡ back o m entries k
 back-over o m entries i k order within gap =
     let is : i + (k - i) ≡ k = omega (arith, order) in
     back-gap o m entries i (k - i) (omega (arith, within, is)) (λ j from below. gap j from (omega (arith, below, is))) ∙ ap (back o m entries) is
 
--- where the bits that stay are those of debts that count still at t, the debts at them are those that count still
+-- where the places that stay owed are those whose debts count still at t, the debts are those that count still
 pub listed-counting : (t : ℕ) (o m o' : ℕ → Bool) (i : ℕ) (xs : List Entry) →
     ((j : ℕ) (e : Entry) → j < length xs → o' (i + j) ≡ (o (i + j) && (m (i + j) || nat_le t (get_or xs j e).deadline))) →
     debts_from o' m i xs ≡ filter (counts_at t) (debts_from o m i xs)
@@ -145,7 +152,7 @@ listed-counting t o m o' i (x ∷ xs) each =
     (filter (counts_at t) (debts_from o m (i + 1) xs)) here refl rest
     ∙ sym (cond-filter (counts_at t) (o i) (debt_of x (m i)) (debts_from o m (i + 1) xs))
 
--- where no bit of `must` is set any more, the debts are the same, and none must be sent
+-- where no place must be sent any more, the debts are the softened ones
 pub listed-softened : (o m m' : ℕ → Bool) (i : ℕ) (xs : List Entry) → ((k : ℕ) → m' k ≡ false) →
     debts_from o m' i xs ≡ map softened_debt (debts_from o m i xs)
 listed-softened o m m' i [] none = refl
@@ -154,7 +161,7 @@ listed-softened o m m' i (x ∷ xs) none =
     (map softened_debt (debts_from o m (i + 1) xs)) refl (ap (debt_of x) (none i)) (listed-softened o m m' (i + 1) xs none)
     ∙ sym (cond-map softened_debt (o i) (debt_of x (m i)) (debts_from o m (i + 1) xs))
 
--- where no bit from `from` up to `at` is set, the debts before `at` are those before `from`
+-- where no place from `from` up to `at` is owed, the debts before `at` are those before `from`
 pub front-gap : (o m : ℕ → Bool) (entries : List Entry) (from at : ℕ) → from ≤ at → at ≤ length entries → IsGap o from at →
     front o m entries at ≡ front o m entries from
 front-gap o m entries from at order within gap =
@@ -162,7 +169,7 @@ front-gap o m entries from at order within gap =
     (sym (parts o m entries at within) ∙ parts o m entries from (omega (arith, order, within))
     ∙ ap (λ l. front o m entries from ++ l) (back-over o m entries from at order within gap))
 
--- where the next bit from `from` on is at `at`, the debts before `at + 1` are those before `from` and its own
+-- where the next place from `from` on that is owed is `at`, the debts before `at + 1` are those before `from` and its own
 pub front-next : (o m : ℕ → Bool) (entries : List Entry) (from at : ℕ) (e : Entry) → from ≤ at → at < length entries → IsGap o from at → o at ≡ true →
     front o m entries (at + 1) ≡ front o m entries from ++ debt_of (get_or entries at e) (m at) ∷ []
 front-next o m entries from at e order within gap set =
@@ -176,13 +183,13 @@ front-next o m entries from at e order within gap set =
     ∙ ap (λ b. front o m entries at ++ cond b (debt ∷ []) []) set
     ∙ ap (λ l. l ++ debt ∷ []) (front-gap o m entries from at order less gap)
 
--- where what must be sent is owed, an entry is owed and must be sent exactly if it must be sent
+-- where what must be sent is owed, a place is owed and must be sent exactly if it must be sent
 must-of : (b c : Bool) → (c ≡ true → b ≡ true) → (b && c) ≡ c
 must-of true c among = refl
 must-of false true among = among refl
 must-of false false among = refl
 
--- where what must be sent is owed, the deadlines of the debts that must be sent are those of the debts at the bits of `must`
+-- where what must be sent is owed, the deadlines of the debts that must be sent are those of the places that must be sent
 pub listed-must : (o m : ℕ → Bool) (i : ℕ) (xs : List Entry) → ((k : ℕ) → m k ≡ true → o k ≡ true) →
     debt_deadlines (debts_from o m i xs) ≡ map (λ d. d.deadline) (debts_from m m i xs)
 listed-must o m i [] among = refl
@@ -203,22 +210,6 @@ fold-push a m (x ∷ xs) = fold-push (min a x) m xs
 pub earliest-push : (ms : List ℕ) (m : ℕ) → earliest (ms ++ m ∷ []) ≡ earliest (m ∷ option_to_list (earliest ms))
 earliest-push [] m = refl
 earliest-push (x ∷ xs) m = let turned : min (fold min x xs) m ≡ min m (fold min x xs) = omega arith in ap Some (fold-push x m xs ∙ turned)
-
--- the messages of the debts at bits do not rest on which of the debts must be sent
-pub listed-messages : (o m m' : ℕ → Bool) (i : ℕ) (xs : List Entry) → map (λ (d : Debt). d.message) (debts_from o m i xs) ≡ map (λ (d : Debt). d.message) (debts_from o m' i xs)
-listed-messages o m m' i [] = refl
-listed-messages o m m' i (x ∷ xs) =
-    cond-map (λ (d : Debt). d.message) (o i) (debt_of x (m i)) (debts_from o m (i + 1) xs)
-    ∙ ap (λ l. cond (o i) (x.message ∷ l) l) (listed-messages o m m' (i + 1) xs)
-    ∙ sym (cond-map (λ (d : Debt). d.message) (o i) (debt_of x (m' i)) (debts_from o m' (i + 1) xs))
-
--- the debts at bits that stand n places later are those of entries whose bits begin n places later
-pub listed-shift : (o m : ℕ → Bool) (n i : ℕ) (xs : List Entry) → debts_from (λ k. o (n + k)) (λ k. m (n + k)) i xs ≡ debts_from o m (n + i) xs
-listed-shift o m n i [] = refl
-listed-shift o m n i (x ∷ xs) =
-    let next : n + (i + 1) ≡ n + i + 1 = omega arith in
-    cond-same (o (n + i)) (o (n + i)) (debt_of x (m (n + i))) (debt_of x (m (n + i))) (debts_from (λ k. o (n + k)) (λ k. m (n + k)) (i + 1) xs) (debts_from o m (n + i + 1) xs) refl refl
-    (listed-shift o m n (i + 1) xs ∙ ap (λ j. debts_from o m j xs) next)
 
 -- the least of moments of which none is below the first is the first
 fold-first : (x : ℕ) (xs : List ℕ) → All (λ y. x ≤ y) xs → fold min x xs ≡ x

@@ -1,7 +1,6 @@
 -- What debts a payment leaves.
-use Rattle.std.proofs.Common.{◌≡◌, ◌∙◌, ℕ, Bool, true, false, List, [], ◌∷◌, ◌++◌, All, refl, sym, ap, cond}
+use Rattle.std.proofs.Common.{◌≡◌, ◌∙◌, ℕ, List, [], ◌∷◌, ◌++◌, All, refl, sym, ap, cond}
 use Rattle.std.specs.Prelude.{IsTrue}
-use Rattle.std.specs.Bool.{OnTrue, OnFalse}
 use Rattle.std.proofs.lemmas.Bool.{false_from_ne_true}
 use Rattle.std.proofs.lemmas.List.Elements.{All-head, All-tail}
 use Rattle.sip_ledger.specs.declared.debt.Debt.{Debt}
@@ -30,9 +29,3 @@ module _ (message t : ℕ) where
       let unpaid = false_from_ne_true (is_payable message t debt) (All-head Unpaid debt debts none) in
       ap (λ b. cond b debts (debt ∷ paid_by message t debts)) unpaid
       ∙ ap (λ ds. debt ∷ ds) (unpaid-is debts (All-tail Unpaid debt debts none))
-
-  -- a row from which the first payable debt was taken, or which is as before since it has none, owes what is left after the payment
-  pub paid-row : (is : Bool) (old new : List Debt) (rows more : List (List Debt)) → OnTrue is (IsWithoutFirst (λ debt. IsTrue (is_payable message t debt)) old new) →
-      OnFalse is ((more ≡ rows) × All Unpaid old) → (more ≡ rows → new ≡ old) → new ≡ paid_by message t old
-  paid-row true old new rows more paid unpaid same = paid-is old new paid
-  paid-row false old new rows more paid unpaid same = same unpaid.0 ∙ sym (unpaid-is old unpaid.1)

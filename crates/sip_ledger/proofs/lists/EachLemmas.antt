@@ -82,23 +82,6 @@ module _ {X : Type 0} where
   unchanged-each f (suc from) [] each = refl
   unchanged-each f (suc from) (x ∷ xs) each = ap (λ ys. x ∷ ys) (unchanged-each f from xs (λ k d below. each (suc k) d (omega (arith, below))))
 
-  -- a list that has each element before `from`, and each from there on changed by f, is the list with all from there on changed
-  pub changed-each : (f : X → X) (from : ℕ) (xs ys : List X) → length ys ≡ length xs → ((k : ℕ) (d : X) → k < from → k < length xs → get_or ys k d ≡ get_or xs k d) →
-      ((k : ℕ) (d : X) → from ≤ k → k < length xs → get_or ys k d ≡ f (get_or xs k d)) → ys ≡ take from xs ++ map f (drop from xs)
-  changed-each f zero [] [] long before behind = refl
-  changed-each f zero [] (y ∷ ys) long before behind = absurd (omega (arith, long))
-  changed-each f zero (x ∷ xs) [] long before behind = absurd (omega (arith, long))
-  changed-each f zero (x ∷ xs) (y ∷ ys) long before behind =
-      ap₂ (λ z zs. z ∷ zs) (behind 0 x (omega arith) (omega arith))
-      (changed-each f zero xs ys (omega (arith, long)) (λ k d early _. absurd (omega (arith, early))) (λ k d _ below. behind (suc k) d (omega arith) (omega (arith, below))))
-  changed-each f (suc from) [] [] long before behind = refl
-  changed-each f (suc from) [] (y ∷ ys) long before behind = absurd (omega (arith, long))
-  changed-each f (suc from) (x ∷ xs) [] long before behind = absurd (omega (arith, long))
-  changed-each f (suc from) (x ∷ xs) (y ∷ ys) long before behind =
-      ap₂ (λ z zs. z ∷ zs) (before 0 x (omega arith) (omega arith))
-      (changed-each f from xs ys (omega (arith, long)) (λ k d early below. before (suc k) d (omega (arith, early)) (omega (arith, below)))
-      (λ k d above below. behind (suc k) d (omega (arith, above)) (omega (arith, below))))
-
   -- those that pass a test up to the next index are those up to k, and the element at k if it passes
   passing-next : (p : X → Bool) (from k : ℕ) (xs : List X) (d : X) → from ≤ k → k < length xs →
       filter p (from_to from (suc k) xs) ≡ filter p (from_to from k xs) ++ cond (p (get_or xs k d)) (get_or xs k d ∷ []) []
@@ -112,17 +95,6 @@ module _ {X : Type 0} where
       filter p (from_to from (k + 1) xs) ≡ filter p (from_to from k xs) ++ cond (p (get_or xs k d)) (get_or xs k d ∷ []) []
   passing-more p from k xs d le low =
       let next : k + 1 ≡ suc k = omega arith in ap (λ n. filter p (from_to from n xs)) next ∙ passing-next p from k xs d le low
-
-  -- where no element of a list passes a test, none from one index up to another does
-  pub passing-none : (p : X → Bool) (from to : ℕ) (xs : List X) → ((k : ℕ) (d : X) → k < length xs → p (get_or xs k d) ≡ false) → filter p (from_to from to xs) ≡ []
-  passing-none p zero zero xs each = refl
-  passing-none p zero (suc to) [] each = refl
-  passing-none p zero (suc to) (x ∷ xs) each =
-      ap (λ b. cond b (x ∷ filter p (take to xs)) (filter p (take to xs))) (each 0 x (omega arith))
-      ∙ passing-none p zero to xs (λ k d below. each (suc k) d (omega (arith, below)))
-  passing-none p (suc from) zero xs each = refl
-  passing-none p (suc from) (suc to) [] each = refl
-  passing-none p (suc from) (suc to) (x ∷ xs) each = passing-none p from to xs (λ k d below. each (suc k) d (omega (arith, below)))
 
   -- where the loop ended at k, which is `to`, or `from` where that is after `to`, the elements up to k are those up to `to`
   pub from_to-end : (from to k : ℕ) (xs : List X) → from ≤ k → to ≤ k → k ≤ to ⊎ k ≤ from → from_to from k xs ≡ from_to from to xs

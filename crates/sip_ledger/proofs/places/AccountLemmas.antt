@@ -16,9 +16,10 @@ use Rattle.sip_ledger.specs.Rows.{debt_of, debts_from}
 use Rattle.sip_ledger.specs.inner.Accounts.{AreAccounts, AreGains, AreSameGains, IsAccount, IsDropped, IsGain, IsKept, IsLetGo, KeepsAccounts, account_debts, accounts_debts, blank, entries_of, entry_at, is_gone, is_left, is_struck, must_at, owes_at, strikes_of}
 use Rattle.sip_ledger.specs.inner.Indexes.{holds}
 use Rattle.sip_ledger.proofs.debts.ListedLemmas.{listed-same, listed-none}
-use Rattle.sip_ledger.proofs.grids.RowLemmas.{grown-debts}
+use Rattle.sip_ledger.proofs.debts.RowLemmas.{grown-debts}
 use Rattle.sip_ledger.proofs.places.LeftLemmas.{entries-long, left-kept, listed-alike, owed-left, unleft-unowed}
 
+-- where n is at most m, the test of m < n fails
 lt-no : (m n : ℕ) → n ≤ m → nat_lt m n ≡ false
 lt-no m n is = grind (arith, nat_tests)
 
@@ -26,19 +27,23 @@ lt-no m n is = grind (arith, nat_tests)
 pub kept-strikes : (old new : List Strike) (a : Account) → take (length old) new ≡ old → a.last ≤ length old → strikes_of new a ≡ strikes_of old a
 kept-strikes old new a kept last = ap (drop a.first) (sym (take-take a.last (length old) new last) ∙ ap (take a.last) kept)
 
+-- a list of strikes that keeps the old ones is at least as long
 pub kept-longer : (old new : List Strike) → take (length old) new ≡ old → length old ≤ length new
 kept-longer old new kept = omega (arith, ap length kept, length-take (length old) new)
 
+-- strikes that are kept twice, when others are put after them, are kept
 pub kept-twice : (a b c : List Strike) → take (length a) b ≡ a → take (length b) c ≡ b → take (length a) c ≡ a
 kept-twice a b c one two =
     sym (take-take (length a) (length b) c (kept-longer a b one)) ∙ ap (take (length a)) two ∙ one
 
+-- an account owes the same when strikes are put after the others
 pub kept-owes : (gains : Gains) (old new : List Strike) (a : Account) (k : ℕ) → take (length old) new ≡ old → a.last ≤ length old →
     owes_at gains new a k ≡ owes_at gains old a k
 unfolding owes_at
 kept-owes gains old new a k kept last =
     ap (λ own. nat_le a.start k && (nat_lt k a.end && not (is_gone gains own k))) (kept-strikes old new a kept last)
 
+-- the debts of an account stay when strikes are put after the others
 pub kept-debts : (gains : Gains) (old new : List Strike) (a : Account) → take (length old) new ≡ old → a.last ≤ length old →
     account_debts gains new a ≡ account_debts gains old a
 unfolding account_debts
@@ -46,6 +51,7 @@ kept-debts gains old new a kept last =
     listed-same (owes_at gains new a) (must_at gains a) (owes_at gains old a) (must_at gains a) 0 (entries_of gains)
     (λ k from below. (kept-owes gains old new a k kept last, refl))
 
+-- an account stays one when strikes are put after the others
 pub kept-account : (gains : Gains) (old new : List Strike) (a : Account) → take (length old) new ≡ old → IsAccount gains old a → IsAccount gains new a
 kept-account gains old new a kept is =
     let last = is.last in
@@ -87,17 +93,20 @@ pub soft-must : (gains : Gains) (a b : Account) (k : ℕ) → b.soft ≡ a.soft 
 unfolding must_at
 soft-must gains a b k soft = ap (λ s. holds gains.musts 0 k && nat_le s k) soft
 
--- a gain below `soft` need not be sent
+-- where n is below m, the test of m ≤ n fails
 le-no : (m n : ℕ) → n < m → nat_le m n ≡ false
 le-no m n is = grind (arith, nat_tests)
 
+-- where m is at most n, the test of m ≤ n passes
 le-yes : (m n : ℕ) → m ≤ n → nat_le m n ≡ true
 le-yes m n is = grind (arith, nat_tests)
 
+-- a gain below `soft` need not be sent
 pub must-below : (gains : Gains) (a : Account) (k : ℕ) → k < a.soft → false ≡ must_at gains a k
 unfolding must_at
 must-below gains a k low = sym (ap (λ b. holds gains.musts 0 k && b) (le-no a.soft k low) ∙ and-false (holds gains.musts 0 k))
 
+-- a gain from `soft` on must be sent if it must be as it was gained
 pub must-from : (gains : Gains) (a : Account) (k : ℕ) → a.soft ≤ k → holds gains.musts 0 k ≡ must_at gains a k
 unfolding must_at
 must-from gains a k high = sym (ap (λ b. holds gains.musts 0 k && b) (le-yes a.soft k high) ∙ and-true (holds gains.musts 0 k))
@@ -106,17 +115,19 @@ must-from gains a k high = sym (ap (λ b. holds gains.musts 0 k && b) (le-yes a.
     and-true true = refl
     and-true false = refl
 
--- an account owes nothing at its end or after it
+-- `a && false && x` is false
 and-false-middle : (a x : Bool) → (a && (false && x)) ≡ false
 and-false-middle true x = refl
 and-false-middle false x = refl
 
+-- an account owes nothing at its end or after it
 pub past-end : (gains : Gains) (strikes : List Strike) (a : Account) (k : ℕ) → a.end ≤ k → owes_at gains strikes a k ≡ false
 unfolding owes_at
 past-end gains strikes a k past =
     ap (λ b. nat_le a.start k && (b && not (is_gone gains (strikes_of strikes a) k))) (lt-no k a.end past)
     ∙ and-false-middle (nat_le a.start k) (not (is_gone gains (strikes_of strikes a) k))
 
+-- what an account owes lies below its end
 pub owed-within : (gains : Gains) (strikes : List Strike) (a : Account) (k : ℕ) → owes_at gains strikes a k ≡ true → k < a.end
 owed-within gains strikes a k is = elim (cases_lt k a.end) [
   | inl below ↦ below
@@ -145,15 +156,18 @@ gone-over : (old new : Gains) (own : List Strike) (k : ℕ) → entry_at (entrie
 unfolding is_gone
 gone-over old new own k entry left = ap₂ (λ (l : Bool) (e : Entry). not l || is_struck own e.message k) left entry
 
+-- where an entry is the same among old and new gains, and is left in both or in neither, an account owes it in both or in neither
 owes-over : (old new : Gains) (strikes : List Strike) (a : Account) (k : ℕ) → entry_at (entries_of new) k ≡ entry_at (entries_of old) k → is_left new k ≡ is_left old k →
     owes_at new strikes a k ≡ owes_at old strikes a k
 unfolding owes_at
 owes-over old new strikes a k entry left = ap (λ b. nat_le a.start k && (nat_lt k a.end && not b)) (gone-over old new (strikes_of strikes a) k entry left)
 
+-- a gain whose entry is the same, and under whose message the same places stand, is left in both or in neither
 left-over : (old new : Gains) (k : ℕ) → entry_at (entries_of new) k ≡ entry_at (entries_of old) k → ((m : ℕ) → holds new.messages m k ≡ holds old.messages m k) → is_left new k ≡ is_left old k
 unfolding is_left
 left-over old new k entry messages = messages (entry_at (entries_of new) k).message ∙ ap (λ (e : Entry). holds old.messages e.message k) entry
 
+-- a gain whose place stands under no message is not left
 not-left : (gains : Gains) (k : ℕ) → ((m : ℕ) → holds gains.messages m k ≡ false) → is_left gains k ≡ false
 unfolding is_left
 not-left gains k none = none (entry_at (entries_of gains) k).message
@@ -163,6 +177,7 @@ pub record OwesAlike (old new : Gains) (strikes : List Strike) (a : Account) : T
   pub owes : (k : ℕ) → owes_at new strikes a k ≡ owes_at old strikes a k
   pub same : (k : ℕ) → owes_at old strikes a k ≡ true → (entry_at (entries_of new) k ≡ entry_at (entries_of old) k) × (holds new.musts 0 k ≡ holds old.musts 0 k)
 
+-- an account that owes alike over old and new gains has the same debts
 over-debts : (old new : Gains) (strikes : List Strike) (a : Account) → length (entries_of new) ≡ length (entries_of old) → OwesAlike old new strikes a →
     account_debts new strikes a ≡ account_debts old strikes a
 unfolding account_debts must_at
@@ -178,6 +193,7 @@ over-debts old new strikes a long alike =
       ap (λ n. holds new.musts 0 n && nat_le a.soft n) here ∙ ap (λ b. b && nat_le a.soft j) both.1 ∙ ap (λ n. holds old.musts 0 n && nat_le a.soft n) (sym here),
     ))
 
+-- an account that owes alike over old and new gains stays one
 over-account : (old new : Gains) (strikes : List Strike) (a : Account) → length (entries_of new) ≡ length (entries_of old) → OwesAlike old new strikes a → IsAccount old strikes a →
     IsAccount new strikes a
 over-account old new strikes a long alike is =
@@ -194,6 +210,7 @@ over-account old new strikes a long alike is =
       print = is.print ∙ ap debts_print (sym (over-debts old new strikes a long alike));
     }
 
+-- accounts that owe alike over old and new gains stay accounts, with the same debts
 pub over-all : (old new : Gains) (strikes : List Strike) (rows : List Account) → length (entries_of new) ≡ length (entries_of old) → All (OwesAlike old new strikes) rows →
     All (IsAccount old strikes) rows → All (IsAccount new strikes) rows × (accounts_debts new strikes rows ≡ accounts_debts old strikes rows)
 unfolding accounts_debts
@@ -270,6 +287,7 @@ grown-owes old new debt strikes a k gain end = elim (cases_lt k a.end) [
   | inr past ↦ past-end new strikes a k past ∙ sym (past-end old strikes a k past)
 ]
 
+-- an account that ends before a new gain has the debts that it had
 pub grown-debts_of : (old new : Gains) (debt : Debt) (strikes : List Strike) (a : Account) → IsGain debt old new → a.end ≤ length (entries_of old) →
     account_debts new strikes a ≡ account_debts old strikes a
 unfolding account_debts must_at
@@ -283,6 +301,7 @@ grown-debts_of old new debt strikes a gain end =
     (λ k from below. let other : k ≢ length entries = omega (arith, below) in
     (grown-owes old new debt strikes a k gain end, ap (λ b. b && nat_le a.soft k) (gain.musts k other)))
 
+-- an account stays one when a gain comes
 pub grown-account : (old new : Gains) (debt : Debt) (strikes : List Strike) (a : Account) → IsGain debt old new → IsAccount old strikes a → IsAccount new strikes a
 grown-account old new debt strikes a gain is =
     let entries = entries_of old in
@@ -301,6 +320,7 @@ grown-account old new debt strikes a gain is =
       print = is.print ∙ ap debts_print (sym (grown-debts_of old new debt strikes a gain end));
     }
 
+-- accounts stay accounts, with the debts that they had, when a gain comes
 pub grown-all : (old new : Gains) (debt : Debt) (strikes : List Strike) (rows : List Account) → IsGain debt old new → All (IsAccount old strikes) rows →
     All (IsAccount new strikes) rows × (accounts_debts new strikes rows ≡ accounts_debts old strikes rows)
 unfolding accounts_debts
@@ -319,10 +339,12 @@ unfolding accounts_debts
 row-debts gains strikes rows row a within is =
     get_or-map (account_debts gains strikes) rows row a [] within ∙ ap (account_debts gains strikes) (sym is)
 
+-- what stands in a row is an account, where all are
 pub row-account : (gains : Gains) (strikes : List Strike) (rows : List Account) (row : ℕ) (a : Account) → row < length rows → a ≡ get_or rows row a → All (IsAccount gains strikes) rows →
     IsAccount gains strikes a
 row-account gains strikes rows row a within is each = subst (IsAccount gains strikes) (sym is) (All-get_or (IsAccount gains strikes) rows row a within each)
 
+-- there are as many lists of debts as rows
 pub debts-length : (gains : Gains) (strikes : List Strike) (rows : List Account) → length (accounts_debts gains strikes rows) ≡ length rows
 unfolding accounts_debts
 debts-length gains strikes rows = length-map rows (account_debts gains strikes)
@@ -340,6 +362,7 @@ empty-debts gains strikes a none =
     le-not : (m n : ℕ) → n < m → nat_le m n ≡ false
     le-not m n is = grind (arith, nat_tests)
 
+-- the account that owes nothing is one over any gains
 pub empty-account : (gains : Gains) (strikes : List Strike) → IsAccount gains strikes (record { start = 0; end = 0; soft = 0; first = 0; last = 0; print = 0 })
 unfolding is_struck debts_print
 empty-account gains strikes =
@@ -355,7 +378,7 @@ empty-account gains strikes =
       print = sym (ap debts_print (empty-debts gains strikes a (omega arith)));
     }
 
--- all are accounts when one account is put after the others, or when some are left out
+-- accounts are accounts still when one more is put after them, and it owes what it owed
 pub pushed : (gains : Gains) (strikes : List Strike) (rows : List Account) (a : Account) → AreAccounts gains strikes rows → IsAccount gains strikes a →
     AreAccounts gains strikes (rows ++ a ∷ []) × (accounts_debts gains strikes (rows ++ a ∷ []) ≡ accounts_debts gains strikes rows ++ account_debts gains strikes a ∷ [])
 unfolding accounts_debts
@@ -364,6 +387,7 @@ pushed gains strikes rows a are is = (
   map-append (account_debts gains strikes) rows (a ∷ []),
 )
 
+-- the first n accounts are accounts, and have the first n lists of debts
 pub truncated : (gains : Gains) (strikes : List Strike) (rows : List Account) (n : ℕ) → AreAccounts gains strikes rows →
     AreAccounts gains strikes (take n rows) × (accounts_debts gains strikes (take n rows) ≡ take n (accounts_debts gains strikes rows))
 unfolding accounts_debts
@@ -372,6 +396,7 @@ truncated gains strikes rows n are = (
   sym (take-map (account_debts gains strikes) n rows),
 )
 
+-- the accounts after the first n are accounts, and have the lists of debts after the first n
 pub without-first_rows : (gains : Gains) (strikes : List Strike) (rows : List Account) (n : ℕ) → AreAccounts gains strikes rows →
     AreAccounts gains strikes (drop n rows) × (accounts_debts gains strikes (drop n rows) ≡ drop n (accounts_debts gains strikes rows))
 unfolding accounts_debts

@@ -1,16 +1,14 @@
 -- An account drops what is past, place by place.
-use Rattle.std.proofs.Common.{◌≡◌, ◌≢◌, ℕ, ◌+◌, ◌<◌, ◌≤◌, ◌==◌, ◌&&◌, ◌||◌, Bool, true, false, not, List, [], ◌∷◌, length, take, get_or, filter, refl, sym, ap, ap₂, ◌∙◌, subst, inl, inr, arith}
-use Rattle.std.specs.Prelude.{nat_le, nat_lt}
-use Rattle.std.proofs.Math.Bool.{and-false, or-false}
+use Rattle.std.proofs.Common.{◌≡◌, ◌≢◌, ℕ, ◌+◌, ◌<◌, ◌≤◌, ◌&&◌, ◌||◌, Bool, true, false, List, length, take, get_or, filter, refl, sym, ap, ap₂, ◌∙◌, subst, inl, inr, arith}
+use Rattle.std.specs.Prelude.{nat_le}
+use Rattle.std.proofs.Math.Bool.{and-false}
 use Rattle.std.proofs.lemmas.Bool.{cases_eq, cases_lt}
-use Rattle.std.proofs.lemmas.Bool.Decides.{nat_tests}
 use Rattle.std.proofs.lemmas.List.{get_or_default}
 use Rattle.sip_ledger.specs.declared.debt.Entry.{Entry}
 use Rattle.sip_ledger.specs.declared.accounts.account.Account.{Account}
 use Rattle.sip_ledger.specs.declared.accounts.gains.Gains.{Gains}
 use Rattle.sip_ledger.specs.declared.accounts.strikes.Strike.{Strike}
 use Rattle.sip_ledger.specs.Debts.{counts_at}
-use Rattle.sip_ledger.specs.Rows.{debts_from}
 use Rattle.sip_ledger.specs.inner.Accounts.{AreGains, IsAccount, IsExpiredTo, IsKept, IsWithout, account_debts, entries_of, entry_at, must_at, owes_at}
 use Rattle.sip_ledger.proofs.places.LeftLemmas.{entries-long, rising-kept}
 use Rattle.sip_ledger.proofs.debts.ListedLemmas.{listed-counting, listed-same, no_entry}
@@ -21,9 +19,11 @@ use Rattle.sip_ledger.proofs.places.WithoutLemmas.{before-start, le-no, le-yes}
 abbrev counting : ℕ → List Entry → (ℕ → Bool) → (ℕ → Bool) → ℕ → Bool
 counting t entries m o k = o k && (m k || nat_le t (entry_at entries k).deadline)
 
+-- what is not owed is not owed once what is past is dropped
 unowed : (t : ℕ) (entries : List Entry) (m o o' : ℕ → Bool) (k : ℕ) → o' k ≡ o k → o k ≡ false → o' k ≡ counting t entries m o k
 unowed t entries m o o' k same none = same ∙ none ∙ sym (ap (λ b. b && (m k || nat_le t (entry_at entries k).deadline)) none)
 
+-- what is owed and counts still is owed once what is past is dropped
 counted : (t : ℕ) (entries : List Entry) (m o o' : ℕ → Bool) (k : ℕ) → o' k ≡ o k → (m k || nat_le t (entry_at entries k).deadline) ≡ true → o' k ≡ counting t entries m o k
 counted t entries m o o' k same counts = same ∙ sym (ap (λ b. o k && b) counts ∙ and-true (o k))
   where
@@ -31,6 +31,7 @@ counted t entries m o o' k same counts = same ∙ sym (ap (λ b. o k && b) count
     and-true true = refl
     and-true false = refl
 
+-- IsExpiredTo holds at the start of an account: nothing is owed before it
 pub expired-start : (t : ℕ) (gains : Gains) (strikes : List Strike) (m : ℕ → Bool) (a : Account) →
     IsExpiredTo t (entries_of gains) m (owes_at gains strikes a) (owes_at gains strikes a) a.start
 expired-start t gains strikes m a = record {
@@ -49,6 +50,7 @@ stays t entries m o o' place was here = record {
   later = λ k late. was.later k (omega (arith, late));
 }
 
+-- IsExpiredTo goes on over a gain whose deadline is not past
 pub stays-early : (t : ℕ) (entries : List Entry) (m o o' : ℕ → Bool) (place : ℕ) → IsExpiredTo t entries m o o' place → t ≤ (entry_at entries place).deadline →
     IsExpiredTo t entries m o o' (place + 1)
 stays-early t entries m o o' place was early =
@@ -59,11 +61,7 @@ stays-early t entries m o o' place was early =
     or-true true = refl
     or-true false = refl
 
-pub stays-unowed : (t : ℕ) (entries : List Entry) (m o o' : ℕ → Bool) (place : ℕ) → IsExpiredTo t entries m o o' place → o' place ≡ false → IsExpiredTo t entries m o o' (place + 1)
-stays-unowed t entries m o o' place was none =
-    let same = was.later place (omega arith) in
-    stays t entries m o o' place was (unowed t entries m o o' place same (sym same ∙ none))
-
+-- IsExpiredTo goes on over a gain that must be sent
 pub stays-must : (t : ℕ) (entries : List Entry) (m o o' : ℕ → Bool) (place : ℕ) → IsExpiredTo t entries m o o' place → m place ≡ true → IsExpiredTo t entries m o o' (place + 1)
 stays-must t entries m o o' place was must =
     stays t entries m o o' place was
@@ -97,6 +95,7 @@ finished gains old new a b t soft each =
     subst (λ n. owes_at gains new b n ≡ (owes_at gains old a n && (must_at gains a n || nat_le t (get_or (entries_of gains) j e).deadline))) here
     (each j below ∙ ap (λ (x : Entry). owes_at gains old a j && (must_at gains a j || nat_le t x.deadline)) (get_or_default (entries_of gains) j no_entry e below)))
 
+-- an account that has expired up to its end has the debts that count at t
 pub expired-end : (gains : Gains) (old new : List Strike) (a b : Account) (t place : ℕ) → b.soft ≡ a.soft → b.end ≤ place →
     IsExpiredTo t (entries_of gains) (must_at gains a) (owes_at gains old a) (owes_at gains new b) place →
     account_debts gains new b ≡ filter (counts_at t) (account_debts gains old a)

@@ -17,7 +17,7 @@ use Rattle.sip_ledger.specs.inner.Accounts.{IsAccount, IsFirstPayable, IsWithout
 use Rattle.sip_ledger.specs.inner.Indexes.{holds}
 use Rattle.sip_ledger.proofs.places.LeftLemmas.{gone-left, gone-struck, held-left, owed-left}
 use Rattle.sip_ledger.proofs.debts.ListedLemmas.{no_entry, listed-All}
-use Rattle.sip_ledger.proofs.grids.RowLemmas.{listed-any, removed}
+use Rattle.sip_ledger.proofs.debts.RowLemmas.{listed-any, removed}
 use Rattle.sip_ledger.proofs.debts.PayLemmas.{paid-is, unpaid-is}
 use Rattle.sip_ledger.proofs.places.AccountLemmas.{owed-within, soft-must}
 
@@ -32,6 +32,7 @@ late-unpaid entries message t k late = ap (λ b. (entry_at entries k).message ==
     le-no : (m n : ℕ) → n < m → nat_le m n ≡ false
     le-no m n is = grind (arith, nat_tests)
 
+-- a send pays a gain of its message that is not past
 pub named-pays : (entries : List Entry) (message t k : ℕ) → (entry_at entries k).message ≡ message → t ≤ (entry_at entries k).deadline → pays_at entries message t k ≡ true
 named-pays entries message t k is early = ap₂ (λ a b. a && b) (eq-eqb (entry_at entries k).message message is) (le-yes t (entry_at entries k).deadline early)
   where
@@ -54,7 +55,7 @@ struck-unowed gains strikes a k struck =
 abbrev pub NonePays : List Entry → (ℕ → Bool) → ℕ → ℕ → ℕ → Type 0
 NonePays entries owes message t to = (k : ℕ) → k < to → owes k ≡ true → pays_at entries message t k ≡ false
 
--- NonePays goes on from one place to another where the message is left at no place between, or is struck at all of them
+-- NonePays goes on from one place to another where the message is left at no place between
 pub none-pays_to : (gains : Gains) (strikes : List Strike) (a : Account) (message t from at : ℕ) → NonePays (entries_of gains) (owes_at gains strikes a) message t from →
     ((k : ℕ) → from ≤ k → k < at → holds gains.messages message k ≡ false) → NonePays (entries_of gains) (owes_at gains strikes a) message t at
 none-pays_to gains strikes a message t from at before others k early owed = elim (cases_lt k from) [
@@ -65,6 +66,7 @@ none-pays_to gains strikes a message t from at before others k early owed = elim
   ]
 ]
 
+-- NonePays goes on over places at which the message is struck
 pub none-pays_struck : (gains : Gains) (strikes : List Strike) (a : Account) (message t at to : ℕ) → NonePays (entries_of gains) (owes_at gains strikes a) message t at →
     ((k : ℕ) → at ≤ k → k < to → is_struck (strikes_of strikes a) message k ≡ true) → NonePays (entries_of gains) (owes_at gains strikes a) message t to
 none-pays_struck gains strikes a message t at to before struck k early owed = elim (cases_lt k at) [
@@ -75,6 +77,7 @@ none-pays_struck gains strikes a message t at to before struck k early owed = el
   ]
 ]
 
+-- NonePays goes on over a gain that is past
 pub none-pays_late : (entries : List Entry) (owes : ℕ → Bool) (message t at : ℕ) → NonePays entries owes message t at → (entry_at entries at).deadline < t →
     NonePays entries owes message t (at + 1)
 none-pays_late entries owes message t at before late k early owed = elim (cases_eq k at) [
@@ -95,6 +98,7 @@ owed-here gains strikes a at low high free =
     lt-yes : (m n : ℕ) → m < n → nat_lt m n ≡ true
     lt-yes m n is = grind (arith, nat_tests)
 
+-- the first gain of the message that is left, not struck and not past is the first debt that a send pays
 pub first-payable : (gains : Gains) (strikes : List Strike) (a : Account) (message t at : ℕ) → NonePays (entries_of gains) (owes_at gains strikes a) message t at → a.start ≤ at → at < a.end →
     (entry_at (entries_of gains) at).message ≡ message → holds gains.messages message at ≡ true → is_struck (strikes_of strikes a) message at ≡ false → t ≤ (entry_at (entries_of gains) at).deadline →
     IsFirstPayable (entries_of gains) (owes_at gains strikes a) message t at
@@ -117,6 +121,7 @@ paid-account gains old new a b message t place is found without soft =
     (λ k other. soft-must gains a b k soft) found.pays
     (λ k early owed pays. true≢false (sym pays ∙ found.before k early owed)) refl)
 
+-- where a send pays nothing that an account owes, it pays none of its debts
 pub unpaid-account : (gains : Gains) (strikes : List Strike) (a : Account) (message t : ℕ) →
     ((k : ℕ) → owes_at gains strikes a k ≡ true → pays_at (entries_of gains) message t k ≡ false) →
     All (λ debt. ¬ (IsTrue (is_payable message t debt))) (account_debts gains strikes a)

@@ -15,6 +15,7 @@ unfolding is_left
 left-as old new k same messages =
     ap (λ (e : Entry). holds new.messages e.message k) same ∙ messages (entry_at (entries_of old) k).message
 
+-- where nothing was gained, no flags are right flags
 pub flags-none : (gains : Gains) → gains.entries.items ≡ [] → gains.flags.items ≡ [] → AreFlags gains
 flags-none gains entries flags = record {
   many = ap length flags ∙ sym (ap length entries);
@@ -22,6 +23,7 @@ flags-none gains entries flags = record {
   must = λ k kept. let from = kept.from in let within = kept.within in absurd (omega (arith, from, within, ap length entries));
 }
 
+-- flags stay right where entries, flags and index stay the same
 pub flags-same : (old new : Gains) → AreFlags old → new.entries.items ≡ old.entries.items → new.flags.items ≡ old.flags.items → new.end ≡ old.end → AreSameGains old new → AreFlags new
 flags-same old new are entries flags end same =
     let some = ap length entries in

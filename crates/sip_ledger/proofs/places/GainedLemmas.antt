@@ -16,7 +16,7 @@ use Rattle.sip_ledger.specs.Rows.{debt_of, debts_from}
 use Rattle.sip_ledger.specs.inner.Accounts.{IsAccount, IsGain, IsNextGain, IsStruck, KeepsAccounts, account_debts, accounts_debts, entries_of, entry_at, is_gone, is_left, is_struck, must_at, owes_at, strikes_of}
 use Rattle.sip_ledger.specs.inner.Indexes.{holds}
 use Rattle.sip_ledger.proofs.debts.ListedLemmas.{listed-none}
-use Rattle.sip_ledger.proofs.grids.RowLemmas.{gained-debts}
+use Rattle.sip_ledger.proofs.debts.RowLemmas.{gained-debts}
 use Rattle.sip_ledger.proofs.places.LeftLemmas.{gone-left, gone-same, gone-struck, held-left}
 use Rattle.sip_ledger.proofs.places.AccountLemmas.{grown-all, owed-within, past-end}
 use Rattle.sip_ledger.proofs.places.WithoutLemmas.{before-start, le-no, le-yes, lt-yes, lt-no}
@@ -100,14 +100,17 @@ first-gain gains old new a b debt place is next none same print =
     (λ some. ap (owes_at gains new b) start ∙ here)
     print
 
+-- `x || (false && y)` is x
 or-no : (x y : Bool) → (x || (false && y)) ≡ x
 or-no true y = refl
 or-no false y = refl
 
+-- `x || true` is true
 or-yes : (x : Bool) → (x || (true && true)) ≡ true
 or-yes true = refl
 or-yes false = refl
 
+-- `x && y && false` is false
 no-more : (x y : Bool) → (x && (y && not true)) ≡ false
 no-more true true = refl
 no-more true false = refl
@@ -202,5 +205,6 @@ new-gain old new strikes a debt gain is =
       free = is.bound debt.message (length entries) (omega arith);
     }
 
+-- accounts keep what they owe when a gain comes
 pub gain-keeps : (old new : Gains) (debt : Debt) → IsGain debt old new → KeepsAccounts old new
 gain-keeps old new debt gain = record { each = λ strikes accounts are. grown-all old new debt strikes accounts gain are }

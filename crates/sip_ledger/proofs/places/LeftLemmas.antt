@@ -33,6 +33,7 @@ entry-kept gains k long kept =
     let from = kept.from in
     get_or-append_right (replicate dropped blank) gains.entries.items dropped k blank (length-replicate dropped blank) (omega (arith, from, long))
 
+-- the entry at an index of the kept gains is the one at its place
 pub entry-index : (gains : Gains) (k i : ℕ) (e : Entry) → length gains.entries.items ≤ gains.end → IsKept gains k → i + (gains.end - length gains.entries.items) ≡ k →
     e ≡ get_or gains.entries.items i e → e ≡ entry_at (entries_of gains) k
 entry-index gains k i e long kept here is =
@@ -41,11 +42,12 @@ entry-index gains k i e long kept here is =
     let at : i ≡ k - (gains.end - length gains.entries.items) = omega (arith, here) in
     is ∙ get_or_default gains.entries.items i e blank (omega (arith, here, within, from, long)) ∙ ap (λ n. get_or gains.entries.items n blank) at ∙ sym (entry-kept gains k long kept)
 
--- a gain that is left is kept, and stands under its message
+-- a gain that is left stands under its message
 pub left-place : (gains : Gains) (k : ℕ) → AreGains gains → is_left gains k ≡ true → IsPlaceOf gains (entry_at (entries_of gains) k).message k
 unfolding is_left
 left-place gains k are left = are.messages (entry_at (entries_of gains) k).message k left
 
+-- a gain that is left is kept
 pub left-kept : (gains : Gains) (k : ℕ) → AreGains gains → is_left gains k ≡ true → IsKept gains k
 left-kept gains k are left = (left-place gains k are left).kept
 
@@ -54,17 +56,19 @@ pub held-left : (gains : Gains) (m k : ℕ) → (entry_at (entries_of gains) k).
 unfolding is_left
 held-left gains m k is = sym (ap (λ n. holds gains.messages n k) is)
 
--- under no message stands a place at which nothing was gained, or whose gain is not kept
+-- under no message stands a place at which nothing was gained
 pub not-noted : (gains : Gains) (m k : ℕ) → AreGains gains → gains.end ≤ k → holds gains.messages m k ≡ false
 not-noted gains m k are past = false_from_ne_true (holds gains.messages m k) (λ is.
     let within = (are.messages m k is).kept.within in
     absurd (omega (arith, within, past)))
 
+-- under no message stands a place whose gain was dropped
 pub not-kept : (gains : Gains) (m k : ℕ) → AreGains gains → k + length gains.entries.items < gains.end → holds gains.messages m k ≡ false
 not-kept gains m k are early = false_from_ne_true (holds gains.messages m k) (λ is.
     let from = (are.messages m k is).kept.from in
     absurd (omega (arith, from, early)))
 
+-- no place from the end on is among those of what must be sent
 pub not-must : (gains : Gains) (k : ℕ) → AreGains gains → gains.end ≤ k → holds gains.musts 0 k ≡ false
 not-must gains k are past = false_from_ne_true (holds gains.musts 0 k) (λ is.
     let within = are.musts k is in
@@ -96,6 +100,7 @@ none-gained gains entries flags end messages musts = record {
   flags = flags-none gains entries flags;
 }
 
+-- where nothing was gained there are no entries
 pub none-entries : (gains : Gains) → gains.entries.items ≡ [] → gains.end ≡ 0 → entries_of gains ≡ []
 unfolding entries_of
 none-entries gains entries end = ap₂ (λ (n : ℕ) (l : List Entry). replicate (n - length l) blank ++ l) end entries
@@ -114,11 +119,12 @@ rising-kept gains i k are rises kept order within =
     let other = ap (λ (e : Entry). e.deadline) (entry-kept gains k long kept_k) in
     omega (arith, above, one, other)
 
--- a gain that is not left is gone, and one that is left is gone exactly if it is struck
+-- a gain that is not left is gone
 pub gone-unleft : (gains : Gains) (own : List Strike) (k : ℕ) → is_left gains k ≡ false → is_gone gains own k ≡ true
 unfolding is_gone
 gone-unleft gains own k none = ap (λ b. not b || is_struck own (entry_at (entries_of gains) k).message k) none
 
+-- a gain that is left is gone exactly if it is struck
 pub gone-left : (gains : Gains) (own : List Strike) (k : ℕ) → is_left gains k ≡ true → is_gone gains own k ≡ is_struck own (entry_at (entries_of gains) k).message k
 unfolding is_gone
 gone-left gains own k left = ap (λ b. not b || is_struck own (entry_at (entries_of gains) k).message k) left
@@ -135,6 +141,7 @@ gone-same gains own own' k same = by (is_left gains k) same
     by true same = same refl
     by false same = refl
 
+-- a gain that is struck if it is left is gone
 pub gone-struck : (gains : Gains) (own : List Strike) (k : ℕ) → (is_left gains k ≡ true → is_struck own (entry_at (entries_of gains) k).message k ≡ true) → is_gone gains own k ≡ true
 unfolding is_gone
 gone-struck gains own k struck = by (is_left gains k) struck
@@ -143,7 +150,7 @@ gone-struck gains own k struck = by (is_left gains k) struck
     by true struck = struck refl
     by false struck = refl
 
--- a gain that is not gone is left, and so is one that is owed
+-- a gain that is not gone is left
 pub not-gone : (gains : Gains) (own : List Strike) (k : ℕ) → is_gone gains own k ≡ false → is_left gains k ≡ true
 unfolding is_gone
 not-gone gains own k is = by (is_left gains k) is
@@ -152,6 +159,7 @@ not-gone gains own k is = by (is_left gains k) is
     by true is = refl
     by false is = sym is
 
+-- a gain that is owed is left
 pub owed-left : (gains : Gains) (strikes : List Strike) (a : Account) (k : ℕ) → owes_at gains strikes a k ≡ true → is_left gains k ≡ true
 unfolding owes_at
 owed-left gains strikes a k is = not-gone gains (strikes_of strikes a) k (last (nat_le a.start k) (nat_lt k a.end) (is_gone gains (strikes_of strikes a) k) is)
@@ -162,6 +170,7 @@ owed-left gains strikes a k is = not-gone gains (strikes_of strikes a) k (last (
     last true false z is = absurd (true≢false (sym is))
     last false y z is = absurd (true≢false (sym is))
 
+-- a gain that is not left is not owed
 pub unleft-unowed : (gains : Gains) (strikes : List Strike) (a : Account) (k : ℕ) → is_left gains k ≡ false → owes_at gains strikes a k ≡ false
 unleft-unowed gains strikes a k none = false_from_ne_true (owes_at gains strikes a k) (λ is. true≢false (sym (owed-left gains strikes a k is) ∙ none))
 

@@ -35,6 +35,7 @@ unowed-before gains strikes a place k from early = elim (cases_lt a.start a.end)
   ]
 ]
 
+-- no account owes anything before the place from which on all start
 pub none-before : (gains : Gains) (strikes : List Strike) (rows : List Account) (place k : ℕ) → StartFrom place rows → k < place → All (λ a. owes_at gains strikes a k ≡ false) rows
 none-before gains strikes rows place k from early =
     All-weaker (λ (a : Account). a.start < a.end → place ≤ a.start) (λ a. owes_at gains strikes a k ≡ false) (λ a low. unowed-before gains strikes a place k low early) rows from
@@ -57,6 +58,7 @@ cleared-kept first old strikes rows from start place was begins low high within 
     let long = was.long in
     record { from = omega (arith, end, long, begins, low); within = omega (arith, high, within, end) }
 
+-- where the gain at the next place is let go, and all accounts start after it, the gains are cleared one place further
 pub cleared-more : (first old new : Gains) (strikes : List Strike) (rows : List Account) (start place : ℕ) → IsClearedTo place strikes rows first old → IsLetGo place old new → AreGains new →
     StartFrom start rows → place < start → IsClearedTo (place + 1) strikes rows first new
 cleared-more first old new strikes rows start place was gone are from early = record {
@@ -81,6 +83,7 @@ cleared-dropped first old new strikes rows place was dropped are =
 pub start-none : (rows : List Account) (place : ℕ) → StartFrom place (take 0 rows)
 start-none rows place = All-nil (λ (a : Account). a.start < a.end → place ≤ a.start)
 
+-- with one account more, all start from a place on that is neither above the one before nor above its own start
 pub start-more : (rows : List Account) (place lower at : ℕ) (d : Account) → at < length rows → StartFrom place (take at rows) → lower ≤ place →
     ((get_or rows at d).start < (get_or rows at d).end → lower ≤ (get_or rows at d).start) → StartFrom lower (take (at + 1) rows)
 start-more rows place lower at d within from below here =

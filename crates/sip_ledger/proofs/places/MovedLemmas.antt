@@ -28,13 +28,16 @@ struck-push : (xs : List Strike) (s : Strike) (m k : ℕ) → is_struck (xs ++ s
 unfolding is_struck
 struck-push xs s m k = list_any-append (is_out m k) xs (s ∷ []) ∙ ap (λ b. list_any (is_out m k) xs || b) (or-false (is_out m k s))
 
+-- one strike more strikes what the others did, and what it strikes itself
 struck-next : (xs : List Strike) (at m k : ℕ) (d : Strike) → at < length xs → is_struck (take (at + 1) xs) m k ≡ (is_struck (take at xs) m k || is_out m k (get_or xs at d))
 struck-next xs at m k d within = ap (λ l. is_struck l m k) (take_more xs at d within) ∙ struck-push (take at xs) (get_or xs at d) m k
 
+-- where `a || b` is false, a is
 or-left : (a b : Bool) → (a || b) ≡ false → a ≡ false
 or-left true b none = none
 or-left false b none = refl
 
+-- where `a || b` is false, b is
 or-right : (a b : Bool) → (a || b) ≡ false → b ≡ false
 or-right true b none = absurd (true≢false none)
 or-right false b none = none
@@ -87,12 +90,15 @@ appended-fewer gains from strikes old new at d within was free = record {
 out-from : (m sm from to k : ℕ) → (sm == m && (nat_le from k && nat_lt k to)) ≡ true → from ≤ k
 out-from m sm from to k is = grind (arith, nat_tests)
 
+-- what a strike strikes stands before its end
 out-to : (m sm from to k : ℕ) → (sm == m && (nat_le from k && nat_lt k to)) ≡ true → k < to
 out-to m sm from to k is = grind (arith, nat_tests)
 
+-- what a strike strikes is of its message
 out-of : (m sm from to k : ℕ) → (sm == m && (nat_le from k && nat_lt k to)) ≡ true → sm ≡ m
 out-of m sm from to k is = grind (arith, nat_tests)
 
+-- a strike strikes nothing that is left from the place on, where nothing of its message is left at its places from there on
 pub strikes-none : (gains : Gains) (place low : ℕ) (s : Strike) → low ≤ max s.from place → ((k : ℕ) → low ≤ k → k < s.to → holds gains.messages s.message k ≡ false) → StrikesNoneFrom gains place s
 strikes-none gains place low s within none k above left =
     let m = (entry_at (entries_of gains) k).message in
@@ -106,6 +112,7 @@ pub has-strikes : (gains : Gains) (strikes : List Strike) (rows : List Account) 
 has-strikes gains strikes rows each =
     All-weaker (IsAccount gains strikes) (HasStrikes strikes) (λ a is. record { first = is.first; last = is.last }) rows each
 
+-- an account whose strikes were written anew after the others is moved there
 pub is-moved : (gains : Gains) (strikes old new : List Strike) (a : Account) (first last : ℕ) → first ≡ length old → last ≡ length new →
     AreAppended gains a.start (strikes_of strikes a) old new →
     IsMoved gains strikes old new a (record { start = a.start; end = a.end; soft = a.soft; first = first; last = last; print = a.print })
@@ -124,6 +131,7 @@ is-moved gains strikes old new a first last begins ends appended =
           (sym (ap₂ (λ i n. from_to i n new) begins ends ∙ ap (drop (length old)) (take-length new ∙ is) ∙ drop-append_seam old more)) appended.thinned;
     }
 
+-- a moved account owes the same at each place
 moved-owes : (gains : Gains) (strikes old new : List Strike) (a b : Account) (k : ℕ) → IsMoved gains strikes old new a b → owes_at gains new b k ≡ owes_at gains strikes a k
 unfolding owes_at
 moved-owes gains strikes old new a b k moved =
@@ -135,12 +143,14 @@ moved-owes gains strikes old new a b k moved =
           ∙ ap (λ s. nat_le a.start k && (nat_lt k a.end && not s)) (gone-same gains (strikes_of strikes a) (strikes_of new b) k (λ left. moved.own.same k above left))
     ]
 
+-- a moved account has the same debts
 moved-debts : (gains : Gains) (strikes old new : List Strike) (a b : Account) → IsMoved gains strikes old new a b → account_debts gains new b ≡ account_debts gains strikes a
 unfolding account_debts
 moved-debts gains strikes old new a b moved =
     listed-same (owes_at gains new b) (must_at gains b) (owes_at gains strikes a) (must_at gains a) 0 (entries_of gains)
     (λ k from below. (moved-owes gains strikes old new a b k moved, soft-must gains a b k moved.soft))
 
+-- a moved account is an account over the new strikes
 moved-account : (gains : Gains) (strikes old new : List Strike) (a b : Account) → IsMoved gains strikes old new a b → IsAccount gains strikes a → IsAccount gains new b
 moved-account gains strikes old new a b moved is =
     let start = moved.start in
@@ -160,11 +170,12 @@ moved-account gains strikes old new a b moved is =
       print = moved.print ∙ is.print ∙ ap debts_print (sym (moved-debts gains strikes old new a b moved));
     }
 
--- AreMoved holds of no accounts, and goes on with one account more
+-- AreMoved holds of no accounts
 pub moved-none : (gains : Gains) (strikes : List Strike) (rows : List Account) → AreMoved gains strikes (take 0 rows) [] []
 unfolding accounts_debts
 moved-none gains strikes rows = record { each = All-nil (IsAccount gains []); debts = refl }
 
+-- AreMoved goes on with one account more, once it is moved
 pub moved-more : (gains : Gains) (strikes old new : List Strike) (rows rows' : List Account) (at : ℕ) (d b : Account) → at < length rows → AreMoved gains strikes (take at rows) old rows' →
     IsMoved gains strikes old new (get_or rows at d) b → All (IsAccount gains strikes) rows → AreMoved gains strikes (take (at + 1) rows) new (rows' ++ b ∷ [])
 unfolding accounts_debts
@@ -184,5 +195,6 @@ pub on-false : {P : Type 0} (b : Bool) → (b ≡ false → P) → OnFalse b P
 on-false true p = tt
 on-false false p = p refl
 
+-- where the test of m < n fails, n is at most m
 pub lt-not : (m n : ℕ) → nat_lt m n ≡ false → n ≤ m
 lt-not m n is = grind (arith, nat_tests)

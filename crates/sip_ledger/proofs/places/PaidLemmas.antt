@@ -24,16 +24,20 @@ is_paid message t owes = list_any (is_payable message t) owes && is_timely t owe
 abbrev pub left_by : ℕ → ℕ → List Debt → List Debt
 left_by message t owes = filter (counts_at t) (paid_by message t owes)
 
+-- a row that is not paid is left out
 unpaid-row : (message t : ℕ) (owes : List Debt) → is_paid message t owes ≡ false → [] ≡ paid_rows message t (owes ∷ [])
 unpaid-row message t owes is = ap (λ b. map (left_by message t) (cond b (owes ∷ []) [])) (sym is)
 
+-- a row that must send something that is past is left out
 pub late-row : (message t : ℕ) (owes : List Debt) → is_timely t owes ≡ false → [] ≡ paid_rows message t (owes ∷ [])
 late-row message t owes late =
     unpaid-row message t owes (ap (λ b. list_any (is_payable message t) owes && b) late ∙ and-false (list_any (is_payable message t) owes))
 
+-- a row with no debt that the send pays is left out
 pub other-row : (message t : ℕ) (owes : List Debt) → list_any (is_payable message t) owes ≡ false → [] ≡ paid_rows message t (owes ∷ [])
 other-row message t owes none = unpaid-row message t owes (ap (λ b. b && is_timely t owes) none)
 
+-- a row that is paid stands there with what is left to it
 pub paid-row : (message t : ℕ) (owes debts : List Debt) → list_any (is_payable message t) owes ≡ true → is_timely t owes ≡ true → debts ≡ left_by message t owes →
     debts ∷ [] ≡ paid_rows message t (owes ∷ [])
 paid-row message t owes debts some timely same =
@@ -48,6 +52,7 @@ paid-more message t from k rows low within =
     ap (map (left_by message t)) (passing-more (is_paid message t) from k rows [] low within)
     ∙ map-append (left_by message t) (filter (is_paid message t) (from_to from k rows)) (cond (is_paid message t o) (o ∷ []) [])
 
+-- the paid rows up to the next one are those up to this one, and this one if it is paid
 next-left : (message t from k : ℕ) (old : List (List Debt)) (owes : List Debt) (d : List (List Debt)) → d ≡ paid_rows message t (owes ∷ []) → owes ≡ owed_in old k → from ≤ k →
     k < length old → paid_rows message t (from_to from k old) ++ d ≡ paid_rows message t (from_to from (k + 1) old)
 next-left message t from k old owes d debts same low within =
@@ -65,6 +70,7 @@ row-there gains message t from k row old strikes rows are within =
     let seen = old ++ paid_rows message t (from_to from k old) in
     row-inside gains strikes rows seen row are.debts (omega (arith, within, length-append old (paid_rows message t (from_to from k old))))
 
+-- a row of the old ones is one of the accounts, with the debts that it had
 pub account-there : (gains : Gains) (message t from k row : ℕ) (old : List (List Debt)) (strikes : List Strike) (rows : List Account) (a : Account) →
     ArePaidTo gains message t from k old strikes rows → row < length old → a ≡ get_or rows row a → IsAccount gains strikes a × (account_debts gains strikes a ≡ owed_in old row)
 account-there gains message t from k row old strikes rows a are within is =

@@ -12,6 +12,7 @@ pub on-is : {P : Type 0} (b : Bool) → (b ≡ true → P) → OnTrue b P
 on-is true p = p refl
 on-is false p = tt
 
+-- where the test of m ≤ n passes, m is at most n
 pub le-is : (m n : ℕ) → nat_le m n ≡ true → m ≤ n
 le-is m n is = grind (arith, nat_tests)
 

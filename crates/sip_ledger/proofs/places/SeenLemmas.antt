@@ -16,7 +16,7 @@ use Rattle.sip_ledger.specs.Debts.{is_payable, softened_debt}
 use Rattle.sip_ledger.specs.Rows.{debts_from}
 use Rattle.sip_ledger.specs.inner.Accounts.{AreAccounts, AreGains, IsAccount, IsFirstPayable, KeepsAccounts, account_debts, accounts_debts, entries_of, must_at, owes_at, pays_at}
 use Rattle.sip_ledger.proofs.debts.ListedLemmas.{listed-same, listed-softened, no_entry}
-use Rattle.sip_ledger.proofs.grids.RowLemmas.{listed-any, some-debt}
+use Rattle.sip_ledger.proofs.debts.RowLemmas.{listed-any, some-debt}
 use Rattle.sip_ledger.proofs.places.AccountLemmas.{changed, debts-length, empty-debts, kept-all, must-below, over, owed-within, pushed, row-account, row-debts}
 use Rattle.sip_ledger.proofs.places.FindLemmas.{unpaid-account}
 
@@ -25,6 +25,7 @@ pub on-error : {T E P : Type 0} (r : Result T E) → IsErr r → P → OnErr r P
 on-error (Ok x) is p = tt
 on-error (Err e) is p = p
 
+-- what is said of an error holds where there is one
 pub on-err : {T E : Type 0} (r : Result T E) (P : Type 0) → is_err r ≡ true → OnErr r P → P
 on-err (Ok x) P is p = absurd (true≢false (sym is))
 on-err (Err e) P is p = p
@@ -33,6 +34,7 @@ on-err (Err e) P is p = p
 pub row-inside : (gains : Gains) (strikes : List Strike) (rows : List Account) (seen : List (List Debt)) (row : ℕ) → accounts_debts gains strikes rows ≡ seen → row < length seen → row < length rows
 row-inside gains strikes rows seen row view inside = omega (arith, inside, ap length view, debts-length gains strikes rows)
 
+-- what stands in a row is an account, and its debts are those that contracts see there
 pub account-at : (gains : Gains) (strikes : List Strike) (rows : List Account) (seen : List (List Debt)) (row : ℕ) (a : Account) → AreAccounts gains strikes rows →
     accounts_debts gains strikes rows ≡ seen → row < length seen → a ≡ get_or rows row a → IsAccount gains strikes a × (account_debts gains strikes a ≡ owed_in seen row)
 account-at gains strikes rows seen row a are view inside is =
@@ -79,11 +81,13 @@ row-same seen row debts is = sym (ap (set seen row) is ∙ set-get_or seen row [
 abbrev pub softened_account : ℕ → Account → Account
 softened_account place a = record { start = a.start; end = a.end; soft = place; first = a.first; last = a.last; print = a.print }
 
+-- a softened account owes the same at each place
 soft-owes : (gains : Gains) (strikes : List Strike) (a : Account) (place k : ℕ) →
     owes_at gains strikes (softened_account place a) k ≡ owes_at gains strikes a k
 unfolding owes_at
 soft-owes gains strikes a place k = refl
 
+-- debts that need not be sent any more have the same worths
 soft-worths : (debts : List Debt) → sum_by (λ debt. worth_of debt.message debt.deadline) (map softened_debt debts) ≡ sum_by (λ debt. worth_of debt.message debt.deadline) debts
 soft-worths [] = refl
 soft-worths (debt ∷ debts) =
@@ -91,10 +95,12 @@ soft-worths (debt ∷ debts) =
     ∙ ap (λ n. worth_of debt.message debt.deadline + n) (soft-worths debts)
     ∙ sym (sum_by-cons (λ (d : Debt). worth_of d.message d.deadline) debt debts)
 
+-- debts that need not be sent any more have the same print
 soft-print : (debts : List Debt) → debts_print (map softened_debt debts) ≡ debts_print debts
 unfolding debts_print
 soft-print debts = ap (λ n. n % 2 ^ 64) (soft-worths debts)
 
+-- the debts of a softened account are the softened ones
 soft-debts : (gains : Gains) (strikes : List Strike) (a : Account) → account_debts gains strikes (softened_account (length (entries_of gains)) a) ≡ map softened_debt (account_debts gains strikes a)
 unfolding account_debts
 soft-debts gains strikes a =
@@ -104,6 +110,7 @@ soft-debts gains strikes a =
     (λ k from below. (soft-owes gains strikes a (length entries) k, sym (must-below gains b k (omega (arith, below)))))
     ∙ listed-softened (owes_at gains strikes a) (must_at gains a) (λ _. false) 0 entries (λ _. refl)
 
+-- a softened account is an account, and has the softened debts
 pub softened-account : (gains : Gains) (strikes : List Strike) (a : Account) → IsAccount gains strikes a →
     IsAccount gains strikes (softened_account (length (entries_of gains)) a) ×
     (account_debts gains strikes (softened_account (length (entries_of gains)) a) ≡ map softened_debt (account_debts gains strikes a))
@@ -122,7 +129,7 @@ softened-account gains strikes a is =
       debts,
     )
 
--- an account owes nothing where it ends as it starts
+-- an account that does not end where it starts owes something
 nothing-owed : (gains : Gains) (strikes : List Strike) (a : Account) → IsAccount gains strikes a → a.start ≢ a.end → account_debts gains strikes a ≢ []
 unfolding account_debts
 nothing-owed gains strikes a is other none =
@@ -131,6 +138,7 @@ nothing-owed gains strikes a is other none =
     let early : a.start < a.end = omega (arith, order, other) in
     some-debt (entries_of gains) (owes_at gains strikes a) (must_at gains a) a.start (omega (arith, early, end)) (is.begins early) none
 
+-- an account owes nothing exactly if it ends where it starts
 pub owes-nothing : (gains : Gains) (strikes : List Strike) (a : Account) (debts : List Debt) → IsAccount gains strikes a → account_debts gains strikes a ≡ debts →
     IsTrue (a.start == a.end) ↔ (debts ≡ [])
 owes-nothing gains strikes a debts is owes = (
@@ -141,13 +149,14 @@ owes-nothing gains strikes a debts is owes = (
   ],
 )
 
--- whether a send pays one of the debts of an account
+-- where none of the debts can be paid, the test of them fails
 none-payable : (message t : ℕ) (debts : List Debt) → All (λ debt. ¬ (IsTrue (is_payable message t debt))) debts → All (λ debt. is_payable message t debt ≡ false) debts
 none-payable message t [] none = All-nil (λ debt. is_payable message t debt ≡ false)
 none-payable message t (debt ∷ debts) none =
     All-cons (λ d. is_payable message t d ≡ false) debt debts (false_from_ne_true (is_payable message t debt) (All-head (λ d. ¬ (IsTrue (is_payable message t d))) debt debts none))
     (none-payable message t debts (All-tail (λ d. ¬ (IsTrue (is_payable message t d))) debt debts none))
 
+-- a send pays one of the debts of an account exactly if a first one is found
 pub can-pay : (gains : Gains) (strikes : List Strike) (a : Account) (message t : ℕ) (found : Option ℕ) → IsAccount gains strikes a →
     IfSome found (IsFirstPayable (entries_of gains) (owes_at gains strikes a) message t) →
     IfNone found ((k : ℕ) → owes_at gains strikes a k ≡ true → pays_at (entries_of gains) message t k ≡ false) →

@@ -1,18 +1,15 @@
 -- Which gains the strikes of an account strike, as strikes are made longer, written and looked for.
-use Rattle.std.proofs.Common.{◌≡◌, ◌≢◌, ℕ, zero, suc, ◌+◌, ◌-◌, ◌<◌, ◌≤◌, ◌==◌, ◌&&◌, ◌||◌, Bool, true, false, cond, List, [], ◌∷◌, ◌++◌, length, take, drop, get_or, set, filter, refl, sym, ap, ap₂, ◌∙◌, subst, inl, inr, arith}
+use Rattle.std.proofs.Common.{◌≡◌, ◌≢◌, ℕ, zero, suc, ◌+◌, ◌-◌, ◌<◌, ◌≤◌, ◌==◌, ◌&&◌, ◌||◌, Bool, true, false, cond, List, [], ◌∷◌, ◌++◌, length, take, drop, get_or, set, filter, refl, sym, ap, ap₂, ◌∙◌, subst, arith}
 use Rattle.std.specs.Prelude.{nat_le, nat_lt}
 use Rattle.std.specs.List.{list_any}
 use Rattle.std.proofs.Math.Bool.{or-false, or_assoc, or_comm}
-use Rattle.std.proofs.lemmas.Bool.{cases_eq, cases_lt, ne_eqb, true≢false}
+use Rattle.std.proofs.lemmas.Bool.{true≢false}
 use Rattle.std.proofs.lemmas.Bool.Decides.{nat_tests}
 use Rattle.std.proofs.lemmas.List.Folds.{list_any-append, list_any_at}
-use Rattle.std.proofs.lemmas.List.Elements.{filter-append}
-use Rattle.std.proofs.Math.Seq.{take-append_seam, drop-append_seam, take-length}
-use Rattle.std.proofs.lemmas.List.{drop_all, drop-append-le, drop-set-add, get_or_default, get_or-drop, length-drop, length-take, length-take-le, take-append-le, take-set-le, take_more}
-use Rattle.sip_ledger.specs.declared.debt.Entry.{Entry}
+use Rattle.std.proofs.Math.Seq.{take-append_seam, drop-append_seam}
+use Rattle.std.proofs.lemmas.List.{drop-append-le, drop-set-add, get_or_default, get_or-drop, length-drop, take-append-le, take-set-le, take_more}
 use Rattle.sip_ledger.specs.declared.accounts.account.Account.{Account}
 use Rattle.sip_ledger.specs.declared.accounts.strikes.Strike.{Strike}
-use Rattle.sip_ledger.specs.Ledgers.{from_to}
 use Rattle.sip_ledger.specs.declared.accounts.gains.Gains.{Gains}
 use Rattle.sip_ledger.specs.inner.Accounts.{IsStruck, IsWritten, Lengthens, Reaches, StrikeToo, entries_of, entry_at, is_left, is_struck, strikes_of, is_out}
 use Rattle.sip_ledger.proofs.places.LeftLemmas.{held-left}
@@ -25,6 +22,7 @@ ending start strikes = filter (λ s. nat_lt start s.to) strikes
 strike-past : (m k start : ℕ) (s : Strike) → start ≤ k → nat_lt start s.to ≡ false → is_out m k s ≡ false
 strike-past m k start s above past = grind (arith, nat_tests)
 
+-- strikes that end at the start or before it may be left out: the others strike the same from there on
 any-ending : (m k start : ℕ) (xs : List Strike) → start ≤ k → list_any (is_out m k) (ending start xs) ≡ list_any (is_out m k) xs
 any-ending m k start [] above = refl
 any-ending m k start (s ∷ xs) above = by (any-ending m k start xs above) (nat_lt start s.to) refl
@@ -79,9 +77,11 @@ longer-out m mp sm from to place k is low high between here = grind (arith, nat_
 one-out : (m mp place k : ℕ) → (k ≡ place → m ≡ mp) → (mp == m && (nat_le place k && nat_lt k (place + 1))) ≡ (k == place)
 one-out m mp place k here = grind (arith, nat_tests)
 
+-- a new strike of one place strikes nothing after it
 past-out : (m mp from place k : ℕ) → place < k → (mp == m && (nat_le from k && nat_lt k (place + 1))) ≡ false
 past-out m mp from place k past = grind (arith, nat_tests)
 
+-- where a strike is made longer by the place that it reaches, it strikes the gain there too, and no other that is left
 pub lengthened : (gains : Gains) (place k : ℕ) (old : List Strike) (at : ℕ) (s : Strike) → at < length old → Reaches gains place (get_or old at s) → is_left gains k ≡ true →
     is_struck (set old at (record { message = (get_or old at s).message; from = (get_or old at s).from; to = place + 1 })) (entry_at (entries_of gains) k).message k
     ≡ (is_struck old (entry_at (entries_of gains) k).message k || k == place)
@@ -96,6 +96,7 @@ lengthened gains place k old at s within reaches left =
     (λ is. ap (λ n. (entry_at (entries_of gains) n).message) is)
     ∙ ap (λ w. is_out m k w || k == place) (get_or_default old at s longer within))
 
+-- where a strike is made longer up to a place, nothing more is struck after the place
 pub lengthened-bound : (gains : Gains) (place m k : ℕ) (old : List Strike) (at : ℕ) (s : Strike) → place < k → is_struck old m k ≡ false →
     is_struck (set old at (record { message = (get_or old at s).message; from = (get_or old at s).from; to = place + 1 })) m k ≡ false
 unfolding is_struck
@@ -103,6 +104,7 @@ lengthened-bound gains place m k old at s past none =
     let was = get_or old at s in
     none-set (is_out m k) old at (record { message = was.message; from = was.from; to = place + 1 }) (past-out m was.message was.from place k past) none
 
+-- where a strike of one place is put after the others, the gain there is struck too, and no other
 pub added : (gains : Gains) (place k : ℕ) (old : List Strike) →
     is_struck (old ++ (record { message = (entry_at (entries_of gains) place).message; from = place; to = place + 1 }) ∷ []) (entry_at (entries_of gains) k).message k
     ≡ (is_struck old (entry_at (entries_of gains) k).message k || k == place)
@@ -114,6 +116,7 @@ added gains place k old =
     list_any-append (is_out m k) old (s ∷ [])
     ∙ ap (λ b. list_any (is_out m k) old || b) (or-false (is_out m k s) ∙ one-out m mp place k (λ is. ap (λ n. (entry_at (entries_of gains) n).message) is))
 
+-- where a strike of one place is put after the others, nothing more is struck after the place
 pub added-bound : (m mp place k : ℕ) (old : List Strike) → place < k → is_struck old m k ≡ false →
     is_struck (old ++ (record { message = mp; from = place; to = place + 1 }) ∷ []) m k ≡ false
 unfolding is_struck
@@ -122,10 +125,12 @@ added-bound m mp place k old past none =
     list_any-append (is_out m k) old (s ∷ [])
     ∙ ap₂ (λ a b. a || b) none (or-false (is_out m k s) ∙ past-out m mp place place k past)
 
+-- without the strikes that end at the start or before it, the same is struck from there on
 pub struck-ending : (m k start : ℕ) (xs : List Strike) → start ≤ k → is_struck (ending start xs) m k ≡ is_struck xs m k
 unfolding is_struck
 struck-ending m k start xs above = any-ending m k start xs above
 
+-- without the strikes that end at the start or before it, nothing more is struck
 pub bound-ending : (m k start : ℕ) (xs : List Strike) → is_struck xs m k ≡ false → is_struck (ending start xs) m k ≡ false
 unfolding is_struck
 bound-ending m k start xs none = none-ending (is_out m k) start xs none
@@ -168,16 +173,19 @@ more-too gains place first old new within is =
       bound = λ m' k past none. ap (λ x. is_struck x m' k) rest ∙ added-bound m' m place k (drop first old) past none;
     }
 
+-- no place lies from one place up to an earlier one
 none-between : (from to k : ℕ) → to ≤ from → (nat_le from k && nat_lt k to) ≡ false
 none-between from to k order = grind (arith, nat_tests)
 
+-- a place lies up to `at` or is `at` exactly if it lies up to the one after `at`
 one-more : (from at k : ℕ) → from ≤ at → ((nat_le from k && nat_lt k at) || k == at) ≡ (nat_le from k && nat_lt k (at + 1))
 one-more from at k low = grind (arith, nat_tests)
 
+-- a strike of no place adds nothing
 none-too : (from to k : ℕ) (w : Bool) → to ≤ from → w ≡ (w || (nat_le from k && nat_lt k to))
 none-too from to k w order = sym (ap (λ b. w || b) (none-between from to k order) ∙ or-false w)
 
--- IsWritten holds once the account's strikes are written, and goes on with the gain at the next place
+-- IsWritten holds once the account's strikes are written
 pub written-none : (gains : Gains) (from : ℕ) (old new : List Strike) (a : Account) → new ≡ old ++ ending a.start (strikes_of old a) → IsWritten gains from from old new a
 written-none gains from old new a is =
     let own = strikes_of old a in
@@ -190,6 +198,7 @@ written-none gains from old new a is =
       bound = λ m k past none. ap (λ l. is_struck l m k) rest ∙ bound-ending m k a.start own none;
     }
 
+-- IsWritten goes on with the gain at the next place, where it is struck too
 pub written-more : (gains : Gains) (from at : ℕ) (old one new : List Strike) (a : Account) → IsWritten gains from at old one a → StrikeToo gains at (length old) one new → from ≤ at →
     at < length (entries_of gains) → IsWritten gains from (at + 1) old new a
 written-more gains from at old one new a w too low inside = record {
@@ -200,23 +209,6 @@ written-more gains from at old one new a w too low inside = record {
       ∙ or_assoc was (nat_le from k && nat_lt k at) (k == at) ∙ ap (λ b. was || b) (one-more from at k low);
   bound = λ m k past none. too.bound m k (omega (arith, past, inside)) (w.bound m k past none);
 }
-
--- an account that has the written strikes as its own has the gains struck
-pub struck-own : (gains : Gains) (from to : ℕ) (old new : List Strike) (a b : Account) → IsWritten gains from to old new a →
-    b ≡ record a { first = length old; last = length new } → IsStruck gains from to old new a b
-struck-own gains from to old new a b w is =
-    let longer : length old ≤ length new = omega (arith, ap length w.kept, length-take (length old) new) in
-    let whole : strikes_of new b ≡ drop (length old) new = ap (λ (x : Account). strikes_of new x) is ∙ ap (drop (length old)) (take-length new) in
-    record {
-      start = ap (λ (x : Account). x.start) is;
-      end = ap (λ (x : Account). x.end) is;
-      soft = ap (λ (x : Account). x.soft) is;
-      print = ap (λ (x : Account). x.print) is;
-      first = subst (λ (x : Account). x.first ≤ x.last) (sym is) longer;
-      last = subst (λ (x : Account). x.last ≤ length new) (sym is) (omega arith);
-      struck = λ k above left. ap (λ own. is_struck own (entry_at (entries_of gains) k).message k) whole ∙ w.struck k above left;
-      bound = λ m k past none. ap (λ own. is_struck own m k) whole ∙ w.bound m k past none;
-    }
 
 -- where no gain stands between the end of an account and the place, the account as it is has them all struck
 pub struck-none : (gains : Gains) (place : ℕ) (strikes : List Strike) (a : Account) → a.first ≤ a.last → a.last ≤ length strikes → a.end ≡ place →
@@ -232,25 +224,12 @@ struck-none gains place strikes a first last here = record {
   bound = λ m k past none. none;
 }
 
--- the elements from one index up to another, and those up to the next index
-pub from_to-none : (xs : List Strike) (n : ℕ) → from_to n n xs ≡ []
-from_to-none xs n = drop_all n (take n xs) (omega (arith, length-take n xs))
-
-from_to-more : (xs : List Strike) (first at : ℕ) (d : Strike) → first ≤ at → at < length xs → from_to first (at + 1) xs ≡ from_to first at xs ++ get_or xs at d ∷ []
-from_to-more xs first at d order within =
-    ap (drop first) (take_more xs at d within)
-    ∙ drop-append-le first (take at xs) (get_or xs at d ∷ []) (omega (arith, order, length-take-le at xs (omega (arith, within))))
-
-pub ending-more : (xs : List Strike) (first at start : ℕ) (d : Strike) → first ≤ at → at < length xs →
-    ending start (from_to first (at + 1) xs) ≡ ending start (from_to first at xs) ++ ending start (get_or xs at d ∷ [])
-ending-more xs first at start d order within =
-    ap (ending start) (from_to-more xs first at d order within) ∙ filter-append (λ s. nat_lt start s.to) (from_to first at xs) (get_or xs at d ∷ [])
-
--- what a list of strikes strikes, looked at strike by strike
+-- no strikes strike nothing
 pub none-struck : (m k : ℕ) → is_struck [] m k ≡ false
 unfolding is_struck
 none-struck m k = refl
 
+-- where the first i strikes do not strike the place, and the next one does not, the first i + 1 do not
 pub struck-more : (xs : List Strike) (i m k : ℕ) (s : Strike) → i < length xs → is_struck (take i xs) m k ≡ false → is_out m k (get_or xs i s) ≡ false →
     is_struck (take (i + 1) xs) m k ≡ false
 unfolding is_struck
@@ -259,21 +238,26 @@ struck-more xs i m k s within none not =
     ∙ list_any-append (is_out m k) (take i xs) (get_or xs i s ∷ [])
     ∙ ap₂ (λ a b. a || b) none (or-false (is_out m k (get_or xs i s)) ∙ not)
 
+-- a strike strikes a place between its own places, under its message
 out-yes : (m from to sm k : ℕ) → sm ≡ m → from ≤ k → k < to → (sm == m && (nat_le from k && nat_lt k to)) ≡ true
 out-yes m from to sm k is low high = grind (arith, nat_tests)
 
+-- where one of the strikes is of the message and has the place between its own, the place is struck
 pub struck-by : (xs : List Strike) (i m k : ℕ) (s : Strike) → i < length xs → (get_or xs i s).message ≡ m → (get_or xs i s).from ≤ k → k < (get_or xs i s).to → is_struck xs m k ≡ true
 unfolding is_struck
 struck-by xs i m k s within is low high =
     let was = get_or xs i s in
     list_any_at (is_out m k) xs i s within (out-yes m was.from was.to was.message k is low high)
 
+-- what a strike strikes stands at its first place or after it
 out-low : (m sm from to k : ℕ) → (sm == m && (nat_le from k && nat_lt k to)) ≡ true → from ≤ k
 out-low m sm from to k is = grind (arith, nat_tests)
 
+-- what a strike strikes stands before its end
 out-high : (m sm from to k : ℕ) → (sm == m && (nat_le from k && nat_lt k to)) ≡ true → k < to
 out-high m sm from to k is = grind (arith, nat_tests)
 
+-- what a strike strikes is of its message
 out-is : (m sm from to k : ℕ) → (sm == m && (nat_le from k && nat_lt k to)) ≡ true → sm ≡ m
 out-is m sm from to k is = grind (arith, nat_tests)
 

@@ -1,9 +1,8 @@
 -- What an account owes, place by place: its debts, whether another account owes the same, and the least deadline of what it must send.
 use Rattle.std.proofs.Common.{◌≡◌, ◌≢◌, ℕ, ◌+◌, ◌<◌, ◌≤◌, ◌==◌, ◌&&◌, Bool, true, false, cond, not, List, [], ◌∷◌, ◌++◌, length, take, drop, get_or, map, refl, sym, ap, ap₂, ◌∙◌, subst, inl, inr, ◌⊎◌, arith, append-nil}
-use Rattle.std.specs.Prelude.{All, IsTrue, Option, Some, None, ◌↔◌, nat_le, nat_lt, option_to_list}
+use Rattle.std.specs.Prelude.{IsTrue, Option, Some, None, ◌↔◌, nat_le, nat_lt, option_to_list}
 use Rattle.std.specs.Bool.{OnTrue}
 use Rattle.std.proofs.lemmas.Bool.{cases_eq, cases_lt, eq-eqb, eqb-true, true≢false}
-use Rattle.std.proofs.lemmas.Bool.Decides.{nat_tests}
 use Rattle.std.proofs.lemmas.List.{get_or-drop, get_or_default, length-drop, length-take-le, map-append}
 use Rattle.std.proofs.lemmas.List.Elements.{All-map}
 use Rattle.sip_ledger.specs.declared.debt.Debt.{Debt}
@@ -13,10 +12,9 @@ use Rattle.sip_ledger.specs.declared.accounts.gains.Gains.{Gains}
 use Rattle.sip_ledger.specs.declared.accounts.strikes.Strike.{Strike}
 use Rattle.sip_ledger.specs.Debts.{debt_deadlines, earliest}
 use Rattle.sip_ledger.specs.Rows.{debt_of, debts_from, IsGap}
-use Rattle.sip_ledger.specs.inner.Accounts.{AreAlike, AreGains, IsAccount, SharesRest, account_debts, entries_of, entry_at, is_gone, is_left, is_struck, must_at, owes_at, strikes_of}
+use Rattle.sip_ledger.specs.inner.Accounts.{AreAlike, AreGains, IsAccount, SharesRest, account_debts, entries_of, entry_at, is_gone, is_struck, must_at, owes_at, strikes_of}
 use Rattle.sip_ledger.proofs.places.LeftLemmas.{entries-long, gone-same, left-kept, owed-left, rising-kept}
 use Rattle.sip_ledger.specs.inner.Indexes.{holds}
-use Rattle.sip_ledger.specs.inner.Places.{AreRising}
 use Rattle.sip_ledger.proofs.debts.ListedLemmas.{back, back-none, back-over, back-same, back-set, earliest-first, earliest-push, front, front-gap, front-next, listed-All, listed-must, listed-none, listed-same, no_entry, parts}
 use Rattle.sip_ledger.proofs.places.AccountLemmas.{must-below, must-from, past-end, soft-must}
 use Rattle.sip_ledger.proofs.places.WithoutLemmas.{before-start, le-yes}
@@ -27,12 +25,14 @@ front-start gains strikes m a within =
     listed-none (owes_at gains strikes a) m 0 (take a.start (entries_of gains))
     (λ k from below. before-start gains strikes a k (omega (arith, below, length-take-le a.start (entries_of gains) within)))
 
+-- up to the next place at which something is owed, one debt more is told: that of this place
 pub front-more : (entries : List Entry) (o m : ℕ → Bool) (at next : ℕ) → at < length entries → o at ≡ true → at < next → next ≤ length entries → IsGap o (at + 1) next →
     front o m entries next ≡ front o m entries at ++ debt_of (entry_at entries at) (m at) ∷ []
 front-more entries o m at next inside is after within gap =
     front-gap o m entries (at + 1) next (omega (arith, after)) within gap
     ∙ front-next o m entries at at no_entry (omega arith) inside (λ j above below. absurd (omega (arith, above, below))) is
 
+-- what is told up to the end of an account or a later place is all that it owes
 pub front-end : (gains : Gains) (strikes : List Strike) (m : ℕ → Bool) (a : Account) (at : ℕ) → a.end ≤ at → at ≤ length (entries_of gains) →
     debts_from (owes_at gains strikes a) m 0 (entries_of gains) ≡ front (owes_at gains strikes a) m (entries_of gains) at
 front-end gains strikes m a at end within =
@@ -41,6 +41,7 @@ front-end gains strikes m a at end within =
     ∙ ap (λ l. front o m (entries_of gains) at ++ l) (back-none o m (entries_of gains) at (λ k past. past-end gains strikes a k (omega (arith, past, end))))
     ∙ append-nil (front o m (entries_of gains) at)
 
+-- what is told up to the end of an account are its debts
 pub all-told : (gains : Gains) (strikes : List Strike) (a : Account) (at : ℕ) → IsAccount gains strikes a → a.end ≤ at → at ≤ a.end →
     front (owes_at gains strikes a) (must_at gains a) (entries_of gains) at ≡ account_debts gains strikes a
 unfolding account_debts
@@ -53,16 +54,19 @@ pub record AreBeside (one other left right : List Debt) : Type 0 where
   pub to : one ≡ other → left ≡ right
   pub from : left ≡ right → one ≡ other
 
+-- what is left from the start of an account on is all that it owes
 pub beside-start : (gains : Gains) (strikes : List Strike) (m : ℕ → Bool) (a : Account) → a.start ≤ length (entries_of gains) →
     debts_from (owes_at gains strikes a) m 0 (entries_of gains) ≡ back (owes_at gains strikes a) m (entries_of gains) a.start
 beside-start gains strikes m a within =
     parts (owes_at gains strikes a) m (entries_of gains) a.start within ∙ ap (λ l. l ++ back (owes_at gains strikes a) m (entries_of gains) a.start) (front-start gains strikes m a within)
 
+-- what is left from a place on is the debt of this place, and then what is left from the next place on
 pub back-more : (entries : List Entry) (o m : ℕ → Bool) (at next : ℕ) → at < length entries → o at ≡ true → at < next → next ≤ length entries → IsGap o (at + 1) next →
     back o m entries at ≡ debt_of (entry_at entries at) (m at) ∷ back o m entries next
 back-more entries o m at next inside is after within gap =
     back-set o m entries at no_entry inside is ∙ ap (λ l. debt_of (entry_at entries at) (m at) ∷ l) (back-over o m entries (at + 1) next (omega (arith, after)) within gap)
 
+-- where the same debt is first in what is left of both lists, both are the same exactly if what is left after it is
 pub beside-more : (one other left right left' right' : List Debt) (d : Debt) → AreBeside one other left right → left ≡ d ∷ left' → right ≡ d ∷ right' → AreBeside one other left' right'
 beside-more one other left right left' right' d are first second = record {
   to = λ same. tails (sym first ∙ are.to same ∙ second);
@@ -71,18 +75,6 @@ beside-more one other left right left' right' d are first second = record {
   where
     tails : d ∷ left' ≡ d ∷ right' → left' ≡ right'
     tails same = cc
-
-pub beside-apart : (one other left right left' right' : List Debt) (d e : Debt) → AreBeside one other left right → left ≡ d ∷ left' → right ≡ e ∷ right' → d ≢ e → one ≢ other
-beside-apart one other left right left' right' d e are first second differ same = differ (heads (sym first ∙ are.to same ∙ second))
-  where
-    heads : d ∷ left' ≡ e ∷ right' → d ≡ e
-    heads same = cc
-
-pub beside-longer : (one other left left' : List Debt) (d : Debt) → AreBeside one other left [] → left ≡ d ∷ left' → one ≢ other
-beside-longer one other left left' d are first same = none (sym first ∙ are.to same)
-  where
-    none : d ∷ left' ≡ [] → ⊥
-    none same = cc
 
 -- each account stands at a place where it owes something, or at its end: what is left of both is the same exactly if all of it is
 pub record AreAt (gains : Gains) (strikes : List Strike) (one other : Account) (at beside : ℕ) : Type 0 where
@@ -95,6 +87,7 @@ pub record AreAt (gains : Gains) (strikes : List Strike) (one other : Account) (
   pub owed : at < one.end → owes_at gains strikes one at ≡ true
   pub owed_beside : beside < other.end → owes_at gains strikes other beside ≡ true
 
+-- the debts of an account are those from its start on
 start-debts : (gains : Gains) (strikes : List Strike) (a : Account) → IsAccount gains strikes a →
     account_debts gains strikes a ≡ back (owes_at gains strikes a) (must_at gains a) (entries_of gains) a.start
 unfolding account_debts
@@ -103,6 +96,7 @@ start-debts gains strikes a is =
     let end = is.end in
     beside-start gains strikes (must_at gains a) a (omega (arith, order, end))
 
+-- AreAt holds at the starts of two accounts
 pub at-start : (gains : Gains) (strikes : List Strike) (one other : Account) → IsAccount gains strikes one → IsAccount gains strikes other →
     AreAt gains strikes one other one.start other.start
 at-start gains strikes one other is is_other =
@@ -124,6 +118,7 @@ pub record IsAfter (gains : Gains) (strikes : List Strike) (a : Account) (at nex
   pub before : (k : ℕ) → at + 1 ≤ k → k < next → owes_at gains strikes a k ≡ false
   pub is : next < a.end → owes_at gains strikes a next ≡ true
 
+-- what an account owes from a place on is the debt of this place, and then what it owes from the next one on
 after-more : (gains : Gains) (strikes : List Strike) (a : Account) (at next : ℕ) → IsAccount gains strikes a → at < a.end → owes_at gains strikes a at ≡ true →
     IsAfter gains strikes a at next →
     back (owes_at gains strikes a) (must_at gains a) (entries_of gains) at
@@ -134,6 +129,7 @@ after-more gains strikes a at next is inside owed after =
     let high = after.within.1 in
     back-more (entries_of gains) (owes_at gains strikes a) (must_at gains a) at next (omega (arith, inside, end)) owed (omega (arith, low)) (omega (arith, high, end)) after.before
 
+-- AreAt goes on with the next places of both accounts, where both owe the same debt at their places
 pub at-more : (gains : Gains) (strikes : List Strike) (one other : Account) (at beside next next_beside : ℕ) → IsAccount gains strikes one → IsAccount gains strikes other →
     AreAt gains strikes one other at beside → at < one.end → beside < other.end →
     debt_of (entry_at (entries_of gains) at) (must_at gains one at) ≡ debt_of (entry_at (entries_of gains) beside) (must_at gains other beside) →
@@ -167,27 +163,17 @@ back-here gains strikes a at is inside owed =
     let end = is.end in
     back-set (owes_at gains strikes a) (must_at gains a) (entries_of gains) at no_entry (omega (arith, inside, end)) owed
 
-pub at-apart : (gains : Gains) (strikes : List Strike) (one other : Account) (at beside : ℕ) → IsAccount gains strikes one → IsAccount gains strikes other →
-    AreAt gains strikes one other at beside → at < one.end → beside < other.end →
-    debt_of (entry_at (entries_of gains) at) (must_at gains one at) ≢ debt_of (entry_at (entries_of gains) beside) (must_at gains other beside) →
-    account_debts gains strikes one ≢ account_debts gains strikes other
-at-apart gains strikes one other at beside is is_other are inside inside_beside differ =
-    let entries = (entries_of gains) in
-    beside-apart (account_debts gains strikes one) (account_debts gains strikes other) (back (owes_at gains strikes one) (must_at gains one) entries at)
-    (back (owes_at gains strikes other) (must_at gains other) entries beside) (back (owes_at gains strikes one) (must_at gains one) entries (at + 1))
-    (back (owes_at gains strikes other) (must_at gains other) entries (beside + 1)) (debt_of (entry_at entries at) (must_at gains one at))
-    (debt_of (entry_at entries beside) (must_at gains other beside)) are.left (back-here gains strikes one at is inside (are.owed inside))
-    (back-here gains strikes other beside is_other inside_beside (are.owed_beside inside_beside)) differ
-
 -- nothing is left at the end of an account
 back-end : (gains : Gains) (strikes : List Strike) (a : Account) (at : ℕ) → a.end ≤ at → back (owes_at gains strikes a) (must_at gains a) (entries_of gains) at ≡ []
 back-end gains strikes a at past =
     back-none (owes_at gains strikes a) (must_at gains a) (entries_of gains) at (λ j above. past-end gains strikes a j (omega (arith, above, past)))
 
+-- two accounts at whose ends AreAt holds owe the same
 pub at-end : (gains : Gains) (strikes : List Strike) (one other : Account) (at beside : ℕ) → IsAccount gains strikes one → IsAccount gains strikes other →
     AreAt gains strikes one other at beside → one.end ≤ at → other.end ≤ beside → account_debts gains strikes one ≡ account_debts gains strikes other
 at-end gains strikes one other at beside is is_other are past past_beside = are.left.from (back-end gains strikes one at past ∙ sym (back-end gains strikes other beside past_beside))
 
+-- a list with a first debt is not empty
 cons≢nil : (d : Debt) (ds : List Debt) → d ∷ ds ≢ []
 cons≢nil d ds none = cc
 
@@ -226,6 +212,7 @@ shares-rest strikes one other place end soft start start_other free free_other =
       ∙ sym (ap (λ a. a && (nat_lt k other.end && not (is_gone gains (strikes_of strikes other) k))) (le-yes other.start k (omega (arith, start_other, above))));
 }
 
+-- what is said where a test is true may say less
 pub on-true : {P Q : Type 0} (b : Bool) → OnTrue b P → (P → Q) → OnTrue b Q
 on-true true p more = more p
 on-true false p more = p
@@ -237,6 +224,7 @@ at-longer gains strikes one other at beside is are inside past same =
     cons≢nil (debt_of (entry_at (entries_of gains) at) (must_at gains one at)) (back (owes_at gains strikes one) (must_at gains one) (entries_of gains) (at + 1))
     (sym (back-here gains strikes one at is inside (are.owed inside)) ∙ are.left.to same ∙ back-end gains strikes other beside past)
 
+-- an account at its end does not owe what one with something left owes
 pub at-shorter : (gains : Gains) (strikes : List Strike) (one other : Account) (at beside : ℕ) → IsAccount gains strikes other → AreAt gains strikes one other at beside →
     one.end ≤ at → beside < other.end → account_debts gains strikes one ≢ account_debts gains strikes other
 at-shorter gains strikes one other at beside is_other are past inside same =
@@ -256,6 +244,7 @@ end-same gains strikes one other at beside is is_other are here = (
   ],
 )
 
+-- where one account is not at its end and the other is, they do not owe the same
 pub end-other : (gains : Gains) (strikes : List Strike) (one other : Account) (at beside : ℕ) → IsAccount gains strikes one →
     AreAt gains strikes one other at beside → at ≢ one.end → other.end ≤ beside → IsTrue (at == one.end) ↔ (account_debts gains strikes one ≡ account_debts gains strikes other)
 end-other gains strikes one other at beside is are short past =
@@ -268,6 +257,7 @@ end-other gains strikes one other at beside is are short past =
 abbrev pub due : (ℕ → Bool) → (ℕ → Bool) → ℕ → Bool
 due o m k = o k && m k
 
+-- the debts of a list are as they are where only what is owed is looked at for what must be sent
 owed-due : (o m : ℕ → Bool) (i : ℕ) (xs : List Entry) → debts_from o m i xs ≡ debts_from o (due o m) i xs
 owed-due o m i [] = refl
 owed-due o m i (x ∷ xs) = by (o i) (m i) (debts_from o m (i + 1) xs) (debts_from o (due o m) (i + 1) xs) (owed-due o m (i + 1) xs)
@@ -276,6 +266,7 @@ owed-due o m i (x ∷ xs) = by (o i) (m i) (debts_from o m (i + 1) xs) (debts_fr
     by true b ds ds' same = ap (λ l. debt_of x b ∷ l) same
     by false b ds ds' same = same
 
+-- what is due is owed
 due-among : (o m : ℕ → Bool) (k : ℕ) → due o m k ≡ true → o k ≡ true
 due-among o m k is = by (o k) (m k) is
   where
@@ -283,6 +274,7 @@ due-among o m k is = by (o k) (m k) is
     by true b is = refl
     by false b is = is
 
+-- the deadlines of what must be sent among the debts are those of what is due
 pub due-deadlines : (entries : List Entry) (o m : ℕ → Bool) → debt_deadlines (debts_from o m 0 entries) ≡ map (λ d. d.deadline) (debts_from (due o m) (due o m) 0 entries)
 due-deadlines entries o m = ap debt_deadlines (owed-due o m 0 entries) ∙ listed-must o (due o m) 0 entries (due-among o m)
 
@@ -290,6 +282,7 @@ due-deadlines entries o m = ap debt_deadlines (owed-due o m 0 entries) ∙ liste
 abbrev pub least_to : List Entry → (ℕ → Bool) → ℕ → Option ℕ
 least_to entries m to = earliest (map (λ d. d.deadline) (front m m entries to))
 
+-- nothing has to be sent before a place below which nothing is due
 pub least-start : (entries : List Entry) (m : ℕ → Bool) (from : ℕ) → from ≤ length entries → ((k : ℕ) → k < from → m k ≡ false) → None ≡ least_to entries m from
 least-start entries m from within none =
     sym (ap (λ l. earliest (map (λ (d : Debt). d.deadline) l)) (listed-none m m 0 (take from entries) (λ k _ below. none k (omega (arith, below, length-take-le from entries within)))))
@@ -306,6 +299,7 @@ least-more entries m from at order inside gap is =
     ∙ ap earliest (map-append (λ (d : Debt). d.deadline) (front m m entries from) (debt_of (entry_at entries at) (m at) ∷ []))
     ∙ earliest-push (map (λ (d : Debt). d.deadline) (front m m entries from)) (entry_at entries at).deadline
 
+-- the least deadline before a place from which on nothing is due is the least of all
 pub least-end : (entries : List Entry) (m : ℕ → Bool) (from : ℕ) → from ≤ length entries → ((k : ℕ) → from ≤ k → m k ≡ false) →
     earliest (map (λ d. d.deadline) (debts_from m m 0 entries)) ≡ least_to entries m from
 least-end entries m from within none =
@@ -344,22 +338,27 @@ pub record IsLeastTo (gains : Gains) (strikes : List Strike) (a : Account) (from
   pub within : from ≤ length (entries_of gains)
   pub none : gains.rises ≡ true → (k : ℕ) → k < from → due (owes_at gains strikes a) (must_at gains a) k ≡ false
 
+-- `a && b` is false where b is
 and-no : (a b : Bool) → b ≡ false → (a && b) ≡ false
 and-no true b is = is
 and-no false b is = refl
 
+-- `a && b` is false where a is
 no-and : (a b : Bool) → a ≡ false → (a && b) ≡ false
 no-and a b is = ap (λ x. x && b) is
 
+-- a gain that need not be sent as it was gained need not be sent by any account
 unmust : (gains : Gains) (a : Account) (k : ℕ) → holds gains.musts 0 k ≡ false → must_at gains a k ≡ false
 unfolding must_at
 unmust gains a k none = no-and (holds gains.musts 0 k) (nat_le a.soft k) none
 
+-- nothing is due before the start or the `soft` of an account
 not-due-before : (gains : Gains) (strikes : List Strike) (a : Account) (from k : ℕ) → from ≤ a.start ⊎ from ≤ a.soft → k < from →
     due (owes_at gains strikes a) (must_at gains a) k ≡ false
 not-due-before gains strikes a from k (inl start) early = no-and (owes_at gains strikes a k) (must_at gains a k) (before-start gains strikes a k (omega (arith, start, early)))
 not-due-before gains strikes a from k (inr soft) early = and-no (owes_at gains strikes a k) (must_at gains a k) (sym (must-below gains a k (omega (arith, soft, early))))
 
+-- IsLeastTo holds at the later one of the start and the `soft` of an account, with no deadline
 pub least-first : (gains : Gains) (strikes : List Strike) (a : Account) (from : ℕ) → IsAccount gains strikes a → a.start ≤ from → a.soft ≤ from → from ≤ a.start ⊎ from ≤ a.soft →
     IsLeastTo gains strikes a from None
 least-first gains strikes a from is low soft one =
@@ -383,6 +382,7 @@ gap-due : (gains : Gains) (strikes : List Strike) (a : Account) (from at : ℕ) 
     IsGap (due (owes_at gains strikes a) (must_at gains a)) from at
 gap-due gains strikes a from at none k above below = and-no (owes_at gains strikes a k) (must_at gains a k) (unmust gains a k (none k above below))
 
+-- IsLeastTo goes on over places at which nothing has to be sent, and over one that the account does not owe
 pub least-passed : (gains : Gains) (strikes : List Strike) (a : Account) (from at : ℕ) (least : Option ℕ) → IsLeastTo gains strikes a from least → from ≤ at → at < length (entries_of gains) →
     ((k : ℕ) → from ≤ k → k < at → holds gains.musts 0 k ≡ false) → owes_at gains strikes a at ≡ false → IsLeastTo gains strikes a (at + 1) least
 least-passed gains strikes a from at least was above inside gap unowed =
@@ -408,10 +408,12 @@ least-passed gains strikes a from at least was above inside gap unowed =
       ];
     }
 
+-- what an account owes at `soft` or after it is due if it must be sent as it was gained
 is-due : (gains : Gains) (strikes : List Strike) (a : Account) (at : ℕ) → a.soft ≤ at → holds gains.musts 0 at ≡ true → owes_at gains strikes a at ≡ true →
     due (owes_at gains strikes a) (must_at gains a) at ≡ true
 is-due gains strikes a at soft held owed = ap₂ (λ x y. x && y) owed (sym (must-from gains a at soft) ∙ held)
 
+-- IsLeastTo goes on over a place that is due, with its deadline among the others
 pub least-found : (gains : Gains) (strikes : List Strike) (a : Account) (from at moment : ℕ) (least : Option ℕ) → IsLeastTo gains strikes a from least → from ≤ at → at < length (entries_of gains) →
     ((k : ℕ) → from ≤ k → k < at → holds gains.musts 0 k ≡ false) → holds gains.musts 0 at ≡ true → owes_at gains strikes a at ≡ true →
     Some moment ≡ earliest ((entry_at (entries_of gains) at).deadline ∷ option_to_list least) → gains.rises ≡ false → IsLeastTo gains strikes a (at + 1) (Some moment)
@@ -428,6 +430,7 @@ least-found gains strikes a from at moment least was above inside gap held owed 
       none = λ rises. absurd (true≢false (sym rises ∙ falls));
     }
 
+-- where deadlines rise, the first one that is found is the least of all
 pub least-first_due : (gains : Gains) (strikes : List Strike) (a : Account) (from at moment : ℕ) (least : Option ℕ) → AreGains gains → IsLeastTo gains strikes a from least → from ≤ at →
     at < length (entries_of gains) → ((k : ℕ) → from ≤ k → k < at → holds gains.musts 0 k ≡ false) → holds gains.musts 0 at ≡ true → owes_at gains strikes a at ≡ true →
     Some moment ≡ earliest ((entry_at (entries_of gains) at).deadline ∷ option_to_list least) → gains.rises ≡ true →
@@ -469,6 +472,7 @@ must-parts gains a k is = elim (cases_lt k a.soft) [
   | inr high ↦ (must-from gains a k high ∙ is, high)
 ]
 
+-- where deadlines rise and the first debt must be sent, its deadline is the least
 pub leading : (gains : Gains) (strikes : List Strike) (a : Account) (moment : ℕ) → AreGains gains → IsAccount gains strikes a → a.start < a.end → gains.rises ≡ true →
     must_at gains a a.start ≡ true → moment ≡ (entry_at (entries_of gains) a.start).deadline → Some moment ≡ earliest (debt_deadlines (account_debts gains strikes a))
 leading gains strikes a moment are is some rises must here =

@@ -27,6 +27,7 @@ pub record IsCut (debt : Debt) (old new : List Debt) : Type 0 where
   pub whole : old ≡ before ++ debt ∷ after
   pub rest : new ≡ before ++ after
 
+-- where the entry at a place is owed no more, the debts are those of before without the debt of this entry
 pub cut-at : (entries : List Entry) (o m o' m' : ℕ → Bool) (at : ℕ) → at < length entries → o at ≡ true → IsWithout at o o' → ((k : ℕ) → m' k ≡ m k) →
     IsCut (debt_of (get_or entries at no_entry) (m at)) (debts_from o m 0 entries) (debts_from o' m' 0 entries)
 cut-at entries o m o' m' at within is without must =
@@ -42,10 +43,11 @@ cut-at entries o m o' m' at within is without must =
           ∙ back-same o' m' o m entries (at + 1) (λ j above. let other : j ≢ at = omega (arith, above) in (without.others j other, must j)));
     }
 
--- the print of debts without one of them is their print less the worth of that one
+-- the sum of the worths of debts
 abbrev worths : List Debt → ℕ
 worths debts = sum_by (λ debt. worth_of debt.message debt.deadline) debts
 
+-- the print of debts, with the worth of the one that was taken out, is the print of those of before
 pub cut-print : (debt : Debt) (old new : List Debt) → IsCut debt old new → (w : ℕ) → w ≡ worth_of debt.message debt.deadline →
     (debts_print new + w) % 2 ^ 64 ≡ debts_print old
 unfolding debts_print
@@ -60,6 +62,7 @@ cut-print debt old new cut w is =
     turned : (a b c : ℕ) → a + b + c ≡ a + (c + b)
     turned a b c = omega arith
 
+-- a print is a number of 64 bits
 pub print-fits : (debts : List Debt) → debts_print debts < 2 ^ 64
 unfolding debts_print
 print-fits debts = mod_below (worths debts) (2 ^ 64) (lit< tt)
@@ -77,18 +80,23 @@ taken-print q w fits less =
 abbrev rest : Gains → List Strike → Account → ℕ → Bool
 rest gains own a k = nat_lt k a.end && not (is_gone gains own k)
 
+-- where m is at most n, the test of m ≤ n passes
 pub le-yes : (m n : ℕ) → m ≤ n → nat_le m n ≡ true
 le-yes m n is = grind (arith, nat_tests)
 
+-- where n is below m, the test of m ≤ n fails
 pub le-no : (m n : ℕ) → n < m → nat_le m n ≡ false
 le-no m n is = grind (arith, nat_tests)
 
+-- where m is below n, the test of m < n passes
 pub lt-yes : (m n : ℕ) → m < n → nat_lt m n ≡ true
 lt-yes m n is = grind (arith, nat_tests)
 
+-- where n is at most m, the test of m < n fails
 pub lt-no : (m n : ℕ) → n ≤ m → nat_lt m n ≡ false
 lt-no m n is = grind (arith, nat_tests)
 
+-- an account owes nothing before its start
 pub before-start : (gains : Gains) (strikes : List Strike) (a : Account) (k : ℕ) → k < a.start → owes_at gains strikes a k ≡ false
 unfolding owes_at
 before-start gains strikes a k early =
@@ -129,19 +137,22 @@ earlier-end gains strikes a b place end now start first last = record {
   ];
 }
 
--- where the gain at the place is struck, the account is without it
+-- `x || true` is true
 or-last : (x : Bool) → (x || true) ≡ true
 or-last true = refl
 or-last false = refl
 
+-- `x && y && false` is false
 no-more : (x y : Bool) → (x && (y && not true)) ≡ false
 no-more true true = refl
 no-more true false = refl
 no-more false y = refl
 
+-- a place lies from `place` up to the one after it exactly if it is `place`
 one-place : (place k : ℕ) → (nat_le place k && nat_lt k (place + 1)) ≡ (k == place)
 one-place place k = grind (arith, nat_tests)
 
+-- where the gain at the place is struck, the account is without it
 pub struck-without : (gains : Gains) (old new : List Strike) (a b c : Account) (place : ℕ) → IsStruck gains place (place + 1) old new a b →
     a.start ≤ place → c.start ≡ b.start → c.end ≡ b.end → c.first ≡ b.first → c.last ≡ b.last → IsWithout place (owes_at gains old a) (owes_at gains new c)
 unfolding owes_at
@@ -197,12 +208,14 @@ without-account gains old new a b place w is owed without soft order end first l
     cut : IsCut debt (account_debts gains old a) (account_debts gains new b)
     cut = cut-at (entries_of gains) (owes_at gains old a) (must_at gains a) (owes_at gains new b) (must_at gains b) place inside owed without must
 
+-- what an account owes stands at its start or after it
 pub owed-from : (gains : Gains) (strikes : List Strike) (a : Account) (k : ℕ) → owes_at gains strikes a k ≡ true → a.start ≤ k
 owed-from gains strikes a k is = elim (cases_lt k a.start) [
   | inl early ↦ absurd (true≢false (sym is ∙ before-start gains strikes a k early))
   | inr from ↦ from
 ]
 
+-- a worth is a number of 64 bits
 pub worth-fits : (m d : ℕ) → worth_of m d < 2 ^ 64
 unfolding worth_of
 worth-fits m d = mod_below _ (2 ^ 64) (lit< tt)

@@ -1,4 +1,4 @@
-use Rattle.std.specs.Prelude.{◌≡◌, ◌==◌, ◌&&◌, ◌<◌, ◌≤◌, ◌+◌, ℕ, Bool, true, false, cond, List, length}
+use Rattle.std.specs.Prelude.{◌≡◌, ◌<◌, ◌≤◌, ℕ, Bool, true, false, List}
 use Rattle.std.specs.List.{list_any}
 use Rattle.std.specs.Ordering.{nat_cmp, ordering_then}
 use Rattle.std.specs.declared.cmp.Ordering.{Ordering}
@@ -33,14 +33,3 @@ pub record IsNextUnder (pairs : List (ℕ × ℕ)) (key from number : ℕ) : Typ
   pub is : holds pairs key number ≡ true
   pub after : from ≤ number
   pub none_before : (n : ℕ) → from ≤ n → n < number → holds pairs key n ≡ false
-
--- `found` is one of the pairs, and no pair has a greater key
-pub record IsLastPair (pairs : List (ℕ × ℕ)) (found : ℕ × ℕ) : Type 0 where
-  pub is : holds pairs found.0 found.1 ≡ true
-  pub last : (k n : ℕ) → holds pairs k n ≡ true → k ≤ found.0
-
--- the new pairs are the old ones without this one, which was there
-pub record IsWithoutPair (old new : List (ℕ × ℕ)) (pair : ℕ × ℕ) : Type 0 where
-  pub was : holds old pair.0 pair.1 ≡ true
-  pub rest : (k n : ℕ) → holds new k n ≡ cond (k == pair.0 && n == pair.1) false (holds old k n)
-  pub fewer : length old ≡ length new + 1

@@ -1,7 +1,7 @@
 //! What one row owes of what was gained.
 ghost use Rattle.std.specs.Prelude.{◌≡◌, ◌≢◌, ◌↔◌, ◌<◌, ◌≤◌, ◌*◌, ◌%◌, ◌^◌, ◌++◌, ◌∷◌, [], ℕ, ◌+◌, Bool, true, false, Some, IfOk, IfSome, IfNone, IsTrue, OnOk, OnErr, bit_xor, filter, length, option_to_list, take};
 ghost use Rattle.std.specs.Bool.{OnTrue};
-ghost use Rattle.sip_ledger.specs.Debts.{counts_at, debt_deadlines, earliest, is_timely};
+ghost use Rattle.sip_ledger.specs.Debts.{counts_at, debt_deadlines, earliest, is_timely, paid_by};
 ghost use Rattle.sip_ledger.specs.Accounts.{worth_of};
 ghost use Rattle.sip_ledger.specs.Rows.{debt_of};
 ghost use Rattle.sip_ledger.specs.declared.accounts.account.Account.{Account};
@@ -94,10 +94,10 @@ fn next(gains: &Gains, strikes: &[Strike], account: Account, from: usize) -> usi
 }
 
 /// A number for a message and a deadline, which tells most apart at once.
-fn worth(message: u32, deadline: u64) -> u64
+fn worth(message: u64, deadline: u64) -> u64
     ensures { result ≡ worth_of message deadline }
 {
-    let number = mixed(mixed(1, u64::from(message)), deadline);
+    let number = mixed(mixed(1, message), deadline);
     mixed(number, number >> 32)
 }
 
@@ -109,6 +109,7 @@ fn mixed(number: u64, word: u64) -> u64
 }
 
 /// The account without what was gained at the place, which it owes. On an error the strikes are as before.
+#[inline(always)]
 pub(crate) fn without(
     gains: &Gains,
     strikes: &mut Vec<Strike>,
@@ -149,12 +150,13 @@ pub(crate) fn without(
 }
 
 /// The first place whose debt a send of the message at the moment pays.
+#[inline(always)]
 pub(crate) fn find(
     gains: &Gains,
     strikes: &[Strike],
     account: Account,
     seek: &mut Seek,
-    message: u32,
+    message: u64,
     moment: u64,
 ) -> Option<usize>
     requires gained { AreGains gains.now }
@@ -228,6 +230,7 @@ fn expired_at(
 
 /// The account without what it may send and whose deadline is below the moment. On an error what is left of the others' strikes is
 /// as before.
+#[inline(always)]
 pub(crate) fn expired(
     gains: &Gains,
     strikes: &mut Vec<Strike>,
@@ -243,6 +246,9 @@ pub(crate) fn expired(
     if account.start == account.end {
         return Ok(account);
     }
+    if gains.all_count(moment) {
+        return Ok(account);
+    }
     let mut left = account;
     let mut place = account.start;
     while place < left.end {
@@ -253,6 +259,50 @@ pub(crate) fn expired(
         place += 1;
     }
     Ok(left)
+}
+
+/// The account without the first debt that a send of the message at the moment pays, if there is one, and without what is past then.
+/// The strikes that were there stay.
+pub(crate) fn paid_and_expired(
+    gains: &Gains,
+    strikes: &mut Vec<Strike>,
+    account: Account,
+    message: u64,
+    moment: u64,
+) -> Result<Account, AllocError>
+    requires gained { AreGains gains.now }
+    requires account { IsAccount gains.now strikes.old.items account }
+    ensures kept { take (length strikes.old.items) strikes.new.items ≡ strikes.old.items }
+    ensures account { IfOk result (IsAccount gains.now strikes.new.items) }
+    ensures debts { IfOk result (λ new. account_debts gains.now strikes.new.items new ≡ filter (counts_at moment) (paid_by message moment (account_debts gains.now strikes.old.items account))) }
+{
+    let rest = without_paid(gains, strikes, account, message, moment)?;
+    let left = expired(gains, strikes, rest, moment)?;
+    Ok(left)
+}
+
+/// The account without the first debt that a send of the message at the moment pays, if there is one. The strikes that were there stay.
+fn without_paid(
+    gains: &Gains,
+    strikes: &mut Vec<Strike>,
+    account: Account,
+    message: u64,
+    moment: u64,
+) -> Result<Account, AllocError>
+    requires gained { AreGains gains.now }
+    requires account { IsAccount gains.now strikes.old.items account }
+    ensures kept { take (length strikes.old.items) strikes.new.items ≡ strikes.old.items }
+    ensures account { IfOk result (IsAccount gains.now strikes.new.items) }
+    ensures debts { IfOk result (λ new. account_debts gains.now strikes.new.items new ≡ paid_by message moment (account_debts gains.now strikes.old.items account)) }
+{
+    let mut seek = Seek::new(gains, message, account.start);
+    match find(gains, strikes, account, &mut seek, message, moment) {
+        Some(place) => {
+            let rest = without(gains, strikes, account, place)?;
+            Ok(rest)
+        }
+        None => Ok(account),
+    }
 }
 
 /// A place at which the account can gain the debt: one of another account, or a new one. On an error the accounts owe what they owed.
@@ -300,7 +350,7 @@ pub(crate) fn place_near(
 }
 
 /// Whether the account can gain the message at the place, as far as it is the account's own.
-fn fits(strikes: &[Strike], account: Account, message: u32, place: usize) -> bool
+fn fits(strikes: &[Strike], account: Account, message: u64, place: usize) -> bool
     requires first { account.first ≤ account.last }
     requires last { account.last ≤ length strikes.now }
     ensures end { OnTrue result (account.end ≤ place) }
@@ -412,7 +462,30 @@ pub(crate) fn gained(
     })
 }
 
+/// The account with what was gained at the place, after all that it owes, and without what is past at the moment. The strikes that were
+/// there stay.
+pub(crate) fn gained_and_expired(
+    gains: &Gains,
+    strikes: &mut Vec<Strike>,
+    account: Account,
+    debt: Debt,
+    place: usize,
+    moment: u64,
+) -> Result<Account, AllocError>
+    requires gained { AreGains gains.now }
+    requires account { IsAccount gains.now strikes.old.items account }
+    requires next { IsNextGain gains.now strikes.old.items account debt place }
+    ensures kept { take (length strikes.old.items) strikes.new.items ≡ strikes.old.items }
+    ensures account { IfOk result (IsAccount gains.now strikes.new.items) }
+    ensures debts { IfOk result (λ new. account_debts gains.now strikes.new.items new ≡ filter (counts_at moment) (account_debts gains.now strikes.old.items account ++ debt ∷ [])) }
+{
+    let grown = gained(gains, strikes, account, debt, place)?;
+    let left = expired(gains, strikes, grown, moment)?;
+    Ok(left)
+}
+
 /// The least deadline of what the account must send. The first debt is looked at before the index is asked.
+#[inline(always)]
 pub(crate) fn earliest_must(gains: &Gains, strikes: &[Strike], account: Account) -> Option<u64>
     requires gained { AreGains gains.now }
     requires account { IsAccount gains.now strikes.now account }
@@ -445,6 +518,7 @@ fn first_must(gains: &Gains, account: Account) -> Option<u64>
 }
 
 /// The least deadline of what the account must send, by the index.
+#[inline(never)]
 fn least_must(gains: &Gains, strikes: &[Strike], account: Account) -> Option<u64>
     requires gained { AreGains gains.now }
     requires account { IsAccount gains.now strikes.now account }
@@ -467,12 +541,15 @@ fn least_must(gains: &Gains, strikes: &[Strike], account: Account) -> Option<u64
     least
 }
 
-/// Whether nothing that the account must send is past at the moment.
+/// Whether nothing that the account must send is past at the moment. It is asked first whether anything is past of what was gained.
 pub(crate) fn is_timely(gains: &Gains, strikes: &[Strike], account: Account, moment: u64) -> bool
     requires gained { AreGains gains.now }
     requires account { IsAccount gains.now strikes.now account }
     ensures { result ≡ is_timely moment (account_debts gains.now strikes.now account) }
 {
+    if gains.all_count(moment) {
+        return true;
+    }
     match earliest_must(gains, strikes, account) {
         Some(deadline) => moment <= deadline,
         None => true,

@@ -19,10 +19,7 @@ impl Accounts {
         requires { row < length self.now }
         ensures { result ≡ is_timely moment (owed_in self.now row) }
     {
-        match self.earliest_must(row) {
-            Some(deadline) => moment <= deadline,
-            None => true,
-        }
+        is_timely(&self.gains, &self.strikes, self.rows[row], moment)
     }
 
     /// Puts copies of the rows from one up to another after the others. A row that must send something that is past at the moment gets
@@ -98,7 +95,7 @@ impl Accounts {
         &mut self,
         from: usize,
         to: usize,
-        message: u32,
+        message: u64,
         moment: u64,
     ) -> Result<(), AllocError>
         requires { to ≤ length self.old }
@@ -160,7 +157,7 @@ fn push_some(
     rows: &mut Vec<Account>,
     from: usize,
     to: usize,
-    message: u32,
+    message: u64,
     moment: u64,
 ) -> Result<(), AllocError>
     requires accounts { AreAccounts gains.now strikes.old.items rows.old.items }
@@ -196,7 +193,7 @@ fn paid(
     strikes: &mut Vec<Strike>,
     account: Account,
     seek: &mut Seek,
-    message: u32,
+    message: u64,
     moment: u64,
 ) -> Result<Option<Account>, AllocError>
     requires gained { AreGains gains.now }

@@ -1,13 +1,13 @@
 //! What the rows gained: one list for all.
 ghost use Rattle.std.specs.Prelude.{◌≡◌, ◌<◌, ◌≤◌, ◌+◌, ◌==◌, ◌&&◌, ◌++◌, ◌∷◌, ℕ, [], IfSome, IfNone, OnOk, OnErr, cond, length, true, false};
 ghost use Rattle.std.specs.Bool.{OnTrue};
-ghost use Rattle.sip_ledger.specs.inner.Accounts.{AreGains, AreSameGains, IsDropped, IsGain, IsKept, IsLetGo, IsNoted, IsPlaceOf, entries_of, entry_at, flags_at, is_left};
-ghost use Rattle.sip_ledger.specs.inner.Indexes.{holds};
+ghost use Rattle.sip_ledger.specs.inner.Accounts.{AreGains, AreSameGains, IsDropped, IsGain, IsKept, IsLetGo, IsNoted, IsPlaceOf, entries_of, entry_at, first_after, flags_at, is_left};
+ghost use Rattle.sip_ledger.specs.inner.Indexes.{holds, IsFirstFrom, NoneFrom};
 ghost use Rattle.sip_ledger.specs.inner.Places.{AreRising};
 
 use crate::debt::{Debt, Entry};
+use crate::front;
 use crate::index::Index;
-use crate::words;
 use std::alloc::{AllocError, Global};
 
 /// What is asked of a gain most often.
@@ -88,7 +88,7 @@ impl Gains {
     }
 
     /// Whether a gain of the message is left at the place.
-    pub(crate) fn has(&self, message: u32, place: usize) -> bool
+    pub(crate) fn has(&self, message: u64, place: usize) -> bool
         requires { AreGains self.now }
         ensures { result ≡ holds self.now.messages message place }
     {
@@ -148,7 +148,7 @@ impl Gains {
     }
 
     /// The first place of the message from this one on that is left.
-    pub(crate) fn next(&self, message: u32, from: usize) -> Option<usize>
+    pub(crate) fn next(&self, message: u64, from: usize) -> Option<usize>
         requires { AreGains self.now }
         ensures from { IfSome result (λ at. from ≤ at) }
         ensures is { IfSome result (λ at. IsPlaceOf self.now message at) }
@@ -156,13 +156,37 @@ impl Gains {
         ensures before { IfSome result (λ at. (k : ℕ) → from ≤ k → k < at → holds self.now.messages message k ≡ false) }
         ensures none { IfNone result ((k : ℕ) → from ≤ k → holds self.now.messages message k ≡ false) }
     {
-        match self.messages.next(u64::from(message), from as u64) {
+        match self.messages.next(message, from as u64) {
             Some(at) => Some(at as usize),
             None => None,
         }
     }
 
-    /// The first place from this one on of what must be sent.
+    /// The first message after this one of which something is left, or the first of all where none is given.
+    pub(crate) fn next_message(&self, last: Option<u64>) -> Option<u64>
+        requires { AreGains self.now }
+        ensures low { IfSome result (λ message. first_after last ≤ message) }
+        ensures before { IfSome result (λ message. (m k : ℕ) → first_after last ≤ m → m < message → holds self.now.messages m k ≡ false) }
+        ensures none { IfNone result ((m k : ℕ) → first_after last ≤ m → holds self.now.messages m k ≡ false) }
+    {
+        match last {
+            Some(message) => self.message_from(message, u64::MAX),
+            None => self.message_from(0, 0),
+        }
+    }
+
+    /// The message of the first pair from this one on, in the order of messages and then of places.
+    fn message_from(&self, message: u64, place: u64) -> Option<u64>
+        ensures found { IfSome result (λ found. (k : ℕ) × IsFirstFrom self.now.messages message place (found, k)) }
+        ensures none { IfNone result (NoneFrom self.now.messages message place) }
+    {
+        match self.messages.first_from(message, place) {
+            Some(found) => Some(found.0),
+            None => None,
+        }
+    }
+
+    /// The first place from this one on of what must be sent. The place itself is looked at before the index is asked.
     pub(crate) fn next_must(&self, from: usize) -> Option<usize>
         requires { AreGains self.now }
         ensures within { IfSome result (λ at. (from ≤ at) × (at < self.now.end)) }
@@ -170,10 +194,30 @@ impl Gains {
         ensures before { IfSome result (λ at. (k : ℕ) → from ≤ k → k < at → holds self.now.musts 0 k ≡ false) }
         ensures none { IfNone result ((k : ℕ) → from ≤ k → holds self.now.musts 0 k ≡ false) }
     {
+        if self.end <= from {
+            return None;
+        }
+        if self.has_must(from) {
+            return Some(from);
+        }
         match self.musts.next(0, from as u64) {
             Some(at) => Some(at as usize),
             None => None,
         }
+    }
+
+    /// Whether the gain at the place is kept, and must be sent.
+    fn has_must(&self, place: usize) -> bool
+        requires { AreGains self.now }
+        ensures { OnTrue result ((place < self.now.end) × (holds self.now.musts 0 place ≡ true)) }
+    {
+        if place < self.first() {
+            return false;
+        }
+        if self.end <= place {
+            return false;
+        }
+        self.flags(place).must
     }
 
     /// Lets the gain at the place go: it is not left any more.
@@ -184,7 +228,7 @@ impl Gains {
         ensures gone { IsLetGo place self.old self.new }
     {
         let message = self.entry(place).message;
-        self.messages.take(u64::from(message), place as u64);
+        self.messages.take(message, place as u64);
         self.musts.take(0, place as u64);
         let at = place - (self.end - self.entries.len());
         self.flags[at] = Flags {
@@ -203,8 +247,8 @@ impl Gains {
         ensures dropped { IsDropped place self.old self.new }
     {
         let count = place - (self.end - self.entries.len());
-        words::drop_first(&mut self.entries, count);
-        words::drop_first(&mut self.flags, count);
+        front::drop_first(&mut self.entries, count);
+        front::drop_first(&mut self.flags, count);
     }
 }
 
@@ -215,7 +259,7 @@ fn note(messages: &mut Index, musts: &mut Index, place: u64, debt: Debt) -> Resu
     ensures ok { OnOk result (IsNoted place debt messages.old musts.old messages.new musts.new) }
     ensures err { OnErr result (((m k : ℕ) → holds messages.new m k ≡ holds messages.old m k) × (musts.new ≡ musts.old)) }
 {
-    let key = u64::from(debt.message);
+    let key = debt.message;
     messages.put(key, place)?;
     if !debt.must {
         return Ok(());

@@ -8,7 +8,7 @@ use crate::accounts::gains::Gains;
 use crate::accounts::strikes::Strike;
 
 /// Lets the first gains of the message go that no account owes.
-pub(crate) fn let_go(gains: &mut Gains, strikes: &[Strike], rows: &[Account], message: u32)
+pub(crate) fn let_go(gains: &mut Gains, strikes: &[Strike], rows: &[Account], message: u64)
     requires { AreAccounts gains.old strikes.now rows.now }
     ensures { AreKept strikes.now rows.now gains.old gains.new }
 {

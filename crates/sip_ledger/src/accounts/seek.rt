@@ -14,7 +14,7 @@ pub(crate) struct Seek {
 
 impl Seek {
     /// From this place on.
-    pub(crate) fn new(gains: &Gains, message: u32, low: usize) -> Self
+    pub(crate) fn new(gains: &Gains, message: u64, low: usize) -> Self
         requires { AreGains gains.now }
         ensures { IsSeek gains.now message result }
     {
@@ -26,7 +26,7 @@ impl Seek {
 
     /// The first place from this one on at which the message is left. The index is asked where neither what it said last nor the place
     /// itself tells.
-    pub(crate) fn next(&mut self, gains: &Gains, message: u32, from: usize) -> Option<usize>
+    pub(crate) fn next(&mut self, gains: &Gains, message: u64, from: usize) -> Option<usize>
         requires gained { AreGains gains.now }
         requires seek { IsSeek gains.now message self.old }
         ensures seek { IsSeek gains.now message self.new }

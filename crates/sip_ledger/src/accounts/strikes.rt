@@ -14,13 +14,13 @@ const FEW: usize = 8;
 /// Nothing of this message is owed at the places from one up to another.
 #[derive(Clone, Copy, Debug, PartialEq, Eq)]
 pub(crate) struct Strike {
-    pub message: u32,
+    pub message: u64,
     pub from: usize,
     pub to: usize,
 }
 
 /// A place up to which the message is struck from this one on, if it is struck here.
-pub(crate) fn struck_to(strikes: &[Strike], message: u32, place: usize) -> Option<usize>
+pub(crate) fn struck_to(strikes: &[Strike], message: u64, place: usize) -> Option<usize>
     ensures some { IfSome result (λ to. (place < to) × ((k : ℕ) → place ≤ k → k < to → is_struck strikes.now message k ≡ true)) }
     ensures none { IfNone result (is_struck strikes.now message place ≡ false) }
 {
@@ -33,7 +33,7 @@ pub(crate) fn struck_to(strikes: &[Strike], message: u32, place: usize) -> Optio
 }
 
 /// Whether the strike says that what was gained of the message at the place is not owed.
-fn strikes_out(strike: Strike, message: u32, place: usize) -> bool
+fn strikes_out(strike: Strike, message: u64, place: usize) -> bool
     ensures { result ≡ is_out message place strike }
 {
     strike.message == message && strike.from <= place && place < strike.to
@@ -118,7 +118,7 @@ fn reaches(gains: &Gains, strike: Strike, place: usize) -> bool
 }
 
 /// Whether nothing of the message is left from a place on up to another one.
-fn none_between(gains: &Gains, message: u32, from: usize, to: usize) -> bool
+fn none_between(gains: &Gains, message: u64, from: usize, to: usize) -> bool
     requires gained { AreGains gains.now }
     requires to { to ≤ gains.now.end }
     ensures { OnTrue result (IsNoneBetween gains.now message from to) }
@@ -136,7 +136,7 @@ fn none_between(gains: &Gains, message: u32, from: usize, to: usize) -> bool
 }
 
 /// Whether none of the gains from a place on up to another one is of the message.
-fn are_others(gains: &Gains, message: u32, from: usize, to: usize) -> bool
+fn are_others(gains: &Gains, message: u64, from: usize, to: usize) -> bool
     requires gained { AreGains gains.now }
     requires from { gains.now.end ≤ from + length gains.now.entries.items }
     requires order { from ≤ to }

@@ -37,17 +37,21 @@ StandsAt entries start items now = HasRead start now.format now.times items now.
 StandsAt ended start items now = ⊤
 StandsAt failed start items now = ⊤
 
+-- where the reader stands after these entries of the source's bytes, by its stage
 abbrev pub Stands : Option (List ℕ) → List Item → ReaderState → Type 0
 Stands start items now = StandsAt now.stage start items now
 
+-- entries in order stay so with one more that is not before the last
 pub InOrder-push : (format : Format) (last : ℕ) (items : List Item) (e : Item) → InOrder format last items → last_of last items ≤ e.moment → IsEntry format e → InOrder format last (items ++ e ∷ [])
 InOrder-push format last [] e order late entry = (late, entry, tt)
 InOrder-push format last (x ∷ xs) e order late entry = (order.0, order.1, InOrder-push format x.moment xs e order.2 late entry)
 
+-- the last moment of entries is that of the entry which was put last
 pub last_of-push : (last : ℕ) (items : List Item) (e : Item) → last_of last (items ++ e ∷ []) ≡ e.moment
 last_of-push last [] e = refl
 last_of-push last (x ∷ xs) e = last_of-push x.moment xs e
 
+-- the texts of entries, and of one more, are the texts of all of them
 pub texts-push : (items : List Item) (e : Item) (behind : List ℕ) → flat_map entry_says items ++ (entry_says e ++ behind) ≡ flat_map entry_says (items ++ e ∷ []) ++ behind
 texts-push [] e behind = ap (λ (t : List ℕ). t ++ behind) (sym (append-nil (entry_says e)))
 texts-push (x ∷ xs) e behind =
@@ -77,10 +81,12 @@ pub flat_map-append : (xs ys : List Item) → flat_map entry_says (xs ++ ys) ≡
 flat_map-append [] ys = refl
 flat_map-append (x ∷ xs) ys = ap (λ (t : List ℕ). entry_says x ++ t) (flat_map-append xs ys) ∙ sym (append_assoc (entry_says x) (flat_map entry_says xs) (flat_map entry_says ys))
 
+-- entries in order with more that go on in order are in order
 pub InOrder-append : (format : Format) (last : ℕ) (xs ys : List Item) → InOrder format last xs → InOrder format (last_of last xs) ys → InOrder format last (xs ++ ys)
 InOrder-append format last [] ys order more = more
 InOrder-append format last (x ∷ xs) ys order more = (order.0, order.1, InOrder-append format x.moment xs ys order.2 more)
 
+-- the last moment of two lists of entries is that of the second after that of the first
 pub last_of-append : (last : ℕ) (xs ys : List Item) → last_of last (xs ++ ys) ≡ last_of (last_of last xs) ys
 last_of-append last [] ys = refl
 last_of-append last (x ∷ xs) ys = last_of-append x.moment xs ys
@@ -235,6 +241,7 @@ module _ (start : Option (List ℕ)) (items : List Item) (old new : ReaderState)
   ended-at ended at on h again = absurd (elim on as (λ _. ⊥) [ inl is ↦ cc | inr is ↦ cc ])
   ended-at failed at on h again = absurd (elim on as (λ _. ⊥) [ inl is ↦ cc | inr is ↦ cc ])
 
+  -- where the reader answers the end, the log of the input has these entries and ends there
   pub Stands-ends : GoesOn old → Stands start items old → Nexts old new (Ok None) → IfSome start (λ input. IfSome new.times (λ p. LogSays input p items Clean))
   Stands-ends on stands nexts = ended-at old.stage refl on stands nexts
 
@@ -276,6 +283,7 @@ module _ (start : Option (List ℕ)) (items : List Item) (old new : ReaderState)
   stops-at ended e at on h again = absurd (elim on as (λ _. ⊥) [ inl is ↦ cc | inr is ↦ cc ])
   stops-at failed e at on h again = absurd (elim on as (λ _. ⊥) [ inl is ↦ cc | inr is ↦ cc ])
 
+  -- where the reader answers an error, the input stops at its fault after these entries
   pub Stands-stops : (e : LogError) → GoesOn old → Stands start items old → Nexts old new (Err e) → FailsAs old.has_failed new.has_failed (λ fault. IfSome start (λ input. StopsAt input new.times fault)) e
   Stands-stops e on stands nexts = stops-at old.stage e refl on stands nexts
 
@@ -285,6 +293,7 @@ module _ (start : Option (List ℕ)) (items : List Item) (old new : ReaderState)
   fault-of None (Some input) fault at = inl at
   fault-of (Some p) (Some input) fault at = inr (p, items, at)
 
+  -- where the reader answers an error, its fault is one for which the input cannot be read to its end
   pub Stands-fault : (e : LogError) → GoesOn old → Stands start items old → Nexts old new (Err e) → FailsAs old.has_failed new.has_failed (λ fault. IfSome start (λ input. IsFaultOf input fault)) e
   Stands-fault e on stands nexts = FailsAs-map old.has_failed new.has_failed _ _ e (λ fault at. fault-of new.times start fault at) (Stands-stops e on stands nexts)
 
@@ -295,6 +304,7 @@ module _ (start : Option (List ℕ)) (items : List Item) (old new : ReaderState)
   fine-at ended r again = ap (λ (x : ReaderState). x.has_failed) again.1
   fine-at failed r again = cc
 
+  -- no read of the source has failed in a call that answers no error
   pub Nexts-fine : (r : Option Entry) → Nexts old new (Ok r) → new.has_failed ≡ old.has_failed
   Nexts-fine r nexts = fine-at old.stage r nexts
 
@@ -306,6 +316,7 @@ module _ (start : Option (List ℕ)) (items : List Item) (old new : ReaderState)
     pub last : new.last ≡ e.moment
     pub continues : Continues (old.count + 1) old.last e
 
+  -- a call that moves on over an entry counts it
   counted : (e : Entry) → Moves old.count old.last new (Ok (Some e)) → Counted e
   counted e moves = record { on = moves.0; up = moves.2 ∙ moves.1.number_is; few = moves.4; last = moves.3; continues = moves.1 }
 
@@ -316,6 +327,7 @@ module _ (start : Option (List ℕ)) (items : List Item) (old new : ReaderState)
   counted-at ended e again = cc
   counted-at failed e again = cc
 
+  -- an answer with an entry counts it
   pub Nexts-counted : (e : Entry) → Nexts old new (Ok (Some e)) → Counted e
   Nexts-counted e nexts = counted-at old.stage e nexts
 

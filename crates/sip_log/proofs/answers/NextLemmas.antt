@@ -49,9 +49,11 @@ end-comes format count last rest (Stops fault) next = next
 abbrev Told : (LogReason → Type 0) → (Item → List ℕ → Type 0) → Next Item → Type 0
 Told P G next = ((fault : LogReason) × (next ≡ stops fault) × P fault) ⊎ ((e : Item) × (after : List ℕ) × (next ≡ gives e after) × G e after)
 
+-- what is not below a number is at least it
 pub not_below : (a b : ℕ) → ¬ (a < b) → b ≤ a
 not_below a b other = elim (cases_lt a b) as (λ _. b ≤ a) [ inl lt ↦ absurd (other lt) | inr le ↦ le ]
 
+-- what is not at most a number is above it
 pub not_above : (a b : ℕ) → ¬ (a ≤ b) → b < a
 not_above a b other = elim (cases_lt b a) as (λ _. b < a) [ inl lt ↦ lt | inr le ↦ absurd (other le) ]
 
@@ -71,9 +73,11 @@ message-told action moment len behind next other (inr (long, (text, b, after, wh
 abbrev Entered : Format → ℕ → List ℕ → List ℕ → Item → List ℕ → Type 0
 Entered format last line behind e after = (line ++ line_feed ∷ behind ≡ entry_says e ++ after) × (last ≤ e.moment) × IsEntry format e
 
+-- a line of a message that keeps the limits tells an entry within them
 pub message-within : (action : Action) (moment len : ℕ) → KeepsLimits (message action moment len) → IsWithinLimits action moment len
 message-within action moment len is = (is.0, λ other. (is.1, is.2))
 
+-- an entry with a message that is within the limits has a line that keeps them
 pub within-message : (action : Action) (moment len : ℕ) → HasMessage action → IsWithinLimits action moment len → KeepsLimits (message action moment len)
 within-message action moment len other is = (is.0, (is.1 other).0, (is.1 other).1)
 

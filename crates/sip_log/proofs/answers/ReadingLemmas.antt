@@ -21,6 +21,7 @@ use Rattle.sip_log.proofs.spelling.SpellingLemmas.{header-spelled}
 use Rattle.sip_log.proofs.logs.LogExists.{no-header}
 use Rattle.sip_log.proofs.answers.NextLemmas.{next-told}
 
+-- where the option holds something, what follows of P holds of it
 pub IfSome-map : {A : Type 0} (o : Option A) (P Q : A → Type 0) → ((x : A) → P x → Q x) → IfSome o P → IfSome o Q
 IfSome-map None P Q f h = tt
 IfSome-map (Some x) P Q f h = f x h
@@ -112,6 +113,7 @@ pub unheaded : (old new : Option (List ℕ)) (before after : Bool) (format : For
 unheaded old new before after format e fails =
     FailsAs-map before after _ _ e (λ fault. IfSome-map old (λ xs. read.HeaderComes xs (stops fault)) (λ xs. Heads format xs (stops fault)) (λ xs. fault-first xs fault)) fails
 
+-- what holds whatever comes holds where there is a result
 always : {A E : Type 0} (r : Result A E) (P : Type 0) → P → OnOk r P
 always (Ok a) P p = p
 always (Err e) P p = tt

@@ -46,6 +46,7 @@ module _ (input : List ℕ) (format : Format) (p : Times) (items : List Item) (r
   starts_end end next = record { format = format; rest = rest; header = is.header; order = is.order; next = next }
 
 module _ (start : Option (List ℕ)) (p : Times) (items : List Item) (old new : ReaderState) (has : HasStreamed start p items old) (none : old.count ≡ 0) where
+  -- at the stage of entries the reader reads the next one
   steps : (r : Result (Option Entry) LogError) → Nexts old new r → ReadsNext old new r
   steps r nexts = subst (λ s. NextsAt s old new r) has.on nexts
 
@@ -53,6 +54,7 @@ module _ (start : Option (List ℕ)) (p : Times) (items : List Item) (old new : 
   kept : (r : Result (Option Entry) LogError) → ReadsNext old new r → (new.times ≡ Some p) × (new.format ≡ old.format)
   kept r is = subst (λ t. IfSome t (λ q. (new.times ≡ Some q) × (new.format ≡ old.format))) has.times_are is.kept
 
+  -- where an entry comes next, the input starts with the entries and that one
   gave : (e : Entry) (s : Option (List ℕ)) → StartsAt s old.format p items old.left
       → IfSome old.left (λ xs. (ys : List ℕ) × (new.left ≡ Some ys) × ComesNext old.format old.count old.last xs (gives (item e) ys)) → StartsAt s old.format p (items ++ item e ∷ []) new.left
   gave e None at says = tt
@@ -61,6 +63,7 @@ module _ (start : Option (List ℕ)) (p : Times) (items : List Item) (old new : 
       let next = subst (λ c. ComesNext old.format c (last_of 0 items) rest (gives (item e) n.0)) none (subst (λ m. ComesNext old.format old.count m rest (gives (item e) n.0)) has.last n.2) in
       (n.0, n.1, starts_push input old.format p items rest is (item e) n.0 next)
 
+  -- where the reader answers an entry, it has streamed that entry too
   pub streams_entry : (e : Entry) → Nexts old new (Ok (Some e)) → HasStreamed start p (items ++ item e ∷ []) new
   streams_entry e nexts =
       let is = steps (Ok (Some e)) nexts in
@@ -73,16 +76,19 @@ module _ (start : Option (List ℕ)) (p : Times) (items : List Item) (old new : 
         starts = subst (λ f. StartsAt start f p (items ++ item e ∷ []) new.left) (sym same.1) (gave e start has.starts says);
       }
 
+  -- where nothing is left, the stream of the input has these entries and ends there
   ended : (s : Option (List ℕ)) → StartsAt s old.format p items old.left → IfSome old.left (λ xs. (ys : List ℕ) × (new.left ≡ Some ys) × (xs ≡ [])) → IfSome s (λ input. StreamSays input p items Clean)
   ended None at says = tt
   ended (Some input) (rest, left, is) says =
       let n = subst (λ o. IfSome o (λ xs. (ys : List ℕ) × (new.left ≡ Some ys) × (xs ≡ []))) left says in
       starts_end input old.format p items rest is Clean n.2
 
+  -- where the reader answers the end, the stream of the input has these entries and ends there
   pub streams_end : Nexts old new (Ok None) → IfSome start (λ input. StreamSays input p items Clean)
   streams_end nexts =
       ended start has.starts (subst (λ s. IfSome old.left (λ xs. (ys : List ℕ) × (new.left ≡ Some ys) × Comes s old new xs ends)) has.on (steps (Ok None) nexts).says.1)
 
+  -- where a fault comes next, the stream of the input has these entries and stops there
   stopped : (fault : LogReason) (s : Option (List ℕ)) → StartsAt s old.format p items old.left → IfSome old.left (λ xs. ComesNext old.format old.count old.last xs (stops fault))
       → IfSome s (λ input. StreamSays input p items (Stops fault))
   stopped fault None at says = tt
@@ -90,6 +96,7 @@ module _ (start : Option (List ℕ)) (p : Times) (items : List Item) (old new : 
       let n = subst (λ o. IfSome o (λ xs. ComesNext old.format old.count old.last xs (stops fault))) left says in
       starts_end input old.format p items rest is (Stops fault) (subst (λ c. ComesNext old.format c (last_of 0 items) rest (stops fault)) none (subst (λ m. ComesNext old.format old.count m rest (stops fault)) has.last n))
 
+  -- where the reader answers an error, the stream of the input has these entries and stops at its fault
   pub streams_stop : (e : LogError) → Nexts old new (Err e) → FailsAs old.has_failed new.has_failed (λ fault. IfSome start (λ input. StreamSays input p items (Stops fault))) e
   streams_stop e nexts =
       FailsAs-map old.has_failed new.has_failed _ _ e

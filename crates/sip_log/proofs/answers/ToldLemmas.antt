@@ -42,6 +42,7 @@ known held left ys P is fact = subst (λ l. IfSome (prepend_known held l) P) is 
 pub none_left : (left : Option (List ℕ)) (ys : List ℕ) → left ≡ Some ys → IsAtEnd left → ys ≡ []
 none_left left ys is end = subst IsAtEnd is end
 
+-- no bytes before what is left leave it as it is
 prepend_known-nil : (left : Option (List ℕ)) → prepend_known [] left ≡ left
 prepend_known-nil None = refl
 prepend_known-nil (Some xs) = refl

@@ -68,6 +68,7 @@ Tolerances-one Two text early late early2 late2 is is2 =
     let second = NumberAfter-one (codes " late ") is2.0 late late2 [] [] (subst (λ t. NumberAfter (codes " late ") t late []) first.1 is.2) is2.2 in
     (first.0, second.0)
 
+-- an empty text lacks each byte
 nothing-lacks : Lacks line_feed []
 nothing-lacks = Lacks-word line_feed [] refl
 

@@ -21,6 +21,7 @@ pub record Cut (m : ℕ) (xs front back : List ℕ) : Type 0 where
   pub whole : xs ≡ front ++ m ∷ back
   pub first : Lacks m front
 
+-- where a text lacks a byte, its rest lacks the byte
 Lacks-tail : (m x : ℕ) (xs : List ℕ) → Lacks m (x ∷ xs) → Lacks m xs
 Lacks-tail m x xs lacks = record { nowhere = λ k inside. lacks.nowhere (suc k) (omega arith) }
 

@@ -42,9 +42,11 @@ both P Q (inl p) (inl q) = inl (p, q)
 both P Q (inl p) (inr q) = inr (λ x. q x.1)
 both P Q (inr p) q = inr (λ x. p x.0)
 
+-- of two numbers it is settled whether the first is at most the second
 at_most : (a b : ℕ) → Settled (a ≤ b)
 at_most a b = elim (cases_lt b a) as (λ _. Settled (a ≤ b)) [ inl more ↦ inr (λ le. omega arith) | inr le ↦ inl le ]
 
+-- it is settled whether a number is within two bounds
 within : (a n b : ℕ) → Settled ((a ≤ n) × (n ≤ b))
 within a n b = both (a ≤ n) (n ≤ b) (at_most a n) (at_most n b)
 
@@ -73,6 +75,7 @@ begins-or-not (w ∷ word) (x ∷ xs) = elim (cases_eq x w) as (λ _. ((rest : L
 
 -- What follows is of numbers and the lines of entries.
 
+-- it is settled whether all bytes of a text are digits
 digits-or-not : (text : List ℕ) → Settled (AllDigits 10 text)
 digits-or-not [] = inl tt
 digits-or-not (c ∷ cs) = both (digit_value c < 10) (AllDigits 10 cs) (at_most (suc (digit_value c)) 10) (digits-or-not cs)
@@ -155,6 +158,7 @@ action-or-not format b = elim (cases_eq b (letter Sent)) [
   ]
 ]
 
+-- the line is the head of an entry, or of none
 abbrev HeadOrNot : Format → List ℕ → Type 0
 HeadOrNot format line = ((h : Head) × HeadLine format line h) ⊎ ((h : Head) → ¬ (HeadLine format line h))
 
@@ -227,6 +231,7 @@ message-some action moment len behind = Unless-some (len < length behind) faults
     (cases_eq b line_feed) (λ is. (gives (record { action = action; moment = moment; text = text }) after, refl)) in
     (close.0, (text, b, after, cut-at behind len inside, length-take-le len behind (omega arith), close.1)))
 
+-- after each head something comes: an entry, or a fault
 body-some : (head : Head) (behind : List ℕ) → Comes (BodyComes head behind)
 body-some (message action moment len) behind = message-some action moment len behind
 body-some (plain action moment) behind = (gives (record { action = action; moment = moment; text = [] }) behind, refl)
@@ -288,6 +293,7 @@ line-shorter format last rest e behind (inr (line, after, front, inr (head, is, 
     let body = Unless-gives _ _ e behind _ (Unless-gives _ _ e behind _ next) in
     omega (arith, body-shorter head after e behind body, ap length front.whole, length-append line (line_feed ∷ after))
 
+-- what is left after an entry is shorter than what was left before it
 pub next-shorter : (format : Format) (count last : ℕ) (rest : List ℕ) (e : Item) (behind : List ℕ) → EntryComes format count last rest (gives e behind) → length behind < length rest
 next-shorter format count last rest e behind (inl (none, same)) = cc
 next-shorter format count last rest e behind (inr (some, next)) = line-shorter format last rest e behind (Unless-gives _ _ e behind _ next)
@@ -318,6 +324,7 @@ Follow-some format count last rest = follows-some format (suc (length rest)) cou
 
 -- What follows is of the header.
 
+-- a number stands after the word in the text, or none does
 abbrev NumberOrNot : List ℕ → List ℕ → Type 0
 NumberOrNot word text = ((n : ℕ) × (behind : List ℕ) × NumberAfter word text n behind) ⊎ ((n : ℕ) (behind : List ℕ) → ¬ (NumberAfter word text n behind))
 

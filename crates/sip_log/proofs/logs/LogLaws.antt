@@ -124,6 +124,7 @@ HeadLine-one format line (plain a m) (plain a2 m2) is is2 =
     let moment = IsNumber-one is.0 is2.0 m m2 text is.3 is2.3 in
     λ i. plain (action i) (moment i)
 
+-- a text has one first line
 FrontLine-one : (rest line behind line2 behind2 : List ℕ) → FrontLine rest line behind → FrontLine rest line2 behind2 → (line ≡ line2) × (behind ≡ behind2)
 FrontLine-one rest line behind line2 behind2 is is2 =
     cut-one line_feed line behind line2 behind2 (record { nowhere = is.first }) (record { nowhere = is2.first }) (sym is.whole ∙ is2.whole)
@@ -150,6 +151,7 @@ parts-one (x ∷ xs) ys (x2 ∷ xs2) ys2 len same =
     let rest = parts-one xs ys xs2 ys2 len2 tail in
     (λ i. head i ∷ rest.0 i, rest.1)
 
+-- after a message one thing comes
 AtClose-one : (action : Action) (moment : ℕ) (text : List ℕ) (b : ℕ) (after : List ℕ) (n n2 : Next Item) → CloseComes action moment text b after n → CloseComes action moment text b after n2 → n ≡ n2
 AtClose-one action moment text b after n n2 = Unless-one _ _ n n2 _ _ (λ e e2. e ∙ sym e2)
 
@@ -162,10 +164,12 @@ AtMessage-one action moment len behind n n2 = Unless-one _ _ n n2 _ _
     let after : a.2 ≡ b.2 = ap (drop 1) parts.1 in
     AtClose-one action moment b.0 b.1 b.2 n n2 (coe 0 1 (i. CloseComes action moment (parts.0 i) (byte i) (after i) n) a.5) b.5)
 
+-- after a head one thing comes
 AtBody-one : (head : Head) (behind : List ℕ) (n n2 : Next Item) → BodyComes head behind n → BodyComes head behind n2 → n ≡ n2
 AtBody-one (message action moment len) behind n n2 a b = AtMessage-one action moment len behind n n2 a b
 AtBody-one (plain action moment) behind n n2 a b = a ∙ sym b
 
+-- at a head one thing comes
 AtHead-one : (last : ℕ) (head : Head) (behind : List ℕ) (n n2 : Next Item) → HeadComes last head behind n → HeadComes last head behind n2 → n ≡ n2
 AtHead-one last head behind n n2 = Unless-one _ _ n n2 _ _ (Unless-one _ _ n n2 _ _ (AtBody-one head behind n n2))
 

@@ -66,6 +66,7 @@ follow-spelled format count last rest (e ∷ es) end few (behind, next, follow) 
       next = subst (λ n. EndsWith format n (last_of e.moment es) more.left end) sum more.next;
     }
 
+-- a number is the sum of 0 and the number
 from_zero : (n : ℕ) → n ≡ 0 + n
 from_zero n = omega arith
 
@@ -127,10 +128,12 @@ entry-first e rest = letter-other e.action
     letter-other Mark same = absurd (omega arith)
     letter-other Restart same = absurd (omega arith)
 
+-- the texts of entries do not begin with the letter of a line of rules
 entries-first : (items : List Item) → get_or (flat_map entry_says items) 0 0 ≢ 114
 entries-first [] same = absurd (omega arith)
 entries-first (e ∷ es) same = entry-first e (flat_map entry_says es) same
 
+-- the line of rules that is written is read as these rules
 rules-written : (rules : Rules) (items : List Item) → RulesLine rules (written_rules rules ++ flat_map entry_says items) (flat_map entry_says items)
 rules-written R3261 items = inl refl
 rules-written R6026 items = inr (refl, refl, (λ rules more same. entries-first items (ap (λ (t : List ℕ). get_or t 0 0) same ∙ rules-first rules more)))
@@ -158,6 +161,7 @@ clean-log format input p items header few order = record {
   next = refl;
 }
 
+-- a header and entries that are written are the log that they were
 pub log-written : (format : Format) (p : Times) (items : List Item) → AreTimes p → (format ≡ One → p.early ≡ p.late) → length items ≤ most_entries → InOrder format 0 items
     → LogSays (header_text format p ++ flat_map entry_says items) p items Clean
 log-written format p items times one few order = clean-log format _ p items (header-written format p items times one) few order
@@ -186,6 +190,7 @@ no-rules R3261 text behind same (inl is) =
     let line : length (rules_text R3261) ≡ 11 = refl in
     absurd (omega (arith, line, ap length (sym same ∙ is), length-append (rules_text R3261) behind))
 
+-- a header of format 1 without a line of rules has those of RFC 6026
 pub rules-of-one : (input : List ℕ) (p : Times) (behind : List ℕ) → Header One p input behind → input ≡ lines_text One p ++ behind → p.rules ≡ R6026
 rules-of-one input p behind is whole =
     no-rules p.rules is.rest behind (append_cancel_left (lines_text One p) is.rest behind (sym is.lines ∙ whole)) is.rules

@@ -22,6 +22,7 @@ Follows format last rest (e ∷ es) end = (behind : List ℕ) × EntryComes form
 
 -- What follows shows that each rest has some entries and an end.
 
+-- some entries and some end follow in these bytes
 abbrev pub SomeFollow : Format → ℕ → List ℕ → Type 0
 SomeFollow format last rest = (es : List Item) × (end : LogEnd) × Follows format last rest es end
 
@@ -39,11 +40,13 @@ follows_within format (suc most) last rest short =
     let next = next-some format 0 last rest in
     follows_from format last rest next.0 next.1 (λ e behind shorter. follows_within format most e.moment behind (omega arith))
 
+-- in any bytes some entries and some end follow
 pub follows_some : (format : Format) (last : ℕ) (rest : List ℕ) → SomeFollow format last rest
 follows_some format last rest = follows_within format (suc (length rest)) last rest (omega arith)
 
 -- What follows shows that a rest has only one list of entries and one end.
 
+-- what follows in bytes is one thing
 follows_one : (format : Format) (last : ℕ) (rest : List ℕ) (es es2 : List Item) (end end2 : LogEnd) → Follows format last rest es end → Follows format last rest es2 end2 → (es ≡ es2) × (end ≡ end2)
 follows_one format last rest [] [] end end2 a b = (refl, next_at-one end end2 (ComesNext-one format 0 last rest _ _ a b))
 follows_one format last rest [] (e2 ∷ es2) end end2 a b = absurd (next_at-not_gives end e2 b.0 (ComesNext-one format 0 last rest _ _ a b.1))
@@ -96,6 +99,7 @@ stream_is_some input = elim (header-or-not input) [
       inr (is.1, items, end, record { format = is.0; rest = rest.left; header = subst (Header is.0 is.1 input) rest.whole is.3; order = rest.order; next = rest.next })
 ]
 
+-- no input has two streams
 pub stream_is_one : (input : List ℕ) (p q : Times) (items others : List Item) (end close : LogEnd) → StreamSays input p items end → StreamSays input q others close → (p ≡ q) × (items ≡ others) × (end ≡ close)
 stream_is_one input p q items others end close is are =
     let header = Header-one is.format are.format input p q _ _ is.header are.header in
@@ -104,6 +108,7 @@ stream_is_one input p q items others end close is are =
     let same = follows_one are.format 0 (flat_map entry_says others ++ are.rest) items others end close (coe 0 1 (i. Follows (header.0 i) 0 (header.2 i) items end) a) b in
     (header.1, same.0, same.1)
 
+-- no input both has a stream and lacks a header
 pub stream_has_header : (input : List ℕ) (p : Times) (items : List Item) (end : LogEnd) → LacksHeader input → StreamSays input p items end → ⊥
 stream_has_header input p items end none is = none is.format p _ is.header
 
@@ -115,12 +120,14 @@ ends_alike format m n last rest Clean few less is = is
 ends_alike format m n last rest (Stops fault) few less (some, inl (many, same)) = absurd (omega arith)
 ends_alike format m n last rest (Stops fault) few less (some, inr (other, at)) = (some, inr ((λ many. omega arith), at))
 
+-- a log of fewer entries than the most is a stream, and the other way round
 pub log_stream : (input : List ℕ) (p : Times) (items : List Item) (end : LogEnd) → length items < most_entries → LogSays input p items end ↔ StreamSays input p items end
 log_stream input p items end few = (
   (λ is. record { format = is.format; rest = is.rest; header = is.header; order = is.order; next = ends_alike is.format (length items) 0 (last_of 0 items) is.rest end few (omega arith) is.next }),
   (λ is. record { format = is.format; rest = is.rest; header = is.header; few = omega arith; order = is.order; next = ends_alike is.format 0 (length items) (last_of 0 items) is.rest end (omega arith) few is.next }),
 )
 
+-- a log that is read to its end is a stream that is, and the other way round, up to the most entries
 pub clean_stream : (input : List ℕ) (p : Times) (items : List Item) → length items ≤ most_entries → LogSays input p items Clean ↔ StreamSays input p items Clean
 clean_stream input p items few = (
   (λ is. record { format = is.format; rest = is.rest; header = is.header; order = is.order; next = is.next }),

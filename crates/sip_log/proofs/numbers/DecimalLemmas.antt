@@ -15,9 +15,11 @@ use Rattle.std.proofs.Math.Nat.{pow-le-pow_right}
 use native.Mathlib.Nat.{pow-zero, pow-succ'}
 use Rattle.sip_log.specs.inner.Number.{IsNumber, digit_zero}
 
+-- powers of ten rise
 pub powers : (i j : ℕ) → i ≤ j → 10 ^ i ≤ 10 ^ j
 powers i j more = pow-le-pow_right (omega arith) more
 
+-- digits after a number make no smaller one
 le_value_after : (n : ℕ) (ds : List ℕ) → n ≤ digits_value_after 10 n ds
 le_value_after n [] = omega arith
 le_value_after n (c ∷ cs) = omega (arith, le_value_after (n * 10 + digit_value c) cs)

@@ -187,12 +187,15 @@ message-or-not Failed = inl ((λ same. cc), (λ same. cc))
 message-or-not Mark = inr (λ has. has.0 refl)
 message-or-not Restart = inr (λ has. has.1 refl)
 
+-- an entry that was sent has a message
 has-sent : HasMessage Sent
 has-sent = ((λ same. cc), (λ same. cc))
 
+-- an entry that was received has a message
 has-received : HasMessage Received
 has-received = ((λ same. cc), (λ same. cc))
 
+-- an entry that the transport refused has a message
 has-failed : HasMessage Failed
 has-failed = ((λ same. cc), (λ same. cc))
 

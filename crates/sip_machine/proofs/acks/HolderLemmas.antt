@@ -20,11 +20,13 @@ pub FindsFirst-same : (P Q : Debt → Type 0) (t : ℕ) (debts : List Debt) (mes
 FindsFirst-same P Q t debts None same none = λ k d low holds. none k d low ((same k d low).1 holds)
 FindsFirst-same P Q t debts (Some message) same first = IsWithoutFirst-alike P Q debts (paid_by message t debts) same first
 
+-- the test of a payable debt says that it is of the message and its deadline not past
 pays-it : (n t : ℕ) (debt : Debt) → IsTrue (is_payable n t debt) ↔ (debt.message ≡ n) × (t ≤ debt.deadline)
 pays-it n t debt = (λ pays. (grind (arith, nat_tests), grind (arith, nat_tests)), λ (same, le). grind (arith, nat_tests))
 
 module _ (texts : Texts) (to : List ℕ) (low high t : ℕ) (rows : List (List Debt)) (row : ℕ) (inside : row < length rows)
     (spans : All (AreBetween low high) rows) (kept : All (Keeps texts) (owes_names (owed_in rows row))) where
+  -- what the row owes
   abbrev debts : List Debt
   debts = owed_in rows row
 

@@ -32,6 +32,7 @@ IsToOf-same bytes to text is = (
   λ its. (bytes_decides text to).1 (is.is ∙ ap (λ r. solid r.parts.to.0) (same_reading bytes is.message its.message is.reads its.reads) ∙ sym its.is),
 )
 
+-- bytes have one To
 pub IsToOf-one : (bytes to text : List ℕ) → IsToOf bytes text → IsToOf bytes to → text ≡ to
 IsToOf-one bytes to text is its = (bytes_decides text to).0 ((IsToOf-same bytes to text is).1 its)
 
@@ -156,6 +157,7 @@ AllPairs-take R n xs up = λ i j d lt low. elim (cases_lt (length xs) n) [
 
 -- What follows is of whose Tos the hashes are.
 
+-- where a result is no error, what holds of it where it is none holds
 pub on_ok : {T E : Type 0} (r : Result T E) (P : Type 0) → is_err r ≡ false → OnOk r P → P
 on_ok (Ok x) P is_not ok = ok
 on_ok (Err e) P is_not ok = absurd (true≢false is_not)

@@ -1,18 +1,18 @@
 -- What many states owe: what a send takes out of the debts of one state, and states that owe nothing.
 use Prim.Native.Nat.{suc, zero}
 use Rattle.std.specs.Prelude.{◌≡◌, ◌<◌, ◌≤◌, ◌-◌, ◌||◌, ℕ, Bool, true, false, IsTrue, None, List, [], ◌∷◌, ◌++◌, All, drop, filter, length, max, min, set, take}
-use Rattle.std.specs.Bool.{OnTrue, OnFalse}
 use Rattle.std.specs.List.{list_any}
 use Rattle.std.proofs.Common.{refl, sym, ◌∙◌, ap, ap₂, subst, arith, cond, true≢false, length-set}
-use Rattle.std.proofs.lemmas.List.Elements.{All-nil, All-cons, All-head, All-tail, All-push, All-set, All-get_or, All-weaker, filter-append}
+use Rattle.std.proofs.lemmas.List.Elements.{All-nil, All-cons, All-head, All-tail, All-push, All-set, All-get_or, All-weaker, All-filter, filter-append}
 use Rattle.std.proofs.lemmas.Bool.Decides.{nat_tests}
 use Rattle.std.proofs.lemmas.List.{get_or-set_same, set-get_or}
 use Rattle.sip_ledger.specs.declared.debt.Debt.{Debt}
-use Rattle.sip_ledger.specs.Debts.{counts_at, is_payable, IsWithoutFirst as LedgerWithoutFirst, paid_by}
+use Rattle.sip_ledger.specs.Debts.{counts_at, is_payable, paid_by}
 use Rattle.sip_standard.specs.Debts.{IsWithoutFirst}
 use Rattle.sip_machine.specs.Owes.{owed_in}
 use Rattle.sip_machine.specs.inner.Dues.{rows_in, AreBetween, AreDues}
 
+-- what is not true is false
 is_false : (b : Bool) → ¬ (b ≡ true) → b ≡ false
 is_false true never = absurd (never refl)
 is_false false never = refl
@@ -22,36 +22,6 @@ is_false false never = refl
 -- a send leaves a debt that it cannot pay, and pays what it can of those after it
 pub unpaid-front : (message t : ℕ) (debt : Debt) (debts : List Debt) → ¬ (IsTrue (is_payable message t debt)) → paid_by message t (debt ∷ debts) ≡ debt ∷ paid_by message t debts
 unpaid-front message t debt debts unpaid = ap (λ b. cond b debts (debt ∷ paid_by message t debts)) (is_false (is_payable message t debt) unpaid)
-
--- a send pays the first debt that it can pay: those before it and after it stay
-paid-behind : (message t : ℕ) (before : List Debt) (first : Debt) (after : List Debt) → All (λ debt. ¬ (IsTrue (is_payable message t debt))) before →
-    IsTrue (is_payable message t first) → paid_by message t (before ++ first ∷ after) ≡ before ++ after
-paid-behind message t [] first after none pays = ap (λ b. cond b after (first ∷ paid_by message t after)) pays
-paid-behind message t (debt ∷ before) first after none pays =
-    let unpaid = is_false (is_payable message t debt) (All-head (λ debt. ¬ (IsTrue (is_payable message t debt))) debt before none) in
-    ap (λ b. cond b (before ++ first ∷ after) (debt ∷ paid_by message t (before ++ first ∷ after))) unpaid
-    ∙ ap (λ debts. debt ∷ debts) (paid-behind message t before first after (All-tail (λ debt. ¬ (IsTrue (is_payable message t debt))) debt before none) pays)
-
--- what is left where a ledger took out the first payable debt is what is left after the payment
-pub paid-is : (message t : ℕ) (debts left : List Debt) → LedgerWithoutFirst (λ debt. IsTrue (is_payable message t debt)) debts left → left ≡ paid_by message t debts
-paid-is message t debts left a =
-    a.rest ∙ sym (paid-behind message t a.before a.first a.after a.none_before a.holds) ∙ ap (paid_by message t) (sym a.whole)
-
--- where a send can pay none of the debts, all stay
-pub unpaid-is : (message t : ℕ) (debts : List Debt) → All (λ debt. ¬ (IsTrue (is_payable message t debt))) debts → paid_by message t debts ≡ debts
-unpaid-is message t [] none = refl
-unpaid-is message t (debt ∷ debts) none =
-    let unpaid = is_false (is_payable message t debt) (All-head (λ debt. ¬ (IsTrue (is_payable message t debt))) debt debts none) in
-    ap (λ b. cond b debts (debt ∷ paid_by message t debts)) unpaid
-    ∙ ap (λ ds. debt ∷ ds) (unpaid-is message t debts (All-tail (λ debt. ¬ (IsTrue (is_payable message t debt))) debt debts none))
-
--- a row from which the first payable debt was taken, or which is as before since it has none, owes what is left after the payment
-pub paid-row : (message t : ℕ) (is : Bool) (old new : List Debt) (rows more : List (List Debt)) (row : ℕ) → old ≡ owed_in rows row → new ≡ owed_in more row →
-    OnTrue is (LedgerWithoutFirst (λ debt. IsTrue (is_payable message t debt)) old new) →
-    OnFalse is ((more ≡ rows) × All (λ debt. ¬ (IsTrue (is_payable message t debt))) old) → new ≡ paid_by message t old
-paid-row message t true old new rows more row is_old is_new paid unpaid = paid-is message t old new paid
-paid-row message t false old new rows more row is_old is_new paid unpaid =
-    is_new ∙ ap (λ rs. owed_in rs row) unpaid.0 ∙ sym is_old ∙ sym (unpaid-is message t old unpaid.1)
 
 -- where P does not hold of a debt, it and a list without the first debt of which P holds are the debt and the list without that one
 pub without-behind : (P : Debt → Type 0) (debt : Debt) (debts left : List Debt) → ¬ (P debt) → IsWithoutFirst P debts left → IsWithoutFirst P (debt ∷ debts) (debt ∷ left)
@@ -67,6 +37,7 @@ without-behind P debt debts left fails a = record {
 
 -- What follows is of debts of which a send can pay one, or none.
 module _ (message t : ℕ) where
+  -- the debt is payable: it is of the message, and its deadline is not past
   abbrev Pays : Debt → Type 0
   Pays debt = IsTrue (is_payable message t debt)
 
@@ -91,24 +62,25 @@ module _ (message t : ℕ) where
   none-step debt debts true is any more = absurd (true≢false any)
   none-step debt debts false is any more = All-cons (λ x. ¬ (Pays x)) debt debts (λ pays. true≢false (sym pays ∙ is)) (more any)
 
+  -- where the test finds no payable debt, none of the debts is payable
   pub pays-none : (debts : List Debt) → list_any (is_payable message t) debts ≡ false → All (λ x. ¬ (Pays x)) debts
   pays-none [] any = All-nil (λ x. ¬ (Pays x))
   pays-none (debt ∷ debts) any = none-step debt debts (is_payable message t debt) refl any (pays-none debts)
 
 -- What follows is of what each of many states owes, by rows.
 
--- rows without a ledger owe nothing
+-- rows without accounts owe nothing
 pub owed-none : (count row : ℕ) → owed_in (rows_in count None) row ≡ []
 owed-none zero row = refl
 owed-none (suc count) zero = refl
 owed-none (suc count) (suc row) = owed-none count row
 
--- rows that each owe nothing are the rows that there are without a ledger
+-- rows that each owe nothing are the rows that there are without accounts
 pub blank-rows : (rows : List (List Debt)) → ((k : ℕ) → k < length rows → owed_in rows k ≡ []) → rows ≡ rows_in (length rows) None
 blank-rows [] none = refl
 blank-rows (row ∷ rows) none = ap₂ (λ r rs. r ∷ rs) (none 0 (omega arith)) (blank-rows rows (λ k low. none (suc k) (omega (arith, low))))
 
--- where a row that owes nothing becomes what owes nothing, rows without a ledger stay as they are
+-- where a row that owes nothing is put in the place of one, rows without accounts stay as they are
 pub set-none : (count row : ℕ) (debts : List Debt) → debts ≡ [] → rows_in count None ≡ set (rows_in count None) row debts
 set-none count row debts is =
     sym (set-get_or (rows_in count None) row []) ∙ ap (set (rows_in count None) row) (owed-none count row ∙ sym is)
@@ -135,7 +107,7 @@ between-paid message t low high (debt ∷ debts) all =
     paid-step low high debt debts (paid_by message t debts) (is_payable message t debt) all
     (between-paid message t low high debts (All-tail (λ d. (low ≤ d.message) × (d.message ≤ high)) debt debts all))
 
--- without a ledger, the first n rows owe nothing
+-- without accounts, the first n rows owe nothing
 pub take-none : (count n : ℕ) → rows_in (min count n) None ≡ take n (rows_in count None)
 take-none zero zero = let e : min 0 0 ≡ 0 = omega arith in ap (λ k. rows_in k None) e
 take-none zero (suc n) = let e : min 0 (suc n) ≡ 0 = omega arith in ap (λ k. rows_in k None) e
@@ -143,7 +115,7 @@ take-none (suc count) zero = let e : min (suc count) 0 ≡ 0 = omega arith in ap
 take-none (suc count) (suc n) =
     let e : min (suc count) (suc n) ≡ suc (min count n) = omega arith in ap (λ k. rows_in k None) e ∙ ap (λ rows. [] ∷ rows) (take-none count n)
 
--- without a ledger, the rows after the first n owe nothing
+-- without accounts, the rows after the first n owe nothing
 pub drop-none : (count n : ℕ) → n ≤ count → rows_in (count - n) None ≡ drop n (rows_in count None)
 drop-none count zero le = let e : count - 0 ≡ count = omega arith in ap (λ k. rows_in k None) e
 drop-none zero (suc n) le = absurd (omega (arith, le))
@@ -156,15 +128,16 @@ between-wider low high message rows all =
     (λ debts between. All-weaker (λ (d : Debt). (low ≤ d.message) × (d.message ≤ high)) (λ (d : Debt). (min low message ≤ d.message) × (d.message ≤ max high message))
     (λ d is. let a = is.0 in let b = is.1 in (omega (arith, a), omega (arith, b))) debts between) rows all
 
--- where a row gains a debt, the messages of all rows lie between the numbers widened by that of the debt
-pub AreDues-gain : (rows : List (List Debt)) (count low high row : ℕ) (debt : Debt) → row < length rows → AreDues rows count low high →
-    AreDues (set rows row (owed_in rows row ++ debt ∷ [])) count (min low debt.message) (max high debt.message)
-AreDues-gain rows count low high row debt low_row dues =
+-- where a row gains a debt, and keeps what passes a test, the messages of all rows lie between the numbers widened by that of the debt
+pub AreDues-gain : (p : Debt → Bool) (rows : List (List Debt)) (count low high row : ℕ) (debt : Debt) → row < length rows → AreDues rows count low high →
+    AreDues (set rows row (filter p (owed_in rows row ++ debt ∷ []))) count (min low debt.message) (max high debt.message)
+AreDues-gain p rows count low high row debt low_row dues =
     let wider = between-wider low high debt.message rows dues.between in
     let m = debt.message in
-    AreDues-set rows count (min low m) (max high m) row (owed_in rows row ++ debt ∷ []) (record { long = dues.long; between = wider })
-    (All-push (λ (d : Debt). (min low m ≤ d.message) × (d.message ≤ max high m)) (owed_in rows row) debt
-    (All-get_or (AreBetween (min low m) (max high m)) rows row [] low_row wider) (omega arith, omega arith))
+    let P = λ (d : Debt). (min low m ≤ d.message) × (d.message ≤ max high m) in
+    AreDues-set rows count (min low m) (max high m) row (filter p (owed_in rows row ++ debt ∷ [])) (record { long = dues.long; between = wider })
+    (All-filter p P (owed_in rows row ++ debt ∷ [])
+    (All-push P (owed_in rows row) debt (All-get_or (AreBetween (min low m) (max high m)) rows row [] low_row wider) (omega arith, omega arith)))
 
 -- a row that is changed and then changed again is as if it was changed once, to what the second change makes of the first
 pub set-again : (rows : List (List Debt)) (row : ℕ) (debts : List Debt) (f : List Debt → List Debt) → row < length rows →

@@ -15,6 +15,7 @@ use Rattle.sip_machine.specs.inner.Tos.{IsToOf}
 use Rattle.sip_machine.specs.inner.DebtLaws.{All-front, All-back}
 use Rattle.sip_machine.proofs.debts.DueLemmas.{unpaid-front, without-behind}
 
+-- a run of no debts
 abbrev pub no_run : Run
 no_run = record { debt = record { message = 0; deadline = 0; must = false }; count = 0 }
 
@@ -42,6 +43,7 @@ each-All P (run ∷ runs) filled all =
 pub payable-parts : (message t : ℕ) (debt : Debt) → IsTrue (is_payable message t debt) → (debt.message ≡ message) × (t ≤ debt.deadline)
 payable-parts message t debt pays = (grind (arith, nat_tests), grind (arith, nat_tests))
 
+-- a debt of the message whose deadline is not past is payable
 pub payable-now : (message t : ℕ) (debt : Debt) → debt.message ≡ message → t ≤ debt.deadline → is_payable message t debt ≡ true
 payable-now message t debt same now = grind (arith, nat_tests)
 

@@ -23,6 +23,7 @@ module _ {X : Type 0} where
   from_to-next (suc from) (suc k) [] d le low = absurd (omega (arith, low))
   from_to-next (suc from) (suc k) (x ∷ xs) d le low = from_to-next from k xs d (omega (arith, le)) (omega (arith, low))
 
+  -- the elements up to one place further have the element there at their end
   pub from_to-more : (from k : ℕ) (xs : List X) (d : X) → from ≤ k → k < length xs → from_to from (k + 1) xs ≡ from_to from k xs ++ get_or xs k d ∷ []
   from_to-more from k xs d le low = let next : k + 1 ≡ suc k = omega arith in ap (λ n. from_to from n xs) next ∙ from_to-next from k xs d le low
 
@@ -31,6 +32,7 @@ module _ {X : Type 0} where
   some-first P at xs d low p =
       rw (from_to-more at at xs d (omega arith) low, from_to-none at at xs (omega arith)) (All-push P [] (get_or xs at d) (All-nil P) p)
 
+  -- what holds up to a place, and of the element there, holds up to one place further
   pub some-more : (P : X → Type 0) (at k : ℕ) (xs : List X) (d : X) → at ≤ k → k < length xs → All P (from_to at k xs) → P (get_or xs k d) → All P (from_to at (k + 1) xs)
   some-more P at k xs d le low all p = rw (from_to-more at k xs d le low) (All-push P (from_to at k xs) (get_or xs k d) all p)
 
@@ -51,7 +53,7 @@ from_to-map f (suc from) zero xs = refl
 from_to-map f (suc from) (suc to) [] = refl
 from_to-map f (suc from) (suc to) (x ∷ xs) = from_to-map f from to xs
 
-pub map-again : {X Y Z : Type 0} (f : X → Y) (g : Y → Z) (xs : List X) → map g (map f xs) ≡ map (λ x. g (f x)) xs
+map-again : {X Y Z : Type 0} (f : X → Y) (g : Y → Z) (xs : List X) → map g (map f xs) ≡ map (λ x. g (f x)) xs
 map-again f g [] = refl
 map-again f g (x ∷ xs) = ap (λ ys. g (f x) ∷ ys) (map-again f g xs)
 

@@ -118,10 +118,12 @@ module _ {X : Type 0} where
   some-at (x ∷ xs) zero low = x
   some-at (x ∷ xs) (suc k) low = some-at xs k (omega (arith, low))
 
+  -- a place of a list is a place of the list with more after it
   pub in-longer : (old added new : List X) (k : ℕ) → new ≡ old ++ added → k < length old → k < length new
   in-longer old added new k is low =
       let long : length new ≡ length old + length added = ap length is ∙ length-append old added in omega (arith, long, low)
 
+  -- the place of the element that was put last is in the list
   pub last-in : (old new : List X) (x : X) (last : ℕ) → new ≡ old ++ x ∷ [] → last ≡ length old → last < length new
   last-in old new x last is at = let long : length new ≡ length old + 1 = ap length is ∙ length-append old (x ∷ []) in omega (arith, long, at)
 
@@ -131,6 +133,7 @@ module _ {X : Type 0} where
   alone-set (y ∷ []) x one = refl
   alone-set (y ∷ z ∷ xs) x one = absurd (omega (arith, one))
 
+  -- the element that was put last is replaced at its place
   set-end : (old : List X) (x y : X) → set (old ++ x ∷ []) (length old) y ≡ old ++ y ∷ []
   set-end [] x y = refl
   set-end (z ∷ old) x y = ap (λ xs. z ∷ xs) (set-end old x y)

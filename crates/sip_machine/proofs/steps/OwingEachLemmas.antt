@@ -40,6 +40,7 @@ within-tells : (t : ℕ) (last : Option ℕ) → is_within t last ≡ true → I
 within-tells t None is = tt
 within-tells t (Some last) is = grind (arith, nat_tests)
 
+-- where the test does not find a moment within a limit, it is not within
 within-told : (t : ℕ) (last : Option ℕ) → is_within t last ≡ false → ¬ (IsWithin t last)
 within-told t None is = λ _. true≢false is
 within-told t (Some last) is = λ within. grind (arith, nat_tests)

@@ -28,6 +28,7 @@ AllPairs-of_map f g xs up = λ i j d lt low.
     let less : g (get_or (map f xs) i (f d)) < g (get_or (map f xs) j (f d)) = up i j (f d) lt high in
     rw (get_or-map f xs i d (f d) (omega (arith, lt, low)), get_or-map f xs j d (f d) low) at less
 
+-- to map twice is to map by both functions at once
 pub map-map : {X Y : Type 0} (f : X → Y) (g : Y → ℕ) (xs : List X) → map g (map f xs) ≡ map (λ x. g (f x)) xs
 map-map f g [] = refl
 map-map f g (x ∷ xs) = ap (λ ns. g (f x) ∷ ns) (map-map f g xs)
@@ -67,6 +68,7 @@ count_between-parted f xs low high from to within within' parts parts' =
 abbrev pub between : ℕ → ℕ → ℕ → Bool
 between low high n = nat_le low n && nat_le n high
 
+-- 1 where a test is true, and else 0
 abbrev one_of : Bool → ℕ
 one_of b = cond b 1 0
 
@@ -105,6 +107,7 @@ many-some low high ns n (k, within, at) le le' =
 above : (n : ℕ) (ns : List ℕ) (m : ℕ) → AllPairs (λ a b. a < b) (n ∷ ns) → Contains ns m → n < m
 above n ns m up (k, within, at) = subst (λ x. n < x) at (up 0 (suc k) m (omega arith) (omega (arith, within)))
 
+-- where numbers rise, those after the first rise
 rest_rises : (n : ℕ) (ns : List ℕ) → AllPairs (λ a b. a < b) (n ∷ ns) → AllPairs (λ a b. a < b) ns
 rest_rises n ns up = λ i j d lt low. up (suc i) (suc j) d (omega (arith, lt)) (omega (arith, low))
 
@@ -116,9 +119,11 @@ among_rest n ns ms all other m has =
       | inr rest ↦ rest
     ]
 
+-- what is in the rest of a list is in the list
 tail_in : (m : ℕ) (ms : List ℕ) (x : ℕ) → Contains ms x → Contains (m ∷ ms) x
 tail_in m ms x has = Contains-append_right (m ∷ []) ms x has
 
+-- the first element of a list is in it
 head_in : (m : ℕ) (ms : List ℕ) → Contains (m ∷ ms) m
 head_in m ms = (0, omega arith, refl)
 

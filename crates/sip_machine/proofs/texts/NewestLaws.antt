@@ -22,9 +22,11 @@ use Rattle.sip_machine.proofs.texts.OrderLaws.{none_in_gap, IsOrder-grow}
 use Rattle.sip_machine.proofs.texts.RetainLemmas.{kept_place, IsOrder-only}
 
 module _ (texts : Texts) (number : ℕ) (bytes : List ℕ) (book : IsBook (texts ++ (number, bytes) ∷ [])) where
+  -- the texts with one message more
   abbrev grown : Texts
   grown = texts ++ (number, bytes) ∷ []
 
+  -- there is one text more
   long : length grown ≡ length texts + 1
   long = length-append texts ((number, bytes) ∷ [])
 

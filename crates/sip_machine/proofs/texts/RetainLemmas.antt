@@ -130,6 +130,7 @@ module _ {X Y : Type 0} (f : X → Option Y) where
   all_step P Q so x xs p rest None is = rest
   all_step P Q so x xs p rest (Some y) is = All-cons Q y (filter_map f xs) (so x y is p) rest
 
+  -- what the function makes of each element of which P holds has Q, so all that it makes of a list has Q
   pub All-filter_map : (P : X → Type 0) (Q : Y → Type 0) → ((x : X) (y : Y) → f x ≡ Some y → P x → Q y) → (xs : List X) → All P xs → All Q (filter_map f xs)
   All-filter_map P Q so [] all = All-nil Q
   All-filter_map P Q so (x ∷ xs) all = all_step P Q so x xs (All-head P x xs all) (All-filter_map P Q so xs (All-tail P x xs all)) (f x) refl
@@ -160,6 +161,7 @@ module _ {X Y : Type 0} (f : X → Option Y) where
       subst (Contains (v ∷ filter_map f xs)) one (Contains-get_or (v ∷ filter_map f xs) 0 v (omega arith))
   contains_step u x xs y gives rest (Some v) is (inr has) = Contains-append_right (v ∷ []) (filter_map f xs) y (rest has)
 
+  -- what the function makes of an element of a list is in what it makes of the list
   pub Contains-filter_map : (xs : List X) (x : X) (y : Y) → f x ≡ Some y → Contains xs x → Contains (filter_map f xs) y
   Contains-filter_map [] x y gives has = absurd (Contains-nil x has)
   Contains-filter_map (u ∷ xs) x y gives has = contains_step u x xs y gives (λ there. Contains-filter_map xs x y gives there) (f u) refl (Contains-cons_cases u xs x has)
@@ -180,6 +182,7 @@ still old now i d rest =
     let zero_more : i + 0 ≡ i = omega arith in
     ap (λ k. get_or now k d) (sym zero_more) ∙ sym (get_or-drop i now 0 d) ∙ ap (λ xs. get_or xs 0 d) rest ∙ get_or-drop i old 0 d ∙ ap (λ k. get_or old k d) zero_more
 
+-- where two lists are alike from a place on, they are alike from the next one on
 still_rest : {X : Type 0} (old now : List X) (i : ℕ) → drop i now ≡ drop i old → drop (i + 1) now ≡ drop (i + 1) old
 still_rest old now i rest = sym (drop-drop 1 i now) ∙ ap (drop 1) rest ∙ drop-drop 1 i old
 
@@ -314,6 +317,7 @@ module _ {K : Type 0} (text : K → ℕ × List ℕ) (numbers : List ℕ) (old n
         long = ap length (swapped.3 x) ∙ length-set (set now left (get_or now i x)) i (get_or now left x) ∙ length-set now left (get_or now i x) ∙ keeps.long;
       }
 
+-- without texts nothing is merged
 merged_end : (numbers : List ℕ) → merged numbers [] ≡ []
 merged_end [] = refl
 merged_end (n ∷ ns) = refl

@@ -35,6 +35,7 @@ same_without P (x ∷ before) (x' ∷ before') first first' after after' e p p' 
     ap₂ (λ y ys. y ∷ ys) here (same_without P before before' first first' after after' more p p'
     (All-tail (λ x. ¬ (P x)) x before none) (All-tail (λ x. ¬ (P x)) x' before' none'))
 
+-- a list has one rest without its first element of which P holds
 pub IsWithoutFirst-same : {X : Type 0} (P : X → Type 0) (xs ys zs : List X) → IsWithoutFirst P xs ys → IsWithoutFirst P xs zs → ys ≡ zs
 IsWithoutFirst-same P xs ys zs a b =
     a.rest ∙ same_without P a.before b.before a.first b.first a.after b.after (sym a.whole ∙ b.whole) a.holds b.holds a.none_before b.none_before ∙ sym b.rest

@@ -1,13 +1,12 @@
 use Rattle.std.specs.Prelude.{◌≡◌, ◌≤◌, ℕ, Option, None, Some, List, [], All, length, replicate}
 use Rattle.sip_ledger.specs.declared.debt.Debt.{Debt}
-use Rattle.sip_ledger.specs.Ledgers.{GridOrLong, rows_of}
 
--- What many states owe, with a ledger or without one.
+-- What many states owe, with accounts or without.
 
--- what each of `count` rows owes: what the ledger has, or nothing where there is no ledger
-abbrev pub rows_in : ℕ → Option GridOrLong → List (List Debt)
+-- what each of `count` rows owes: what the accounts say, or nothing where there are no accounts
+abbrev pub rows_in : ℕ → Option (List (List Debt)) → List (List Debt)
 rows_in count None = replicate count []
-rows_in count (Some table) = rows_of table
+rows_in count (Some rows) = rows
 
 -- the numbers of the messages of these debts are from low up to high
 abbrev pub AreBetween : ℕ → ℕ → List Debt → Type 0

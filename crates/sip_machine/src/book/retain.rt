@@ -7,7 +7,7 @@ ghost use Rattle.sip_machine.specs.inner.Order.{texts_of, places_of, most_places
 use super::{KeptMessage, Place, PlaceRun};
 
 /// The number of the message at a position, and 0 past the last one.
-fn number_at(kept: &[KeptMessage], position: usize) -> u32
+fn number_at(kept: &[KeptMessage], position: usize) -> u64
     ensures { result ≡ number_at (texts_of kept.now) position }
 {
     match kept.get(position) {
@@ -17,7 +17,7 @@ fn number_at(kept: &[KeptMessage], position: usize) -> u32
 }
 
 /// The place of a message once the messages of these numbers alone are kept, if it is one of them.
-fn moved(kept: &[KeptMessage], place: Place, numbers: &[u32]) -> Option<Place>
+fn moved(kept: &[KeptMessage], place: Place, numbers: &[u64]) -> Option<Place>
     requires { AllPairs (λ a b. a < b) numbers.now }
     ensures { result ≡ moved (texts_of kept.now) numbers.now place }
 {
@@ -29,7 +29,7 @@ fn moved(kept: &[KeptMessage], place: Place, numbers: &[u32]) -> Option<Place>
 }
 
 /// Moves the places of the messages with these numbers, and drops those of the others.
-fn move_places(places: &mut Vec<Place>, kept: &[KeptMessage], numbers: &[u32])
+fn move_places(places: &mut Vec<Place>, kept: &[KeptMessage], numbers: &[u64])
     requires { AllPairs (λ a b. a < b) numbers.now }
     ensures places { places.new.items ≡ filter_map (moved (texts_of kept.now) numbers.now) places.old.items }
     ensures fewer { length places.new.items ≤ length places.old.items }
@@ -45,7 +45,7 @@ fn move_places(places: &mut Vec<Place>, kept: &[KeptMessage], numbers: &[u32])
 }
 
 /// Moves the places of one run, and drops those of messages that go. The run may be left without a place.
-fn move_run(run: &mut PlaceRun, kept: &[KeptMessage], numbers: &[u32])
+fn move_run(run: &mut PlaceRun, kept: &[KeptMessage], numbers: &[u64])
     requires { AllPairs (λ a b. a < b) numbers.now }
     ensures places { run.new.places.items ≡ filter_map (moved (texts_of kept.now) numbers.now) run.old.places.items }
     ensures fewer { length run.new.places.items ≤ length run.old.places.items }
@@ -58,7 +58,7 @@ fn move_run(run: &mut PlaceRun, kept: &[KeptMessage], numbers: &[u32])
 }
 
 /// Moves the places of all runs, and drops the runs that are left without a place.
-pub(super) fn move_all(runs: &mut Vec<PlaceRun>, kept: &[KeptMessage], numbers: &[u32])
+pub(super) fn move_all(runs: &mut Vec<PlaceRun>, kept: &[KeptMessage], numbers: &[u64])
     requires rising { AllPairs (λ a b. a < b) numbers.now }
     requires short { All (λ run. length run.places.items ≤ most_places) runs.old.items }
     ensures places { places_of runs.new.items ≡ filter_map (moved (texts_of kept.now) numbers.now) (places_of runs.old.items) }
@@ -72,7 +72,7 @@ pub(super) fn move_all(runs: &mut Vec<PlaceRun>, kept: &[KeptMessage], numbers: 
 }
 
 /// Keeps the messages with these numbers alone, and sets buffers of the others aside.
-pub(super) fn keep_only(kept: &mut Vec<KeptMessage>, spare: &mut Vec<Vec<u8>>, numbers: &[u32])
+pub(super) fn keep_only(kept: &mut Vec<KeptMessage>, spare: &mut Vec<Vec<u8>>, numbers: &[u64])
     ensures { texts_of kept.new.items ≡ merged numbers.now (texts_of kept.old.items) }
 {
     let mut left = 0;

@@ -1,14 +1,14 @@
 //! What many states owe, when many of them change at once.
-ghost use Rattle.std.specs.Prelude.{◌≡◌, ◌<◌, ◌≤◌, ◌&&◌, ◌++◌, ◌∷◌, [], List, None, All, IfOk, OnOk, OnErr, drop, filter, length, map, take};
-ghost use Rattle.std.specs.List.{list_any};
+ghost use Rattle.std.specs.Prelude.{◌≡◌, ◌<◌, ◌≤◌, ◌++◌, ◌∷◌, [], List, None, All, IfOk, OnOk, OnErr, drop, filter, length, map, take};
 ghost use Rattle.sip_ledger.specs.declared.debt.Debt.{Debt};
-ghost use Rattle.sip_ledger.specs.Debts.{counts_at, is_payable, is_timely, paid_by};
-ghost use Rattle.sip_ledger.specs.Ledgers.{Rise, from_to, rows_of};
+ghost use Rattle.sip_ledger.specs.Accounts.{paid_rows};
+ghost use Rattle.sip_ledger.specs.Debts.{counts_at, is_timely};
+ghost use Rattle.sip_ledger.specs.Ledgers.{Rise, from_to};
 ghost use Rattle.sip_machine.specs.Owes.{owed_in};
 ghost use Rattle.sip_machine.specs.inner.Dues.{rows_in};
 
 use crate::dues::{Dues, blank};
-use sip_ledger::{Debt, Ledger};
+use sip_ledger::{Accounts, Debt};
 use std::alloc::{AllocError, Global};
 
 impl Dues {
@@ -56,21 +56,21 @@ impl Dues {
         Ok(())
     }
 
-    /// Puts a copy of each row from `from` up to `to` after the others that is timely and has a debt that a send of the message at the moment pays.
-    pub(crate) fn push_payable(
+    /// Puts rows after the others: of each row from `from` up to `to` that is timely and has a debt that a send of the message at the moment
+    /// pays, one that owes the rest, without what is past. On an error all is as before.
+    pub(crate) fn push_paid(
         &mut self,
         from: usize,
         to: usize,
-        message: u32,
+        message: u64,
         moment: u64,
     ) -> Result<(), AllocError>
         requires { to ≤ length self.old }
-        ensures ok { OnOk result (self.new ≡ self.old ++
-            filter (λ owes. list_any (is_payable message moment) owes && is_timely moment owes) (from_to from to self.old)) }
+        ensures ok { OnOk result (self.new ≡ self.old ++ paid_rows message moment (from_to from to self.old)) }
         ensures err { OnErr result (self.new ≡ self.old) }
     {
         if let Some(ledger) = &mut self.ledger {
-            ledger.push_payable(from, to, message, moment)?;
+            ledger.push_paid(from, to, message, moment)?;
             self.rows = ledger.len();
         }
         Ok(())
@@ -100,33 +100,31 @@ impl Dues {
         Ok(())
     }
 
-    /// Takes out of each row from `from` on the first debt that a send of the message at the moment pays, if there is one.
-    pub(crate) fn pay_each(&mut self, from: usize, message: u32, moment: u64)
-        ensures { self.new ≡ take from self.old ++ map (paid_by message moment) (drop from self.old) }
+    /// Drops those debts of each row from `from` on that may be sent, and whose deadline is below the moment. On an error the rows before
+    /// them are as they were.
+    pub(crate) fn expire_each(&mut self, from: usize, moment: u64) -> Result<(), AllocError>
+        ensures ok { OnOk result (self.new ≡ take from self.old ++ map (filter (counts_at moment)) (drop from self.old)) }
+        ensures err { OnErr result (take from self.new ≡ take from self.old) }
     {
-        if let Some(ledger) = &mut self.ledger {
-            ledger.pay_each(from, message, moment);
+        let Some(ledger) = &mut self.ledger else {
+            return Ok(());
+        };
+        if ledger.expire_each(from, moment).is_err() {
+            self.rows = self.rows.min(from);
+            return Err(AllocError);
         }
-    }
-
-    /// Drops those debts of each row from `from` on that may be sent, and whose deadline is below the moment.
-    pub(crate) fn expire_each(&mut self, from: usize, moment: u64)
-        ensures { self.new ≡ take from self.old ++ map (filter (counts_at moment)) (drop from self.old) }
-    {
-        if let Some(ledger) = &mut self.ledger {
-            ledger.expire_each(from, moment);
-        }
+        Ok(())
     }
 }
 
-/// A ledger of `rows` rows, of which each from `from` on owes this debt, and no other owes anything.
+/// Accounts of `rows` rows, of which each from `from` on owes this debt, and no other owes anything.
 fn opened_from(
     alloc: Global,
     rows: usize,
     from: usize,
     debt: Debt,
-) -> Result<Box<Ledger>, AllocError>
-    ensures { IfOk result (λ boxed. rows_of boxed.value ≡ take from (rows_in rows None) ++ map (λ owes. owes ++ debt ∷ []) (drop from (rows_in rows None))) }
+) -> Result<Box<Accounts>, AllocError>
+    ensures { IfOk result (λ boxed. boxed.value ≡ take from (rows_in rows None) ++ map (λ owes. owes ++ debt ∷ []) (drop from (rows_in rows None))) }
 {
     let mut ledger = blank(alloc, rows)?;
     ledger.gain_each(from, debt)?;

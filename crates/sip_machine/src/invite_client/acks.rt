@@ -23,11 +23,11 @@ use std::alloc::{AllocError, Global};
 pub(crate) fn first_acked(
     alloc: Global,
     book: &Book,
-    request: u32,
+    request: u64,
     event: &Event,
     dues: &mut Dues,
     row: usize,
-) -> Result<Option<u32>, AllocError>
+) -> Result<Option<u64>, AllocError>
     requires row { row < length dues.old }
     requires ack { Keeps book.now event.now.number }
     requires invite { Keeps book.now request }
@@ -61,7 +61,7 @@ fn first_with_to(
     moment: u64,
     dues: &mut Dues,
     row: usize,
-) -> Result<Option<u32>, AllocError>
+) -> Result<Option<u64>, AllocError>
     requires row { row < length dues.old }
     requires some { owed_in dues.old row ≢ [] }
     requires owed { All (Keeps book.now) (owes_names (owed_in dues.old row)) }
@@ -80,7 +80,7 @@ fn first_with_to(
 }
 
 /// Where fewer messages than this may be owed, they are looked at one by one, which costs less than to find the one with a To.
-const FEW: u32 = 8;
+const FEW: u64 = 8;
 
 /// Which of the messages with numbers from `low` up to `high` has this To. It is told where there is one message alone, or where
 /// there are many and no two have the To.
@@ -88,8 +88,8 @@ fn holder(
     alloc: Global,
     book: &Book,
     to: &Hashed,
-    low: u32,
-    high: u32,
+    low: u64,
+    high: u64,
 ) -> Result<Holder, AllocError>
     requires { low ≡ high → Keeps book.now low }
     ensures { IfOk result (HoldsBetween book.now to.now low high) }
@@ -111,7 +111,7 @@ fn first_of_runs(
     to: &Hashed,
     runs: &[Run],
     moment: u64,
-) -> Result<Option<u32>, AllocError>
+) -> Result<Option<u64>, AllocError>
     requires filled { All (λ run. 0 < run.count) runs.now }
     requires debts { All (λ run. Keeps book.now run.debt.message) runs.now }
     ensures { IfOk result (FindsFirst (HasTo book.now to.now moment) moment (debts_in runs.now)) }

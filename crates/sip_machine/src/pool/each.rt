@@ -65,7 +65,7 @@ impl<P: Phase> Pool<P> {
         moment: u64,
         from: usize,
         to: usize,
-        message: u32,
+        message: u64,
     ) -> Result<(), AllocError>
         requires from { from < length self.old }
         requires to { to ≤ length self.old }
@@ -76,13 +76,11 @@ impl<P: Phase> Pool<P> {
     {
         let phase = self.phases[from];
         let before = self.dues.len();
-        self.dues.push_payable(from, to, message, moment)?;
+        self.dues.push_paid(from, to, message, moment)?;
         if push_phases(&mut self.phases, self.dues.len() - before, phase).is_err() {
             self.dues.truncate(before);
             return Err(AllocError);
         }
-        self.dues.pay_each(before, message, moment);
-        self.dues.expire_each(before, moment);
         Ok(())
     }
 }

@@ -39,8 +39,8 @@ pub record KeptOf (fields : List Field) (kept : Kept) : Type 0 where
 abbrev pub KeepsMore : Field → Kept → Kept → Type 0
 KeepsMore f old new = (fields : List Field) → KeptOf fields old → KeptOf (fields ++ f ∷ []) new
 
--- what the top Via and the CSeq say is e and s, the first values of From, To and Call-ID are f, t and i, and some bytes are the
--- text of the message
+-- some bytes are the text of the message m, p are the parts of its named fields, e and s are what its top Via and its CSeq say, and
+-- f, t and i are the first values of From, To and Call-ID
 pub record KeepsRead (m : Message) (p : Parts) (e : Element) (f t i : List ℕ) (s : ℕ × List ℕ) : Type 0 where
   pub via_text : List ℕ
   pub cseq_text : List ℕ

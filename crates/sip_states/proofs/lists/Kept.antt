@@ -100,7 +100,7 @@ module _ {X : Type 0} where
         let b = h.behind in
         get_or-drop (i + 1) (swap ys i k) n d ∙ moved.1 (i + 1 + n) d (λ e. omega (arith, e)) (λ e. omega (arith, b, e)) ∙ sym (get_or-drop (i + 1) ys n d))
 
-    -- where the flag at the place i is `true`, the loop goes on once the elements at i and k were swapped, for the element x at i
+    -- where the flag at the place i is `true`, swapping the elements at i and k keeps x, the one at i: what holds in the loop holds at the next place
     pub keeps_swap : true ≡ get_or flags i true → KeepsInPlace flags xs (swap ys i k) (k + 1) (i + 1)
     keeps_swap flag =
         let front : take (k + 1) (swap ys i k) ≡ take k ys ++ x ∷ [] =

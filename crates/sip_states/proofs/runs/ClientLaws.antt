@@ -281,7 +281,7 @@ module _ (p : Times) (one : MachineEvent) where
   again (invite.Proceeding reliable request (Some first)) e y h holds = absurd h
   again x e y h holds = absurd h
 
-  -- where Awaits holds, an INVITE that is sent in whatever way has the bytes of `one`, over an unreliable transport, T1 after `one` or later
+  -- where Awaits holds, an INVITE that is sent by a row or as a debt has the bytes of `one`, over an unreliable transport, T1 after `one` or later
   again_emits : (e : MachineEvent) (x y : Owing invite.InviteClientPhase) → Emits invite.invite_client p e x y → e.kind ≡ Request Invite → Awaits x.phase → (e.text ≡ one.text) × (one.reliable ≡ false) × (open_at p one.moment p.t1 ≤ e.moment)
   again_emits e x y (inl (row, is_row, to)) is holds = again x.phase e row (subst (λ k. invite.Sends p x.phase k e row) is is_row) holds
   again_emits e x y (inr (inr (stays, same))) is holds = absurd stays

@@ -67,10 +67,12 @@ optional-userinfo text (inr (u, v, user, (w, x, word, at, v_is), whole)) =
       whole = whole ∙ ap (λ t. u ++ t) (v_is ∙ ap (λ t. t ++ x) password.2 ∙ ap (λ t. led colon password.0 ++ t) at) ∙ sym (append_assoc u (led colon password.0) (at_sign ∷ []));
     }
 
+-- a text that is the name of a scheme but for case is a scheme
 scheme-named : (text : List ℕ) (secure : Bool) → folded text ≡ folded (scheme_name secure) → SipScheme text
 scheme-named text true is = inr is
 scheme-named text false is = inl is
 
+-- a scheme is the name of one of both schemes but for case
 named-scheme : (text : List ℕ) → SipScheme text → (secure : Bool) × (folded text ≡ folded (scheme_name secure))
 named-scheme text (inl is) = (false, is)
 named-scheme text (inr is) = (true, is)

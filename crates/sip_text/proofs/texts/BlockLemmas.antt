@@ -10,6 +10,7 @@ use lib.Lanes.{zip2, chunk, mask_l, Each1}
 use Rattle.sip_text.specs.Bytes.{is_token_byte}
 use Rattle.sip_text.specs.declared.token.TheConstants.{LOW, HIGH}
 
+-- the text has the 16 bytes of a block
 abbrev pub IsBlock : List ℕ → Type 0
 IsBlock v = (length v ≡ 16) × Each1 (Fits w8) v
 

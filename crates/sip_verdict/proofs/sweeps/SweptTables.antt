@@ -112,7 +112,7 @@ module _ (texts : Texts) (book : IsBook texts) (t u : Tabled) (moment : ℕ) (ad
           good = tracks.good;
         })
 
-  -- where each last moment is on record, it is so after the sweep
+  -- where each last moment is on record, it is on record after the sweep
   pub swept_recorded : AllAreOnRecord t → AllAreOnRecord u
   swept_recorded recorded = record {
     long = ap length advances.records ∙ recorded.long ∙ sym (ap length advances.keys);

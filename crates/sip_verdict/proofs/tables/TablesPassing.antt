@@ -175,7 +175,7 @@ heard_records texts event (n ∷ ns) t u before after given old (between, one, f
     heard_records texts event ns between u (first_of before one) after (heard_given texts event n t between one first ns (All-tail (IsGiven t) n ns given))
     (heard_record texts event n ns t between one (All-head (IsGiven t) n ns given) old first one_fine) rest fine
 
--- where the last moments are on record if the outcome is no trouble, they are so unless it is trouble
+-- where the last moments are on record if the outcome is fine, they are on record or the outcome is trouble
 pub on_record_if : (outcome : Outcome) (t : Tabled) → (outcome ≡ all.Fine → AllAreOnRecord t) → AreOnRecordIf outcome t
 on_record_if all.Fine t h = h refl
 on_record_if (all.NoRun number) t h = tt

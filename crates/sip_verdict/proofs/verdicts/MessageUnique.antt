@@ -24,7 +24,7 @@ cookie_once text direction s t a b lacks has = let e : true ≡ false = sym lack
 abbrev heard_as : Item → Said → List KeyParts → Observation KeyParts
 heard_as item s keys = record { fault = None; event = message_event item s; keys = keys }
 
--- one message is heard alike, with the same keys
+-- a message that is heard is observed in one way, with one list of keys
 heard_once : (item : Item) (direction : Direction) (s t : Said) (keys more : List KeyParts) → s ≡ t → Concerns s direction keys → Concerns t direction more → heard_as item s keys ≡ heard_as item t more
 heard_once item direction s t keys more same c d =
     let alike : keys ≡ more = c ∙ ap (λ x. option_to_list (own_key x direction) ++ option_to_list (cancelled_key x direction)) same ∙ sym d in

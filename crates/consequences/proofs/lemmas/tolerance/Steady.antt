@@ -24,7 +24,7 @@ module _ (p : Times) (early late : ℕ) (earlier : p.early ≤ early) (later : p
   abbrev q : Times
   q = tolerant early late p
 
-  -- what is sent again in time by the times p is so by the wider times q
+  -- what is sent again in time by the times p is sent in time by the wider times q
   retransmits : (reliable : Bool) (message : List ℕ) (set interval : ℕ) (e : MachineEvent) → Retransmits p reliable message set interval e → Retransmits q reliable message set interval e
   retransmits reliable message set interval e h = let fires = h.fires in record { same = h.same; unreliable = h.unreliable; fires = omega (arith, fires, earlier) }
 

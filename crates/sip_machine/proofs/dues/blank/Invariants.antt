@@ -1,7 +1,6 @@
 use Rattle.std.specs.Prelude.{◌≡◌, None}
-use Rattle.sip_ledger.specs.Ledgers.{rows_of}
 use Rattle.sip_machine.specs.inner.Dues.{rows_in}
 use Rattle.sip_machine.proofs.dues.blank.Given as goal
 
 abbrev pub invariant-loop-row : goal.invariant-loop-row
-invariant-loop-row l = rows_of l.ledger ≡ rows_in l.row None
+invariant-loop-row l = l.ledger ≡ rows_in l.row None

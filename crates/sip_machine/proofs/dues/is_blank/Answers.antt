@@ -1,7 +1,6 @@
 use Rattle.std.proofs.Common.{arith}
-use Rattle.sip_ledger.specs.Ledgers.{rows_of}
 use Rattle.sip_machine.proofs.debts.DueLemmas.{blank-rows}
 use Rattle.sip_machine.proofs.dues.is_blank.Goals as goal
 
 pub returns : goal.returns
-returns c = λ _. blank-rows (rows_of c.args.ledger.now) (λ k low. c.loop-row.invariant k (omega (arith, low)))
+returns c = λ _. blank-rows c.args.ledger.now (λ k low. c.loop-row.invariant k (omega (arith, low)))

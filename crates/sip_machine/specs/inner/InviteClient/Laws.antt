@@ -55,6 +55,7 @@ pub invite_client_window_same : SameWindow invite_client invite_client_seen
 invite_client_window_same a b p (code.Proceeding reliable request None) = refl
 invite_client_window_same a b p x = refl
 
+-- until when a phase can be waited in does not depend on the book
 pub invite_client_closes_same : SameCloses invite_client invite_client_seen
 invite_client_closes_same a b p code.Idle = refl
 invite_client_closes_same a b p x = refl

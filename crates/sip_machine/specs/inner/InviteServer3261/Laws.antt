@@ -69,6 +69,7 @@ pub invite_server_3261_window_same : SameWindow invite_server_3261 invite_server
 invite_server_3261_window_same a b p code.Passed = refl
 invite_server_3261_window_same a b p (code.In phase again) = invite_server_window_same a b p phase
 
+-- until when a phase can be waited in does not depend on the book
 pub invite_server_3261_closes_same : SameCloses invite_server_3261 invite_server_3261_seen
 invite_server_3261_closes_same a b p code.Passed = refl
 invite_server_3261_closes_same a b p (code.In phase again) = invite_server_closes_same a b p phase
@@ -93,6 +94,7 @@ sent p x k e y running h = absurd h
 within_keeps : (p : Times) (x : InviteServerPhase) (k : Kind) (e : MachineEvent) (after : After InviteServerPhase) → corrected.Sends p x k e after → after.1 ≡ drops → after.0 ≡ x → ⊥
 within_keeps p x k e after row drop same = invite_server_is_figure.sent_leaves p x k e after row (inl drop) same
 
+-- equal phases of the server by RFC 3261 alone hold equal phases of the corrected one
 in_same : (a b : InviteServerPhase) (again : Bool) → In a again ≡ In b again → a ≡ b
 in_same a b again same = cc
 

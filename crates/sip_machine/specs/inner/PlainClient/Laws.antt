@@ -45,6 +45,7 @@ pub plain_client_window_same : SameWindow plain_client plain_client_seen
 plain_client_window_same a b p code.Idle = refl
 plain_client_window_same a b p x = refl
 
+-- until when a phase can be waited in does not depend on the book
 pub plain_client_closes_same : SameCloses plain_client plain_client_seen
 plain_client_closes_same a b p code.Idle = refl
 plain_client_closes_same a b p x = refl

@@ -142,6 +142,7 @@ closed-via_set T solid some =
     (closed-slash (T then AfterTransport) (opens-then T AfterTransport (open-solid T solid some))
     (closed-then T AfterTransport (seam-left T AfterTransport (end-each T solid)) (closed-solid T solid) closed-after))
 
+-- an element whose transport is of T is not empty, and does not end with a blank
 firm-via_set : (T : List ℕ → Type 0) → AllFirm (ViaSet T)
 firm-via_set T =
     firm-then_right Token _ (firm-then_right (Mark slash) _ (firm-then_right Token _ (firm-then_right (Mark slash) _ (firm-then_right T AfterTransport firm-after))))

@@ -6,13 +6,13 @@ use Rattle.sip_program.proofs.asking.entry_number.Goals as goal
 
 pub returns-in_default : goal.returns-in_default
 returns-in_default c = λ entry is same.
-    let read = parse-decimal 32 entry c.args.word.now c.parse.result (omega (arith, is.1)) (omega (arith, is.1)) same c.parse.ensures.value.0 in
+    let read = parse-decimal 64 entry c.args.word.now c.parse.result (omega (arith, is.1)) (omega (arith, is.1)) same c.parse.ensures.value.0 in
     let never : Err c.in_default.field-0 ≡ Ok entry = sym c.in_default.is ∙ read in
     cc
 
 pub returns-then-number-lt-LEAST : goal.returns-then-number-lt-LEAST
 returns-then-number-lt-LEAST c = λ entry is same.
-    let read = parse-decimal 32 entry c.args.word.now c.parse.result (omega (arith, is.1)) (omega (arith, is.1)) same c.parse.ensures.value.0 in
+    let read = parse-decimal 64 entry c.args.word.now c.parse.result (omega (arith, is.1)) (omega (arith, is.1)) same c.parse.ensures.value.0 in
     let one : c.in-Ok.number ≡ entry = (let both : Ok c.in-Ok.number ≡ Ok entry = sym c.in-Ok.is ∙ read in cc) in
     elim c.then-number-lt-LEAST.branch [
       | then-number-lt-LEAST-via-then-number-lt-LEAST w ↦ omega (arith, one, is.0, w.if-number-lt-LEAST.true)

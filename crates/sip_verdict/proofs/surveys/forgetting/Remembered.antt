@@ -31,7 +31,7 @@ use Rattle.sip_verdict.proofs.surveys.found.Sound.{idle_runs}
 abbrev pub IsFoundAlike : Times → KeyParts → List (Observation KeyParts) → List (Observation KeyParts) → Observation KeyParts → Type 0
 IsFoundAlike p key front back e = (Breaks p front e key ↔ Breaks p back e key) × (Widens p front e key ↔ Widens p back e key)
 
--- what is found alike after a first list and a second, and after a third and the second, is found alike after the first and the third
+-- where the same is found after `front` as after `mid`, and after `back` as after `mid`, the same is found after `front` as after `back`
 pub alike_through : (p : Times) (key : KeyParts) (front mid back : List (Observation KeyParts)) (e : Observation KeyParts) → IsFoundAlike p key front mid e → IsFoundAlike p key back mid e → IsFoundAlike p key front back e
 alike_through p key front mid back e a b =
     ((λ h. b.0.1 (a.0.0 h), λ h. a.0.1 (b.0.0 h)), (λ h. b.1.1 (a.1.0 h), λ h. a.1.1 (b.1.0 h)))
@@ -81,7 +81,7 @@ module _ (kept : KeyParts → Bool) where
   moments_kept m (e ∷ old) more all =
       All-cons (λ f. m ≤ f.event.moment) (one_of e) (remembered kept old ++ more) (All-head (λ f. m ≤ f.event.moment) e (old ++ more) all) (moments_kept m old more (All-tail (λ f. m ≤ f.event.moment) e (old ++ more) all))
 
-  -- entries in the order of their moments are so as they are remembered
+  -- entries in the order of their moments are in this order too once they are remembered
   pub order_kept : (old more : List (Observation KeyParts)) → AllPairs (λ a b. a.event.moment ≤ b.event.moment) (old ++ more) → AllPairs (λ a b. a.event.moment ≤ b.event.moment) (remembered kept old ++ more)
   order_kept [] more order = order
   order_kept (e ∷ old) more order =
@@ -108,7 +108,7 @@ module _ (kept : KeyParts → Bool) where
     zip_left [] = tt
     zip_left (e ∷ es) = ((refl, sym (same_left e.keys), λ some. refl), zip_left es)
 
-    -- entries that are cut to the key alone are so with more entries after them that are cut to the key alone as well
+    -- where ys are the entries xs cut to the key alone, they are still with more entries after both, which are cut to the key in the second
     zip_append : (xs ys : List (Observation KeyParts)) → AllZip (IsCutOf (same_key key)) xs ys → (more : List (Observation KeyParts)) → AllZip (IsCutOf (same_key key)) (xs ++ more) (ys ++ remembered (same_key key) more)
     zip_append [] [] zip more = zip_remembered (same_key key) more
     zip_append [] (y ∷ ys) zip more = absurd zip

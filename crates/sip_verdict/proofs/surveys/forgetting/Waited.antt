@@ -149,7 +149,7 @@ module _ (texts : Texts) (book : IsBook texts) (t u : Tabled) (moment : ℕ) (wa
     long = waited.long ∙ may.long ∙ sym (ap length waited.keys);
   }
 
-  -- where each last moment is on record, it is so after the sets have waited
+  -- where each last moment is on record, it is on record after the sets have waited
   pub waited_recorded : AllAreOnRecord t → AllAreOnRecord u
   waited_recorded recorded = record {
     long = ap length waited.records ∙ recorded.long ∙ sym (ap length waited.keys);

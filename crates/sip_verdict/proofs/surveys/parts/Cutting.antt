@@ -78,7 +78,7 @@ module _ (chosen : KeyParts → Bool) where
   pub keys_cut : (es cs : List (Observation KeyParts)) → AllZip (IsCutOf chosen) es cs → keys_in cs ≡ filter chosen (keys_in es)
   keys_cut es cs zip = ap (fold with_key []) (all_keys es cs zip) ∙ filter_keys [] (flat_map (λ e. e.keys) es)
 
-  -- entries that stand for entries do so with one entry more on both sides
+  -- where entries stand for others, they still do with one entry more on both sides
   pub zip_push : (es cs : List (Observation KeyParts)) (e c : Observation KeyParts) → AllZip (IsCutOf chosen) es cs → IsCutOf chosen e c → AllZip (IsCutOf chosen) (es ++ e ∷ []) (cs ++ c ∷ [])
   zip_push [] [] e c zip here = (here, tt)
   zip_push [] (d ∷ cs) e c zip here = absurd zip

@@ -1,4 +1,7 @@
-use Rattle.std.proofs.Common.{◌≡◌, ◌≢◌, ◌+◌, ◌∙◌, sym, ap, subst, arith}
+use Rattle.std.proofs.Common.{◌≡◌, ◌≢◌, ◌+◌, ◌∙◌, Option, sym, ap, subst, arith}
+use Rattle.std.specs.Prelude.{IfNone}
+use Rattle.sip_standard.specs.declared.verdict.Verdict.{Verdict}
+use Rattle.sip_verdict.specs.inner.Walking.{JudgesOn, MovesOn, WalkGives}
 use Rattle.sip_log.specs.Reading as log
 use Rattle.sip_log.specs.Reading.{beside_source}
 use Rattle.sip_verdict.specs.declared.walking.Aim.TheVariants as aim
@@ -84,7 +87,7 @@ loop-standing-preserved g c =
     let new : log.ReaderState = beside_source c.read_next.new.progress (g.R.Source.left c.read_next.new.reader) (g.R.Source.has_failed c.read_next.new.reader) in
     let walks = l.invariant.walks in
     let e = c.in-Entry.entry in
-    let moves = rw c.in-Entry.is at c.in_ok-entry.ensures.moves in
+    let moves = subst (MovesOn l.progress c.read_next.new.progress) c.in-Entry.is c.in_ok-entry.ensures.moves in
     let next : e.number ≡ l.count + 1 = moves.1.number_is ∙ ap (λ n. n + 1) (sym l.invariant.counts) in
     let now = c.judge_on.new in
     record {
@@ -97,10 +100,10 @@ loop-standing-preserved g c =
           let low = l.invariant.before n is in
           let apart : e.number ≢ n = λ same. c.is_entry-in-Entry.ensures.is_not c.if-is_entry-2.false (is ∙ ap aim.Entry (sym same)) in
           omega (arith, low, apart, next);
-      may = subst (λ m. MayTake now.standing.book now.standing.tables (e.number + 1) m) (sym moves.3) (rw c.in_default.is at c.in_ok-verdict-in-Entry.ensures.may);
+      may = subst (λ m. MayTake now.standing.book now.standing.tables (e.number + 1) m) (sym moves.3) (subst (λ (v : Option Verdict). IfNone v (MayTake now.standing.book now.standing.tables (e.number + 1) e.moment)) c.in_default.is c.in_ok-verdict-in-Entry.ensures.may);
       walks = walks_on c.args.aim start old l.count l.left l.standing.book l.standing.tables walks e next moves.1.order new
-          ((rw c.in-Entry.is at c.in_ok-entry.ensures.gives) start l.standing.tables.times walks.items walks.read) now.left now.standing.book now.standing.tables
-          (rw c.in_default.is at c.in_ok-verdict-in-Entry.ensures.judged) c.in_ok-verdict-in-Entry.ensures.times moves.3;
+          (subst (WalkGives start l.standing.tables.times walks.items new) c.in-Entry.is (c.in_ok-entry.ensures.gives start l.standing.tables.times walks.items walks.read)) now.left now.standing.book now.standing.tables
+          (subst (JudgesOn c.args.aim l.standing.book l.standing.tables l.left now.standing.book now.standing.tables now.left e) c.in_default.is c.in_ok-verdict-in-Entry.ensures.judged) c.in_ok-verdict-in-Entry.ensures.times moves.3;
     }
 
 pub returns-in-End-clause-answer : goal.returns-in-End-clause-answer

@@ -4,6 +4,7 @@ use Rattle.sip_ledger.specs.inner.Accounts.{entries_of, must_at, owes_at}
 use Rattle.sip_ledger.specs.Debts.{counts_at}
 use Rattle.sip_ledger.proofs.places.AccountLemmas.{empty-debts, kept-passed, kept-twice}
 use Rattle.sip_ledger.proofs.places.ExpiringLemmas.{expired-end, expired-rising, expired-start}
+use Rattle.sip_ledger.proofs.places.GainEachLemmas.{none-goes}
 use Rattle.sip_ledger.proofs.accounts.account.expired.Goals as goal
 
 pub loop-place-init : goal.loop-place-init
@@ -20,6 +21,10 @@ returns-then-account-clause-debts c =
     let here = c.if-account.true in
     let none = empty-debts c.args.gains.now c.args.strikes.now.items c.args.account (omega (arith, here)) in
     none ∙ sym (ap (filter (counts_at c.args.moment)) none)
+
+pub returns-then-all_count-clause-debts : goal.returns-then-all_count-clause-debts
+returns-then-all_count-clause-debts c =
+    sym (none-goes c.args.gains.now c.args.strikes.now.items c.args.account c.args.moment c.requires.gained c.if-all_count.ensures)
 
 pub expired_at-requires-clause-kept : goal.expired_at-requires-clause-kept
 expired_at-requires-clause-kept c =

@@ -7,4 +7,4 @@ pub returns : goal.returns
 unfolding worth_of
 returns c =
     c.mixed-2.ensures
-    ∙ ap (λ n. mixed n (n / 2 ^ 32)) (c.mixed-number.ensures ∙ ap (λ n. mixed n c.args.deadline) (c.mixed.ensures ∙ ap (mixed 1) c.from.ensures))
+    ∙ ap (λ n. mixed n (n / 2 ^ 32)) (c.mixed-number.ensures ∙ ap (λ n. mixed n c.args.deadline) c.mixed.ensures)

@@ -1,5 +1,4 @@
 use Rattle.std.specs.Prelude.{None}
-use Rattle.sip_ledger.specs.Ledgers.{rows_of}
 use Rattle.sip_machine.specs.inner.Dues.{rows_in, AreDues}
 use Rattle.sip_ledger.proofs.lists.EachLemmas.{on_ok}
 use Rattle.sip_machine.proofs.debts.DuesEachLemmas.{AreDues-gained}
@@ -12,7 +11,7 @@ invariant_of-self-2 c =
     let debt = c.args.debt in
     elim c.match-self.branch [
       | in-Some+else-is_err w ↦
-          let rows = rows_of w.in-Some.ledger.value in
+          let rows = w.in-Some.ledger.value in
           let dues : AreDues rows own.rows own.lowest own.highest = rw w.in-Some.is at c.self.invariant in
           let gained = on_ok w.gain_each.result _ (rw w.is_err.ensures.value at w.if-is_err.false) w.gain_each.ensures.ok in
           let clauses = rw w.deref_mut.ensures.value at gained in

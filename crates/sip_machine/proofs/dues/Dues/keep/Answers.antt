@@ -1,6 +1,5 @@
 use Rattle.std.specs.Prelude.{◌≡◌, ◌<◌, None, All, length, map}
 use Rattle.std.proofs.Common.{sym, subst, ap, ◌∙◌}
-use Rattle.sip_ledger.specs.Ledgers.{rows_of}
 use Rattle.sip_machine.specs.Owes.{owed_in}
 use Rattle.sip_machine.specs.inner.Dues.{rows_in, AreDues}
 use Rattle.sip_machine.proofs.debts.DuesEachLemmas.{AreDues-kept, kept-none}
@@ -13,7 +12,7 @@ invariant_of-self c =
     let kept = c.args.rows.now in
     elim c.match-self.branch [
       | in-Some w ↦
-          let rows = rows_of w.in-Some.ledger.value in
+          let rows = w.in-Some.ledger.value in
           let is : rows ≡ c.args.self.now = rw w.in-Some.is at c.self.view_is in
           let dues : AreDues rows own.rows own.lowest own.highest = rw w.in-Some.is at c.self.invariant in
           let clauses = rw w.deref_mut.ensures.value at w.keep.ensures in
@@ -31,7 +30,7 @@ pub returns : goal.returns
 returns c =
     elim c.match-self.branch [
       | in-Some w ↦
-          let is : rows_of w.in-Some.ledger.value ≡ c.args.self.now = rw w.in-Some.is at c.self.view_is in
+          let is : w.in-Some.ledger.value ≡ c.args.self.now = rw w.in-Some.is at c.self.view_is in
           rw w.self-inside-is ((rw w.deref_mut.ensures.value at w.keep.ensures) ∙ ap (λ rows. map (owed_in rows) c.args.rows.now) is)
       | in_default w ↦
           let is : rows_in c.self.inside.rows None ≡ c.args.self.now = rw w.in_default.is at c.self.view_is in

@@ -3,7 +3,6 @@ use Rattle.std.proofs.Common.{sym, subst}
 use Rattle.std.proofs.lemmas.List.Elements.{All-map}
 use Rattle.sip_ledger.specs.Debts.{softened_debt}
 use Rattle.sip_ledger.specs.declared.debt.Debt.{Debt}
-use Rattle.sip_ledger.specs.Ledgers.{rows_of}
 use Rattle.sip_machine.specs.Owes.{owed_in}
 use Rattle.sip_machine.specs.inner.Dues.{AreDues}
 use Rattle.sip_machine.proofs.debts.DueLemmas.{AreDues-set, between-row}
@@ -14,7 +13,7 @@ pub invariant_of-self : goal.invariant_of-self
 invariant_of-self c =
     elim c.match-self.branch [
       | in-Some w ↦
-          let rows = rows_of w.in-Some.ledger.value in
+          let rows = w.in-Some.ledger.value in
           let own = c.self.inside in
           let is : rows ≡ c.args.self.now = rw w.in-Some.is at c.self.view_is in
           let dues : AreDues rows own.rows own.lowest own.highest = rw w.in-Some.is at c.self.invariant in

@@ -20,18 +20,18 @@ returns-in_ok-lead-in-Some-None-clause-alone g c =
     let changed : c.lead.new.self ≡ set xs 0 led = rw (c.in_ok-turn.ensures.same, c.params.ensures, c.moment-moment.ensures) at c.in_ok-lead-in-Some-None.ensures.ok d in
     ap length (changed ∙ alone-set xs led one)
 
-pub returns-in-None-Some-clause-one : goal.returns-in-None-Some-clause-one
-returns-in-None-Some-clause-one g c = λ d.
+pub returns-in_ok-come_to_rest-in-None-Some-clause-one : goal.returns-in_ok-come_to_rest-in-None-Some-clause-one
+returns-in_ok-come_to_rest-in-None-Some-clause-one g c = λ d.
     let xs = c.args.pool.now in
     let rested = rests_at c.args.event.now.moment c.in-None-Some.rest (get_or xs 0 d) in
-    let changed : c.come_to_rest.new.self ≡ set xs 0 rested = rw (c.in_ok-turn.ensures.same, c.moment-moment.ensures) at c.come_to_rest.ensures d in
+    let changed : c.come_to_rest.new.self ≡ set xs 0 rested = rw (c.in_ok-turn.ensures.same, c.moment-moment.ensures) at c.in_ok-come_to_rest-in-None-Some.ensures.ok d in
     rw (changed ∙ alone-set xs rested c.requires.alone) (rw (c.in-None-Some.is-0, c.in-None-Some.is-1) at c.in_ok-turn.ensures.gives d)
 
-pub returns-in-None-Some-clause-alone : goal.returns-in-None-Some-clause-alone
-returns-in-None-Some-clause-alone g c =
+pub returns-in_ok-come_to_rest-in-None-Some-clause-alone : goal.returns-in_ok-come_to_rest-in-None-Some-clause-alone
+returns-in_ok-come_to_rest-in-None-Some-clause-alone g c =
     let xs = c.args.pool.now in
     let one = c.requires.alone in
     let d = some-at xs 0 (omega (arith, one)) in
     let rested = rests_at c.args.event.now.moment c.in-None-Some.rest (get_or xs 0 d) in
-    let changed : c.come_to_rest.new.self ≡ set xs 0 rested = rw (c.in_ok-turn.ensures.same, c.moment-moment.ensures) at c.come_to_rest.ensures d in
+    let changed : c.come_to_rest.new.self ≡ set xs 0 rested = rw (c.in_ok-turn.ensures.same, c.moment-moment.ensures) at c.in_ok-come_to_rest-in-None-Some.ensures.ok d in
     ap length (changed ∙ alone-set xs rested one)

@@ -10,8 +10,8 @@ use Rattle.sip_machine.proofs.pool.Pool.come_to_rest.Goals as goal
 pub come_to_rest-requires : goal.come_to_rest-requires
 come_to_rest-requires g c = in-rows c.self.inside.phases.items c.self.inside.dues c.args.self.now c.args.at c.self.view_is c.self.invariant c.requires
 
-pub returns : goal.returns
-returns g c = λ d.
+pub returns-clause-ok : goal.returns-clause-ok
+returns-clause-ok g c = λ d.
     let phases = c.self.inside.phases.items in
     let rows = c.self.inside.dues in
     let at = c.args.at in
@@ -19,6 +19,6 @@ returns g c = λ d.
     let owes = rested_debts t c.args.rest (owed_in rows at) in
     let low = in-phases phases rows c.args.self.now at c.self.view_is c.requires in
     let is = state-at phases rows c.args.self.now at d.phase d c.self.view_is c.requires in
-    ap (beside phases) c.come_to_rest.ensures ∙ beside-owes phases rows at d.phase owes c.self.invariant low
+    ap (beside phases) c.in_ok-come_to_rest.ensures.ok ∙ beside-owes phases rows at d.phase owes c.self.invariant low
     ∙ ap (λ xs. set xs at (record { phase = get_or phases at d.phase; owes = owes })) c.self.view_is
     ∙ ap (set c.args.self.now at) (rests-owes t c.args.rest (state_in (get_or phases at d.phase) rows at) ∙ ap (rests_at t c.args.rest) (sym is))

@@ -2,7 +2,7 @@ use Rattle.std.specs.Prelude.{◌≡◌, ◌-◌, drop, length, take}
 use Rattle.std.specs.List.{copy_within}
 use Rattle.std.proofs.Common.{◌∙◌, ap, ap₂, arith, sym}
 use Rattle.std.proofs.lemmas.List.{length-drop}
-use Rattle.sip_ledger.proofs.grids.WordsLemmas.{dropped-first}
+use Rattle.sip_ledger.proofs.lists.FrontLemmas.{dropped-first}
 use Rattle.sip_machine.specs.inner.Pools.{beside}
 use Rattle.sip_machine.proofs.pools.PoolLemmas.{beside-drop, beside-length}
 use Rattle.sip_machine.proofs.pool.Pool.drop_first.Goals as goal

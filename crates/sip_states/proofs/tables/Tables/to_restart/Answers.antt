@@ -1,22 +1,11 @@
-use Rattle.std.proofs.Common.{◌+◌, ◌∙◌, map, get_or, sym, ap, true, subst, arith}
+use Rattle.std.proofs.Common.{◌+◌, ◌∙◌, map, sym, ap, subst, arith}
 use Rattle.std.proofs.lemmas.List.{take_all}
-use Rattle.std.proofs.lemmas.Option.{slice_get_within}
 use Rattle.std.proofs.lemmas.Map.Entries.{length-values_of, length-keys_of}
 use Rattle.indexmap.specs.IndexMap.{keys, values}
 use Rattle.sip_states.specs.Tables.{Tabled}
 use Rattle.sip_states.specs.Restarting.{AreToRestart}
-use Rattle.sip_states.specs.inner.Marks.{IsMarked}
-use Rattle.sip_states.proofs.due.AdvanceLemmas.{place_among, restart_numbers}
+use Rattle.sip_states.proofs.due.AdvanceLemmas.{restart_numbers}
 use Rattle.sip_states.proofs.tables.Tables.to_restart.Goals as goal
-
-pub overflow_add-index : goal.overflow_add-index
-overflow_add-index g c =
-    let moved = c.self.inside.moved in
-    let items = c.marked-index-items.result.now in
-    let index = get_or items c.loop-index.index-index 0 in
-    let mark : IsMarked moved index = (c.marked-index-items.ensures.members index).0 (place_among items c.loop-index.index-index 0 (omega arith)) in
-    let within = slice_get_within moved index true mark in
-    omega (arith, within, c.self.invariant.4, c.self.invariant.0)
 
 pub returns : goal.returns
 returns g c =

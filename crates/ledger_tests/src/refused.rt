@@ -1,0 +1,97 @@
+//! Calls on accounts in which a growth is refused. `tests/growths` refuses each growth in turn: the test then fails with want of memory, once it has
+//! seen that the call left all as it was, and that the same call succeeds with memory.
+use crate::wants::is;
+use sip_ledger::{Accounts, Debt};
+use std::alloc::AllocError;
+use std::process::Abort;
+use std::test::Fail;
+
+/// Asserts that two accounts have the same rows.
+fn alike(
+    rt: &(impl Abort + AllocGlobal),
+    accounts: &Accounts,
+    twin: &Accounts,
+) -> Result<(), Fail> {
+    is(rt, accounts.len(), twin.len());
+    for row in 0..accounts.len() {
+        assert!(rt; row < twin.len());
+        let owed = accounts.runs(rt.alloc(), row)?;
+        let owes = twin.runs(rt.alloc(), row)?;
+        assert!(rt; owed.as_slice() == owes.as_slice(), "{row}");
+    }
+    Ok(())
+}
+
+/// Does what the step with this number does: a row comes, gains, or pays one of three messages.
+fn step(rt: &impl Abort, accounts: &mut Accounts, number: u32) -> Result<(), AllocError> {
+    let moment = u64::from(number);
+    let message = moment % 3;
+    let debt = Debt {
+        message,
+        deadline: moment + 9,
+        must: number % 2 == 0,
+    };
+    let rows = accounts.len();
+    assert!(rt; 1 < rows);
+    match number % 8 {
+        0 => accounts.push(),
+        1 => accounts.push_copy(0),
+        2 | 3 => accounts.gain_and_expire(0, debt, moment),
+        4 => accounts.gain(1, debt),
+        5 => accounts.pay_and_expire(0, message, moment),
+        6 => accounts.push_paid(0, rows, message, moment),
+        _ => accounts.push_timely(0, rows, moment),
+    }
+}
+
+/// Does the step, by a second call where memory was refused, and does it to the twin as well. Asserts that both have the same rows then.
+fn step_again(
+    rt: &(impl Abort + AllocGlobal),
+    accounts: &mut Accounts,
+    twin: &mut Accounts,
+    number: u32,
+) -> Result<(), Fail> {
+    let done = step(rt, accounts, number);
+    if done.is_err() {
+        alike(rt, accounts, twin)?;
+        step(rt, accounts, number)?;
+    }
+    step(rt, twin, number)?;
+    alike(rt, accounts, twin)?;
+    Ok(done?)
+}
+
+/// Asks for the messages that rows owe, by a second call where memory was refused.
+fn names_again(rt: &(impl Abort + AllocGlobal), accounts: &Accounts) -> Result<(), Fail> {
+    let mut names = Vec::new(rt.alloc());
+    let asked = accounts.all_names(&mut names);
+    if asked.is_err() {
+        assert!(rt; names.is_empty());
+        accounts.all_names(&mut names)?;
+    }
+    for number in &names {
+        assert!(rt; *number < 3);
+    }
+    Ok(asked?)
+}
+
+#[test]
+fn accounts_are_as_before_after_a_refused_growth(rt: HostRuntime) -> Result<(), Fail> {
+    let mut accounts = Accounts::new(rt.alloc());
+    let mut twin = Accounts::new(rt.alloc());
+    for _ in 0..2 {
+        accounts.push()?;
+        twin.push()?;
+    }
+    for number in 0..48_u32 {
+        step_again(&rt, &mut accounts, &mut twin, number)?;
+        names_again(&rt, &accounts)?;
+        if number % 8 == 7 {
+            accounts.tidy();
+            twin.tidy();
+            accounts.truncate(3);
+            twin.truncate(3);
+        }
+    }
+    Ok(())
+}

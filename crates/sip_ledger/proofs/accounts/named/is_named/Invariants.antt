@@ -1,0 +1,9 @@
+use Rattle.std.proofs.Common.{◌≡◌, false, take}
+use Rattle.std.specs.Prelude.{All}
+use Rattle.sip_ledger.specs.Accounts.{owes_message}
+use Rattle.sip_ledger.specs.inner.Accounts.{IsSeek, account_debts}
+use Rattle.sip_ledger.proofs.accounts.named.is_named.Given as goal
+
+-- none of those so far owes it
+abbrev pub invariant-loop-at : goal.invariant-loop-at
+invariant-loop-at l = IsSeek l.gains l.message l.seek × All (λ a. owes_message l.message (account_debts l.gains l.strikes a) ≡ false) (take l.at l.rows)

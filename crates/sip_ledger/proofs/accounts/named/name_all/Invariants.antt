@@ -1,0 +1,11 @@
+use Rattle.std.proofs.Common.{◌-◌, ◌^◌}
+use Rattle.sip_ledger.specs.inner.Accounts.{accounts_debts, first_after}
+use Rattle.sip_ledger.proofs.places.NamedLemmas.{AreNamedTo}
+use Rattle.sip_ledger.proofs.accounts.named.name_all.Given as goal
+
+-- the messages below are told
+abbrev pub invariant-loop-message : goal.invariant-loop-message
+invariant-loop-message l = AreNamedTo (accounts_debts l.gains l.strikes l.rows) (first_after l.last) l.fn.numbers.items l.numbers.items
+
+abbrev pub decreases-loop-message : goal.decreases-loop-message
+decreases-loop-message l = 2 ^ 64 - first_after l.last

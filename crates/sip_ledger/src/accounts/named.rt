@@ -1,0 +1,57 @@
+//! Which messages the accounts owe.
+ghost use Rattle.std.specs.Prelude.{◌≡◌, OnOk, OnErr, length, take};
+ghost use Rattle.sip_ledger.specs.Accounts.{AppendsOwed, owes_message, some_owes};
+ghost use Rattle.sip_ledger.specs.inner.Accounts.{AreAccounts, AreGains, IsAccount, IsSeek, account_debts, accounts_debts};
+
+use crate::accounts::account::{Account, find};
+use crate::accounts::gains::Gains;
+use crate::accounts::seek::Seek;
+use crate::accounts::strikes::Strike;
+use std::alloc::AllocError;
+
+/// Puts the numbers of the messages that accounts owe after the others, from the least on, each once. On an error some of them are
+/// there.
+pub(crate) fn name_all(
+    gains: &Gains,
+    strikes: &[Strike],
+    rows: &[Account],
+    numbers: &mut Vec<u64>,
+) -> Result<(), AllocError>
+    requires { AreAccounts gains.now strikes.now rows.now }
+    ensures ok { OnOk result (AppendsOwed (accounts_debts gains.now strikes.now rows.now) numbers.old.items numbers.new.items) }
+    ensures err { OnErr result (take (length numbers.old.items) numbers.new.items ≡ numbers.old.items) }
+{
+    let mut last: Option<u64> = None;
+    while let Some(message) = gains.next_message(last) {
+        if is_named(gains, strikes, rows, message) {
+            numbers.push(message)?;
+        }
+        last = Some(message);
+    }
+    Ok(())
+}
+
+/// Whether one of the accounts owes the message.
+fn is_named(gains: &Gains, strikes: &[Strike], rows: &[Account], message: u64) -> bool
+    requires { AreAccounts gains.now strikes.now rows.now }
+    ensures { result ≡ some_owes message (accounts_debts gains.now strikes.now rows.now) }
+{
+    let mut seek = Seek::new(gains, message, 0);
+    for at in 0..rows.len() {
+        if names(gains, strikes, rows[at], &mut seek, message) {
+            return true;
+        }
+    }
+    false
+}
+
+/// Whether the account owes the message.
+fn names(gains: &Gains, strikes: &[Strike], account: Account, seek: &mut Seek, message: u64) -> bool
+    requires gained { AreGains gains.now }
+    requires account { IsAccount gains.now strikes.now account }
+    requires seek { IsSeek gains.now message seek.old }
+    ensures seek { IsSeek gains.now message seek.new }
+    ensures is { result ≡ owes_message message (account_debts gains.now strikes.now account) }
+{
+    find(gains, strikes, account, seek, message, 0).is_some()
+}

@@ -1,0 +1,30 @@
+use Rattle.std.specs.Prelude.{◌≡◌, ◌<◌, ◌≤◌, filter, length}
+use Rattle.std.proofs.Common.{sym, subst}
+use Rattle.std.proofs.lemmas.List.Elements.{All-filter}
+use Rattle.sip_ledger.specs.declared.debt.Debt.{Debt}
+use Rattle.sip_ledger.specs.Debts.{counts_at, paid_by}
+use Rattle.sip_machine.specs.Owes.{owed_in}
+use Rattle.sip_machine.specs.inner.Dues.{AreDues}
+use Rattle.sip_machine.proofs.debts.DueLemmas.{AreDues-set, between-paid, between-row}
+use Rattle.sip_machine.proofs.dues.Dues.pay_and_expire.Goals as goal
+use Rattle.sip_machine.proofs.dues.Dues.pay_and_expire.Goals.{in-Some+in_ok-pay_and_expire, in_default}
+
+pub invariant_of-self-2 : goal.invariant_of-self-2
+invariant_of-self-2 c =
+    elim c.match-self.branch [
+      | in-Some+in_ok-pay_and_expire w ↦
+          let own = c.self.inside in
+          let m = c.args.message in
+          let t = c.args.moment in
+          let rows = w.in-Some.ledger.value in
+          let is : rows ≡ c.args.self.now = rw w.in-Some.is at c.self.view_is in
+          let dues : AreDues rows own.rows own.lowest own.highest = rw w.in-Some.is at c.self.invariant in
+          let low : c.args.row < length rows = subst (λ rs. c.args.row < length rs) (sym is) c.requires in
+          let changed = rw w.deref_mut.ensures.value at w.in_ok-pay_and_expire.ensures.ok in
+          rw w.self-inside-is
+          (rw changed
+          (AreDues-set rows own.rows own.lowest own.highest c.args.row (filter (counts_at t) (paid_by m t (owed_in rows c.args.row))) dues
+          (All-filter (counts_at t) (λ (d : Debt). (own.lowest ≤ d.message) × (d.message ≤ own.highest)) (paid_by m t (owed_in rows c.args.row))
+          (between-paid m t own.lowest own.highest (owed_in rows c.args.row) (between-row rows own.rows own.lowest own.highest c.args.row low dues)))))
+      | in_default w ↦ rw w.self-inside-is c.self.invariant
+    ]

@@ -1,0 +1,23 @@
+use Rattle.std.specs.Prelude.{flat_map, length, take}
+use Rattle.std.proofs.Common.{sym, ap, subst, ◌∙◌}
+use Rattle.sip_machine.proofs.texts.RunLaws.{always_err}
+use Rattle.sip_machine.specs.Naming.{AppendsAll}
+use Rattle.sip_machine.specs.Owing.{owing_names}
+use Rattle.sip_machine.proofs.debts.NamesLemmas.{appended-front, pool-appends}
+use Rattle.sip_machine.proofs.owing.name_pool.Goals as goal
+
+pub returns-in_err-names_all-clause-err : goal.returns-in_err-names_all-clause-err
+returns-in_err-names_all-clause-err g c =
+    let old = c.args.out.now.items in
+    always_err c.from_residual-in_err-names_all.result _
+    (ap (take (length old)) c.in_err-names_all.ensures.err ∙ appended-front old c.in_ok-name_phases.ensures.ok.0 c.name_phases.new.out.items c.in_ok-name_phases.ensures.ok.1)
+
+pub returns-clause-ok : goal.returns-clause-ok
+returns-clause-ok g c =
+    let names = g.M.Phases.names in
+    let old = c.args.out.now.items in
+    let mid = c.name_phases.new.out.items in
+    let new = c.names_all.new.numbers.items in
+    let first = subst (λ xs. AppendsAll (flat_map (λ x. names x.phase) xs) old mid) (sym c.pool.view_is) c.in_ok-name_phases.ensures.ok in
+    subst (λ xs. AppendsAll (flat_map (owing_names names) xs) old new) c.pool.view_is
+    (pool-appends names c.pool.inside.phases.items c.pool.inside.dues old mid new c.pool.invariant first c.in_ok-names_all.ensures.ok)

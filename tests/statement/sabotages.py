@@ -85,8 +85,8 @@ DEFINITIONS = {
     ),
 }
 
-LAST = "    LogFault { entry: u32, reason: LogReason },\n}\n"
-FAULT, USE_FAULT = "Malformed { entry: u32, fault: Fault }", "use crate::fault::Fault;"
+LAST = "    LogFault { entry: u64, reason: LogReason },\n}\n"
+FAULT, USE_FAULT = "Malformed { entry: u64, fault: Fault }", "use crate::fault::Fault;"
 VIEW = " {\n    ghost Value = { Verdict };\n\n    ghost view = { λ v. v };\n}\n"
 TYPE = "/// What is planted.\npub struct Planted {\n    pub first: u8,\n}\n\n"
 TOP_OF_STAGE = "//! "

@@ -106,7 +106,7 @@ fn a_book_goes_on_after_a_refused_growth(rt: HostRuntime) -> Result<(), Fail> {
         return Ok(());
     };
     goes_on(&rt, &mut book, 64)?;
-    keeps(&rt, &book, 63, Some(b"\0\0\0\x3f SIP/2.0 200 OK"));
+    keeps(&rt, &book, 63, Some(b"\0\0\0\0\0\0\0\x3f SIP/2.0 200 OK"));
     Err(error.into())
 }
 
@@ -135,7 +135,7 @@ fn keeps(rt: &impl Abort, book: &Book, number: u64, bytes: Option<&[u8]>) {
     assert_eq!(rt; book.bytes(number), bytes, "{number}");
 }
 
-/// Adds messages that differ in their first four bytes alone, under the numbers from `first` on. Returns whether each has the number
+/// Adds messages that differ in their first eight bytes alone, under the numbers from `first` on. Returns whether each has the number
 /// of its place, and is found by it.
 fn are_numbered(
     alloc: Global,
@@ -144,7 +144,7 @@ fn are_numbered(
     count: u64,
     end: &[u8],
 ) -> Result<bool, AllocError>
-    requires limit { first + count < 4294967296 }
+    requires limit { first + count < 18446744073709551616 }
     requires above { (n : ℕ) → Keeps book.old n → n < first }
     ensures { OnOk result ((n : ℕ) → Keeps book.new n → n < first + count) }
 {

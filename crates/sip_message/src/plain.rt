@@ -245,8 +245,24 @@ pub(crate) fn past_param<'a>(
     let Some(first) = past_byte(masks, behind, end, b'=') else {
         return Some((name, None, behind));
     };
-    let to = past_run(masks, first, end)?;
+    let to = past_any_run(masks, first, end)?;
     Some((name, Some(&masks.text()[first..to]), to))
+}
+
+/// The place after the run of plain bytes that stands at `at`, however long it is.
+#[inline]
+pub(crate) fn past_any_run(masks: &Masks<'_, '_>, at: usize, end: usize) -> Option<usize>
+    requires { end ≤ length masks.now }
+    ensures { IfSome result (LiesWithin PlainRun masks.now at end) }
+{
+    if at >= end {
+        return None;
+    }
+    let len = masks.run_at(at);
+    if len == 0 || len > end - at {
+        return None;
+    }
+    Some(at + len)
 }
 
 /// The place after the run of plain bytes that stands at `at`, if it has fewer than 64.

@@ -83,6 +83,8 @@ class Function:
         self.says = f"{path}:{line} {name}"
         tail = (f"{impl}::" if impl else "") + name
         self.named = before + tail
+        # The folder of its proof, in the crate's.
+        self.proof = f"proofs/{self.named.replace('::', '/')}"
         self.names = re.compile(rf"{re.escape(before)}({re.escape(tail)}(\+\S*)?|fn::{re.escape(tail)}::\S+)")
 
 
@@ -148,7 +150,7 @@ class Edit:
             self.function = law if law and not holders and self.by in ([], [law.named]) and not crate.cites(law) else None
         if self.function:
             self.by = [self.function.named]
-        by_hand = self.function and f"{crate.folder}/proofs/{self.function.named.replace('::', '/')}"
+        by_hand = self.function and f"{crate.folder}/{self.function.proof}"
         if self.is_harmless and not self.why and (not by_hand or os.path.isdir(by_hand)):
             self.why = "a harmless edit changes the body of one function, which has no proof by hand"
 
@@ -230,13 +232,25 @@ class Crate:
 
     def cites(self, function):
         """Returns whether the crate names the function anywhere but where it is declared and in its own proofs."""
-        own, word = f"proofs/{function.named.replace('::', '/')}/", re.compile(rf"\b{function.name}\b")
+        own, word = f"{function.proof}/", re.compile(rf"\b{function.name}\b")
         return any(len(word.findall(text)) > (path == function.path) for path, text in self.texts.items() if not path.startswith(own))
+
+    def called(self, function):
+        """Returns the names of the crate's other functions that stand before a parenthesis in the function's body."""
+        body = blank(read(f"{self.folder}/{function.path}"))[function.body : function.end]
+        return set(re.findall(r"\b(\w+)\(", body)) & {it.name for it in self.functions} - {function.name}
+
+    def proof_length(self, function):
+        """Returns how many bytes the function's proof by hand has, or 0 where it has none."""
+        file = f"{self.folder}/{function.proof}/Answers.antt"
+        return os.path.getsize(file) if os.path.isfile(file) else 0
 
     def root(self):
         return "src/main.rt" if os.path.isfile(f"{self.folder}/src/main.rt") else "src/lib.rt"
 
-    def edits(self, folders=(*FOLDERS, HARMLESS)):
+    @functools.cached_property
+    def functions(self):
+        """The functions of the crate that have a body."""
         texts, types = {}, {}
         for at, _, files in os.walk(f"{self.folder}/src"):
             for name in sorted(files):
@@ -245,9 +259,11 @@ class Crate:
                     texts[path] = read(f"{self.folder}/{path}")
                     for it in re.finditer(r"(?m)^(?:pub(?:\([a-z]+\))? )?(?:struct|enum|trait) (\w+)", texts[path]):
                         types[it[1]] = module_of(path)
-        found = [it for path, text in texts.items() for it in functions(path, text, types)]
+        return [it for path, text in texts.items() for it in functions(path, text, types)]
+
+    def edits(self, folders=(*FOLDERS, HARMLESS)):
         folders = [f"{self.folder}/{it}" for it in folders if os.path.isdir(f"{self.folder}/{it}")]
-        return [Edit(self, f"{at}/{name}", found) for at in folders for name in sorted(os.listdir(at)) if name.endswith(".edit")]
+        return [Edit(self, f"{at}/{name}", self.functions) for at in folders for name in sorted(os.listdir(at)) if name.endswith(".edit")]
 
     def build(self):
         """Proves and builds what has changed in this crate and below it. Returns the first crate that is not proved as it stands, or None."""

@@ -3,7 +3,7 @@ ghost use Rattle.std.specs.Prelude.{◌≡◌, ◌≢◌, ◌↔◌, ◌<◌, �
 ghost use Rattle.std.specs.Bool.{OnTrue};
 ghost use Rattle.sip_ledger.specs.Debts.{counts_at, debt_deadlines, earliest, is_timely, paid_by};
 ghost use Rattle.sip_ledger.specs.Accounts.{worth_of};
-ghost use Rattle.sip_ledger.specs.Rows.{debt_of};
+ghost use Rattle.sip_ledger.specs.Entries.{debt_of};
 ghost use Rattle.sip_ledger.specs.declared.accounts.account.Account.{Account};
 ghost use Rattle.sip_ledger.specs.inner.Accounts.{AreAlike, AreGains, IsAccount, IsExpiredTo, IsFirstPayable, IsGainAt, IsKept, IsNextGain, IsPlaceOf, IsSeek, IsStruck, IsWithout, KeepsAccounts, SharesRest, account_debts, entries_of, entry_at, is_gone, is_struck, must_at, owes_at, pays_at, strikes_of};
 ghost use Rattle.sip_ledger.specs.inner.Indexes.{holds};
@@ -655,6 +655,30 @@ pub(crate) fn debts(
     let mut debts = Vec::new(alloc);
     let mut place = account.start;
     while place < account.end {
+        debts.push(debt_for(gains, account, place))?;
+        place = next(gains, strikes, account, place + 1);
+    }
+    Ok(debts)
+}
+
+/// What the account owes first: so many debts, or all where it owes fewer.
+pub(crate) fn first_debts(
+    alloc: Global,
+    gains: &Gains,
+    strikes: &[Strike],
+    account: Account,
+    most: usize,
+) -> Result<Vec<Debt>, AllocError>
+    requires gained { AreGains gains.now }
+    requires account { IsAccount gains.now strikes.now account }
+    ensures { IfOk result (λ debts. debts.items ≡ take most (account_debts gains.now strikes.now account)) }
+{
+    let mut debts = Vec::new(alloc);
+    let mut place = account.start;
+    while place < account.end {
+        if debts.len() == most {
+            return Ok(debts);
+        }
         debts.push(debt_for(gains, account, place))?;
         place = next(gains, strikes, account, place + 1);
     }

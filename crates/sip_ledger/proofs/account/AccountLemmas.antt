@@ -1,0 +1,411 @@
+-- Accounts stay accounts, and owe what they owed, while gains and strikes grow, are let go or are dropped.
+use Rattle.std.proofs.Common.{◌≡◌, ◌≢◌, ℕ, zero, suc, ◌+◌, ◌<◌, ◌≤◌, ◌==◌, ◌&&◌, ◌||◌, Bool, true, false, cond, not, List, [], ◌∷◌, ◌++◌, length, take, drop, get_or, set, map, filter, refl, sym, ap, ap₂, ◌∙◌, subst, inl, inr, arith}
+use Rattle.std.specs.Prelude.{All, nat_le, nat_lt}
+use Rattle.std.proofs.lemmas.Bool.{cases_eq, cases_lt, false_from_ne_true, true≢false}
+use Rattle.std.proofs.Math.Bool.{and-false}
+use Rattle.std.proofs.lemmas.Bool.Decides.{nat_tests}
+use Rattle.std.proofs.lemmas.List.{drop-map, get_or_append_left, get_or-map, length-append, length-map, length-take, map-append, map-set, take-map, take-take}
+use Rattle.std.proofs.lemmas.List.Elements.{All-cons, All-drop, All-get_or, All-head, All-nil, All-push, All-set, All-tail, All-take}
+use Rattle.sip_ledger.specs.declared.debt.Debt.{Debt}
+use Rattle.sip_ledger.specs.declared.debt.Entry.{Entry}
+use Rattle.sip_ledger.specs.declared.accounts.account.Account.{Account}
+use Rattle.sip_ledger.specs.declared.accounts.gains.Gains.{Gains}
+use Rattle.sip_ledger.specs.declared.accounts.strikes.Strike.{Strike}
+use Rattle.sip_ledger.specs.Accounts.{debts_print}
+use Rattle.sip_ledger.specs.Entries.{debt_of, debts_from}
+use Rattle.sip_ledger.specs.inner.Accounts.{AreAccounts, AreGains, AreSameGains, IsAccount, IsDropped, IsGain, IsKept, IsLetGo, KeepsAccounts, account_debts, accounts_debts, blank, entries_of, entry_at, is_gone, is_left, is_struck, must_at, owes_at, strikes_of}
+use Rattle.sip_ledger.specs.inner.Indexes.{holds}
+use Rattle.sip_ledger.proofs.debts.ListedLemmas.{listed-same, listed-none}
+use Rattle.sip_ledger.proofs.debts.OwedLemmas.{grown-debts}
+use Rattle.sip_ledger.proofs.gains.LeftLemmas.{entries-long, left-kept, listed-alike, owed-left, unleft-unowed}
+
+-- where n is at most m, the test of m < n fails
+lt-no : (m n : ℕ) → n ≤ m → nat_lt m n ≡ false
+lt-no m n is = grind (arith, nat_tests)
+
+-- an account keeps its strikes when others are put after them
+pub kept-strikes : (old new : List Strike) (a : Account) → take (length old) new ≡ old → a.last ≤ length old → strikes_of new a ≡ strikes_of old a
+kept-strikes old new a kept last = ap (drop a.first) (sym (take-take a.last (length old) new last) ∙ ap (take a.last) kept)
+
+-- a list of strikes that keeps the old ones is at least as long
+pub kept-longer : (old new : List Strike) → take (length old) new ≡ old → length old ≤ length new
+kept-longer old new kept = omega (arith, ap length kept, length-take (length old) new)
+
+-- strikes that are kept twice, when others are put after them, are kept
+pub kept-twice : (a b c : List Strike) → take (length a) b ≡ a → take (length b) c ≡ b → take (length a) c ≡ a
+kept-twice a b c one two =
+    sym (take-take (length a) (length b) c (kept-longer a b one)) ∙ ap (take (length a)) two ∙ one
+
+-- an account owes the same when strikes are put after the others
+pub kept-owes : (gains : Gains) (old new : List Strike) (a : Account) (k : ℕ) → take (length old) new ≡ old → a.last ≤ length old →
+    owes_at gains new a k ≡ owes_at gains old a k
+unfolding owes_at
+kept-owes gains old new a k kept last =
+    ap (λ own. nat_le a.start k && (nat_lt k a.end && not (is_gone gains own k))) (kept-strikes old new a kept last)
+
+-- the debts of an account stay when strikes are put after the others
+pub kept-debts : (gains : Gains) (old new : List Strike) (a : Account) → take (length old) new ≡ old → a.last ≤ length old →
+    account_debts gains new a ≡ account_debts gains old a
+unfolding account_debts
+kept-debts gains old new a kept last =
+    listed-same (owes_at gains new a) (must_at gains a) (owes_at gains old a) (must_at gains a) 0 (entries_of gains)
+    (λ k from below. (kept-owes gains old new a k kept last, refl))
+
+-- an account stays one when strikes are put after the others
+pub kept-account : (gains : Gains) (old new : List Strike) (a : Account) → take (length old) new ≡ old → IsAccount gains old a → IsAccount gains new a
+kept-account gains old new a kept is =
+    let last = is.last in
+    record {
+      order = is.order;
+      end = is.end;
+      soft = is.soft;
+      first = is.first;
+      last = omega (arith, last, kept-longer old new kept);
+      bound = λ m k past. ap (λ own. is_struck own m k) (kept-strikes old new a kept last) ∙ is.bound m k past;
+      begins = λ some. kept-owes gains old new a a.start kept last ∙ is.begins some;
+      print = is.print ∙ ap debts_print (sym (kept-debts gains old new a kept last));
+    }
+
+pub kept-all : (gains : Gains) (old new : List Strike) (rows : List Account) → take (length old) new ≡ old → All (IsAccount gains old) rows →
+    All (IsAccount gains new) rows × (accounts_debts gains new rows ≡ accounts_debts gains old rows)
+unfolding accounts_debts
+kept-all gains old new [] kept each = (All-nil (IsAccount gains new), refl)
+kept-all gains old new (a ∷ rows) kept each =
+    let here = All-head (IsAccount gains old) a rows each in
+    let rest = kept-all gains old new rows kept (All-tail (IsAccount gains old) a rows each) in (
+      All-cons (IsAccount gains new) a rows (kept-account gains old new a kept here) rest.0,
+      ap₂ (λ d ds. d ∷ ds) (kept-debts gains old new a kept here.last) rest.1,
+    )
+
+-- where one of the accounts is replaced, and the strikes may have grown, all are accounts, and the others owe what they owed
+pub changed : (gains : Gains) (old new : List Strike) (rows : List Account) (row : ℕ) (a : Account) → take (length old) new ≡ old → AreAccounts gains old rows →
+    IsAccount gains new a →
+    AreAccounts gains new (set rows row a) × (accounts_debts gains new (set rows row a) ≡ set (accounts_debts gains old rows) row (account_debts gains new a))
+unfolding accounts_debts
+changed gains old new rows row a kept are is =
+    let all = kept-all gains old new rows kept are.each in (
+      record { gained = are.gained; each = All-set (IsAccount gains new) rows row a is all.0 },
+      map-set (account_debts gains new) rows row a ∙ ap (λ l. set l row (account_debts gains new a)) all.1,
+    )
+
+-- two accounts with the same `soft` must send the same gains
+pub soft-must : (gains : Gains) (a b : Account) (k : ℕ) → b.soft ≡ a.soft → must_at gains b k ≡ must_at gains a k
+unfolding must_at
+soft-must gains a b k soft = ap (λ s. holds gains.musts 0 k && nat_le s k) soft
+
+-- where n is below m, the test of m ≤ n fails
+le-no : (m n : ℕ) → n < m → nat_le m n ≡ false
+le-no m n is = grind (arith, nat_tests)
+
+-- where m is at most n, the test of m ≤ n passes
+le-yes : (m n : ℕ) → m ≤ n → nat_le m n ≡ true
+le-yes m n is = grind (arith, nat_tests)
+
+-- a gain below `soft` need not be sent
+pub must-below : (gains : Gains) (a : Account) (k : ℕ) → k < a.soft → false ≡ must_at gains a k
+unfolding must_at
+must-below gains a k low = sym (ap (λ b. holds gains.musts 0 k && b) (le-no a.soft k low) ∙ and-false (holds gains.musts 0 k))
+
+-- a gain from `soft` on must be sent if it must be as it was gained
+pub must-from : (gains : Gains) (a : Account) (k : ℕ) → a.soft ≤ k → holds gains.musts 0 k ≡ must_at gains a k
+unfolding must_at
+must-from gains a k high = sym (ap (λ b. holds gains.musts 0 k && b) (le-yes a.soft k high) ∙ and-true (holds gains.musts 0 k))
+  where
+    and-true : (b : Bool) → (b && true) ≡ b
+    and-true true = refl
+    and-true false = refl
+
+-- `a && false && x` is false
+and-false-middle : (a x : Bool) → (a && (false && x)) ≡ false
+and-false-middle true x = refl
+and-false-middle false x = refl
+
+-- an account owes nothing at its end or after it
+pub past-end : (gains : Gains) (strikes : List Strike) (a : Account) (k : ℕ) → a.end ≤ k → owes_at gains strikes a k ≡ false
+unfolding owes_at
+past-end gains strikes a k past =
+    ap (λ b. nat_le a.start k && (b && not (is_gone gains (strikes_of strikes a) k))) (lt-no k a.end past)
+    ∙ and-false-middle (nat_le a.start k) (not (is_gone gains (strikes_of strikes a) k))
+
+-- what an account owes lies below its end
+pub owed-within : (gains : Gains) (strikes : List Strike) (a : Account) (k : ℕ) → owes_at gains strikes a k ≡ true → k < a.end
+owed-within gains strikes a k is = elim (cases_lt k a.end) [
+  | inl below ↦ below
+  | inr past ↦ absurd (true≢false (sym is ∙ past-end gains strikes a k past))
+]
+
+-- where an account owes something, each gain from its start up to its end is kept
+pub kept-from : (gains : Gains) (strikes : List Strike) (a : Account) (k : ℕ) → AreGains gains → IsAccount gains strikes a → a.start < a.end → a.start ≤ k → k < a.end → IsKept gains k
+kept-from gains strikes a k are is some low high =
+    let first = left-kept gains a.start are (owed-left gains strikes a a.start (is.begins some)) in
+    let from = first.from in
+    let end = is.end in
+    let count = entries-long gains are.long in
+    record { from = omega (arith, from, low); within = omega (arith, high, end, count) }
+
+-- where an account owes something, each gain from its start on is kept
+pub kept-passed : (gains : Gains) (strikes : List Strike) (a : Account) (k : ℕ) → AreGains gains → IsAccount gains strikes a → a.start < a.end → a.start ≤ k → k < length (entries_of gains) → IsKept gains k
+kept-passed gains strikes a k are is some low high =
+    let first = left-kept gains a.start are (owed-left gains strikes a a.start (is.begins some)) in
+    let from = first.from in
+    let count = entries-long gains are.long in
+    record { from = omega (arith, from, low); within = omega (arith, high, count) }
+
+-- where an entry is the same among old and new gains, and is left in both or in neither, it is gone in both or in neither
+gone-over : (old new : Gains) (own : List Strike) (k : ℕ) → entry_at (entries_of new) k ≡ entry_at (entries_of old) k → is_left new k ≡ is_left old k → is_gone new own k ≡ is_gone old own k
+unfolding is_gone
+gone-over old new own k entry left = ap₂ (λ (l : Bool) (e : Entry). not l || is_struck own e.message k) left entry
+
+-- where an entry is the same among old and new gains, and is left in both or in neither, an account owes it in both or in neither
+owes-over : (old new : Gains) (strikes : List Strike) (a : Account) (k : ℕ) → entry_at (entries_of new) k ≡ entry_at (entries_of old) k → is_left new k ≡ is_left old k →
+    owes_at new strikes a k ≡ owes_at old strikes a k
+unfolding owes_at
+owes-over old new strikes a k entry left = ap (λ b. nat_le a.start k && (nat_lt k a.end && not b)) (gone-over old new (strikes_of strikes a) k entry left)
+
+-- a gain whose entry is the same, and under whose message the same places stand, is left in both or in neither
+left-over : (old new : Gains) (k : ℕ) → entry_at (entries_of new) k ≡ entry_at (entries_of old) k → ((m : ℕ) → holds new.messages m k ≡ holds old.messages m k) → is_left new k ≡ is_left old k
+unfolding is_left
+left-over old new k entry messages = messages (entry_at (entries_of new) k).message ∙ ap (λ (e : Entry). holds old.messages e.message k) entry
+
+-- a gain whose place stands under no message is not left
+not-left : (gains : Gains) (k : ℕ) → ((m : ℕ) → holds gains.messages m k ≡ false) → is_left gains k ≡ false
+unfolding is_left
+not-left gains k none = none (entry_at (entries_of gains) k).message
+
+-- an account owes over the new gains what it owes over the old ones
+pub record OwesAlike (old new : Gains) (strikes : List Strike) (a : Account) : Type 0 where
+  pub owes : (k : ℕ) → owes_at new strikes a k ≡ owes_at old strikes a k
+  pub same : (k : ℕ) → owes_at old strikes a k ≡ true → (entry_at (entries_of new) k ≡ entry_at (entries_of old) k) × (holds new.musts 0 k ≡ holds old.musts 0 k)
+
+-- an account that owes alike over old and new gains has the same debts
+over-debts : (old new : Gains) (strikes : List Strike) (a : Account) → length (entries_of new) ≡ length (entries_of old) → OwesAlike old new strikes a →
+    account_debts new strikes a ≡ account_debts old strikes a
+unfolding account_debts must_at
+over-debts old new strikes a long alike =
+    listed-alike (owes_at new strikes a) (must_at new a) (owes_at old strikes a) (must_at old a) 0 (entries_of new) (entries_of old) long
+    (λ j below.
+    let here : 0 + j ≡ j = omega arith in
+    ap (owes_at new strikes a) here ∙ alike.owes j ∙ ap (owes_at old strikes a) (sym here))
+    (λ j below is.
+    let here : 0 + j ≡ j = omega arith in
+    let both = alike.same j (sym (alike.owes j) ∙ ap (owes_at new strikes a) (sym here) ∙ is) in (
+      both.0,
+      ap (λ n. holds new.musts 0 n && nat_le a.soft n) here ∙ ap (λ b. b && nat_le a.soft j) both.1 ∙ ap (λ n. holds old.musts 0 n && nat_le a.soft n) (sym here),
+    ))
+
+-- an account that owes alike over old and new gains stays one
+over-account : (old new : Gains) (strikes : List Strike) (a : Account) → length (entries_of new) ≡ length (entries_of old) → OwesAlike old new strikes a → IsAccount old strikes a →
+    IsAccount new strikes a
+over-account old new strikes a long alike is =
+    let end = is.end in
+    let soft = is.soft in
+    record {
+      order = is.order;
+      end = omega (arith, end, long);
+      soft = omega (arith, soft, long);
+      first = is.first;
+      last = is.last;
+      bound = λ m k past. is.bound m k (omega (arith, past, long));
+      begins = λ some. alike.owes a.start ∙ is.begins some;
+      print = is.print ∙ ap debts_print (sym (over-debts old new strikes a long alike));
+    }
+
+-- accounts that owe alike over old and new gains stay accounts, with the same debts
+pub over-all : (old new : Gains) (strikes : List Strike) (rows : List Account) → length (entries_of new) ≡ length (entries_of old) → All (OwesAlike old new strikes) rows →
+    All (IsAccount old strikes) rows → All (IsAccount new strikes) rows × (accounts_debts new strikes rows ≡ accounts_debts old strikes rows)
+unfolding accounts_debts
+over-all old new strikes [] long alike each = (All-nil (IsAccount new strikes), refl)
+over-all old new strikes (a ∷ rows) long alike each =
+    let here = All-head (OwesAlike old new strikes) a rows alike in
+    let rest = over-all old new strikes rows long (All-tail (OwesAlike old new strikes) a rows alike) (All-tail (IsAccount old strikes) a rows each) in (
+      All-cons (IsAccount new strikes) a rows (over-account old new strikes a long here (All-head (IsAccount old strikes) a rows each)) rest.0,
+      ap₂ (λ d ds. d ∷ ds) (over-debts old new strikes a long here) rest.1,
+    )
+
+-- where each account owes alike over both gains, all accounts of a list do
+pub all-alike : (old new : Gains) (strikes : List Strike) (rows : List Account) → ((a : Account) → OwesAlike old new strikes a) → All (OwesAlike old new strikes) rows
+all-alike old new strikes [] each = All-nil (OwesAlike old new strikes)
+all-alike old new strikes (a ∷ rows) each = All-cons (OwesAlike old new strikes) a rows (each a) (all-alike old new strikes rows each)
+
+-- accounts are kept over gains that are the same
+pub same-keeps : (old new : Gains) → AreSameGains old new → KeepsAccounts old new
+same-keeps old new same = record {
+  each = λ strikes accounts are.
+      over-all old new strikes accounts (ap length same.entries) (all-alike old new strikes accounts (λ a.
+      let entry = λ (k : ℕ). ap (λ l. entry_at l k) same.entries in
+      record {
+        owes = λ k. owes-over old new strikes a k (entry k) (left-over old new k (entry k) (λ m. same.messages m k));
+        same = λ k owed. (entry k, same.musts k);
+      })) are;
+}
+
+-- an account owes alike where a gain is let go that it does not owe
+pub let_go-alike : (old new : Gains) (strikes : List Strike) (a : Account) (place : ℕ) → IsLetGo place old new → owes_at old strikes a place ≡ false → OwesAlike old new strikes a
+let_go-alike old new strikes a place gone unowed =
+    let entry = λ (k : ℕ). ap (λ l. entry_at l k) gone.entries in
+    record {
+      owes = λ k. elim (cases_eq k place) [
+        | inl is ↦
+            ap (owes_at new strikes a) is ∙ unleft-unowed new strikes a place (not-left new place gone.here)
+            ∙ sym (ap (owes_at old strikes a) is ∙ unowed)
+        | inr other ↦ owes-over old new strikes a k (entry k) (left-over old new k (entry k) (λ m. gone.others m k other))
+      ];
+      same = λ k owed. elim (cases_eq k place) [
+        | inl is ↦ absurd (true≢false (sym owed ∙ ap (owes_at old strikes a) is ∙ unowed))
+        | inr other ↦ (entry k, gone.musts k other)
+      ];
+    }
+
+-- an account owes alike where gains are dropped of which nothing is left
+pub dropped-alike : (old new : Gains) (strikes : List Strike) (a : Account) (place : ℕ) → IsDropped place old new → ((m k : ℕ) → k < place → holds old.messages m k ≡ false) →
+    OwesAlike old new strikes a
+dropped-alike old new strikes a place dropped none =
+    let messages = λ (m k : ℕ). ap (λ l. holds l m k) dropped.messages in
+    record {
+      owes = λ k. elim (cases_lt k place) [
+        | inl early ↦
+            unleft-unowed new strikes a k (not-left new k (λ m. messages m k ∙ none m k early))
+            ∙ sym (unleft-unowed old strikes a k (not-left old k (λ m. none m k early)))
+        | inr above ↦ owes-over old new strikes a k (dropped.entries k above) (left-over old new k (dropped.entries k above) (λ m. messages m k))
+      ];
+      same = λ k owed. elim (cases_lt k place) [
+        | inl early ↦ absurd (true≢false (sym owed ∙ unleft-unowed old strikes a k (not-left old k (λ m. none m k early))))
+        | inr above ↦ (dropped.entries k above, ap (λ l. holds l 0 k) dropped.musts)
+      ];
+    }
+
+-- an account that ends before a new gain does not owe the new gain, and owes what it owed
+pub grown-owes : (old new : Gains) (debt : Debt) (strikes : List Strike) (a : Account) (k : ℕ) → IsGain debt old new → a.end ≤ length (entries_of old) →
+    owes_at new strikes a k ≡ owes_at old strikes a k
+grown-owes old new debt strikes a k gain end = elim (cases_lt k a.end) [
+  | inl below ↦
+      let e : Entry = record { message = debt.message; deadline = debt.deadline } in
+      let inside : k < length (entries_of old) = omega (arith, below, end) in
+      let other : k ≢ length (entries_of old) = omega (arith, inside) in
+      let entry : entry_at (entries_of new) k ≡ entry_at (entries_of old) k = ap (λ l. entry_at l k) gain.entries ∙ get_or_append_left (entries_of old) (e ∷ []) blank k inside in
+      owes-over old new strikes a k entry (left-over old new k entry (λ m. gain.messages m k other))
+  | inr past ↦ past-end new strikes a k past ∙ sym (past-end old strikes a k past)
+]
+
+-- an account that ends before a new gain has the debts that it had
+pub grown-debts_of : (old new : Gains) (debt : Debt) (strikes : List Strike) (a : Account) → IsGain debt old new → a.end ≤ length (entries_of old) →
+    account_debts new strikes a ≡ account_debts old strikes a
+unfolding account_debts must_at
+grown-debts_of old new debt strikes a gain end =
+    let entries = entries_of old in
+    let entry : Entry = record { message = debt.message; deadline = debt.deadline } in
+    let o = owes_at new strikes a in
+    ap (λ (l : List Entry). debts_from o (must_at new a) 0 l) gain.entries
+    ∙ grown-debts entries entry o (must_at new a) (λ k is. omega (arith, owed-within new strikes a k is, end))
+    ∙ listed-same o (must_at new a) (owes_at old strikes a) (must_at old a) 0 entries
+    (λ k from below. let other : k ≢ length entries = omega (arith, below) in
+    (grown-owes old new debt strikes a k gain end, ap (λ b. b && nat_le a.soft k) (gain.musts k other)))
+
+-- an account stays one when a gain comes
+pub grown-account : (old new : Gains) (debt : Debt) (strikes : List Strike) (a : Account) → IsGain debt old new → IsAccount old strikes a → IsAccount new strikes a
+grown-account old new debt strikes a gain is =
+    let entries = entries_of old in
+    let entry : Entry = record { message = debt.message; deadline = debt.deadline } in
+    let longer : length (entries_of new) ≡ length entries + 1 = ap length gain.entries ∙ length-append entries (entry ∷ []) in
+    let end = is.end in
+    let soft = is.soft in
+    record {
+      order = is.order;
+      end = omega (arith, end, longer);
+      soft = omega (arith, soft, longer);
+      first = is.first;
+      last = is.last;
+      bound = λ m k past. is.bound m k (omega (arith, past, longer));
+      begins = λ some. grown-owes old new debt strikes a a.start gain end ∙ is.begins some;
+      print = is.print ∙ ap debts_print (sym (grown-debts_of old new debt strikes a gain end));
+    }
+
+-- accounts stay accounts, with the debts that they had, when a gain comes
+pub grown-all : (old new : Gains) (debt : Debt) (strikes : List Strike) (rows : List Account) → IsGain debt old new → All (IsAccount old strikes) rows →
+    All (IsAccount new strikes) rows × (accounts_debts new strikes rows ≡ accounts_debts old strikes rows)
+unfolding accounts_debts
+grown-all old new debt strikes [] gain each = (All-nil (IsAccount new strikes), refl)
+grown-all old new debt strikes (a ∷ rows) gain each =
+    let here = All-head (IsAccount old strikes) a rows each in
+    let rest = grown-all old new debt strikes rows gain (All-tail (IsAccount old strikes) a rows each) in (
+      All-cons (IsAccount new strikes) a rows (grown-account old new debt strikes a gain here) rest.0,
+      ap₂ (λ d ds. d ∷ ds) (grown-debts_of old new debt strikes a gain here.end) rest.1,
+    )
+
+-- the debts in a row of the list are the debts of the account of that row
+pub row-debts : (gains : Gains) (strikes : List Strike) (rows : List Account) (row : ℕ) (a : Account) → row < length rows → a ≡ get_or rows row a →
+    get_or (accounts_debts gains strikes rows) row [] ≡ account_debts gains strikes a
+unfolding accounts_debts
+row-debts gains strikes rows row a within is =
+    get_or-map (account_debts gains strikes) rows row a [] within ∙ ap (account_debts gains strikes) (sym is)
+
+-- what stands in a row is an account, where all are
+pub row-account : (gains : Gains) (strikes : List Strike) (rows : List Account) (row : ℕ) (a : Account) → row < length rows → a ≡ get_or rows row a → All (IsAccount gains strikes) rows →
+    IsAccount gains strikes a
+row-account gains strikes rows row a within is each = subst (IsAccount gains strikes) (sym is) (All-get_or (IsAccount gains strikes) rows row a within each)
+
+-- there are as many lists of debts as rows
+pub debts-length : (gains : Gains) (strikes : List Strike) (rows : List Account) → length (accounts_debts gains strikes rows) ≡ length rows
+unfolding accounts_debts
+debts-length gains strikes rows = length-map rows (account_debts gains strikes)
+
+-- an account that ends where it starts has no debts
+pub empty-debts : (gains : Gains) (strikes : List Strike) (a : Account) → a.end ≤ a.start → account_debts gains strikes a ≡ []
+unfolding account_debts owes_at
+empty-debts gains strikes a none =
+    listed-none (owes_at gains strikes a) (must_at gains a) 0 (entries_of gains) (λ k from below. elim (cases_lt k a.end) [
+      | inl early ↦
+          ap (λ b. b && (nat_lt k a.end && not (is_gone gains (strikes_of strikes a) k))) (le-not a.start k (omega (arith, early, none)))
+      | inr past ↦ past-end gains strikes a k past
+    ])
+  where
+    le-not : (m n : ℕ) → n < m → nat_le m n ≡ false
+    le-not m n is = grind (arith, nat_tests)
+
+-- the account that owes nothing is one over any gains
+pub empty-account : (gains : Gains) (strikes : List Strike) → IsAccount gains strikes (record { start = 0; end = 0; soft = 0; first = 0; last = 0; print = 0 })
+unfolding is_struck debts_print
+empty-account gains strikes =
+    let a : Account = record { start = 0; end = 0; soft = 0; first = 0; last = 0; print = 0 } in
+    record {
+      order = omega arith;
+      end = omega arith;
+      soft = omega arith;
+      first = omega arith;
+      last = omega arith;
+      bound = λ m k past. refl;
+      begins = λ some. absurd (omega (arith, some));
+      print = sym (ap debts_print (empty-debts gains strikes a (omega arith)));
+    }
+
+-- accounts are accounts still when one more is put after them, and it owes what it owed
+pub pushed : (gains : Gains) (strikes : List Strike) (rows : List Account) (a : Account) → AreAccounts gains strikes rows → IsAccount gains strikes a →
+    AreAccounts gains strikes (rows ++ a ∷ []) × (accounts_debts gains strikes (rows ++ a ∷ []) ≡ accounts_debts gains strikes rows ++ account_debts gains strikes a ∷ [])
+unfolding accounts_debts
+pushed gains strikes rows a are is = (
+  record { gained = are.gained; each = All-push (IsAccount gains strikes) rows a are.each is },
+  map-append (account_debts gains strikes) rows (a ∷ []),
+)
+
+-- the first n accounts are accounts, and have the first n lists of debts
+pub truncated : (gains : Gains) (strikes : List Strike) (rows : List Account) (n : ℕ) → AreAccounts gains strikes rows →
+    AreAccounts gains strikes (take n rows) × (accounts_debts gains strikes (take n rows) ≡ take n (accounts_debts gains strikes rows))
+unfolding accounts_debts
+truncated gains strikes rows n are = (
+  record { gained = are.gained; each = All-take (IsAccount gains strikes) n rows are.each },
+  sym (take-map (account_debts gains strikes) n rows),
+)
+
+-- the accounts after the first n are accounts, and have the lists of debts after the first n
+pub without-first_rows : (gains : Gains) (strikes : List Strike) (rows : List Account) (n : ℕ) → AreAccounts gains strikes rows →
+    AreAccounts gains strikes (drop n rows) × (accounts_debts gains strikes (drop n rows) ≡ drop n (accounts_debts gains strikes rows))
+unfolding accounts_debts
+without-first_rows gains strikes rows n are = (
+  record { gained = are.gained; each = All-drop (IsAccount gains strikes) n rows are.each },
+  sym (drop-map (account_debts gains strikes) n rows),
+)
+
+-- accounts that are kept over new gains are accounts there, and owe what they owed
+pub over : (old new : Gains) (strikes : List Strike) (rows : List Account) → KeepsAccounts old new → AreGains new → AreAccounts old strikes rows →
+    AreAccounts new strikes rows × (accounts_debts new strikes rows ≡ accounts_debts old strikes rows)
+over old new strikes rows keeps gained are = let all = keeps.each strikes rows are.each in (record { gained = gained; each = all.0 }, all.1)

@@ -1,0 +1,135 @@
+-- An account drops what is past, place by place.
+use Rattle.std.proofs.Common.{◌≡◌, ◌≢◌, ℕ, ◌+◌, ◌<◌, ◌≤◌, ◌&&◌, ◌||◌, Bool, true, false, List, length, take, get_or, filter, refl, sym, ap, ap₂, ◌∙◌, subst, inl, inr, arith}
+use Rattle.std.specs.Prelude.{nat_le}
+use Rattle.std.proofs.Math.Bool.{and-false}
+use Rattle.std.proofs.lemmas.Bool.{cases_eq, cases_lt}
+use Rattle.std.proofs.lemmas.List.{get_or_default}
+use Rattle.sip_ledger.specs.declared.debt.Entry.{Entry}
+use Rattle.sip_ledger.specs.declared.accounts.account.Account.{Account}
+use Rattle.sip_ledger.specs.declared.accounts.gains.Gains.{Gains}
+use Rattle.sip_ledger.specs.declared.accounts.strikes.Strike.{Strike}
+use Rattle.sip_ledger.specs.Debts.{counts_at}
+use Rattle.sip_ledger.specs.inner.Accounts.{AreGains, IsAccount, IsExpiredTo, IsKept, IsWithout, account_debts, entries_of, entry_at, must_at, owes_at}
+use Rattle.sip_ledger.proofs.gains.LeftLemmas.{entries-long, rising-kept}
+use Rattle.sip_ledger.proofs.debts.ListedLemmas.{listed-counting, listed-same, no_entry}
+use Rattle.sip_ledger.proofs.account.AccountLemmas.{past-end, soft-must}
+use Rattle.sip_ledger.proofs.account.WithoutLemmas.{before-start, le-no, le-yes}
+
+-- whether what is owed at a place counts still at t: it must be sent, or its deadline is not past
+abbrev counting : ℕ → List Entry → (ℕ → Bool) → (ℕ → Bool) → ℕ → Bool
+counting t entries m o k = o k && (m k || nat_le t (entry_at entries k).deadline)
+
+-- what is not owed is not owed once what is past is dropped
+unowed : (t : ℕ) (entries : List Entry) (m o o' : ℕ → Bool) (k : ℕ) → o' k ≡ o k → o k ≡ false → o' k ≡ counting t entries m o k
+unowed t entries m o o' k same none = same ∙ none ∙ sym (ap (λ b. b && (m k || nat_le t (entry_at entries k).deadline)) none)
+
+-- what is owed and counts still is owed once what is past is dropped
+counted : (t : ℕ) (entries : List Entry) (m o o' : ℕ → Bool) (k : ℕ) → o' k ≡ o k → (m k || nat_le t (entry_at entries k).deadline) ≡ true → o' k ≡ counting t entries m o k
+counted t entries m o o' k same counts = same ∙ sym (ap (λ b. o k && b) counts ∙ and-true (o k))
+  where
+    and-true : (b : Bool) → (b && true) ≡ b
+    and-true true = refl
+    and-true false = refl
+
+-- IsExpiredTo holds at the start of an account: nothing is owed before it
+pub expired-start : (t : ℕ) (gains : Gains) (strikes : List Strike) (m : ℕ → Bool) (a : Account) →
+    IsExpiredTo t (entries_of gains) m (owes_at gains strikes a) (owes_at gains strikes a) a.start
+expired-start t gains strikes m a = record {
+  gone = λ k early. unowed t (entries_of gains) m (owes_at gains strikes a) (owes_at gains strikes a) k refl (before-start gains strikes a k early);
+  later = λ k late. refl;
+}
+
+-- where the gain at the place counts still at t, or is not owed, the account has expired one place further
+stays : (t : ℕ) (entries : List Entry) (m o o' : ℕ → Bool) (place : ℕ) → IsExpiredTo t entries m o o' place → o' place ≡ counting t entries m o place →
+    IsExpiredTo t entries m o o' (place + 1)
+stays t entries m o o' place was here = record {
+  gone = λ k early. elim (cases_eq k place) [
+    | inl is ↦ ap o' is ∙ here ∙ sym (ap (counting t entries m o) is)
+    | inr other ↦ was.gone k (omega (arith, early, other))
+  ];
+  later = λ k late. was.later k (omega (arith, late));
+}
+
+-- IsExpiredTo goes on over a gain whose deadline is not past
+pub stays-early : (t : ℕ) (entries : List Entry) (m o o' : ℕ → Bool) (place : ℕ) → IsExpiredTo t entries m o o' place → t ≤ (entry_at entries place).deadline →
+    IsExpiredTo t entries m o o' (place + 1)
+stays-early t entries m o o' place was early =
+    stays t entries m o o' place was
+    (counted t entries m o o' place (was.later place (omega arith)) (ap (λ b. m place || b) (le-yes t (entry_at entries place).deadline early) ∙ or-true (m place)))
+  where
+    or-true : (b : Bool) → (b || true) ≡ true
+    or-true true = refl
+    or-true false = refl
+
+-- IsExpiredTo goes on over a gain that must be sent
+pub stays-must : (t : ℕ) (entries : List Entry) (m o o' : ℕ → Bool) (place : ℕ) → IsExpiredTo t entries m o o' place → m place ≡ true → IsExpiredTo t entries m o o' (place + 1)
+stays-must t entries m o o' place was must =
+    stays t entries m o o' place was
+    (counted t entries m o o' place (was.later place (omega arith)) (ap (λ b. b || nat_le t (entry_at entries place).deadline) must))
+
+-- where the gain at the place is past, may be sent, and is taken out, the account has expired one place further
+pub goes : (t : ℕ) (entries : List Entry) (m o o' o'' : ℕ → Bool) (place : ℕ) → IsExpiredTo t entries m o o' place → (entry_at entries place).deadline < t → m place ≡ false →
+    IsWithout place o' o'' → IsExpiredTo t entries m o o'' (place + 1)
+goes t entries m o o' o'' place was late may without = record {
+  gone = λ k early. elim (cases_eq k place) [
+    | inl is ↦
+        ap o'' is ∙ without.gone
+        ∙ sym (and-false (o place))
+        ∙ sym (ap₂ (λ x y. o place && (x || y)) may (le-no t (entry_at entries place).deadline late))
+        ∙ sym (ap (counting t entries m o) is)
+    | inr other ↦ without.others k other ∙ was.gone k (omega (arith, early, other))
+  ];
+  later = λ k past. let other : k ≢ place = omega (arith, past) in without.others k other ∙ was.later k (omega (arith, past));
+}
+
+-- an account that owes at each place just what counts still at t has the debts that count at t
+finished : (gains : Gains) (old new : List Strike) (a b : Account) (t : ℕ) → b.soft ≡ a.soft →
+    ((k : ℕ) → k < length (entries_of gains) → owes_at gains new b k ≡ counting t (entries_of gains) (must_at gains a) (owes_at gains old a) k) →
+    account_debts gains new b ≡ filter (counts_at t) (account_debts gains old a)
+unfolding account_debts
+finished gains old new a b t soft each =
+    listed-same (owes_at gains new b) (must_at gains b) (owes_at gains new b) (must_at gains a) 0 (entries_of gains) (λ k from below. (refl, soft-must gains a b k soft))
+    ∙ listed-counting t (owes_at gains old a) (must_at gains a) (owes_at gains new b) 0 (entries_of gains)
+    (λ j e below.
+    let here : j ≡ 0 + j = omega arith in
+    subst (λ n. owes_at gains new b n ≡ (owes_at gains old a n && (must_at gains a n || nat_le t (get_or (entries_of gains) j e).deadline))) here
+    (each j below ∙ ap (λ (x : Entry). owes_at gains old a j && (must_at gains a j || nat_le t x.deadline)) (get_or_default (entries_of gains) j no_entry e below)))
+
+-- an account that has expired up to its end has the debts that count at t
+pub expired-end : (gains : Gains) (old new : List Strike) (a b : Account) (t place : ℕ) → b.soft ≡ a.soft → b.end ≤ place →
+    IsExpiredTo t (entries_of gains) (must_at gains a) (owes_at gains old a) (owes_at gains new b) place →
+    account_debts gains new b ≡ filter (counts_at t) (account_debts gains old a)
+expired-end gains old new a b t place soft end is =
+    finished gains old new a b t soft (λ k within. elim (cases_lt k place) [
+      | inl early ↦ is.gone k early
+      | inr late ↦
+          let none = past-end gains new b k (omega (arith, late, end)) in
+          unowed t (entries_of gains) (must_at gains a) (owes_at gains old a) (owes_at gains new b) k (is.later k late) (sym (is.later k late) ∙ none)
+    ])
+
+-- where deadlines rise, and that of this place is not past, the account has expired whole
+pub expired-rising : (gains : Gains) (old new : List Strike) (a b : Account) (t place : ℕ) → b.soft ≡ a.soft → AreGains gains → gains.rises ≡ true → IsKept gains place →
+    t ≤ (entry_at (entries_of gains) place).deadline → IsExpiredTo t (entries_of gains) (must_at gains a) (owes_at gains old a) (owes_at gains new b) place →
+    account_debts gains new b ≡ filter (counts_at t) (account_debts gains old a)
+expired-rising gains old new a b t place soft gained rises kept early is =
+    finished gains old new a b t soft (λ k within. elim (cases_lt k place) [
+      | inl first ↦ is.gone k first
+      | inr late ↦
+          let count = entries-long gains gained.long in
+          let above = rising-kept gains place k gained rises kept late (omega (arith, within, count)) in
+          let counts : (must_at gains a k || nat_le t (entry_at (entries_of gains) k).deadline) ≡ true =
+          ap (λ b. must_at gains a k || b) (le-yes t (entry_at (entries_of gains) k).deadline (omega (arith, early, above))) ∙ or-true (must_at gains a k) in
+          counted t (entries_of gains) (must_at gains a) (owes_at gains old a) (owes_at gains new b) k (is.later k late) counts
+    ])
+  where
+    or-true : (b : Bool) → (b || true) ≡ true
+    or-true true = refl
+    or-true false = refl
+
+-- the account b is a, without what is past at t before the place
+pub record IsExpiring (gains : Gains) (old new : List Strike) (a b : Account) (t place : ℕ) : Type 0 where
+  pub kept : take (length old) new ≡ old
+  pub low : a.start ≤ place
+  pub account : IsAccount gains new b
+  pub soft : b.soft ≡ a.soft
+  pub gone : IsExpiredTo t (entries_of gains) (must_at gains a) (owes_at gains old a) (owes_at gains new b) place

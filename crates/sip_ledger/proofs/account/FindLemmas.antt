@@ -1,0 +1,146 @@
+-- The first debt of an account that a send pays.
+use Rattle.std.proofs.Common.{◌≡◌, ◌≢◌, ℕ, ◌+◌, ◌<◌, ◌≤◌, ◌==◌, ◌&&◌, Bool, true, false, not, List, [], ◌∷◌, ◌++◌, length, get_or, refl, sym, ap, ap₂, ◌∙◌, subst, inl, inr, arith}
+use Rattle.std.specs.Prelude.{All, IsTrue, nat_le, nat_lt}
+use Rattle.std.specs.List.{list_any}
+use Rattle.std.proofs.Math.Bool.{and-false}
+use Rattle.std.proofs.lemmas.Bool.{cases_eq, cases_lt, eq-eqb, ne_eqb, true≢false}
+use Rattle.std.proofs.lemmas.Bool.Decides.{nat_tests}
+use Rattle.std.proofs.lemmas.List.{get_or_default}
+use Rattle.sip_ledger.specs.declared.debt.Debt.{Debt}
+use Rattle.sip_ledger.specs.declared.debt.Entry.{Entry}
+use Rattle.sip_ledger.specs.declared.accounts.account.Account.{Account}
+use Rattle.sip_ledger.specs.declared.accounts.gains.Gains.{Gains}
+use Rattle.sip_ledger.specs.declared.accounts.strikes.Strike.{Strike}
+use Rattle.sip_ledger.specs.Debts.{IsWithoutFirst, is_payable, paid_by}
+use Rattle.sip_ledger.specs.Entries.{debt_of, debts_from}
+use Rattle.sip_ledger.specs.inner.Accounts.{IsAccount, IsFirstPayable, IsWithout, account_debts, entries_of, entry_at, is_gone, is_left, is_struck, must_at, owes_at, pays_at, strikes_of}
+use Rattle.sip_ledger.specs.inner.Indexes.{holds}
+use Rattle.sip_ledger.proofs.gains.LeftLemmas.{gone-left, gone-struck, held-left, owed-left}
+use Rattle.sip_ledger.proofs.debts.ListedLemmas.{no_entry, listed-All}
+use Rattle.sip_ledger.proofs.debts.OwedLemmas.{listed-any, removed}
+use Rattle.sip_ledger.proofs.debts.PayLemmas.{paid-is, unpaid-is}
+use Rattle.sip_ledger.proofs.account.AccountLemmas.{owed-within, soft-must}
+
+-- a send of the message does not pay a gain of another message
+pub unnamed-unpaid : (entries : List Entry) (message t k : ℕ) → (entry_at entries k).message ≢ message → pays_at entries message t k ≡ false
+unnamed-unpaid entries message t k other = ap (λ b. b && nat_le t (entry_at entries k).deadline) (ne_eqb (entry_at entries k).message message other)
+
+-- a send does not pay a gain that is past
+pub late-unpaid : (entries : List Entry) (message t k : ℕ) → (entry_at entries k).deadline < t → pays_at entries message t k ≡ false
+late-unpaid entries message t k late = ap (λ b. (entry_at entries k).message == message && b) (le-no t (entry_at entries k).deadline late) ∙ and-false ((entry_at entries k).message == message)
+  where
+    le-no : (m n : ℕ) → n < m → nat_le m n ≡ false
+    le-no m n is = grind (arith, nat_tests)
+
+-- a send pays a gain of its message that is not past
+pub named-pays : (entries : List Entry) (message t k : ℕ) → (entry_at entries k).message ≡ message → t ≤ (entry_at entries k).deadline → pays_at entries message t k ≡ true
+named-pays entries message t k is early = ap₂ (λ a b. a && b) (eq-eqb (entry_at entries k).message message is) (le-yes t (entry_at entries k).deadline early)
+  where
+    le-yes : (m n : ℕ) → m ≤ n → nat_le m n ≡ true
+    le-yes m n is = grind (arith, nat_tests)
+
+-- a place that is struck is not owed
+pub struck-unowed : (gains : Gains) (strikes : List Strike) (a : Account) (k : ℕ) → is_struck (strikes_of strikes a) (entry_at (entries_of gains) k).message k ≡ true →
+    owes_at gains strikes a k ≡ false
+unfolding owes_at
+struck-unowed gains strikes a k struck =
+    ap (λ b. nat_le a.start k && (nat_lt k a.end && not b)) (gone-struck gains (strikes_of strikes a) k (λ left. struck)) ∙ no-more (nat_le a.start k) (nat_lt k a.end)
+  where
+    no-more : (x y : Bool) → (x && (y && not true)) ≡ false
+    no-more true true = refl
+    no-more true false = refl
+    no-more false y = refl
+
+-- no gain before the place `to` is owed and is paid by a send of the message at t
+abbrev pub NonePays : List Entry → (ℕ → Bool) → ℕ → ℕ → ℕ → Type 0
+NonePays entries owes message t to = (k : ℕ) → k < to → owes k ≡ true → pays_at entries message t k ≡ false
+
+-- NonePays goes on from one place to another where the message is left at no place between
+pub none-pays_to : (gains : Gains) (strikes : List Strike) (a : Account) (message t from at : ℕ) → NonePays (entries_of gains) (owes_at gains strikes a) message t from →
+    ((k : ℕ) → from ≤ k → k < at → holds gains.messages message k ≡ false) → NonePays (entries_of gains) (owes_at gains strikes a) message t at
+none-pays_to gains strikes a message t from at before others k early owed = elim (cases_lt k from) [
+  | inl first ↦ before k first owed
+  | inr behind ↦ elim (cases_eq (entry_at (entries_of gains) k).message message) [
+    | inl is ↦ absurd (true≢false (sym (held-left gains message k is ∙ owed-left gains strikes a k owed) ∙ others k behind early))
+    | inr other ↦ unnamed-unpaid (entries_of gains) message t k other
+  ]
+]
+
+-- NonePays goes on over places at which the message is struck
+pub none-pays_struck : (gains : Gains) (strikes : List Strike) (a : Account) (message t at to : ℕ) → NonePays (entries_of gains) (owes_at gains strikes a) message t at →
+    ((k : ℕ) → at ≤ k → k < to → is_struck (strikes_of strikes a) message k ≡ true) → NonePays (entries_of gains) (owes_at gains strikes a) message t to
+none-pays_struck gains strikes a message t at to before struck k early owed = elim (cases_lt k at) [
+  | inl first ↦ before k first owed
+  | inr behind ↦ elim (cases_eq (entry_at (entries_of gains) k).message message) [
+    | inl is ↦ absurd (true≢false (sym owed ∙ struck-unowed gains strikes a k (ap (λ m. is_struck (strikes_of strikes a) m k) is ∙ struck k behind early)))
+    | inr other ↦ unnamed-unpaid (entries_of gains) message t k other
+  ]
+]
+
+-- NonePays goes on over a gain that is past
+pub none-pays_late : (entries : List Entry) (owes : ℕ → Bool) (message t at : ℕ) → NonePays entries owes message t at → (entry_at entries at).deadline < t →
+    NonePays entries owes message t (at + 1)
+none-pays_late entries owes message t at before late k early owed = elim (cases_eq k at) [
+  | inl here ↦ ap (pays_at entries message t) here ∙ late-unpaid entries message t at late
+  | inr other ↦ before k (omega (arith, early, other)) owed
+]
+
+-- what is not gone, at a place of the account, is owed
+pub owed-here : (gains : Gains) (strikes : List Strike) (a : Account) (at : ℕ) → a.start ≤ at → at < a.end →
+    is_gone gains (strikes_of strikes a) at ≡ false → owes_at gains strikes a at ≡ true
+unfolding owes_at
+owed-here gains strikes a at low high free =
+    ap₂ (λ x y. x && (y && not (is_gone gains (strikes_of strikes a) at))) (le-yes a.start at low) (lt-yes at a.end high) ∙ ap not free
+  where
+    le-yes : (m n : ℕ) → m ≤ n → nat_le m n ≡ true
+    le-yes m n is = grind (arith, nat_tests)
+
+    lt-yes : (m n : ℕ) → m < n → nat_lt m n ≡ true
+    lt-yes m n is = grind (arith, nat_tests)
+
+-- the first gain of the message that is left, not struck and not past is the first debt that a send pays
+pub first-payable : (gains : Gains) (strikes : List Strike) (a : Account) (message t at : ℕ) → NonePays (entries_of gains) (owes_at gains strikes a) message t at → a.start ≤ at → at < a.end →
+    (entry_at (entries_of gains) at).message ≡ message → holds gains.messages message at ≡ true → is_struck (strikes_of strikes a) message at ≡ false → t ≤ (entry_at (entries_of gains) at).deadline →
+    IsFirstPayable (entries_of gains) (owes_at gains strikes a) message t at
+first-payable gains strikes a message t at before low high is held free early = record {
+  owed = owed-here gains strikes a at low high (gone-left gains (strikes_of strikes a) at (sym (held-left gains message at is) ∙ held) ∙ ap (λ m. is_struck (strikes_of strikes a) m at) is ∙ free);
+  pays = named-pays (entries_of gains) message t at is early;
+  before = before;
+}
+
+-- where the first debt that a send pays is taken out of an account, the account owes the debts that the payment leaves
+pub paid-account : (gains : Gains) (old new : List Strike) (a b : Account) (message t place : ℕ) → IsAccount gains old a →
+    IsFirstPayable (entries_of gains) (owes_at gains old a) message t place →
+    IsWithout place (owes_at gains old a) (owes_at gains new b) → b.soft ≡ a.soft →
+    account_debts gains new b ≡ paid_by message t (account_debts gains old a)
+unfolding account_debts
+paid-account gains old new a b message t place is found without soft =
+    paid-is message t (account_debts gains old a) (account_debts gains new b)
+    (removed (λ debt. IsTrue (is_payable message t debt)) (entries_of gains) (owes_at gains old a) (must_at gains a)
+    (owes_at gains new b) (must_at gains b) place (account_debts gains new b) (omega (arith, owed-within gains old a place found.owed, is.end)) found.owed without.gone without.others
+    (λ k other. soft-must gains a b k soft) found.pays
+    (λ k early owed pays. true≢false (sym pays ∙ found.before k early owed)) refl)
+
+-- where a send pays nothing that an account owes, it pays none of its debts
+pub unpaid-account : (gains : Gains) (strikes : List Strike) (a : Account) (message t : ℕ) →
+    ((k : ℕ) → owes_at gains strikes a k ≡ true → pays_at (entries_of gains) message t k ≡ false) →
+    All (λ debt. ¬ (IsTrue (is_payable message t debt))) (account_debts gains strikes a)
+unfolding account_debts
+unpaid-account gains strikes a message t none =
+    listed-All (λ debt. ¬ (IsTrue (is_payable message t debt))) (owes_at gains strikes a) (must_at gains a) 0 (entries_of gains)
+    (λ j e below owed pays.
+    let here : 0 + j ≡ j = omega arith in
+    let same : get_or (entries_of gains) j e ≡ entry_at (entries_of gains) j = get_or_default (entries_of gains) j e no_entry below in
+    true≢false (sym pays ∙ ap (λ (x : Entry). x.message == message && nat_le t x.deadline) same ∙ none j (ap (owes_at gains strikes a) (sym here) ∙ owed)))
+
+-- from its start on and before its end an account owes what is not gone
+pub owes-inside : (gains : Gains) (strikes : List Strike) (a : Account) (k : ℕ) → a.start ≤ k → k < a.end → owes_at gains strikes a k ≡ not (is_gone gains (strikes_of strikes a) k)
+unfolding owes_at
+owes-inside gains strikes a k low high =
+    ap₂ (λ x y. x && (y && not (is_gone gains (strikes_of strikes a) k))) (le-yes a.start k low) (lt-yes k a.end high)
+  where
+    le-yes : (m n : ℕ) → m ≤ n → nat_le m n ≡ true
+    le-yes m n is = grind (arith, nat_tests)
+
+    lt-yes : (m n : ℕ) → m < n → nat_lt m n ≡ true
+    lt-yes m n is = grind (arith, nat_tests)

@@ -1,0 +1,497 @@
+-- What an account owes, place by place: its debts, whether another account owes the same, and the least deadline of what it must send.
+use Rattle.std.proofs.Common.{◌≡◌, ◌≢◌, ℕ, ◌+◌, ◌<◌, ◌≤◌, ◌==◌, ◌&&◌, Bool, true, false, cond, not, List, [], ◌∷◌, ◌++◌, length, take, drop, get_or, map, refl, sym, ap, ap₂, ◌∙◌, subst, inl, inr, ◌⊎◌, arith, append-nil}
+use Rattle.std.specs.Prelude.{IsTrue, Option, Some, None, ◌↔◌, nat_le, nat_lt, option_to_list}
+use Rattle.std.specs.Bool.{OnTrue}
+use Rattle.std.proofs.lemmas.Bool.{cases_eq, cases_lt, eq-eqb, eqb-true, true≢false}
+use Rattle.std.proofs.lemmas.List.{get_or-drop, get_or_default, length-drop, length-take-le, map-append, take-append-le, take_all}
+use Rattle.std.proofs.lemmas.List.Elements.{All-map}
+use Rattle.sip_ledger.specs.declared.debt.Debt.{Debt}
+use Rattle.sip_ledger.specs.declared.debt.Entry.{Entry}
+use Rattle.sip_ledger.specs.declared.accounts.account.Account.{Account}
+use Rattle.sip_ledger.specs.declared.accounts.gains.Gains.{Gains}
+use Rattle.sip_ledger.specs.declared.accounts.strikes.Strike.{Strike}
+use Rattle.sip_ledger.specs.Debts.{debt_deadlines, earliest}
+use Rattle.sip_ledger.specs.Entries.{debt_of, debts_from, IsGap}
+use Rattle.sip_ledger.specs.inner.Accounts.{AreAlike, AreGains, IsAccount, SharesRest, account_debts, entries_of, entry_at, is_gone, is_struck, must_at, owes_at, strikes_of}
+use Rattle.sip_ledger.proofs.gains.LeftLemmas.{entries-long, gone-same, left-kept, owed-left, rising-kept}
+use Rattle.sip_ledger.specs.inner.Indexes.{holds}
+use Rattle.sip_ledger.proofs.debts.ListedLemmas.{back, back-none, back-over, back-same, back-set, earliest-first, earliest-push, front, front-gap, front-next, listed-All, listed-must, listed-none, listed-same, no_entry, parts}
+use Rattle.sip_ledger.proofs.account.AccountLemmas.{must-below, must-from, past-end, soft-must}
+use Rattle.sip_ledger.proofs.account.WithoutLemmas.{before-start, le-yes}
+
+-- What follows is of all debts: what is told up to a place, and the next debt.
+pub front-start : (gains : Gains) (strikes : List Strike) (m : ℕ → Bool) (a : Account) → a.start ≤ length (entries_of gains) → front (owes_at gains strikes a) m (entries_of gains) a.start ≡ []
+front-start gains strikes m a within =
+    listed-none (owes_at gains strikes a) m 0 (take a.start (entries_of gains))
+    (λ k from below. before-start gains strikes a k (omega (arith, below, length-take-le a.start (entries_of gains) within)))
+
+-- up to the next place at which something is owed, one debt more is told: that of this place
+pub front-more : (entries : List Entry) (o m : ℕ → Bool) (at next : ℕ) → at < length entries → o at ≡ true → at < next → next ≤ length entries → IsGap o (at + 1) next →
+    front o m entries next ≡ front o m entries at ++ debt_of (entry_at entries at) (m at) ∷ []
+front-more entries o m at next inside is after within gap =
+    front-gap o m entries (at + 1) next (omega (arith, after)) within gap
+    ∙ front-next o m entries at at no_entry (omega arith) inside (λ j above below. absurd (omega (arith, above, below))) is
+
+-- what is told up to the end of an account or a later place is all that it owes
+pub front-end : (gains : Gains) (strikes : List Strike) (m : ℕ → Bool) (a : Account) (at : ℕ) → a.end ≤ at → at ≤ length (entries_of gains) →
+    debts_from (owes_at gains strikes a) m 0 (entries_of gains) ≡ front (owes_at gains strikes a) m (entries_of gains) at
+front-end gains strikes m a at end within =
+    let o = owes_at gains strikes a in
+    parts o m (entries_of gains) at within
+    ∙ ap (λ l. front o m (entries_of gains) at ++ l) (back-none o m (entries_of gains) at (λ k past. past-end gains strikes a k (omega (arith, past, end))))
+    ∙ append-nil (front o m (entries_of gains) at)
+
+-- what is told up to the end of an account are its debts
+pub all-told : (gains : Gains) (strikes : List Strike) (a : Account) (at : ℕ) → IsAccount gains strikes a → a.end ≤ at → at ≤ a.end →
+    front (owes_at gains strikes a) (must_at gains a) (entries_of gains) at ≡ account_debts gains strikes a
+unfolding account_debts
+all-told gains strikes a at is past within =
+    let end = is.end in
+    sym (front-end gains strikes (must_at gains a) a at past (omega (arith, within, end)))
+
+-- what an account owes before a place of it are the first of its debts
+pub front-first : (gains : Gains) (strikes : List Strike) (a : Account) (at n : ℕ) → IsAccount gains strikes a → at ≤ a.end →
+    length (front (owes_at gains strikes a) (must_at gains a) (entries_of gains) at) ≡ n →
+    front (owes_at gains strikes a) (must_at gains a) (entries_of gains) at ≡ take n (account_debts gains strikes a)
+unfolding account_debts
+front-first gains strikes a at n is within long =
+    let end = is.end in
+    let before = front (owes_at gains strikes a) (must_at gains a) (entries_of gains) at in
+    let after = back (owes_at gains strikes a) (must_at gains a) (entries_of gains) at in
+    sym (take_all n before (omega (arith, long)))
+    ∙ sym (take-append-le n before after (omega (arith, long)))
+    ∙ ap (take n) (sym (parts (owes_at gains strikes a) (must_at gains a) (entries_of gains) at (omega (arith, within, end))))
+
+-- both lists are the same exactly if what is left of them is
+pub record AreBeside (one other left right : List Debt) : Type 0 where
+  pub to : one ≡ other → left ≡ right
+  pub from : left ≡ right → one ≡ other
+
+-- what is left from the start of an account on is all that it owes
+pub beside-start : (gains : Gains) (strikes : List Strike) (m : ℕ → Bool) (a : Account) → a.start ≤ length (entries_of gains) →
+    debts_from (owes_at gains strikes a) m 0 (entries_of gains) ≡ back (owes_at gains strikes a) m (entries_of gains) a.start
+beside-start gains strikes m a within =
+    parts (owes_at gains strikes a) m (entries_of gains) a.start within ∙ ap (λ l. l ++ back (owes_at gains strikes a) m (entries_of gains) a.start) (front-start gains strikes m a within)
+
+-- what is left from a place on is the debt of this place, and then what is left from the next place on
+pub back-more : (entries : List Entry) (o m : ℕ → Bool) (at next : ℕ) → at < length entries → o at ≡ true → at < next → next ≤ length entries → IsGap o (at + 1) next →
+    back o m entries at ≡ debt_of (entry_at entries at) (m at) ∷ back o m entries next
+back-more entries o m at next inside is after within gap =
+    back-set o m entries at no_entry inside is ∙ ap (λ l. debt_of (entry_at entries at) (m at) ∷ l) (back-over o m entries (at + 1) next (omega (arith, after)) within gap)
+
+-- where the same debt is first in what is left of both lists, both are the same exactly if what is left after it is
+pub beside-more : (one other left right left' right' : List Debt) (d : Debt) → AreBeside one other left right → left ≡ d ∷ left' → right ≡ d ∷ right' → AreBeside one other left' right'
+beside-more one other left right left' right' d are first second = record {
+  to = λ same. tails (sym first ∙ are.to same ∙ second);
+  from = λ same. are.from (first ∙ ap (λ l. d ∷ l) same ∙ sym second);
+}
+  where
+    tails : d ∷ left' ≡ d ∷ right' → left' ≡ right'
+    tails same = cc
+
+-- each account stands at a place where it owes something, or at its end: what is left of both is the same exactly if all of it is
+pub record AreAt (gains : Gains) (strikes : List Strike) (one other : Account) (at beside : ℕ) : Type 0 where
+  pub left : AreBeside (account_debts gains strikes one) (account_debts gains strikes other) (back (owes_at gains strikes one) (must_at gains one) (entries_of gains) at)
+      (back (owes_at gains strikes other) (must_at gains other) (entries_of gains) beside)
+  pub low : one.start ≤ at
+  pub low_beside : other.start ≤ beside
+  pub end : at ≤ one.end
+  pub end_beside : beside ≤ other.end
+  pub owed : at < one.end → owes_at gains strikes one at ≡ true
+  pub owed_beside : beside < other.end → owes_at gains strikes other beside ≡ true
+
+-- the debts of an account are those from its start on
+start-debts : (gains : Gains) (strikes : List Strike) (a : Account) → IsAccount gains strikes a →
+    account_debts gains strikes a ≡ back (owes_at gains strikes a) (must_at gains a) (entries_of gains) a.start
+unfolding account_debts
+start-debts gains strikes a is =
+    let order = is.order in
+    let end = is.end in
+    beside-start gains strikes (must_at gains a) a (omega (arith, order, end))
+
+-- AreAt holds at the starts of two accounts
+pub at-start : (gains : Gains) (strikes : List Strike) (one other : Account) → IsAccount gains strikes one → IsAccount gains strikes other →
+    AreAt gains strikes one other one.start other.start
+at-start gains strikes one other is is_other =
+    let first = start-debts gains strikes one is in
+    let second = start-debts gains strikes other is_other in
+    record {
+      left = record { to = λ same. sym first ∙ same ∙ second; from = λ same. first ∙ same ∙ sym second };
+      low = omega arith;
+      low_beside = omega arith;
+      end = is.order;
+      end_beside = is_other.order;
+      owed = is.begins;
+      owed_beside = is_other.begins;
+    }
+
+-- `next` is the next place after `at` at which the account owes something, or its end
+pub record IsAfter (gains : Gains) (strikes : List Strike) (a : Account) (at next : ℕ) : Type 0 where
+  pub within : (at + 1 ≤ next) × (next ≤ a.end)
+  pub before : (k : ℕ) → at + 1 ≤ k → k < next → owes_at gains strikes a k ≡ false
+  pub is : next < a.end → owes_at gains strikes a next ≡ true
+
+-- what an account owes from a place on is the debt of this place, and then what it owes from the next one on
+after-more : (gains : Gains) (strikes : List Strike) (a : Account) (at next : ℕ) → IsAccount gains strikes a → at < a.end → owes_at gains strikes a at ≡ true →
+    IsAfter gains strikes a at next →
+    back (owes_at gains strikes a) (must_at gains a) (entries_of gains) at
+    ≡ debt_of (entry_at (entries_of gains) at) (must_at gains a at) ∷ back (owes_at gains strikes a) (must_at gains a) (entries_of gains) next
+after-more gains strikes a at next is inside owed after =
+    let end = is.end in
+    let low = after.within.0 in
+    let high = after.within.1 in
+    back-more (entries_of gains) (owes_at gains strikes a) (must_at gains a) at next (omega (arith, inside, end)) owed (omega (arith, low)) (omega (arith, high, end)) after.before
+
+-- AreAt goes on with the next places of both accounts, where both owe the same debt at their places
+pub at-more : (gains : Gains) (strikes : List Strike) (one other : Account) (at beside next next_beside : ℕ) → IsAccount gains strikes one → IsAccount gains strikes other →
+    AreAt gains strikes one other at beside → at < one.end → beside < other.end →
+    debt_of (entry_at (entries_of gains) at) (must_at gains one at) ≡ debt_of (entry_at (entries_of gains) beside) (must_at gains other beside) →
+    IsAfter gains strikes one at next → IsAfter gains strikes other beside next_beside → AreAt gains strikes one other next next_beside
+at-more gains strikes one other at beside next next_beside is is_other are inside inside_beside same after after_beside =
+    let entries = (entries_of gains) in
+    let left' = back (owes_at gains strikes one) (must_at gains one) entries next in
+    let right' = back (owes_at gains strikes other) (must_at gains other) entries next_beside in
+    let low = are.low in
+    let low_beside = are.low_beside in
+    let above = after.within.0 in
+    let above_beside = after_beside.within.0 in
+    record {
+      left = beside-more (account_debts gains strikes one) (account_debts gains strikes other) (back (owes_at gains strikes one) (must_at gains one) entries at)
+          (back (owes_at gains strikes other) (must_at gains other) entries beside) left' right' (debt_of (entry_at entries at) (must_at gains one at)) are.left
+          (after-more gains strikes one at next is inside (are.owed inside) after)
+          (after-more gains strikes other beside next_beside is_other inside_beside (are.owed_beside inside_beside) after_beside ∙ ap (λ d. d ∷ right') (sym same));
+      low = omega (arith, low, above);
+      low_beside = omega (arith, low_beside, above_beside);
+      end = after.within.1;
+      end_beside = after_beside.within.1;
+      owed = after.is;
+      owed_beside = after_beside.is;
+    }
+
+-- what is left from a place at which something is owed begins with that debt
+back-here : (gains : Gains) (strikes : List Strike) (a : Account) (at : ℕ) → IsAccount gains strikes a → at < a.end → owes_at gains strikes a at ≡ true →
+    back (owes_at gains strikes a) (must_at gains a) (entries_of gains) at
+    ≡ debt_of (entry_at (entries_of gains) at) (must_at gains a at) ∷ back (owes_at gains strikes a) (must_at gains a) (entries_of gains) (at + 1)
+back-here gains strikes a at is inside owed =
+    let end = is.end in
+    back-set (owes_at gains strikes a) (must_at gains a) (entries_of gains) at no_entry (omega (arith, inside, end)) owed
+
+-- nothing is left at the end of an account
+back-end : (gains : Gains) (strikes : List Strike) (a : Account) (at : ℕ) → a.end ≤ at → back (owes_at gains strikes a) (must_at gains a) (entries_of gains) at ≡ []
+back-end gains strikes a at past =
+    back-none (owes_at gains strikes a) (must_at gains a) (entries_of gains) at (λ j above. past-end gains strikes a j (omega (arith, above, past)))
+
+-- two accounts at whose ends AreAt holds owe the same
+pub at-end : (gains : Gains) (strikes : List Strike) (one other : Account) (at beside : ℕ) → IsAccount gains strikes one → IsAccount gains strikes other →
+    AreAt gains strikes one other at beside → one.end ≤ at → other.end ≤ beside → account_debts gains strikes one ≡ account_debts gains strikes other
+at-end gains strikes one other at beside is is_other are past past_beside = are.left.from (back-end gains strikes one at past ∙ sym (back-end gains strikes other beside past_beside))
+
+-- a list with a first debt is not empty
+cons≢nil : (d : Debt) (ds : List Debt) → d ∷ ds ≢ []
+cons≢nil d ds none = cc
+
+-- accounts at one place that owe the same from there on owe the same
+pub rest-same : (gains : Gains) (strikes : List Strike) (one other : Account) (at beside : ℕ) → AreAt gains strikes one other at beside → at ≡ beside →
+    SharesRest strikes one other at → account_debts gains strikes one ≡ account_debts gains strikes other
+rest-same gains strikes one other at beside are here shared =
+    let entries = (entries_of gains) in
+    are.left.from (back-same (owes_at gains strikes one) (must_at gains one) (owes_at gains strikes other) (must_at gains other) entries at
+    (λ k above. (shared.owes gains k above, soft-must gains other one k shared.soft))
+    ∙ ap (back (owes_at gains strikes other) (must_at gains other) entries) here)
+
+-- accounts that begin and end alike and have the same strikes owe the same
+pub alike-debts : (gains : Gains) (strikes : List Strike) (one other : Account) → AreAlike strikes one other → account_debts gains strikes one ≡ account_debts gains strikes other
+unfolding account_debts owes_at
+alike-debts gains strikes one other alike =
+    listed-same (owes_at gains strikes one) (must_at gains one) (owes_at gains strikes other) (must_at gains other) 0 (entries_of gains) (λ k from below. (
+      ap₂ (λ s e. nat_le s k && (nat_lt k e && not (is_gone gains (strikes_of strikes one) k))) alike.start alike.end
+          ∙ ap (λ own. nat_le other.start k && (nat_lt k other.end && not (is_gone gains own k))) alike.own,
+      soft-must gains other one k alike.soft,
+    ))
+
+-- accounts that end at one place, and have no strike that goes past this one, owe the same from here on
+pub shares-rest : (strikes : List Strike) (one other : Account) (place : ℕ) → one.end ≡ other.end → one.soft ≡ other.soft → one.start ≤ place → other.start ≤ place →
+    ((m k : ℕ) → place ≤ k → is_struck (strikes_of strikes one) m k ≡ false) → ((m k : ℕ) → place ≤ k → is_struck (strikes_of strikes other) m k ≡ false) →
+    SharesRest strikes one other place
+unfolding owes_at
+shares-rest strikes one other place end soft start start_other free free_other = record {
+  soft = soft;
+  owes = λ gains k above.
+      let m = (entry_at (entries_of gains) k).message in
+      let gone : is_gone gains (strikes_of strikes one) k ≡ is_gone gains (strikes_of strikes other) k =
+      gone-same gains (strikes_of strikes other) (strikes_of strikes one) k (λ left. free m k above ∙ sym (free_other m k above)) in
+      ap₂ (λ a b. a && (nat_lt k one.end && not b)) (le-yes one.start k (omega (arith, start, above))) gone
+      ∙ ap (λ n. nat_lt k n && not (is_gone gains (strikes_of strikes other) k)) end
+      ∙ sym (ap (λ a. a && (nat_lt k other.end && not (is_gone gains (strikes_of strikes other) k))) (le-yes other.start k (omega (arith, start_other, above))));
+}
+
+-- what is said where a test is true may say less
+pub on-true : {P Q : Type 0} (b : Bool) → OnTrue b P → (P → Q) → OnTrue b Q
+on-true true p more = more p
+on-true false p more = p
+
+-- an account with something left does not owe what an account at its end owes
+pub at-longer : (gains : Gains) (strikes : List Strike) (one other : Account) (at beside : ℕ) → IsAccount gains strikes one → AreAt gains strikes one other at beside →
+    at < one.end → other.end ≤ beside → account_debts gains strikes one ≢ account_debts gains strikes other
+at-longer gains strikes one other at beside is are inside past same =
+    cons≢nil (debt_of (entry_at (entries_of gains) at) (must_at gains one at)) (back (owes_at gains strikes one) (must_at gains one) (entries_of gains) (at + 1))
+    (sym (back-here gains strikes one at is inside (are.owed inside)) ∙ are.left.to same ∙ back-end gains strikes other beside past)
+
+-- an account at its end does not owe what one with something left owes
+pub at-shorter : (gains : Gains) (strikes : List Strike) (one other : Account) (at beside : ℕ) → IsAccount gains strikes other → AreAt gains strikes one other at beside →
+    one.end ≤ at → beside < other.end → account_debts gains strikes one ≢ account_debts gains strikes other
+at-shorter gains strikes one other at beside is_other are past inside same =
+    cons≢nil (debt_of (entry_at (entries_of gains) beside) (must_at gains other beside)) (back (owes_at gains strikes other) (must_at gains other) (entries_of gains) (beside + 1))
+    (sym (back-here gains strikes other beside is_other inside (are.owed_beside inside)) ∙ sym (are.left.to same) ∙ back-end gains strikes one at past)
+
+-- where one account is at its end, both owe the same exactly if the other one is at its end too
+pub end-same : (gains : Gains) (strikes : List Strike) (one other : Account) (at beside : ℕ) → IsAccount gains strikes one → IsAccount gains strikes other →
+    AreAt gains strikes one other at beside → at ≡ one.end → IsTrue (beside == other.end) ↔ (account_debts gains strikes one ≡ account_debts gains strikes other)
+end-same gains strikes one other at beside is is_other are here = (
+  λ same. at-end gains strikes one other at beside is is_other are (omega (arith, here)) (let there = eqb-true beside other.end same in omega (arith, there)),
+  λ same. elim (cases_eq beside other.end) [
+    | inl there ↦ eq-eqb beside other.end there
+    | inr short ↦
+        let end = are.end_beside in
+        absurd (at-shorter gains strikes one other at beside is_other are (omega (arith, here)) (omega (arith, short, end)) same)
+  ],
+)
+
+-- where one account is not at its end and the other is, they do not owe the same
+pub end-other : (gains : Gains) (strikes : List Strike) (one other : Account) (at beside : ℕ) → IsAccount gains strikes one →
+    AreAt gains strikes one other at beside → at ≢ one.end → other.end ≤ beside → IsTrue (at == one.end) ↔ (account_debts gains strikes one ≡ account_debts gains strikes other)
+end-other gains strikes one other at beside is are short past =
+    let end = are.end in (
+      λ here. absurd (short (eqb-true at one.end here)),
+      λ same. absurd (at-longer gains strikes one other at beside is are (omega (arith, short, end)) past same),
+    )
+
+-- whether what is owed at a place must be sent
+abbrev pub due : (ℕ → Bool) → (ℕ → Bool) → ℕ → Bool
+due o m k = o k && m k
+
+-- the debts of a list are as they are where only what is owed is looked at for what must be sent
+owed-due : (o m : ℕ → Bool) (i : ℕ) (xs : List Entry) → debts_from o m i xs ≡ debts_from o (due o m) i xs
+owed-due o m i [] = refl
+owed-due o m i (x ∷ xs) = by (o i) (m i) (debts_from o m (i + 1) xs) (debts_from o (due o m) (i + 1) xs) (owed-due o m (i + 1) xs)
+  where
+    by : (a b : Bool) (ds ds' : List Debt) → ds ≡ ds' → cond a (debt_of x b ∷ ds) ds ≡ cond a (debt_of x (a && b) ∷ ds') ds'
+    by true b ds ds' same = ap (λ l. debt_of x b ∷ l) same
+    by false b ds ds' same = same
+
+-- what is due is owed
+due-among : (o m : ℕ → Bool) (k : ℕ) → due o m k ≡ true → o k ≡ true
+due-among o m k is = by (o k) (m k) is
+  where
+    by : (a b : Bool) → (a && b) ≡ true → a ≡ true
+    by true b is = refl
+    by false b is = is
+
+-- the deadlines of what must be sent among the debts are those of what is due
+pub due-deadlines : (entries : List Entry) (o m : ℕ → Bool) → debt_deadlines (debts_from o m 0 entries) ≡ map (λ d. d.deadline) (debts_from (due o m) (due o m) 0 entries)
+due-deadlines entries o m = ap debt_deadlines (owed-due o m 0 entries) ∙ listed-must o (due o m) 0 entries (due-among o m)
+
+-- the least deadline of what must be sent before a place
+abbrev pub least_to : List Entry → (ℕ → Bool) → ℕ → Option ℕ
+least_to entries m to = earliest (map (λ d. d.deadline) (front m m entries to))
+
+-- nothing has to be sent before a place below which nothing is due
+pub least-start : (entries : List Entry) (m : ℕ → Bool) (from : ℕ) → from ≤ length entries → ((k : ℕ) → k < from → m k ≡ false) → None ≡ least_to entries m from
+least-start entries m from within none =
+    sym (ap (λ l. earliest (map (λ (d : Debt). d.deadline) l)) (listed-none m m 0 (take from entries) (λ k _ below. none k (omega (arith, below, length-take-le from entries within)))))
+
+-- the least deadline stays where nothing is due between two places
+pub least-over : (entries : List Entry) (m : ℕ → Bool) (from to : ℕ) → from ≤ to → to ≤ length entries → IsGap m from to → least_to entries m to ≡ least_to entries m from
+least-over entries m from to order within gap = ap (λ l. earliest (map (λ (d : Debt). d.deadline) l)) (front-gap m m entries from to order within gap)
+
+-- the least deadline takes in that of the next place at which something is due
+pub least-more : (entries : List Entry) (m : ℕ → Bool) (from at : ℕ) → from ≤ at → at < length entries → IsGap m from at → m at ≡ true →
+    least_to entries m (at + 1) ≡ earliest ((entry_at entries at).deadline ∷ option_to_list (least_to entries m from))
+least-more entries m from at order inside gap is =
+    ap (λ l. earliest (map (λ (d : Debt). d.deadline) l)) (front-next m m entries from at no_entry order inside gap is)
+    ∙ ap earliest (map-append (λ (d : Debt). d.deadline) (front m m entries from) (debt_of (entry_at entries at) (m at) ∷ []))
+    ∙ earliest-push (map (λ (d : Debt). d.deadline) (front m m entries from)) (entry_at entries at).deadline
+
+-- the least deadline before a place from which on nothing is due is the least of all
+pub least-end : (entries : List Entry) (m : ℕ → Bool) (from : ℕ) → from ≤ length entries → ((k : ℕ) → from ≤ k → m k ≡ false) →
+    earliest (map (λ d. d.deadline) (debts_from m m 0 entries)) ≡ least_to entries m from
+least-end entries m from within none =
+    ap (λ l. earliest (map (λ (d : Debt). d.deadline) l))
+    (parts m m entries from within ∙ ap (λ l. front m m entries from ++ l) (back-none m m entries from none) ∙ append-nil (front m m entries from))
+
+-- where no later deadline is below that of the first gain that is due, it is the least
+pub least-rising : (entries : List Entry) (m : ℕ → Bool) (at : ℕ) → ((k : ℕ) → at ≤ k → k < length entries → (entry_at entries at).deadline ≤ (entry_at entries k).deadline) →
+    at < length entries → ((k : ℕ) → k < at → m k ≡ false) → m at ≡ true → Some (entry_at entries at).deadline ≡ earliest (map (λ d. d.deadline) (debts_from m m 0 entries))
+least-rising entries m at rising inside none is =
+    let d = debt_of (entry_at entries at) (m at) in
+    let later = back m m entries (at + 1) in
+    let whole : debts_from m m 0 entries ≡ d ∷ later =
+    parts m m entries at (omega (arith, inside))
+    ∙ ap₂ (λ a b. a ++ b) (listed-none m m 0 (take at entries) (λ k _ below. none k (omega (arith, below, length-take-le at entries (omega (arith, inside)))))) (back-set m m entries at no_entry inside is) in
+    earliest-first (entry_at entries at).deadline (map (λ (x : Debt). x.deadline) later)
+    (All-map (λ y. (entry_at entries at).deadline ≤ y) (λ (x : Debt). x.deadline) later
+    (listed-All (λ x. (entry_at entries at).deadline ≤ x.deadline) m m (at + 1) (drop (at + 1) entries)
+    (λ j e below due. above j e below)))
+    ∙ sym (ap (λ l. earliest (map (λ (x : Debt). x.deadline) l)) whole)
+  where
+    above : (j : ℕ) (e : Entry) → j < length (drop (at + 1) entries) → (entry_at entries at).deadline ≤ (get_or (drop (at + 1) entries) j e).deadline
+    above j e below =
+        let long = length-drop (at + 1) entries in
+        let there : at + 1 + j < length entries = omega (arith, below, long, inside) in
+        let first = rising (at + 1 + j) (omega arith) there in
+        let same : get_or (drop (at + 1) entries) j e ≡ get_or entries (at + 1 + j) e = get_or-drop (at + 1) entries j e in
+        let here : get_or entries (at + 1 + j) e ≡ entry_at entries (at + 1 + j) = get_or_default entries (at + 1 + j) e no_entry there in
+        subst (λ (x : Entry). (entry_at entries at).deadline ≤ x.deadline) (sym (same ∙ here)) first
+
+-- `least` is the least deadline of what the account must send before the place; where deadlines rise there is none yet
+pub record IsLeastTo (gains : Gains) (strikes : List Strike) (a : Account) (from : ℕ) (least : Option ℕ) : Type 0 where
+  pub is : least ≡ least_to (entries_of gains) (due (owes_at gains strikes a) (must_at gains a)) from
+  pub low : a.start ≤ from
+  pub soft : a.soft ≤ from
+  pub within : from ≤ length (entries_of gains)
+  pub none : gains.rises ≡ true → (k : ℕ) → k < from → due (owes_at gains strikes a) (must_at gains a) k ≡ false
+
+-- `a && b` is false where b is
+and-no : (a b : Bool) → b ≡ false → (a && b) ≡ false
+and-no true b is = is
+and-no false b is = refl
+
+-- `a && b` is false where a is
+no-and : (a b : Bool) → a ≡ false → (a && b) ≡ false
+no-and a b is = ap (λ x. x && b) is
+
+-- a gain that need not be sent as it was gained need not be sent by any account
+unmust : (gains : Gains) (a : Account) (k : ℕ) → holds gains.musts 0 k ≡ false → must_at gains a k ≡ false
+unfolding must_at
+unmust gains a k none = no-and (holds gains.musts 0 k) (nat_le a.soft k) none
+
+-- nothing is due before the start or the `soft` of an account
+not-due-before : (gains : Gains) (strikes : List Strike) (a : Account) (from k : ℕ) → from ≤ a.start ⊎ from ≤ a.soft → k < from →
+    due (owes_at gains strikes a) (must_at gains a) k ≡ false
+not-due-before gains strikes a from k (inl start) early = no-and (owes_at gains strikes a k) (must_at gains a k) (before-start gains strikes a k (omega (arith, start, early)))
+not-due-before gains strikes a from k (inr soft) early = and-no (owes_at gains strikes a k) (must_at gains a k) (sym (must-below gains a k (omega (arith, soft, early))))
+
+-- IsLeastTo holds at the later one of the start and the `soft` of an account, with no deadline
+pub least-first : (gains : Gains) (strikes : List Strike) (a : Account) (from : ℕ) → IsAccount gains strikes a → a.start ≤ from → a.soft ≤ from → from ≤ a.start ⊎ from ≤ a.soft →
+    IsLeastTo gains strikes a from None
+least-first gains strikes a from is low soft one =
+    let order = is.order in
+    let end = is.end in
+    let high = is.soft in
+    let within : from ≤ length (entries_of gains) = elim one [
+      | inl start ↦ omega (arith, start, order, end)
+      | inr softs ↦ omega (arith, softs, high)
+    ] in
+    record {
+      is = least-start (entries_of gains) (due (owes_at gains strikes a) (must_at gains a)) from within (λ k early. not-due-before gains strikes a from k one early);
+      low = low;
+      soft = soft;
+      within = within;
+      none = λ _ k early. not-due-before gains strikes a from k one early;
+    }
+
+-- nothing is due before the next place of a gain that must be sent
+gap-due : (gains : Gains) (strikes : List Strike) (a : Account) (from at : ℕ) → ((k : ℕ) → from ≤ k → k < at → holds gains.musts 0 k ≡ false) →
+    IsGap (due (owes_at gains strikes a) (must_at gains a)) from at
+gap-due gains strikes a from at none k above below = and-no (owes_at gains strikes a k) (must_at gains a k) (unmust gains a k (none k above below))
+
+-- IsLeastTo goes on over places at which nothing has to be sent, and over one that the account does not owe
+pub least-passed : (gains : Gains) (strikes : List Strike) (a : Account) (from at : ℕ) (least : Option ℕ) → IsLeastTo gains strikes a from least → from ≤ at → at < length (entries_of gains) →
+    ((k : ℕ) → from ≤ k → k < at → holds gains.musts 0 k ≡ false) → owes_at gains strikes a at ≡ false → IsLeastTo gains strikes a (at + 1) least
+least-passed gains strikes a from at least was above inside gap unowed =
+    let m = due (owes_at gains strikes a) (must_at gains a) in
+    let low = was.low in
+    let soft = was.soft in
+    let here : m at ≡ false = no-and (owes_at gains strikes a at) (must_at gains a at) unowed in
+    let free = gap-due gains strikes a from at gap in
+    record {
+      is = was.is ∙ sym (least-over (entries_of gains) m from (at + 1) (omega (arith, above)) (omega (arith, inside)) (λ k low_k high_k. elim (cases_lt k at) [
+        | inl early ↦ free k low_k early
+        | inr late ↦ let is : k ≡ at = omega (arith, late, high_k) in ap m is ∙ here
+      ]));
+      low = omega (arith, low, above);
+      soft = omega (arith, soft, above);
+      within = omega (arith, inside);
+      none = λ rises k early. elim (cases_lt k from) [
+        | inl first ↦ was.none rises k first
+        | inr later ↦ elim (cases_lt k at) [
+          | inl between ↦ free k later between
+          | inr late ↦ let is : k ≡ at = omega (arith, late, early) in ap m is ∙ here
+        ]
+      ];
+    }
+
+-- what an account owes at `soft` or after it is due if it must be sent as it was gained
+is-due : (gains : Gains) (strikes : List Strike) (a : Account) (at : ℕ) → a.soft ≤ at → holds gains.musts 0 at ≡ true → owes_at gains strikes a at ≡ true →
+    due (owes_at gains strikes a) (must_at gains a) at ≡ true
+is-due gains strikes a at soft held owed = ap₂ (λ x y. x && y) owed (sym (must-from gains a at soft) ∙ held)
+
+-- IsLeastTo goes on over a place that is due, with its deadline among the others
+pub least-found : (gains : Gains) (strikes : List Strike) (a : Account) (from at moment : ℕ) (least : Option ℕ) → IsLeastTo gains strikes a from least → from ≤ at → at < length (entries_of gains) →
+    ((k : ℕ) → from ≤ k → k < at → holds gains.musts 0 k ≡ false) → holds gains.musts 0 at ≡ true → owes_at gains strikes a at ≡ true →
+    Some moment ≡ earliest ((entry_at (entries_of gains) at).deadline ∷ option_to_list least) → gains.rises ≡ false → IsLeastTo gains strikes a (at + 1) (Some moment)
+least-found gains strikes a from at moment least was above inside gap held owed is falls =
+    let m = due (owes_at gains strikes a) (must_at gains a) in
+    let low = was.low in
+    let soft = was.soft in
+    record {
+      is = is ∙ ap (λ o. earliest ((entry_at (entries_of gains) at).deadline ∷ option_to_list o)) was.is
+          ∙ sym (least-more (entries_of gains) m from at above inside (gap-due gains strikes a from at gap) (is-due gains strikes a at (omega (arith, soft, above)) held owed));
+      low = omega (arith, low, above);
+      soft = omega (arith, soft, above);
+      within = omega (arith, inside);
+      none = λ rises. absurd (true≢false (sym rises ∙ falls));
+    }
+
+-- where deadlines rise, the first one that is found is the least of all
+pub least-first_due : (gains : Gains) (strikes : List Strike) (a : Account) (from at moment : ℕ) (least : Option ℕ) → AreGains gains → IsLeastTo gains strikes a from least → from ≤ at →
+    at < length (entries_of gains) → ((k : ℕ) → from ≤ k → k < at → holds gains.musts 0 k ≡ false) → holds gains.musts 0 at ≡ true → owes_at gains strikes a at ≡ true →
+    Some moment ≡ earliest ((entry_at (entries_of gains) at).deadline ∷ option_to_list least) → gains.rises ≡ true →
+    Some moment ≡ earliest (debt_deadlines (account_debts gains strikes a))
+unfolding account_debts
+least-first_due gains strikes a from at moment least gained was above inside gap held owed is rises =
+    let entries = (entries_of gains) in
+    let o = owes_at gains strikes a in
+    let m = due o (must_at gains a) in
+    let soft = was.soft in
+    let none : least ≡ None = was.is ∙ sym (least-start entries m from was.within (was.none rises)) in
+    is ∙ ap (λ x. earliest ((entry_at entries at).deadline ∷ option_to_list x)) none
+    ∙ least-rising entries m at (λ k above_k below. rising-kept gains at k gained rises (left-kept gains at gained (owed-left gains strikes a at owed)) above_k (omega (arith, below, entries-long gains gained.long)))
+    inside (λ k early. elim (cases_lt k from) [
+      | inl first ↦ was.none rises k first
+      | inr later ↦ gap-due gains strikes a from at gap k later early
+    ]) (is-due gains strikes a at (omega (arith, soft, above)) held owed)
+    ∙ sym (ap earliest (due-deadlines entries o (must_at gains a)))
+
+-- where nothing is due from a place on, the least deadline so far is that of all
+pub least-last : (gains : Gains) (strikes : List Strike) (a : Account) (from at : ℕ) (least : Option ℕ) → IsLeastTo gains strikes a from least →
+    ((k : ℕ) → from ≤ k → k < at → holds gains.musts 0 k ≡ false) → a.end ≤ at → least ≡ earliest (debt_deadlines (account_debts gains strikes a))
+unfolding account_debts
+least-last gains strikes a from at least was gap past =
+    let entries = (entries_of gains) in
+    let o = owes_at gains strikes a in
+    let m = due o (must_at gains a) in
+    was.is
+    ∙ sym (least-end entries m from was.within (λ k later. elim (cases_lt k at) [
+      | inl early ↦ gap-due gains strikes a from at gap k later early
+      | inr late ↦ no-and (o k) (must_at gains a k) (past-end gains strikes a k (omega (arith, late, past)))
+    ]))
+    ∙ sym (ap earliest (due-deadlines entries o (must_at gains a)))
+
+-- a gain that must be sent was gained so, at `soft` or after it
+must-parts : (gains : Gains) (a : Account) (k : ℕ) → must_at gains a k ≡ true → (holds gains.musts 0 k ≡ true) × (a.soft ≤ k)
+must-parts gains a k is = elim (cases_lt k a.soft) [
+  | inl low ↦ absurd (true≢false (sym is ∙ sym (must-below gains a k low)))
+  | inr high ↦ (must-from gains a k high ∙ is, high)
+]
+
+-- where deadlines rise and the first debt must be sent, its deadline is the least
+pub leading : (gains : Gains) (strikes : List Strike) (a : Account) (moment : ℕ) → AreGains gains → IsAccount gains strikes a → a.start < a.end → gains.rises ≡ true →
+    must_at gains a a.start ≡ true → moment ≡ (entry_at (entries_of gains) a.start).deadline → Some moment ≡ earliest (debt_deadlines (account_debts gains strikes a))
+leading gains strikes a moment are is some rises must here =
+    let parts = must-parts gains a a.start must in
+    let end = is.end in
+    let deadline = (entry_at (entries_of gains) a.start).deadline in
+    ap Some here
+    ∙ least-first_due gains strikes a a.start a.start deadline None are (least-first gains strikes a a.start is (omega arith) parts.1 (inl (omega arith))) (omega arith) (omega (arith, some, end))
+    (λ k above below. absurd (omega (arith, above, below))) parts.0 (is.begins some) refl rises

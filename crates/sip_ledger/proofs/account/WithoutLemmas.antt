@@ -1,0 +1,281 @@
+-- An account loses one of its debts.
+use Rattle.std.proofs.Common.{◌≡◌, ◌≢◌, ℕ, ◌+◌, ◌-◌, ◌<◌, ◌≤◌, ◌%◌, ◌^◌, ◌==◌, ◌&&◌, ◌||◌, Bool, true, false, cond, not, List, [], ◌∷◌, ◌++◌, length, take, drop, get_or, refl, sym, ap, ap₂, ◌∙◌, subst, inl, inr, arith, lit<}
+use Rattle.std.specs.Prelude.{nat_le, nat_lt}
+use Rattle.std.specs.List.{sum_by}
+use Rattle.std.proofs.lemmas.Bool.{cases_eq, cases_lt, eq-eqb, ne_eqb, true≢false}
+use Rattle.std.proofs.Math.Bool.{or-false}
+use Rattle.std.proofs.lemmas.Bool.Decides.{nat_tests}
+use Rattle.std.proofs.lemmas.List.Sums.{sum_by-append, sum_by-cons}
+use Rattle.std.proofs.lemmas.Nat.{mod_below}
+use Rattle.std.proofs.Math.Nat.{add-mod_right, mod-add-mod, mod-eq_of_lt}
+use Rattle.sip_ledger.specs.declared.debt.Debt.{Debt}
+use Rattle.sip_ledger.specs.declared.debt.Entry.{Entry}
+use Rattle.sip_ledger.specs.declared.accounts.account.Account.{Account}
+use Rattle.sip_ledger.specs.declared.accounts.gains.Gains.{Gains}
+use Rattle.sip_ledger.specs.declared.accounts.strikes.Strike.{Strike}
+use Rattle.sip_ledger.specs.Accounts.{debts_print, worth_of}
+use Rattle.sip_ledger.specs.Entries.{debt_of, debts_from}
+use Rattle.sip_ledger.specs.inner.Accounts.{AreGains, IsAccount, IsStruck, IsWithout, account_debts, entries_of, entry_at, is_gone, is_left, is_struck, must_at, owes_at, strikes_of}
+use Rattle.sip_ledger.proofs.debts.ListedLemmas.{no_entry, front, back, parts, back-set, back-unset, back-same, front-same}
+use Rattle.sip_ledger.proofs.gains.LeftLemmas.{gone-same, gone-struck}
+use Rattle.sip_ledger.proofs.account.AccountLemmas.{owed-within, past-end, soft-must}
+
+-- the new debts are the old ones without this one
+pub record IsCut (debt : Debt) (old new : List Debt) : Type 0 where
+  pub before : List Debt
+  pub after : List Debt
+  pub whole : old ≡ before ++ debt ∷ after
+  pub rest : new ≡ before ++ after
+
+-- where the entry at a place is owed no more, the debts are those of before without the debt of this entry
+pub cut-at : (entries : List Entry) (o m o' m' : ℕ → Bool) (at : ℕ) → at < length entries → o at ≡ true → IsWithout at o o' → ((k : ℕ) → m' k ≡ m k) →
+    IsCut (debt_of (get_or entries at no_entry) (m at)) (debts_from o m 0 entries) (debts_from o' m' 0 entries)
+cut-at entries o m o' m' at within is without must =
+    let less : at ≤ length entries = omega (arith, within) in
+    record {
+      before = front o m entries at;
+      after = back o m entries (at + 1);
+      whole = parts o m entries at less ∙ ap (λ l. front o m entries at ++ l) (back-set o m entries at no_entry within is);
+      rest = parts o' m' entries at less
+          ∙ ap₂ (λ a b. a ++ b)
+          (front-same o' m' o m entries at less (λ j below. let other : j ≢ at = omega (arith, below) in (without.others j other, must j)))
+          (back-unset o' m' entries at within without.gone
+          ∙ back-same o' m' o m entries (at + 1) (λ j above. let other : j ≢ at = omega (arith, above) in (without.others j other, must j)));
+    }
+
+-- the sum of the worths of debts
+abbrev worths : List Debt → ℕ
+worths debts = sum_by (λ debt. worth_of debt.message debt.deadline) debts
+
+-- the print of debts, with the worth of the one that was taken out, is the print of those of before
+pub cut-print : (debt : Debt) (old new : List Debt) → IsCut debt old new → (w : ℕ) → w ≡ worth_of debt.message debt.deadline →
+    (debts_print new + w) % 2 ^ 64 ≡ debts_print old
+unfolding debts_print
+cut-print debt old new cut w is =
+    mod-add-mod (worths new) (2 ^ 64) w
+    ∙ ap (λ n. n % 2 ^ 64)
+    (ap₂ (λ a b. a + b) (ap worths cut.rest ∙ sum_by-append (λ debt. worth_of debt.message debt.deadline) cut.before cut.after) is
+    ∙ turned (worths cut.before) (worths cut.after) (worth_of debt.message debt.deadline)
+    ∙ sym (ap worths cut.whole ∙ sum_by-append (λ debt. worth_of debt.message debt.deadline) cut.before (debt ∷ cut.after)
+    ∙ ap (λ n. worths cut.before + n) (sum_by-cons (λ debt. worth_of debt.message debt.deadline) debt cut.after)))
+  where
+    turned : (a b c : ℕ) → a + b + c ≡ a + (c + b)
+    turned a b c = omega arith
+
+-- a print is a number of 64 bits
+pub print-fits : (debts : List Debt) → debts_print debts < 2 ^ 64
+unfolding debts_print
+print-fits debts = mod_below (worths debts) (2 ^ 64) (lit< tt)
+
+-- a number that was added modulo 2^64 can be taken away again
+taken-print : (q w : ℕ) → q < 2 ^ 64 → w < 2 ^ 64 → ((q + w) % 2 ^ 64 + (2 ^ 64 - w)) % 2 ^ 64 ≡ q
+taken-print q w fits less =
+    let all : q + w + (2 ^ 64 - w) ≡ q + 2 ^ 64 = omega (arith, less) in
+    mod-add-mod (q + w) (2 ^ 64) (2 ^ 64 - w)
+    ∙ ap (λ n. n % 2 ^ 64) all
+    ∙ add-mod_right q (2 ^ 64)
+    ∙ mod-eq_of_lt fits
+
+-- whether the account owes what was gained at a place, from its start on
+abbrev rest : Gains → List Strike → Account → ℕ → Bool
+rest gains own a k = nat_lt k a.end && not (is_gone gains own k)
+
+-- where m is at most n, the test of m ≤ n passes
+pub le-yes : (m n : ℕ) → m ≤ n → nat_le m n ≡ true
+le-yes m n is = grind (arith, nat_tests)
+
+-- where n is below m, the test of m ≤ n fails
+pub le-no : (m n : ℕ) → n < m → nat_le m n ≡ false
+le-no m n is = grind (arith, nat_tests)
+
+-- where m is below n, the test of m < n passes
+pub lt-yes : (m n : ℕ) → m < n → nat_lt m n ≡ true
+lt-yes m n is = grind (arith, nat_tests)
+
+-- where n is at most m, the test of m < n fails
+pub lt-no : (m n : ℕ) → n ≤ m → nat_lt m n ≡ false
+lt-no m n is = grind (arith, nat_tests)
+
+-- an account owes nothing before its start
+pub before-start : (gains : Gains) (strikes : List Strike) (a : Account) (k : ℕ) → k < a.start → owes_at gains strikes a k ≡ false
+unfolding owes_at
+before-start gains strikes a k early =
+    ap (λ b. b && (nat_lt k a.end && not (is_gone gains (strikes_of strikes a) k))) (le-no a.start k early)
+
+-- where the account begins later, and owed nothing between, it is without its first gain
+pub later-start : (gains : Gains) (strikes : List Strike) (a b : Account) (place : ℕ) → a.start ≡ place → place < b.start → b.end ≡ a.end → b.first ≡ a.first → b.last ≡ a.last →
+    ((k : ℕ) → place < k → k < b.start → owes_at gains strikes a k ≡ false) → IsWithout place (owes_at gains strikes a) (owes_at gains strikes b)
+unfolding owes_at
+later-start gains strikes a b place start later end first last none = record {
+  gone = before-start gains strikes b place later;
+  others = λ k other. elim (cases_lt k b.start) [
+    | inl early ↦ before-start gains strikes b k early ∙ sym (elim (cases_lt k place) [
+      | inl first ↦ before-start gains strikes a k (omega (arith, first, start))
+      | inr behind ↦ none k (omega (arith, behind, other)) early
+    ])
+    | inr late ↦
+        ap (λ c. c && (nat_lt k b.end && not (is_gone gains (strikes_of strikes b) k))) (le-yes b.start k late)
+        ∙ ap (λ e. nat_lt k e && not (is_gone gains (strikes_of strikes b) k)) end
+        ∙ ap₂ (λ f l. nat_lt k a.end && not (is_gone gains (drop f (take l strikes)) k)) first last
+        ∙ sym (ap (λ c. c && rest gains (strikes_of strikes a) a k) (le-yes a.start k (omega (arith, late, later, start))))
+  ];
+}
+
+-- where the account ends one place earlier, it is without its last gain
+pub earlier-end : (gains : Gains) (strikes : List Strike) (a b : Account) (place : ℕ) → place + 1 ≡ a.end → b.end ≡ place → b.start ≡ a.start → b.first ≡ a.first → b.last ≡ a.last →
+    IsWithout place (owes_at gains strikes a) (owes_at gains strikes b)
+unfolding owes_at
+earlier-end gains strikes a b place end now start first last = record {
+  gone = past-end gains strikes b place (omega (arith, now));
+  others = λ k other. elim (cases_lt k place) [
+    | inl early ↦
+        ap₂ (λ s e. nat_le s k && (nat_lt k e && not (is_gone gains (strikes_of strikes b) k))) start now
+        ∙ ap₂ (λ f l. nat_le a.start k && (nat_lt k place && not (is_gone gains (drop f (take l strikes)) k))) first last
+        ∙ ap (λ c. nat_le a.start k && (c && not (is_gone gains (strikes_of strikes a) k)))
+        (lt-yes k place early ∙ sym (lt-yes k a.end (omega (arith, early, end))))
+    | inr late ↦ past-end gains strikes b k (omega (arith, late, now)) ∙ sym (past-end gains strikes a k (omega (arith, late, other, end)))
+  ];
+}
+
+-- `x || true` is true
+or-last : (x : Bool) → (x || true) ≡ true
+or-last true = refl
+or-last false = refl
+
+-- `x && y && false` is false
+no-more : (x y : Bool) → (x && (y && not true)) ≡ false
+no-more true true = refl
+no-more true false = refl
+no-more false y = refl
+
+-- a place lies from `place` up to the one after it exactly if it is `place`
+one-place : (place k : ℕ) → (nat_le place k && nat_lt k (place + 1)) ≡ (k == place)
+one-place place k = grind (arith, nat_tests)
+
+-- where the gain at the place is struck, the account is without it
+pub struck-without : (gains : Gains) (old new : List Strike) (a b c : Account) (place : ℕ) → IsStruck gains place (place + 1) old new a b →
+    a.start ≤ place → c.start ≡ b.start → c.end ≡ b.end → c.first ≡ b.first → c.last ≡ b.last → IsWithout place (owes_at gains old a) (owes_at gains new c)
+unfolding owes_at
+struck-without gains old new a b c place s low start end first last = record {
+  gone = is place
+      ∙ ap (λ x. nat_le a.start place && (nat_lt place a.end && not x)) (gone-struck gains (strikes_of new b) place (λ left. s.struck place low left
+      ∙ ap (λ x. is_struck (strikes_of old a) (entry_at (entries_of gains) place).message place || x) (one-place place place ∙ eq-eqb place place refl)
+      ∙ or-last (is_struck (strikes_of old a) (entry_at (entries_of gains) place).message place)))
+      ∙ no-more (nat_le a.start place) (nat_lt place a.end);
+  others = λ k other. elim (cases_lt k a.start) [
+    | inl early ↦ before-start gains new c k (omega (arith, early, start, s.start)) ∙ sym (before-start gains old a k early)
+    | inr from ↦
+        is k
+        ∙ ap (λ x. nat_le a.start k && (nat_lt k a.end && not x)) (gone-same gains (strikes_of old a) (strikes_of new b) k (λ left. s.struck k from left
+        ∙ ap (λ x. is_struck (strikes_of old a) (entry_at (entries_of gains) k).message k || x) (one-place place k ∙ ne_eqb k place other)
+        ∙ or-false (is_struck (strikes_of old a) (entry_at (entries_of gains) k).message k)))
+  ];
+}
+  where
+    is : (k : ℕ) → (nat_le c.start k && (nat_lt k c.end && not (is_gone gains (strikes_of new c) k))) ≡ (nat_le a.start k && (nat_lt k a.end && not (is_gone gains (strikes_of new b) k)))
+    is k =
+        ap₂ (λ x y. nat_le x k && (nat_lt k y && not (is_gone gains (strikes_of new c) k))) (start ∙ s.start) (end ∙ s.end)
+        ∙ ap₂ (λ f l. nat_le a.start k && (nat_lt k a.end && not (is_gone gains (drop f (take l new)) k))) first last
+
+-- an account without one of its gains is an account, and owes the debts without that one
+pub without-account : (gains : Gains) (old new : List Strike) (a b : Account) (place w : ℕ) → IsAccount gains old a → owes_at gains old a place ≡ true →
+    IsWithout place (owes_at gains old a) (owes_at gains new b) → b.soft ≡ a.soft → b.start ≤ b.end → b.end ≤ a.end → b.first ≤ b.last → b.last ≤ length new →
+    ((m k : ℕ) → length (entries_of gains) ≤ k → is_struck (strikes_of new b) m k ≡ false) → (b.start < b.end → owes_at gains new b b.start ≡ true) →
+    w ≡ worth_of (entry_at (entries_of gains) place).message (entry_at (entries_of gains) place).deadline → b.print ≡ (a.print + (2 ^ 64 - w)) % 2 ^ 64 →
+    w < 2 ^ 64 → IsAccount gains new b
+unfolding account_debts
+without-account gains old new a b place w is owed without soft order end first last bound begins worth print less = record {
+  order = order;
+  end = omega (arith, end, is.end);
+  soft = subst (λ n. n ≤ length (entries_of gains)) (sym soft) is.soft;
+  first = first;
+  last = last;
+  bound = bound;
+  begins = begins;
+  print = print ∙ ap (λ n. (n + (2 ^ 64 - w)) % 2 ^ 64) (is.print ∙ sym (cut-print debt (account_debts gains old a) (account_debts gains new b) cut w worth))
+      ∙ taken-print (debts_print (account_debts gains new b)) w (print-fits (account_debts gains new b)) less;
+}
+  where
+    debt : Debt
+    debt = debt_of (entry_at (entries_of gains) place) (must_at gains a place)
+
+    inside : place < length (entries_of gains)
+    inside = omega (arith, owed-within gains old a place owed, is.end)
+
+    must : (k : ℕ) → must_at gains b k ≡ must_at gains a k
+    must k = soft-must gains a b k soft
+
+    cut : IsCut debt (account_debts gains old a) (account_debts gains new b)
+    cut = cut-at (entries_of gains) (owes_at gains old a) (must_at gains a) (owes_at gains new b) (must_at gains b) place inside owed without must
+
+-- what an account owes stands at its start or after it
+pub owed-from : (gains : Gains) (strikes : List Strike) (a : Account) (k : ℕ) → owes_at gains strikes a k ≡ true → a.start ≤ k
+owed-from gains strikes a k is = elim (cases_lt k a.start) [
+  | inl early ↦ absurd (true≢false (sym is ∙ before-start gains strikes a k early))
+  | inr from ↦ from
+]
+
+-- a worth is a number of 64 bits
+pub worth-fits : (m d : ℕ) → worth_of m d < 2 ^ 64
+unfolding worth_of
+worth-fits m d = mod_below _ (2 ^ 64) (lit< tt)
+
+-- an account without its first debt is an account, and owes the others
+pub without-first : (gains : Gains) (strikes : List Strike) (a : Account) (place w next print : ℕ) → IsAccount gains strikes a → owes_at gains strikes a place ≡ true →
+    place ≡ a.start → w ≡ worth_of (entry_at (entries_of gains) place).message (entry_at (entries_of gains) place).deadline → print ≡ (a.print + (2 ^ 64 - w)) % 2 ^ 64 →
+    (place + 1 ≤ next) × (next ≤ a.end) → ((k : ℕ) → place + 1 ≤ k → k < next → owes_at gains strikes a k ≡ false) →
+    (next < a.end → owes_at gains strikes a next ≡ true) →
+    IsAccount gains strikes (record a { start = next; print = print }) ×
+    IsWithout place (owes_at gains strikes a) (owes_at gains strikes (record a { start = next; print = print }))
+without-first gains strikes a place w next print is owed here worth printed order none begins =
+    let b : Account = record a { start = next; print = print } in
+    let entries = (entries_of gains) in
+    let low = order.0 in
+    let high = order.1 in
+    let without : IsWithout place (owes_at gains strikes a) (owes_at gains strikes b) =
+    later-start gains strikes a b place (sym here) (omega (arith, low)) refl refl refl (λ k above below. none k (omega (arith, above)) below) in
+    let other : next ≢ place = omega (arith, low) in (
+      without-account gains strikes strikes a b place w is owed without refl high (omega arith) is.first is.last (λ m k past. is.bound m k past)
+          (λ some. without.others next other ∙ begins some) worth printed (subst (λ n. n < 2 ^ 64) (sym worth) (worth-fits (entry_at entries place).message (entry_at entries place).deadline)),
+      without,
+    )
+
+-- an account without its last debt is an account, and owes the others
+pub without-last : (gains : Gains) (strikes : List Strike) (a : Account) (place w print : ℕ) → IsAccount gains strikes a → owes_at gains strikes a place ≡ true →
+    place ≢ a.start → place + 1 ≡ a.end → w ≡ worth_of (entry_at (entries_of gains) place).message (entry_at (entries_of gains) place).deadline →
+    print ≡ (a.print + (2 ^ 64 - w)) % 2 ^ 64 →
+    IsAccount gains strikes (record a { end = place; print = print }) ×
+    IsWithout place (owes_at gains strikes a) (owes_at gains strikes (record a { end = place; print = print }))
+without-last gains strikes a place w print is owed later last worth printed =
+    let b : Account = record a { end = place; print = print } in
+    let entries = (entries_of gains) in
+    let from = owed-from gains strikes a place owed in
+    let without : IsWithout place (owes_at gains strikes a) (owes_at gains strikes b) = earlier-end gains strikes a b place last refl refl refl refl in
+    let other : a.start ≢ place = λ same. later (sym same) in (
+      without-account gains strikes strikes a b place w is owed without refl from (omega (arith, last)) is.first is.last (λ m k past. is.bound m k past)
+          (λ some. without.others a.start other ∙ is.begins (omega (arith, some, last))) worth printed
+          (subst (λ n. n < 2 ^ 64) (sym worth) (worth-fits (entry_at entries place).message (entry_at entries place).deadline)),
+      without,
+    )
+
+-- an account without a debt between others is an account, and owes the others
+pub without-middle : (gains : Gains) (old new : List Strike) (a b : Account) (place w print : ℕ) → IsAccount gains old a → owes_at gains old a place ≡ true →
+    place ≢ a.start → IsStruck gains place (place + 1) old new a b → w ≡ worth_of (entry_at (entries_of gains) place).message (entry_at (entries_of gains) place).deadline →
+    print ≡ (a.print + (2 ^ 64 - w)) % 2 ^ 64 →
+    IsAccount gains new (record b { print = print }) ×
+    IsWithout place (owes_at gains old a) (owes_at gains new (record b { print = print }))
+without-middle gains old new a b place w print is owed later struck worth printed =
+    let c : Account = record b { print = print } in
+    let entries = (entries_of gains) in
+    let from = owed-from gains old a place owed in
+    let start = struck.start in
+    let end = struck.end in
+    let order = is.order in
+    let without : IsWithout place (owes_at gains old a) (owes_at gains new c) = struck-without gains old new a b c place struck from refl refl refl refl in
+    let other : a.start ≢ place = λ same. later (sym same) in (
+      without-account gains old new a c place w is owed without struck.soft (omega (arith, start, end, order)) (omega (arith, end)) struck.first struck.last
+          (λ m k past. struck.bound m k past (is.bound m k past))
+          (λ some. ap (owes_at gains new c) start ∙ without.others a.start other ∙ is.begins (omega (arith, some, start, end))) worth printed
+          (subst (λ n. n < 2 ^ 64) (sym worth) (worth-fits (entry_at entries place).message (entry_at entries place).deadline)),
+      without,
+    )

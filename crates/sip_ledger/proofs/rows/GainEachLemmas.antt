@@ -1,0 +1,149 @@
+-- Many rows gain a debt, and rows of which nothing is past lose nothing.
+use Rattle.std.proofs.Common.{◌≡◌, ◌<◌, ◌≤◌, ℕ, ◌+◌, Bool, true, false, List, [], ◌∷◌, ◌++◌, length, drop, take, get_or, set, map, filter, refl, sym, ap, ◌∙◌, subst, arith}
+use Rattle.std.specs.Prelude.{All, ◌||◌, cond, fold, min, nat_le}
+use Rattle.std.proofs.lemmas.Bool.Decides.{nat_tests}
+use Rattle.std.proofs.lemmas.List.{get_or_default}
+use Rattle.std.proofs.lemmas.List.Elements.{All-cons, All-get_or, All-head, All-nil, All-tail}
+use Rattle.sip_ledger.specs.declared.debt.Debt.{Debt}
+use Rattle.sip_ledger.specs.declared.accounts.account.Account.{Account}
+use Rattle.sip_ledger.specs.declared.accounts.gains.Gains.{Gains}
+use Rattle.sip_ledger.specs.declared.accounts.strikes.Strike.{Strike}
+use Rattle.sip_ledger.specs.declared.debt.Entry.{Entry}
+use Rattle.sip_ledger.specs.Accounts.{owed_in}
+use Rattle.sip_ledger.specs.Debts.{counts_at, debt_deadlines, earliest, is_timely, is_within}
+use Rattle.sip_ledger.specs.Entries.{debt_of}
+use Rattle.sip_ledger.specs.inner.Accounts.{AreAccounts, AreGains, IsAccount, IsKept, KeepsAccounts, account_debts, accounts_debts, entries_of, entry_at, must_at, owes_at}
+use Rattle.sip_ledger.proofs.debts.ListedLemmas.{listed-All, no_entry}
+use Rattle.sip_ledger.proofs.lists.EachLemmas.{changing, changing-front, changing-length, changing-more, changing-none, unchanged-each}
+use Rattle.sip_ledger.proofs.gains.LeftLemmas.{left-kept, owed-left}
+use Rattle.sip_ledger.proofs.rows.SeenLemmas.{account-at, changed-to, over-to, row-inside, unchanged}
+
+-- what is owed, with one debt more
+abbrev pub with_debt : Debt → List Debt → List Debt
+with_debt debt owes = owes ++ debt ∷ []
+
+-- the rows from `from` up to k have gained the debt, and the others owe what they owed
+pub record HaveGained (debt : Debt) (from k : ℕ) (old : List (List Debt)) (gains : Gains) (strikes : List Strike) (rows : List Account) : Type 0 where
+  pub accounts : AreAccounts gains strikes rows
+  pub debts : accounts_debts gains strikes rows ≡ changing (with_debt debt) from k old
+
+-- HaveGained holds before any row has gained the debt
+pub gained-none : (debt : Debt) (from : ℕ) (gains : Gains) (strikes : List Strike) (rows : List Account) → AreAccounts gains strikes rows →
+    HaveGained debt from from (accounts_debts gains strikes rows) gains strikes rows
+gained-none debt from gains strikes rows are = record { accounts = are; debts = sym (changing-none (with_debt debt) from (accounts_debts gains strikes rows)) }
+
+-- each row of the old ones is one of the rows
+pub gained-inside : (debt : Debt) (from k row : ℕ) (old : List (List Debt)) (gains : Gains) (strikes : List Strike) (rows : List Account) → HaveGained debt from k old gains strikes rows → from ≤ k →
+    row < length old → row < length rows
+gained-inside debt from k row old gains strikes rows are low within =
+    row-inside gains strikes rows (changing (with_debt debt) from k old) row are.debts (omega (arith, within, changing-length (with_debt debt) from k old low))
+
+-- what stands in a row is an account
+pub gained-at : (debt : Debt) (from k row : ℕ) (old : List (List Debt)) (gains : Gains) (strikes : List Strike) (rows : List Account) (a : Account) →
+    HaveGained debt from k old gains strikes rows → from ≤ k → row < length old → a ≡ get_or rows row a → IsAccount gains strikes a
+gained-at debt from k row old gains strikes rows a are low within is =
+    (account-at gains strikes rows (changing (with_debt debt) from k old) row a are.accounts are.debts (omega (arith, within, changing-length (with_debt debt) from k old low)) is).0
+
+-- HaveGained stays true over more gains
+pub gained-over : (debt : Debt) (from k : ℕ) (old : List (List Debt)) (gains new : Gains) (strikes : List Strike) (rows : List Account) → KeepsAccounts gains new → AreGains new →
+    HaveGained debt from k old gains strikes rows → HaveGained debt from k old new strikes rows
+gained-over debt from k old gains new strikes rows keeps gained are =
+    let all = over-to gains new strikes rows (changing (with_debt debt) from k old) keeps gained are.accounts are.debts in
+    record { accounts = all.0; debts = all.1 }
+
+-- HaveGained stays true over more strikes
+pub gained-grown : (debt : Debt) (from k : ℕ) (old : List (List Debt)) (gains : Gains) (one new : List Strike) (rows : List Account) → take (length one) new ≡ one →
+    HaveGained debt from k old gains one rows → HaveGained debt from k old gains new rows
+gained-grown debt from k old gains one new rows kept are =
+    let all = unchanged gains one new rows (changing (with_debt debt) from k old) kept are.accounts are.debts in
+    record { accounts = all.0; debts = all.1 }
+
+-- HaveGained stays true with one row more that gains the debt
+pub gained-more : (debt : Debt) (from k : ℕ) (old : List (List Debt)) (gains : Gains) (one new : List Strike) (rows : List Account) (a b : Account) → take (length one) new ≡ one →
+    HaveGained debt from k old gains one rows → from ≤ k → k < length old → a ≡ get_or rows k a → IsAccount gains new b → account_debts gains new b ≡ with_debt debt (account_debts gains one a) →
+    HaveGained debt from (k + 1) old gains new (set rows k b)
+gained-more debt from k old gains one new rows a b kept are low within is account debts =
+    let seen = changing (with_debt debt) from k old in
+    let at = account-at gains one rows seen k a are.accounts are.debts (omega (arith, within, changing-length (with_debt debt) from k old low)) is in
+    let all = changed-to gains one new rows seen k b (with_debt debt (owed_in seen k)) kept are.accounts are.debts account (debts ∙ ap (with_debt debt) at.1) in
+    record { accounts = all.0; debts = all.1 ∙ changing-more (with_debt debt) from k old [] low within }
+
+-- the rows before `from` owe what they owed
+pub gained-front : (debt : Debt) (from k : ℕ) (old : List (List Debt)) (gains : Gains) (strikes : List Strike) (rows : List Account) → HaveGained debt from k old gains strikes rows → from ≤ k →
+    take from (accounts_debts gains strikes rows) ≡ take from old
+gained-front debt from k old gains strikes rows are low = ap (take from) are.debts ∙ changing-front (with_debt debt) from k old low
+
+-- where no debt is past, none goes
+kept-each : (t : ℕ) (xs : List Debt) → All (λ d. counts_at t d ≡ true) xs → filter (counts_at t) xs ≡ xs
+kept-each t [] all = refl
+kept-each t (x ∷ xs) all =
+    ap (λ b. cond b (x ∷ filter (counts_at t) xs) (filter (counts_at t) xs)) (All-head (λ d. counts_at t d ≡ true) x xs all)
+    ∙ ap (λ l. x ∷ l) (kept-each t xs (All-tail (λ d. counts_at t d ≡ true) x xs all))
+
+-- where no gain that is kept is past, an account has no debt that goes
+pub none-goes : (gains : Gains) (strikes : List Strike) (a : Account) (t : ℕ) → AreGains gains → ((k : ℕ) → IsKept gains k → t ≤ (entry_at (entries_of gains) k).deadline) →
+    filter (counts_at t) (account_debts gains strikes a) ≡ account_debts gains strikes a
+unfolding account_debts
+none-goes gains strikes a t are late =
+    kept-each t (account_debts gains strikes a) (listed-All (λ d. counts_at t d ≡ true) (owes_at gains strikes a) (must_at gains a) 0 (entries_of gains)
+    (λ j e below owed.
+    let here : 0 + j ≡ j = omega arith in
+    let same : get_or (entries_of gains) j e ≡ entry_at (entries_of gains) j = get_or_default (entries_of gains) j e no_entry below in
+    let is = late j (left-kept gains j are (owed-left gains strikes a j (ap (owes_at gains strikes a) (sym here) ∙ owed))) in
+    counts (must_at gains a (0 + j)) (get_or (entries_of gains) j e).deadline (omega (arith, is, ap (λ (x : Entry). x.deadline) same))))
+  where
+    counts : (b : Bool) (d : ℕ) → t ≤ d → (b || nat_le t d) ≡ true
+    counts true d low = refl
+    counts false d low = grind (arith, nat_tests)
+
+-- where no gain that is kept is past, no row has a debt that goes
+rows-same : (gains : Gains) (strikes : List Strike) (rows : List Account) (t : ℕ) → AreGains gains → ((k : ℕ) → IsKept gains k → t ≤ (entry_at (entries_of gains) k).deadline) →
+    All (λ owes. filter (counts_at t) owes ≡ owes) (accounts_debts gains strikes rows)
+unfolding accounts_debts
+rows-same gains strikes [] t are late = All-nil (λ (owes : List Debt). filter (counts_at t) owes ≡ owes)
+rows-same gains strikes (a ∷ rows) t are late =
+    All-cons (λ (owes : List Debt). filter (counts_at t) owes ≡ owes) (account_debts gains strikes a) (accounts_debts gains strikes rows) (none-goes gains strikes a t are late)
+    (rows-same gains strikes rows t are late)
+
+-- where no gain that is kept is past, what many rows owe is as it is once what is past is dropped from some
+pub none-past : (gains : Gains) (strikes : List Strike) (rows : List Account) (seen : List (List Debt)) (from t : ℕ) → AreGains gains → accounts_debts gains strikes rows ≡ seen →
+    ((k : ℕ) → IsKept gains k → t ≤ (entry_at (entries_of gains) k).deadline) → seen ≡ take from seen ++ map (filter (counts_at t)) (drop from seen)
+none-past gains strikes rows seen from t are view late =
+    let all = subst (All (λ (owes : List Debt). filter (counts_at t) owes ≡ owes)) view (rows-same gains strikes rows t are late) in
+    unchanged-each (filter (counts_at t)) from seen (λ k d below. All-get_or (λ (owes : List Debt). filter (counts_at t) owes ≡ owes) seen k d below all)
+
+-- the least of moments that are not before t is not before it
+least-late : (t x : ℕ) (ms : List ℕ) → t ≤ x → All (λ m. t ≤ m) ms → t ≤ fold min x ms
+least-late t x [] low all = low
+least-late t x (m ∷ ms) low all = least-late t (min x m) ms (omega (arith, low, All-head (λ n. t ≤ n) m ms all)) (All-tail (λ n. t ≤ n) m ms all)
+
+reaches-to : (t d : ℕ) → t ≤ d → nat_le t d ≡ true
+reaches-to t d low = grind (arith, nat_tests)
+
+within-all : (t : ℕ) (ms : List ℕ) → All (λ m. t ≤ m) ms → is_within t (earliest ms) ≡ true
+within-all t [] all = refl
+within-all t (m ∷ ms) all = reaches-to t (fold min m ms) (least-late t m ms (All-head (λ n. t ≤ n) m ms all) (All-tail (λ n. t ≤ n) m ms all))
+
+late-next : (t : ℕ) (debt : Debt) (rest : List Debt) (must : Bool) → t ≤ debt.deadline → All (λ m. t ≤ m) (map (λ (d : Debt). d.deadline) rest) →
+    All (λ m. t ≤ m) (map (λ (d : Debt). d.deadline) (cond must (debt ∷ rest) rest))
+late-next t debt rest true low all = All-cons (λ m. t ≤ m) debt.deadline (map (λ (d : Debt). d.deadline) rest) low all
+late-next t debt rest false low all = all
+
+late-deadlines : (t : ℕ) (debts : List Debt) → All (λ (d : Debt). t ≤ d.deadline) debts → All (λ m. t ≤ m) (debt_deadlines debts)
+late-deadlines t [] all = All-nil (λ m. t ≤ m)
+late-deadlines t (debt ∷ debts) all =
+    late-next t debt (filter (λ (d : Debt). d.must) debts) debt.must (All-head (λ (d : Debt). t ≤ d.deadline) debt debts all)
+    (late-deadlines t debts (All-tail (λ (d : Debt). t ≤ d.deadline) debt debts all))
+
+-- where no gain is past, a row is timely
+pub none-late : (gains : Gains) (strikes : List Strike) (a : Account) (t : ℕ) → AreGains gains → ((k : ℕ) → IsKept gains k → t ≤ (entry_at (entries_of gains) k).deadline) →
+    is_timely t (account_debts gains strikes a) ≡ true
+unfolding account_debts
+none-late gains strikes a t are late =
+    within-all t (debt_deadlines (account_debts gains strikes a)) (late-deadlines t (account_debts gains strikes a)
+    (listed-All (λ (d : Debt). t ≤ d.deadline) (owes_at gains strikes a) (must_at gains a) 0 (entries_of gains)
+    (λ j e below owed.
+    let here : 0 + j ≡ j = omega arith in
+    let same : get_or (entries_of gains) j e ≡ entry_at (entries_of gains) j = get_or_default (entries_of gains) j e no_entry below in
+    let is = late j (left-kept gains j are (owed-left gains strikes a j (ap (owes_at gains strikes a) (sym here) ∙ owed))) in
+    omega (arith, is, ap (λ (x : Entry). x.deadline) same))))

@@ -1,0 +1,202 @@
+-- Which messages the accounts owe.
+use Rattle.std.proofs.Common.{◌≡◌, ℕ, ◌+◌, ◌-◌, ◌^◌, Option, Some, None, ◌<◌, ◌≤◌, ◌==◌, ◌&&◌, ◌||◌, true, false, List, [], ◌∷◌, ◌++◌, length, take, get_or, map, refl, sym, ap, ap₂, ◌∙◌, subst, inl, inr, arith}
+use Rattle.std.specs.Prelude.{All, Contains, IfSome, IfNone}
+use Rattle.std.specs.List.{list_any}
+use Rattle.std.proofs.Math.Bool.{and-true}
+use Rattle.std.proofs.Math.Seq.{take-append_seam}
+use Rattle.std.proofs.lemmas.Bool.{cases_eq, cases_lt, eqb-true, false_from_ne_true, true≢false}
+use Rattle.std.proofs.lemmas.List.{append-nil, append_assoc, get_or_append_left, get_or_default, get_or_push, length_push}
+use Rattle.std.proofs.lemmas.List.Elements.{All-map, Contains-append_left, Contains-push, Contains-push_cases}
+use Rattle.std.proofs.lemmas.List.Folds.{list_any_at, list_any_none}
+use Rattle.sip_ledger.specs.declared.debt.Debt.{Debt}
+use Rattle.sip_ledger.specs.declared.debt.Entry.{Entry}
+use Rattle.sip_ledger.specs.declared.accounts.account.Account.{Account}
+use Rattle.sip_ledger.specs.declared.accounts.gains.Gains.{Gains}
+use Rattle.sip_ledger.specs.declared.accounts.strikes.Strike.{Strike}
+use Rattle.sip_ledger.specs.Accounts.{AppendsOwed, owes_message, some_owes}
+use Rattle.sip_ledger.specs.Debts.{is_payable}
+use Rattle.sip_ledger.specs.Lists.{Rise}
+use Rattle.sip_ledger.specs.inner.Accounts.{AreGains, account_debts, accounts_debts, entries_of, entry_at, must_at, owes_at}
+use Rattle.sip_ledger.specs.inner.Indexes.{IsFirstFrom, IsFrom, NoneFrom, holds}
+use Rattle.sip_ledger.proofs.debts.ListedLemmas.{listed-All, no_entry}
+use Rattle.sip_ledger.proofs.account.AccountLemmas.{debts-length, row-debts}
+use Rattle.sip_ledger.proofs.gains.LeftLemmas.{held-left, owed-left}
+use Rattle.sip_ledger.proofs.account.WithoutLemmas.{le-yes}
+
+-- the first pair from one on is of the first message from there on
+message-before : (pairs : List (ℕ × ℕ)) (key number : ℕ) (found : ℕ × ℕ) → IsFirstFrom pairs key number found → (m k : ℕ) → IsFrom key number m k → m < found.0 → holds pairs m k ≡ false
+message-before pairs key number found is m k after before =
+    false_from_ne_true (holds pairs m k) (λ held.
+    let keys = (is.first m k held after).keys in
+    absurd (omega (arith, keys, before)))
+
+-- each pair comes after (0, 0), and each of a later message after all of one
+pub from-first : (m k : ℕ) → 0 ≤ m → IsFrom 0 0 m k
+from-first m k after = record { keys = omega arith; numbers = λ same. omega arith }
+
+pub from-later : (last place m k : ℕ) → last + 1 ≤ m → IsFrom last place m k
+from-later last place m k later = record { keys = omega (arith, later); numbers = λ same. absurd (omega (arith, later, same)) }
+
+-- no place is the greatest number, so the first pair from there on is of a later message
+message-after : (gains : Gains) (last message k : ℕ) → AreGains gains → IsFirstFrom gains.messages last (2 ^ 64 - 1) (message, k) → last + 1 ≤ message
+message-after gains last message k are is = elim (cases_eq last message) [
+  | inl same ↦
+      let inside = (are.messages message k is.is).kept.within in
+      let small = are.small in
+      let high = is.after.numbers same in
+      absurd (omega (arith, inside, small, high))
+  | inr other ↦ let keys = is.after.keys in omega (arith, keys, other)
+]
+
+-- what is found from a pair on: a later message, and none before it
+pub next-low : (gains : Gains) (last : ℕ) (r : Option ℕ) → AreGains gains → IfSome r (λ found. (k : ℕ) × IsFirstFrom gains.messages last (2 ^ 64 - 1) (found, k)) →
+    IfSome r (λ message. last + 1 ≤ message)
+next-low gains last None are is = tt
+next-low gains last (Some message) are is = message-after gains last message is.0 are is.1
+
+pub next-before : (pairs : List (ℕ × ℕ)) (key number low : ℕ) (r : Option ℕ) → ((m k : ℕ) → low ≤ m → IsFrom key number m k) →
+    IfSome r (λ found. (k : ℕ) × IsFirstFrom pairs key number (found, k)) → IfSome r (λ message. (m k : ℕ) → low ≤ m → m < message → holds pairs m k ≡ false)
+next-before pairs key number low None from is = tt
+next-before pairs key number low (Some message) from is = λ m k after before. message-before pairs key number (message, is.0) is.1 m k (from m k after) before
+
+pub next-none : (pairs : List (ℕ × ℕ)) (key number low : ℕ) (r : Option ℕ) → ((m k : ℕ) → low ≤ m → IsFrom key number m k) →
+    IfNone r (NoneFrom pairs key number) → IfNone r ((m k : ℕ) → low ≤ m → holds pairs m k ≡ false)
+next-none pairs key number low None from none = λ m k after. none m k (from m k after)
+next-none pairs key number low (Some message) from none = tt
+
+-- a send at moment 0 can pay each debt of its message
+pub payable-owes : (message : ℕ) (debts : List Debt) → list_any (is_payable message 0) debts ≡ owes_message message debts
+payable-owes message [] = refl
+payable-owes message (debt ∷ debts) =
+    ap₂ (λ a b. a || b) (ap (λ late. debt.message == message && late) (le-yes 0 debt.deadline (omega arith)) ∙ and-true (debt.message == message)) (payable-owes message debts)
+
+-- where one of the accounts owes the message, some row does
+pub named-here : (gains : Gains) (strikes : List Strike) (rows : List Account) (message at : ℕ) (none : Account) → at < length rows →
+    owes_message message (account_debts gains strikes (get_or rows at none)) ≡ true → some_owes message (accounts_debts gains strikes rows) ≡ true
+named-here gains strikes rows message at none inside is =
+    let a = get_or rows at none in
+    list_any_at (owes_message message) (accounts_debts gains strikes rows) at [] (omega (arith, inside, debts-length gains strikes rows))
+    (ap (owes_message message) (row-debts gains strikes rows at a inside (get_or_default rows at none a inside)) ∙ is)
+
+-- where none of the accounts owes the message, none of their lists of debts has it
+pub named-nowhere : (gains : Gains) (strikes : List Strike) (rows : List Account) (message : ℕ) → All (λ a. owes_message message (account_debts gains strikes a) ≡ false) rows →
+    some_owes message (accounts_debts gains strikes rows) ≡ false
+unfolding accounts_debts
+named-nowhere gains strikes rows message none =
+    list_any_none (owes_message message) (map (account_debts gains strikes) rows) (All-map (λ owes. owes_message message owes ≡ false) (account_debts gains strikes) rows none)
+
+-- nobody owes a message of which nothing is left
+unleft-account : (gains : Gains) (strikes : List Strike) (a : Account) (message : ℕ) → ((k : ℕ) → holds gains.messages message k ≡ false) →
+    owes_message message (account_debts gains strikes a) ≡ false
+unfolding account_debts
+unleft-account gains strikes a message none =
+    list_any_none (λ (d : Debt). d.message == message) (account_debts gains strikes a)
+    (listed-All (λ (debt : Debt). (debt.message == message) ≡ false) (owes_at gains strikes a) (must_at gains a) 0 (entries_of gains)
+    (λ j e below owed. false_from_ne_true ((get_or (entries_of gains) j e).message == message) (λ is.
+    let here : 0 + j ≡ j = omega arith in
+    let same : get_or (entries_of gains) j e ≡ entry_at (entries_of gains) j = get_or_default (entries_of gains) j e no_entry below in
+    let named : (entry_at (entries_of gains) j).message ≡ message = ap (λ (x : Entry). x.message) (sym same) ∙ eqb-true (get_or (entries_of gains) j e).message message is in
+    let left = owed-left gains strikes a j (ap (owes_at gains strikes a) (sym here) ∙ owed) in
+    absurd (true≢false (sym (held-left gains message j named ∙ left) ∙ none j)))))
+
+-- a message of which nothing is left is owed by none of the accounts
+pub unleft-unnamed : (gains : Gains) (strikes : List Strike) (rows : List Account) (message : ℕ) → ((k : ℕ) → holds gains.messages message k ≡ false) →
+    some_owes message (accounts_debts gains strikes rows) ≡ false
+unleft-unnamed gains strikes rows message none = named-nowhere gains strikes rows message (λ k d below. unleft-account gains strikes (get_or rows k d) message none)
+
+-- the messages below one that rows owe are told
+pub record AreNamedTo (rows : List (List Debt)) (low : ℕ) (old new : List ℕ) : Type 0 where
+  pub names : List ℕ
+  pub whole : new ≡ old ++ names
+  pub rise : Rise names
+  pub below : (m : ℕ) → Contains names m → m < low
+  pub owed : (m : ℕ) → Contains names m → some_owes m rows ≡ true
+  pub all : (m : ℕ) → m < low → some_owes m rows ≡ true → Contains names m
+
+-- AreNamedTo holds at the start: no message is below 0
+pub named-none : (rows : List (List Debt)) (old : List ℕ) → AreNamedTo rows 0 old old
+named-none rows old = record {
+  names = [];
+  whole = sym (append-nil old);
+  rise = λ i k early late. absurd (omega (arith, late));
+  below = λ m there. let inside = there.1 in absurd (omega (arith, inside));
+  owed = λ m there. let inside = there.1 in absurd (omega (arith, inside));
+  all = λ m early. absurd (omega (arith, early));
+}
+
+-- AreNamedTo goes on over messages that are not owed
+pub named-past : (rows : List (List Debt)) (low message : ℕ) (old new : List ℕ) → AreNamedTo rows low old new → low ≤ message →
+    ((m : ℕ) → low ≤ m → m < message → some_owes m rows ≡ false) → some_owes message rows ≡ false → AreNamedTo rows (message + 1) old new
+named-past rows low message old new are order between none = record {
+  names = are.names;
+  whole = are.whole;
+  rise = are.rise;
+  below = λ m there. let early = are.below m there in omega (arith, early, order);
+  owed = are.owed;
+  all = λ m early is. elim (cases_lt m low) [
+    | inl first ↦ are.all m first is
+    | inr later ↦ elim (cases_eq m message) [
+      | inl here ↦ absurd (true≢false (sym is ∙ ap (λ n. some_owes n rows) here ∙ none))
+      | inr other ↦ absurd (true≢false (sym is ∙ between m later (omega (arith, early, other))))
+    ]
+  ];
+}
+
+-- numbers rise with one more that is above all of them
+rise-more : (names : List ℕ) (low message : ℕ) → Rise names → ((m : ℕ) → Contains names m → m < low) → low ≤ message → Rise (names ++ message ∷ [])
+rise-more names low message rise below order = λ i k early late. elim (cases_lt k (length names)) [
+  | inl inside ↦
+      let first = get_or_append_left names (message ∷ []) 0 i (omega (arith, early, inside)) in
+      let second = get_or_append_left names (message ∷ []) 0 k inside in
+      omega (arith, first, second, rise i k early inside)
+  | inr past ↦
+      let here : length names ≡ k = omega (arith, past, late, length_push names message) in
+      let first = get_or_append_left names (message ∷ []) 0 i (omega (arith, early, here)) in
+      let second = get_or_push names message 0 k here in
+      let within : i < length names = omega (arith, early, here) in
+      let under = below (get_or names i 0) (i, within, get_or_default names i (get_or names i 0) 0 within) in
+      omega (arith, first, second, under, order)
+]
+
+-- AreNamedTo goes on with the next message that is owed, once it is told
+pub named-more : (rows : List (List Debt)) (low message : ℕ) (old new now : List ℕ) → AreNamedTo rows low old new → low ≤ message →
+    ((m : ℕ) → low ≤ m → m < message → some_owes m rows ≡ false) → some_owes message rows ≡ true → now ≡ new ++ message ∷ [] → AreNamedTo rows (message + 1) old now
+named-more rows low message old new now are order between some is = record {
+  names = are.names ++ message ∷ [];
+  whole = is ∙ ap (λ l. l ++ message ∷ []) are.whole ∙ append_assoc old are.names (message ∷ []);
+  rise = rise-more are.names low message are.rise are.below order;
+  below = λ m there. elim (Contains-push_cases are.names message m there) [
+    | inl before ↦ let early = are.below m before in omega (arith, early, order)
+    | inr last ↦ omega (arith, last)
+  ];
+  owed = λ m there. elim (Contains-push_cases are.names message m there) [
+    | inl before ↦ are.owed m before
+    | inr last ↦ ap (λ n. some_owes n rows) (sym last) ∙ some
+  ];
+  all = λ m early owed. elim (cases_lt m low) [
+    | inl first ↦ Contains-append_left are.names (message ∷ []) m (are.all m first owed)
+    | inr later ↦ elim (cases_eq m message) [
+      | inl here ↦ subst (Contains (are.names ++ message ∷ [])) (sym here) (Contains-push are.names message)
+      | inr other ↦ absurd (true≢false (sym owed ∙ between m later (omega (arith, early, other))))
+    ]
+  ];
+}
+
+-- the old numbers stand before those that were appended
+pub named-front : (rows : List (List Debt)) (low : ℕ) (old new : List ℕ) → AreNamedTo rows low old new → take (length old) new ≡ old
+named-front rows low old new are = ap (take (length old)) are.whole ∙ take-append_seam old are.names
+
+-- where no message from `low` on is owed, all that are owed are told
+pub named-all : (rows : List (List Debt)) (low : ℕ) (old new : List ℕ) → AreNamedTo rows low old new → ((m : ℕ) → low ≤ m → some_owes m rows ≡ false) → AppendsOwed rows old new
+named-all rows low old new are none = record {
+  names = are.names;
+  whole = are.whole;
+  rise = are.rise;
+  each = λ m. (
+    are.owed m,
+    λ owed. elim (cases_lt m low) [
+      | inl first ↦ are.all m first owed
+      | inr later ↦ absurd (true≢false (sym owed ∙ none m later))
+    ],
+  );
+}

@@ -1,0 +1,120 @@
+-- Rows that a send pays are put after the others, without the debt that it pays.
+use Rattle.std.proofs.Common.{◌≡◌, ◌<◌, ◌≤◌, ℕ, ◌+◌, Bool, true, false, cond, List, [], ◌∷◌, ◌++◌, length, take, get_or, map, filter, refl, sym, ap, ap₂, ◌∙◌, subst, arith}
+use Rattle.std.specs.Prelude.{◌&&◌, Option, Some, None, IfSome, option_to_list}
+use Rattle.std.specs.List.{list_any}
+use Rattle.std.proofs.Math.Bool.{and-false}
+use Rattle.std.proofs.Math.Seq.{take-append_seam}
+use Rattle.std.proofs.lemmas.List.{append-nil, append_assoc, get_or_append_left, length-append, map-append}
+use Rattle.sip_ledger.specs.declared.debt.Debt.{Debt}
+use Rattle.sip_ledger.specs.declared.accounts.account.Account.{Account}
+use Rattle.sip_ledger.specs.declared.accounts.gains.Gains.{Gains}
+use Rattle.sip_ledger.specs.declared.accounts.strikes.Strike.{Strike}
+use Rattle.sip_ledger.specs.Accounts.{owed_in, paid_rows}
+use Rattle.sip_ledger.specs.Debts.{counts_at, is_payable, is_timely, paid_by}
+use Rattle.sip_ledger.specs.Lists.{from_to}
+use Rattle.sip_ledger.specs.inner.Accounts.{AreAccounts, IsAccount, account_debts, accounts_debts}
+use Rattle.sip_ledger.proofs.lists.EachLemmas.{passing-more}
+use Rattle.sip_ledger.proofs.account.AccountLemmas.{debts-length}
+use Rattle.sip_ledger.proofs.rows.SeenLemmas.{account-at, pushed-to, row-inside, unchanged}
+
+-- whether a row is paid, and what is left to it
+abbrev pub is_paid : ℕ → ℕ → List Debt → Bool
+is_paid message t owes = list_any (is_payable message t) owes && is_timely t owes
+
+abbrev pub left_by : ℕ → ℕ → List Debt → List Debt
+left_by message t owes = filter (counts_at t) (paid_by message t owes)
+
+-- a row that is not paid is left out
+unpaid-row : (message t : ℕ) (owes : List Debt) → is_paid message t owes ≡ false → [] ≡ paid_rows message t (owes ∷ [])
+unpaid-row message t owes is = ap (λ b. map (left_by message t) (cond b (owes ∷ []) [])) (sym is)
+
+-- a row that must send something that is past is left out
+pub late-row : (message t : ℕ) (owes : List Debt) → is_timely t owes ≡ false → [] ≡ paid_rows message t (owes ∷ [])
+late-row message t owes late =
+    unpaid-row message t owes (ap (λ b. list_any (is_payable message t) owes && b) late ∙ and-false (list_any (is_payable message t) owes))
+
+-- a row with no debt that the send pays is left out
+pub other-row : (message t : ℕ) (owes : List Debt) → list_any (is_payable message t) owes ≡ false → [] ≡ paid_rows message t (owes ∷ [])
+other-row message t owes none = unpaid-row message t owes (ap (λ b. b && is_timely t owes) none)
+
+-- a row that is paid stands there with what is left to it
+pub paid-row : (message t : ℕ) (owes debts : List Debt) → list_any (is_payable message t) owes ≡ true → is_timely t owes ≡ true → debts ≡ left_by message t owes →
+    debts ∷ [] ≡ paid_rows message t (owes ∷ [])
+paid-row message t owes debts some timely same =
+    let is : is_paid message t owes ≡ true = ap₂ (λ a b. a && b) some timely in
+    ap (λ l. l ∷ []) same ∙ ap (λ b. map (left_by message t) (cond b (owes ∷ []) [])) (sym is)
+
+-- paid rows up to the next row are those up to it, and that row if it is paid
+paid-more : (message t from k : ℕ) (rows : List (List Debt)) → from ≤ k → k < length rows →
+    paid_rows message t (from_to from (k + 1) rows) ≡ paid_rows message t (from_to from k rows) ++ paid_rows message t (owed_in rows k ∷ [])
+paid-more message t from k rows low within =
+    let o = owed_in rows k in
+    ap (map (left_by message t)) (passing-more (is_paid message t) from k rows [] low within)
+    ∙ map-append (left_by message t) (filter (is_paid message t) (from_to from k rows)) (cond (is_paid message t o) (o ∷ []) [])
+
+-- the paid rows up to the next one are those up to this one, and this one if it is paid
+next-left : (message t from k : ℕ) (old : List (List Debt)) (owes : List Debt) (d : List (List Debt)) → d ≡ paid_rows message t (owes ∷ []) → owes ≡ owed_in old k → from ≤ k →
+    k < length old → paid_rows message t (from_to from k old) ++ d ≡ paid_rows message t (from_to from (k + 1) old)
+next-left message t from k old owes d debts same low within =
+    ap (λ l. paid_rows message t (from_to from k old) ++ l) (debts ∙ ap (λ o. paid_rows message t (o ∷ [])) same) ∙ sym (paid-more message t from k old low within)
+
+-- the accounts owe what the old rows owed, and after them what is left to each paid row from `from` up to k
+pub record ArePaidTo (gains : Gains) (message t from k : ℕ) (old : List (List Debt)) (strikes : List Strike) (rows : List Account) : Type 0 where
+  pub accounts : AreAccounts gains strikes rows
+  pub debts : accounts_debts gains strikes rows ≡ old ++ paid_rows message t (from_to from k old)
+
+-- a row of the old ones is one of the accounts
+pub row-there : (gains : Gains) (message t from k row : ℕ) (old : List (List Debt)) (strikes : List Strike) (rows : List Account) → ArePaidTo gains message t from k old strikes rows →
+    row < length old → row < length rows
+row-there gains message t from k row old strikes rows are within =
+    let seen = old ++ paid_rows message t (from_to from k old) in
+    row-inside gains strikes rows seen row are.debts (omega (arith, within, length-append old (paid_rows message t (from_to from k old))))
+
+-- a row of the old ones is one of the accounts, with the debts that it had
+pub account-there : (gains : Gains) (message t from k row : ℕ) (old : List (List Debt)) (strikes : List Strike) (rows : List Account) (a : Account) →
+    ArePaidTo gains message t from k old strikes rows → row < length old → a ≡ get_or rows row a → IsAccount gains strikes a × (account_debts gains strikes a ≡ owed_in old row)
+account-there gains message t from k row old strikes rows a are within is =
+    let more = paid_rows message t (from_to from k old) in
+    let at = account-at gains strikes rows (old ++ more) row a are.accounts are.debts (omega (arith, within, length-append old more)) is in
+    (at.0, at.1 ∙ get_or_append_left old more [] row within)
+
+-- ArePaidTo stays true where strikes are put after the others
+pub paid-grown : (gains : Gains) (message t from k : ℕ) (old : List (List Debt)) (one new : List Strike) (rows : List Account) → take (length one) new ≡ one →
+    ArePaidTo gains message t from k old one rows → ArePaidTo gains message t from k old new rows
+paid-grown gains message t from k old one new rows kept are =
+    let over = unchanged gains one new rows (old ++ paid_rows message t (from_to from k old)) kept are.accounts are.debts in
+    record { accounts = over.0; debts = over.1 }
+
+-- ArePaidTo goes on with the next row, which is put after the others if it is paid
+pub paid-next : (gains : Gains) (message t from k : ℕ) (old : List (List Debt)) (strikes : List Strike) (rows : List Account) (owes : List Debt) (left : Option Account) →
+    ArePaidTo gains message t from k old strikes rows → IfSome left (IsAccount gains strikes) → map (account_debts gains strikes) (option_to_list left) ≡ paid_rows message t (owes ∷ []) →
+    owes ≡ owed_in old k → from ≤ k → k < length old → ArePaidTo gains message t from (k + 1) old strikes (rows ++ option_to_list left)
+paid-next gains message t from k old strikes rows owes None are is debts same low within =
+    let more = paid_rows message t (from_to from k old) in
+    subst (λ r. ArePaidTo gains message t from (k + 1) old strikes r) (sym (append-nil rows)) (record {
+      accounts = are.accounts;
+      debts = are.debts ∙ ap (λ l. old ++ l) (sym (append-nil more) ∙ next-left message t from k old owes [] debts same low within);
+    })
+paid-next gains message t from k old strikes rows owes (Some b) are is debts same low within =
+    let more = paid_rows message t (from_to from k old) in
+    let d = account_debts gains strikes b in
+    let put = pushed-to gains strikes rows (old ++ more) b d are.accounts are.debts is refl in
+    record {
+      accounts = put.0;
+      debts = put.1 ∙ append_assoc old more (d ∷ []) ∙ ap (λ l. old ++ l) (next-left message t from k old owes (d ∷ []) debts same low within);
+    }
+
+-- ArePaidTo holds where no row has been looked at
+pub paid-none : (gains : Gains) (message t from : ℕ) (strikes : List Strike) (rows : List Account) → AreAccounts gains strikes rows →
+    from_to from from (accounts_debts gains strikes rows) ≡ [] → ArePaidTo gains message t from from (accounts_debts gains strikes rows) strikes rows
+paid-none gains message t from strikes rows are none = record {
+  accounts = are;
+  debts = sym (ap (λ l. accounts_debts gains strikes rows ++ paid_rows message t l) none ∙ append-nil (accounts_debts gains strikes rows));
+}
+
+-- the first rows are the old ones still
+pub paid-front : (gains : Gains) (message t from k n : ℕ) (old : List (List Debt)) (strikes : List Strike) (rows : List Account) → ArePaidTo gains message t from k old strikes rows →
+    n ≡ length old → take n (accounts_debts gains strikes rows) ≡ old
+paid-front gains message t from k n old strikes rows are is =
+    let more = paid_rows message t (from_to from k old) in
+    ap (take n) are.debts ∙ ap (λ i. take i (old ++ more)) is ∙ take-append_seam old more

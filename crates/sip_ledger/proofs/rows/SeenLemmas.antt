@@ -1,0 +1,170 @@
+-- Accounts as contracts see them: a list of what each row owes.
+use Rattle.std.proofs.Common.{◌≡◌, ◌≢◌, ℕ, ◌+◌, ◌<◌, ◌≤◌, ◌%◌, ◌^◌, ◌==◌, Bool, true, false, List, [], ◌∷◌, ◌++◌, length, take, get_or, set, map, refl, sym, ap, ap₂, ◌∙◌, inl, inr, arith}
+use Rattle.std.specs.Prelude.{All, IsTrue, Option, Some, None, IfSome, IfNone, Result, Ok, Err, IsErr, OnErr, ◌↔◌, is_err, is_some}
+use Rattle.std.specs.List.{list_any, sum_by}
+use Rattle.std.proofs.lemmas.Bool.{cases_eq, eq-eqb, eqb-true, false_from_ne_true, true≢false}
+use Rattle.std.proofs.lemmas.List.{set-get_or}
+use Rattle.std.proofs.lemmas.List.Elements.{All-cons, All-head, All-nil, All-tail}
+use Rattle.std.proofs.lemmas.List.Folds.{list_any_none}
+use Rattle.std.proofs.lemmas.List.Sums.{sum_by-cons}
+use Rattle.sip_ledger.specs.declared.debt.Debt.{Debt}
+use Rattle.sip_ledger.specs.declared.accounts.account.Account.{Account}
+use Rattle.sip_ledger.specs.declared.accounts.gains.Gains.{Gains}
+use Rattle.sip_ledger.specs.declared.accounts.strikes.Strike.{Strike}
+use Rattle.sip_ledger.specs.Accounts.{debts_print, owed_in, worth_of}
+use Rattle.sip_ledger.specs.Debts.{is_payable, softened_debt}
+use Rattle.sip_ledger.specs.Entries.{debts_from}
+use Rattle.sip_ledger.specs.inner.Accounts.{AreAccounts, AreGains, IsAccount, IsFirstPayable, KeepsAccounts, account_debts, accounts_debts, entries_of, must_at, owes_at, pays_at}
+use Rattle.sip_ledger.proofs.debts.ListedLemmas.{listed-same, listed-softened, no_entry}
+use Rattle.sip_ledger.proofs.debts.OwedLemmas.{listed-any, some-debt}
+use Rattle.sip_ledger.proofs.account.AccountLemmas.{changed, debts-length, empty-debts, kept-all, must-below, over, owed-within, pushed, row-account, row-debts}
+use Rattle.sip_ledger.proofs.account.FindLemmas.{unpaid-account}
+
+-- what holds is said of an answer that is an error
+pub on-error : {T E P : Type 0} (r : Result T E) → IsErr r → P → OnErr r P
+on-error (Ok x) is p = tt
+on-error (Err e) is p = p
+
+-- what is said of an error holds where there is one
+pub on-err : {T E : Type 0} (r : Result T E) (P : Type 0) → is_err r ≡ true → OnErr r P → P
+on-err (Ok x) P is p = absurd (true≢false (sym is))
+on-err (Err e) P is p = p
+
+-- a row of the list that contracts see is the row of one of the accounts
+pub row-inside : (gains : Gains) (strikes : List Strike) (rows : List Account) (seen : List (List Debt)) (row : ℕ) → accounts_debts gains strikes rows ≡ seen → row < length seen → row < length rows
+row-inside gains strikes rows seen row view inside = omega (arith, inside, ap length view, debts-length gains strikes rows)
+
+-- what stands in a row is an account, and its debts are those that contracts see there
+pub account-at : (gains : Gains) (strikes : List Strike) (rows : List Account) (seen : List (List Debt)) (row : ℕ) (a : Account) → AreAccounts gains strikes rows →
+    accounts_debts gains strikes rows ≡ seen → row < length seen → a ≡ get_or rows row a → IsAccount gains strikes a × (account_debts gains strikes a ≡ owed_in seen row)
+account-at gains strikes rows seen row a are view inside is =
+    let within = row-inside gains strikes rows seen row view inside in (
+      row-account gains strikes rows row a within is are.each,
+      sym (row-debts gains strikes rows row a within is) ∙ ap (λ l. owed_in l row) view,
+    )
+
+-- where one of the accounts changes, contracts see its row changed
+pub changed-to : (gains : Gains) (old new : List Strike) (rows : List Account) (seen : List (List Debt)) (row : ℕ) (a : Account) (debts : List Debt) → take (length old) new ≡ old →
+    AreAccounts gains old rows → accounts_debts gains old rows ≡ seen → IsAccount gains new a → account_debts gains new a ≡ debts →
+    AreAccounts gains new (set rows row a) × (accounts_debts gains new (set rows row a) ≡ set seen row debts)
+changed-to gains old new rows seen row a debts kept are view is owes =
+    let all = changed gains old new rows row a kept are is in
+    (all.0, all.1 ∙ ap₂ (λ l d. set l row d) view owes)
+
+-- where no account changes, and the strikes may have grown, contracts see the same rows
+pub unchanged : (gains : Gains) (old new : List Strike) (rows : List Account) (seen : List (List Debt)) → take (length old) new ≡ old → AreAccounts gains old rows →
+    accounts_debts gains old rows ≡ seen → AreAccounts gains new rows × (accounts_debts gains new rows ≡ seen)
+unchanged gains old new rows seen kept are view =
+    let all = kept-all gains old new rows kept are.each in
+    (record { gained = are.gained; each = all.0 }, all.1 ∙ view)
+
+-- where the gains may have grown, contracts see the same rows
+pub over-to : (old new : Gains) (strikes : List Strike) (rows : List Account) (seen : List (List Debt)) → KeepsAccounts old new → AreGains new → AreAccounts old strikes rows →
+    accounts_debts old strikes rows ≡ seen → AreAccounts new strikes rows × (accounts_debts new strikes rows ≡ seen)
+over-to old new strikes rows seen keeps gained are view =
+    let all = over old new strikes rows keeps gained are in
+    (all.0, all.1 ∙ view)
+
+-- where an account is put after the others, contracts see one row more
+pub pushed-to : (gains : Gains) (strikes : List Strike) (rows : List Account) (seen : List (List Debt)) (a : Account) (debts : List Debt) → AreAccounts gains strikes rows →
+    accounts_debts gains strikes rows ≡ seen → IsAccount gains strikes a → account_debts gains strikes a ≡ debts →
+    AreAccounts gains strikes (rows ++ a ∷ []) × (accounts_debts gains strikes (rows ++ a ∷ []) ≡ seen ++ debts ∷ [])
+pushed-to gains strikes rows seen a debts are view is owes =
+    let all = pushed gains strikes rows a are is in
+    (all.0, all.1 ∙ ap₂ (λ l d. l ++ d ∷ []) view owes)
+
+-- where a row owes what it owed, contracts see the same rows
+pub row-same : (seen : List (List Debt)) (row : ℕ) (debts : List Debt) → debts ≡ owed_in seen row → seen ≡ set seen row debts
+row-same seen row debts is = sym (ap (set seen row) is ∙ set-get_or seen row [])
+
+-- the account, of which no gain below the place must be sent any more
+abbrev pub softened_account : ℕ → Account → Account
+softened_account place a = record { start = a.start; end = a.end; soft = place; first = a.first; last = a.last; print = a.print }
+
+-- a softened account owes the same at each place
+soft-owes : (gains : Gains) (strikes : List Strike) (a : Account) (place k : ℕ) →
+    owes_at gains strikes (softened_account place a) k ≡ owes_at gains strikes a k
+unfolding owes_at
+soft-owes gains strikes a place k = refl
+
+-- debts that need not be sent any more have the same worths
+soft-worths : (debts : List Debt) → sum_by (λ debt. worth_of debt.message debt.deadline) (map softened_debt debts) ≡ sum_by (λ debt. worth_of debt.message debt.deadline) debts
+soft-worths [] = refl
+soft-worths (debt ∷ debts) =
+    sum_by-cons (λ (d : Debt). worth_of d.message d.deadline) (softened_debt debt) (map softened_debt debts)
+    ∙ ap (λ n. worth_of debt.message debt.deadline + n) (soft-worths debts)
+    ∙ sym (sum_by-cons (λ (d : Debt). worth_of d.message d.deadline) debt debts)
+
+-- debts that need not be sent any more have the same print
+soft-print : (debts : List Debt) → debts_print (map softened_debt debts) ≡ debts_print debts
+unfolding debts_print
+soft-print debts = ap (λ n. n % 2 ^ 64) (soft-worths debts)
+
+-- the debts of a softened account are the softened ones
+soft-debts : (gains : Gains) (strikes : List Strike) (a : Account) → account_debts gains strikes (softened_account (length (entries_of gains)) a) ≡ map softened_debt (account_debts gains strikes a)
+unfolding account_debts
+soft-debts gains strikes a =
+    let entries = (entries_of gains) in
+    let b = softened_account (length entries) a in
+    listed-same (owes_at gains strikes b) (must_at gains b) (owes_at gains strikes a) (λ _. false) 0 entries
+    (λ k from below. (soft-owes gains strikes a (length entries) k, sym (must-below gains b k (omega (arith, below)))))
+    ∙ listed-softened (owes_at gains strikes a) (must_at gains a) (λ _. false) 0 entries (λ _. refl)
+
+-- a softened account is an account, and has the softened debts
+pub softened-account : (gains : Gains) (strikes : List Strike) (a : Account) → IsAccount gains strikes a →
+    IsAccount gains strikes (softened_account (length (entries_of gains)) a) ×
+    (account_debts gains strikes (softened_account (length (entries_of gains)) a) ≡ map softened_debt (account_debts gains strikes a))
+softened-account gains strikes a is =
+    let debts = soft-debts gains strikes a in (
+      record {
+        order = is.order;
+        end = is.end;
+        soft = omega arith;
+        first = is.first;
+        last = is.last;
+        bound = is.bound;
+        begins = λ some. soft-owes gains strikes a (length (entries_of gains)) a.start ∙ is.begins some;
+        print = is.print ∙ sym (ap debts_print debts ∙ soft-print (account_debts gains strikes a));
+      },
+      debts,
+    )
+
+-- an account that does not end where it starts owes something
+nothing-owed : (gains : Gains) (strikes : List Strike) (a : Account) → IsAccount gains strikes a → a.start ≢ a.end → account_debts gains strikes a ≢ []
+unfolding account_debts
+nothing-owed gains strikes a is other none =
+    let order = is.order in
+    let end = is.end in
+    let early : a.start < a.end = omega (arith, order, other) in
+    some-debt (entries_of gains) (owes_at gains strikes a) (must_at gains a) a.start (omega (arith, early, end)) (is.begins early) none
+
+-- an account owes nothing exactly if it ends where it starts
+pub owes-nothing : (gains : Gains) (strikes : List Strike) (a : Account) (debts : List Debt) → IsAccount gains strikes a → account_debts gains strikes a ≡ debts →
+    IsTrue (a.start == a.end) ↔ (debts ≡ [])
+owes-nothing gains strikes a debts is owes = (
+  λ same. sym owes ∙ empty-debts gains strikes a (let e = eqb-true a.start a.end same in omega (arith, e)),
+  λ none. elim (cases_eq a.start a.end) [
+    | inl here ↦ eq-eqb a.start a.end here
+    | inr other ↦ absurd (nothing-owed gains strikes a is other (owes ∙ none))
+  ],
+)
+
+-- where none of the debts can be paid, the test of them fails
+none-payable : (message t : ℕ) (debts : List Debt) → All (λ debt. ¬ (IsTrue (is_payable message t debt))) debts → All (λ debt. is_payable message t debt ≡ false) debts
+none-payable message t [] none = All-nil (λ debt. is_payable message t debt ≡ false)
+none-payable message t (debt ∷ debts) none =
+    All-cons (λ d. is_payable message t d ≡ false) debt debts (false_from_ne_true (is_payable message t debt) (All-head (λ d. ¬ (IsTrue (is_payable message t d))) debt debts none))
+    (none-payable message t debts (All-tail (λ d. ¬ (IsTrue (is_payable message t d))) debt debts none))
+
+-- a send pays one of the debts of an account exactly if a first one is found
+pub can-pay : (gains : Gains) (strikes : List Strike) (a : Account) (message t : ℕ) (found : Option ℕ) → IsAccount gains strikes a →
+    IfSome found (IsFirstPayable (entries_of gains) (owes_at gains strikes a) message t) →
+    IfNone found ((k : ℕ) → owes_at gains strikes a k ≡ true → pays_at (entries_of gains) message t k ≡ false) →
+    is_some found ≡ list_any (is_payable message t) (account_debts gains strikes a)
+unfolding account_debts
+can-pay gains strikes a message t (Some place) is some none =
+    let end = is.end in
+    sym (listed-any (is_payable message t) (entries_of gains) (owes_at gains strikes a) (must_at gains a) place
+    (omega (arith, owed-within gains strikes a place some.owed, end)) some.owed some.pays)
+can-pay gains strikes a message t None is some none =
+    sym (list_any_none (is_payable message t) (account_debts gains strikes a) (none-payable message t (account_debts gains strikes a) (unpaid-account gains strikes a message t none)))

@@ -1,0 +1,276 @@
+-- Which gains the strikes of an account strike, as strikes are made longer, written and looked for.
+use Rattle.std.proofs.Common.{◌≡◌, ◌≢◌, ℕ, zero, suc, ◌+◌, ◌-◌, ◌<◌, ◌≤◌, ◌==◌, ◌&&◌, ◌||◌, Bool, true, false, cond, List, [], ◌∷◌, ◌++◌, length, take, drop, get_or, set, filter, refl, sym, ap, ap₂, ◌∙◌, subst, arith}
+use Rattle.std.specs.Prelude.{nat_le, nat_lt}
+use Rattle.std.specs.List.{list_any}
+use Rattle.std.proofs.Math.Bool.{or-false, or_assoc, or_comm}
+use Rattle.std.proofs.lemmas.Bool.{true≢false}
+use Rattle.std.proofs.lemmas.Bool.Decides.{nat_tests}
+use Rattle.std.proofs.lemmas.List.Folds.{list_any-append, list_any_at}
+use Rattle.std.proofs.Math.Seq.{take-append_seam, drop-append_seam}
+use Rattle.std.proofs.lemmas.List.{drop-append-le, drop-set-add, get_or_default, get_or-drop, length-drop, take-append-le, take-set-le, take_more}
+use Rattle.sip_ledger.specs.declared.accounts.account.Account.{Account}
+use Rattle.sip_ledger.specs.declared.accounts.strikes.Strike.{Strike}
+use Rattle.sip_ledger.specs.declared.accounts.gains.Gains.{Gains}
+use Rattle.sip_ledger.specs.inner.Accounts.{IsStruck, IsWritten, Lengthens, Reaches, StrikeToo, entries_of, entry_at, is_left, is_struck, strikes_of, is_out}
+use Rattle.sip_ledger.proofs.gains.LeftLemmas.{held-left}
+
+-- the strikes that end after the start
+abbrev pub ending : ℕ → List Strike → List Strike
+ending start strikes = filter (λ s. nat_lt start s.to) strikes
+
+-- a strike that ends at the start or before it strikes nothing from there on
+strike-past : (m k start : ℕ) (s : Strike) → start ≤ k → nat_lt start s.to ≡ false → is_out m k s ≡ false
+strike-past m k start s above past = grind (arith, nat_tests)
+
+-- strikes that end at the start or before it may be left out: the others strike the same from there on
+any-ending : (m k start : ℕ) (xs : List Strike) → start ≤ k → list_any (is_out m k) (ending start xs) ≡ list_any (is_out m k) xs
+any-ending m k start [] above = refl
+any-ending m k start (s ∷ xs) above = by (any-ending m k start xs above) (nat_lt start s.to) refl
+  where
+    by : list_any (is_out m k) (ending start xs) ≡ list_any (is_out m k) xs → (b : Bool) → nat_lt start s.to ≡ b →
+        list_any (is_out m k) (cond (nat_lt start s.to) (s ∷ ending start xs) (ending start xs)) ≡ (is_out m k s || list_any (is_out m k) xs)
+    by rest true is = ap (λ b. list_any (is_out m k) (cond b (s ∷ ending start xs) (ending start xs))) is ∙ ap (λ b. is_out m k s || b) rest
+    by rest false is =
+        ap (λ b. list_any (is_out m k) (cond b (s ∷ ending start xs) (ending start xs))) is ∙ rest
+        ∙ sym (ap (λ b. b || list_any (is_out m k) xs) (strike-past m k start s above is))
+
+-- where no strike passes a test, none of those that end after the start does
+none-ending : (p : Strike → Bool) (start : ℕ) (xs : List Strike) → list_any p xs ≡ false → list_any p (ending start xs) ≡ false
+none-ending p start [] none = refl
+none-ending p start (s ∷ xs) none = by (none-ending p start xs) (p s) refl none (nat_lt start s.to) refl
+  where
+    by : (list_any p xs ≡ false → list_any p (ending start xs) ≡ false) → (b : Bool) → p s ≡ b → (b || list_any p xs) ≡ false → (t : Bool) → nat_lt start s.to ≡ t →
+        list_any p (cond (nat_lt start s.to) (s ∷ ending start xs) (ending start xs)) ≡ false
+    by rest true is none t test = cc
+    by rest false is none true test = ap (λ b. list_any p (cond b (s ∷ ending start xs) (ending start xs))) test ∙ ap (λ b. b || list_any p (ending start xs)) is ∙ rest none
+    by rest false is none false test = ap (λ b. list_any p (cond b (s ∷ ending start xs) (ending start xs))) test ∙ rest none
+
+-- where the strike at a place is replaced, some strike passes if one did before, or if q holds
+any-set : (p : Strike → Bool) (q : Bool) (xs : List Strike) (at : ℕ) (s : Strike) → at < length xs → p s ≡ (p (get_or xs at s) || q) →
+    list_any p (set xs at s) ≡ (list_any p xs || q)
+any-set p q [] at s within same = absurd (omega (arith, within))
+any-set p q (x ∷ xs) zero s within same =
+    ap (λ b. b || list_any p xs) same ∙ or_assoc (p x) q (list_any p xs) ∙ ap (λ b. p x || b) (or_comm q (list_any p xs)) ∙ sym (or_assoc (p x) (list_any p xs) q)
+any-set p q (x ∷ xs) (suc at) s within same =
+    ap (λ b. p x || b) (any-set p q xs at s (omega (arith, within)) same) ∙ sym (or_assoc (p x) (list_any p xs) q)
+
+-- where no strike passes, none passes after one that does not pass took the place of another
+none-set : (p : Strike → Bool) (xs : List Strike) (at : ℕ) (s : Strike) → p s ≡ false → list_any p xs ≡ false → list_any p (set xs at s) ≡ false
+none-set p [] at s not none = refl
+none-set p (x ∷ xs) zero s not none = by (p x) none
+  where
+    by : (b : Bool) → (b || list_any p xs) ≡ false → (p s || list_any p xs) ≡ false
+    by true none = cc
+    by false none = ap (λ b. b || list_any p xs) not ∙ none
+none-set p (x ∷ xs) (suc at) s not none = by (none-set p xs at s not) (p x) refl none
+  where
+    by : (list_any p xs ≡ false → list_any p (set xs at s) ≡ false) → (b : Bool) → p x ≡ b → (b || list_any p xs) ≡ false → (p x || list_any p (set xs at s)) ≡ false
+    by rest true is none = cc
+    by rest false is none = ap (λ b. b || list_any p (set xs at s)) is ∙ rest none
+
+-- a strike that is made longer up to a place strikes the gain there too, and nothing else that is left
+longer-out : (m mp sm from to place k : ℕ) → sm ≡ mp → from ≤ place → to ≤ place → (to ≤ k → k < place → m ≢ mp) → (k ≡ place → m ≡ mp) →
+    (sm == m && (nat_le from k && nat_lt k (place + 1))) ≡ ((sm == m && (nat_le from k && nat_lt k to)) || k == place)
+longer-out m mp sm from to place k is low high between here = grind (arith, nat_tests)
+
+-- a new strike of one place strikes the gain there alone
+one-out : (m mp place k : ℕ) → (k ≡ place → m ≡ mp) → (mp == m && (nat_le place k && nat_lt k (place + 1))) ≡ (k == place)
+one-out m mp place k here = grind (arith, nat_tests)
+
+-- a new strike of one place strikes nothing after it
+past-out : (m mp from place k : ℕ) → place < k → (mp == m && (nat_le from k && nat_lt k (place + 1))) ≡ false
+past-out m mp from place k past = grind (arith, nat_tests)
+
+-- where a strike is made longer by the place that it reaches, it strikes the gain there too, and no other that is left
+pub lengthened : (gains : Gains) (place k : ℕ) (old : List Strike) (at : ℕ) (s : Strike) → at < length old → Reaches gains place (get_or old at s) → is_left gains k ≡ true →
+    is_struck (set old at (record { message = (get_or old at s).message; from = (get_or old at s).from; to = place + 1 })) (entry_at (entries_of gains) k).message k
+    ≡ (is_struck old (entry_at (entries_of gains) k).message k || k == place)
+unfolding is_struck
+lengthened gains place k old at s within reaches left =
+    let m = (entry_at (entries_of gains) k).message in
+    let mp = (entry_at (entries_of gains) place).message in
+    let was = get_or old at s in
+    let longer : Strike = record { message = was.message; from = was.from; to = place + 1 } in
+    any-set (is_out m k) (k == place) old at longer within
+    (longer-out m mp was.message was.from was.to place k reaches.message reaches.from reaches.to (λ above below same. true≢false (sym (held-left gains mp k same ∙ left) ∙ reaches.between k above below))
+    (λ is. ap (λ n. (entry_at (entries_of gains) n).message) is)
+    ∙ ap (λ w. is_out m k w || k == place) (get_or_default old at s longer within))
+
+-- where a strike is made longer up to a place, nothing more is struck after the place
+pub lengthened-bound : (gains : Gains) (place m k : ℕ) (old : List Strike) (at : ℕ) (s : Strike) → place < k → is_struck old m k ≡ false →
+    is_struck (set old at (record { message = (get_or old at s).message; from = (get_or old at s).from; to = place + 1 })) m k ≡ false
+unfolding is_struck
+lengthened-bound gains place m k old at s past none =
+    let was = get_or old at s in
+    none-set (is_out m k) old at (record { message = was.message; from = was.from; to = place + 1 }) (past-out m was.message was.from place k past) none
+
+-- where a strike of one place is put after the others, the gain there is struck too, and no other
+pub added : (gains : Gains) (place k : ℕ) (old : List Strike) →
+    is_struck (old ++ (record { message = (entry_at (entries_of gains) place).message; from = place; to = place + 1 }) ∷ []) (entry_at (entries_of gains) k).message k
+    ≡ (is_struck old (entry_at (entries_of gains) k).message k || k == place)
+unfolding is_struck
+added gains place k old =
+    let m = (entry_at (entries_of gains) k).message in
+    let mp = (entry_at (entries_of gains) place).message in
+    let s : Strike = record { message = mp; from = place; to = place + 1 } in
+    list_any-append (is_out m k) old (s ∷ [])
+    ∙ ap (λ b. list_any (is_out m k) old || b) (or-false (is_out m k s) ∙ one-out m mp place k (λ is. ap (λ n. (entry_at (entries_of gains) n).message) is))
+
+-- where a strike of one place is put after the others, nothing more is struck after the place
+pub added-bound : (m mp place k : ℕ) (old : List Strike) → place < k → is_struck old m k ≡ false →
+    is_struck (old ++ (record { message = mp; from = place; to = place + 1 }) ∷ []) m k ≡ false
+unfolding is_struck
+added-bound m mp place k old past none =
+    let s : Strike = record { message = mp; from = place; to = place + 1 } in
+    list_any-append (is_out m k) old (s ∷ [])
+    ∙ ap₂ (λ a b. a || b) none (or-false (is_out m k s) ∙ past-out m mp place place k past)
+
+-- without the strikes that end at the start or before it, the same is struck from there on
+pub struck-ending : (m k start : ℕ) (xs : List Strike) → start ≤ k → is_struck (ending start xs) m k ≡ is_struck xs m k
+unfolding is_struck
+struck-ending m k start xs above = any-ending m k start xs above
+
+-- without the strikes that end at the start or before it, nothing more is struck
+pub bound-ending : (m k start : ℕ) (xs : List Strike) → is_struck xs m k ≡ false → is_struck (ending start xs) m k ≡ false
+unfolding is_struck
+bound-ending m k start xs none = none-ending (is_out m k) start xs none
+
+-- where one of the strikes from `first` on is made longer, they strike the gain at the place too
+pub longer-too : (gains : Gains) (place first : ℕ) (old new : List Strike) → Lengthens gains place first old new → StrikeToo gains place first old new
+longer-too gains place first old new l =
+    let s : Strike = record { message = 0; from = 0; to = 0 } in
+    let own = drop first old in
+    let i = l.at - first in
+    let after = l.after in
+    let inside = l.within in
+    let here : l.at ≡ first + i = omega (arith, after) in
+    let was = get_or own i s in
+    let longer : Strike = record { message = was.message; from = was.from; to = place + 1 } in
+    let same : get_or old l.at s ≡ was = ap (λ n. get_or old n s) here ∙ sym (get_or-drop first old i s) in
+    let reaches : Reaches gains place was = subst (λ w. Reaches gains place w) same (l.reaches s) in
+    let low : i < length own = omega (arith, inside, length-drop first old, here) in
+    let whole : new ≡ set old (first + i) longer =
+    l.longer s
+    ∙ ap (λ (w : Strike). let x : Strike = record { message = w.message; from = w.from; to = place + 1 } in set old l.at x) same
+    ∙ ap (λ n. set old n longer) here in
+    let rest : drop first new ≡ set own i longer = ap (drop first) whole ∙ drop-set-add first old i longer in
+    record {
+      before = ap (take first) whole ∙ take-set-le first old (first + i) longer (omega arith);
+      struck = λ k left. ap (λ x. is_struck x (entry_at (entries_of gains) k).message k) rest ∙ lengthened gains place k own i s low reaches left;
+      bound = λ m k past none. ap (λ x. is_struck x m k) rest ∙ lengthened-bound gains place m k own i s past none;
+    }
+
+-- where a new strike of the place is put after the others, the strikes strike the gain at the place too
+pub more-too : (gains : Gains) (place first : ℕ) (old new : List Strike) → first ≤ length old →
+    new ≡ old ++ (record { message = (entry_at (entries_of gains) place).message; from = place; to = place + 1 }) ∷ [] → StrikeToo gains place first old new
+more-too gains place first old new within is =
+    let m = (entry_at (entries_of gains) place).message in
+    let s : Strike = record { message = m; from = place; to = place + 1 } in
+    let rest : drop first new ≡ drop first old ++ s ∷ [] = ap (drop first) is ∙ drop-append-le first old (s ∷ []) within in
+    record {
+      before = ap (take first) is ∙ take-append-le first old (s ∷ []) within;
+      struck = λ k left. ap (λ x. is_struck x (entry_at (entries_of gains) k).message k) rest ∙ added gains place k (drop first old);
+      bound = λ m' k past none. ap (λ x. is_struck x m' k) rest ∙ added-bound m' m place k (drop first old) past none;
+    }
+
+-- no place lies from one place up to an earlier one
+none-between : (from to k : ℕ) → to ≤ from → (nat_le from k && nat_lt k to) ≡ false
+none-between from to k order = grind (arith, nat_tests)
+
+-- a place lies up to `at` or is `at` exactly if it lies up to the one after `at`
+one-more : (from at k : ℕ) → from ≤ at → ((nat_le from k && nat_lt k at) || k == at) ≡ (nat_le from k && nat_lt k (at + 1))
+one-more from at k low = grind (arith, nat_tests)
+
+-- a strike of no place adds nothing
+none-too : (from to k : ℕ) (w : Bool) → to ≤ from → w ≡ (w || (nat_le from k && nat_lt k to))
+none-too from to k w order = sym (ap (λ b. w || b) (none-between from to k order) ∙ or-false w)
+
+-- IsWritten holds once the account's strikes are written
+pub written-none : (gains : Gains) (from : ℕ) (old new : List Strike) (a : Account) → new ≡ old ++ ending a.start (strikes_of old a) → IsWritten gains from from old new a
+written-none gains from old new a is =
+    let own = strikes_of old a in
+    let rest : drop (length old) new ≡ ending a.start own = ap (drop (length old)) is ∙ drop-append_seam old (ending a.start own) in
+    record {
+      kept = ap (take (length old)) is ∙ take-append_seam old (ending a.start own);
+      struck = λ k above left.
+          let m = (entry_at (entries_of gains) k).message in
+          ap (λ l. is_struck l m k) rest ∙ struck-ending m k a.start own above ∙ none-too from from k (is_struck own m k) (omega arith);
+      bound = λ m k past none. ap (λ l. is_struck l m k) rest ∙ bound-ending m k a.start own none;
+    }
+
+-- IsWritten goes on with the gain at the next place, where it is struck too
+pub written-more : (gains : Gains) (from at : ℕ) (old one new : List Strike) (a : Account) → IsWritten gains from at old one a → StrikeToo gains at (length old) one new → from ≤ at →
+    at < length (entries_of gains) → IsWritten gains from (at + 1) old new a
+written-more gains from at old one new a w too low inside = record {
+  kept = too.before ∙ w.kept;
+  struck = λ k above left.
+      let was = is_struck (strikes_of old a) (entry_at (entries_of gains) k).message k in
+      too.struck k left ∙ ap (λ b. b || k == at) (w.struck k above left)
+      ∙ or_assoc was (nat_le from k && nat_lt k at) (k == at) ∙ ap (λ b. was || b) (one-more from at k low);
+  bound = λ m k past none. too.bound m k (omega (arith, past, inside)) (w.bound m k past none);
+}
+
+-- where no gain stands between the end of an account and the place, the account as it is has them all struck
+pub struck-none : (gains : Gains) (place : ℕ) (strikes : List Strike) (a : Account) → a.first ≤ a.last → a.last ≤ length strikes → a.end ≡ place →
+    IsStruck gains a.end place strikes strikes a a
+struck-none gains place strikes a first last here = record {
+  start = refl;
+  end = refl;
+  soft = refl;
+  print = refl;
+  first = first;
+  last = last;
+  struck = λ k above left. none-too a.end place k (is_struck (strikes_of strikes a) (entry_at (entries_of gains) k).message k) (omega (arith, here));
+  bound = λ m k past none. none;
+}
+
+-- no strikes strike nothing
+pub none-struck : (m k : ℕ) → is_struck [] m k ≡ false
+unfolding is_struck
+none-struck m k = refl
+
+-- where the first i strikes do not strike the place, and the next one does not, the first i + 1 do not
+pub struck-more : (xs : List Strike) (i m k : ℕ) (s : Strike) → i < length xs → is_struck (take i xs) m k ≡ false → is_out m k (get_or xs i s) ≡ false →
+    is_struck (take (i + 1) xs) m k ≡ false
+unfolding is_struck
+struck-more xs i m k s within none not =
+    ap (list_any (is_out m k)) (take_more xs i s within)
+    ∙ list_any-append (is_out m k) (take i xs) (get_or xs i s ∷ [])
+    ∙ ap₂ (λ a b. a || b) none (or-false (is_out m k (get_or xs i s)) ∙ not)
+
+-- a strike strikes a place between its own places, under its message
+out-yes : (m from to sm k : ℕ) → sm ≡ m → from ≤ k → k < to → (sm == m && (nat_le from k && nat_lt k to)) ≡ true
+out-yes m from to sm k is low high = grind (arith, nat_tests)
+
+-- where one of the strikes is of the message and has the place between its own, the place is struck
+pub struck-by : (xs : List Strike) (i m k : ℕ) (s : Strike) → i < length xs → (get_or xs i s).message ≡ m → (get_or xs i s).from ≤ k → k < (get_or xs i s).to → is_struck xs m k ≡ true
+unfolding is_struck
+struck-by xs i m k s within is low high =
+    let was = get_or xs i s in
+    list_any_at (is_out m k) xs i s within (out-yes m was.from was.to was.message k is low high)
+
+-- what a strike strikes stands at its first place or after it
+out-low : (m sm from to k : ℕ) → (sm == m && (nat_le from k && nat_lt k to)) ≡ true → from ≤ k
+out-low m sm from to k is = grind (arith, nat_tests)
+
+-- what a strike strikes stands before its end
+out-high : (m sm from to k : ℕ) → (sm == m && (nat_le from k && nat_lt k to)) ≡ true → k < to
+out-high m sm from to k is = grind (arith, nat_tests)
+
+-- what a strike strikes is of its message
+out-is : (m sm from to k : ℕ) → (sm == m && (nat_le from k && nat_lt k to)) ≡ true → sm ≡ m
+out-is m sm from to k is = grind (arith, nat_tests)
+
+-- where a strike strikes a place, it strikes each place from there up to its end
+pub out-struck : (xs : List Strike) (i m k : ℕ) (s : Strike) → i < length xs → is_out m k (get_or xs i s) ≡ true →
+    (k < (get_or xs i s).to) × ((j : ℕ) → k ≤ j → j < (get_or xs i s).to → is_struck xs m j ≡ true)
+out-struck xs i m k s within out =
+    let was = get_or xs i s in
+    let low = out-low m was.message was.from was.to k out in (
+      out-high m was.message was.from was.to k out,
+      λ j above below. struck-by xs i m j s within (out-is m was.message was.from was.to k out) (omega (arith, low, above)) below,
+    )
+
+-- a strike strikes nothing at its end or after it
+pub struck-by_end : (m k sm from to : ℕ) → to ≤ k → (sm == m && (nat_le from k && nat_lt k to)) ≡ false
+struck-by_end m k sm from to past = grind (arith, nat_tests)

@@ -1,5 +1,6 @@
 pub mod Accounts
 pub mod Debts
+pub mod Indexes
 pub mod Rows
 pub mod Runs
 pub mod Ledgers

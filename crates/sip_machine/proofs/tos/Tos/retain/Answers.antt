@@ -13,7 +13,7 @@ invariant_of-self c =
     let kept = c.retain.ensures.filtered in
     let front = c.note_all.ensures.kept in
     let picked = subst (AllPairs below) (sym kept.4) (AllPairs-picked below kept.0 c.self.inside.list.items c.self.invariant.0) in
-    (subst (AllPairs below) (sym front.1) (AllPairs-take below front.0 c.retain.new.self.items picked), c.note_all.ensures.owned)
+    (subst (AllPairs below) (sym front.1) (AllPairs-take below front.0 c.retain.new.self.items picked), c.note_all.ensures.under)
 
 pub returns : goal.returns
 returns c =

@@ -134,9 +134,10 @@ impl Tos {
     {
         self.list.retain(|to| is_among(numbers, to.number));
         self.calls = [0; SLOTS];
-        if self.hashes.take().is_some() {
-            self.hashes = hashes_of(*self.list.allocator(), &self.list);
+        if self.hashes.is_none() {
+            return;
         }
+        self.hashes = hashes_of(*self.list.allocator(), &self.list);
     }
 
     /// The numbers of the messages of the list that have this To, where fewer than `most` have one of its hash.

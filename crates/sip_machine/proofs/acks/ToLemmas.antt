@@ -1,6 +1,6 @@
 -- The To that stands beside a kept message stays what it is, and tells which of the messages has a To.
 use Prim.Native.Nat.{suc}
-use Rattle.std.specs.Prelude.{◌≡◌, ◌≢◌, ◌<◌, ◌≤◌, ◌↔◌, ◌-◌, ◌+◌, ◌⊎◌, ◌==◌, ◌&&◌, ℕ, Bool, true, false, cond, IfOk, IfSome, IsTrue, Option, Some, None, bytes_eq, List, [], ◌∷◌, ◌++◌, All, AllPairs, Contains, length, map, slice_get, take}
+use Rattle.std.specs.Prelude.{◌≡◌, ◌≢◌, ◌<◌, ◌≤◌, ◌↔◌, ◌-◌, ◌+◌, ◌⊎◌, ◌==◌, ◌&&◌, ℕ, Bool, true, false, cond, IfOk, IfSome, IsTrue, Option, Some, None, bytes_eq, List, [], ◌∷◌, ◌++◌, All, AllPairs, Contains, is_some, length, map, slice_get, take}
 use Rattle.std.specs.List.{items_where_true}
 use Rattle.std.specs.Cmp.Lexicographic.{bytes_decides}
 use Rattle.std.proofs.Common.{Result, Ok, Err, OnOk, is_err, true≢false, inl, inr, refl, sym, ◌∙◌, ap, ap₂, subst, arith, get_or}
@@ -200,6 +200,11 @@ taken-keeps hash number old None changed h n other is = tt
 taken-keeps hash number None (Some new) changed h n other is = absurd changed
 taken-keeps hash number (Some old) (Some new) changed h n other is =
     changed h n ∙ ap (λ b. cond (h == hash && b) false (holds old h n)) (ne_eqb n number other) ∙ ap (λ b. cond b false (holds old h n)) (and-false (h == hash)) ∙ is
+
+-- where no hashes are kept, there is nothing to say
+pub none-under : (hashes : Option (List (ℕ × ℕ))) (tos : List To) → is_some hashes ≡ false → AreUnder hashes tos
+none-under None tos none = λ k d low. tt
+none-under (Some pairs) tos none = absurd (true≢false none)
 
 -- the numbers are of messages with this To, and those of all such messages that are below `from`
 pub record AreHoldersTo (tos : List To) (text : List ℕ) (from : ℕ) (numbers : List ℕ) : Type 0 where

@@ -1,4 +1,4 @@
-use Rattle.std.proofs.Common.{◌≡◌, All, arith, length, subst, take}
+use Rattle.std.proofs.Common.{◌≡◌, All, arith, get_or, length, subst, take}
 use Rattle.std.proofs.lemmas.List.Elements.{All-more}
 use Rattle.sip_machine.specs.declared.tos.To.{To}
 use Rattle.sip_machine.specs.inner.Order.{hash_of}
@@ -10,9 +10,11 @@ pub loop-at-preserved : goal.loop-at-preserved
 loop-at-preserved c =
     let to = c.index-list-at.result in
     let P = λ (t : To). IsUnder c.note.new.hashes (hash_of t.text) t.number in
-    let noted = on_ok c.note.result _ (rw c.is_err.ensures.value at c.if-is_err.false) c.note.ensures.ok in
-    let before : All P (take c.loop-at.at c.args.list.now) = λ k d low. put-keeps _ _ _ _ noted _ _ (c.loop-at.invariant k d low) in
-    let here : P to = put-here _ _ _ _ (rw c.hash.ensures at noted) in
+    let noted = rw c.hash.ensures at (on_ok c.note.result _ (rw c.is_err.ensures.value at c.if-is_err.false) c.note.ensures.ok) in
+    let before : All P (take c.loop-at.at c.args.list.now) = λ k d low.
+        let its = get_or (take c.loop-at.at c.args.list.now) k d in
+        put-keeps (hash_of to.text) to.number c.loop-at.hashes c.note.new.hashes noted (hash_of its.text) its.number (c.loop-at.invariant k d low) in
+    let here : P to = put-here (hash_of to.text) to.number c.loop-at.hashes c.note.new.hashes noted in
     All-more P c.args.list.now c.loop-at.at to (omega arith) before (subst P c.index-list-at.is here)
 
 pub returns : goal.returns

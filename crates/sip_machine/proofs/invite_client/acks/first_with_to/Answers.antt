@@ -36,4 +36,4 @@ returns-then-len-most c =
 pub returns-in-Some : goal.returns-in-Some
 returns-in-Some c =
     finds-held c.args.book.now c.args.to.now c.span-low.result.0 c.span-low.result.1 c.args.moment c.args.dues.now c.args.row c.requires.row c.span-low.ensures c.requires.owed
-    c.in-Some.numbers.items c.in-Some.ensures c.first_payable.result (rw c.deref-2.ensures.value at c.first_payable.ensures.some) (rw c.deref-2.ensures.value at c.first_payable.ensures.none)
+    c.in-Some.numbers.items (rw c.in-Some.is at c.in_ok-numbers.ensures) c.first_payable.result (rw c.deref-2.ensures.value at c.first_payable.ensures.some) (rw c.deref-2.ensures.value at c.first_payable.ensures.none)

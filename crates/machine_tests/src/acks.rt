@@ -220,7 +220,10 @@ fn acks_of_equal_tos_pay_the_oldest_first(rt: HostRuntime) -> Result<(), Fail> {
     let pool = run(rt.alloc(), &client, &book, &paired(rt.alloc())?)?;
     let states = states_of(rt.alloc(), &pool)?;
     assert!(rt; states.len() == 1);
-    let owed = states[0].owes.iter().map(|run| (run.debt.message, run.count));
+    let owed = states[0]
+        .owes
+        .iter()
+        .map(|run| (run.debt.message, run.count));
     assert!(rt; owed.eq((0..126).chain(127..128).map(|number| (refusal(number), 1))));
     Ok(())
 }
@@ -274,7 +277,10 @@ fn an_ack_finds_a_response_without_its_to_among_many(rt: HostRuntime) -> Result<
     let pool = run(rt.alloc(), &client, &book, &entries)?;
     let states = states_of(rt.alloc(), &pool)?;
     assert!(rt; states.len() == 1);
-    let owed = states[0].owes.iter().map(|run| (run.debt.message, run.count));
+    let owed = states[0]
+        .owes
+        .iter()
+        .map(|run| (run.debt.message, run.count));
     assert!(rt; owed.eq((0..MANY - 1).map(|tag| (refusal(tag), 1))));
     Ok(())
 }

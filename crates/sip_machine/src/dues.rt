@@ -303,12 +303,7 @@ impl Dues {
     }
 
     /// The message of the first debt of the row that is of one of these messages and whose deadline is not before the moment.
-    pub(crate) fn first_payable(
-        &self,
-        row: usize,
-        messages: &[u64],
-        moment: u64,
-    ) -> Option<u64>
+    pub(crate) fn first_payable(&self, row: usize, messages: &[u64], moment: u64) -> Option<u64>
         requires { row < length self.now }
         ensures some { IfSome result (λ message. IsWithoutFirst (PaysOne messages.now moment) (owed_in self.now row) (paid_by message moment (owed_in self.now row))) }
         ensures none { IfNone result (All (λ debt. ¬ (PaysOne messages.now moment debt)) (owed_in self.now row)) }

@@ -12,8 +12,8 @@ loop-at-preserved c =
     let P = λ (t : To). IsUnder c.note.new.hashes (hash_of t.text) t.number in
     let noted = rw c.hash.ensures at (on_ok c.note.result _ (rw c.is_err.ensures.value at c.if-is_err.false) c.note.ensures.ok) in
     let before : All P (take c.loop-at.at c.args.list.now) = λ k d low.
-        let its = get_or (take c.loop-at.at c.args.list.now) k d in
-        put-keeps (hash_of to.text) to.number c.loop-at.hashes c.note.new.hashes noted (hash_of its.text) its.number (c.loop-at.invariant k d low) in
+    let its = get_or (take c.loop-at.at c.args.list.now) k d in
+    put-keeps (hash_of to.text) to.number c.loop-at.hashes c.note.new.hashes noted (hash_of its.text) its.number (c.loop-at.invariant k d low) in
     let here : P to = put-here (hash_of to.text) to.number c.loop-at.hashes c.note.new.hashes noted in
     All-more P c.args.list.now c.loop-at.at to (omega arith) before (subst P c.index-list-at.is here)
 

@@ -22,9 +22,9 @@ invariant_of-self c =
     let lower = front_below tos c.args.number last c.self.invariant.0 at same in
     let stood = All-take (λ to. IsUnder old (hash_of to.text) to.number) left tos c.self.invariant.1 in
     let under : AreUnder new (take left tos) = λ k d low.
-        let to = get_or (take left tos) k d in
-        let less = lower k d low in
-        taken-keeps c.hash.result c.args.number old new c.drop_note.ensures (hash_of to.text) to.number (omega (arith, less)) (stood k d low) in (
+    let to = get_or (take left tos) k d in
+    let less = lower k d low in
+    taken-keeps c.hash.result c.args.number old new c.drop_note.ensures (hash_of to.text) to.number (omega (arith, less)) (stood k d low) in (
       subst (AllPairs below) (sym c.pop.ensures.rest) (AllPairs-take below left tos c.self.invariant.0),
       subst (AreUnder new) (sym c.pop.ensures.rest) under,
     )

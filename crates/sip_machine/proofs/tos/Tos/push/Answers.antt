@@ -18,7 +18,7 @@ invariant_of-self-in_err-push c =
     let tos = c.self.inside.list.items in
     let noted = rw c.hash.ensures at c.in_ok-note.ensures.ok in
     let under : AreUnder c.note.new.hashes tos = λ k d low.
-        put-keeps (hash_of c.args.text) c.args.number c.self.inside.hashes c.note.new.hashes noted (hash_of (get_or tos k d).text) (get_or tos k d).number (c.self.invariant.1 k d low) in
+    put-keeps (hash_of c.args.text) c.args.number c.self.inside.hashes c.note.new.hashes noted (hash_of (get_or tos k d).text) (get_or tos k d).number (c.self.invariant.1 k d low) in
     (subst (AllPairs below) (sym c.in_err-push.ensures.items) c.self.invariant.0, subst (AreUnder c.note.new.hashes) (sym c.in_err-push.ensures.items) under)
 
 pub invariant_of-self-2 : goal.invariant_of-self-2
@@ -28,7 +28,7 @@ invariant_of-self-2 c =
     let P = λ (t : To). IsUnder c.note.new.hashes (hash_of t.text) t.number in
     let noted = rw c.hash.ensures at c.in_ok-note.ensures.ok in
     let under : All P tos = λ k d low.
-        put-keeps (hash_of c.args.text) c.args.number c.self.inside.hashes c.note.new.hashes noted (hash_of (get_or tos k d).text) (get_or tos k d).number (c.self.invariant.1 k d low) in
+    put-keeps (hash_of c.args.text) c.args.number c.self.inside.hashes c.note.new.hashes noted (hash_of (get_or tos k d).text) (get_or tos k d).number (c.self.invariant.1 k d low) in
     let lower : All (λ t. t.number < c.args.number) tos = rw c.self.view_is c.requires in
     let here : P to = put-here (hash_of c.args.text) c.args.number c.self.inside.hashes c.note.new.hashes noted in
     (subst (AllPairs below) (sym c.in_ok-push.ensures.items) (all_pairs_push below tos to c.self.invariant.0 lower), subst (All P) (sym c.in_ok-push.ensures.items) (All-push P tos to under here))

@@ -70,7 +70,7 @@ impl Tos {
             return false;
         }
         let slot = hash(call) as usize % SLOTS;
-        let count = (self.calls[slot] + 1) % MANY;
+        let count = self.calls[slot].saturating_add(1) % MANY;
         self.calls[slot] = count;
         count == 0
     }

@@ -252,6 +252,7 @@ impl Played {
         assert!(rt; debts.as_slice() == list, "{row}");
         assert!(rt; row < self.accounts.len());
         assert!(rt; self.accounts.owes_nothing(row) == list.is_empty(), "{row}");
+        self.owes_first(rt, row, list)?;
         let least = earliest_must(list);
         assert!(rt; self.accounts.earliest_must(row) == least, "{row}");
         let moment = least.unwrap_or(0);
@@ -266,6 +267,22 @@ impl Played {
         assert!(rt; names.len() == list.len());
         for (name, debt) in names.iter().zip(list) {
             assert!(rt; *name == debt.message, "{row}");
+        }
+        Ok(())
+    }
+
+    /// What the row owes first is what stands first in this list, whether fewer or more debts are asked for than it owes.
+    fn owes_first(
+        &self,
+        rt: &(impl Abort + AllocGlobal),
+        row: usize,
+        list: &[Debt],
+    ) -> Result<(), Fail> {
+        for most in [list.len() / 2, list.len(), usize::MAX] {
+            assert!(rt; row < self.accounts.len());
+            let debts = self.accounts.first_debts(rt.alloc(), row, most)?;
+            let wants = list.get(..most).unwrap_or(list);
+            assert!(rt; debts.as_slice() == wants, "{row}");
         }
         Ok(())
     }

@@ -1,9 +1,10 @@
-//! ACKs of an INVITE client for responses of which one alone has its To beside it.
+//! ACKs of an INVITE client for responses of which all have their To beside them, one alone has, or none has.
 
 use crate::messages::{Numbered, Start, book_of};
 use crate::rows::{MUST, Row, all_lead};
+use crate::runs::{Entry, run, states_of};
 use crate::times::params;
-use sip_machine::{Action, Book, InviteClient, InviteClientPhase};
+use sip_machine::{Action, Book, InviteClient, InviteClientPhase, Run};
 use sip_message::{Message, ReadError};
 use std::alloc::{AllocError, Global};
 use std::test::Fail;
@@ -55,4 +56,124 @@ fn an_ack_finds_a_response_without_its_to(rt: HostRuntime) -> Result<(), Fail> {
     keep_to(rt.alloc(), &mut book, 2)?;
     let client = InviteClient::new(params(500)?);
     all_lead(&rt, &client, &book, &ROWS)
+}
+
+/// The INVITE, nine 486s with a To each, and the ACK for the last.
+const NINE: [Numbered; 11] = [
+    (1, Start::Request("INVITE"), None),
+    (2, Start::Response(486), Some(2)),
+    (3, Start::Response(486), Some(3)),
+    (4, Start::Response(486), Some(4)),
+    (5, Start::Response(486), Some(5)),
+    (6, Start::Response(486), Some(6)),
+    (7, Start::Response(486), Some(7)),
+    (8, Start::Response(486), Some(8)),
+    (9, Start::Response(486), Some(9)),
+    (10, Start::Response(486), Some(10)),
+    (11, Start::Request("ACK"), Some(10)),
+];
+
+/// The ACK pays the last of nine debts.
+static NINE_ROWS: [Row<InviteClientPhase>; 1] = [(
+    &[
+        (0, Action::Sent, 1),
+        (100, Action::Received, 2),
+        (100, Action::Received, 3),
+        (100, Action::Received, 4),
+        (100, Action::Received, 5),
+        (100, Action::Received, 6),
+        (100, Action::Received, 7),
+        (100, Action::Received, 8),
+        (100, Action::Received, 9),
+        (100, Action::Received, 10),
+        (110, Action::Sent, 11),
+    ],
+    &[(
+        InviteClientPhase::Completed {
+            reliable: false,
+            request: 1,
+            set: 100,
+        },
+        &[
+            (2, 150, MUST),
+            (3, 150, MUST),
+            (4, 150, MUST),
+            (5, 150, MUST),
+            (6, 150, MUST),
+            (7, 150, MUST),
+            (8, 150, MUST),
+            (9, 150, MUST),
+        ],
+    )],
+)];
+
+/// The book keeps no To beside a message, so that the debts are looked at, eight of them first.
+#[test]
+fn an_ack_finds_the_ninth_debt(rt: HostRuntime) -> Result<(), Fail> {
+    let book = book_of(rt.alloc(), &NINE, "INVITE", "UDP")?;
+    let client = InviteClient::new(params(500)?);
+    all_lead(&rt, &client, &book, &NINE_ROWS)
+}
+
+/// How many 486s there are in the next test: with so many of one call, the book puts the To of each message beside it.
+const MANY: u64 = 256;
+
+/// The number of the 486 with this tag.
+fn refusal(tag: u64) -> u64 {
+    tag.wrapping_mul(2).wrapping_add(10)
+}
+
+/// The INVITE, many 486s with a To each, another request between the first two of them, and an ACK for each.
+fn many(alloc: Global) -> Result<Vec<Numbered>, AllocError> {
+    let mut messages = Vec::new(alloc);
+    messages.push((1, Start::Request("INVITE"), None))?;
+    messages.push((refusal(0), Start::Response(486), Some(0)))?;
+    messages.push((11, Start::Request("OPTIONS"), None))?;
+    for tag in 1..MANY {
+        messages.push((refusal(tag), Start::Response(486), Some(tag as u8)))?;
+    }
+    for tag in 0..MANY {
+        messages.push((1000 + tag, Start::Request("ACK"), Some(tag as u8)))?;
+    }
+    Ok(messages)
+}
+
+/// The INVITE is sent, all 486s are received, and an ACK is sent for each of the second half of them, the newest first.
+fn entries(alloc: Global) -> Result<Vec<Entry>, AllocError> {
+    let mut entries = Vec::new(alloc);
+    entries.push((0, Action::Sent, 1))?;
+    for tag in 0..MANY {
+        entries.push((100, Action::Received, refusal(tag)))?;
+    }
+    for tag in 0..MANY / 2 {
+        entries.push((110, Action::Sent, 1000 + MANY - 1 - tag))?;
+    }
+    Ok(entries)
+}
+
+/// Whether the debts are those of the first half of the 486s, once each.
+fn are_first_half(runs: &[Run]) -> bool {
+    runs.len() == 128
+        && runs.iter().zip(0..128).all(|(run, tag)| {
+            run.count == 1
+                && run.debt.message == refusal(tag)
+                && run.debt.deadline == 150
+                && run.debt.must
+        })
+}
+
+/// Another message that is kept lies between the 486s. Each ACK pays the debt of its own 486.
+#[test]
+fn acks_find_their_debts_among_many(rt: HostRuntime) -> Result<(), Fail> {
+    let messages = many(rt.alloc())?;
+    let mut book = book_of(rt.alloc(), &messages, "INVITE", "UDP")?;
+    for tag in 0..MANY {
+        keep_to(rt.alloc(), &mut book, refusal(tag))?;
+    }
+    let client = InviteClient::new(params(500)?);
+    let pool = run(rt.alloc(), &client, &book, &entries(rt.alloc())?)?;
+    let states = states_of(rt.alloc(), &pool)?;
+    assert!(rt; states.len() == 1);
+    assert!(rt; are_first_half(&states[0].owes));
+    Ok(())
 }

@@ -16,7 +16,7 @@ mod seek;
 mod strikes;
 
 use crate::accounts::account::{
-    Account, EMPTY, debts, earliest_must, expired, find, gained, gained_and_expired,
+    Account, EMPTY, debts, earliest_must, expired, find, first_debts, gained, gained_and_expired,
     paid_and_expired, place_for, same, without,
 };
 use crate::accounts::gains::Gains;
@@ -321,6 +321,19 @@ impl Accounts {
     {
         let debts = debts(alloc, &self.gains, &self.strikes, self.rows[row])?;
         runs_of(alloc, &debts)
+    }
+
+    /// What the row owes first: so many debts, or all where it owes fewer.
+    pub fn first_debts(
+        &self,
+        alloc: Global,
+        row: usize,
+        most: usize,
+    ) -> Result<Vec<Debt>, AllocError>
+        requires { row < length self.now }
+        ensures { IfOk result (λ debts. debts.items ≡ take most (owed_in self.now row)) }
+    {
+        first_debts(alloc, &self.gains, &self.strikes, self.rows[row], most)
     }
 
     /// Gives back what no row needs. It is to be called after each step: where many rows pay, what they paid is then looked at

@@ -1,4 +1,4 @@
 pub mod DueLemmas
 pub mod DuesEachLemmas
 pub mod NamesLemmas
-pub mod RunsLemmas
+pub mod LookLemmas

@@ -2,11 +2,11 @@
 ghost use Rattle.std.specs.Prelude.{◌≡◌, ◌≢◌, ◌<◌, ◌≤◌, ◌⊎◌, ◌↔◌, ◌++◌, ◌∷◌, [], ℕ, None, List, length, map, MatchOption, IfNone, IfSome, IfOk, IfErr, OnOk, OnErr, IsTrue, All, AllPairs};
 ghost use Rattle.std.specs.List.{insert, HoldsAt};
 ghost use Rattle.std.specs.List.Sorted.{IsSearchInRange, IsBinarySearchResult};
-ghost use Rattle.sip_machine.specs.Texts.{IsBook, Keeps, text_of};
+ghost use Rattle.sip_machine.specs.Texts.{Texts, IsBook, Keeps, text_of};
 ghost use Rattle.sip_machine.specs.Retained.{only};
 ghost use Rattle.sip_message.specs.Reads.{Reads};
 ghost use Rattle.sip_machine.specs.inner.ReadAs.{IsReadAs};
-ghost use Rattle.sip_machine.specs.inner.Tos.{IsToOf, HoldsBetween, count_between};
+ghost use Rattle.sip_machine.specs.inner.Tos.{AreTos, IsToOf, HoldsBetween, count_between};
 ghost use Rattle.sip_machine.specs.inner.Order.{texts_of, placed, bytes_at, key_of, compare, begins_by, places_of, index_of, most_places, IsLed, IsInRuns, StandInRuns, IsInside, IsGap};
 
 mod retain;
@@ -193,21 +193,31 @@ impl Book {
         self.tos.holder(to)
     }
 
-    /// Puts the To of a message beside it where an ACK is owed for the message, so that no ACK reads it anew. Where there is
-    /// no memory for the To, all is as before.
+    /// Puts the To of a message beside it where an ACK is owed for the message, so that no ACK reads it anew. Where many messages
+    /// of one call are owed one, the To of each message is put beside it. Where there is no memory for the To, all is as before.
     pub fn keep_to(&mut self, number: u64, message: &Message<'_>)
         requires kept { Keeps self.old number }
         requires read { Reads (text_of self.old number) message.now }
         ensures { self.new ≡ self.old }
     {
-        if !is_refusal(message) {
+        if !stands_beside(message, self.tos.takes_all()) {
             return;
         }
         if !self.tos.are_below(number) {
             return;
         }
-        if let Ok(text) = solid_of(*self.kept.allocator(), message.to().whole) {
-            let _ = self.tos.push(number, Hashed::of(text));
+        let _ = put_to(*self.kept.allocator(), &mut self.tos, number, message);
+        if self.tos.begins_with_all(message.call_id()) {
+            self.keep_all_tos();
+        }
+    }
+
+    /// Puts the To of each kept message beside it. Where there is no memory for that, those that are there stay.
+    fn keep_all_tos(&mut self)
+        ensures { self.new ≡ self.old }
+    {
+        if let Ok(tos) = tos_of(*self.kept.allocator(), &self.kept) {
+            self.tos.replace(tos);
         }
     }
 
@@ -236,10 +246,12 @@ impl Book {
         }
     }
 
-    /// Forgets the newest message, if it has this number and neither its place nor its To stands beside it yet.
+    /// Forgets the newest message, if it has this number and neither its place nor its To stands beside it yet. Where the Tos of all
+    /// messages are to stand there, its To goes with it.
     pub fn forget_newest(&mut self, number: u64)
         ensures { (self.new ≡ self.old) ⊎ ((bytes : List ℕ) × (self.old ≡ self.new ++ (number, bytes) ∷ [])) }
     {
+        self.tos.drop_newest(number);
         if self.loose.is_none() || !self.tos.are_below(number) {
             return;
         }
@@ -271,14 +283,55 @@ impl Book {
     }
 }
 
-/// Whether the message refuses an INVITE: a response that does is owed an ACK.
-fn is_refusal(message: &Message<'_>) -> bool {
+/// Whether the To of the message is to stand beside it: where it refuses an INVITE, since a response that does is owed an ACK; and where
+/// those of all messages are to, but for an ACK, which no state names.
+fn stands_beside(message: &Message<'_>, takes_all: bool) -> bool {
     match message.start() {
         StartLine::Status { code, .. } => {
-            is_unsuccessful(code) && message.cseq().method == b"INVITE".as_slice()
+            takes_all || (is_unsuccessful(code) && message.cseq().method == b"INVITE".as_slice())
         }
-        StartLine::Request { .. } => false,
+        StartLine::Request { method, .. } => takes_all && method != b"ACK".as_slice(),
     }
+}
+
+/// Puts the To of a message after the others, if the number of the message is above theirs.
+fn put_to(
+    alloc: Global,
+    tos: &mut Tos,
+    number: u64,
+    message: &Message<'_>,
+) -> Result<(), AllocError>
+    ensures { (texts : Texts) → Keeps texts number → Reads (text_of texts number) message.now → AreTos texts tos.old → AreTos texts tos.new }
+{
+    if !tos.are_below(number) {
+        return Ok(());
+    }
+    let text = solid_of(alloc, message.to().whole)?;
+    tos.push(number, Hashed::of(text))
+}
+
+/// Puts the To of a message, which is read anew, after the others, where those of all messages are to stand beside them.
+fn put_read_to(alloc: Global, tos: &mut Tos, number: u64, bytes: &[u8]) -> Result<(), AllocError>
+    ensures { (texts : Texts) → Keeps texts number → text_of texts number ≡ bytes.now → AreTos texts tos.old → AreTos texts tos.new }
+{
+    match Message::read(alloc, bytes) {
+        Ok(message) if stands_beside(&message, true) => put_to(alloc, tos, number, &message),
+        Err(ReadError::Memory) => Err(AllocError),
+        _ => Ok(()),
+    }
+}
+
+/// The Tos of these messages, which are read anew, but for those of ACKs.
+fn tos_of(alloc: Global, kept: &[KeptMessage]) -> Result<Tos, AllocError>
+    requires { IsBook (texts_of kept.now) }
+    ensures { IfOk result (AreTos (texts_of kept.now)) }
+{
+    let mut tos = Tos::new(alloc);
+    for at in 0..kept.len() {
+        let message = &kept[at];
+        put_read_to(alloc, &mut tos, message.number, message.bytes.as_slice())?;
+    }
+    Ok(tos)
 }
 
 /// How many of the messages have numbers from `low` up to `high`.

@@ -286,6 +286,22 @@ impl Dues {
         }
     }
 
+    /// What the row owes first: so many debts, or all where it owes fewer.
+    pub(crate) fn first_debts(
+        &self,
+        alloc: Global,
+        row: usize,
+        most: usize,
+    ) -> Result<Vec<Debt>, AllocError>
+        requires { row < length self.now }
+        ensures { IfOk result (λ debts. debts.items ≡ take most (owed_in self.now row)) }
+    {
+        match &self.ledger {
+            Some(ledger) => ledger.first_debts(alloc, row, most),
+            None => Ok(Vec::new(alloc)),
+        }
+    }
+
     /// Two numbers between which the numbers of all messages are that are owed.
     pub(crate) fn span(&self) -> (u64, u64)
         ensures { All (AreBetween result.0 result.1) self.now }

@@ -5,7 +5,7 @@ ghost use Rattle.sip_machine.specs.declared.tos.To.{To};
 ghost use Rattle.sip_machine.specs.inner.Order.{hash_of};
 ghost use Rattle.sip_machine.specs.inner.Tos.{AreOwned, IsHolder, MayOwn, count_between, owner_with};
 
-use crate::hashed::Hashed;
+use crate::hashed::{Hashed, hash};
 use std::alloc::{AllocError, Global};
 use std::collections::HashMap;
 use std::marker::Model;
@@ -41,7 +41,18 @@ pub(crate) enum Holder {
 pub(crate) struct Tos {
     list: Vec<To>,
     owners: HashMap<u64, Owner>,
+    /// How many Tos of each call came since the last time that some went. Calls of one hash are counted together.
+    calls: [u8; SLOTS],
+    /// Whether the Tos of all messages are to stand here.
+    takes_all: bool,
 }
+
+/// How many calls are told apart where Tos are counted.
+const SLOTS: usize = 1024;
+
+/// Where as many Tos of one call come, those of all messages are to stand here: then messages without one do not lie between these, and an
+/// ACK of the call is found without a look at its debts.
+const MANY: u8 = u8::MAX;
 
 impl Model for Tos {
     ghost use Rattle.std.specs.Prelude.{◌<◌, List, AllPairs};
@@ -62,7 +73,36 @@ impl Tos {
         Tos {
             list: Vec::new(alloc),
             owners: HashMap::new(alloc),
+            calls: [0; SLOTS],
+            takes_all: false,
         }
+    }
+
+    /// Whether the Tos of all messages are to stand here.
+    pub(crate) fn takes_all(&self) -> bool {
+        self.takes_all
+    }
+
+    /// Counts a To of the call. It tells whether the Tos of all messages are to stand here from now on, and were not before.
+    pub(crate) fn begins_with_all(&mut self, call: &[u8]) -> bool
+        ensures { self.new ≡ self.old }
+    {
+        if self.takes_all {
+            return false;
+        }
+        let slot = hash(call) as usize % SLOTS;
+        let count = self.calls[slot].saturating_add(1);
+        self.calls[slot] = count;
+        self.takes_all = count == MANY;
+        self.takes_all
+    }
+
+    /// Puts these Tos in the place of those that are here.
+    pub(crate) fn replace(&mut self, tos: Tos)
+        ensures { self.new ≡ tos }
+    {
+        self.list = tos.list;
+        self.owners = tos.owners;
     }
 
     /// The To of the message with this number: at `near`, or where a search finds it. `near` is left after it, so that messages
@@ -96,14 +136,28 @@ impl Tos {
         Ok(())
     }
 
+    /// Takes the newest To out, if it is of the message with this number and the Tos of all messages are to stand here.
+    pub(crate) fn drop_newest(&mut self, number: u64)
+        ensures { All (Contains self.old) self.new }
+    {
+        match self.list.last() {
+            Some(last) if self.takes_all && last.number == number => {
+                let _ = self.list.pop();
+            }
+            _ => {}
+        }
+    }
+
     /// Keeps the Tos of the messages with these numbers, which rise. It takes no memory: where some Tos went, there is room for
     /// those that are left.
     pub(crate) fn retain(&mut self, numbers: &[u64])
         ensures { All (λ to. Contains self.old to × Contains numbers.now to.number) self.new }
     {
-        forget(&mut self.owners, &self.list, numbers);
         self.list.retain(|to| is_among(numbers, to.number));
+        self.owners.clear();
         note_all(&mut self.owners, &mut self.list);
+        self.calls = [0; SLOTS];
+        self.takes_all = self.takes_all && usize::from(MANY) <= self.list.len();
     }
 
     /// Which message of the list has this To, as far as the owners tell.
@@ -183,15 +237,6 @@ fn owner_with(owner: Option<Owner>, number: u64) -> Owner
         Some(Owner::Only(other)) if other != number => Owner::Several,
         Some(Owner::Several) => Owner::Several,
         _ => Owner::Only(number),
-    }
-}
-
-/// Forgets the owner of the hash of each To in the list whose message is not one of these numbers.
-fn forget(owners: &mut HashMap<u64, Owner>, list: &[To], numbers: &[u64]) {
-    for to in list {
-        if !is_among(numbers, to.number) {
-            owners.remove(&to.text.hash());
-        }
     }
 }
 

@@ -3,7 +3,7 @@ use Rattle.std.proofs.Common.{◌≡◌, ◌≢◌, ℕ, ◌+◌, ◌<◌, ◌�
 use Rattle.std.specs.Prelude.{IsTrue, Option, Some, None, ◌↔◌, nat_le, nat_lt, option_to_list}
 use Rattle.std.specs.Bool.{OnTrue}
 use Rattle.std.proofs.lemmas.Bool.{cases_eq, cases_lt, eq-eqb, eqb-true, true≢false}
-use Rattle.std.proofs.lemmas.List.{get_or-drop, get_or_default, length-drop, length-take-le, map-append}
+use Rattle.std.proofs.lemmas.List.{get_or-drop, get_or_default, length-drop, length-take-le, map-append, take-append-le, take_all}
 use Rattle.std.proofs.lemmas.List.Elements.{All-map}
 use Rattle.sip_ledger.specs.declared.debt.Debt.{Debt}
 use Rattle.sip_ledger.specs.declared.debt.Entry.{Entry}
@@ -48,6 +48,19 @@ unfolding account_debts
 all-told gains strikes a at is past within =
     let end = is.end in
     sym (front-end gains strikes (must_at gains a) a at past (omega (arith, within, end)))
+
+-- what an account owes before a place of it are the first of its debts
+pub front-first : (gains : Gains) (strikes : List Strike) (a : Account) (at n : ℕ) → IsAccount gains strikes a → at ≤ a.end →
+    length (front (owes_at gains strikes a) (must_at gains a) (entries_of gains) at) ≡ n →
+    front (owes_at gains strikes a) (must_at gains a) (entries_of gains) at ≡ take n (account_debts gains strikes a)
+unfolding account_debts
+front-first gains strikes a at n is within long =
+    let end = is.end in
+    let before = front (owes_at gains strikes a) (must_at gains a) (entries_of gains) at in
+    let after = back (owes_at gains strikes a) (must_at gains a) (entries_of gains) at in
+    sym (take_all n before (omega (arith, long)))
+    ∙ sym (take-append-le n before after (omega (arith, long)))
+    ∙ ap (take n) (sym (parts (owes_at gains strikes a) (must_at gains a) (entries_of gains) at (omega (arith, within, end))))
 
 -- both lists are the same exactly if what is left of them is
 pub record AreBeside (one other left right : List Debt) : Type 0 where

@@ -660,3 +660,27 @@ pub(crate) fn debts(
     }
     Ok(debts)
 }
+
+/// What the account owes first: so many debts, or all where it owes fewer.
+pub(crate) fn first_debts(
+    alloc: Global,
+    gains: &Gains,
+    strikes: &[Strike],
+    account: Account,
+    most: usize,
+) -> Result<Vec<Debt>, AllocError>
+    requires gained { AreGains gains.now }
+    requires account { IsAccount gains.now strikes.now account }
+    ensures { IfOk result (λ debts. debts.items ≡ take most (account_debts gains.now strikes.now account)) }
+{
+    let mut debts = Vec::new(alloc);
+    let mut place = account.start;
+    while place < account.end {
+        if debts.len() == most {
+            return Ok(debts);
+        }
+        debts.push(debt_for(gains, account, place))?;
+        place = next(gains, strikes, account, place + 1);
+    }
+    Ok(debts)
+}

@@ -53,6 +53,10 @@ AreTos-grow texts entry bytes tos all = record {
       moved_to texts (texts ++ (entry, bytes) ∷ []) to (Keeps-grow texts entry bytes to.number is.kept) (text_of-grow texts entry bytes to.number is.kept) is) tos all.each;
 }
 
+-- Tos that are some of those of kept messages are those of kept messages
+pub AreTos-some : (texts : Texts) (tos new : List To) → AreTos texts tos → All (Contains tos) new → AreTos texts new
+AreTos-some texts tos new all some = record { each = All-weaker (Contains tos) (IsTo texts) (λ to has. All-contains (IsTo texts) tos to all.each has) new some }
+
 -- where the book keeps the messages of some numbers alone, the Tos of these stay those of kept messages
 pub AreTos-only : (texts : Texts) (numbers : List ℕ) → IsBook texts → AllPairs (λ a b. a < b) numbers → All (Keeps texts) numbers → (tos new : List To)
     → AreTos texts tos → All (λ to. Contains tos to × Contains numbers to.number) new → AreTos (only numbers texts) new

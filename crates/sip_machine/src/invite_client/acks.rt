@@ -1,7 +1,6 @@
 //! The response to which an ACK belongs: the INVITE and the ACK are read anew, and tell all but the response, which is told by
 //! its To alone.
-ghost use Rattle.std.specs.Prelude.{◌≡◌, ◌≢◌, ◌<◌, ◌≤◌, [], IfOk, All, length};
-ghost use Rattle.sip_ledger.specs.Runs.{debts_in};
+ghost use Rattle.std.specs.Prelude.{◌≡◌, ◌≢◌, ◌<◌, [], IfOk, All, length};
 ghost use Rattle.sip_machine.specs.Owes.{owed_in, owes_names};
 ghost use Rattle.sip_machine.specs.Texts.{Keeps, text_of};
 ghost use Rattle.sip_machine.specs.inner.Acks.{HasTo, PaysDebt};
@@ -15,7 +14,7 @@ use crate::hashed::Hashed;
 use crate::paying::payable;
 use crate::tos::Holder::{self, Nobody, One, Unknown};
 use sip_key::{is_ack_for, solid_of};
-use sip_ledger::Run;
+use sip_ledger::Debt;
 use std::alloc::{AllocError, Global};
 
 /// The message of the first debt of the row that is a response to the INVITE to which the event's ACK belongs (RFC 3261,
@@ -72,10 +71,7 @@ fn first_with_to(
     match holder(alloc, book, to, low, high)? {
         One(number) => Ok(payable(number, moment, dues, row)),
         Nobody => Ok(None),
-        Unknown => {
-            let runs = dues.runs(alloc, row)?;
-            first_of_runs(alloc, book, to, &runs, moment)
-        }
+        Unknown => first_by_looks(alloc, book, to, moment, dues, row),
     }
 }
 
@@ -104,22 +100,51 @@ fn holder(
     Ok(book.holder(to, low, high))
 }
 
-/// The message of the first of these runs whose message has this To, found by a look at each in their order, in which the messages mostly came.
-fn first_of_runs(
+/// The message of the first debt of the row whose message has this To and whose deadline has not passed, found by a look at each, the
+/// oldest first. Few debts are looked at first, and then eight times as many: so what is looked at grows with the place of the one that is
+/// found, and not with what is owed.
+fn first_by_looks(
     alloc: Global,
     book: &Book,
     to: &Hashed,
-    runs: &[Run],
+    moment: u64,
+    dues: &Dues,
+    row: usize,
+) -> Result<Option<u64>, AllocError>
+    requires row { row < length dues.now }
+    requires owed { All (Keeps book.now) (owes_names (owed_in dues.now row)) }
+    ensures { IfOk result (FindsFirst (HasTo book.now to.now moment) moment (owed_in dues.now row)) }
+{
+    let mut most = 8;
+    loop {
+        let debts = dues.first_debts(alloc, row, most)?;
+        let found = first_of(alloc, book, to, &debts, moment)?;
+        if found.is_some() {
+            return Ok(found);
+        }
+        if debts.len() < most {
+            return Ok(None);
+        }
+        most = most.saturating_mul(8);
+    }
+}
+
+/// The message of the first of these debts whose message has this To and whose deadline has not passed, found by a look at each in
+/// their order, in which the messages mostly came.
+fn first_of(
+    alloc: Global,
+    book: &Book,
+    to: &Hashed,
+    debts: &[Debt],
     moment: u64,
 ) -> Result<Option<u64>, AllocError>
-    requires filled { All (λ run. 0 < run.count) runs.now }
-    requires debts { All (λ run. Keeps book.now run.debt.message) runs.now }
-    ensures { IfOk result (FindsFirst (HasTo book.now to.now moment) moment (debts_in runs.now)) }
+    requires { All (λ debt. Keeps book.now debt.message) debts.now }
+    ensures { IfOk result (FindsFirst (HasTo book.now to.now moment) moment debts.now) }
 {
     let mut near = 0;
-    for run in runs {
-        let message = run.debt.message;
-        if moment <= run.debt.deadline && book.has_to(alloc, message, to, &mut near)? {
+    for debt in debts {
+        let message = debt.message;
+        if moment <= debt.deadline && book.has_to(alloc, message, to, &mut near)? {
             return Ok(Some(message));
         }
     }

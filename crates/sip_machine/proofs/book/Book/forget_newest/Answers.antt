@@ -1,16 +1,36 @@
-use Rattle.std.proofs.Common.{◌≡◌, ◌∙◌, ◌++◌, ◌∷◌, [], true, is_some, ap, rules}
-use Rattle.sip_machine.specs.inner.Order.{texts_of}
+use Rattle.std.proofs.Common.{◌≡◌, ◌∙◌, ◌++◌, ◌∷◌, [], true, is_some, ap, rules, subst, sym}
+use Rattle.sip_machine.specs.Texts.{IsBook}
+use Rattle.sip_machine.specs.inner.Order.{texts_of, StandInRuns}
+use Rattle.sip_machine.specs.inner.Tos.{AreTos}
+use Rattle.sip_machine.proofs.acks.ToLemmas.{AreTos-some}
 use Rattle.sip_machine.proofs.texts.NewestLaws.{texts_split, kept_front}
 use Rattle.sip_machine.proofs.book.Book.forget_newest.Goals as goal
 
 pub invariant_of-self : goal.invariant_of-self
 invariant_of-self c =
+    let texts = texts_of c.self.inside.kept.items in
+    (c.self.invariant.0, c.self.invariant.1, AreTos-some texts c.self.inside.tos c.drop_newest.new.self c.self.invariant.2 c.drop_newest.ensures)
+
+pub invariant_of-self-in_default : goal.invariant_of-self-in_default
+invariant_of-self-in_default c =
+    let texts = texts_of c.self.inside.kept.items in
+    let tos = c.drop_newest.new.self in
+    let same = sym (ap texts_of c.in_default.ensures.none) in
+    let beside = AreTos-some texts c.self.inside.tos tos c.self.invariant.2 c.drop_newest.ensures in (
+      subst IsBook same c.self.invariant.0,
+      subst (λ ts. StandInRuns ts c.self.inside.order.items c.self.inside.loose) same c.self.invariant.1,
+      subst (λ ts. AreTos ts tos) same beside,
+    )
+
+pub invariant_of-self-in-Some : goal.invariant_of-self-in-Some
+invariant_of-self-in-Some c =
     let old = c.self.inside.kept.items in
     let new = c.pop_newest.new.kept.items in
     let runs = c.self.inside.order.items in
-    let tos = c.self.inside.tos in
+    let tos = c.drop_newest.new.self in
     let newest = c.in-Some.newest in
     let some : is_some c.self.inside.loose ≡ true = search rules in
     let below = c.are_below.ensures (search rules) in
     let is = texts_split old new newest c.in-Some.ensures.some.1 ∙ ap (λ n. texts_of new ++ (n, newest.bytes.items) ∷ []) c.in-Some.ensures.some.0 in
-    kept_front (texts_of old) (texts_of new) runs tos c.args.number newest.bytes.items c.self.inside.loose some c.self.invariant below is
+    let beside = AreTos-some (texts_of old) c.self.inside.tos tos c.self.invariant.2 c.drop_newest.ensures in
+    kept_front (texts_of old) (texts_of new) runs tos c.args.number newest.bytes.items c.self.inside.loose some (c.self.invariant.0, c.self.invariant.1, beside) below is

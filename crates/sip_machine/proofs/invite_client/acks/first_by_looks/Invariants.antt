@@ -1,0 +1,9 @@
+use Rattle.std.proofs.Common.{◌<◌, ◌-◌, ◌^◌}
+use Rattle.sip_machine.proofs.invite_client.acks.first_by_looks.Given as goal
+
+-- some debts are looked at
+abbrev pub invariant-loop-debts : goal.invariant-loop-debts
+invariant-loop-debts l = (0 < l.most) × (l.most < 2 ^ 64)
+
+abbrev pub decreases-loop-debts : goal.decreases-loop-debts
+decreases-loop-debts l = 2 ^ 64 - l.most

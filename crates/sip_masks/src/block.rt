@@ -2,7 +2,7 @@
 ghost use Rattle.std.specs.Prelude.{◌≡◌, ℕ, ◌+◌, ◌<◌, ◌≤◌, ◌==◌, get_or, length};
 ghost use Rattle.sip_masks.specs.Bits.{test};
 ghost use Rattle.sip_masks.specs.Marks.{is_other, is_control};
-ghost use Rattle.sip_masks.specs.inner.Strange.{is_strange};
+ghost use Rattle.sip_masks.specs.inner.Strange.{is_beyond};
 
 use std::simd::prelude::*;
 
@@ -62,15 +62,21 @@ pub(crate) fn tail(text: &[u8], at: usize) -> u8x64
     u8x64::from_array(last)
 }
 
-// A bit for each byte that stands in no name of a host.
+// The bytes of a hostname, with the bit of small letters set, go from `-` up to `z`, which are so many bytes.
+const FIRST: u8 = b'-';
+
+const COUNT: u8 = 78;
+
+// A bit for each byte that is not from `-` up to `z` with the bit of small letters set. Of plain bytes these are the ones that stand in no
+// name of a host.
 #[inline(always)]
-pub(crate) fn strangers(v: u8x32) -> u64
-    ensures { (i : ℕ) → i < 32 → test result i ≡ is_strange (get_or v i 0) }
+pub(crate) fn beyond(v: u8x32) -> u64
+    ensures { (i : ℕ) → i < 32 → test result i ≡ is_beyond (get_or v i 0) }
 {
-    let letters = ((v | u8x32::splat(0x20)) - u8x32::splat(b'a')).simd_ge(u8x32::splat(26));
-    let digits = (v - u8x32::splat(b'0')).simd_ge(u8x32::splat(10));
-    let marks = v.simd_ne(u8x32::splat(b'.')) & v.simd_ne(u8x32::splat(b'-'));
-    (letters & digits & marks).to_bitmask()
+    let small = v | u8x32::splat(0x20);
+    (small - u8x32::splat(FIRST))
+        .simd_ge(u8x32::splat(COUNT))
+        .to_bitmask()
 }
 
 // A bit for each byte that is equal to this one.

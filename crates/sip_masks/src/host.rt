@@ -1,37 +1,61 @@
 //! Names of hosts, by bit sets.
-ghost use Rattle.std.specs.Prelude.{IsTrue, take};
+ghost use Rattle.std.specs.Prelude.{◌≡◌, ◌+◌, ◌<◌, ◌≤◌, ℕ, true, false, IsTrue, IfSome, take, drop, length};
+ghost use Rattle.std.specs.List.{prefix_len};
 ghost use Rattle.sip_standard.specs.Profile.{Hostname};
+ghost use Rattle.sip_masks.specs.Bits.{test};
+ghost use Rattle.sip_masks.specs.Marks.{is_plain};
 
-use crate::block::{equal_to, strangers};
+use crate::block::{beyond, equal_to};
+use crate::masks::Masks;
 use std::simd::prelude::*;
 
 // The longest name that the quick test looks at, in bytes.
 const LONGEST: usize = 32;
 
-/// Whether the first `len` bytes of the window are a hostname of an ordinary kind: one of at most 32 bytes that no dot ends.
-/// Where the answer is no, they may still be a hostname, of another kind or in a window of fewer than 32 bytes.
-pub fn is_ordinary_name(window: &[u8], len: usize) -> bool
+impl<'t, 'm> Masks<'t, 'm> {
+    /// The length of the run of plain bytes at p, if the run is a hostname of an ordinary kind: one of at most 32 bytes that no dot ends.
+    /// Where there is no answer, a hostname of another kind may stand there, or one after whose first byte fewer than 31 are left.
+    #[inline]
+    pub fn name_at(&self, p: usize) -> Option<usize>
+        requires { p ≤ length self.now }
+        ensures { IfSome result (λ len. (p + len ≤ length self.now) × Hostname (take len (drop p self.now))) }
+    {
+        let rest = &self.text()[p..];
+        let len = self.short_run_at(p)?;
+        if is_ordinary_name(rest, len) {
+            Some(len)
+        } else {
+            None
+        }
+    }
+}
+
+// Whether the first `len` bytes of the window, which are plain, are a hostname of an ordinary kind. Where the answer is no, they may
+// still be a hostname, of another kind or in a window of fewer than 32 bytes.
+#[inline(always)]
+fn is_ordinary_name(window: &[u8], len: usize) -> bool
+    requires { len ≤ prefix_len is_plain window.now }
     ensures { IsTrue result → Hostname (take len window.now) }
 {
     if len == 0 || len > LONGEST || window.len() < LONGEST {
         return false;
     }
     let v = u8x32::from_slice(window);
-    let dots = equal_to(v, b'.');
-    let hyphens = equal_to(v, b'-');
     let all = !0u64 >> (64 - len);
+    // After the name a dot is taken to stand, as before it.
+    let dots = (equal_to(v, b'.') & all) | (1 << len);
+    let hyphens = equal_to(v, b'-') & all;
     let begins = (dots << 1) | 1;
-    let bad = strangers(v) | (begins & (dots | hyphens)) | (dots & (hyphens << 1));
-    if bad & all != 0 {
-        return false;
-    }
-    let inner = dots & all;
-    let top = 64 - inner.leading_zeros() as usize;
-    if top >= len || inner >> top != 0 {
-        return false;
-    }
-    if top != 0 && window[top - 1] != b'.' {
-        return false;
-    }
-    window[len - 1] != b'-' && window[top].is_ascii_alphabetic()
+    let bad = (beyond(v) & all) | (begins & (dots | hyphens)) | (dots & (hyphens << 1));
+    bad == 0 && window[highest(begins & all)].is_ascii_alphabetic()
+}
+
+// The place of the highest bit that is set.
+#[inline(always)]
+fn highest(word: u64) -> usize
+    requires { 0 < word }
+    ensures set { test word result ≡ true }
+    ensures above { (j : ℕ) → result < j → test word j ≡ false }
+{
+    63 - word.leading_zeros() as usize
 }

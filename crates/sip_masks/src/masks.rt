@@ -1,5 +1,5 @@
 //! The masks of a text.
-ghost use Rattle.std.specs.Prelude.{◌≡◌, ℕ, false, not, ◌+◌, ◌-◌, ◌*◌, ◌/◌, ◌%◌, ◌<◌, ◌≤◌, get_or, length, take, drop};
+ghost use Rattle.std.specs.Prelude.{◌≡◌, ℕ, false, not, ◌+◌, ◌-◌, ◌*◌, ◌/◌, ◌%◌, ◌<◌, ◌≤◌, IfSome, get_or, length, take, drop};
 ghost use Rattle.std.specs.List.{prefix_len};
 ghost use Rattle.sip_masks.specs.Bits.{test};
 ghost use Rattle.sip_masks.specs.Marks.{is_plain, is_control, is_other, BitsTell, words_for};
@@ -116,11 +116,23 @@ impl<'t, 'm> Masks<'t, 'm> {
         requires { p ≤ length self.now }
         ensures { result ≡ prefix_len is_plain (drop p self.now) }
     {
-        let word = word_at(self.others, p);
-        if word != 0 {
-            return word.trailing_zeros() as usize;
+        match self.short_run_at(p) {
+            Some(len) => len,
+            None => self.long_run(p),
         }
-        self.long_run(p)
+    }
+
+    /// The length of the run of plain bytes at p, if it is less than 64.
+    #[inline(always)]
+    pub fn short_run_at(&self, p: usize) -> Option<usize>
+        requires { p ≤ length self.now }
+        ensures { IfSome result (λ len. len ≡ prefix_len is_plain (drop p self.now)) }
+    {
+        let word = word_at(self.others, p);
+        if word == 0 {
+            return None;
+        }
+        Some(word.trailing_zeros() as usize)
     }
 
     // The length of the run of plain bytes at p, however long it is.

@@ -10,7 +10,7 @@ ghost use Rattle.sip_message.specs.inner.AddressFronts.{Words};
 ghost use Rattle.sip_message.specs.inner.Plain.{segment, LiesWithin, PlainRun, PlainParam, HostPort, SomeUri, Opening, SomeParams, SomeAddress};
 
 use crate::params::cut_quoted;
-use sip_masks::{Masks, is_ordinary_name};
+use sip_masks::Masks;
 use sip_text::{Host, is_port, read_host};
 
 /// Whether an address stands from one place up to another, with a URI in `<` and `>`.
@@ -78,6 +78,7 @@ fn past_plain_quoted(masks: &Masks<'_, '_>, at: usize, end: usize) -> Option<usi
 }
 
 // The place after the plain runs, with a SP between any two, that stand at `at`.
+#[inline(always)]
 fn past_words(masks: &Masks<'_, '_>, at: usize, end: usize) -> Option<usize>
     requires { end ≤ length masks.now }
     ensures { IfSome result (LiesWithin Words masks.now at end) }
@@ -134,40 +135,53 @@ fn past_hostport(masks: &Masks<'_, '_>, at: usize, end: usize) -> Option<usize>
     requires { end ≤ length masks.now }
     ensures { IfSome result (LiesWithin HostPort masks.now at end) }
 {
-    let host = past_run(masks, at, end)?;
-    if !is_host_at(masks.text(), at, host) {
-        return None;
-    }
+    let host = past_any_host(masks, at, end)?;
     match past_byte(masks, host, end, b':') {
         Some(port) => past_port(masks, port, end),
         None => Some(host),
     }
 }
 
-// Whether a host stands between two places.
+// The place after the host that stands at `at`. Most hosts are names of an ordinary kind.
 #[inline]
-fn is_host_at(text: &[u8], at: usize, to: usize) -> bool
-    requires { (at ≤ to) × (to ≤ length text.now) }
-    ensures { IsTrue result → (host : HostParts) × HostText (segment at to text.now) host }
+fn past_any_host(masks: &Masks<'_, '_>, at: usize, end: usize) -> Option<usize>
+    requires { end ≤ length masks.now }
+    ensures { IfSome result (LiesWithin (λ u. (host : HostParts) × HostText u host) masks.now at end) }
 {
-    is_name_at(text, at, to) || is_host(&text[at..to])
+    match past_hostname(masks, at, end) {
+        Some(to) => Some(to),
+        None => {
+            let (_, to) = past_other_host(masks, at, end)?;
+            Some(to)
+        }
+    }
 }
 
-// Whether the text is a host.
+// The place after the hostname of an ordinary kind that stands at `at`.
+#[inline]
+fn past_hostname(masks: &Masks<'_, '_>, at: usize, end: usize) -> Option<usize>
+    requires { end ≤ length masks.now }
+    ensures { IfSome result (LiesWithin Hostname masks.now at end) }
+{
+    if at >= end {
+        return None;
+    }
+    let len = masks.name_at(at)?;
+    if len > end - at {
+        return None;
+    }
+    Some(at + len)
+}
+
+// The host of any kind that the plain run at `at` is, and the place after it.
 #[inline(never)]
-fn is_host(text: &[u8]) -> bool
-    ensures { IsTrue result → (host : HostParts) × HostText text.now host }
+fn past_other_host<'a>(masks: &Masks<'a, '_>, at: usize, end: usize) -> Option<(Host<'a>, usize)>
+    requires { end ≤ length masks.now }
+    ensures { IfSome result (λ found. LiesWithin (λ u. HostText u (host_parts found.0)) masks.now at end found.1) }
 {
-    read_host(text).is_some()
-}
-
-// Whether a hostname of an ordinary kind stands between two places. Most hosts are such names.
-#[inline]
-fn is_name_at(text: &[u8], at: usize, to: usize) -> bool
-    requires { (at ≤ to) × (to ≤ length text.now) }
-    ensures { IsTrue result → Hostname (segment at to text.now) }
-{
-    is_ordinary_name(&text[at..], to - at)
+    let to = past_run(masks, at, end)?;
+    let host = read_host(&masks.text()[at..to])?;
+    Some((host, to))
 }
 
 /// The host that stands at `at`, and the place after it.
@@ -180,21 +194,10 @@ pub(crate) fn past_host<'a>(
     requires { end ≤ length masks.now }
     ensures { IfSome result (λ found. LiesWithin (λ u. HostText u (host_parts found.0)) masks.now at end found.1) }
 {
-    let to = past_run(masks, at, end)?;
-    let host = host_at(masks.text(), at, to)?;
-    Some((host, to))
-}
-
-// The host that stands between two places.
-#[inline(always)]
-fn host_at(text: &[u8], at: usize, to: usize) -> Option<Host<'_>>
-    requires { (at ≤ to) × (to ≤ length text.now) }
-    ensures { IfSome result (λ host. HostText (segment at to text.now) (host_parts host)) }
-{
-    if is_name_at(text, at, to) {
-        return Some(Host::Name(&text[at..to]));
+    if let Some(to) = past_hostname(masks, at, end) {
+        return Some((Host::Name(&masks.text()[at..to]), to));
     }
-    read_host(&text[at..to])
+    past_other_host(masks, at, end)
 }
 
 /// The place after the port that stands at `at`.
@@ -242,13 +245,13 @@ pub(crate) fn past_param<'a>(
     let Some(first) = past_byte(masks, behind, end, b'=') else {
         return Some((name, None, behind));
     };
-    let to = past_run(masks, first, end)?;
+    let to = past_any_run(masks, first, end)?;
     Some((name, Some(&masks.text()[first..to]), to))
 }
 
-/// The place after the run of plain bytes that stands at `at`.
+/// The place after the run of plain bytes that stands at `at`, however long it is.
 #[inline]
-pub(crate) fn past_run(masks: &Masks<'_, '_>, at: usize, end: usize) -> Option<usize>
+pub(crate) fn past_any_run(masks: &Masks<'_, '_>, at: usize, end: usize) -> Option<usize>
     requires { end ≤ length masks.now }
     ensures { IfSome result (LiesWithin PlainRun masks.now at end) }
 {
@@ -256,6 +259,22 @@ pub(crate) fn past_run(masks: &Masks<'_, '_>, at: usize, end: usize) -> Option<u
         return None;
     }
     let len = masks.run_at(at);
+    if len == 0 || len > end - at {
+        return None;
+    }
+    Some(at + len)
+}
+
+/// The place after the run of plain bytes that stands at `at`, if it has fewer than 64.
+#[inline(always)]
+pub(crate) fn past_run(masks: &Masks<'_, '_>, at: usize, end: usize) -> Option<usize>
+    requires { end ≤ length masks.now }
+    ensures { IfSome result (LiesWithin PlainRun masks.now at end) }
+{
+    if at >= end {
+        return None;
+    }
+    let len = masks.short_run_at(at)?;
     if len == 0 || len > end - at {
         return None;
     }

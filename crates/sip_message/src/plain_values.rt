@@ -7,7 +7,7 @@ ghost use Rattle.sip_message.specs.inner.Values.{Digits, CSeqValue};
 ghost use Rattle.sip_message.specs.ValueParts.{cseq_parts};
 ghost use Rattle.sip_message.specs.inner.Plain.{segment};
 
-use crate::plain::{past_byte, past_run};
+use crate::plain::{past_any_run, past_byte, past_run};
 use crate::values::{CSeq, is_call_id, read_cseq};
 use sip_masks::Masks;
 
@@ -25,7 +25,7 @@ fn is_plain_call_id(masks: &Masks<'_, '_>, at: usize, end: usize) -> bool
     requires { end ≤ length masks.now }
     ensures { IsTrue result → CallId (segment at end masks.now) }
 {
-    let Some(word) = past_run(masks, at, end) else {
+    let Some(word) = past_any_run(masks, at, end) else {
         return false;
     };
     if word == end {
@@ -34,7 +34,7 @@ fn is_plain_call_id(masks: &Masks<'_, '_>, at: usize, end: usize) -> bool
     let Some(other) = past_byte(masks, word, end, b'@') else {
         return false;
     };
-    match past_run(masks, other, end) {
+    match past_any_run(masks, other, end) {
         Some(to) => to == end,
         None => false,
     }

@@ -40,6 +40,7 @@ pub(crate) fn plain_via<'a>(masks: &Masks<'a, '_>, at: usize, end: usize) -> Opt
 }
 
 // The port that stands at `at` after its `:`, if there is one, and the place after it.
+#[inline(always)]
 fn past_led_port<'a>(
     masks: &Masks<'a, '_>,
     at: usize,

@@ -72,6 +72,7 @@ fn front(bytes: &[u8]) -> &[u8]
 
 // The place of the empty line after the field lines from `at` on, where these are ordinary ones. Their
 // fields are put into the vector, and what is asked for is kept in `asked`.
+#[inline(never)]
 fn ordinary_fields<'a>(
     masks: &Masks<'a, '_>,
     from: usize,
@@ -205,14 +206,24 @@ fn keep_via<'a>(masks: &Masks<'a, '_>, at: usize, end: usize, kept: &mut Option<
     requires { (at ≤ end) × (end ≤ length masks.now) }
     ensures { KeepsVia (segment at end masks.now) result kept.old kept.new }
 {
+    if kept.is_none() {
+        if let Some(via) = plain_via(masks, at, end) {
+            *kept = Some(via);
+            return true;
+        }
+    }
+    keep_any_via(&masks.text()[at..end], kept)
+}
+
+// The same for the elements of a text. It is seldom called, and is a call so that `keep_via` clears no place for what it reads.
+#[inline(never)]
+fn keep_any_via<'a>(text: &'a [u8], kept: &mut Option<Via<'a>>) -> bool
+    ensures { KeepsVia text.entry.now result kept.old kept.new }
+{
     if kept.is_some() {
-        return first_via(&masks.text()[at..end]).is_some();
+        return first_via(text).is_some();
     }
-    if let Some(via) = plain_via(masks, at, end) {
-        *kept = Some(via);
-        return true;
-    }
-    *kept = first_via(&masks.text()[at..end]);
+    *kept = first_via(text);
     kept.is_some()
 }
 

@@ -1,8 +1,7 @@
 -- Bytes by which a name of a host is told.
-use Rattle.std.specs.Prelude.{ℕ, Bool, not, ◌&&◌, ◌==◌}
-use Rattle.std.specs.Char.{is_ascii_alphanumeric}
-use Rattle.sip_text.specs.Bytes.{dot, hyphen}
+use Rattle.std.specs.Prelude.{ℕ, Bool, not, bit_or}
+use Rattle.std.specs.Int.{is_in_range}
 
--- a byte that stands in no name of a host
-abbrev pub is_strange : ℕ → Bool
-is_strange byte = (not (is_ascii_alphanumeric byte) && not (byte == dot)) && not (byte == hyphen)
+-- a byte that is not from `-` up to `z` with the bit of small letters set; a plain byte that is none of these may stand in a name of a host
+abbrev pub is_beyond : ℕ → Bool
+is_beyond byte = not (is_in_range 45 122 (bit_or byte 32))

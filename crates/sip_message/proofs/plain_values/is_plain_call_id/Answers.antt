@@ -13,13 +13,13 @@ returns-then-word-end c = λ _.
     let run = subst (LiesWithin PlainRun m c.args.at c.args.end) c.if-word-end.true c.in-Some.ensures in
     call_id-one (segment c.args.at c.args.end m) run.2
 
-pub returns-in-Some-past_run : goal.returns-in-Some-past_run
-returns-in-Some-past_run c = λ so.
+pub returns-in-Some-past_any_run : goal.returns-in-Some-past_any_run
+returns-in-Some-past_any_run c = λ so.
     let m = c.args.masks.now in
     let end = c.args.end in
     let word = c.in-Some.word in
     let other = c.in-Some-past_byte.other in
-    let run = subst (LiesWithin PlainRun m other end) (eqb-true _ _ so) c.in-Some-past_run.ensures in
+    let run = subst (LiesWithin PlainRun m other end) (eqb-true _ _ so) c.in-Some-past_any_run.ensures in
     call_id-two (segment c.args.at end m)
     (then-stands PlainRun (Byte at_sign then PlainRun) m c.args.at end word end c.in-Some.ensures
     (then-stands (Byte at_sign) PlainRun m word end other end c.in-Some-past_byte.ensures run)).2

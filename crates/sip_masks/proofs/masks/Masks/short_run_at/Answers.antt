@@ -3,7 +3,7 @@ use Rattle.std.specs.Int.{trailing_zeros}
 use Rattle.std.specs.List.{prefix_len}
 use Rattle.sip_masks.specs.Marks.{is_plain, is_other}
 use Rattle.sip_masks.proofs.RunLemmas.{stops-at}
-use Rattle.sip_masks.proofs.masks.Masks.run_at.Goals as goal
+use Rattle.sip_masks.proofs.masks.Masks.short_run_at.Goals as goal
 
 pub returns-then-word-ne0 : goal.returns-then-word-ne0
 returns-then-word-ne0 c =

@@ -1,0 +1,8 @@
+use Rattle.std.proofs.Common.{arith}
+use Rattle.sip_message.proofs.PlainLemmas.{run-stands}
+use Rattle.sip_message.proofs.plain.past_any_run.Goals as goal
+
+pub returns : goal.returns
+returns c =
+    run-stands c.args.masks.now c.args.at c.args.end c.run_at-len.result (omega (arith, c.if-at-end.false)) c.requires c.run_at-len.ensures
+    (omega (arith, c.if-len-eq0.false)) (omega (arith, c.if-len-end.false))

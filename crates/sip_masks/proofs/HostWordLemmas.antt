@@ -182,9 +182,9 @@ module _ (window : List ℕ) (len bs ds hs : ℕ) (room : 32 ≤ length window) 
   -- the last label begins within the text
   pub top-within : (top : ℕ) → test (bit_and begin_word all) top ≡ true → top < len
   top-within top set = elim (cases_lt top len) [
-      | inl low ↦ low
-      | inr high ↦ absurd (false≢true (sym (test-and begin_word all top ∙ ap (λ b. test begin_word top && b) (ones-high len top high small) ∙ and-false (test begin_word top)) ∙ set))
-    ]
+    | inl low ↦ low
+    | inr high ↦ absurd (false≢true (sym (test-and begin_word all top ∙ ap (λ b. test begin_word top && b) (ones-high len top high small) ∙ and-false (test begin_word top)) ∙ set))
+  ]
 
   -- the first len bytes of the window are a hostname where no bit is bad, and a letter is where the last label begins
   pub host-from : (top : ℕ) → bad_word ≡ 0 → test (bit_and begin_word all) top ≡ true → ((j : ℕ) → top < j → test (bit_and begin_word all) j ≡ false) → is_ascii_alphabetic (get_or window top 0) ≡ true → Hostname (take len window)

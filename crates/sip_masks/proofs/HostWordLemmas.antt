@@ -194,7 +194,7 @@ module _ (window : List ℕ) (len bs ds hs : ℕ) (room : 32 ≤ length window) 
       let below : i < len = omega (arith, h, long) in
       sym (bad-is i below) ∙ none-set bad_word i none) in
       let front : (prev_is top == dot) ≡ true = sym (begins-is top (omega (arith, within))) ∙ sym (masked begin_word top within) ∙ set in
-      let no_dots = λ (i : ℕ) (from : top ≤ i) (h : i < length text). elim (cases_lt (suc i) len) [
+      let no_dots : (i : ℕ) → top ≤ i → i < length text → (get_or text i 0 == dot) ≡ false = λ i from h. elim (cases_lt (suc i) len) [
         | inl inner ↦ sym (begins-is (suc i) (omega (arith, inner))) ∙ sym (masked begin_word (suc i) inner) ∙ above (suc i) (omega (arith, from))
         | inr last ↦
             let is : len ≡ suc i = omega (arith, last, h, long) in

@@ -1,3 +1,6 @@
+pub mod account
 pub mod debts
+pub mod gains
 pub mod lists
-pub mod places
+pub mod rows
+pub mod strikes

@@ -1,4 +1,4 @@
 pub mod ListedLemmas
+pub mod OwedLemmas
 pub mod PayLemmas
-pub mod RowLemmas
 pub mod RunLemmas

@@ -2,7 +2,7 @@ use Rattle.std.specs.Prelude.{ℕ, Bool, List, [], ◌≡◌, ◌↔◌, ◌==�
 use Rattle.std.specs.List.{list_any, sum_by}
 use Rattle.sip_ledger.specs.declared.debt.Debt.{Debt}
 use Rattle.sip_ledger.specs.Debts.{counts_at, is_payable, is_timely, paid_by}
-use Rattle.sip_ledger.specs.Ledgers.{Rise}
+use Rattle.sip_ledger.specs.Lists.{Rise}
 use Rattle.sip_ledger.specs.Prints.{mixed}
 
 -- What each of many states owes: a list of debts, oldest first.

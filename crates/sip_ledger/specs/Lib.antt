@@ -1,7 +1,7 @@
 pub mod Accounts
 pub mod Debts
-pub mod Rows
+pub mod Entries
 pub mod Runs
-pub mod Ledgers
+pub mod Lists
 pub mod Prints
 pub mod inner

@@ -1,4 +1,4 @@
 pub mod Accounts
+pub mod Deadlines
 pub mod Ends
 pub mod Indexes
-pub mod Places

@@ -7,7 +7,7 @@ use Rattle.std.proofs.lemmas.List.Elements.{All-nil, All-cons, All-head, All-tai
 use Rattle.sip_ledger.specs.declared.debt.Debt.{Debt}
 use Rattle.sip_ledger.specs.declared.debt.Entry.{Entry}
 use Rattle.sip_ledger.specs.Debts.{counts_at, softened_debt, debt_deadlines, earliest}
-use Rattle.sip_ledger.specs.Rows.{debt_of, debts_from, IsGap}
+use Rattle.sip_ledger.specs.Entries.{debt_of, debts_from, IsGap}
 
 -- what stands where there is no entry
 abbrev pub no_entry : Entry

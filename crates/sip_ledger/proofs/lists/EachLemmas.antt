@@ -2,7 +2,7 @@
 use Prim.Native.Nat.{suc, zero}
 use Rattle.std.proofs.Common.{Result, Ok, Err, OnErr, OnOk, is_err, true≢false, ◌≡◌, ◌<◌, ◌≤◌, ◌⊎◌, inl, inr, ℕ, ◌+◌, Bool, false, List, [], ◌∷◌, ◌++◌, length, drop, take, get_or, set, map, filter, refl, ap, ap₂, sym, ◌∙◌, arith, cond}
 use Rattle.std.proofs.lemmas.List.Elements.{filter_more}
-use Rattle.sip_ledger.specs.Ledgers.{from_to}
+use Rattle.sip_ledger.specs.Lists.{from_to}
 
 -- what holds always holds where a result is an error
 pub always_err : {T E : Type 0} (r : Result T E) (P : Type 0) → P → OnErr r P

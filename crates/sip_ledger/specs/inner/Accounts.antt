@@ -8,10 +8,10 @@ use Rattle.sip_ledger.specs.declared.accounts.gains.Gains.{Gains}
 use Rattle.sip_ledger.specs.declared.accounts.seek.Seek.{Seek}
 use Rattle.sip_ledger.specs.declared.accounts.strikes.Strike.{Strike}
 use Rattle.sip_ledger.specs.Accounts.{debts_print}
-use Rattle.sip_ledger.specs.Ledgers.{from_to}
-use Rattle.sip_ledger.specs.Rows.{debts_from}
+use Rattle.sip_ledger.specs.Lists.{from_to}
+use Rattle.sip_ledger.specs.Entries.{debts_from}
 use Rattle.sip_ledger.specs.inner.Indexes.{holds}
-use Rattle.sip_ledger.specs.inner.Places.{AreRising}
+use Rattle.sip_ledger.specs.inner.Deadlines.{AreRising}
 
 -- Accounts over one list of gains. A place is the number of a gain; from its place on, an account owes what it gained, but for what is struck.
 

@@ -3,7 +3,7 @@ ghost use Rattle.std.specs.Prelude.{◌≡◌, ◌≢◌, ◌↔◌, ◌<◌, �
 ghost use Rattle.std.specs.Bool.{OnTrue};
 ghost use Rattle.sip_ledger.specs.Debts.{counts_at, debt_deadlines, earliest, is_timely, paid_by};
 ghost use Rattle.sip_ledger.specs.Accounts.{worth_of};
-ghost use Rattle.sip_ledger.specs.Rows.{debt_of};
+ghost use Rattle.sip_ledger.specs.Entries.{debt_of};
 ghost use Rattle.sip_ledger.specs.declared.accounts.account.Account.{Account};
 ghost use Rattle.sip_ledger.specs.inner.Accounts.{AreAlike, AreGains, IsAccount, IsExpiredTo, IsFirstPayable, IsGainAt, IsKept, IsNextGain, IsPlaceOf, IsSeek, IsStruck, IsWithout, KeepsAccounts, SharesRest, account_debts, entries_of, entry_at, is_gone, is_struck, must_at, owes_at, pays_at, strikes_of};
 ghost use Rattle.sip_ledger.specs.inner.Indexes.{holds};

@@ -2,7 +2,7 @@
 ghost use Rattle.std.specs.Prelude.{◌≡◌, ◌<◌, ◌≤◌, ◌++◌, ◌∷◌, ◌+◌, ◌-◌, [], ℕ, IfOk, IfSome, OnOk, OnErr, drop, filter, get_or, length, map, option_to_list, take};
 ghost use Rattle.sip_ledger.specs.Accounts.{debts_print, owed_in, paid_rows};
 ghost use Rattle.sip_ledger.specs.Debts.{counts_at, is_timely};
-ghost use Rattle.sip_ledger.specs.Ledgers.{from_to};
+ghost use Rattle.sip_ledger.specs.Lists.{from_to};
 ghost use Rattle.sip_ledger.specs.inner.Accounts.{AreAccounts, AreGains, IsAccount, IsSeek, account_debts, accounts_debts};
 
 use crate::accounts::Accounts;

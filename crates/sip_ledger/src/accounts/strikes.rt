@@ -1,7 +1,7 @@
 //! What is not owed of what was gained.
 ghost use Rattle.std.specs.Prelude.{◌≡◌, ◌<◌, ◌≤◌, ◌+◌, ◌++◌, ℕ, true, false, IfOk, IfSome, IfNone, OnOk, OnErr, filter, length, take, nat_lt};
 ghost use Rattle.std.specs.Bool.{OnTrue, OnFalse};
-ghost use Rattle.sip_ledger.specs.Ledgers.{from_to};
+ghost use Rattle.sip_ledger.specs.Lists.{from_to};
 ghost use Rattle.sip_ledger.specs.inner.Accounts.{AreGains, IsKept, IsNoneBetween, IsStruck, IsWritten, Lengthens, Reaches, StrikeToo, is_out, is_struck};
 
 use crate::accounts::account::Account;

@@ -8,7 +8,7 @@ use Rattle.std.proofs.lemmas.List.Elements.{All-append, All-drop, All-filter, Al
 use Rattle.sip_ledger.specs.declared.debt.Debt.{Debt}
 use Rattle.sip_ledger.specs.Accounts.{debts_print, paid_rows}
 use Rattle.sip_ledger.specs.Debts.{counts_at, is_payable, is_timely, paid_by}
-use Rattle.sip_ledger.specs.Ledgers.{from_to}
+use Rattle.sip_ledger.specs.Lists.{from_to}
 use Rattle.sip_machine.specs.inner.Dues.{rows_in, AreBetween, AreDues}
 use Rattle.sip_machine.specs.Owes.{owed_in}
 use Rattle.sip_machine.specs.Prints.{ArePrints}

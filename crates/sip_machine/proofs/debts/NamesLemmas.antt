@@ -9,7 +9,7 @@ use Rattle.std.proofs.lemmas.List.Concat.{flat_map-append}
 use Rattle.std.proofs.lemmas.List.Elements.{All-head, All-tail, Contains-append_cases, Contains-append_left, Contains-append_right, Contains-get_or}
 use Rattle.sip_ledger.specs.declared.debt.Debt.{Debt}
 use Rattle.sip_ledger.specs.Accounts.{AppendsOwed, owes_message, some_owes}
-use Rattle.sip_ledger.specs.Ledgers.{from_to}
+use Rattle.sip_ledger.specs.Lists.{from_to}
 use Rattle.sip_machine.specs.Naming.{AppendsAll}
 use Rattle.sip_machine.specs.Owes.{owes_names}
 use Rattle.sip_machine.specs.Owing.{CodeOwing, owing_names}

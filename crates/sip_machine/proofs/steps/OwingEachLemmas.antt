@@ -10,7 +10,7 @@ use Rattle.sip_standard.specs.declared.action.Action.{Action}
 use Rattle.sip_standard.specs.declared.action.Action.TheVariants.{Sent, Received}
 use Rattle.sip_ledger.specs.declared.debt.Debt.{Debt}
 use Rattle.sip_ledger.specs.Debts.{debt_deadlines, is_payable, is_timely, is_within}
-use Rattle.sip_ledger.specs.Ledgers.{from_to}
+use Rattle.sip_ledger.specs.Lists.{from_to}
 use Rattle.sip_machine.specs.declared.phases.Change.TheVariants as code
 use Rattle.sip_machine.specs.declared.phases.Turn.{Turn}
 use Rattle.sip_standard.specs.Times.{Times}

@@ -3,7 +3,7 @@ ghost use Rattle.std.specs.Prelude.{◌≡◌, ◌<◌, ◌≤◌, ◌++◌, ◌
 ghost use Rattle.sip_ledger.specs.declared.debt.Debt.{Debt};
 ghost use Rattle.sip_ledger.specs.Accounts.{paid_rows};
 ghost use Rattle.sip_ledger.specs.Debts.{counts_at, is_timely};
-ghost use Rattle.sip_ledger.specs.Ledgers.{Rise, from_to};
+ghost use Rattle.sip_ledger.specs.Lists.{Rise, from_to};
 ghost use Rattle.sip_machine.specs.Owes.{owed_in};
 ghost use Rattle.sip_machine.specs.inner.Dues.{rows_in};
 

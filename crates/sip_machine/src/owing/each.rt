@@ -4,7 +4,7 @@ ghost use Rattle.std.specs.Option.{option_map};
 ghost use Rattle.std.specs.List.{HoldsAt};
 ghost use Rattle.sip_standard.specs.declared.action.Action.TheVariants.{Received, Sent};
 ghost use Rattle.sip_ledger.specs.declared.debt.Debt.{Debt};
-ghost use Rattle.sip_ledger.specs.Ledgers.{from_to};
+ghost use Rattle.sip_ledger.specs.Lists.{from_to};
 ghost use Rattle.sip_standard.specs.Window.{close_at};
 ghost use Rattle.sip_machine.specs.NumberedEvent.{FitsBook, KeepsMessage, event_in};
 ghost use Rattle.sip_machine.specs.Rules.{Covers, FromSome, Knows};

@@ -2,7 +2,7 @@
 ghost use Rattle.std.specs.Prelude.{◌≡◌, ◌<◌, ◌≤◌, ◌&&◌, ◌++◌, ℕ, All, OnOk, OnErr, filter, get_or, length, map, replicate};
 ghost use Rattle.std.specs.List.{HoldsAt, list_any};
 ghost use Rattle.sip_ledger.specs.Debts.{is_payable, is_timely};
-ghost use Rattle.sip_ledger.specs.Ledgers.{from_to};
+ghost use Rattle.sip_ledger.specs.Lists.{from_to};
 ghost use Rattle.sip_standard.specs.Times.{last_moment};
 ghost use Rattle.sip_machine.specs.Owing.{CodeOwing};
 ghost use Rattle.sip_machine.specs.inner.Effects.{led_by, repaid_at};

@@ -3,7 +3,7 @@ use Rattle.std.proofs.Math.Seq.{take-length}
 use Rattle.sip_ledger.specs.Accounts.{AppendsOwed}
 use Rattle.sip_ledger.specs.inner.Accounts.{accounts_debts}
 use Rattle.sip_ledger.proofs.lists.EachLemmas.{on_ok}
-use Rattle.sip_ledger.proofs.places.SeenLemmas.{on-err}
+use Rattle.sip_ledger.proofs.rows.SeenLemmas.{on-err}
 use Rattle.sip_ledger.proofs.accounts.Accounts.all_names.Goals as goal
 
 pub returns-then-is_err-clause-err : goal.returns-then-is_err-clause-err

@@ -1,7 +1,7 @@
 use Rattle.std.proofs.Common.{◌<◌, length, ap, ◌∙◌, arith}
 use Rattle.std.specs.List.{list_any}
 use Rattle.sip_ledger.specs.Debts.{is_payable}
-use Rattle.sip_ledger.proofs.places.SeenLemmas.{account-at, can-pay, row-inside}
+use Rattle.sip_ledger.proofs.rows.SeenLemmas.{account-at, can-pay, row-inside}
 use Rattle.sip_ledger.proofs.accounts.Accounts.can_pay.Goals as goal
 
 pub index-account-requires : goal.index-account-requires

@@ -1,7 +1,7 @@
 use Rattle.std.proofs.Common.{◌<◌, length, set, [], arith}
 use Rattle.std.proofs.Math.Seq.{take-length}
-use Rattle.sip_ledger.proofs.places.AccountLemmas.{empty-account, empty-debts}
-use Rattle.sip_ledger.proofs.places.SeenLemmas.{changed-to, row-inside}
+use Rattle.sip_ledger.proofs.account.AccountLemmas.{empty-account, empty-debts}
+use Rattle.sip_ledger.proofs.rows.SeenLemmas.{changed-to, row-inside}
 use Rattle.sip_ledger.proofs.accounts.Accounts.clear.Goals as goal
 
 pub index_mut-requires : goal.index_mut-requires

@@ -1,7 +1,7 @@
 use Rattle.std.proofs.Common.{◌<◌, length, set, arith}
 use Rattle.std.proofs.Math.Seq.{take-length}
 use Rattle.sip_ledger.specs.Accounts.{owed_in}
-use Rattle.sip_ledger.proofs.places.SeenLemmas.{account-at, changed-to, row-inside}
+use Rattle.sip_ledger.proofs.rows.SeenLemmas.{account-at, changed-to, row-inside}
 use Rattle.sip_ledger.proofs.accounts.Accounts.copy.Goals as goal
 
 pub index-requires : goal.index-requires

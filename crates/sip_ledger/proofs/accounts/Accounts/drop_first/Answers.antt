@@ -1,7 +1,7 @@
 use Rattle.std.proofs.Common.{◌≡◌, ◌≤◌, length, drop, min, sym, ap, ◌∙◌, ℕ, arith}
 use Rattle.std.proofs.lemmas.List.{drop_min}
 use Rattle.sip_ledger.specs.inner.Accounts.{accounts_debts}
-use Rattle.sip_ledger.proofs.places.AccountLemmas.{debts-length, without-first_rows}
+use Rattle.sip_ledger.proofs.account.AccountLemmas.{debts-length, without-first_rows}
 use Rattle.sip_ledger.proofs.accounts.Accounts.drop_first.Goals as goal
 
 pub drop_first-requires : goal.drop_first-requires

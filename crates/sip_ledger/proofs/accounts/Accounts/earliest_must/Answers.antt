@@ -2,7 +2,7 @@ use Rattle.std.proofs.Common.{◌<◌, length, ap, ◌∙◌, arith}
 use Rattle.sip_ledger.specs.declared.debt.Debt.{Debt}
 use Rattle.std.proofs.Common.{List}
 use Rattle.sip_ledger.specs.Debts.{debt_deadlines, earliest}
-use Rattle.sip_ledger.proofs.places.SeenLemmas.{account-at, row-inside}
+use Rattle.sip_ledger.proofs.rows.SeenLemmas.{account-at, row-inside}
 use Rattle.sip_ledger.proofs.accounts.Accounts.earliest_must.Goals as goal
 
 pub index-requires : goal.index-requires

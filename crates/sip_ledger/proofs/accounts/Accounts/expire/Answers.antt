@@ -1,7 +1,7 @@
 use Rattle.std.proofs.Common.{◌<◌, length, set, filter, ap, ◌∙◌, arith}
 use Rattle.sip_ledger.specs.Accounts.{owed_in}
 use Rattle.sip_ledger.specs.Debts.{counts_at}
-use Rattle.sip_ledger.proofs.places.SeenLemmas.{account-at, changed-to, on-error, row-inside, unchanged}
+use Rattle.sip_ledger.proofs.rows.SeenLemmas.{account-at, changed-to, on-error, row-inside, unchanged}
 use Rattle.sip_ledger.proofs.accounts.Accounts.expire.Goals as goal
 
 pub index-requires : goal.index-requires

@@ -2,8 +2,8 @@ use Rattle.std.proofs.Common.{arith, ◌∙◌, ap, sym, get_or, set, []}
 use Rattle.std.specs.Prelude.{filter, length, take}
 use Rattle.sip_ledger.specs.Debts.{counts_at}
 use Rattle.sip_ledger.proofs.lists.EachLemmas.{changing-all, changing-front, changing-length, changing-more, changing-none, on_ok}
-use Rattle.sip_ledger.proofs.places.GainEachLemmas.{none-past}
-use Rattle.sip_ledger.proofs.places.SeenLemmas.{on-err}
+use Rattle.sip_ledger.proofs.rows.GainEachLemmas.{none-past}
+use Rattle.sip_ledger.proofs.rows.SeenLemmas.{on-err}
 use Rattle.sip_ledger.proofs.accounts.Accounts.expire_each.Goals as goal
 
 pub returns-then-all_count-clause-ok : goal.returns-then-all_count-clause-ok

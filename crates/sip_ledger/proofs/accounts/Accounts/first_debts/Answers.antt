@@ -1,7 +1,7 @@
 use Rattle.std.proofs.Common.{◌≡◌, ◌<◌, length, take, ap, ◌∙◌, arith}
 use Rattle.std.proofs.lemmas.Result.{IfOk-weaker}
 use Rattle.sip_ledger.specs.Accounts.{owed_in}
-use Rattle.sip_ledger.proofs.places.SeenLemmas.{account-at, row-inside}
+use Rattle.sip_ledger.proofs.rows.SeenLemmas.{account-at, row-inside}
 use Rattle.sip_ledger.proofs.accounts.Accounts.first_debts.Goals as goal
 
 pub index-requires : goal.index-requires

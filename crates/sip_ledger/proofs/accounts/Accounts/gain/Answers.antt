@@ -1,6 +1,6 @@
 use Rattle.std.proofs.Common.{◌<◌, length, set, [], ◌∷◌, ◌++◌, ap, ◌∙◌, arith}
 use Rattle.sip_ledger.specs.Accounts.{owed_in}
-use Rattle.sip_ledger.proofs.places.SeenLemmas.{account-at, changed-to, on-error, over-to, row-inside, unchanged}
+use Rattle.sip_ledger.proofs.rows.SeenLemmas.{account-at, changed-to, on-error, over-to, row-inside, unchanged}
 use Rattle.sip_ledger.proofs.accounts.Accounts.gain.Goals as goal
 
 pub index-account-requires : goal.index-account-requires

@@ -1,7 +1,7 @@
 use Rattle.std.proofs.Common.{◌≡◌, List, [], ◌∷◌, ◌++◌, drop, map, take, ap, ◌∙◌}
 use Rattle.sip_ledger.specs.declared.debt.Debt.{Debt}
 use Rattle.sip_ledger.proofs.lists.EachLemmas.{on_ok}
-use Rattle.sip_ledger.proofs.places.SeenLemmas.{on-err}
+use Rattle.sip_ledger.proofs.rows.SeenLemmas.{on-err}
 use Rattle.sip_ledger.proofs.accounts.Accounts.gain_each.Goals as goal
 
 pub returns-then-is_err-clause-err : goal.returns-then-is_err-clause-err

@@ -1,7 +1,7 @@
 use Rattle.std.proofs.Common.{List, ap, ◌∙◌, arith}
 use Rattle.sip_ledger.specs.declared.debt.Debt.{Debt}
 use Rattle.sip_ledger.specs.Debts.{is_timely}
-use Rattle.sip_ledger.proofs.places.SeenLemmas.{account-at, row-inside}
+use Rattle.sip_ledger.proofs.rows.SeenLemmas.{account-at, row-inside}
 use Rattle.sip_ledger.proofs.accounts.Accounts.is_timely.Goals as goal
 
 pub index-requires : goal.index-requires

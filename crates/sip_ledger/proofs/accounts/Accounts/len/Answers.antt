@@ -1,5 +1,5 @@
 use Rattle.std.proofs.Common.{length, ap, arith}
-use Rattle.sip_ledger.proofs.places.AccountLemmas.{debts-length}
+use Rattle.sip_ledger.proofs.account.AccountLemmas.{debts-length}
 use Rattle.sip_ledger.proofs.accounts.Accounts.len.Goals as goal
 
 pub returns : goal.returns

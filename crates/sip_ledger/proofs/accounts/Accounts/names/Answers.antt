@@ -2,7 +2,7 @@ use Rattle.std.proofs.Common.{◌≡◌, ◌<◌, ◌++◌, List, length, map, t
 use Rattle.std.proofs.Math.Seq.{take-length}
 use Rattle.sip_ledger.specs.declared.debt.Debt.{Debt}
 use Rattle.sip_ledger.specs.Accounts.{owed_in}
-use Rattle.sip_ledger.proofs.places.SeenLemmas.{account-at, row-inside}
+use Rattle.sip_ledger.proofs.rows.SeenLemmas.{account-at, row-inside}
 use Rattle.sip_ledger.proofs.accounts.Accounts.names.Goals as goal
 
 pub index-requires : goal.index-requires

@@ -1,6 +1,6 @@
 use Rattle.std.proofs.Common.{◌<◌, length, arith}
 use Rattle.sip_ledger.specs.Accounts.{owed_in}
-use Rattle.sip_ledger.proofs.places.SeenLemmas.{account-at, owes-nothing, row-inside}
+use Rattle.sip_ledger.proofs.rows.SeenLemmas.{account-at, owes-nothing, row-inside}
 use Rattle.sip_ledger.proofs.accounts.Accounts.owes_nothing.Goals as goal
 
 pub index-account-requires : goal.index-account-requires

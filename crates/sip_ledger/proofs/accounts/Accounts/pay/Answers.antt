@@ -2,9 +2,9 @@ use Rattle.std.proofs.Common.{◌<◌, length, set, sym, ap, ◌∙◌, arith}
 use Rattle.sip_ledger.specs.Accounts.{owed_in}
 use Rattle.sip_ledger.specs.Debts.{paid_by}
 use Rattle.sip_ledger.specs.inner.Accounts.{account_debts}
-use Rattle.sip_ledger.proofs.places.FindLemmas.{paid-account, unpaid-account}
+use Rattle.sip_ledger.proofs.account.FindLemmas.{paid-account, unpaid-account}
 use Rattle.sip_ledger.proofs.debts.PayLemmas.{unpaid-is}
-use Rattle.sip_ledger.proofs.places.SeenLemmas.{account-at, changed-to, on-error, row-inside, row-same, unchanged}
+use Rattle.sip_ledger.proofs.rows.SeenLemmas.{account-at, changed-to, on-error, row-inside, row-same, unchanged}
 use Rattle.sip_ledger.proofs.accounts.Accounts.pay.Goals as goal
 
 pub index-account-requires : goal.index-account-requires

@@ -1,6 +1,6 @@
 use Rattle.std.proofs.Common.{◌<◌, length, ap, ◌∙◌, arith}
 use Rattle.sip_ledger.specs.Accounts.{debts_print}
-use Rattle.sip_ledger.proofs.places.SeenLemmas.{account-at, row-inside}
+use Rattle.sip_ledger.proofs.rows.SeenLemmas.{account-at, row-inside}
 use Rattle.sip_ledger.proofs.accounts.Accounts.print.Goals as goal
 
 pub index-requires : goal.index-requires

@@ -1,6 +1,6 @@
 use Rattle.std.proofs.Common.{refl, [], ◌++◌, ◌∷◌, arith}
-use Rattle.sip_ledger.proofs.places.AccountLemmas.{empty-account, empty-debts}
-use Rattle.sip_ledger.proofs.places.SeenLemmas.{pushed-to}
+use Rattle.sip_ledger.proofs.account.AccountLemmas.{empty-account, empty-debts}
+use Rattle.sip_ledger.proofs.rows.SeenLemmas.{pushed-to}
 use Rattle.sip_ledger.proofs.accounts.Accounts.push.Goals as goal
 
 pub invariant_of-self-2 : goal.invariant_of-self-2

@@ -1,10 +1,10 @@
 use Rattle.std.proofs.Common.{◌≡◌, ◌≤◌, ◌++◌, length, take, ap, ◌∙◌, arith}
 use Rattle.sip_ledger.specs.Accounts.{paid_rows}
-use Rattle.sip_ledger.specs.Ledgers.{from_to}
+use Rattle.sip_ledger.specs.Lists.{from_to}
 use Rattle.sip_ledger.specs.inner.Accounts.{accounts_debts}
 use Rattle.sip_ledger.proofs.lists.EachLemmas.{on_ok}
-use Rattle.sip_ledger.proofs.places.AccountLemmas.{debts-length, truncated}
-use Rattle.sip_ledger.proofs.places.SeenLemmas.{on-err}
+use Rattle.sip_ledger.proofs.account.AccountLemmas.{debts-length, truncated}
+use Rattle.sip_ledger.proofs.rows.SeenLemmas.{on-err}
 use Rattle.sip_ledger.proofs.accounts.Accounts.push_paid.Goals as goal
 
 pub push_some-requires-clause-to : goal.push_some-requires-clause-to

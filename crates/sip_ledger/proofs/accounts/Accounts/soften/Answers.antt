@@ -3,8 +3,8 @@ use Rattle.std.proofs.Math.Seq.{take-length}
 use Rattle.sip_ledger.specs.Accounts.{owed_in}
 use Rattle.sip_ledger.specs.Debts.{softened_debt}
 use Rattle.sip_ledger.specs.inner.Accounts.{AreAccounts, accounts_debts, entries_of}
-use Rattle.sip_ledger.proofs.places.LeftLemmas.{entries-long}
-use Rattle.sip_ledger.proofs.places.SeenLemmas.{account-at, changed-to, row-inside, softened-account, softened_account}
+use Rattle.sip_ledger.proofs.gains.LeftLemmas.{entries-long}
+use Rattle.sip_ledger.proofs.rows.SeenLemmas.{account-at, changed-to, row-inside, softened-account, softened_account}
 use Rattle.sip_ledger.proofs.accounts.Accounts.soften.Goals as goal
 
 pub index-requires : goal.index-requires

@@ -1,5 +1,5 @@
 use Rattle.std.proofs.Common.{take, ap, ◌∙◌}
-use Rattle.sip_ledger.proofs.places.AccountLemmas.{truncated}
+use Rattle.sip_ledger.proofs.account.AccountLemmas.{truncated}
 use Rattle.sip_ledger.proofs.accounts.Accounts.truncate.Goals as goal
 
 pub returns : goal.returns

@@ -1,7 +1,7 @@
 use Rattle.std.proofs.Common.{◌≡◌, ◌<◌, ◌≤◌, ◌++◌, ◌∷◌, [], length, sym, ap₂, ◌∙◌, arith}
 use Rattle.sip_ledger.specs.inner.Accounts.{entries_of, must_at, owes_at}
-use Rattle.sip_ledger.proofs.places.AccountLemmas.{kept-from}
-use Rattle.sip_ledger.proofs.places.ToldLemmas.{all-told, front-more, front-start}
+use Rattle.sip_ledger.proofs.account.AccountLemmas.{kept-from}
+use Rattle.sip_ledger.proofs.account.ToldLemmas.{all-told, front-more, front-start}
 use Rattle.sip_ledger.proofs.accounts.account.debts.Goals as goal
 
 pub loop-place-init : goal.loop-place-init

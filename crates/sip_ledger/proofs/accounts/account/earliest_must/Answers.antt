@@ -1,6 +1,6 @@
 use Rattle.std.proofs.Common.{◌<◌, ◌≤◌, arith}
-use Rattle.sip_ledger.proofs.places.AccountLemmas.{kept-from}
-use Rattle.sip_ledger.proofs.places.ToldLemmas.{leading}
+use Rattle.sip_ledger.proofs.account.AccountLemmas.{kept-from}
+use Rattle.sip_ledger.proofs.account.ToldLemmas.{leading}
 use Rattle.sip_ledger.proofs.accounts.account.earliest_must.Goals as goal
 
 pub first_must-requires-clause-kept : goal.first_must-requires-clause-kept

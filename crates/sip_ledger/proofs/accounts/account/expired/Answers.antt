@@ -2,9 +2,9 @@ use Rattle.std.proofs.Common.{◌<◌, ◌≤◌, ◌∙◌, ap, filter, length,
 use Rattle.std.proofs.Math.Seq.{take-length}
 use Rattle.sip_ledger.specs.inner.Accounts.{entries_of, must_at, owes_at}
 use Rattle.sip_ledger.specs.Debts.{counts_at}
-use Rattle.sip_ledger.proofs.places.AccountLemmas.{empty-debts, kept-passed, kept-twice}
-use Rattle.sip_ledger.proofs.places.ExpiringLemmas.{expired-end, expired-rising, expired-start}
-use Rattle.sip_ledger.proofs.places.GainEachLemmas.{none-goes}
+use Rattle.sip_ledger.proofs.account.AccountLemmas.{empty-debts, kept-passed, kept-twice}
+use Rattle.sip_ledger.proofs.account.ExpiringLemmas.{expired-end, expired-rising, expired-start}
+use Rattle.sip_ledger.proofs.rows.GainEachLemmas.{none-goes}
 use Rattle.sip_ledger.proofs.accounts.account.expired.Goals as goal
 
 pub loop-place-init : goal.loop-place-init

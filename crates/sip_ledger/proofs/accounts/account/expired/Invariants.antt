@@ -1,6 +1,6 @@
 use Rattle.std.proofs.Common.{◌≡◌, ◌≤◌, ◌-◌, length, take}
 use Rattle.sip_ledger.specs.inner.Accounts.{IsAccount, entries_of, must_at, owes_at}
-use Rattle.sip_ledger.proofs.places.ExpiringLemmas.{IsExpiring}
+use Rattle.sip_ledger.proofs.account.ExpiringLemmas.{IsExpiring}
 use Rattle.sip_ledger.proofs.accounts.account.expired.Given as goal
 
 -- the account has lost what is past before the place

@@ -1,7 +1,7 @@
 use Rattle.std.proofs.Common.{sym, ◌∙◌}
 use Rattle.sip_ledger.specs.inner.Accounts.{entries_of, must_at, owes_at}
-use Rattle.sip_ledger.proofs.places.AccountLemmas.{soft-must}
-use Rattle.sip_ledger.proofs.places.ExpiringLemmas.{goes, stays-early, stays-must}
+use Rattle.sip_ledger.proofs.account.AccountLemmas.{soft-must}
+use Rattle.sip_ledger.proofs.account.ExpiringLemmas.{goes, stays-early, stays-must}
 use Rattle.sip_ledger.proofs.accounts.account.expired_at.Goals as goal
 
 pub returns-then-moment-entry-clause-gone : goal.returns-then-moment-entry-clause-gone

@@ -1,8 +1,8 @@
 use Rattle.std.proofs.Common.{◌<◌, ◌≤◌, length, sym, ◌∙◌, true≢false, arith}
 use Rattle.sip_ledger.specs.inner.Accounts.{entries_of, owes_at}
-use Rattle.sip_ledger.proofs.places.AccountLemmas.{owed-within}
-use Rattle.sip_ledger.proofs.places.FindLemmas.{first-payable, none-pays_late, none-pays_struck, none-pays_to}
-use Rattle.sip_ledger.proofs.places.WithoutLemmas.{before-start}
+use Rattle.sip_ledger.proofs.account.AccountLemmas.{owed-within}
+use Rattle.sip_ledger.proofs.account.FindLemmas.{first-payable, none-pays_late, none-pays_struck, none-pays_to}
+use Rattle.sip_ledger.proofs.account.WithoutLemmas.{before-start}
 use Rattle.sip_ledger.proofs.accounts.account.find.Goals as goal
 
 pub loop-place-init : goal.loop-place-init

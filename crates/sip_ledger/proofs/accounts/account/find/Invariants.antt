@@ -1,6 +1,6 @@
 use Rattle.std.proofs.Common.{◌≤◌, ◌-◌, length}
 use Rattle.sip_ledger.specs.inner.Accounts.{IsSeek, entries_of, owes_at}
-use Rattle.sip_ledger.proofs.places.FindLemmas.{NonePays}
+use Rattle.sip_ledger.proofs.account.FindLemmas.{NonePays}
 use Rattle.sip_ledger.proofs.accounts.account.find.Given as goal
 
 -- nothing that the account owes before the place is paid

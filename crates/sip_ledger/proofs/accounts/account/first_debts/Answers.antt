@@ -1,8 +1,8 @@
 use Rattle.std.proofs.Common.{◌≡◌, ◌<◌, ◌≤◌, ◌++◌, ◌∷◌, [], length, sym, take, ap, ap₂, ◌∙◌, arith}
 use Rattle.std.proofs.lemmas.List.{take_all}
 use Rattle.sip_ledger.specs.inner.Accounts.{entries_of, must_at, owes_at}
-use Rattle.sip_ledger.proofs.places.AccountLemmas.{kept-from}
-use Rattle.sip_ledger.proofs.places.ToldLemmas.{all-told, front-first, front-more, front-start}
+use Rattle.sip_ledger.proofs.account.AccountLemmas.{kept-from}
+use Rattle.sip_ledger.proofs.account.ToldLemmas.{all-told, front-first, front-more, front-start}
 use Rattle.sip_ledger.proofs.accounts.account.first_debts.Goals as goal
 
 pub loop-place-init : goal.loop-place-init

@@ -1,5 +1,5 @@
 use Rattle.std.proofs.Common.{◌%◌, ◌+◌, ◌^◌, ap, refl}
-use Rattle.sip_ledger.proofs.places.GainedLemmas.{first-gain, more-gain}
+use Rattle.sip_ledger.proofs.account.GainedLemmas.{first-gain, more-gain}
 use Rattle.sip_ledger.proofs.accounts.account.gained.Goals as goal
 
 pub returns-then-account-clause-account : goal.returns-then-account-clause-account

@@ -1,6 +1,6 @@
 use Rattle.std.proofs.Common.{◌≡◌, filter, ap, ◌∙◌}
 use Rattle.sip_ledger.specs.Debts.{counts_at}
-use Rattle.sip_ledger.proofs.places.AccountLemmas.{kept-twice}
+use Rattle.sip_ledger.proofs.account.AccountLemmas.{kept-twice}
 use Rattle.sip_ledger.proofs.accounts.account.gained_and_expired.Goals as goal
 
 pub returns-in_err-left-clause-kept : goal.returns-in_err-left-clause-kept

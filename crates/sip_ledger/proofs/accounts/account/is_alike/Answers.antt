@@ -1,5 +1,5 @@
 use Rattle.std.proofs.Common.{◌≡◌, ◌∙◌, sym}
-use Rattle.sip_ledger.proofs.places.ToldLemmas.{on-true}
+use Rattle.sip_ledger.proofs.account.ToldLemmas.{on-true}
 use Rattle.sip_ledger.proofs.accounts.account.is_alike.Goals as goal
 
 pub returns : goal.returns

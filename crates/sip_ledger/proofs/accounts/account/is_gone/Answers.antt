@@ -1,5 +1,5 @@
 use Rattle.std.proofs.Common.{◌≤◌, sym, ◌∙◌, arith}
-use Rattle.sip_ledger.proofs.places.LeftLemmas.{gone-left, gone-struck, gone-unleft}
+use Rattle.sip_ledger.proofs.gains.LeftLemmas.{gone-left, gone-struck, gone-unleft}
 use Rattle.sip_ledger.proofs.accounts.account.is_gone.Goals as goal
 
 pub returns-then-not-is_left : goal.returns-then-not-is_left

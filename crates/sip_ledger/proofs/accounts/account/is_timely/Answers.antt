@@ -1,5 +1,5 @@
 use Rattle.std.proofs.Common.{sym}
-use Rattle.sip_ledger.proofs.places.GainEachLemmas.{none-late}
+use Rattle.sip_ledger.proofs.rows.GainEachLemmas.{none-late}
 use Rattle.sip_ledger.proofs.accounts.account.is_timely.Goals as goal
 
 pub returns-then-all_count : goal.returns-then-all_count

@@ -1,8 +1,8 @@
 use Rattle.std.proofs.Common.{◌<◌, ◌≤◌, ◌⊎◌, inl, inr, length, sym, ◌∙◌, arith}
 use Rattle.std.proofs.lemmas.Bool.{cases_lt}
 use Rattle.sip_ledger.specs.inner.Accounts.{entries_of}
-use Rattle.sip_ledger.proofs.places.LeftLemmas.{entries-long, left-kept, owed-left}
-use Rattle.sip_ledger.proofs.places.ToldLemmas.{least-first, least-first_due, least-found, least-last, least-passed}
+use Rattle.sip_ledger.proofs.gains.LeftLemmas.{entries-long, left-kept, owed-left}
+use Rattle.sip_ledger.proofs.account.ToldLemmas.{least-first, least-first_due, least-found, least-last, least-passed}
 use Rattle.sip_ledger.proofs.accounts.account.least_must.Goals.{then-owes+else-gains, else-owes}
 use Rattle.sip_ledger.proofs.accounts.account.least_must.Goals as goal
 

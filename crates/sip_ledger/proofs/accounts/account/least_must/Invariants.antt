@@ -1,6 +1,6 @@
 use Rattle.std.proofs.Common.{◌-◌, length}
 use Rattle.sip_ledger.specs.inner.Accounts.{entries_of}
-use Rattle.sip_ledger.proofs.places.ToldLemmas.{IsLeastTo}
+use Rattle.sip_ledger.proofs.account.ToldLemmas.{IsLeastTo}
 use Rattle.sip_ledger.proofs.accounts.account.least_must.Given as goal
 
 -- `least` is the least deadline of what the account must send before the place

@@ -1,6 +1,6 @@
 use Rattle.std.proofs.Common.{ap, ◌∙◌}
 use Rattle.sip_ledger.specs.declared.accounts.gains.Flags.{Flags}
-use Rattle.sip_ledger.proofs.places.AccountLemmas.{must-below, must-from}
+use Rattle.sip_ledger.proofs.account.AccountLemmas.{must-below, must-from}
 use Rattle.sip_ledger.proofs.accounts.account.must.Goals as goal
 
 pub returns-then-place-account : goal.returns-then-place-account

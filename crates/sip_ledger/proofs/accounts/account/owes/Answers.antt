@@ -1,9 +1,9 @@
 use Rattle.std.proofs.Common.{◌≡◌, ◌≤◌, ◌∙◌, ap, not, sym, arith}
 use Rattle.std.specs.Prelude.{Bool, false, true}
 use Rattle.sip_ledger.specs.inner.Accounts.{is_gone, owes_at, strikes_of}
-use Rattle.sip_ledger.proofs.places.AccountLemmas.{kept-from, past-end}
-use Rattle.sip_ledger.proofs.places.FindLemmas.{owes-inside}
-use Rattle.sip_ledger.proofs.places.WithoutLemmas.{before-start}
+use Rattle.sip_ledger.proofs.account.AccountLemmas.{kept-from, past-end}
+use Rattle.sip_ledger.proofs.account.FindLemmas.{owes-inside}
+use Rattle.sip_ledger.proofs.account.WithoutLemmas.{before-start}
 use Rattle.sip_ledger.proofs.accounts.account.owes.Goals as goal
 
 pub returns-then-place-account : goal.returns-then-place-account

@@ -1,7 +1,7 @@
 use Rattle.std.proofs.Common.{◌≡◌, ◌<◌, ◌≤◌, length, arith}
 use Rattle.sip_ledger.specs.inner.Accounts.{entries_of}
-use Rattle.sip_ledger.proofs.places.AccountLemmas.{kept-passed}
-use Rattle.sip_ledger.proofs.places.StrikeLemmas.{struck-none}
+use Rattle.sip_ledger.proofs.account.AccountLemmas.{kept-passed}
+use Rattle.sip_ledger.proofs.strikes.StrikeLemmas.{struck-none}
 use Rattle.sip_ledger.proofs.accounts.account.pass_to.Goals as goal
 
 pub returns-then-account-place-clause-passed : goal.returns-then-account-place-clause-passed

@@ -1,8 +1,8 @@
 use Rattle.std.proofs.Common.{subst}
 use Rattle.sip_ledger.specs.inner.Accounts.{IsNextGain}
-use Rattle.sip_ledger.proofs.places.LeftLemmas.{entries-long}
-use Rattle.sip_ledger.proofs.places.AccountLemmas.{same-keeps}
-use Rattle.sip_ledger.proofs.places.GainedLemmas.{gain-keeps, new-gain}
+use Rattle.sip_ledger.proofs.gains.LeftLemmas.{entries-long}
+use Rattle.sip_ledger.proofs.account.AccountLemmas.{same-keeps}
+use Rattle.sip_ledger.proofs.account.GainedLemmas.{gain-keeps, new-gain}
 use Rattle.sip_ledger.proofs.accounts.account.place_for.Goals as goal
 
 pub returns-in_err-push-clause-kept : goal.returns-in_err-push-clause-kept

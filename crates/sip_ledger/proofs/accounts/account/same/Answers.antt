@@ -1,6 +1,6 @@
 use Rattle.std.proofs.Common.{refl, rules, ◌≡◌, ◌<◌, ◌≤◌, ◌∙◌, sym, arith}
-use Rattle.sip_ledger.proofs.places.AccountLemmas.{kept-from}
-use Rattle.sip_ledger.proofs.places.ToldLemmas.{alike-debts, at-more, at-start, end-other, end-same, rest-same}
+use Rattle.sip_ledger.proofs.account.AccountLemmas.{kept-from}
+use Rattle.sip_ledger.proofs.account.ToldLemmas.{alike-debts, at-more, at-start, end-other, end-same, rest-same}
 use Rattle.sip_ledger.proofs.accounts.account.same.Goals.{then-loop-at-test+else-beside-other, else-loop-at-test}
 use Rattle.sip_ledger.proofs.accounts.account.same.Goals as goal
 

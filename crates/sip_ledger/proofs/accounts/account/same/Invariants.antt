@@ -1,5 +1,5 @@
 use Rattle.std.proofs.Common.{◌-◌}
-use Rattle.sip_ledger.proofs.places.ToldLemmas.{AreAt}
+use Rattle.sip_ledger.proofs.account.ToldLemmas.{AreAt}
 use Rattle.sip_ledger.proofs.accounts.account.same.Given as goal
 
 -- what is left of both accounts is the same exactly if all that they owe is

@@ -1,6 +1,6 @@
 use Rattle.std.proofs.Common.{◌<◌, ◌≤◌, length, arith}
 use Rattle.sip_ledger.specs.inner.Accounts.{entries_of}
-use Rattle.sip_ledger.proofs.places.LeftLemmas.{entries-long}
+use Rattle.sip_ledger.proofs.gains.LeftLemmas.{entries-long}
 use Rattle.sip_ledger.proofs.accounts.account.shared_place.Goals as goal
 
 pub loop-place-smaller : goal.loop-place-smaller

@@ -1,5 +1,5 @@
 use Rattle.std.proofs.Common.{◌≡◌, ◌≤◌, refl}
-use Rattle.sip_ledger.proofs.places.ToldLemmas.{on-true, shares-rest}
+use Rattle.sip_ledger.proofs.account.ToldLemmas.{on-true, shares-rest}
 use Rattle.sip_ledger.proofs.accounts.account.shares_rest.Goals as goal
 
 pub returns-then-end_by : goal.returns-then-end_by

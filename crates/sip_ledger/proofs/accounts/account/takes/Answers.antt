@@ -2,7 +2,7 @@ use Rattle.std.proofs.Common.{rules, ◌≡◌, ◌<◌, length, ap, sym, ◌∙
 use Rattle.sip_ledger.specs.declared.accounts.gains.Flags.{Flags}
 use Rattle.sip_ledger.specs.declared.debt.Entry.{Entry}
 use Rattle.sip_ledger.specs.inner.Accounts.{entries_of}
-use Rattle.sip_ledger.proofs.places.LeftLemmas.{entries-long}
+use Rattle.sip_ledger.proofs.gains.LeftLemmas.{entries-long}
 use Rattle.sip_ledger.proofs.accounts.account.takes.Goals as goal
 
 pub returns-in-None : goal.returns-in-None

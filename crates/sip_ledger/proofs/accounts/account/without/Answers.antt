@@ -2,9 +2,9 @@ use Rattle.std.proofs.Common.{◌≡◌, ◌+◌, ◌≤◌, ◌∙◌, sym, sub
 use Rattle.sip_ledger.specs.declared.debt.Entry.{Entry}
 use Rattle.sip_ledger.specs.Accounts.{worth_of}
 use Rattle.sip_ledger.specs.inner.Accounts.{IsKept}
-use Rattle.sip_ledger.proofs.places.LeftLemmas.{entries-long, left-kept, owed-left}
-use Rattle.sip_ledger.proofs.places.AccountLemmas.{owed-within}
-use Rattle.sip_ledger.proofs.places.WithoutLemmas.{without-first, without-last, without-middle}
+use Rattle.sip_ledger.proofs.gains.LeftLemmas.{entries-long, left-kept, owed-left}
+use Rattle.sip_ledger.proofs.account.AccountLemmas.{owed-within}
+use Rattle.sip_ledger.proofs.account.WithoutLemmas.{without-first, without-last, without-middle}
 use Rattle.sip_ledger.proofs.accounts.account.without.Goals as goal
 
 pub overflow_sub-rest : goal.overflow_sub-rest

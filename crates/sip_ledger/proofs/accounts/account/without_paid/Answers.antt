@@ -1,7 +1,7 @@
 use Rattle.std.proofs.Common.{◌≡◌, sym, ◌∙◌}
 use Rattle.sip_ledger.specs.inner.Accounts.{account_debts}
 use Rattle.sip_ledger.proofs.debts.PayLemmas.{unpaid-is}
-use Rattle.sip_ledger.proofs.places.FindLemmas.{paid-account, unpaid-account}
+use Rattle.sip_ledger.proofs.account.FindLemmas.{paid-account, unpaid-account}
 use Rattle.sip_ledger.proofs.accounts.account.without_paid.Goals as goal
 
 pub without-requires-clause-owed : goal.without-requires-clause-owed

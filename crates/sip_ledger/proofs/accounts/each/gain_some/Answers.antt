@@ -1,9 +1,9 @@
 use Rattle.std.proofs.Common.{◌≡◌, ◌<◌, ◌≤◌, ◌+◌, length, set, subst, ◌∙◌, arith}
 use Rattle.sip_ledger.specs.inner.Accounts.{accounts_debts}
 use Rattle.sip_ledger.proofs.lists.EachLemmas.{changing-all}
-use Rattle.sip_ledger.proofs.places.AccountLemmas.{debts-length}
-use Rattle.sip_ledger.proofs.places.GainEachLemmas.{gained-at, gained-front, gained-grown, gained-inside, gained-more, gained-none, gained-over, with_debt}
-use Rattle.sip_ledger.proofs.places.SeenLemmas.{on-error}
+use Rattle.sip_ledger.proofs.account.AccountLemmas.{debts-length}
+use Rattle.sip_ledger.proofs.rows.GainEachLemmas.{gained-at, gained-front, gained-grown, gained-inside, gained-more, gained-none, gained-over, with_debt}
+use Rattle.sip_ledger.proofs.rows.SeenLemmas.{on-error}
 use Rattle.sip_ledger.proofs.accounts.each.gain_some.Goals as goal
 
 pub loop-row-init : goal.loop-row-init

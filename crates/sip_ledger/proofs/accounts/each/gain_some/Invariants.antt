@@ -1,7 +1,7 @@
 use Rattle.std.proofs.Common.{◌≤◌}
 use Rattle.std.specs.Prelude.{IfSome}
 use Rattle.sip_ledger.specs.inner.Accounts.{IsGainAt, accounts_debts}
-use Rattle.sip_ledger.proofs.places.GainEachLemmas.{HaveGained}
+use Rattle.sip_ledger.proofs.rows.GainEachLemmas.{HaveGained}
 use Rattle.sip_ledger.proofs.accounts.each.gain_some.Given as goal
 
 -- the rows before the index owe one debt more, and the last of them gained it at the place

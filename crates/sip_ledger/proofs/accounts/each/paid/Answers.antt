@@ -3,10 +3,10 @@ use Rattle.std.specs.Prelude.{Some, None}
 use Rattle.std.specs.List.{list_any}
 use Rattle.sip_ledger.specs.Debts.{counts_at, is_payable, is_timely}
 use Rattle.sip_ledger.specs.inner.Accounts.{account_debts}
-use Rattle.sip_ledger.proofs.places.AccountLemmas.{kept-twice}
-use Rattle.sip_ledger.proofs.places.FindLemmas.{paid-account}
-use Rattle.sip_ledger.proofs.places.PaidLemmas.{late-row, other-row, paid-row}
-use Rattle.sip_ledger.proofs.places.SeenLemmas.{can-pay}
+use Rattle.sip_ledger.proofs.account.AccountLemmas.{kept-twice}
+use Rattle.sip_ledger.proofs.account.FindLemmas.{paid-account}
+use Rattle.sip_ledger.proofs.rows.PaidLemmas.{late-row, other-row, paid-row}
+use Rattle.sip_ledger.proofs.rows.SeenLemmas.{can-pay}
 use Rattle.sip_ledger.proofs.accounts.each.paid.Goals as goal
 
 pub returns-then-not-is_timely-clause-debts : goal.returns-then-not-is_timely-clause-debts

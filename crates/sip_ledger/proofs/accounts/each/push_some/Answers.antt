@@ -3,9 +3,9 @@ use Rattle.sip_ledger.specs.declared.debt.Debt.{Debt}
 use Rattle.sip_ledger.specs.Accounts.{paid_rows}
 use Rattle.sip_ledger.specs.inner.Accounts.{AreAccounts, account_debts, accounts_debts}
 use Rattle.sip_ledger.proofs.lists.EachLemmas.{from_to-end, from_to-none}
-use Rattle.sip_ledger.proofs.places.AccountLemmas.{debts-length}
-use Rattle.sip_ledger.proofs.places.PaidLemmas.{ArePaidTo, account-there, paid-front, paid-grown, paid-next, paid-none, row-there}
-use Rattle.sip_ledger.proofs.places.SeenLemmas.{on-error}
+use Rattle.sip_ledger.proofs.account.AccountLemmas.{debts-length}
+use Rattle.sip_ledger.proofs.rows.PaidLemmas.{ArePaidTo, account-there, paid-front, paid-grown, paid-next, paid-none, row-there}
+use Rattle.sip_ledger.proofs.rows.SeenLemmas.{on-error}
 use Rattle.sip_ledger.proofs.accounts.each.push_some.Goals as goal
 
 pub loop-row-init : goal.loop-row-init

@@ -1,7 +1,7 @@
 use Rattle.std.proofs.Common.{◌≤◌}
 use Rattle.std.specs.Prelude.{◌⊎◌}
 use Rattle.sip_ledger.specs.inner.Accounts.{IsSeek, accounts_debts}
-use Rattle.sip_ledger.proofs.places.PaidLemmas.{ArePaidTo}
+use Rattle.sip_ledger.proofs.rows.PaidLemmas.{ArePaidTo}
 use Rattle.sip_ledger.proofs.accounts.each.push_some.Given as goal
 
 -- what is left to the paid rows before the index stands after the others

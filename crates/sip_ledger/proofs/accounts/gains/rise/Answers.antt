@@ -3,7 +3,7 @@ use Rattle.std.proofs.lemmas.Bool.{leb-true}
 use Rattle.std.proofs.lemmas.List.{get_or_default}
 use Rattle.sip_ledger.specs.declared.debt.Entry.{Entry}
 use Rattle.sip_ledger.proofs.debts.ListedLemmas.{no_entry}
-use Rattle.sip_ledger.proofs.places.RisingLemmas.{rising-push}
+use Rattle.sip_ledger.proofs.gains.RisingLemmas.{rising-push}
 use Rattle.sip_ledger.proofs.accounts.gains.rise.Goals as goal
 
 pub returns-then-rises : goal.returns-then-rises

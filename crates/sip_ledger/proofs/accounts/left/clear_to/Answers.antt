@@ -1,6 +1,6 @@
 use Rattle.std.proofs.Common.{◌≡◌, subst, arith}
 use Rattle.sip_ledger.specs.inner.Accounts.{IsClearedTo}
-use Rattle.sip_ledger.proofs.places.LetGoLemmas.{cleared-kept, cleared-more, cleared-start}
+use Rattle.sip_ledger.proofs.gains.LetGoLemmas.{cleared-kept, cleared-more, cleared-start}
 use Rattle.sip_ledger.proofs.accounts.left.clear_to.Goals as goal
 
 pub loop-place-init : goal.loop-place-init

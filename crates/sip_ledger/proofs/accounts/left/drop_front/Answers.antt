@@ -1,5 +1,5 @@
 use Rattle.std.proofs.Common.{◌≡◌, ◌≤◌, ◌+◌, length, arith}
-use Rattle.sip_ledger.proofs.places.LetGoLemmas.{cleared-dropped, kept-start}
+use Rattle.sip_ledger.proofs.gains.LetGoLemmas.{cleared-dropped, kept-start}
 use Rattle.sip_ledger.proofs.accounts.left.drop_front.Goals as goal
 
 pub returns-then-start-first : goal.returns-then-start-first

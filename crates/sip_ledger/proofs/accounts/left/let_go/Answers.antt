@@ -1,5 +1,5 @@
 use Rattle.std.proofs.Common.{◌<◌, ◌≤◌, arith}
-use Rattle.sip_ledger.proofs.places.LetGoLemmas.{kept-less, kept-start}
+use Rattle.sip_ledger.proofs.gains.LetGoLemmas.{kept-less, kept-start}
 use Rattle.sip_ledger.proofs.accounts.left.let_go.Goals as goal
 
 pub loop-place-init : goal.loop-place-init

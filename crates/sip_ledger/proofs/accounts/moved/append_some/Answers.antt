@@ -2,7 +2,7 @@ use Rattle.std.proofs.Common.{◌≡◌, ◌<◌, length, take, ap, subst, ◌�
 use Rattle.std.proofs.Math.Seq.{take-length}
 use Rattle.sip_ledger.specs.declared.accounts.strikes.Strike.{Strike}
 use Rattle.sip_ledger.specs.inner.Accounts.{AreAppended}
-use Rattle.sip_ledger.proofs.places.MovedLemmas.{appended-fewer, appended-more, appended-none}
+use Rattle.sip_ledger.proofs.strikes.MovedLemmas.{appended-fewer, appended-more, appended-none}
 use Rattle.sip_ledger.proofs.accounts.moved.append_some.Goals as goal
 use Rattle.sip_ledger.proofs.accounts.moved.append_some.Goals.{then-strikes_some+in_ok-push, else-strikes_some}
 

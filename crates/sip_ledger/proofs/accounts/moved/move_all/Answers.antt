@@ -3,7 +3,7 @@ use Rattle.std.proofs.Math.Seq.{take-length}
 use Rattle.std.proofs.lemmas.List.Elements.{All-get_or}
 use Rattle.sip_ledger.specs.declared.accounts.account.Account.{Account}
 use Rattle.sip_ledger.specs.inner.Accounts.{AreMoved, HasStrikes}
-use Rattle.sip_ledger.proofs.places.MovedLemmas.{has-strikes, moved-more, moved-none}
+use Rattle.sip_ledger.proofs.strikes.MovedLemmas.{has-strikes, moved-more, moved-none}
 use Rattle.sip_ledger.proofs.accounts.moved.move_all.Goals as goal
 
 pub loop-at-init : goal.loop-at-init

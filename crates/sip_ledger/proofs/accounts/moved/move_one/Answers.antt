@@ -1,5 +1,5 @@
 use Rattle.std.proofs.Common.{◌≤◌, length, ◌∙◌}
-use Rattle.sip_ledger.proofs.places.MovedLemmas.{is-moved}
+use Rattle.sip_ledger.proofs.strikes.MovedLemmas.{is-moved}
 use Rattle.sip_ledger.proofs.accounts.moved.move_one.Goals as goal
 
 pub returns : goal.returns

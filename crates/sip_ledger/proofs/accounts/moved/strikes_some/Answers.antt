@@ -1,5 +1,5 @@
 use Rattle.std.proofs.Common.{◌<◌, ◌≤◌, arith}
-use Rattle.sip_ledger.proofs.places.MovedLemmas.{lt-not, on-false, strikes-none}
+use Rattle.sip_ledger.proofs.strikes.MovedLemmas.{lt-not, on-false, strikes-none}
 use Rattle.sip_ledger.proofs.accounts.moved.strikes_some.Goals as goal
 
 pub returns-in-Some : goal.returns-in-Some

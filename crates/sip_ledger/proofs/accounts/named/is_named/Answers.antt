@@ -6,7 +6,7 @@ use Rattle.std.proofs.lemmas.List.Elements.{All-get_or, All-nil, All-push}
 use Rattle.sip_ledger.specs.declared.accounts.account.Account.{Account}
 use Rattle.sip_ledger.specs.Accounts.{owes_message}
 use Rattle.sip_ledger.specs.inner.Accounts.{IsAccount, account_debts}
-use Rattle.sip_ledger.proofs.places.NamedLemmas.{named-here, named-nowhere}
+use Rattle.sip_ledger.proofs.rows.NamedLemmas.{named-here, named-nowhere}
 use Rattle.sip_ledger.proofs.accounts.named.is_named.Goals as goal
 
 pub loop-at-init : goal.loop-at-init

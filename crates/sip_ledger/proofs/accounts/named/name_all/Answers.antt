@@ -1,8 +1,8 @@
 use Rattle.std.proofs.Common.{◌≡◌, ◌<◌, ◌≤◌, ◌+◌, ℕ, false, length, take, ap, subst, sym, ◌∙◌, arith}
 use Rattle.sip_ledger.specs.Accounts.{some_owes}
 use Rattle.sip_ledger.specs.inner.Accounts.{accounts_debts, first_after}
-use Rattle.sip_ledger.proofs.places.NamedLemmas.{AreNamedTo, named-all, named-front, named-more, named-none, named-past, unleft-unnamed}
-use Rattle.sip_ledger.proofs.places.SeenLemmas.{on-error}
+use Rattle.sip_ledger.proofs.rows.NamedLemmas.{AreNamedTo, named-all, named-front, named-more, named-none, named-past, unleft-unnamed}
+use Rattle.sip_ledger.proofs.rows.SeenLemmas.{on-error}
 use Rattle.sip_ledger.proofs.accounts.named.name_all.Goals as goal
 
 pub loop-message-init : goal.loop-message-init

@@ -1,7 +1,7 @@
 use Rattle.std.proofs.Common.{◌∙◌}
 use Rattle.sip_ledger.specs.inner.Accounts.{account_debts}
-use Rattle.sip_ledger.proofs.places.NamedLemmas.{payable-owes}
-use Rattle.sip_ledger.proofs.places.SeenLemmas.{can-pay}
+use Rattle.sip_ledger.proofs.rows.NamedLemmas.{payable-owes}
+use Rattle.sip_ledger.proofs.rows.SeenLemmas.{can-pay}
 use Rattle.sip_ledger.proofs.accounts.named.names.Goals as goal
 
 pub returns-clause-is : goal.returns-clause-is

@@ -1,7 +1,7 @@
 use Rattle.std.proofs.Common.{◌≡◌, ◌≢◌, ap, ◌∙◌, subst, sym, arith}
 use Rattle.sip_ledger.specs.declared.debt.Entry.{Entry}
 use Rattle.sip_ledger.specs.inner.Accounts.{entries_of, entry_at}
-use Rattle.sip_ledger.proofs.places.LeftLemmas.{others-more}
+use Rattle.sip_ledger.proofs.gains.LeftLemmas.{others-more}
 use Rattle.sip_ledger.proofs.accounts.strikes.are_others.Goals as goal
 
 pub loop-at-init : goal.loop-at-init

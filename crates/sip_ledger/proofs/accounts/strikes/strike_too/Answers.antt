@@ -1,6 +1,6 @@
 use Rattle.std.proofs.Common.{◌≡◌, ◌≤◌, ◌∙◌, length, arith}
 use Rattle.std.proofs.lemmas.List.{with_items_is}
-use Rattle.sip_ledger.proofs.places.StrikeLemmas.{longer-too, more-too}
+use Rattle.sip_ledger.proofs.strikes.StrikeLemmas.{longer-too, more-too}
 use Rattle.sip_ledger.proofs.accounts.strikes.strike_too.Goals as goal
 
 pub returns-in_ok-push-clause-ok : goal.returns-in_ok-push-clause-ok

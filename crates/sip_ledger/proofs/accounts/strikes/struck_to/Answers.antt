@@ -1,6 +1,6 @@
 use Rattle.std.proofs.Common.{◌≡◌, ◌<◌, ◌∙◌, length, get_or, sym, arith}
 use Rattle.sip_ledger.specs.declared.accounts.strikes.Strike.{Strike}
-use Rattle.sip_ledger.proofs.places.StrikeLemmas.{none-struck, out-struck, struck-more}
+use Rattle.sip_ledger.proofs.strikes.StrikeLemmas.{none-struck, out-struck, struck-more}
 use Rattle.sip_ledger.proofs.accounts.strikes.struck_to.Goals as goal
 
 pub loop-strike-init : goal.loop-strike-init

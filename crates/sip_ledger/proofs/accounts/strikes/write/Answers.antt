@@ -1,9 +1,9 @@
 use Rattle.std.proofs.Common.{◌≡◌, ◌<◌, ◌≤◌, ◌∙◌, length, take, ap, subst, arith}
 use Rattle.sip_ledger.specs.inner.Accounts.{IsWritten, StrikeToo, entries_of}
-use Rattle.sip_ledger.proofs.places.LeftLemmas.{entries-long}
-use Rattle.sip_ledger.proofs.places.AccountLemmas.{kept-longer}
-use Rattle.sip_ledger.proofs.places.SeenLemmas.{on-error}
-use Rattle.sip_ledger.proofs.places.StrikeLemmas.{written-more, written-none}
+use Rattle.sip_ledger.proofs.gains.LeftLemmas.{entries-long}
+use Rattle.sip_ledger.proofs.account.AccountLemmas.{kept-longer}
+use Rattle.sip_ledger.proofs.rows.SeenLemmas.{on-error}
+use Rattle.sip_ledger.proofs.strikes.StrikeLemmas.{written-more, written-none}
 use Rattle.sip_ledger.proofs.accounts.strikes.write.Goals as goal
 
 pub loop-place-init : goal.loop-place-init

@@ -1,6 +1,6 @@
 use Rattle.std.specs.Prelude.{◌≡◌, All, take}
 use Rattle.std.proofs.Common.{sym, subst, arith}
-use Rattle.sip_ledger.specs.Ledgers.{from_to}
+use Rattle.sip_ledger.specs.Lists.{from_to}
 use Rattle.sip_machine.specs.NumberedEvent.{event_in}
 use Rattle.sip_machine.specs.Owing.{owing_seen, owing_names, OwingInRange, CodeOwing}
 use Rattle.sip_machine.specs.Rules.{Covers, FromSome, Knows}

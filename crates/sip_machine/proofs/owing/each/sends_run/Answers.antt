@@ -1,7 +1,7 @@
 use Rattle.std.specs.Prelude.{◌++◌, ◌⊎◌, All}
 use Rattle.std.proofs.Common.{sym, ◌∙◌, ap, subst, append_assoc}
 use Rattle.std.proofs.lemmas.Result.{on_ok_weaker}
-use Rattle.sip_ledger.specs.Ledgers.{from_to}
+use Rattle.sip_ledger.specs.Lists.{from_to}
 use Rattle.sip_machine.specs.NumberedEvent.{event_in}
 use Rattle.sip_machine.specs.Rules.{Covers, FromSome, Knows}
 use Rattle.sip_machine.specs.FigureRules.{TakeOf}

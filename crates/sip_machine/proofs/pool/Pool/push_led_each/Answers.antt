@@ -2,7 +2,7 @@ use Rattle.std.specs.Prelude.{◌≡◌, ◌++◌, List, filter, length, map}
 use Rattle.std.proofs.Common.{◌∙◌, sym, ap, ap₂, arith}
 use Rattle.sip_ledger.specs.declared.debt.Debt.{Debt}
 use Rattle.sip_ledger.specs.Debts.{counts_at, is_timely}
-use Rattle.sip_ledger.specs.Ledgers.{from_to}
+use Rattle.sip_ledger.specs.Lists.{from_to}
 use Rattle.sip_ledger.proofs.lists.EachLemmas.{on_ok}
 use Rattle.sip_machine.specs.Owing.{changed_debts}
 use Rattle.sip_machine.specs.inner.Effects.{led_by}

@@ -1,6 +1,6 @@
 use Rattle.std.specs.Prelude.{◌≡◌, ◌<◌, ◌≤◌, ◌-◌, All}
 use Rattle.std.specs.List.{HoldsAt}
-use Rattle.sip_ledger.specs.Ledgers.{from_to}
+use Rattle.sip_ledger.specs.Lists.{from_to}
 use Rattle.sip_machine.proofs.pool.Pool.run_end.Given as goal
 
 -- the states from the first up to the end are in the phase of the first

@@ -1,8 +1,8 @@
 use Rattle.std.proofs.Common.{◌≡◌, ◌<◌, ◌≤◌, ◌+◌, length, [], ap, ◌∙◌, arith}
 use Rattle.sip_ledger.specs.declared.debt.Entry.{Entry}
 use Rattle.sip_ledger.specs.inner.Accounts.{IsKept}
-use Rattle.sip_ledger.proofs.places.LeftLemmas.{rising-kept}
-use Rattle.sip_ledger.proofs.places.SeekLemmas.{on-is}
+use Rattle.sip_ledger.proofs.gains.LeftLemmas.{rising-kept}
+use Rattle.sip_ledger.proofs.gains.SeekLemmas.{on-is}
 use Rattle.sip_ledger.proofs.accounts.gains.Gains.all_count.Goals as goal
 
 pub returns : goal.returns

@@ -1,7 +1,7 @@
 use Rattle.std.proofs.Common.{◌≡◌, ◌≤◌, ◌-◌, ◌+◌, length, refl, sym, subst, ◌∙◌, arith}
 use Rattle.sip_ledger.specs.declared.accounts.gains.Gains.{Gains}
-use Rattle.sip_ledger.proofs.places.FlagLemmas.{flags-dropped}
-use Rattle.sip_ledger.proofs.places.LeftLemmas.{gains-dropped}
+use Rattle.sip_ledger.proofs.gains.FlagLemmas.{flags-dropped}
+use Rattle.sip_ledger.proofs.gains.LeftLemmas.{gains-dropped}
 use Rattle.sip_ledger.proofs.accounts.gains.Gains.drop_to.Goals as goal
 
 pub drop_first-requires-2 : goal.drop_first-requires-2

@@ -1,5 +1,5 @@
 use Rattle.std.proofs.Common.{◌≡◌, ◌-◌, ◌+◌, length, ◌∙◌, arith}
-use Rattle.sip_ledger.proofs.places.LeftLemmas.{entry-index}
+use Rattle.sip_ledger.proofs.gains.LeftLemmas.{entry-index}
 use Rattle.sip_ledger.proofs.accounts.gains.Gains.entry.Goals as goal
 
 pub returns : goal.returns

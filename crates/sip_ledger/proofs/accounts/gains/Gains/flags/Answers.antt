@@ -1,5 +1,5 @@
 use Rattle.std.proofs.Common.{◌≡◌, ◌-◌, ◌+◌, ◌<◌, length, ◌∙◌, arith}
-use Rattle.sip_ledger.proofs.places.FlagLemmas.{flags-index}
+use Rattle.sip_ledger.proofs.gains.FlagLemmas.{flags-index}
 use Rattle.sip_ledger.proofs.accounts.gains.Gains.flags.Goals as goal
 
 pub index-requires : goal.index-requires

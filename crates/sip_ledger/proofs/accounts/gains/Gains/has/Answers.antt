@@ -1,6 +1,6 @@
 use Rattle.std.proofs.Common.{◌≡◌, ◌<◌, ◌≤◌, ◌+◌, length, ap, sym, ◌∙◌, arith}
 use Rattle.sip_ledger.specs.declared.debt.Entry.{Entry}
-use Rattle.sip_ledger.proofs.places.LeftLemmas.{held-left, not-kept, not-noted, not-other}
+use Rattle.sip_ledger.proofs.gains.LeftLemmas.{held-left, not-kept, not-noted, not-other}
 use Rattle.sip_ledger.proofs.accounts.gains.Gains.has.Goals as goal
 
 pub returns-then-place-first : goal.returns-then-place-first

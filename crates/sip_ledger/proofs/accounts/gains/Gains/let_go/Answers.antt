@@ -2,8 +2,8 @@ use Rattle.std.proofs.Common.{◌≡◌, ◌<◌, ◌≤◌, ◌-◌, ◌+◌, �
 use Rattle.std.proofs.lemmas.Bool.{eq-eqb}
 use Rattle.sip_ledger.specs.inner.Accounts.{no_flags}
 use Rattle.sip_ledger.specs.inner.Indexes.{holds}
-use Rattle.sip_ledger.proofs.places.FlagLemmas.{flags-let_go}
-use Rattle.sip_ledger.proofs.places.LeftLemmas.{gains-let_go}
+use Rattle.sip_ledger.proofs.gains.FlagLemmas.{flags-let_go}
+use Rattle.sip_ledger.proofs.gains.LeftLemmas.{gains-let_go}
 use Rattle.sip_ledger.proofs.accounts.gains.Gains.let_go.Goals as goal
 
 pub index_mut-requires : goal.index_mut-requires

@@ -1,5 +1,5 @@
 use Rattle.std.proofs.Common.{refl, true}
-use Rattle.sip_ledger.proofs.places.LeftLemmas.{none-entries, none-gained}
+use Rattle.sip_ledger.proofs.gains.LeftLemmas.{none-entries, none-gained}
 use Rattle.sip_ledger.proofs.accounts.gains.Gains.new.Goals as goal
 
 pub returns-clause-gained : goal.returns-clause-gained

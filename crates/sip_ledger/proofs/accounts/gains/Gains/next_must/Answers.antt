@@ -1,5 +1,5 @@
 use Rattle.std.proofs.Common.{◌≤◌, arith}
-use Rattle.sip_ledger.proofs.places.LeftLemmas.{not-must}
+use Rattle.sip_ledger.proofs.gains.LeftLemmas.{not-must}
 use Rattle.sip_ledger.proofs.accounts.gains.Gains.next_must.Goals as goal
 
 pub returns-then-self-from-clause-none : goal.returns-then-self-from-clause-none

@@ -3,9 +3,9 @@ use Rattle.sip_ledger.specs.declared.accounts.gains.Flags.{Flags}
 use Rattle.sip_ledger.specs.declared.accounts.gains.Gains.{Gains}
 use Rattle.sip_ledger.specs.declared.debt.Entry.{Entry}
 use Rattle.sip_ledger.specs.inner.Indexes.{holds}
-use Rattle.sip_ledger.proofs.places.FlagLemmas.{flags-more, flags-same}
-use Rattle.sip_ledger.proofs.places.LeftLemmas.{entries-long, gains-more, gains-same}
-use Rattle.sip_ledger.proofs.places.SeenLemmas.{on-error}
+use Rattle.sip_ledger.proofs.gains.FlagLemmas.{flags-more, flags-same}
+use Rattle.sip_ledger.proofs.gains.LeftLemmas.{entries-long, gains-more, gains-same}
+use Rattle.sip_ledger.proofs.rows.SeenLemmas.{on-error}
 use Rattle.sip_ledger.proofs.accounts.gains.Gains.push.Goals as goal
 
 pub returns-in_err-reserve-clause-gained : goal.returns-in_err-reserve-clause-gained

@@ -1,5 +1,5 @@
 use Rattle.std.proofs.Common.{◌≡◌, sym, true, ◌∙◌}
-use Rattle.sip_ledger.proofs.places.SeekLemmas.{next-here, next-later}
+use Rattle.sip_ledger.proofs.gains.SeekLemmas.{next-here, next-later}
 use Rattle.sip_ledger.proofs.accounts.seek.Seek.next.Goals as goal
 
 pub returns-then-tells-clause-next : goal.returns-then-tells-clause-next

@@ -1,6 +1,6 @@
 use Rattle.std.proofs.Common.{◌≤◌, subst, sym}
 use Rattle.std.specs.Prelude.{IfSome}
-use Rattle.sip_ledger.proofs.places.SeekLemmas.{le-is, on-is}
+use Rattle.sip_ledger.proofs.gains.SeekLemmas.{le-is, on-is}
 use Rattle.sip_ledger.proofs.accounts.seek.Seek.tells.Goals as goal
 
 pub returns-in-Some : goal.returns-in-Some

@@ -10,10 +10,10 @@ use Rattle.sip_ledger.specs.declared.accounts.gains.Gains.{Gains}
 use Rattle.sip_ledger.specs.declared.accounts.strikes.Strike.{Strike}
 use Rattle.sip_ledger.specs.Debts.{counts_at}
 use Rattle.sip_ledger.specs.inner.Accounts.{AreGains, IsAccount, IsExpiredTo, IsKept, IsWithout, account_debts, entries_of, entry_at, must_at, owes_at}
-use Rattle.sip_ledger.proofs.places.LeftLemmas.{entries-long, rising-kept}
+use Rattle.sip_ledger.proofs.gains.LeftLemmas.{entries-long, rising-kept}
 use Rattle.sip_ledger.proofs.debts.ListedLemmas.{listed-counting, listed-same, no_entry}
-use Rattle.sip_ledger.proofs.places.AccountLemmas.{past-end, soft-must}
-use Rattle.sip_ledger.proofs.places.WithoutLemmas.{before-start, le-no, le-yes}
+use Rattle.sip_ledger.proofs.account.AccountLemmas.{past-end, soft-must}
+use Rattle.sip_ledger.proofs.account.WithoutLemmas.{before-start, le-no, le-yes}
 
 -- whether what is owed at a place counts still at t: it must be sent, or its deadline is not past
 abbrev counting : ℕ → List Entry → (ℕ → Bool) → (ℕ → Bool) → ℕ → Bool

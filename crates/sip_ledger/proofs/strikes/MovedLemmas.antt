@@ -15,13 +15,13 @@ use Rattle.sip_ledger.specs.declared.accounts.account.Account.{Account}
 use Rattle.sip_ledger.specs.declared.accounts.gains.Gains.{Gains}
 use Rattle.sip_ledger.specs.declared.accounts.strikes.Strike.{Strike}
 use Rattle.sip_ledger.specs.Accounts.{debts_print}
-use Rattle.sip_ledger.specs.Ledgers.{from_to}
+use Rattle.sip_ledger.specs.Lists.{from_to}
 use Rattle.sip_ledger.specs.inner.Accounts.{AreAppended, AreMoved, AreThinned, HasStrikes, IsAccount, IsMoved, StrikesNoneFrom, account_debts, accounts_debts, entries_of, entry_at, is_gone, is_left, is_out, is_struck, must_at, owes_at, strikes_of}
 use Rattle.sip_ledger.specs.inner.Indexes.{holds}
-use Rattle.sip_ledger.proofs.places.LeftLemmas.{gone-same, held-left}
+use Rattle.sip_ledger.proofs.gains.LeftLemmas.{gone-same, held-left}
 use Rattle.sip_ledger.proofs.debts.ListedLemmas.{listed-same}
-use Rattle.sip_ledger.proofs.places.AccountLemmas.{kept-all, soft-must}
-use Rattle.sip_ledger.proofs.places.WithoutLemmas.{before-start}
+use Rattle.sip_ledger.proofs.account.AccountLemmas.{kept-all, soft-must}
+use Rattle.sip_ledger.proofs.account.WithoutLemmas.{before-start}
 
 -- strikes with one more strike what they struck and what the new one strikes
 struck-push : (xs : List Strike) (s : Strike) (m k : ℕ) → is_struck (xs ++ s ∷ []) m k ≡ (is_struck xs m k || is_out m k s)

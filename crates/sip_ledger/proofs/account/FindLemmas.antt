@@ -12,14 +12,14 @@ use Rattle.sip_ledger.specs.declared.accounts.account.Account.{Account}
 use Rattle.sip_ledger.specs.declared.accounts.gains.Gains.{Gains}
 use Rattle.sip_ledger.specs.declared.accounts.strikes.Strike.{Strike}
 use Rattle.sip_ledger.specs.Debts.{IsWithoutFirst, is_payable, paid_by}
-use Rattle.sip_ledger.specs.Rows.{debt_of, debts_from}
+use Rattle.sip_ledger.specs.Entries.{debt_of, debts_from}
 use Rattle.sip_ledger.specs.inner.Accounts.{IsAccount, IsFirstPayable, IsWithout, account_debts, entries_of, entry_at, is_gone, is_left, is_struck, must_at, owes_at, pays_at, strikes_of}
 use Rattle.sip_ledger.specs.inner.Indexes.{holds}
-use Rattle.sip_ledger.proofs.places.LeftLemmas.{gone-left, gone-struck, held-left, owed-left}
+use Rattle.sip_ledger.proofs.gains.LeftLemmas.{gone-left, gone-struck, held-left, owed-left}
 use Rattle.sip_ledger.proofs.debts.ListedLemmas.{no_entry, listed-All}
-use Rattle.sip_ledger.proofs.debts.RowLemmas.{listed-any, removed}
+use Rattle.sip_ledger.proofs.debts.OwedLemmas.{listed-any, removed}
 use Rattle.sip_ledger.proofs.debts.PayLemmas.{paid-is, unpaid-is}
-use Rattle.sip_ledger.proofs.places.AccountLemmas.{owed-within, soft-must}
+use Rattle.sip_ledger.proofs.account.AccountLemmas.{owed-within, soft-must}
 
 -- a send of the message does not pay a gain of another message
 pub unnamed-unpaid : (entries : List Entry) (message t k : ℕ) → (entry_at entries k).message ≢ message → pays_at entries message t k ≡ false

@@ -13,12 +13,12 @@ use Rattle.sip_ledger.specs.declared.accounts.gains.Gains.{Gains}
 use Rattle.sip_ledger.specs.declared.accounts.strikes.Strike.{Strike}
 use Rattle.sip_ledger.specs.Accounts.{debts_print, owed_in, worth_of}
 use Rattle.sip_ledger.specs.Debts.{is_payable, softened_debt}
-use Rattle.sip_ledger.specs.Rows.{debts_from}
+use Rattle.sip_ledger.specs.Entries.{debts_from}
 use Rattle.sip_ledger.specs.inner.Accounts.{AreAccounts, AreGains, IsAccount, IsFirstPayable, KeepsAccounts, account_debts, accounts_debts, entries_of, must_at, owes_at, pays_at}
 use Rattle.sip_ledger.proofs.debts.ListedLemmas.{listed-same, listed-softened, no_entry}
-use Rattle.sip_ledger.proofs.debts.RowLemmas.{listed-any, some-debt}
-use Rattle.sip_ledger.proofs.places.AccountLemmas.{changed, debts-length, empty-debts, kept-all, must-below, over, owed-within, pushed, row-account, row-debts}
-use Rattle.sip_ledger.proofs.places.FindLemmas.{unpaid-account}
+use Rattle.sip_ledger.proofs.debts.OwedLemmas.{listed-any, some-debt}
+use Rattle.sip_ledger.proofs.account.AccountLemmas.{changed, debts-length, empty-debts, kept-all, must-below, over, owed-within, pushed, row-account, row-debts}
+use Rattle.sip_ledger.proofs.account.FindLemmas.{unpaid-account}
 
 -- what holds is said of an answer that is an error
 pub on-error : {T E P : Type 0} (r : Result T E) → IsErr r → P → OnErr r P

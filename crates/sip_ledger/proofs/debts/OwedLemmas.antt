@@ -7,7 +7,7 @@ use Rattle.std.proofs.lemmas.List.{get_or-take, get_or_default, length-append, l
 use Rattle.sip_ledger.specs.declared.debt.Debt.{Debt}
 use Rattle.sip_ledger.specs.declared.debt.Entry.{Entry}
 use Rattle.sip_ledger.specs.Debts.{IsWithoutFirst}
-use Rattle.sip_ledger.specs.Rows.{debt_of, debts_from}
+use Rattle.sip_ledger.specs.Entries.{debt_of, debts_from}
 use Rattle.sip_ledger.proofs.debts.ListedLemmas.{no_entry, front, back, parts, back-set, back-unset, back-same, back-none, front-same, listed-All, listed-append, listed-none}
 
 -- where the place `at` is owed no more, and its debt is the first of which P holds, what is left is without the first of which P holds

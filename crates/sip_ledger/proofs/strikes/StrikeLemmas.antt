@@ -12,7 +12,7 @@ use Rattle.sip_ledger.specs.declared.accounts.account.Account.{Account}
 use Rattle.sip_ledger.specs.declared.accounts.strikes.Strike.{Strike}
 use Rattle.sip_ledger.specs.declared.accounts.gains.Gains.{Gains}
 use Rattle.sip_ledger.specs.inner.Accounts.{IsStruck, IsWritten, Lengthens, Reaches, StrikeToo, entries_of, entry_at, is_left, is_struck, strikes_of, is_out}
-use Rattle.sip_ledger.proofs.places.LeftLemmas.{held-left}
+use Rattle.sip_ledger.proofs.gains.LeftLemmas.{held-left}
 
 -- the strikes that end after the start
 abbrev pub ending : ℕ → List Strike → List Strike

@@ -9,9 +9,9 @@ use Rattle.sip_ledger.specs.declared.accounts.gains.Gains.{Gains}
 use Rattle.sip_ledger.specs.declared.accounts.strikes.Strike.{Strike}
 use Rattle.sip_ledger.specs.inner.Accounts.{AreAccounts, AreGains, AreKept, IsAccount, IsClearedTo, IsDropped, IsKept, IsLetGo, StartFrom, entries_of, owes_at}
 use Rattle.sip_ledger.specs.inner.Indexes.{holds}
-use Rattle.sip_ledger.proofs.places.LeftLemmas.{not-kept}
-use Rattle.sip_ledger.proofs.places.AccountLemmas.{OwesAlike, all-alike, dropped-alike, let_go-alike, over-all, past-end}
-use Rattle.sip_ledger.proofs.places.WithoutLemmas.{before-start}
+use Rattle.sip_ledger.proofs.gains.LeftLemmas.{not-kept}
+use Rattle.sip_ledger.proofs.account.AccountLemmas.{OwesAlike, all-alike, dropped-alike, let_go-alike, over-all, past-end}
+use Rattle.sip_ledger.proofs.account.WithoutLemmas.{before-start}
 
 -- all accounts are kept where nothing has been let go
 pub kept-start : (gains : Gains) (strikes : List Strike) (rows : List Account) → AreAccounts gains strikes rows → AreKept strikes rows gains gains

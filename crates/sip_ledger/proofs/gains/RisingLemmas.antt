@@ -3,7 +3,7 @@ use Rattle.std.proofs.Common.{◌≡◌, ℕ, ◌-◌, ◌<◌, ◌≤◌, List,
 use Rattle.std.proofs.lemmas.Bool.{cases_lt}
 use Rattle.std.proofs.lemmas.List.{get_or_append_left, get_or_push, length_push}
 use Rattle.sip_ledger.specs.declared.debt.Entry.{Entry}
-use Rattle.sip_ledger.specs.inner.Places.{AreRising}
+use Rattle.sip_ledger.specs.inner.Deadlines.{AreRising}
 
 -- where deadlines never fall, and that of a further entry is not before the last, those with it never fall
 pub rising-push : (entries : List Entry) (entry : Entry) → AreRising entries → ((e : Entry) → 0 < length entries → (get_or entries (length entries - 1) e).deadline ≤ entry.deadline) →

@@ -11,12 +11,12 @@ use Rattle.sip_ledger.specs.declared.accounts.strikes.Strike.{Strike}
 use Rattle.sip_ledger.specs.declared.debt.Entry.{Entry}
 use Rattle.sip_ledger.specs.Accounts.{owed_in}
 use Rattle.sip_ledger.specs.Debts.{counts_at, debt_deadlines, earliest, is_timely, is_within}
-use Rattle.sip_ledger.specs.Rows.{debt_of}
+use Rattle.sip_ledger.specs.Entries.{debt_of}
 use Rattle.sip_ledger.specs.inner.Accounts.{AreAccounts, AreGains, IsAccount, IsKept, KeepsAccounts, account_debts, accounts_debts, entries_of, entry_at, must_at, owes_at}
 use Rattle.sip_ledger.proofs.debts.ListedLemmas.{listed-All, no_entry}
 use Rattle.sip_ledger.proofs.lists.EachLemmas.{changing, changing-front, changing-length, changing-more, changing-none, unchanged-each}
-use Rattle.sip_ledger.proofs.places.LeftLemmas.{left-kept, owed-left}
-use Rattle.sip_ledger.proofs.places.SeenLemmas.{account-at, changed-to, over-to, row-inside, unchanged}
+use Rattle.sip_ledger.proofs.gains.LeftLemmas.{left-kept, owed-left}
+use Rattle.sip_ledger.proofs.rows.SeenLemmas.{account-at, changed-to, over-to, row-inside, unchanged}
 
 -- what is owed, with one debt more
 abbrev pub with_debt : Debt → List Debt → List Debt

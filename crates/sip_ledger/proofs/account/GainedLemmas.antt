@@ -12,14 +12,14 @@ use Rattle.sip_ledger.specs.declared.accounts.account.Account.{Account}
 use Rattle.sip_ledger.specs.declared.accounts.gains.Gains.{Gains}
 use Rattle.sip_ledger.specs.declared.accounts.strikes.Strike.{Strike}
 use Rattle.sip_ledger.specs.Accounts.{debts_print, worth_of}
-use Rattle.sip_ledger.specs.Rows.{debt_of, debts_from}
+use Rattle.sip_ledger.specs.Entries.{debt_of, debts_from}
 use Rattle.sip_ledger.specs.inner.Accounts.{IsAccount, IsGain, IsNextGain, IsStruck, KeepsAccounts, account_debts, accounts_debts, entries_of, entry_at, is_gone, is_left, is_struck, must_at, owes_at, strikes_of}
 use Rattle.sip_ledger.specs.inner.Indexes.{holds}
 use Rattle.sip_ledger.proofs.debts.ListedLemmas.{listed-none}
-use Rattle.sip_ledger.proofs.debts.RowLemmas.{gained-debts}
-use Rattle.sip_ledger.proofs.places.LeftLemmas.{gone-left, gone-same, gone-struck, held-left}
-use Rattle.sip_ledger.proofs.places.AccountLemmas.{grown-all, owed-within, past-end}
-use Rattle.sip_ledger.proofs.places.WithoutLemmas.{before-start, le-no, le-yes, lt-yes, lt-no}
+use Rattle.sip_ledger.proofs.debts.OwedLemmas.{gained-debts}
+use Rattle.sip_ledger.proofs.gains.LeftLemmas.{gone-left, gone-same, gone-struck, held-left}
+use Rattle.sip_ledger.proofs.account.AccountLemmas.{grown-all, owed-within, past-end}
+use Rattle.sip_ledger.proofs.account.WithoutLemmas.{before-start, le-no, le-yes, lt-yes, lt-no}
 
 -- the print of debts with one debt more is their print and the worth of that debt
 pub print-more : (debts : List Debt) (debt : Debt) → debts_print (debts ++ debt ∷ []) ≡ (debts_print debts + worth_of debt.message debt.deadline) % 2 ^ 64

@@ -15,13 +15,13 @@ use Rattle.sip_ledger.specs.declared.accounts.gains.Gains.{Gains}
 use Rattle.sip_ledger.specs.declared.accounts.strikes.Strike.{Strike}
 use Rattle.sip_ledger.specs.Accounts.{AppendsOwed, owes_message, some_owes}
 use Rattle.sip_ledger.specs.Debts.{is_payable}
-use Rattle.sip_ledger.specs.Ledgers.{Rise}
+use Rattle.sip_ledger.specs.Lists.{Rise}
 use Rattle.sip_ledger.specs.inner.Accounts.{AreGains, account_debts, accounts_debts, entries_of, entry_at, must_at, owes_at}
 use Rattle.sip_ledger.specs.inner.Indexes.{IsFirstFrom, IsFrom, NoneFrom, holds}
 use Rattle.sip_ledger.proofs.debts.ListedLemmas.{listed-All, no_entry}
-use Rattle.sip_ledger.proofs.places.AccountLemmas.{debts-length, row-debts}
-use Rattle.sip_ledger.proofs.places.LeftLemmas.{held-left, owed-left}
-use Rattle.sip_ledger.proofs.places.WithoutLemmas.{le-yes}
+use Rattle.sip_ledger.proofs.account.AccountLemmas.{debts-length, row-debts}
+use Rattle.sip_ledger.proofs.gains.LeftLemmas.{held-left, owed-left}
+use Rattle.sip_ledger.proofs.account.WithoutLemmas.{le-yes}
 
 -- the first pair from one on is of the first message from there on
 message-before : (pairs : List (ℕ × ℕ)) (key number : ℕ) (found : ℕ × ℕ) → IsFirstFrom pairs key number found → (m k : ℕ) → IsFrom key number m k → m < found.0 → holds pairs m k ≡ false

@@ -14,11 +14,11 @@ use Rattle.sip_ledger.specs.declared.accounts.account.Account.{Account}
 use Rattle.sip_ledger.specs.declared.accounts.gains.Gains.{Gains}
 use Rattle.sip_ledger.specs.declared.accounts.strikes.Strike.{Strike}
 use Rattle.sip_ledger.specs.Accounts.{debts_print, worth_of}
-use Rattle.sip_ledger.specs.Rows.{debt_of, debts_from}
+use Rattle.sip_ledger.specs.Entries.{debt_of, debts_from}
 use Rattle.sip_ledger.specs.inner.Accounts.{AreGains, IsAccount, IsStruck, IsWithout, account_debts, entries_of, entry_at, is_gone, is_left, is_struck, must_at, owes_at, strikes_of}
 use Rattle.sip_ledger.proofs.debts.ListedLemmas.{no_entry, front, back, parts, back-set, back-unset, back-same, front-same}
-use Rattle.sip_ledger.proofs.places.LeftLemmas.{gone-same, gone-struck}
-use Rattle.sip_ledger.proofs.places.AccountLemmas.{owed-within, past-end, soft-must}
+use Rattle.sip_ledger.proofs.gains.LeftLemmas.{gone-same, gone-struck}
+use Rattle.sip_ledger.proofs.account.AccountLemmas.{owed-within, past-end, soft-must}
 
 -- the new debts are the old ones without this one
 pub record IsCut (debt : Debt) (old new : List Debt) : Type 0 where

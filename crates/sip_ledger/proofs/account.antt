@@ -1,0 +1,6 @@
+pub mod AccountLemmas
+pub mod ExpiringLemmas
+pub mod FindLemmas
+pub mod GainedLemmas
+pub mod ToldLemmas
+pub mod WithoutLemmas

@@ -1,0 +1,5 @@
+pub mod FlagLemmas
+pub mod LeftLemmas
+pub mod LetGoLemmas
+pub mod RisingLemmas
+pub mod SeekLemmas

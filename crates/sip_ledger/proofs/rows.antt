@@ -1,0 +1,4 @@
+pub mod GainEachLemmas
+pub mod NamedLemmas
+pub mod PaidLemmas
+pub mod SeenLemmas

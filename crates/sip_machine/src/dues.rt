@@ -20,7 +20,7 @@ use std::marker::Model;
 #[derive(Debug, Drop)]
 pub struct Dues {
     rows: usize,
-    ledger: Option<Box<Accounts>>,
+    accounts: Option<Box<Accounts>>,
     lowest: u64,
     highest: u64,
 }
@@ -33,9 +33,9 @@ impl Model for Dues {
 
     ghost Value = { List (List Debt) };
 
-    ghost view = { λ d. rows_in d.rows (option_map (λ boxed. boxed.value) d.ledger) };
+    ghost view = { λ d. rows_in d.rows (option_map (λ boxed. boxed.value) d.accounts) };
 
-    ghost invariant = { λ d. AreDues (rows_in d.rows (option_map (λ boxed. boxed.value) d.ledger)) d.rows d.lowest d.highest };
+    ghost invariant = { λ d. AreDues (rows_in d.rows (option_map (λ boxed. boxed.value) d.accounts)) d.rows d.lowest d.highest };
 }
 
 impl Dues {
@@ -45,7 +45,7 @@ impl Dues {
     {
         Dues {
             rows: 0,
-            ledger: None,
+            accounts: None,
             lowest: u64::MAX,
             highest: 0,
         }
@@ -57,8 +57,8 @@ impl Dues {
         ensures err { OnErr result (self.new ≡ self.old) }
     {
         let rows = self.rows.checked_add(1).ok_or(AllocError)?;
-        if let Some(ledger) = &mut self.ledger {
-            ledger.push()?;
+        if let Some(accounts) = &mut self.accounts {
+            accounts.push()?;
         }
         self.rows = rows;
         Ok(())
@@ -71,8 +71,8 @@ impl Dues {
         ensures err { OnErr result (self.new ≡ self.old) }
     {
         let rows = self.rows.checked_add(1).ok_or(AllocError)?;
-        if let Some(ledger) = &mut self.ledger {
-            ledger.push_copy(row)?;
+        if let Some(accounts) = &mut self.accounts {
+            accounts.push_copy(row)?;
         }
         self.rows = rows;
         Ok(())
@@ -82,8 +82,8 @@ impl Dues {
     pub(crate) fn truncate(&mut self, rows: usize)
         ensures { self.new ≡ take rows self.old }
     {
-        if let Some(ledger) = &mut self.ledger {
-            ledger.truncate(rows);
+        if let Some(accounts) = &mut self.accounts {
+            accounts.truncate(rows);
         }
         self.rows = self.rows.min(rows);
     }
@@ -93,8 +93,8 @@ impl Dues {
         requires { rows ≤ length self.old }
         ensures { self.new ≡ drop rows self.old }
     {
-        if let Some(ledger) = &mut self.ledger {
-            ledger.drop_first(rows);
+        if let Some(accounts) = &mut self.accounts {
+            accounts.drop_first(rows);
         }
         self.rows -= rows;
     }
@@ -105,8 +105,8 @@ impl Dues {
         requires to { to < length self.old }
         ensures { self.new ≡ set self.old to (owed_in self.old from) }
     {
-        if let Some(ledger) = &mut self.ledger {
-            ledger.copy(from, to);
+        if let Some(accounts) = &mut self.accounts {
+            accounts.copy(from, to);
         }
     }
 
@@ -123,9 +123,9 @@ impl Dues {
         ensures ok { OnOk result (self.new ≡ set self.old row (filter (counts_at moment) (owed_in self.old row ++ debt ∷ []))) }
         ensures err { OnErr result (self.new ≡ self.old) }
     {
-        match &mut self.ledger {
-            Some(ledger) => ledger.gain_and_expire(row, debt, moment)?,
-            None => self.ledger = Some(opened(alloc, self.rows, row, debt, moment)?),
+        match &mut self.accounts {
+            Some(accounts) => accounts.gain_and_expire(row, debt, moment)?,
+            None => self.accounts = Some(opened(alloc, self.rows, row, debt, moment)?),
         }
         self.lowest = self.lowest.min(debt.message);
         self.highest = self.highest.max(debt.message);
@@ -144,8 +144,8 @@ impl Dues {
         ensures ok { OnOk result (self.new ≡ set self.old row (filter (counts_at moment) (paid_by message moment (owed_in self.old row)))) }
         ensures err { OnErr result (self.new ≡ self.old) }
     {
-        if let Some(ledger) = &mut self.ledger {
-            ledger.pay_and_expire(row, message, moment)?;
+        if let Some(accounts) = &mut self.accounts {
+            accounts.pay_and_expire(row, message, moment)?;
         }
         Ok(())
     }
@@ -156,8 +156,8 @@ impl Dues {
         ensures same { self.new ≡ self.old }
         ensures can { result ≡ list_any (is_payable message moment) (owed_in self.old row) }
     {
-        match &mut self.ledger {
-            Some(ledger) => ledger.can_pay(row, message, moment),
+        match &mut self.accounts {
+            Some(accounts) => accounts.can_pay(row, message, moment),
             None => false,
         }
     }
@@ -169,8 +169,8 @@ impl Dues {
         ensures ok { OnOk result (self.new ≡ set self.old row (filter (counts_at moment) (owed_in self.old row))) }
         ensures err { OnErr result (self.new ≡ self.old) }
     {
-        if let Some(ledger) = &mut self.ledger {
-            ledger.expire(row, moment)?;
+        if let Some(accounts) = &mut self.accounts {
+            accounts.expire(row, moment)?;
         }
         Ok(())
     }
@@ -180,8 +180,8 @@ impl Dues {
         requires { row < length self.old }
         ensures { self.new ≡ set self.old row (map softened_debt (owed_in self.old row)) }
     {
-        if let Some(ledger) = &mut self.ledger {
-            ledger.soften(row);
+        if let Some(accounts) = &mut self.accounts {
+            accounts.soften(row);
         }
     }
 
@@ -190,8 +190,8 @@ impl Dues {
         requires { row < length self.old }
         ensures { self.new ≡ set self.old row [] }
     {
-        if let Some(ledger) = &mut self.ledger {
-            ledger.clear(row);
+        if let Some(accounts) = &mut self.accounts {
+            accounts.clear(row);
         }
     }
 
@@ -201,8 +201,8 @@ impl Dues {
         requires { row < length self.now }
         ensures { result ≡ earliest (debt_deadlines (owed_in self.now row)) }
     {
-        match &self.ledger {
-            Some(ledger) => ledger.earliest_must(row),
+        match &self.accounts {
+            Some(accounts) => accounts.earliest_must(row),
             None => None,
         }
     }
@@ -212,8 +212,8 @@ impl Dues {
         requires { row < length self.now }
         ensures { IsTrue result ↔ (owed_in self.now row ≡ []) }
     {
-        match &self.ledger {
-            Some(ledger) => ledger.owes_nothing(row),
+        match &self.accounts {
+            Some(accounts) => accounts.owes_nothing(row),
             None => true,
         }
     }
@@ -225,8 +225,8 @@ impl Dues {
         requires other { other < length self.now }
         ensures { IsTrue result ↔ (owed_in self.now row ≡ owed_in self.now other) }
     {
-        match &self.ledger {
-            Some(ledger) => ledger.same(row, other),
+        match &self.accounts {
+            Some(accounts) => accounts.same(row, other),
             None => true,
         }
     }
@@ -236,9 +236,9 @@ impl Dues {
         requires { from ≤ length self.now }
         ensures { IfOk result (λ prints. ArePrints self.now from prints.items) }
     {
-        match &self.ledger {
-            Some(ledger) => {
-                let prints = ledger.prints(alloc, from)?;
+        match &self.accounts {
+            Some(accounts) => {
+                let prints = accounts.prints(alloc, from)?;
                 Ok(prints)
             }
             None => zeros(alloc, self.rows, from),
@@ -256,11 +256,11 @@ impl Dues {
         ensures ok { OnOk result (numbers.new.items ≡ numbers.old.items ++ owes_names (owed_in self.now row)) }
         ensures err { OnErr result (numbers.new.items ≡ numbers.old.items) }
     {
-        let Some(ledger) = &self.ledger else {
+        let Some(accounts) = &self.accounts else {
             return Ok(());
         };
         let mut owed = Vec::new(alloc);
-        ledger.names(alloc, row, &mut owed)?;
+        accounts.names(alloc, row, &mut owed)?;
         numbers.append(&mut owed)
     }
 
@@ -269,8 +269,8 @@ impl Dues {
         ensures ok { OnOk result (AppendsAll (flat_map owes_names self.now) numbers.old.items numbers.new.items) }
         ensures err { OnErr result (numbers.new.items ≡ numbers.old.items) }
     {
-        if let Some(ledger) = &self.ledger {
-            ledger.all_names(numbers)?;
+        if let Some(accounts) = &self.accounts {
+            accounts.all_names(numbers)?;
         }
         Ok(())
     }
@@ -280,8 +280,8 @@ impl Dues {
         requires { row < length self.now }
         ensures { IfOk result (λ runs. AreRuns (owed_in self.now row) runs.items) }
     {
-        match &self.ledger {
-            Some(ledger) => ledger.runs(alloc, row),
+        match &self.accounts {
+            Some(accounts) => accounts.runs(alloc, row),
             None => Ok(Vec::new(alloc)),
         }
     }
@@ -296,8 +296,8 @@ impl Dues {
         requires { row < length self.now }
         ensures { IfOk result (λ debts. debts.items ≡ take most (owed_in self.now row)) }
     {
-        match &self.ledger {
-            Some(ledger) => ledger.first_debts(alloc, row, most),
+        match &self.accounts {
+            Some(accounts) => accounts.first_debts(alloc, row, most),
             None => Ok(Vec::new(alloc)),
         }
     }
@@ -313,15 +313,15 @@ impl Dues {
     pub(crate) fn tidy(&mut self)
         ensures { self.new ≡ self.old }
     {
-        let Some(ledger) = &mut self.ledger else {
+        let Some(accounts) = &mut self.accounts else {
             return;
         };
-        if is_blank(ledger) {
-            self.ledger = None;
+        if is_blank(accounts) {
+            self.accounts = None;
             self.lowest = u64::MAX;
             self.highest = 0;
         } else {
-            ledger.tidy();
+            accounts.tidy();
         }
     }
 }
@@ -337,28 +337,28 @@ fn opened(
     requires { row < rows }
     ensures { IfOk result (λ boxed. boxed.value ≡ set (rows_in rows None) row (filter (counts_at moment) (owed_in (rows_in rows None) row ++ debt ∷ []))) }
 {
-    let mut ledger = blank(alloc, rows)?;
-    ledger.gain_and_expire(row, debt, moment)?;
-    Ok(Box::new(alloc, ledger)?)
+    let mut accounts = blank(alloc, rows)?;
+    accounts.gain_and_expire(row, debt, moment)?;
+    Ok(Box::new(alloc, accounts)?)
 }
 
 /// Accounts of `rows` rows that owe nothing.
 fn blank(alloc: Global, rows: usize) -> Result<Accounts, AllocError>
-    ensures { IfOk result (λ ledger. ledger ≡ rows_in rows None) }
+    ensures { IfOk result (λ accounts. accounts ≡ rows_in rows None) }
 {
-    let mut ledger = Accounts::new(alloc);
+    let mut accounts = Accounts::new(alloc);
     for row in 0..rows {
-        ledger.push()?;
+        accounts.push()?;
     }
-    Ok(ledger)
+    Ok(accounts)
 }
 
 /// Whether no row of the accounts owes anything.
-fn is_blank(ledger: &Accounts) -> bool
-    ensures { IsTrue result → (ledger.now ≡ rows_in (length ledger.now) None) }
+fn is_blank(accounts: &Accounts) -> bool
+    ensures { IsTrue result → (accounts.now ≡ rows_in (length accounts.now) None) }
 {
-    for row in 0..ledger.len() {
-        if !ledger.owes_nothing(row) {
+    for row in 0..accounts.len() {
+        if !accounts.owes_nothing(row) {
             return false;
         }
     }

@@ -25,8 +25,8 @@ impl Dues {
         requires rising { Rise rows.now }
         ensures { self.new ≡ map (owed_in self.old) rows.now }
     {
-        if let Some(ledger) = &mut self.ledger {
-            ledger.keep(rows);
+        if let Some(accounts) = &mut self.accounts {
+            accounts.keep(rows);
         }
         self.rows = rows.len();
     }
@@ -43,10 +43,10 @@ impl Dues {
         ensures ok { OnOk result (self.new ≡ self.old ++ filter (is_timely moment) (from_to from to self.old)) }
         ensures err { OnErr result (self.new ≡ self.old) }
     {
-        match &mut self.ledger {
-            Some(ledger) => {
-                ledger.push_timely(from, to, moment)?;
-                self.rows = ledger.len();
+        match &mut self.accounts {
+            Some(accounts) => {
+                accounts.push_timely(from, to, moment)?;
+                self.rows = accounts.len();
             }
             None => {
                 let more = to.saturating_sub(from);
@@ -69,9 +69,9 @@ impl Dues {
         ensures ok { OnOk result (self.new ≡ self.old ++ paid_rows message moment (from_to from to self.old)) }
         ensures err { OnErr result (self.new ≡ self.old) }
     {
-        if let Some(ledger) = &mut self.ledger {
-            ledger.push_paid(from, to, message, moment)?;
-            self.rows = ledger.len();
+        if let Some(accounts) = &mut self.accounts {
+            accounts.push_paid(from, to, message, moment)?;
+            self.rows = accounts.len();
         }
         Ok(())
     }
@@ -86,14 +86,14 @@ impl Dues {
         ensures ok { OnOk result (self.new ≡ take from self.old ++ map (λ owes. owes ++ debt ∷ []) (drop from self.old)) }
         ensures err { OnErr result (take from self.new ≡ take from self.old) }
     {
-        match &mut self.ledger {
-            Some(ledger) => {
-                if ledger.gain_each(from, debt).is_err() {
+        match &mut self.accounts {
+            Some(accounts) => {
+                if accounts.gain_each(from, debt).is_err() {
                     self.rows = self.rows.min(from);
                     return Err(AllocError);
                 }
             }
-            None => self.ledger = Some(opened_from(alloc, self.rows, from, debt)?),
+            None => self.accounts = Some(opened_from(alloc, self.rows, from, debt)?),
         }
         self.lowest = self.lowest.min(debt.message);
         self.highest = self.highest.max(debt.message);
@@ -106,10 +106,10 @@ impl Dues {
         ensures ok { OnOk result (self.new ≡ take from self.old ++ map (filter (counts_at moment)) (drop from self.old)) }
         ensures err { OnErr result (take from self.new ≡ take from self.old) }
     {
-        let Some(ledger) = &mut self.ledger else {
+        let Some(accounts) = &mut self.accounts else {
             return Ok(());
         };
-        if ledger.expire_each(from, moment).is_err() {
+        if accounts.expire_each(from, moment).is_err() {
             self.rows = self.rows.min(from);
             return Err(AllocError);
         }
@@ -126,7 +126,7 @@ fn opened_from(
 ) -> Result<Box<Accounts>, AllocError>
     ensures { IfOk result (λ boxed. boxed.value ≡ take from (rows_in rows None) ++ map (λ owes. owes ++ debt ∷ []) (drop from (rows_in rows None))) }
 {
-    let mut ledger = blank(alloc, rows)?;
-    ledger.gain_each(from, debt)?;
-    Ok(Box::new(alloc, ledger)?)
+    let mut accounts = blank(alloc, rows)?;
+    accounts.gain_each(from, debt)?;
+    Ok(Box::new(alloc, accounts)?)
 }

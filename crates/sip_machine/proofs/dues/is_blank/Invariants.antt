@@ -4,4 +4,4 @@ use Rattle.sip_machine.proofs.dues.is_blank.Given as goal
 
 -- the rows before `row` owe nothing
 abbrev pub invariant-loop-row : goal.invariant-loop-row
-invariant-loop-row l = (k : ℕ) → k < l.row → owed_in l.ledger k ≡ []
+invariant-loop-row l = (k : ℕ) → k < l.row → owed_in l.accounts k ≡ []

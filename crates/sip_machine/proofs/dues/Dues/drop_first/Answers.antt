@@ -9,7 +9,7 @@ pub returns : goal.returns
 returns c =
     elim c.match-self.branch [
       | in-Some w ↦
-          let is : w.in-Some.ledger.value ≡ c.args.self.now = rw w.in-Some.is at c.self.view_is in
+          let is : w.in-Some.accounts.value ≡ c.args.self.now = rw w.in-Some.is at c.self.view_is in
           rw w.self-inside-is (rw (w.deref_mut.ensures.value, is) at w.drop_first.ensures)
       | in_default w ↦
           let is : rows_in c.self.inside.rows None ≡ c.args.self.now = rw w.in_default.is at c.self.view_is in

@@ -14,7 +14,7 @@ invariant_of-self-2 c =
     elim c.match-self.branch [
       | in-Some+in_ok-expire w ↦
           let own = c.self.inside in
-          let rows = w.in-Some.ledger.value in
+          let rows = w.in-Some.accounts.value in
           let is : rows ≡ c.args.self.now = rw w.in-Some.is at c.self.view_is in
           let dues : AreDues rows own.rows own.lowest own.highest = rw w.in-Some.is at c.self.invariant in
           let low : c.args.row < length rows = subst (λ rs. c.args.row < length rs) (sym is) c.requires in

@@ -16,7 +16,7 @@ returns-in_default-clause-ok c =
 pub invariant_of-self-else-is_err : goal.invariant_of-self-else-is_err
 invariant_of-self-else-is_err c =
     let own = c.self.inside in
-    let rows = c.in-Some.ledger.value in
+    let rows = c.in-Some.accounts.value in
     let dues : AreDues rows own.rows own.lowest own.highest = rw c.in-Some.is at c.self.invariant in
     let all = on_ok c.expire_each.result _ (rw c.is_err.ensures.value at c.if-is_err.false) c.expire_each.ensures.ok in
     let clauses = rw c.deref_mut.ensures.value at all in

@@ -11,7 +11,7 @@ invariant_of-self-2 c =
     let debt = c.args.debt in
     elim c.match-self.branch [
       | in-Some+else-is_err w ↦
-          let rows = w.in-Some.ledger.value in
+          let rows = w.in-Some.accounts.value in
           let dues : AreDues rows own.rows own.lowest own.highest = rw w.in-Some.is at c.self.invariant in
           let gained = on_ok w.gain_each.result _ (rw w.is_err.ensures.value at w.if-is_err.false) w.gain_each.ensures.ok in
           let clauses = rw w.deref_mut.ensures.value at gained in

@@ -12,7 +12,7 @@ invariant_of-self c =
     let kept = c.args.rows.now in
     elim c.match-self.branch [
       | in-Some w ↦
-          let rows = w.in-Some.ledger.value in
+          let rows = w.in-Some.accounts.value in
           let is : rows ≡ c.args.self.now = rw w.in-Some.is at c.self.view_is in
           let dues : AreDues rows own.rows own.lowest own.highest = rw w.in-Some.is at c.self.invariant in
           let clauses = rw w.deref_mut.ensures.value at w.keep.ensures in
@@ -30,7 +30,7 @@ pub returns : goal.returns
 returns c =
     elim c.match-self.branch [
       | in-Some w ↦
-          let is : w.in-Some.ledger.value ≡ c.args.self.now = rw w.in-Some.is at c.self.view_is in
+          let is : w.in-Some.accounts.value ≡ c.args.self.now = rw w.in-Some.is at c.self.view_is in
           rw w.self-inside-is ((rw w.deref_mut.ensures.value at w.keep.ensures) ∙ ap (λ rows. map (owed_in rows) c.args.rows.now) is)
       | in_default w ↦
           let is : rows_in c.self.inside.rows None ≡ c.args.self.now = rw w.in_default.is at c.self.view_is in

@@ -9,7 +9,7 @@ use Rattle.sip_machine.proofs.dues.Dues.names_all.Goals as goal
 pub returns-in_ok-all_names-clause-ok : goal.returns-in_ok-all_names-clause-ok
 returns-in_ok-all_names-clause-ok c =
     let rows = c.deref.result.now in
-    let held : c.in-Some.ledger.value ≡ c.args.self.now = rw c.in-Some.is at c.self.view_is in
+    let held : c.in-Some.accounts.value ≡ c.args.self.now = rw c.in-Some.is at c.self.view_is in
     let is : rows ≡ c.args.self.now = c.deref.ensures ∙ held in
     let old = c.args.numbers.now.items in
     let new = c.all_names.new.numbers.items in

@@ -13,7 +13,7 @@ pub invariant_of-self : goal.invariant_of-self
 invariant_of-self c =
     elim c.match-self.branch [
       | in-Some w ↦
-          let rows = w.in-Some.ledger.value in
+          let rows = w.in-Some.accounts.value in
           let own = c.self.inside in
           let is : rows ≡ c.args.self.now = rw w.in-Some.is at c.self.view_is in
           let dues : AreDues rows own.rows own.lowest own.highest = rw w.in-Some.is at c.self.invariant in

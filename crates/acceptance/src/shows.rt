@@ -107,20 +107,48 @@ fn shows_or_wants_memory(
     }
 }
 
-/// Appends the bytes of a log from one place to another, which are an entry, after the entry's number. Where the message of the entry has the
-/// canonical form already, this is how the entry is shown.
+/// The number of an entry with a blank after it, and the places in a log from which the entry stands and before which it ends.
+type Numbered = (&'static str, usize, usize);
+
+/// Appends the bytes of an entry of a log, after its number. Where the message of the entry has the canonical form already, this is how the
+/// entry is shown.
 fn push_numbered(
     text: &mut Vec<u8>,
     log: &[u8],
-    number: &[u8],
-    (first, end): (usize, usize),
+    (number, first, end): Numbered,
 ) -> Result<(), Fail> {
     let Some(entry) = log.get(first..end) else {
         return Err("a short log".into());
     };
-    text.extend_from_slice(number)?;
+    text.extend_from_slice(number.as_bytes())?;
     text.extend_from_slice(entry)?;
     Ok(())
+}
+
+/// Appends these entries of a log, each after its number, and the last line.
+fn push_shown(
+    text: &mut Vec<u8>,
+    log: &[u8],
+    entries: &[Numbered],
+    last: &str,
+) -> Result<(), Fail> {
+    for numbered in entries {
+        push_numbered(text, log, *numbered)?;
+    }
+    text.extend_from_slice(last.as_bytes())?;
+    Ok(())
+}
+
+/// Checks what is shown of a log with so many entries, which stand at these places and have the canonical form already.
+fn shows_as_it_stands(
+    rt: &(impl Abort + AllocGlobal),
+    log: &[u8],
+    entries: &[Numbered],
+    (last, count): (&str, u64),
+) -> Result<(), Fail> {
+    let mut want = Vec::new(rt.alloc());
+    push_shown(&mut want, log, entries, last)?;
+    shows_or_wants_memory(rt, log, want.as_slice(), count)
 }
 
 /// `tests/growths` refuses each growth within `show` in turn: the answer is then want of memory, and what was written until then
@@ -136,14 +164,13 @@ fn shows_again_after_a_refused_growth(rt: HostRuntime) -> Result<(), Fail> {
 #[test]
 fn shows_the_stored_run_after_a_refused_growth(rt: HostRuntime) -> Result<(), Fail> {
     let log = log_of(rt.alloc(), STORED)?;
-    let bytes = log.as_str().as_bytes();
-    let mut want = Vec::new(rt.alloc());
-    push_numbered(&mut want, bytes, b"1 ", (48, 256))?;
-    push_numbered(&mut want, bytes, b"2 ", (256, 466))?;
-    push_numbered(&mut want, bytes, b"3 ", (466, 667))?;
-    push_numbered(&mut want, bytes, b"4 ", (667, 674))?;
-    want.extend_from_slice(b"end 4\n")?;
-    shows_or_wants_memory(&rt, bytes, want.as_slice(), 4)
+    let entries = [
+        ("1 ", 48, 256),
+        ("2 ", 256, 466),
+        ("3 ", 466, 667),
+        ("4 ", 667, 674),
+    ];
+    shows_as_it_stands(&rt, log.as_str().as_bytes(), &entries, ("end 4\n", 4))
 }
 
 /// `tests/growths` refuses each growth while the log of a server that repeats its 486 is shown.
@@ -153,15 +180,14 @@ fn shows_a_repeat_after_a_refused_growth(rt: HostRuntime) -> Result<(), Fail> {
         rt.alloc(),
         "R 0 INVITE i1; S 0 INVITE i1 486; R 480 INVITE i1; S 490,540 INVITE i1 486",
     )?;
-    let bytes = log.as_str().as_bytes();
-    let mut want = Vec::new(rt.alloc());
-    push_numbered(&mut want, bytes, b"1 ", (48, 252))?;
-    push_numbered(&mut want, bytes, b"2 ", (252, 449))?;
-    push_numbered(&mut want, bytes, b"3 ", (449, 655))?;
-    push_numbered(&mut want, bytes, b"4 ", (655, 854))?;
-    push_numbered(&mut want, bytes, b"5 ", (854, 1_053))?;
-    want.extend_from_slice(b"end 5\n")?;
-    shows_or_wants_memory(&rt, bytes, want.as_slice(), 5)
+    let entries = [
+        ("1 ", 48, 252),
+        ("2 ", 252, 449),
+        ("3 ", 449, 655),
+        ("4 ", 655, 854),
+        ("5 ", 854, 1_053),
+    ];
+    shows_as_it_stands(&rt, log.as_str().as_bytes(), &entries, ("end 5\n", 5))
 }
 
 /// `tests/growths` refuses each growth while the log of a call that is cancelled is shown.
@@ -171,11 +197,6 @@ fn shows_a_cancel_after_a_refused_growth(rt: HostRuntime) -> Result<(), Fail> {
         rt.alloc(),
         "S 0 INVITE i1; R 50 INVITE i1 180; S 100 CANCEL i1",
     )?;
-    let bytes = log.as_str().as_bytes();
-    let mut want = Vec::new(rt.alloc());
-    push_numbered(&mut want, bytes, b"1 ", (48, 252))?;
-    push_numbered(&mut want, bytes, b"2 ", (252, 450))?;
-    push_numbered(&mut want, bytes, b"3 ", (450, 656))?;
-    want.extend_from_slice(b"end 3\n")?;
-    shows_or_wants_memory(&rt, bytes, want.as_slice(), 3)
+    let entries = [("1 ", 48, 252), ("2 ", 252, 450), ("3 ", 450, 656)];
+    shows_as_it_stands(&rt, log.as_str().as_bytes(), &entries, ("end 3\n", 3))
 }

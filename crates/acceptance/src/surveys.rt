@@ -51,21 +51,44 @@ fn bare(alloc: Global, lines: &str) -> Result<String, AllocError> {
     Ok(text)
 }
 
+/// Checks that the bytes are those of the wanted lines. The row says which test asks.
+fn reads_lines(rt: &impl Abort, text: &[u8], want: &str, row: &str) -> Result<(), Fail> {
+    let lines = str::from_utf8(text).map_err(|_| "no text")?;
+    reads(rt, lines, want, row);
+    Ok(())
+}
+
+/// Checks the lines of the survey of a log whose bytes come from a reader.
+fn surveys_read(
+    rt: &(impl Abort + AllocGlobal),
+    log: &[u8],
+    (row, want): (&str, &str),
+) -> Result<(), Fail> {
+    let mut text = Vec::new(rt.alloc());
+    written(rt.alloc(), log, &mut text)?;
+    reads_lines(rt, text.as_slice(), want, row)
+}
+
+/// Checks the lines of the survey of a log whose bytes lie in memory, without the words of their transactions.
+fn surveys_bytes(
+    rt: &(impl Abort + AllocGlobal),
+    log: &[u8],
+    (row, want): (&str, &str),
+) -> Result<(), Fail> {
+    let mut text = Vec::new(rt.alloc());
+    told(rt.alloc(), log, &mut text)?;
+    reads_lines(rt, text.as_slice(), want, row)
+}
+
 /// Checks the lines of the survey of a log, whose bytes come from a reader or lie in memory.
 fn surveys_log(
     rt: &(impl Abort + AllocGlobal),
     log: &str,
     (row, want): (&str, &str),
 ) -> Result<(), Fail> {
-    let mut text = Vec::new(rt.alloc());
-    written(rt.alloc(), log.as_bytes(), &mut text)?;
-    let lines = str::from_utf8(text.as_slice()).map_err(|_| "no text")?;
-    reads(rt, lines, want, row);
-    let mut text = Vec::new(rt.alloc());
-    told(rt.alloc(), log.as_bytes(), &mut text)?;
-    let lines = str::from_utf8(text.as_slice()).map_err(|_| "no text")?;
-    reads(rt, lines, bare(rt.alloc(), want)?.as_str(), row);
-    Ok(())
+    surveys_read(rt, log.as_bytes(), (row, want))?;
+    let lines = bare(rt.alloc(), want)?;
+    surveys_bytes(rt, log.as_bytes(), (row, lines.as_str()))
 }
 
 /// Checks the lines of the survey of the log of these words.
@@ -87,23 +110,48 @@ fn finds_what_is_wrong_at_each_entry(rt: HostRuntime) -> Result<(), Fail> {
     surveys_each(&rt, &rows::FOUND)
 }
 
+/// The words of a log of a server with two answers, in which the requests stand twice.
+fn two_answers(alloc: Global, requests: &str, answers: &str) -> Result<String, AllocError> {
+    format!(in alloc;
+        "tolerance 10000; R 0 OPTIONS a; S 0 OPTIONS a 180; {requests}S 0 OPTIONS a 181; {requests}\
+        {answers}S 0 OPTIONS b; M 700; M 20000"
+    )
+}
+
+/// The words of the log of a server that is given up, and of a client that falls silent.
+fn one_given_up(alloc: Global) -> Result<String, AllocError> {
+    let requests = "R 0 OPTIONS a; ".repeat(alloc, 40)?;
+    let answers = "S 0 OPTIONS a 180; S 0 OPTIONS a 181; ".repeat(alloc, 30)?;
+    two_answers(alloc, requests.as_str(), answers.as_str())
+}
+
 /// A server answers in one of two ways, and each repeated request may be answered or not: after 44 answers more states are possible than a
 /// survey follows. It finds nothing in what comes for this server later, and finds another transaction that falls silent.
 #[test]
 fn gives_one_up_and_finds_another(rt: HostRuntime) -> Result<(), Fail> {
-    let alloc = rt.alloc();
-    let requests = "R 0 OPTIONS a; ".repeat(alloc, 40)?;
-    let requests = requests.as_str();
-    let answers = "S 0 OPTIONS a 180; S 0 OPTIONS a 181; ".repeat(alloc, 30)?;
-    let words = format!(in alloc;
-        "tolerance 10000; R 0 OPTIONS a; S 0 OPTIONS a 180; {requests}S 0 OPTIONS a 181; {requests}\
-        {answers}S 0 OPTIONS b; M 700; M 20000",
-        answers = answers.as_str()
-    )?;
+    let words = one_given_up(rt.alloc())?;
     let want =
         "undecided 128 transaction 1 server OPTIONS z9hG4bKa 1 128\nbreach 146 transaction 2 client OPTIONS z9hG4bKb 144 144\nend entries 146 transactions 2 findings 2\n";
-    let log = log_of(alloc, words.as_str())?;
+    let log = log_of(rt.alloc(), words.as_str())?;
     surveys_log(&rt, log.as_str(), ("a server with two answers", want))
+}
+
+/// Writes the lines of the survey of a part of a log.
+fn part_written(
+    alloc: Global,
+    log: &[u8],
+    part: &Part,
+    text: &mut Vec<u8>,
+) -> Result<(), SurveyError> {
+    let mut source = FromRead::new(log);
+    survey_part(
+        alloc,
+        &mut source,
+        &mut ToWrite::new(text),
+        Hasher::new(),
+        part,
+    )?;
+    Ok(())
 }
 
 /// Checks the lines of the survey of part `number` of two.
@@ -115,13 +163,8 @@ fn surveys_part(
 ) -> Result<(), Fail> {
     let part = Part::new(number, 2).ok_or("a part")?;
     let mut text = Vec::new(rt.alloc());
-    let mut source = FromRead::new(log.as_bytes());
-    let mut writer = ToWrite::new(&mut text);
-    survey_part(rt.alloc(), &mut source, &mut writer, Hasher::new(), &part)?;
-    drop(writer);
-    let lines = str::from_utf8(text.as_slice()).map_err(|_| "no text")?;
-    reads(rt, lines, want, "a part");
-    Ok(())
+    part_written(rt.alloc(), log.as_bytes(), &part, &mut text)?;
+    reads_lines(rt, text.as_slice(), want, "a part")
 }
 
 /// A restart ends the client of one branch and the server of the other, each in its own part: FNV-1a of z9hg4bka is 431978031, and that of z9hg4bkb is

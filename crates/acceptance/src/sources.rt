@@ -189,19 +189,67 @@ fn answers_io_after_the_last_entry(rt: HostRuntime) -> Result<(), Fail> {
     Ok(())
 }
 
+/// Checks that the judge of a long log answers a failed read, where the source fails after so many calls; or answers that it makes no more
+/// calls, which are more than the fewest.
+fn is_judged_within(
+    rt: &(impl Abort + AllocGlobal),
+    bytes: &[u8],
+    calls: usize,
+    fewest: usize,
+) -> bool {
+    let answer = verdict_failing(rt.alloc(), bytes, 4_096, calls);
+    if answer.is_ok() {
+        holds_at(rt, calls > fewest, ("calls:", calls));
+        return true;
+    }
+    fails_to_read(rt, &answer, calls);
+    false
+}
+
+/// Checks that the judge of a long log answers a failed read, up to the last call that it makes.
+fn judges_at_last(rt: &(impl Abort + AllocGlobal), bytes: &[u8]) -> Result<(), Fail> {
+    let fewest = bytes.len() / 4_096;
+    for calls in 0..1_000 {
+        if is_judged_within(rt, bytes, calls, fewest) {
+            return Ok(());
+        }
+    }
+    Err("never read".into())
+}
+
 /// The source of a long log fails after each number of calls, up to the last call that the judge makes: each time the answer is that it failed.
 #[test]
 fn answers_io_in_a_long_log(rt: HostRuntime) -> Result<(), Fail> {
     let log = long_log(rt.alloc())?;
-    let bytes = log.as_str().as_bytes();
+    judges_at_last(&rt, log.as_str().as_bytes())
+}
+
+/// Checks that the listing of a long log answers a failed read, where the source fails after so many calls; or answers that it makes no more
+/// calls, which are more than the fewest.
+fn is_listed_within(
+    rt: &(impl Abort + AllocGlobal),
+    bytes: &[u8],
+    calls: usize,
+    fewest: usize,
+) -> bool {
+    let answer = listing_failing(rt.alloc(), bytes, (4_096, calls), 5);
+    if answer.is_ok() {
+        holds_at(rt, calls > fewest, ("calls:", calls));
+        return true;
+    }
+    fails_to_read(rt, &answer, calls);
+    false
+}
+
+/// Checks that the listing of a long log answers a failed read, up to the last call that it makes, and that `show` does at each of these.
+fn lists_at_last(rt: &(impl Abort + AllocGlobal), bytes: &[u8]) -> Result<(), Fail> {
     let fewest = bytes.len() / 4_096;
     for calls in 0..1_000 {
-        let answer = verdict_failing(rt.alloc(), bytes, 4_096, calls);
-        if answer.is_ok() {
-            holds_at(&rt, calls > fewest, ("calls:", calls));
+        if is_listed_within(rt, bytes, calls, fewest) {
             return Ok(());
         }
-        fails_to_read(&rt, &answer, calls);
+        let shown = shown_failing_in(rt.alloc(), bytes, 4_096, calls);
+        holds_at(rt, shown == Err(ShowError::Read), ("shown, calls:", calls));
     }
     Err("never read".into())
 }
@@ -210,17 +258,5 @@ fn answers_io_in_a_long_log(rt: HostRuntime) -> Result<(), Fail> {
 #[test]
 fn lists_and_shows_until_a_read_fails(rt: HostRuntime) -> Result<(), Fail> {
     let log = long_log(rt.alloc())?;
-    let bytes = log.as_str().as_bytes();
-    let fewest = bytes.len() / 4_096;
-    for calls in 0..1_000 {
-        let answer = listing_failing(rt.alloc(), bytes, (4_096, calls), 5);
-        if answer.is_ok() {
-            holds_at(&rt, calls > fewest, ("calls:", calls));
-            return Ok(());
-        }
-        fails_to_read(&rt, &answer, calls);
-        let shown = shown_failing_in(rt.alloc(), bytes, 4_096, calls);
-        holds_at(&rt, shown == Err(ShowError::Read), ("shown, calls:", calls));
-    }
-    Err("never read".into())
+    lists_at_last(&rt, log.as_str().as_bytes())
 }

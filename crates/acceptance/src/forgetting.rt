@@ -108,20 +108,42 @@ fn breaches(alloc: Global, found: &[Finding]) -> Result<Vec<(u64, u64)>, AllocEr
     Ok(numbers)
 }
 
+/// Takes the entries of the log of these bytes and forgets, as `takes_and_forgets`.
+fn forgets_in(
+    rt: &(impl Abort + AllocGlobal),
+    bytes: &[u8],
+    behind: u64,
+    found: &mut Vec<Finding>,
+    left: &mut Vec<u64>,
+) -> Result<(), Fail> {
+    let mut surveyed = Surveyed::open(rt.alloc(), bytes)?;
+    let done = takes_and_forgets(rt, &mut surveyed, behind, found, left);
+    surveyed.end();
+    done
+}
+
+/// Checks that the findings are breaches, with these entries and transactions.
+fn are_breaches(
+    rt: &(impl Abort + AllocGlobal),
+    found: &[Finding],
+    want: &[(u64, u64)],
+    words: &str,
+) -> Result<(), Fail> {
+    let numbers = breaches(rt.alloc(), found)?;
+    holds(rt, numbers.as_slice() == want, words);
+    holds(rt, found.len() == want.len(), words);
+    Ok(())
+}
+
 /// Checks the transactions that are left, and the findings, of a survey that takes the log of these words and forgets.
 fn forgets(rt: &(impl Abort + AllocGlobal), (words, behind, left, found): Row) -> Result<(), Fail> {
     let log = log_of(rt.alloc(), words)?;
     let mut are_left = Vec::new(rt.alloc());
     let mut are_found = Vec::new(rt.alloc());
-    let mut surveyed = Surveyed::open(rt.alloc(), log.as_str().as_bytes())?;
-    let done = takes_and_forgets(rt, &mut surveyed, behind, &mut are_found, &mut are_left);
-    surveyed.end();
-    done?;
+    let bytes = log.as_str().as_bytes();
+    forgets_in(rt, bytes, behind, &mut are_found, &mut are_left)?;
     holds(rt, are_left.as_slice() == left, words);
-    let numbers = breaches(rt.alloc(), are_found.as_slice())?;
-    holds(rt, numbers.as_slice() == found, words);
-    holds(rt, are_found.len() == found.len(), words);
-    Ok(())
+    are_breaches(rt, are_found.as_slice(), found, words)
 }
 
 #[test]
@@ -156,6 +178,20 @@ fn takes_and_tells(
     first_is(rt, &surveyed.survey, (3, "z9hG4bKb"))
 }
 
+/// Takes the entries of the log of these bytes and checks what is left, as `takes_and_tells`. It answers the end of the survey.
+fn tells_in(
+    rt: &(impl Abort + AllocGlobal),
+    bytes: &[u8],
+    found: &mut Vec<Finding>,
+    left: &mut Vec<u64>,
+) -> Result<Option<SurveyEnd>, Fail> {
+    let mut surveyed = Surveyed::open(rt.alloc(), bytes)?;
+    let done = takes_and_tells(rt, &mut surveyed, found, left);
+    let end = surveyed.end();
+    done?;
+    Ok(end)
+}
+
 /// The server of b has the first number once the client of a is forgotten, and keeps its own history. The next entry has the next number.
 #[test]
 fn what_is_left_is_told_by_its_new_number(rt: HostRuntime) -> Result<(), Fail> {
@@ -165,10 +201,7 @@ fn what_is_left_is_told_by_its_new_number(rt: HostRuntime) -> Result<(), Fail> {
     )?;
     let mut left = Vec::new(rt.alloc());
     let mut found = Vec::new(rt.alloc());
-    let mut surveyed = Surveyed::open(rt.alloc(), log.as_str().as_bytes())?;
-    let done = takes_and_tells(&rt, &mut surveyed, &mut found, &mut left);
-    let end = surveyed.end();
-    done?;
+    let end = tells_in(&rt, log.as_str().as_bytes(), &mut found, &mut left)?;
     let clean = SurveyEnd::Clean {
         entries: 3,
         transactions: 1,
@@ -214,23 +247,42 @@ fn takes_and_fails(
     Ok(None)
 }
 
+/// Takes the entries of the log of these bytes and forgets until the survey fails, as `takes_and_fails`. It answers the error, and the end of the
+/// survey.
+fn fails_in(
+    rt: &(impl Abort + AllocGlobal),
+    bytes: &[u8],
+    found: &mut Vec<Finding>,
+) -> Result<(Option<StepError>, Option<SurveyEnd>), Fail> {
+    let mut surveyed = Surveyed::open(rt.alloc(), bytes)?;
+    let failed = takes_and_fails(rt, &mut surveyed, found);
+    let end = surveyed.end();
+    Ok((failed?, end))
+}
+
+/// Checks the end of a survey that failed, or that did not and has the server of b alone. It answers the error.
+fn ends(
+    rt: &impl Abort,
+    (failed, end): (Option<StepError>, Option<SurveyEnd>),
+) -> Result<(), Fail> {
+    let Some(error) = failed else {
+        let clean = SurveyEnd::Clean {
+            entries: 3,
+            transactions: 1,
+        };
+        holds(rt, end == Some(clean), "at the end");
+        return Ok(());
+    };
+    holds(rt, end.is_none(), "of a survey that failed");
+    Err(error.into())
+}
+
 /// `tests/growths` refuses each growth in turn. A survey that failed has no end, and one that did not fail has the server of b alone.
 #[test]
 fn refused_while_a_survey_forgets(rt: HostRuntime) -> Result<(), Fail> {
     let words = "S 0 OPTIONS a; R 10 OPTIONS a 200; R 15000 OPTIONS b";
     let log = log_of(rt.alloc(), words)?;
     let mut found = Vec::new(rt.alloc());
-    let mut surveyed = Surveyed::open(rt.alloc(), log.as_str().as_bytes())?;
-    let failed = takes_and_fails(&rt, &mut surveyed, &mut found);
-    let end = surveyed.end();
-    let Some(error) = failed? else {
-        let clean = SurveyEnd::Clean {
-            entries: 3,
-            transactions: 1,
-        };
-        holds(&rt, end == Some(clean), "at the end");
-        return Ok(());
-    };
-    holds(&rt, end.is_none(), "of a survey that failed");
-    Err(error.into())
+    let told = fails_in(&rt, log.as_str().as_bytes(), &mut found)?;
+    ends(&rt, told)
 }

@@ -4,20 +4,25 @@ use crate::logs::{long_message, push_own};
 use crate::notation::{header, message_of, push_message};
 use crate::verdicts::{verdict_by, verdict_of_single_bytes};
 use crate::wants::reads;
-use std::alloc::Global;
+use std::alloc::{AllocError, Global};
 use std::hash::{BuildHasher, RandomState};
 use std::process::Abort;
 use std::test::Fail;
 
+/// Appends a request that is sent twice, the response to it, and a mark.
+fn push_answered(log: &mut String, request: &str, response: &str) -> Result<(), AllocError> {
+    push_message(log, "S", 0, request)?;
+    push_message(log, "S", 500, request)?;
+    push_message(log, "R", 600, response)?;
+    log.push_str("M 6000\n")
+}
+
 /// The log of a long OPTIONS, which is sent twice and answered, and a mark.
 fn log_of_a_long_message(alloc: Global) -> Result<String, Fail> {
     let message = long_message(alloc)?;
-    let mut log = header(alloc, "tolerance 50")?;
-    push_message(&mut log, "S", 0, message.as_str())?;
-    push_message(&mut log, "S", 500, message.as_str())?;
     let response = message_of(alloc, "OPTIONS", "1", Some("200"))?;
-    push_message(&mut log, "R", 600, response.as_str())?;
-    log.push_str("M 6000\n")?;
+    let mut log = header(alloc, "tolerance 50")?;
+    push_answered(&mut log, message.as_str(), response.as_str())?;
     Ok(log)
 }
 

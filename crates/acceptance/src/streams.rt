@@ -136,6 +136,20 @@ fn legal(entries: u64, transactions: u64) -> Option<Verdict> {
     })
 }
 
+/// Checks how many messages are kept after the entries at these places.
+fn keeps_at(rt: &impl Abort, kept: &[usize], places: &[(usize, usize)]) {
+    for &(place, want) in places {
+        holds_at(rt, kept.get(place) == Some(&want), ("kept at", place));
+    }
+}
+
+/// Checks that no more than 66 messages are kept after any entry.
+fn keeps_66(rt: &impl Abort, kept: &[usize]) {
+    for (place, count) in kept.iter().enumerate() {
+        holds_at(rt, *count <= 66, ("kept at", place));
+    }
+}
+
 /// Takes the entries of a log with 1,000 transactions of two entries each, and checks how many messages are kept after the entries at these places,
 /// and that no more than 66 are kept after any.
 fn keeps_few(
@@ -146,12 +160,8 @@ fn keeps_few(
     let (kept, verdict) = kept_after_each(rt, log)?;
     says(rt, verdict, legal(2_000, 1_000), "at the end");
     holds(rt, kept.len() == 2_000, "the entries");
-    for &(place, want) in places {
-        holds_at(rt, kept.get(place) == Some(&want), ("kept at", place));
-    }
-    for (place, count) in kept.iter().enumerate() {
-        holds_at(rt, *count <= 66, ("kept at", place));
-    }
+    keeps_at(rt, kept.as_slice(), places);
+    keeps_66(rt, kept.as_slice());
     Ok(())
 }
 
@@ -255,6 +265,18 @@ fn keeps_no_message_without_a_key(rt: HostRuntime) -> Result<(), Fail> {
     Ok(())
 }
 
+/// Takes the next entry, and checks what the judge says of it.
+fn says_of_next(
+    rt: &impl Abort,
+    stream: &mut Stream<'_>,
+    want: Option<Verdict>,
+) -> Result<(), Fail> {
+    let entry = stream.next()?.ok_or("no entry")?;
+    let said = take(rt, &mut stream.judge, &entry)?;
+    says(rt, said, want, "of an entry");
+    Ok(())
+}
+
 /// Takes the entries, and checks what the judge says of each.
 fn says_of_each(
     rt: &impl Abort,
@@ -262,13 +284,7 @@ fn says_of_each(
     wants: &[Option<Verdict>],
 ) -> Result<(), Fail> {
     for &want in wants {
-        let entry = stream.next()?.ok_or("no entry")?;
-        says(
-            rt,
-            take(rt, &mut stream.judge, &entry)?,
-            want,
-            "of an entry",
-        );
+        says_of_next(rt, stream, want)?;
     }
     Ok(())
 }
@@ -420,8 +436,22 @@ fn takes_or_fails(
     Err(error)
 }
 
-/// Takes so many entries, or as many as there are, until the judge fails, and answers its error. A judge that has failed may be given any entry,
-/// also one that it took before.
+/// Takes an entry, and answers the error of a judge that fails at it. A judge that has failed may be given any entry, also the one before.
+fn fails_at<'a>(
+    rt: &impl Abort,
+    judge: &mut Judge<Hasher>,
+    entry: &'a Entry,
+    before: Option<&'a Entry>,
+) -> Option<StepError> {
+    let Err(error) = takes_or_fails(rt, judge, entry) else {
+        return None;
+    };
+    let any = before.unwrap_or(entry);
+    holds(rt, judge.may_take(any), "an entry that was taken");
+    Some(error)
+}
+
+/// Takes so many entries, or as many as there are, until the judge fails, and answers its error.
 fn takes_until_it_fails(
     rt: &impl Abort,
     stream: &mut Stream<'_>,
@@ -432,10 +462,9 @@ fn takes_until_it_fails(
         let Some(entry) = stream.next()? else {
             break;
         };
-        if let Err(error) = takes_or_fails(rt, &mut stream.judge, &entry) {
-            let any = before.as_ref().unwrap_or(&entry);
-            holds(rt, stream.judge.may_take(any), "an entry that was taken");
-            return Ok(Some(error));
+        let failed = fails_at(rt, &mut stream.judge, &entry, before.as_ref());
+        if failed.is_some() {
+            return Ok(failed);
         }
         before = Some(entry);
     }

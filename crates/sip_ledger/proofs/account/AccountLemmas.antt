@@ -134,22 +134,20 @@ owed-within gains strikes a k is = elim (cases_lt k a.end) [
   | inr past ↦ absurd (true≢false (sym is ∙ past-end gains strikes a k past))
 ]
 
--- where an account owes something, each gain from its start up to its end is kept
-pub kept-from : (gains : Gains) (strikes : List Strike) (a : Account) (k : ℕ) → AreGains gains → IsAccount gains strikes a → a.start < a.end → a.start ≤ k → k < a.end → IsKept gains k
-kept-from gains strikes a k are is some low high =
-    let first = left-kept gains a.start are (owed-left gains strikes a a.start (is.begins some)) in
-    let from = first.from in
-    let end = is.end in
-    let count = entries-long gains are.long in
-    record { from = omega (arith, from, low); within = omega (arith, high, end, count) }
-
 -- where an account owes something, each gain from its start on is kept
-pub kept-passed : (gains : Gains) (strikes : List Strike) (a : Account) (k : ℕ) → AreGains gains → IsAccount gains strikes a → a.start < a.end → a.start ≤ k → k < length (entries_of gains) → IsKept gains k
-kept-passed gains strikes a k are is some low high =
+pub kept-passed : {gains : Gains} {strikes : List Strike} {a : Account} (k : ℕ) → AreGains gains → IsAccount gains strikes a → a.start < a.end → a.start ≤ k →
+    k < length (entries_of gains) → IsKept gains k
+kept-passed {gains} {strikes} {a} k are is some low high =
     let first = left-kept gains a.start are (owed-left gains strikes a a.start (is.begins some)) in
     let from = first.from in
     let count = entries-long gains are.long in
     record { from = omega (arith, from, low); within = omega (arith, high, count) }
+
+-- each gain from the start of an account up to its end is kept
+pub kept-from : {gains : Gains} {strikes : List Strike} {a : Account} (k : ℕ) → AreGains gains → IsAccount gains strikes a → a.start ≤ k → k < a.end → IsKept gains k
+kept-from k are is low high =
+    let end = is.end in
+    kept-passed k are is (omega (arith, low, high)) low (omega (arith, high, end))
 
 -- where an entry is the same among old and new gains, and is left in both or in neither, it is gone in both or in neither
 gone-over : (old new : Gains) (own : List Strike) (k : ℕ) → entry_at (entries_of new) k ≡ entry_at (entries_of old) k → is_left new k ≡ is_left old k → is_gone new own k ≡ is_gone old own k

@@ -41,27 +41,6 @@ front-end gains strikes m a at end within =
     ∙ ap (λ l. front o m (entries_of gains) at ++ l) (back-none o m (entries_of gains) at (λ k past. past-end gains strikes a k (omega (arith, past, end))))
     ∙ append-nil (front o m (entries_of gains) at)
 
--- what is told up to the end of an account are its debts
-pub all-told : (gains : Gains) (strikes : List Strike) (a : Account) (at : ℕ) → IsAccount gains strikes a → a.end ≤ at → at ≤ a.end →
-    front (owes_at gains strikes a) (must_at gains a) (entries_of gains) at ≡ account_debts gains strikes a
-unfolding account_debts
-all-told gains strikes a at is past within =
-    let end = is.end in
-    sym (front-end gains strikes (must_at gains a) a at past (omega (arith, within, end)))
-
--- what an account owes before a place of it are the first of its debts
-pub front-first : (gains : Gains) (strikes : List Strike) (a : Account) (at n : ℕ) → IsAccount gains strikes a → at ≤ a.end →
-    length (front (owes_at gains strikes a) (must_at gains a) (entries_of gains) at) ≡ n →
-    front (owes_at gains strikes a) (must_at gains a) (entries_of gains) at ≡ take n (account_debts gains strikes a)
-unfolding account_debts
-front-first gains strikes a at n is within long =
-    let end = is.end in
-    let before = front (owes_at gains strikes a) (must_at gains a) (entries_of gains) at in
-    let after = back (owes_at gains strikes a) (must_at gains a) (entries_of gains) at in
-    sym (take_all n before (omega (arith, long)))
-    ∙ sym (take-append-le n before after (omega (arith, long)))
-    ∙ ap (take n) (sym (parts (owes_at gains strikes a) (must_at gains a) (entries_of gains) at (omega (arith, within, end))))
-
 -- both lists are the same exactly if what is left of them is
 pub record AreBeside (one other left right : List Debt) : Type 0 where
   pub to : one ≡ other → left ≡ right
@@ -130,6 +109,65 @@ pub record IsAfter (gains : Gains) (strikes : List Strike) (a : Account) (at nex
   pub within : (at + 1 ≤ next) × (next ≤ a.end)
   pub before : (k : ℕ) → at + 1 ≤ k → k < next → owes_at gains strikes a k ≡ false
   pub is : next < a.end → owes_at gains strikes a next ≡ true
+
+-- the debts are what an account owes before a place, at which it owes something or ends
+pub record IsToldTo (gains : Gains) (strikes : List Strike) (a : Account) (place : ℕ) (debts : List Debt) : Type 0 where
+  pub told : debts ≡ front (owes_at gains strikes a) (must_at gains a) (entries_of gains) place
+  pub low : a.start ≤ place
+  pub end : place ≤ a.end
+  pub owed : place < a.end → owes_at gains strikes a place ≡ true
+
+module _ {gains : Gains} {strikes : List Strike} {a : Account} where
+  -- an account owes nothing before its start
+  pub told-none : {debts : List Debt} → IsAccount gains strikes a → debts ≡ [] → IsToldTo gains strikes a a.start debts
+  told-none is none =
+      let order = is.order in
+      let end = is.end in
+      record {
+        told = none ∙ sym (front-start gains strikes (must_at gains a) a (omega (arith, order, end)));
+        low = omega arith;
+        end = order;
+        owed = is.begins;
+      }
+
+  -- before the next place it owes one debt more: that of this place
+  pub told-more : {place next : ℕ} {debt : Debt} {debts more : List Debt} → IsAccount gains strikes a → IsToldTo gains strikes a place debts → place < a.end → IsAfter gains strikes a place next →
+      debt ≡ debt_of (entry_at (entries_of gains) place) (must_at gains a place) → more ≡ debts ++ debt ∷ [] → IsToldTo gains strikes a next more
+  told-more {place} {next} is was inside after debt_is more_is =
+      let end = is.end in
+      let start = was.low in
+      let low = after.within.0 in
+      let high = after.within.1 in
+      record {
+        told = more_is ∙ ap₂ (λ l d. l ++ d ∷ []) was.told debt_is
+            ∙ sym (front-more (entries_of gains) (owes_at gains strikes a) (must_at gains a) place next (omega (arith, inside, end)) (was.owed inside) (omega (arith, low)) (omega (arith, high, end))
+            after.before);
+        low = omega (arith, start, low);
+        end = high;
+        owed = after.is;
+      }
+
+  -- before its end it owes all of its debts
+  pub told-all : {place : ℕ} {debts : List Debt} → IsAccount gains strikes a → IsToldTo gains strikes a place debts → a.end ≤ place → debts ≡ account_debts gains strikes a
+  unfolding account_debts
+  told-all {place} is was past =
+      let end = is.end in
+      let within = was.end in
+      was.told ∙ sym (front-end gains strikes (must_at gains a) a place past (omega (arith, within, end)))
+
+  -- before a place of it, it owes the first of its debts
+  pub told-first : {place n : ℕ} {debts : List Debt} → IsAccount gains strikes a → IsToldTo gains strikes a place debts → length debts ≡ n → debts ≡ take n (account_debts gains strikes a)
+  unfolding account_debts
+  told-first {place} {n} is was long =
+      let end = is.end in
+      let within = was.end in
+      let o = owes_at gains strikes a in
+      let m = must_at gains a in
+      let before = front o m (entries_of gains) place in
+      let short : length before ≡ n = ap length (sym was.told) ∙ long in
+      was.told ∙ sym (take_all n before (omega (arith, short)))
+      ∙ sym (take-append-le n before (back o m (entries_of gains) place) (omega (arith, short)))
+      ∙ ap (take n) (sym (parts o m (entries_of gains) place (omega (arith, within, end))))
 
 -- what an account owes from a place on is the debt of this place, and then what it owes from the next one on
 after-more : (gains : Gains) (strikes : List Strike) (a : Account) (at next : ℕ) → IsAccount gains strikes a → at < a.end → owes_at gains strikes a at ≡ true →

@@ -9,14 +9,14 @@ use Rattle.sip_ledger.specs.declared.accounts.account.Account.{Account}
 use Rattle.sip_ledger.specs.declared.accounts.gains.Gains.{Gains}
 use Rattle.sip_ledger.specs.declared.accounts.strikes.Strike.{Strike}
 use Rattle.sip_ledger.specs.declared.debt.Entry.{Entry}
-use Rattle.sip_ledger.specs.Accounts.{owed_in}
 use Rattle.sip_ledger.specs.Debts.{counts_at, debt_deadlines, earliest, is_timely, is_within}
 use Rattle.sip_ledger.specs.Entries.{debt_of}
 use Rattle.sip_ledger.specs.inner.Accounts.{AreAccounts, AreGains, IsAccount, IsKept, KeepsAccounts, account_debts, accounts_debts, entries_of, entry_at, must_at, owes_at}
 use Rattle.sip_ledger.proofs.debts.ListedLemmas.{listed-All, no_entry}
 use Rattle.sip_ledger.proofs.lists.EachLemmas.{changing, changing-front, changing-length, changing-more, changing-none, unchanged-each}
+use Rattle.sip_ledger.proofs.account.AccountLemmas.{debts-length}
 use Rattle.sip_ledger.proofs.gains.LeftLemmas.{left-kept, owed-left}
-use Rattle.sip_ledger.proofs.rows.SeenLemmas.{account-at, changed-to, over-to, row-inside, unchanged}
+use Rattle.sip_ledger.proofs.rows.SeenLemmas.{account-at, changed-by, over-to, row-inside, unchanged}
 
 -- what is owed, with one debt more
 abbrev pub with_debt : Debt → List Debt → List Debt
@@ -32,46 +32,44 @@ pub gained-none : (debt : Debt) (from : ℕ) (gains : Gains) (strikes : List Str
     HaveGained debt from from (accounts_debts gains strikes rows) gains strikes rows
 gained-none debt from gains strikes rows are = record { accounts = are; debts = sym (changing-none (with_debt debt) from (accounts_debts gains strikes rows)) }
 
--- each row of the old ones is one of the rows
-pub gained-inside : (debt : Debt) (from k row : ℕ) (old : List (List Debt)) (gains : Gains) (strikes : List Strike) (rows : List Account) → HaveGained debt from k old gains strikes rows → from ≤ k →
-    row < length old → row < length rows
-gained-inside debt from k row old gains strikes rows are low within =
-    row-inside gains strikes rows (changing (with_debt debt) from k old) row are.debts (omega (arith, within, changing-length (with_debt debt) from k old low))
+-- there are as many lists of debts as accounts
+pub debts-count : (gains : Gains) (strikes : List Strike) (rows : List Account) (n : ℕ) → n ≡ length rows → n ≡ length (accounts_debts gains strikes rows)
+debts-count gains strikes rows n is = is ∙ sym (debts-length gains strikes rows)
 
--- what stands in a row is an account
-pub gained-at : (debt : Debt) (from k row : ℕ) (old : List (List Debt)) (gains : Gains) (strikes : List Strike) (rows : List Account) (a : Account) →
-    HaveGained debt from k old gains strikes rows → from ≤ k → row < length old → a ≡ get_or rows row a → IsAccount gains strikes a
-gained-at debt from k row old gains strikes rows a are low within is =
-    (account-at gains strikes rows (changing (with_debt debt) from k old) row a are.accounts are.debts (omega (arith, within, changing-length (with_debt debt) from k old low)) is).0
+module _ {debt : Debt} {from k : ℕ} {old : List (List Debt)} {gains : Gains} {strikes : List Strike} {rows : List Account} where
+  -- each row of the old ones is one of the rows
+  pub gained-inside : (row : ℕ) → HaveGained debt from k old gains strikes rows → from ≤ k → row < length old → row < length rows
+  gained-inside row are low within = row-inside row are.accounts are.debts (omega (arith, within, changing-length (with_debt debt) from k old low))
 
--- HaveGained stays true over more gains
-pub gained-over : (debt : Debt) (from k : ℕ) (old : List (List Debt)) (gains new : Gains) (strikes : List Strike) (rows : List Account) → KeepsAccounts gains new → AreGains new →
-    HaveGained debt from k old gains strikes rows → HaveGained debt from k old new strikes rows
-gained-over debt from k old gains new strikes rows keeps gained are =
-    let all = over-to gains new strikes rows (changing (with_debt debt) from k old) keeps gained are.accounts are.debts in
-    record { accounts = all.0; debts = all.1 }
+  -- what stands in a row is an account
+  pub gained-at : (row : ℕ) (a : Account) → HaveGained debt from k old gains strikes rows → from ≤ k → row < length old → a ≡ get_or rows row a → IsAccount gains strikes a
+  gained-at row a are low within is =
+      (account-at row a are.accounts are.debts (omega (arith, within, changing-length (with_debt debt) from k old low)) is).0
 
--- HaveGained stays true over more strikes
-pub gained-grown : (debt : Debt) (from k : ℕ) (old : List (List Debt)) (gains : Gains) (one new : List Strike) (rows : List Account) → take (length one) new ≡ one →
-    HaveGained debt from k old gains one rows → HaveGained debt from k old gains new rows
-gained-grown debt from k old gains one new rows kept are =
-    let all = unchanged gains one new rows (changing (with_debt debt) from k old) kept are.accounts are.debts in
-    record { accounts = all.0; debts = all.1 }
+  -- HaveGained stays true over more gains
+  pub gained-over : (new : Gains) → KeepsAccounts gains new → AreGains new → HaveGained debt from k old gains strikes rows → HaveGained debt from k old new strikes rows
+  gained-over new keeps gained are =
+      let all = over-to new keeps gained are.accounts are.debts in
+      record { accounts = all.0; debts = all.1 }
 
--- HaveGained stays true with one row more that gains the debt
-pub gained-more : (debt : Debt) (from k : ℕ) (old : List (List Debt)) (gains : Gains) (one new : List Strike) (rows : List Account) (a b : Account) → take (length one) new ≡ one →
-    HaveGained debt from k old gains one rows → from ≤ k → k < length old → a ≡ get_or rows k a → IsAccount gains new b → account_debts gains new b ≡ with_debt debt (account_debts gains one a) →
-    HaveGained debt from (k + 1) old gains new (set rows k b)
-gained-more debt from k old gains one new rows a b kept are low within is account debts =
-    let seen = changing (with_debt debt) from k old in
-    let at = account-at gains one rows seen k a are.accounts are.debts (omega (arith, within, changing-length (with_debt debt) from k old low)) is in
-    let all = changed-to gains one new rows seen k b (with_debt debt (owed_in seen k)) kept are.accounts are.debts account (debts ∙ ap (with_debt debt) at.1) in
-    record { accounts = all.0; debts = all.1 ∙ changing-more (with_debt debt) from k old [] low within }
+  -- HaveGained stays true over more strikes
+  pub gained-grown : (new : List Strike) → take (length strikes) new ≡ strikes → HaveGained debt from k old gains strikes rows → HaveGained debt from k old gains new rows
+  gained-grown new kept are =
+      let all = unchanged new kept are.accounts are.debts in
+      record { accounts = all.0; debts = all.1 }
 
--- the rows before `from` owe what they owed
-pub gained-front : (debt : Debt) (from k : ℕ) (old : List (List Debt)) (gains : Gains) (strikes : List Strike) (rows : List Account) → HaveGained debt from k old gains strikes rows → from ≤ k →
-    take from (accounts_debts gains strikes rows) ≡ take from old
-gained-front debt from k old gains strikes rows are low = ap (take from) are.debts ∙ changing-front (with_debt debt) from k old low
+  -- HaveGained stays true with one row more that gains the debt
+  pub gained-more : (new : List Strike) (a b : Account) → take (length strikes) new ≡ strikes → HaveGained debt from k old gains strikes rows → from ≤ k → k < length old →
+      a ≡ get_or rows k a → IsAccount gains new b → account_debts gains new b ≡ with_debt debt (account_debts gains strikes a) →
+      HaveGained debt from (k + 1) old gains new (set rows k b)
+  gained-more new a b kept are low within is account debts =
+      let inside : k < length (changing (with_debt debt) from k old) = omega (arith, within, changing-length (with_debt debt) from k old low) in
+      let all = changed-by (with_debt debt) new k a b kept are.accounts are.debts inside is account debts in
+      record { accounts = all.0; debts = all.1 ∙ changing-more (with_debt debt) from k old [] low within }
+
+  -- the rows before `from` owe what they owed
+  pub gained-front : HaveGained debt from k old gains strikes rows → from ≤ k → take from (accounts_debts gains strikes rows) ≡ take from old
+  gained-front are low = ap (take from) are.debts ∙ changing-front (with_debt debt) from k old low
 
 -- where no debt is past, none goes
 kept-each : (t : ℕ) (xs : List Debt) → All (λ d. counts_at t d ≡ true) xs → filter (counts_at t) xs ≡ xs

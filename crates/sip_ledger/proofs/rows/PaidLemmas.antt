@@ -63,47 +63,6 @@ pub record ArePaidTo (gains : Gains) (message t from k : ℕ) (old : List (List 
   pub accounts : AreAccounts gains strikes rows
   pub debts : accounts_debts gains strikes rows ≡ old ++ paid_rows message t (from_to from k old)
 
--- a row of the old ones is one of the accounts
-pub row-there : (gains : Gains) (message t from k row : ℕ) (old : List (List Debt)) (strikes : List Strike) (rows : List Account) → ArePaidTo gains message t from k old strikes rows →
-    row < length old → row < length rows
-row-there gains message t from k row old strikes rows are within =
-    let seen = old ++ paid_rows message t (from_to from k old) in
-    row-inside gains strikes rows seen row are.debts (omega (arith, within, length-append old (paid_rows message t (from_to from k old))))
-
--- a row of the old ones is one of the accounts, with the debts that it had
-pub account-there : (gains : Gains) (message t from k row : ℕ) (old : List (List Debt)) (strikes : List Strike) (rows : List Account) (a : Account) →
-    ArePaidTo gains message t from k old strikes rows → row < length old → a ≡ get_or rows row a → IsAccount gains strikes a × (account_debts gains strikes a ≡ owed_in old row)
-account-there gains message t from k row old strikes rows a are within is =
-    let more = paid_rows message t (from_to from k old) in
-    let at = account-at gains strikes rows (old ++ more) row a are.accounts are.debts (omega (arith, within, length-append old more)) is in
-    (at.0, at.1 ∙ get_or_append_left old more [] row within)
-
--- ArePaidTo stays true where strikes are put after the others
-pub paid-grown : (gains : Gains) (message t from k : ℕ) (old : List (List Debt)) (one new : List Strike) (rows : List Account) → take (length one) new ≡ one →
-    ArePaidTo gains message t from k old one rows → ArePaidTo gains message t from k old new rows
-paid-grown gains message t from k old one new rows kept are =
-    let over = unchanged gains one new rows (old ++ paid_rows message t (from_to from k old)) kept are.accounts are.debts in
-    record { accounts = over.0; debts = over.1 }
-
--- ArePaidTo goes on with the next row, which is put after the others if it is paid
-pub paid-next : (gains : Gains) (message t from k : ℕ) (old : List (List Debt)) (strikes : List Strike) (rows : List Account) (owes : List Debt) (left : Option Account) →
-    ArePaidTo gains message t from k old strikes rows → IfSome left (IsAccount gains strikes) → map (account_debts gains strikes) (option_to_list left) ≡ paid_rows message t (owes ∷ []) →
-    owes ≡ owed_in old k → from ≤ k → k < length old → ArePaidTo gains message t from (k + 1) old strikes (rows ++ option_to_list left)
-paid-next gains message t from k old strikes rows owes None are is debts same low within =
-    let more = paid_rows message t (from_to from k old) in
-    subst (λ r. ArePaidTo gains message t from (k + 1) old strikes r) (sym (append-nil rows)) (record {
-      accounts = are.accounts;
-      debts = are.debts ∙ ap (λ l. old ++ l) (sym (append-nil more) ∙ next-left message t from k old owes [] debts same low within);
-    })
-paid-next gains message t from k old strikes rows owes (Some b) are is debts same low within =
-    let more = paid_rows message t (from_to from k old) in
-    let d = account_debts gains strikes b in
-    let put = pushed-to gains strikes rows (old ++ more) b d are.accounts are.debts is refl in
-    record {
-      accounts = put.0;
-      debts = put.1 ∙ append_assoc old more (d ∷ []) ∙ ap (λ l. old ++ l) (next-left message t from k old owes (d ∷ []) debts same low within);
-    }
-
 -- ArePaidTo holds where no row has been looked at
 pub paid-none : (gains : Gains) (message t from : ℕ) (strikes : List Strike) (rows : List Account) → AreAccounts gains strikes rows →
     from_to from from (accounts_debts gains strikes rows) ≡ [] → ArePaidTo gains message t from from (accounts_debts gains strikes rows) strikes rows
@@ -112,9 +71,46 @@ paid-none gains message t from strikes rows are none = record {
   debts = sym (ap (λ l. accounts_debts gains strikes rows ++ paid_rows message t l) none ∙ append-nil (accounts_debts gains strikes rows));
 }
 
--- the first rows are the old ones still
-pub paid-front : (gains : Gains) (message t from k n : ℕ) (old : List (List Debt)) (strikes : List Strike) (rows : List Account) → ArePaidTo gains message t from k old strikes rows →
-    n ≡ length old → take n (accounts_debts gains strikes rows) ≡ old
-paid-front gains message t from k n old strikes rows are is =
-    let more = paid_rows message t (from_to from k old) in
-    ap (take n) are.debts ∙ ap (λ i. take i (old ++ more)) is ∙ take-append_seam old more
+module _ {gains : Gains} {message t from k : ℕ} {old : List (List Debt)} {strikes : List Strike} {rows : List Account} where
+  -- a row of the old ones is one of the accounts
+  pub row-there : (row : ℕ) → ArePaidTo gains message t from k old strikes rows → row < length old → row < length rows
+  row-there row are within = row-inside row are.accounts are.debts (omega (arith, within, length-append old (paid_rows message t (from_to from k old))))
+
+  -- a row of the old ones is one of the accounts, with the debts that it had
+  pub account-there : (row : ℕ) (a : Account) → ArePaidTo gains message t from k old strikes rows → row < length old → a ≡ get_or rows row a →
+      IsAccount gains strikes a × (account_debts gains strikes a ≡ owed_in old row)
+  account-there row a are within is =
+      let more = paid_rows message t (from_to from k old) in
+      let at = account-at row a are.accounts are.debts (omega (arith, within, length-append old more)) is in
+      (at.0, at.1 ∙ get_or_append_left old more [] row within)
+
+  -- ArePaidTo stays true where strikes are put after the others
+  pub paid-grown : (new : List Strike) → take (length strikes) new ≡ strikes → ArePaidTo gains message t from k old strikes rows → ArePaidTo gains message t from k old new rows
+  paid-grown new kept are =
+      let over = unchanged new kept are.accounts are.debts in
+      record { accounts = over.0; debts = over.1 }
+
+  -- ArePaidTo goes on with the next row, which is put after the others if it is paid
+  pub paid-next : (owes : List Debt) (left : Option Account) → ArePaidTo gains message t from k old strikes rows → IfSome left (IsAccount gains strikes) →
+      map (account_debts gains strikes) (option_to_list left) ≡ paid_rows message t (owes ∷ []) → owes ≡ owed_in old k → from ≤ k → k < length old →
+      ArePaidTo gains message t from (k + 1) old strikes (rows ++ option_to_list left)
+  paid-next owes None are is debts same low within =
+      let more = paid_rows message t (from_to from k old) in
+      subst (λ r. ArePaidTo gains message t from (k + 1) old strikes r) (sym (append-nil rows)) (record {
+        accounts = are.accounts;
+        debts = are.debts ∙ ap (λ l. old ++ l) (sym (append-nil more) ∙ next-left message t from k old owes [] debts same low within);
+      })
+  paid-next owes (Some b) are is debts same low within =
+      let more = paid_rows message t (from_to from k old) in
+      let d = account_debts gains strikes b in
+      let put = pushed-to b d are.accounts are.debts is refl in
+      record {
+        accounts = put.0;
+        debts = put.1 ∙ append_assoc old more (d ∷ []) ∙ ap (λ l. old ++ l) (next-left message t from k old owes (d ∷ []) debts same low within);
+      }
+
+  -- the first rows are the old ones still
+  pub paid-front : (n : ℕ) → ArePaidTo gains message t from k old strikes rows → n ≡ length old → take n (accounts_debts gains strikes rows) ≡ old
+  paid-front n are is =
+      let more = paid_rows message t (from_to from k old) in
+      ap (take n) are.debts ∙ ap (λ i. take i (old ++ more)) is ∙ take-append_seam old more

@@ -30,48 +30,57 @@ pub on-err : {T E : Type 0} (r : Result T E) (P : Type 0) → is_err r ≡ true 
 on-err (Ok x) P is p = absurd (true≢false (sym is))
 on-err (Err e) P is p = p
 
--- a row of the list that contracts see is the row of one of the accounts
-pub row-inside : (gains : Gains) (strikes : List Strike) (rows : List Account) (seen : List (List Debt)) (row : ℕ) → accounts_debts gains strikes rows ≡ seen → row < length seen → row < length rows
-row-inside gains strikes rows seen row view inside = omega (arith, inside, ap length view, debts-length gains strikes rows)
+module _ {gains : Gains} {strikes : List Strike} {rows : List Account} {seen : List (List Debt)} where
+  -- a row of the list that contracts see is the row of one of the accounts
+  pub row-inside : (row : ℕ) → AreAccounts gains strikes rows → accounts_debts gains strikes rows ≡ seen → row < length seen → row < length rows
+  row-inside row are view inside = omega (arith, inside, ap length view, debts-length gains strikes rows)
 
--- what stands in a row is an account, and its debts are those that contracts see there
-pub account-at : (gains : Gains) (strikes : List Strike) (rows : List Account) (seen : List (List Debt)) (row : ℕ) (a : Account) → AreAccounts gains strikes rows →
-    accounts_debts gains strikes rows ≡ seen → row < length seen → a ≡ get_or rows row a → IsAccount gains strikes a × (account_debts gains strikes a ≡ owed_in seen row)
-account-at gains strikes rows seen row a are view inside is =
-    let within = row-inside gains strikes rows seen row view inside in (
-      row-account gains strikes rows row a within is are.each,
-      sym (row-debts gains strikes rows row a within is) ∙ ap (λ l. owed_in l row) view,
-    )
+  -- what stands in a row is an account, and its debts are those that contracts see there
+  pub account-at : (row : ℕ) (a : Account) → AreAccounts gains strikes rows → accounts_debts gains strikes rows ≡ seen → row < length seen → a ≡ get_or rows row a →
+      IsAccount gains strikes a × (account_debts gains strikes a ≡ owed_in seen row)
+  account-at row a are view inside is =
+      let within = row-inside row are view inside in (
+        row-account gains strikes rows row a within is are.each,
+        sym (row-debts gains strikes rows row a within is) ∙ ap (λ l. owed_in l row) view,
+      )
 
--- where one of the accounts changes, contracts see its row changed
-pub changed-to : (gains : Gains) (old new : List Strike) (rows : List Account) (seen : List (List Debt)) (row : ℕ) (a : Account) (debts : List Debt) → take (length old) new ≡ old →
-    AreAccounts gains old rows → accounts_debts gains old rows ≡ seen → IsAccount gains new a → account_debts gains new a ≡ debts →
-    AreAccounts gains new (set rows row a) × (accounts_debts gains new (set rows row a) ≡ set seen row debts)
-changed-to gains old new rows seen row a debts kept are view is owes =
-    let all = changed gains old new rows row a kept are is in
-    (all.0, all.1 ∙ ap₂ (λ l d. set l row d) view owes)
+  -- where one of the accounts changes, contracts see its row changed
+  pub changed-to : (new : List Strike) (row : ℕ) (a : Account) (debts : List Debt) → take (length strikes) new ≡ strikes →
+      AreAccounts gains strikes rows → accounts_debts gains strikes rows ≡ seen → IsAccount gains new a → account_debts gains new a ≡ debts →
+      AreAccounts gains new (set rows row a) × (accounts_debts gains new (set rows row a) ≡ set seen row debts)
+  changed-to new row a debts kept are view is owes =
+      let all = changed gains strikes new rows row a kept are is in
+      (all.0, all.1 ∙ ap₂ (λ l d. set l row d) view owes)
 
--- where no account changes, and the strikes may have grown, contracts see the same rows
-pub unchanged : (gains : Gains) (old new : List Strike) (rows : List Account) (seen : List (List Debt)) → take (length old) new ≡ old → AreAccounts gains old rows →
-    accounts_debts gains old rows ≡ seen → AreAccounts gains new rows × (accounts_debts gains new rows ≡ seen)
-unchanged gains old new rows seen kept are view =
-    let all = kept-all gains old new rows kept are.each in
-    (record { gained = are.gained; each = all.0 }, all.1 ∙ view)
+  -- where an account of a row becomes one whose debts are its by f, contracts see the row changed by f
+  pub changed-by : (f : List Debt → List Debt) (new : List Strike) (row : ℕ) (a b : Account) → take (length strikes) new ≡ strikes →
+      AreAccounts gains strikes rows → accounts_debts gains strikes rows ≡ seen → row < length seen → a ≡ get_or rows row a →
+      IsAccount gains new b → account_debts gains new b ≡ f (account_debts gains strikes a) →
+      AreAccounts gains new (set rows row b) × (accounts_debts gains new (set rows row b) ≡ set seen row (f (owed_in seen row)))
+  changed-by f new row a b kept are view inside is account debts =
+      changed-to new row b (f (owed_in seen row)) kept are view account (debts ∙ ap f (account-at row a are view inside is).1)
 
--- where the gains may have grown, contracts see the same rows
-pub over-to : (old new : Gains) (strikes : List Strike) (rows : List Account) (seen : List (List Debt)) → KeepsAccounts old new → AreGains new → AreAccounts old strikes rows →
-    accounts_debts old strikes rows ≡ seen → AreAccounts new strikes rows × (accounts_debts new strikes rows ≡ seen)
-over-to old new strikes rows seen keeps gained are view =
-    let all = over old new strikes rows keeps gained are in
-    (all.0, all.1 ∙ view)
+  -- where no account changes, and the strikes may have grown, contracts see the same rows
+  pub unchanged : (new : List Strike) → take (length strikes) new ≡ strikes → AreAccounts gains strikes rows →
+      accounts_debts gains strikes rows ≡ seen → AreAccounts gains new rows × (accounts_debts gains new rows ≡ seen)
+  unchanged new kept are view =
+      let all = kept-all gains strikes new rows kept are.each in
+      (record { gained = are.gained; each = all.0 }, all.1 ∙ view)
 
--- where an account is put after the others, contracts see one row more
-pub pushed-to : (gains : Gains) (strikes : List Strike) (rows : List Account) (seen : List (List Debt)) (a : Account) (debts : List Debt) → AreAccounts gains strikes rows →
-    accounts_debts gains strikes rows ≡ seen → IsAccount gains strikes a → account_debts gains strikes a ≡ debts →
-    AreAccounts gains strikes (rows ++ a ∷ []) × (accounts_debts gains strikes (rows ++ a ∷ []) ≡ seen ++ debts ∷ [])
-pushed-to gains strikes rows seen a debts are view is owes =
-    let all = pushed gains strikes rows a are is in
-    (all.0, all.1 ∙ ap₂ (λ l d. l ++ d ∷ []) view owes)
+  -- where the gains may have grown, contracts see the same rows
+  pub over-to : (new : Gains) → KeepsAccounts gains new → AreGains new → AreAccounts gains strikes rows → accounts_debts gains strikes rows ≡ seen →
+      AreAccounts new strikes rows × (accounts_debts new strikes rows ≡ seen)
+  over-to new keeps gained are view =
+      let all = over gains new strikes rows keeps gained are in
+      (all.0, all.1 ∙ view)
+
+  -- where an account is put after the others, contracts see one row more
+  pub pushed-to : (a : Account) (debts : List Debt) → AreAccounts gains strikes rows →
+      accounts_debts gains strikes rows ≡ seen → IsAccount gains strikes a → account_debts gains strikes a ≡ debts →
+      AreAccounts gains strikes (rows ++ a ∷ []) × (accounts_debts gains strikes (rows ++ a ∷ []) ≡ seen ++ debts ∷ [])
+  pushed-to a debts are view is owes =
+      let all = pushed gains strikes rows a are is in
+      (all.0, all.1 ∙ ap₂ (λ l d. l ++ d ∷ []) view owes)
 
 -- where a row owes what it owed, contracts see the same rows
 pub row-same : (seen : List (List Debt)) (row : ℕ) (debts : List Debt) → debts ≡ owed_in seen row → seen ≡ set seen row debts

@@ -169,6 +169,11 @@ module _ {S : Type 0} where
   pub slice-old : (from to : ℕ) (old found new : List S) → new ≡ old ++ found → to ≤ length old → from_to from to new ≡ from_to from to old
   slice-old from to old found new is le = ap (from_to from to) is ∙ ap (drop from) (take-append-le to old found le)
 
+  -- where others are put after the states, what holds of the first `count` ones holds of those from one index up to another that is not above `count`
+  pub slice-kept : (P : S → Type 0) (from to count : ℕ) (old found new : List S) → new ≡ old ++ found → to ≤ count → count ≤ length old → All P (take count old) → All P (from_to from to new)
+  slice-kept P from to count old found new is order le all =
+      subst (All P) (sym (slice-old from to old found new is (omega (arith, order, le)))) (slice-all P from to count old order all)
+
   -- the state at index k of a list is the one at k - from of those from `from` on
   pub slice-get : (from to k : ℕ) (xs : List S) (d : S) → from ≤ k → k < to → get_or (from_to from to xs) (k - from) d ≡ get_or xs k d
   slice-get from to k xs d le low =
@@ -201,3 +206,11 @@ module _ {S : Type 0} where
   pub before-either : {T E : Type 0} (r : Result T E) (old added new : List S) → OnOk r (new ≡ old ++ added) → OnErr r (new ≡ old) → take (length old) new ≡ old
   before-either (Ok t) old added new ok err = ap (take (length old)) ok ∙ take-append_seam old added
   before-either (Err e) old added new ok err = ap (take (length old)) err ∙ take_all (length old) old (omega arith)
+
+module _ {X S : Type 0} (names : S → List ℕ) (InRange : S → Type 0) (seen : Texts → S → X) (texts : Texts) (P : S → X → Type 0) where
+  -- where what leads from the states between two indexes is found after the others, what leads from all up to the later index was found
+  pub found-run : (at end : ℕ) (old mid new : List S) → at < end → end ≤ length old → HasFound names InRange seen texts P (take at old) old mid →
+      HasFound names InRange seen texts P (from_to at end mid) mid new → HasFound names InRange seen texts P (take end old) old new
+  found-run at end old mid new order within (found, is, covers) (added, new_is, more) =
+      found-more names InRange seen texts P (take at old) (from_to at end old) (take end old) old mid new added (take-slice at end old (omega (arith, order))) (found, is, covers) new_is
+      (subst (λ xs. Covers names InRange seen texts (FromSome P xs) added) (slice-old at end old found mid is within) more)

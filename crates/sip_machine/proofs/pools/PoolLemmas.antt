@@ -1,12 +1,13 @@
 -- The states of a pool: a list of phases and a list of what is owed, read as one list.
 use Prim.Native.Nat.{suc, zero}
 use Rattle.std.specs.Prelude.{◌≡◌, ◌==◌, ◌↔◌, ◌<◌, ◌+◌, ℕ, IsTrue, true, List, [], ◌∷◌, ◌++◌, drop, get_or, length, set, take}
+use Rattle.std.specs.List.{HoldsAt}
 use Rattle.std.proofs.Common.{Result, Ok, Err, OnErr, is_err, true≢false, refl, sym, ◌∙◌, ap, ap₂, subst, arith, length-append}
 use Rattle.std.proofs.lemmas.Bool.Decides.{nat_tests}
 use Rattle.std.proofs.Math.Seq.{get_or-append_seam, take-append_seam}
 use Rattle.sip_ledger.specs.declared.debt.Debt.{Debt}
 use Rattle.sip_machine.specs.Owes.{owed_in}
-use Rattle.sip_machine.specs.Owing.{CodeOwing, state_in}
+use Rattle.sip_machine.specs.Owing.{CodeOwing, at_rest, state_in}
 use Rattle.sip_machine.specs.declared.effects.Rest.{Rest}
 use Rattle.sip_machine.specs.declared.effects.Rest.TheVariants.{Stays, Pays}
 use Rattle.sip_machine.specs.inner.Effects.{rested_debts, rests_at}
@@ -89,6 +90,11 @@ module _ {S : Type 0} where
   pub state-here : (phases : List S) (rows : List (List Debt)) (xs : List (CodeOwing S)) (k : ℕ) (p : S) (x : CodeOwing S) → beside phases rows ≡ xs → k < length xs →
       p ≡ get_or phases k p → state_in p rows k ≡ get_or xs k x
   state-here phases rows xs k p x is low is_p = ap (λ q. state_in q rows k) is_p ∙ sym (state-at phases rows xs k p x is low)
+
+  -- what holds of the state at k holds of the phase at k with what row k has
+  pub holds-here : (P : CodeOwing S → Type 0) (phases : List S) (rows : List (List Debt)) (xs : List (CodeOwing S)) (k : ℕ) (p : S) → beside phases rows ≡ xs → k < length xs →
+      p ≡ get_or phases k p → HoldsAt P xs k → P (state_in p rows k)
+  holds-here P phases rows xs k p is low is_p there = subst P (sym (state-here phases rows xs k p (at_rest p) is low is_p)) (there (at_rest p))
 
   -- states with the same phase and the same debts are the same
   pub same-state : (x y : CodeOwing S) → x.phase ≡ y.phase → x.owes ≡ y.owes → x ≡ y

@@ -2,8 +2,8 @@
 use Prim.Native.Nat.{suc, zero}
 use Rattle.std.specs.Prelude.{◌≡◌, ◌≤◌, ◌<◌, ◌^◌, ◌↔◌, ◌⊎◌, ◌&&◌, ◌++◌, ℕ, IsTrue, Bool, true, false, Option, Some, None, List, [], ◌∷◌, All, filter, get_or, length, map, take, unwrap_or}
 use Rattle.std.specs.Option.{option_map}
-use Rattle.std.specs.List.{list_any}
-use Rattle.std.proofs.Common.{inl, inr, refl, sym, ap, subst, arith, cond, true≢false}
+use Rattle.std.specs.List.{HoldsAt, list_any}
+use Rattle.std.proofs.Common.{inl, inr, refl, sym, ◌∙◌, ap, subst, arith, cond, true≢false}
 use Rattle.std.proofs.lemmas.Bool.Decides.{nat_tests}
 use Rattle.std.proofs.lemmas.List.Elements.{All-append, All-head, All-weaker}
 use Rattle.sip_standard.specs.declared.action.Action.{Action}
@@ -24,12 +24,14 @@ use Rattle.sip_machine.specs.Deadlines.{earliest, must_deadlines, unexpired}
 use Rattle.sip_machine.specs.Owes.{owes_names, owes_seen}
 use Rattle.sip_standard.specs.Figure.{Figure, Owing, Steps}
 use Rattle.sip_machine.specs.FigureRules.{TakeOf, closes_at, until_of}
-use Rattle.sip_machine.specs.Owing.{CodeOwing, turn_seen, turn_names, TurnInRange, owing_seen, owing_names, OwingInRange}
+use Rattle.sip_machine.specs.Owing.{CodeOwing, turn_seen, turn_names, TurnInRange, owing_seen, owing_names, OwingInRange, at_rest}
 use Rattle.sip_machine.specs.inner.Single.{AnswersOne}
 use Rattle.sip_machine.specs.inner.DebtLaws.{IsWithin-earliest, All-front, All-back}
 use Rattle.sip_machine.specs.inner.OwesLaws.{must_deadlines-seen, unexpired-seen, All-names}
 use Rattle.sip_machine.specs.inner.Paying.{PaysFor}
 use Rattle.sip_machine.specs.inner.Effects.{Leads, LeadsFrom, Rests, RestsFrom, led_by, repaid_at, unexpired_at}
+use Rattle.sip_machine.specs.inner.Pools.{beside}
+use Rattle.sip_machine.proofs.pools.PoolLemmas.{state-at}
 use Rattle.sip_machine.proofs.pools.CoversLemmas.{FromSome-none, Covers-none, answers-cover}
 use Rattle.sip_machine.proofs.debts.DueLemmas.{pays-some, pays-none}
 use Rattle.sip_machine.proofs.acks.HolderLemmas.{FindsFirst-same}
@@ -234,3 +236,24 @@ slice-first P from zero xs d order le all = absurd (omega (arith, order))
 slice-first P from (suc to) [] d order le all = absurd (omega (arith, le))
 slice-first P zero (suc to) (x ∷ xs) d order le all = All-head P x (take to xs) all
 slice-first P (suc from) (suc to) (x ∷ xs) d order le all = slice-first P from to xs d (omega (arith, order)) (omega (arith, le)) all
+
+-- states that stand side by side are all of one phase, which the book knows and whose moments are within the limits
+pub record AreOfPhase {S : Type 0} (names : S → List ℕ) (InRange : S → Type 0) (texts : Texts) (phase : S) (xs : List (CodeOwing S)) : Type 0 where
+  pub known : Knows names texts phase
+  pub in_range : InRange phase
+  pub same : All (λ x. x.phase ≡ phase) xs
+
+-- the states of a pool from one index up to another, at least one, are of the phase of the first where all are
+pub in-run : {S : Type 0} (names : S → List ℕ) (InRange : S → Type 0) (texts : Texts) (phases : List S) (rows : List (List Debt)) (xs : List (CodeOwing S)) (from to : ℕ) (phase : S) →
+    beside phases rows ≡ xs → phase ≡ get_or phases from phase → from < to → to ≤ length xs → All (Knows (owing_names names) texts) (from_to from to xs) →
+    All (OwingInRange InRange) (from_to from to xs) → HoldsAt (λ first. All (λ x. x.phase ≡ first.phase) (from_to from to xs)) xs from →
+    AreOfPhase names InRange texts phase (from_to from to xs)
+in-run names InRange texts phases rows xs from to phase is here order le known fits same =
+    let d = at_rest phase in
+    let first = get_or xs from d in
+    let at : first.phase ≡ phase = ap (λ z. z.phase) (state-at phases rows xs from phase d is (omega (arith, order, le))) ∙ sym here in
+    record {
+      known = subst (Knows names texts) at (All-front (Keeps texts) (names first.phase) (owes_names first.owes) (slice-first (Knows (owing_names names) texts) from to xs d order le known));
+      in_range = subst InRange at (slice-first (OwingInRange InRange) from to xs d order le fits).0;
+      same = All-weaker (λ x. x.phase ≡ first.phase) (λ x. x.phase ≡ phase) (λ x is. is ∙ at) (from_to from to xs) (same d);
+    }

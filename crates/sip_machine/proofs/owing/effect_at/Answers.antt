@@ -3,10 +3,10 @@ use Rattle.std.proofs.Common.{sym, subst}
 use Rattle.sip_machine.specs.NumberedEvent.{event_in}
 use Rattle.sip_machine.specs.Rules.{Knows}
 use Rattle.sip_machine.specs.FigureRules.{TakeOf}
-use Rattle.sip_machine.specs.Owing.{at_rest, owing_seen, owing_names, OwingInRange}
+use Rattle.sip_machine.specs.Owing.{owing_seen, owing_names, OwingInRange}
 use Rattle.sip_machine.specs.inner.Both.{AnswersBoth}
 use Rattle.sip_machine.specs.inner.Effects.{given_by}
-use Rattle.sip_machine.proofs.pools.PoolLemmas.{in-phases, in-rows, state-here}
+use Rattle.sip_machine.proofs.pools.PoolLemmas.{holds-here, in-phases, in-rows, state-here}
 use Rattle.sip_machine.proofs.owing.effect_at.Goals as goal
 
 pub index-requires : goal.index-requires
@@ -18,17 +18,11 @@ effect_of-requires-clause-row g c = in-rows c.pool.inside.phases.items c.pool.in
 
 pub effect_of-requires-clause-known : goal.effect_of-requires-clause-known
 effect_of-requires-clause-known g c =
-    let p = c.index.result.now in
-    let d = at_rest p in
-    subst (Knows (owing_names g.M.Phases.names) c.args.book.now)
-    (sym (state-here c.pool.inside.phases.items c.pool.inside.dues c.args.pool.now c.args.at p d c.pool.view_is c.requires.at c.index.ensures)) (c.requires.known d)
+    holds-here (Knows (owing_names g.M.Phases.names) c.args.book.now) c.pool.inside.phases.items c.pool.inside.dues c.args.pool.now c.args.at c.index.result.now c.pool.view_is c.requires.at c.index.ensures c.requires.known
 
 pub effect_of-requires-clause-in_range : goal.effect_of-requires-clause-in_range
 effect_of-requires-clause-in_range g c =
-    let p = c.index.result.now in
-    let d = at_rest p in
-    subst (OwingInRange g.M.Phases.in_range) (sym (state-here c.pool.inside.phases.items c.pool.inside.dues c.args.pool.now c.args.at p d c.pool.view_is c.requires.at c.index.ensures))
-    (c.requires.in_range d)
+    holds-here (OwingInRange g.M.Phases.in_range) c.pool.inside.phases.items c.pool.inside.dues c.args.pool.now c.args.at c.index.result.now c.pool.view_is c.requires.at c.index.ensures c.requires.in_range
 
 pub returns-clause-gives : goal.returns-clause-gives
 returns-clause-gives g c = λ d.

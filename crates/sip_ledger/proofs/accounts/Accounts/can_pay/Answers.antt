@@ -6,19 +6,16 @@ use Rattle.sip_ledger.proofs.accounts.Accounts.can_pay.Goals as goal
 
 pub index-account-requires : goal.index-account-requires
 index-account-requires c =
-    let s = c.self.inside in
-    omega (arith, row-inside s.gains s.strikes.items s.rows.items c.args.self.now c.args.row c.self.view_is c.requires, s.rows.ok.0)
+    omega (arith, row-inside c.args.row c.self.invariant c.self.view_is c.requires, c.self.inside.rows.ok.0)
 
 pub find-requires-clause-account : goal.find-requires-clause-account
 find-requires-clause-account c =
-    let s = c.self.inside in
-    let is = account-at s.gains s.strikes.items s.rows.items c.args.self.now c.args.row c.index-account.result.now c.self.invariant c.self.view_is c.requires c.index-account.ensures in
-    rw c.deref.ensures.value is.0
+    rw c.deref.ensures.value (account-at c.args.row c.index-account.result.now c.self.invariant c.self.view_is c.requires c.index-account.ensures).0
 
 pub returns : goal.returns
 returns c =
     let s = c.self.inside in
-    let is = account-at s.gains s.strikes.items s.rows.items c.args.self.now c.args.row c.index-account.result.now c.self.invariant c.self.view_is c.requires c.index-account.ensures in
+    let is = account-at c.args.row c.index-account.result.now c.self.invariant c.self.view_is c.requires c.index-account.ensures in
     c.is_some.ensures
     ∙ can-pay s.gains s.strikes.items c.index-account.result.now c.args.message c.args.moment c.find.result is.0 (rw c.deref.ensures.value at c.find.ensures.found) (rw c.deref.ensures.value at c.find.ensures.none)
     ∙ ap (list_any (is_payable c.args.message c.args.moment)) is.1

@@ -6,17 +6,16 @@ use Rattle.sip_ledger.proofs.accounts.Accounts.clear.Goals as goal
 
 pub index_mut-requires : goal.index_mut-requires
 index_mut-requires c =
-    let s = c.self.inside in
-    omega (arith, row-inside s.gains s.strikes.items s.rows.items c.args.self.now c.args.row c.self.view_is c.requires, s.rows.ok.0)
+    omega (arith, row-inside c.args.row c.self.invariant c.self.view_is c.requires, c.self.inside.rows.ok.0)
 
 pub invariant_of-self : goal.invariant_of-self
 invariant_of-self c =
     let s = c.self.inside in
     let none = empty-account s.gains s.strikes.items in
-    (changed-to s.gains s.strikes.items s.strikes.items s.rows.items c.args.self.now c.args.row _ [] (take-length s.strikes.items) c.self.invariant c.self.view_is none (empty-debts s.gains s.strikes.items _ (omega arith))).0
+    (changed-to s.strikes.items c.args.row _ [] (take-length s.strikes.items) c.self.invariant c.self.view_is none (empty-debts s.gains s.strikes.items _ (omega arith))).0
 
 pub returns : goal.returns
 returns c =
     let s = c.self.inside in
     let none = empty-account s.gains s.strikes.items in
-    (changed-to s.gains s.strikes.items s.strikes.items s.rows.items c.args.self.now c.args.row _ [] (take-length s.strikes.items) c.self.invariant c.self.view_is none (empty-debts s.gains s.strikes.items _ (omega arith))).1
+    (changed-to s.strikes.items c.args.row _ [] (take-length s.strikes.items) c.self.invariant c.self.view_is none (empty-debts s.gains s.strikes.items _ (omega arith))).1

@@ -1,43 +1,32 @@
-use Rattle.std.proofs.Common.{◌<◌, length, set, filter, ap, ◌∙◌, arith}
-use Rattle.sip_ledger.specs.Accounts.{owed_in}
+use Rattle.std.proofs.Common.{◌<◌, length, set, filter, arith}
 use Rattle.sip_ledger.specs.Debts.{counts_at}
-use Rattle.sip_ledger.proofs.rows.SeenLemmas.{account-at, changed-to, on-error, row-inside, unchanged}
+use Rattle.sip_ledger.proofs.rows.SeenLemmas.{account-at, changed-by, on-error, row-inside, unchanged}
 use Rattle.sip_ledger.proofs.accounts.Accounts.expire.Goals as goal
 
 pub index-requires : goal.index-requires
 index-requires c =
-    let s = c.self.inside in
-    omega (arith, row-inside s.gains s.strikes.items s.rows.items c.args.self.now c.args.row c.self.view_is c.requires, s.rows.ok.0)
+    omega (arith, row-inside c.args.row c.self.invariant c.self.view_is c.requires, c.self.inside.rows.ok.0)
 
 pub expired-requires-clause-account : goal.expired-requires-clause-account
 expired-requires-clause-account c =
-    let s = c.self.inside in
-    let is = account-at s.gains s.strikes.items s.rows.items c.args.self.now c.args.row c.index.result.now c.self.invariant c.self.view_is c.requires c.index.ensures in
-    is.0
+    (account-at c.args.row c.index.result.now c.self.invariant c.self.view_is c.requires c.index.ensures).0
 
 pub invariant_of-self : goal.invariant_of-self
 invariant_of-self c =
-    let s = c.self.inside in
-    (unchanged s.gains s.strikes.items c.expired.new.strikes.items s.rows.items c.args.self.now c.expired.ensures.kept c.self.invariant c.self.view_is).0
+    (unchanged c.expired.new.strikes.items c.expired.ensures.kept c.self.invariant c.self.view_is).0
 
 pub returns-in_err-self-inside-clause-err : goal.returns-in_err-self-inside-clause-err
 returns-in_err-self-inside-clause-err c =
-    let s = c.self.inside in
-    on-error c.from_residual.result c.from_residual.ensures.0 (unchanged s.gains s.strikes.items c.expired.new.strikes.items s.rows.items c.args.self.now c.expired.ensures.kept c.self.invariant c.self.view_is).1
+    on-error c.from_residual.result c.from_residual.ensures.0 (unchanged c.expired.new.strikes.items c.expired.ensures.kept c.self.invariant c.self.view_is).1
 
 pub index_mut-requires : goal.index_mut-requires
 index_mut-requires c =
-    let s = c.self.inside in
-    omega (arith, row-inside s.gains s.strikes.items s.rows.items c.args.self.now c.args.row c.self.view_is c.requires, s.rows.ok.0)
+    omega (arith, row-inside c.args.row c.self.invariant c.self.view_is c.requires, c.self.inside.rows.ok.0)
 
 pub invariant_of-self-2 : goal.invariant_of-self-2
 invariant_of-self-2 c =
-    let s = c.self.inside in
-    let is = account-at s.gains s.strikes.items s.rows.items c.args.self.now c.args.row c.index.result.now c.self.invariant c.self.view_is c.requires c.index.ensures in
-    (changed-to s.gains s.strikes.items c.expired.new.strikes.items s.rows.items c.args.self.now c.args.row c.in_ok-self-inside.field-0 (filter (counts_at c.args.moment) (owed_in c.args.self.now c.args.row)) c.expired.ensures.kept c.self.invariant c.self.view_is c.in_ok-self-inside.ensures.account (c.in_ok-self-inside.ensures.debts ∙ ap (filter (counts_at c.args.moment)) is.1)).0
+    (changed-by (filter (counts_at c.args.moment)) c.expired.new.strikes.items c.args.row c.index.result.now c.in_ok-self-inside.field-0 c.expired.ensures.kept c.self.invariant c.self.view_is c.requires c.index.ensures c.in_ok-self-inside.ensures.account c.in_ok-self-inside.ensures.debts).0
 
 pub returns-clause-ok : goal.returns-clause-ok
 returns-clause-ok c =
-    let s = c.self.inside in
-    let is = account-at s.gains s.strikes.items s.rows.items c.args.self.now c.args.row c.index.result.now c.self.invariant c.self.view_is c.requires c.index.ensures in
-    (changed-to s.gains s.strikes.items c.expired.new.strikes.items s.rows.items c.args.self.now c.args.row c.in_ok-self-inside.field-0 (filter (counts_at c.args.moment) (owed_in c.args.self.now c.args.row)) c.expired.ensures.kept c.self.invariant c.self.view_is c.in_ok-self-inside.ensures.account (c.in_ok-self-inside.ensures.debts ∙ ap (filter (counts_at c.args.moment)) is.1)).1
+    (changed-by (filter (counts_at c.args.moment)) c.expired.new.strikes.items c.args.row c.index.result.now c.in_ok-self-inside.field-0 c.expired.ensures.kept c.self.invariant c.self.view_is c.requires c.index.ensures c.in_ok-self-inside.ensures.account c.in_ok-self-inside.ensures.debts).1

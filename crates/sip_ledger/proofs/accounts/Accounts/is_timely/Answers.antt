@@ -6,17 +6,13 @@ use Rattle.sip_ledger.proofs.accounts.Accounts.is_timely.Goals as goal
 
 pub index-requires : goal.index-requires
 index-requires c =
-    let s = c.self.inside in
-    omega (arith, row-inside s.gains s.strikes.items s.rows.items c.args.self.now c.args.row c.self.view_is c.requires, s.rows.ok.0)
+    omega (arith, row-inside c.args.row c.self.invariant c.self.view_is c.requires, c.self.inside.rows.ok.0)
 
 pub is_timely-requires-clause-account : goal.is_timely-requires-clause-account
 is_timely-requires-clause-account c =
-    let s = c.self.inside in
-    let is = account-at s.gains s.strikes.items s.rows.items c.args.self.now c.args.row c.index.result.now c.self.invariant c.self.view_is c.requires c.index.ensures in
-    rw c.deref.ensures.value is.0
+    rw c.deref.ensures.value (account-at c.args.row c.index.result.now c.self.invariant c.self.view_is c.requires c.index.ensures).0
 
 pub returns : goal.returns
 returns c =
-    let s = c.self.inside in
-    let is = account-at s.gains s.strikes.items s.rows.items c.args.self.now c.args.row c.index.result.now c.self.invariant c.self.view_is c.requires c.index.ensures in
+    let is = account-at c.args.row c.index.result.now c.self.invariant c.self.view_is c.requires c.index.ensures in
     (rw c.deref.ensures.value at c.is_timely.ensures) ∙ ap (λ (l : List Debt). is_timely c.args.moment l) is.1

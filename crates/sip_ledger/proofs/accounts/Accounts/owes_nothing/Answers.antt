@@ -5,11 +5,10 @@ use Rattle.sip_ledger.proofs.accounts.Accounts.owes_nothing.Goals as goal
 
 pub index-account-requires : goal.index-account-requires
 index-account-requires c =
-    let s = c.self.inside in
-    omega (arith, row-inside s.gains s.strikes.items s.rows.items c.args.self.now c.args.row c.self.view_is c.requires, s.rows.ok.0)
+    omega (arith, row-inside c.args.row c.self.invariant c.self.view_is c.requires, c.self.inside.rows.ok.0)
 
 pub returns : goal.returns
 returns c =
     let s = c.self.inside in
-    let is = account-at s.gains s.strikes.items s.rows.items c.args.self.now c.args.row c.index-account.result.now c.self.invariant c.self.view_is c.requires c.index-account.ensures in
+    let is = account-at c.args.row c.index-account.result.now c.self.invariant c.self.view_is c.requires c.index-account.ensures in
     owes-nothing s.gains s.strikes.items c.index-account.result.now (owed_in c.args.self.now c.args.row) is.0 is.1

@@ -5,11 +5,9 @@ use Rattle.sip_ledger.proofs.accounts.Accounts.print.Goals as goal
 
 pub index-requires : goal.index-requires
 index-requires c =
-    let s = c.self.inside in
-    omega (arith, row-inside s.gains s.strikes.items s.rows.items c.args.self.now c.args.row c.self.view_is c.requires, s.rows.ok.0)
+    omega (arith, row-inside c.args.row c.self.invariant c.self.view_is c.requires, c.self.inside.rows.ok.0)
 
 pub returns : goal.returns
 returns c =
-    let s = c.self.inside in
-    let is = account-at s.gains s.strikes.items s.rows.items c.args.self.now c.args.row c.index.result.now c.self.invariant c.self.view_is c.requires c.index.ensures in
+    let is = account-at c.args.row c.index.result.now c.self.invariant c.self.view_is c.requires c.index.ensures in
     is.0.print ∙ ap debts_print is.1

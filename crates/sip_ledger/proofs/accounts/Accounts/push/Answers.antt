@@ -7,10 +7,10 @@ pub invariant_of-self-2 : goal.invariant_of-self-2
 invariant_of-self-2 c =
     let s = c.self.inside in
     let none = empty-account s.gains s.strikes.items in
-    rw c.in_ok-push.ensures.items (pushed-to s.gains s.strikes.items s.rows.items c.args.self.now _ [] c.self.invariant c.self.view_is none (empty-debts s.gains s.strikes.items _ (omega arith))).0
+    rw c.in_ok-push.ensures.items (pushed-to _ [] c.self.invariant c.self.view_is none (empty-debts s.gains s.strikes.items _ (omega arith))).0
 
 pub returns-clause-ok : goal.returns-clause-ok
 returns-clause-ok c =
     let s = c.self.inside in
     let none = empty-account s.gains s.strikes.items in
-    rw c.in_ok-push.ensures.items (pushed-to s.gains s.strikes.items s.rows.items c.args.self.now _ [] c.self.invariant c.self.view_is none (empty-debts s.gains s.strikes.items _ (omega arith))).1
+    rw c.in_ok-push.ensures.items (pushed-to _ [] c.self.invariant c.self.view_is none (empty-debts s.gains s.strikes.items _ (omega arith))).1

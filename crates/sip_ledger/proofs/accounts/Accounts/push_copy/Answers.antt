@@ -5,17 +5,14 @@ use Rattle.sip_ledger.proofs.accounts.Accounts.push_copy.Goals as goal
 
 pub index-requires : goal.index-requires
 index-requires c =
-    let s = c.self.inside in
-    omega (arith, row-inside s.gains s.strikes.items s.rows.items c.args.self.now c.args.row c.self.view_is c.requires, s.rows.ok.0)
+    omega (arith, row-inside c.args.row c.self.invariant c.self.view_is c.requires, c.self.inside.rows.ok.0)
 
 pub invariant_of-self-2 : goal.invariant_of-self-2
 invariant_of-self-2 c =
-    let s = c.self.inside in
-    let is = account-at s.gains s.strikes.items s.rows.items c.args.self.now c.args.row c.index.result.now c.self.invariant c.self.view_is c.requires c.index.ensures in
-    rw c.in_ok-push.ensures.items (pushed-to s.gains s.strikes.items s.rows.items c.args.self.now c.index.result.now (owed_in c.args.self.now c.args.row) c.self.invariant c.self.view_is is.0 is.1).0
+    let is = account-at c.args.row c.index.result.now c.self.invariant c.self.view_is c.requires c.index.ensures in
+    rw c.in_ok-push.ensures.items (pushed-to c.index.result.now (owed_in c.args.self.now c.args.row) c.self.invariant c.self.view_is is.0 is.1).0
 
 pub returns-clause-ok : goal.returns-clause-ok
 returns-clause-ok c =
-    let s = c.self.inside in
-    let is = account-at s.gains s.strikes.items s.rows.items c.args.self.now c.args.row c.index.result.now c.self.invariant c.self.view_is c.requires c.index.ensures in
-    rw c.in_ok-push.ensures.items (pushed-to s.gains s.strikes.items s.rows.items c.args.self.now c.index.result.now (owed_in c.args.self.now c.args.row) c.self.invariant c.self.view_is is.0 is.1).1
+    let is = account-at c.args.row c.index.result.now c.self.invariant c.self.view_is c.requires c.index.ensures in
+    rw c.in_ok-push.ensures.items (pushed-to c.index.result.now (owed_in c.args.self.now c.args.row) c.self.invariant c.self.view_is is.0 is.1).1

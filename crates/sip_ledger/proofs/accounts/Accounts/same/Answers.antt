@@ -4,30 +4,23 @@ use Rattle.sip_ledger.proofs.accounts.Accounts.same.Goals as goal
 
 pub index-requires : goal.index-requires
 index-requires c =
-    let s = c.self.inside in
-    omega (arith, row-inside s.gains s.strikes.items s.rows.items c.args.self.now c.args.row c.self.view_is c.requires.row, s.rows.ok.0)
+    omega (arith, row-inside c.args.row c.self.invariant c.self.view_is c.requires.row, c.self.inside.rows.ok.0)
 
 pub index-requires-2 : goal.index-requires-2
 index-requires-2 c =
-    let s = c.self.inside in
-    omega (arith, row-inside s.gains s.strikes.items s.rows.items c.args.self.now c.args.other c.self.view_is c.requires.other, s.rows.ok.0)
+    omega (arith, row-inside c.args.other c.self.invariant c.self.view_is c.requires.other, c.self.inside.rows.ok.0)
 
 pub same-requires-clause-one : goal.same-requires-clause-one
 same-requires-clause-one c =
-    let s = c.self.inside in
-    let is = account-at s.gains s.strikes.items s.rows.items c.args.self.now c.args.row c.index.result.now c.self.invariant c.self.view_is c.requires.row c.index.ensures in
-    rw c.deref.ensures.value is.0
+    rw c.deref.ensures.value (account-at c.args.row c.index.result.now c.self.invariant c.self.view_is c.requires.row c.index.ensures).0
 
 pub same-requires-clause-other : goal.same-requires-clause-other
 same-requires-clause-other c =
-    let s = c.self.inside in
-    let is = account-at s.gains s.strikes.items s.rows.items c.args.self.now c.args.other c.index-2.result.now c.self.invariant c.self.view_is c.requires.other c.index-2.ensures in
-    rw c.deref.ensures.value is.0
+    rw c.deref.ensures.value (account-at c.args.other c.index-2.result.now c.self.invariant c.self.view_is c.requires.other c.index-2.ensures).0
 
 pub returns : goal.returns
 returns c =
-    let s = c.self.inside in
-    let one = account-at s.gains s.strikes.items s.rows.items c.args.self.now c.args.row c.index.result.now c.self.invariant c.self.view_is c.requires.row c.index.ensures in
-    let other = account-at s.gains s.strikes.items s.rows.items c.args.self.now c.args.other c.index-2.result.now c.self.invariant c.self.view_is c.requires.other c.index-2.ensures in
+    let one = account-at c.args.row c.index.result.now c.self.invariant c.self.view_is c.requires.row c.index.ensures in
+    let other = account-at c.args.other c.index-2.result.now c.self.invariant c.self.view_is c.requires.other c.index-2.ensures in
     let same = rw c.deref.ensures.value at c.same.ensures in
     (λ is. sym one.1 ∙ same.0 is ∙ other.1, λ is. same.1 (one.1 ∙ is ∙ sym other.1))

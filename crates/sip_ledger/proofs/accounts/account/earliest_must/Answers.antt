@@ -5,7 +5,7 @@ use Rattle.sip_ledger.proofs.accounts.account.earliest_must.Goals as goal
 
 pub first_must-requires-clause-kept : goal.first_must-requires-clause-kept
 first_must-requires-clause-kept c = λ some.
-    kept-from c.args.gains.now c.args.strikes.now c.args.account c.args.account.start c.requires.gained c.requires.account some (omega arith) some
+    kept-from c.args.account.start c.requires.gained c.requires.account (omega arith) some
 
 pub returns-in-Some : goal.returns-in-Some
 returns-in-Some c =

@@ -1,6 +1,6 @@
-use Rattle.std.proofs.Common.{◌<◌, ◌≤◌, ◌∙◌, ap, filter, length, refl, sym, arith}
+use Rattle.std.proofs.Common.{◌<◌, ◌≤◌, ◌∙◌, ap, filter, refl, sym, arith}
 use Rattle.std.proofs.Math.Seq.{take-length}
-use Rattle.sip_ledger.specs.inner.Accounts.{entries_of, must_at, owes_at}
+use Rattle.sip_ledger.specs.inner.Accounts.{must_at, owes_at}
 use Rattle.sip_ledger.specs.Debts.{counts_at}
 use Rattle.sip_ledger.proofs.account.AccountLemmas.{empty-debts, kept-passed, kept-twice}
 use Rattle.sip_ledger.proofs.account.ExpiringLemmas.{expired-end, expired-rising, expired-start}
@@ -29,33 +29,18 @@ returns-then-all_count-clause-debts c =
 pub expired_at-requires-clause-kept : goal.expired_at-requires-clause-kept
 expired_at-requires-clause-kept c =
     let was = c.loop-place.invariant in
-    let low = was.low in
-    let order = c.requires.account.order in
-    let some = c.if-account.false in
-    let end = was.account.end in
-    let inside = c.loop-place-test.true in
-    kept-passed c.args.gains.now c.args.strikes.now.items c.args.account c.loop-place.place c.requires.gained c.requires.account (omega (arith, order, some)) low (omega (arith, inside, end))
+    kept-passed c.loop-place.place c.requires.gained c.requires.account (omega (arith, c.requires.account.order, c.if-account.false)) was.low (omega (arith, c.loop-place-test.true, was.account.end))
 
 pub entry-requires-clause-kept : goal.entry-requires-clause-kept
 entry-requires-clause-kept c =
     let was = c.loop-place.invariant in
-    let low = was.low in
-    let order = c.requires.account.order in
-    let some = c.if-account.false in
-    let end = was.account.end in
-    let inside = c.loop-place-test.true in
-    kept-passed c.args.gains.now c.args.strikes.now.items c.args.account c.loop-place.place c.requires.gained c.requires.account (omega (arith, order, some)) low (omega (arith, inside, end))
+    kept-passed c.loop-place.place c.requires.gained c.requires.account (omega (arith, c.requires.account.order, c.if-account.false)) was.low (omega (arith, c.loop-place-test.true, was.account.end))
 
 pub returns-then-moment-entry-clause-debts : goal.returns-then-moment-entry-clause-debts
 returns-then-moment-entry-clause-debts c =
     let was = c.loop-place.invariant in
-    let low = was.low in
-    let order = c.requires.account.order in
-    let some = c.if-account.false in
-    let end = was.account.end in
-    let inside = c.loop-place-test.true in
     expired-rising c.args.gains.now c.args.strikes.now.items c.loop-place.strikes.items c.args.account c.loop-place.left c.args.moment c.loop-place.place was.soft c.requires.gained
-    c.if-gains.true (kept-passed c.args.gains.now c.args.strikes.now.items c.args.account c.loop-place.place c.requires.gained c.requires.account (omega (arith, order, some)) low (omega (arith, inside, end)))
+    c.if-gains.true (kept-passed c.loop-place.place c.requires.gained c.requires.account (omega (arith, c.requires.account.order, c.if-account.false)) was.low (omega (arith, c.loop-place-test.true, was.account.end)))
     (rw c.entry.ensures at c.if-moment-entry.true) was.gone
 
 pub loop-place-preserved : goal.loop-place-preserved

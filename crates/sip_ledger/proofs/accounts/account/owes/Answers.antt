@@ -1,4 +1,4 @@
-use Rattle.std.proofs.Common.{◌≡◌, ◌≤◌, ◌∙◌, ap, not, sym, arith}
+use Rattle.std.proofs.Common.{◌≡◌, ◌∙◌, ap, not, sym}
 use Rattle.std.specs.Prelude.{Bool, false, true}
 use Rattle.sip_ledger.specs.inner.Accounts.{is_gone, owes_at, strikes_of}
 use Rattle.sip_ledger.proofs.account.AccountLemmas.{kept-from, past-end}
@@ -13,10 +13,7 @@ pub returns-then-account-place : goal.returns-then-account-place
 returns-then-account-place c = sym (past-end c.args.gains.now c.args.strikes.now c.args.account c.args.place c.if-account-place.true)
 
 pub is_gone-requires-clause-kept : goal.is_gone-requires-clause-kept
-is_gone-requires-clause-kept c =
-    let low = c.if-place-account.false in
-    let high = c.if-account-place.false in
-    kept-from c.args.gains.now c.args.strikes.now c.args.account c.args.place c.requires.gained c.requires.account (omega (arith, low, high)) low high
+is_gone-requires-clause-kept c = kept-from c.args.place c.requires.gained c.requires.account c.if-place-account.false c.if-account-place.false
 
 pub returns : goal.returns
 returns c =

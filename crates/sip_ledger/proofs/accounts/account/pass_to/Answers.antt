@@ -1,5 +1,4 @@
-use Rattle.std.proofs.Common.{◌≡◌, ◌<◌, ◌≤◌, length, arith}
-use Rattle.sip_ledger.specs.inner.Accounts.{entries_of}
+use Rattle.std.proofs.Common.{◌≤◌, ◌<◌, arith}
 use Rattle.sip_ledger.proofs.account.AccountLemmas.{kept-passed}
 use Rattle.sip_ledger.proofs.strikes.StrikeLemmas.{struck-none}
 use Rattle.sip_ledger.proofs.accounts.account.pass_to.Goals as goal
@@ -12,4 +11,4 @@ pub put-requires-clause-kept : goal.put-requires-clause-kept
 put-requires-clause-kept c = λ k low high.
     let some = c.requires.some in
     let within = c.requires.within in
-    kept-passed c.args.gains.now c.args.strikes.now.items c.args.account k c.requires.gained c.requires.account some (omega (arith, low, some)) (omega (arith, high, within))
+    kept-passed k c.requires.gained c.requires.account some (omega (arith, low, some)) (omega (arith, high, within))

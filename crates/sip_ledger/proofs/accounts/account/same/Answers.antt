@@ -8,16 +8,10 @@ pub loop-at-init : goal.loop-at-init
 loop-at-init c = at-start c.args.gains.now c.args.strikes.now c.args.one c.args.other c.requires.one c.requires.other
 
 pub debt_for-requires-clause-kept : goal.debt_for-requires-clause-kept
-debt_for-requires-clause-kept c =
-    let low = c.loop-at.invariant.low in
-    let inside = c.loop-at-test.true in
-    kept-from c.args.gains.now c.args.strikes.now c.args.one c.loop-at.at c.requires.gained c.requires.one (omega (arith, low, inside)) low inside
+debt_for-requires-clause-kept c = kept-from c.loop-at.at c.requires.gained c.requires.one c.loop-at.invariant.low c.loop-at-test.true
 
 pub debt_for-requires-in-loop-at-clause-kept : goal.debt_for-requires-in-loop-at-clause-kept
-debt_for-requires-in-loop-at-clause-kept c =
-    let low = c.loop-at.invariant.low_beside in
-    let inside = c.if-beside-other.true in
-    kept-from c.args.gains.now c.args.strikes.now c.args.other c.loop-at.beside c.requires.gained c.requires.other (omega (arith, low, inside)) low inside
+debt_for-requires-in-loop-at-clause-kept c = kept-from c.loop-at.beside c.requires.gained c.requires.other c.loop-at.invariant.low_beside c.if-beside-other.true
 
 pub returns-then-is_alike : goal.returns-then-is_alike
 returns-then-is_alike c = (λ _. alike-debts c.args.gains.now c.args.strikes.now c.args.one c.args.other c.if-is_alike.ensures, λ _. refl)

@@ -20,53 +20,40 @@ loop-row-init c =
 
 pub index-requires : goal.index-requires
 index-requires c =
-    let g = c.args.gains.now in
-    let seen = accounts_debts g c.args.strikes.now.items c.args.rows.now.items in
-    let long = debts-length g c.args.strikes.now.items c.args.rows.now.items in
+    let long = debts-length c.args.gains.now c.args.strikes.now.items c.args.rows.now.items in
     let to = c.requires.to in
-    let there = row-there g c.args.message c.args.moment c.args.from c.loop-row.row c.loop-row.row seen c.loop-row.strikes.items c.loop-row.rows.items c.loop-row.invariant.3 (omega (arith, long, to)) in
+    let there = row-there c.loop-row.row c.loop-row.invariant.3 (omega (arith, long, to)) in
     omega (arith, there, c.loop-row.rows.ok.0)
 
 pub paid-requires-clause-account : goal.paid-requires-clause-account
 paid-requires-clause-account c =
-    let g = c.args.gains.now in
-    let seen = accounts_debts g c.args.strikes.now.items c.args.rows.now.items in
-    let long = debts-length g c.args.strikes.now.items c.args.rows.now.items in
+    let long = debts-length c.args.gains.now c.args.strikes.now.items c.args.rows.now.items in
     let to = c.requires.to in
-    (account-there g c.args.message c.args.moment c.args.from c.loop-row.row c.loop-row.row seen c.loop-row.strikes.items c.loop-row.rows.items c.index.result.now c.loop-row.invariant.3
-    (omega (arith, long, to)) c.index.ensures).0
+    (account-there c.loop-row.row c.index.result.now c.loop-row.invariant.3 (omega (arith, long, to)) c.index.ensures).0
 
 pub returns-in_err-left-clause-accounts : goal.returns-in_err-left-clause-accounts
 returns-in_err-left-clause-accounts c =
-    let g = c.args.gains.now in
-    let seen = accounts_debts g c.args.strikes.now.items c.args.rows.now.items in
-    (paid-grown g c.args.message c.args.moment c.args.from c.loop-row.row seen c.loop-row.strikes.items c.paid.new.strikes.items c.loop-row.rows.items c.paid.ensures.kept c.loop-row.invariant.3).accounts
+    (paid-grown c.paid.new.strikes.items c.paid.ensures.kept c.loop-row.invariant.3).accounts
 
 pub returns-in_err-left-clause-err : goal.returns-in_err-left-clause-err
 returns-in_err-left-clause-err c =
-    let g = c.args.gains.now in
-    let seen = accounts_debts g c.args.strikes.now.items c.args.rows.now.items in
-    let grown = paid-grown g c.args.message c.args.moment c.args.from c.loop-row.row seen c.loop-row.strikes.items c.paid.new.strikes.items c.loop-row.rows.items c.paid.ensures.kept c.loop-row.invariant.3 in
+    let grown = paid-grown c.paid.new.strikes.items c.paid.ensures.kept c.loop-row.invariant.3 in
     on-error c.from_residual.result c.from_residual.ensures.0
-    (paid-front g c.args.message c.args.moment c.args.from c.loop-row.row (length c.args.rows.now.items) seen c.paid.new.strikes.items c.loop-row.rows.items grown
-    (sym (debts-length g c.args.strikes.now.items c.args.rows.now.items)))
+    (paid-front (length c.args.rows.now.items) grown (sym (debts-length c.args.gains.now c.args.strikes.now.items c.args.rows.now.items)))
 
 pub returns-in_err-push_left-clause-accounts : goal.returns-in_err-push_left-clause-accounts
 returns-in_err-push_left-clause-accounts c =
-    let g = c.args.gains.now in
-    let seen = accounts_debts g c.args.strikes.now.items c.args.rows.now.items in
-    let grown = paid-grown g c.args.message c.args.moment c.args.from c.loop-row.row seen c.loop-row.strikes.items c.paid.new.strikes.items c.loop-row.rows.items c.paid.ensures.kept c.loop-row.invariant.3 in
-    subst (AreAccounts g c.paid.new.strikes.items) (sym c.in_err-push_left.ensures.err) grown.accounts
+    let grown = paid-grown c.paid.new.strikes.items c.paid.ensures.kept c.loop-row.invariant.3 in
+    subst (AreAccounts c.args.gains.now c.paid.new.strikes.items) (sym c.in_err-push_left.ensures.err) grown.accounts
 
 pub returns-in_err-push_left-clause-err : goal.returns-in_err-push_left-clause-err
 returns-in_err-push_left-clause-err c =
     let g = c.args.gains.now in
     let seen = accounts_debts g c.args.strikes.now.items c.args.rows.now.items in
-    let grown = paid-grown g c.args.message c.args.moment c.args.from c.loop-row.row seen c.loop-row.strikes.items c.paid.new.strikes.items c.loop-row.rows.items c.paid.ensures.kept c.loop-row.invariant.3 in
+    let grown = paid-grown c.paid.new.strikes.items c.paid.ensures.kept c.loop-row.invariant.3 in
     let same = subst (λ r. ArePaidTo g c.args.message c.args.moment c.args.from c.loop-row.row seen c.paid.new.strikes.items r) (sym c.in_err-push_left.ensures.err) grown in
     on-error c.from_residual-in_err-push_left.result c.from_residual-in_err-push_left.ensures.0
-    (paid-front g c.args.message c.args.moment c.args.from c.loop-row.row (length c.args.rows.now.items) seen c.paid.new.strikes.items c.push_left.new.rows.items same
-    (sym (debts-length g c.args.strikes.now.items c.args.rows.now.items)))
+    (paid-front (length c.args.rows.now.items) same (sym (debts-length g c.args.strikes.now.items c.args.rows.now.items)))
 
 pub loop-row-preserved : goal.loop-row-preserved
 loop-row-preserved c =
@@ -78,9 +65,9 @@ loop-row-preserved c =
     let k = c.loop-row.row in
     let one = c.loop-row.strikes.items in
     let new = c.paid.new.strikes.items in
-    let at = account-there g c.args.message c.args.moment c.args.from k k seen one c.loop-row.rows.items c.index.result.now c.loop-row.invariant.3 (omega (arith, long, to)) c.index.ensures in
-    let grown = paid-grown g c.args.message c.args.moment c.args.from k seen one new c.loop-row.rows.items c.paid.ensures.kept c.loop-row.invariant.3 in
-    let next = paid-next g c.args.message c.args.moment c.args.from k seen new c.loop-row.rows.items (account_debts g one c.index.result.now) c.in_ok-left.left grown c.in_ok-left.ensures.account c.in_ok-left.ensures.debts at.1 low (omega (arith, long, to)) in (
+    let at = account-there k c.index.result.now c.loop-row.invariant.3 (omega (arith, long, to)) c.index.ensures in
+    let grown = paid-grown new c.paid.ensures.kept c.loop-row.invariant.3 in
+    let next = paid-next (account_debts g one c.index.result.now) c.in_ok-left.left grown c.in_ok-left.ensures.account c.in_ok-left.ensures.debts at.1 low (omega (arith, long, to)) in (
       omega (arith, low),
       inl (omega arith),
       c.paid.ensures.seek,
@@ -92,7 +79,6 @@ returns-clause-accounts c = c.loop-row.invariant.3.accounts
 
 pub returns-clause-ok : goal.returns-clause-ok
 returns-clause-ok c =
-    let g = c.args.gains.now in
-    let seen = accounts_debts g c.args.strikes.now.items c.args.rows.now.items in
+    let seen = accounts_debts c.args.gains.now c.args.strikes.now.items c.args.rows.now.items in
     c.loop-row.invariant.3.debts
     ∙ ap (λ l. seen ++ paid_rows c.args.message c.args.moment l) (from_to-end c.args.from c.args.to c.loop-row.row seen c.loop-row.invariant.0 (omega arith) c.loop-row.invariant.1)

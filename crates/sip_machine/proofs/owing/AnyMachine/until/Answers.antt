@@ -1,8 +1,8 @@
 use Rattle.std.specs.Prelude.{◌<◌, []}
 use Rattle.std.proofs.Common.{◌∙◌, ap, sym, subst}
 use Rattle.sip_machine.specs.FigureRules.{until_of}
-use Rattle.sip_machine.specs.Owing.{at_rest, owing_seen, OwingInRange}
-use Rattle.sip_machine.proofs.pools.PoolLemmas.{in-phases, in-rows, state-here}
+use Rattle.sip_machine.specs.Owing.{owing_seen, OwingInRange}
+use Rattle.sip_machine.proofs.pools.PoolLemmas.{holds-here, in-phases, in-rows, state-here}
 use Rattle.sip_machine.proofs.owing.AnyMachine.until.Goals as goal
 
 pub index-requires : goal.index-requires
@@ -14,10 +14,7 @@ until-requires-clause-row g c = in-rows c.pool.inside.phases.items c.pool.inside
 
 pub until-requires-clause-in_range : goal.until-requires-clause-in_range
 until-requires-clause-in_range g c =
-    let p = c.index.result.now in
-    let d = at_rest p in
-    subst (OwingInRange g.M.Phases.in_range) (sym (state-here c.pool.inside.phases.items c.pool.inside.dues c.args.pool.now c.args.at p d c.pool.view_is c.requires.at c.index.ensures))
-    (c.requires.in_range d)
+    holds-here (OwingInRange g.M.Phases.in_range) c.pool.inside.phases.items c.pool.inside.dues c.args.pool.now c.args.at c.index.result.now c.pool.view_is c.requires.at c.index.ensures c.requires.in_range
 
 pub returns : goal.returns
 returns g c = λ d.

@@ -9,7 +9,7 @@ use Rattle.sip_machine.specs.Limits.{IsWithin}
 use Rattle.sip_machine.specs.FigureRules.{until_of}
 use Rattle.sip_machine.specs.inner.Single.{AnswersOne}
 use Rattle.sip_machine.specs.inner.Effects.{Rests, RestsFrom, rests_at, unexpired_at}
-use Rattle.sip_machine.proofs.pools.PoolLemmas.{in-phases, in-rows, state-here}
+use Rattle.sip_machine.proofs.pools.PoolLemmas.{holds-here, in-phases, in-rows, state-here}
 use Rattle.sip_machine.proofs.pools.CoversLemmas.{Covers-none, Covers-one, before-either}
 use Rattle.sip_machine.proofs.steps.OwingEachLemmas.{lasting-answers}
 use Rattle.sip_machine.proofs.owing.each.rests_row.Goals as goal
@@ -23,33 +23,18 @@ until-requires-clause-row g c = in-rows c.pool.inside.phases.items c.pool.inside
 
 pub until-requires-clause-in_range : goal.until-requires-clause-in_range
 until-requires-clause-in_range g c =
-    let m = g.M.Phases in
-    let texts = c.args.book.now in
-    let p = c.index.result.now in
-    let d = at_rest p in
-    let here = state-here c.pool.inside.phases.items c.pool.inside.dues c.args.pool.now c.args.at p d c.pool.view_is c.requires.at c.index.ensures in
-    subst (OwingInRange m.in_range) (sym here) (c.requires.in_range d)
+    holds-here (OwingInRange g.M.Phases.in_range) c.pool.inside.phases.items c.pool.inside.dues c.args.pool.now c.args.at c.index.result.now c.pool.view_is c.requires.at c.index.ensures c.requires.in_range
 
 pub rests-requires-clause-row : goal.rests-requires-clause-row
 rests-requires-clause-row g c = in-rows c.pool.inside.phases.items c.pool.inside.dues c.args.pool.now c.args.at c.pool.view_is c.pool.invariant c.requires.at
 
 pub rests-requires-clause-known : goal.rests-requires-clause-known
 rests-requires-clause-known g c =
-    let m = g.M.Phases in
-    let texts = c.args.book.now in
-    let p = c.index.result.now in
-    let d = at_rest p in
-    let here = state-here c.pool.inside.phases.items c.pool.inside.dues c.args.pool.now c.args.at p d c.pool.view_is c.requires.at c.index.ensures in
-    subst (Knows (owing_names m.names) texts) (sym here) (c.requires.known d)
+    holds-here (Knows (owing_names g.M.Phases.names) c.args.book.now) c.pool.inside.phases.items c.pool.inside.dues c.args.pool.now c.args.at c.index.result.now c.pool.view_is c.requires.at c.index.ensures c.requires.known
 
 pub rests-requires-clause-in_range : goal.rests-requires-clause-in_range
 rests-requires-clause-in_range g c =
-    let m = g.M.Phases in
-    let texts = c.args.book.now in
-    let p = c.index.result.now in
-    let d = at_rest p in
-    let here = state-here c.pool.inside.phases.items c.pool.inside.dues c.args.pool.now c.args.at p d c.pool.view_is c.requires.at c.index.ensures in
-    subst (OwingInRange m.in_range) (sym here) (c.requires.in_range d)
+    holds-here (OwingInRange g.M.Phases.in_range) c.pool.inside.phases.items c.pool.inside.dues c.args.pool.now c.args.at c.index.result.now c.pool.view_is c.requires.at c.index.ensures c.requires.in_range
 
 pub returns-then-is_past-clause-gives : goal.returns-then-is_past-clause-gives
 returns-then-is_past-clause-gives g c = λ d.

@@ -1,19 +1,14 @@
-use Rattle.std.specs.Prelude.{◌≡◌, ◌<◌, ◌&&◌, ◌++◌, [], All, filter, get_or, length, map}
+use Rattle.std.specs.Prelude.{◌≡◌, ◌<◌, ◌&&◌, ◌++◌, [], filter, length, map}
 use Rattle.std.specs.List.{list_any}
-use Rattle.std.proofs.Common.{sym, ◌∙◌, ap, subst, arith, append-nil, true≢false}
+use Rattle.std.proofs.Common.{sym, ◌∙◌, subst, arith, append-nil, true≢false}
 use Rattle.std.proofs.lemmas.Result.{on_ok_weaker}
-use Rattle.std.proofs.lemmas.List.Elements.{All-weaker}
 use Rattle.sip_ledger.specs.Debts.{is_payable, is_timely}
 use Rattle.sip_ledger.specs.Lists.{from_to}
-use Rattle.sip_machine.specs.Texts.{Keeps}
 use Rattle.sip_machine.specs.NumberedEvent.{event_in}
-use Rattle.sip_machine.specs.Owes.{owes_names}
-use Rattle.sip_machine.specs.Owing.{at_rest, owing_seen, owing_names, OwingInRange}
-use Rattle.sip_machine.specs.Rules.{Knows}
-use Rattle.sip_machine.specs.inner.DebtLaws.{All-front}
+use Rattle.sip_machine.specs.Owing.{owing_seen}
 use Rattle.sip_machine.specs.inner.Effects.{Rests, repaid_at, unexpired_at}
-use Rattle.sip_machine.proofs.pools.PoolLemmas.{in-phases, state-at}
-use Rattle.sip_machine.proofs.steps.OwingEachLemmas.{closed-none, rests-paid, slice-first}
+use Rattle.sip_machine.proofs.pools.PoolLemmas.{in-phases}
+use Rattle.sip_machine.proofs.steps.OwingEachLemmas.{closed-none, in-run, rests-paid}
 use Rattle.sip_machine.proofs.owing.each.rests_run.Goals as goal
 
 pub index-requires : goal.index-requires
@@ -26,40 +21,14 @@ index-requires g c =
 pub closes-requires : goal.closes-requires
 closes-requires g c =
     let m = g.M.Phases in
-    let texts = c.args.book.now in
-    let e = event_in texts c.args.event.now in
-    let xs = c.args.pool.now in
-    let from = c.args.from in
-    let to = c.args.to in
-    let some = from_to from to xs in
-    let q = c.index.result.now in
-    let d = at_rest q in
-    let order = c.requires.from in
-    let le = c.requires.to in
-    let low : from < length xs = omega (arith, order, le) in
-    let phase : (get_or xs from d).phase ≡ q
-    = ap (λ z. z.phase) (state-at c.pool.inside.phases.items c.pool.inside.dues xs from q d c.pool.view_is low) ∙ sym c.index.ensures in
-    subst m.in_range phase (slice-first (OwingInRange m.in_range) from to xs d order le c.requires.in_range).0
+    (in-run m.names m.in_range c.args.book.now c.pool.inside.phases.items c.pool.inside.dues c.args.pool.now c.args.from c.args.to c.index.result.now c.pool.view_is c.index.ensures
+    c.requires.from c.requires.to c.requires.known c.requires.in_range c.requires.same).in_range
 
 pub pays-requires-clause-known : goal.pays-requires-clause-known
 pays-requires-clause-known g c =
     let m = g.M.Phases in
-    let texts = c.args.book.now in
-    let e = event_in texts c.args.event.now in
-    let xs = c.args.pool.now in
-    let from = c.args.from in
-    let to = c.args.to in
-    let some = from_to from to xs in
-    let q = c.index.result.now in
-    let d = at_rest q in
-    let order = c.requires.from in
-    let le = c.requires.to in
-    let low : from < length xs = omega (arith, order, le) in
-    let phase : (get_or xs from d).phase ≡ q
-    = ap (λ z. z.phase) (state-at c.pool.inside.phases.items c.pool.inside.dues xs from q d c.pool.view_is low) ∙ sym c.index.ensures in
-    let first = get_or xs from d in
-    subst (Knows m.names texts) phase
-    (All-front (Keeps texts) (m.names first.phase) (owes_names first.owes) (slice-first (Knows (owing_names m.names) texts) from to xs d order le c.requires.known))
+    (in-run m.names m.in_range c.args.book.now c.pool.inside.phases.items c.pool.inside.dues c.args.pool.now c.args.from c.args.to c.index.result.now c.pool.view_is c.index.ensures
+    c.requires.from c.requires.to c.requires.known c.requires.in_range c.requires.same).known
 
 pub returns-then-is_past-clause-gives : goal.returns-then-is_past-clause-gives
 returns-then-is_past-clause-gives g c =
@@ -67,23 +36,15 @@ returns-then-is_past-clause-gives g c =
     let texts = c.args.book.now in
     let e = event_in texts c.args.event.now in
     let xs = c.args.pool.now in
-    let from = c.args.from in
-    let to = c.args.to in
-    let some = from_to from to xs in
+    let some = from_to c.args.from c.args.to xs in
     let q = c.index.result.now in
-    let d = at_rest q in
-    let order = c.requires.from in
-    let le = c.requires.to in
-    let low : from < length xs = omega (arith, order, le) in
-    let phase : (get_or xs from d).phase ≡ q
-    = ap (λ z. z.phase) (state-at c.pool.inside.phases.items c.pool.inside.dues xs from q d c.pool.view_is low) ∙ sym c.index.ensures in
-    let same : All (λ x. x.phase ≡ q) some
-    = All-weaker (λ x. x.phase ≡ (get_or xs from d).phase) (λ x. x.phase ≡ q) (λ x is. is ∙ phase) some (c.requires.same d) in
     let p = m.times c.args.machine.now in
+    let run = in-run m.names m.in_range c.args.book.now c.pool.inside.phases.items c.pool.inside.dues c.args.pool.now c.args.from c.args.to c.index.result.now c.pool.view_is c.index.ensures
+    c.requires.from c.requires.to c.requires.known c.requires.in_range c.requires.same in
     let closed = rw (c.moment.ensures, c.closes.ensures texts) at c.if-is_past.ensures in (
       [],
       sym (append-nil xs),
-      closed-none m.figure p m.seen m.names m.in_range texts e q some same c.requires.known c.requires.in_range
+      closed-none m.figure p m.seen m.names m.in_range texts e q some run.same c.requires.known c.requires.in_range
           (λ x. Rests m.figure e (owing_seen m.seen texts (unexpired_at e.moment x))) closed,
     )
 
@@ -93,24 +54,16 @@ returns-in-Some-clause-gives g c =
     let texts = c.args.book.now in
     let e = event_in texts c.args.event.now in
     let xs = c.args.pool.now in
-    let from = c.args.from in
-    let to = c.args.to in
-    let some = from_to from to xs in
+    let some = from_to c.args.from c.args.to xs in
     let q = c.index.result.now in
-    let d = at_rest q in
-    let order = c.requires.from in
-    let le = c.requires.to in
-    let low : from < length xs = omega (arith, order, le) in
-    let phase : (get_or xs from d).phase ≡ q
-    = ap (λ z. z.phase) (state-at c.pool.inside.phases.items c.pool.inside.dues xs from q d c.pool.view_is low) ∙ sym c.index.ensures in
-    let same : All (λ x. x.phase ≡ q) some
-    = All-weaker (λ x. x.phase ≡ (get_or xs from d).phase) (λ x. x.phase ≡ q) (λ x is. is ∙ phase) some (c.requires.same d) in
     let p = m.times c.args.machine.now in
+    let run = in-run m.names m.in_range c.args.book.now c.pool.inside.phases.items c.pool.inside.dues c.args.pool.now c.args.from c.args.to c.index.result.now c.pool.view_is c.index.ensures
+    c.requires.from c.requires.to c.requires.known c.requires.in_range c.requires.same in
     let timers = rw (c.moment.ensures, c.closes.ensures texts) at c.if-is_past.ensures in
     let stays = rw c.kind.ensures at c.stays.ensures texts in
     let moves : ¬ (m.figure.Stays (m.seen texts q) e.kind) = λ holds. true≢false (sym (stays.1 holds) ∙ c.if-stays.false) in
     let message = c.in-Some.message in
     let paid = map (repaid_at e.moment message) (filter (λ x. list_any (is_payable message e.moment) x.owes && is_timely e.moment x.owes) some) in
-    let covers = rests-paid m.figure p m.seen m.names m.in_range texts e q some same c.requires.known c.requires.in_range message timers moves (rw c.in-Some.is at c.pays.ensures) in
+    let covers = rests-paid m.figure p m.seen m.names m.in_range texts e q some run.same c.requires.known c.requires.in_range message timers moves (rw c.in-Some.is at c.pays.ensures) in
     on_ok_weaker c.push_paid_each.result (λ (is : c.push_paid_each.new.self ≡ xs ++ paid). (paid, is, covers))
     (rw c.moment-in-Some.ensures at c.push_paid_each.ensures.ok)

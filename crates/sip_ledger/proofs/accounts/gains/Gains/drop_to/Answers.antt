@@ -13,8 +13,8 @@ drop_first-requires-2 c =
     let many = c.requires.gained.flags.many in
     omega (arith, len, long, within, many)
 
-pub returns-clause-gained : goal.returns-clause-gained
-returns-clause-gained c =
+pub returns : goal.returns
+returns c =
     let g = c.args.self.now in
     let new : Gains = record { entries = c.drop_first.new.items; flags = c.drop_first-2.new.items; end = g.end; messages = g.messages; musts = g.musts; rises = g.rises } in
     let len : c.len.result ≡ length g.entries.items = c.len.ensures ∙ g.entries.ok.0 in
@@ -22,17 +22,6 @@ returns-clause-gained c =
     let from = c.requires.from in
     let count = c.args.place - (g.end - c.len.result) in
     let here : count + (g.end - length g.entries.items) ≡ c.args.place = omega (arith, len, long, from) in
-    (gains-dropped g new c.args.place count c.requires.gained here c.requires.within c.drop_first.ensures refl refl refl refl c.requires.none
-    (flags-dropped g new c.args.place count c.requires.gained.flags long here c.requires.within c.drop_first.ensures c.drop_first-2.ensures refl)).0
-
-pub returns-clause-dropped : goal.returns-clause-dropped
-returns-clause-dropped c =
-    let g = c.args.self.now in
-    let new : Gains = record { entries = c.drop_first.new.items; flags = c.drop_first-2.new.items; end = g.end; messages = g.messages; musts = g.musts; rises = g.rises } in
-    let len : c.len.result ≡ length g.entries.items = c.len.ensures ∙ g.entries.ok.0 in
-    let long = c.requires.gained.long in
-    let from = c.requires.from in
-    let count = c.args.place - (g.end - c.len.result) in
-    let here : count + (g.end - length g.entries.items) ≡ c.args.place = omega (arith, len, long, from) in
-    (gains-dropped g new c.args.place count c.requires.gained here c.requires.within c.drop_first.ensures refl refl refl refl c.requires.none
-    (flags-dropped g new c.args.place count c.requires.gained.flags long here c.requires.within c.drop_first.ensures c.drop_first-2.ensures refl)).1
+    let all = gains-dropped g new c.args.place count c.requires.gained here c.requires.within c.drop_first.ensures refl refl refl refl c.requires.none
+    (flags-dropped g new c.args.place count c.requires.gained.flags long here c.requires.within c.drop_first.ensures c.drop_first-2.ensures refl) in
+    record { gained = all.0; dropped = all.1 }

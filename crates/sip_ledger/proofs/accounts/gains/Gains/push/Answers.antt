@@ -51,8 +51,8 @@ returns-in_err-note-clause-err c =
     (gains-same g new c.requires c.reserve.ensures.items refl c.in_err-note.ensures.err.0 (λ k. ap (λ l. holds l 0 k) c.in_err-note.ensures.err.1) refl
     (flags-same g new c.requires.flags c.reserve.ensures.items c.reserve-2.ensures.items refl)).1
 
-pub returns-clause-gained : goal.returns-clause-gained
-returns-clause-gained c =
+pub returns : goal.returns
+returns c =
     let g = c.args.self.now in
     let e : Entry = record { message = c.args.debt.message; deadline = c.args.debt.deadline } in
     let f : Flags = record { must = c.args.debt.must; left = true } in
@@ -61,18 +61,6 @@ returns-clause-gained c =
     let small = c.requires.small in
     let entries : new.entries.items ≡ g.entries.items ++ e ∷ [] = c.push_reserved.ensures.items ∙ ap (λ l. l ++ e ∷ []) c.reserve.ensures.items in
     let flags : new.flags.items ≡ g.flags.items ++ f ∷ [] = c.push_reserved-2.ensures.items ∙ ap (λ l. l ++ f ∷ []) c.reserve-2.ensures.items in
-    (gains-more g new c.args.debt c.requires entries refl (omega (arith, end, small)) c.in_ok-note.ensures.ok (rw c.deref.ensures.value at c.rise-rises.ensures)
-    (flags-more g new c.args.debt c.requires.flags c.requires.long (entries-long g c.requires.long) entries flags refl)).0
-
-pub returns-clause-ok : goal.returns-clause-ok
-returns-clause-ok c =
-    let g = c.args.self.now in
-    let e : Entry = record { message = c.args.debt.message; deadline = c.args.debt.deadline } in
-    let f : Flags = record { must = c.args.debt.must; left = true } in
-    let new : Gains = record { entries = c.push_reserved.new.self; flags = c.push_reserved-2.new.self; end = g.end + 1; messages = c.note.new.messages; musts = c.note.new.musts; rises = c.rise-rises.result } in
-    let end = c.if-self.false in
-    let small = c.requires.small in
-    let entries : new.entries.items ≡ g.entries.items ++ e ∷ [] = c.push_reserved.ensures.items ∙ ap (λ l. l ++ e ∷ []) c.reserve.ensures.items in
-    let flags : new.flags.items ≡ g.flags.items ++ f ∷ [] = c.push_reserved-2.ensures.items ∙ ap (λ l. l ++ f ∷ []) c.reserve-2.ensures.items in
-    (gains-more g new c.args.debt c.requires entries refl (omega (arith, end, small)) c.in_ok-note.ensures.ok (rw c.deref.ensures.value at c.rise-rises.ensures)
-    (flags-more g new c.args.debt c.requires.flags c.requires.long (entries-long g c.requires.long) entries flags refl)).1
+    let all = gains-more g new c.args.debt c.requires entries refl (omega (arith, end, small)) c.in_ok-note.ensures.ok (rw c.deref.ensures.value at c.rise-rises.ensures)
+    (flags-more g new c.args.debt c.requires.flags c.requires.long (entries-long g c.requires.long) entries flags refl) in
+    record { gained = all.0; ok = all.1; err = tt }

@@ -17,7 +17,7 @@ abbrev pub Passes : (ℕ → Bool) → List ℕ → ℕ → ℕ → Type 0
 Passes f text p e = (k : ℕ) → p ≤ k → k < e → f (get_or text k 0) ≡ true
 
 -- of a word that is not 0, the bit at its number of trailing zeros is set, and no lower one is
-lowest-set : (word : ℕ) → 0 < word → word < 2 ^ 64 → (trailing_zeros w64 word < 64) × (test word (trailing_zeros w64 word) ≡ true) × ((i : ℕ) → i < trailing_zeros w64 word → test word i ≡ false)
+pub lowest-set : (word : ℕ) → 0 < word → word < 2 ^ 64 → (trailing_zeros w64 word < 64) × (test word (trailing_zeros w64 word) ≡ true) × ((i : ℕ) → i < trailing_zeros w64 word → test word i ≡ false)
 unfolding test
 lowest-set word some small =
     let found = bit_at-trailing_zeros w64 word some small in

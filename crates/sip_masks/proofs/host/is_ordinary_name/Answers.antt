@@ -64,14 +64,14 @@ pub returns-then-len-eq0 : goal.returns-then-len-eq0
 returns-then-len-eq0 c = (
   (λ yes. absurd (false≢true yes)),
   λ is.
-  let w = c.args.window.now in
-  let len = c.args.len in
-  elim c.then-len-eq0.branch [
-    | then-len-eq0-via-then-len-eq0 e ↦
-        let none : len ≡ 0 = omega (arith, e.if-len-eq0.true) in
-        absurd (not-empty (subst (λ n. OrdinaryName (take n w)) none is.0))
-    | then-len-eq0-via-else-len-eq0+then-len-gt-LONGEST e ↦
-        absurd (omega (arith, e.if-len-gt-LONGEST.true, is.0.1, length-take-le len w (omega (arith, c.requires, prefix_len-le-length is_plain w))))
-    | then-len-eq0-via-else-len-eq0+else-len-gt-LONGEST+then-window-lt-LONGEST e ↦ absurd (omega (arith, e.if-window-lt-LONGEST.true, is.1))
-  ],
+      let w = c.args.window.now in
+      let len = c.args.len in
+      elim c.then-len-eq0.branch [
+        | then-len-eq0-via-then-len-eq0 e ↦
+            let none : len ≡ 0 = omega (arith, e.if-len-eq0.true) in
+            absurd (not-empty (subst (λ n. OrdinaryName (take n w)) none is.0))
+        | then-len-eq0-via-else-len-eq0+then-len-gt-LONGEST e ↦
+            absurd (omega (arith, e.if-len-gt-LONGEST.true, is.0.1, length-take-le len w (omega (arith, c.requires, prefix_len-le-length is_plain w))))
+        | then-len-eq0-via-else-len-eq0+else-len-gt-LONGEST+then-window-lt-LONGEST e ↦ absurd (omega (arith, e.if-window-lt-LONGEST.true, is.1))
+      ],
 )

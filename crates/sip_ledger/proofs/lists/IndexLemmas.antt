@@ -4,7 +4,7 @@ use Rattle.std.specs.Ordering.{is_eq, is_gt}
 use Rattle.std.specs.BTreeSet.{BTreeSet, IsKeyRangeOf}
 use Rattle.std.specs.declared.ops.Bound.TheVariants.{Included, Unbounded}
 use Rattle.std.proofs.lemmas.Bool.Decides.{nat_tests}
-use Rattle.sip_ledger.specs.inner.Indexes.{pair_cmp, holds, IsFrom, IsFirstFrom, NoneFrom}
+use Rattle.sip_ledger.specs.Indexes.{pair_cmp, holds, IsFrom, IsFirstFrom, NoneFrom}
 
 pub is_pair : (a b c d : ℕ) → is_eq (pair_cmp (a, b) (c, d)) ≡ (c == a && d == b)
 is_pair a b c d = grind (arith, nat_tests)

@@ -17,7 +17,7 @@ use Rattle.sip_ledger.specs.Accounts.{AppendsOwed, owes_message, some_owes}
 use Rattle.sip_ledger.specs.Debts.{is_payable}
 use Rattle.sip_ledger.specs.Lists.{Rise}
 use Rattle.sip_ledger.specs.inner.Accounts.{AreGains, account_debts, accounts_debts, entries_of, entry_at, must_at, owes_at}
-use Rattle.sip_ledger.specs.inner.Indexes.{IsFirstFrom, IsFrom, NoneFrom, holds}
+use Rattle.sip_ledger.specs.Indexes.{IsFirstFrom, IsFrom, NoneFrom, holds}
 use Rattle.sip_ledger.proofs.debts.ListedLemmas.{listed-All, no_entry}
 use Rattle.sip_ledger.proofs.account.AccountLemmas.{debts-length, row-debts}
 use Rattle.sip_ledger.proofs.gains.LeftLemmas.{held-left, owed-left}

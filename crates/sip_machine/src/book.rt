@@ -317,7 +317,8 @@ fn put_to(
     tos.push(number, Hashed::of(text))
 }
 
-/// Puts the To of a message, which is read anew, after the others, where those of all messages are to stand beside them.
+/// Reads a message anew and puts its To after the others, where each message has its To beside it. It puts none of an ACK, nor of bytes that
+/// are no message.
 fn put_read_to(alloc: Global, tos: &mut Tos, number: u64, bytes: &[u8]) -> Result<(), AllocError>
     ensures { (texts : Texts) → Keeps texts number → text_of texts number ≡ bytes.now → AreTos texts tos.old → AreTos texts tos.new }
 {

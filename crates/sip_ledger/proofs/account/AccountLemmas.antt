@@ -66,6 +66,7 @@ kept-account gains old new a kept is =
       print = is.print ∙ ap debts_print (sym (kept-debts gains old new a kept last));
     }
 
+-- where strikes are appended, accounts stay accounts and owe what they owed
 pub kept-all : (gains : Gains) (old new : List Strike) (rows : List Account) → take (length old) new ≡ old → All (IsAccount gains old) rows →
     All (IsAccount gains new) rows × (accounts_debts gains new rows ≡ accounts_debts gains old rows)
 unfolding accounts_debts

@@ -34,6 +34,7 @@ message-before pairs key number found is m k after before =
 pub from-first : (m k : ℕ) → 0 ≤ m → IsFrom 0 0 m k
 from-first m k after = record { keys = omega arith; numbers = λ same. omega arith }
 
+-- each pair of a later message comes after (last, place)
 pub from-later : (last place m k : ℕ) → last + 1 ≤ m → IsFrom last place m k
 from-later last place m k later = record { keys = omega (arith, later); numbers = λ same. absurd (omega (arith, later, same)) }
 

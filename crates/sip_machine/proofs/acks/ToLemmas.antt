@@ -73,6 +73,7 @@ to_of texts tos number text all has =
 
 -- What follows is of the Tos in their list.
 
+-- what is read past the end of the list
 abbrev pub nobody : To
 nobody = record { number = 0; text = [] }
 

@@ -182,6 +182,24 @@ fn acks_find_their_debts_among_many(rt: HostRuntime) -> Result<(), Fail> {
     Ok(())
 }
 
+/// A book that keeps the messages, and beside each whose number is below this one its To.
+fn book_with_tos(alloc: Global, messages: &[Numbered], below: u64) -> Result<Book, Fail> {
+    let mut book = Book::new(alloc);
+    let mut last = 0;
+    for &(number, start, tag) in messages {
+        if number <= last {
+            return Err("out of order".into());
+        }
+        let text = text_of(alloc, start, tag, "INVITE", "UDP")?;
+        keep(&mut book, number, text.as_bytes())?;
+        last = number;
+        if number < below {
+            keep_to(alloc, &mut book, number)?;
+        }
+    }
+    Ok(book)
+}
+
 /// The INVITE, many refusals of which each two have one To, and an ACK for each To.
 fn pairs(alloc: Global) -> Result<Vec<Numbered>, AllocError> {
     let mut messages = Vec::new(alloc);
@@ -212,10 +230,7 @@ fn paired(alloc: Global) -> Result<Vec<Entry>, AllocError> {
 /// Where two refusals have one To, an ACK pays the older one first, however many are owed before it.
 #[test]
 fn acks_of_equal_tos_pay_the_oldest_first(rt: HostRuntime) -> Result<(), Fail> {
-    let mut book = book_of(rt.alloc(), &pairs(rt.alloc())?, "INVITE", "UDP")?;
-    for number in 0..MANY {
-        keep_to(rt.alloc(), &mut book, refusal(number))?;
-    }
+    let book = book_with_tos(rt.alloc(), &pairs(rt.alloc())?, 1000)?;
     let client = InviteClient::new(params(500)?);
     let pool = run(rt.alloc(), &client, &book, &paired(rt.alloc())?)?;
     let states = states_of(rt.alloc(), &pool)?;
@@ -241,24 +256,6 @@ fn many_and_last(alloc: Global) -> Result<Vec<Numbered>, AllocError> {
     }
     messages.push((LAST, Start::Response(486), Some(255)))?;
     Ok(messages)
-}
-
-/// A book that keeps the messages, and beside each whose number is below this one its To.
-fn book_with_tos(alloc: Global, messages: &[Numbered], below: u64) -> Result<Book, Fail> {
-    let mut book = Book::new(alloc);
-    let mut last = 0;
-    for &(number, start, tag) in messages {
-        if number <= last {
-            return Err("out of order".into());
-        }
-        let text = text_of(alloc, start, tag, "INVITE", "UDP")?;
-        keep(&mut book, number, text.as_bytes())?;
-        last = number;
-        if number < below {
-            keep_to(alloc, &mut book, number)?;
-        }
-    }
-    Ok(book)
 }
 
 /// The Tos of all messages stand in the book but that of the last refusal, as where memory for it was refused. Its ACK finds it.

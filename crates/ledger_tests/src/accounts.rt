@@ -256,6 +256,7 @@ impl Played {
         let least = earliest_must(list);
         assert!(rt; self.accounts.earliest_must(row) == least, "{row}");
         let moment = least.unwrap_or(0);
+        self.pays_one_first(rt, row, list, moment);
         assert!(rt; self.accounts.is_timely(row, moment), "{row}");
         let late = moment.saturating_add(1);
         assert!(rt;
@@ -285,6 +286,22 @@ impl Played {
             assert!(rt; debts.as_slice() == wants, "{row}");
         }
         Ok(())
+    }
+
+    /// The first debt that a send of one of some messages pays is the first such debt of this list.
+    fn pays_one_first(&self, rt: &impl Abort, row: usize, list: &[Debt], moment: u64) {
+        for messages in [[3, 1], [0, 2]] {
+            let [one, other] = messages;
+            let wants = list
+                .iter()
+                .find(|debt| {
+                    (debt.message == one || debt.message == other) && moment <= debt.deadline
+                })
+                .map(|debt| debt.message);
+            assert!(rt; row < self.accounts.len());
+            let first = self.accounts.first_payable(row, &messages, moment);
+            assert!(rt; first == wants, "{row}");
+        }
     }
 
     /// Rows are told to owe the same where their lists are the same.

@@ -1,6 +1,8 @@
 //! ACKs of an INVITE client for responses of which all have their To beside them, one alone has, or none has.
 
-use crate::messages::{Numbered, Start, book_of};
+ghost use Rattle.std.specs.Prelude.{◌≡◌};
+
+use crate::messages::{Numbered, Start, book_of, keep, text_of};
 use crate::rows::{MUST, Row, all_lead};
 use crate::runs::{Entry, run, states_of};
 use crate::times::params;
@@ -18,7 +20,9 @@ const MESSAGES: [Numbered; 4] = [
 ];
 
 /// Keeps the To of the message with this number beside it.
-fn keep_to(alloc: Global, book: &mut Book, number: u64) -> Result<(), Fail> {
+fn keep_to(alloc: Global, book: &mut Book, number: u64) -> Result<(), Fail>
+    ensures { book.new ≡ book.old }
+{
     let Some(bytes) = book.bytes(number) else {
         return Err("not kept".into());
     };
@@ -175,5 +179,105 @@ fn acks_find_their_debts_among_many(rt: HostRuntime) -> Result<(), Fail> {
     let states = states_of(rt.alloc(), &pool)?;
     assert!(rt; states.len() == 1);
     assert!(rt; are_first_half(&states[0].owes));
+    Ok(())
+}
+
+/// A book that keeps the messages, and beside each whose number is below this one its To.
+fn book_with_tos(alloc: Global, messages: &[Numbered], below: u64) -> Result<Book, Fail> {
+    let mut book = Book::new(alloc);
+    let mut last = 0;
+    for &(number, start, tag) in messages {
+        if number <= last {
+            return Err("out of order".into());
+        }
+        let text = text_of(alloc, start, tag, "INVITE", "UDP")?;
+        keep(&mut book, number, text.as_bytes())?;
+        last = number;
+        if number < below {
+            keep_to(alloc, &mut book, number)?;
+        }
+    }
+    Ok(book)
+}
+
+/// The INVITE, many refusals of which each two have one To, and an ACK for each To.
+fn pairs(alloc: Global) -> Result<Vec<Numbered>, AllocError> {
+    let mut messages = Vec::new(alloc);
+    messages.push((1, Start::Request("INVITE"), None))?;
+    for number in 0..MANY {
+        let start = Start::Response(if number % 2 == 0 { 486 } else { 487 });
+        messages.push((refusal(number), start, Some((number / 2) as u8)))?;
+    }
+    for tag in 0..MANY / 2 {
+        messages.push((1000 + tag, Start::Request("ACK"), Some(tag as u8)))?;
+    }
+    Ok(messages)
+}
+
+/// The INVITE is sent, all refusals are received, and the newest half of them is acknowledged, the newest To first, and one of the To before.
+fn paired(alloc: Global) -> Result<Vec<Entry>, AllocError> {
+    let mut entries = Vec::new(alloc);
+    entries.push((0, Action::Sent, 1))?;
+    for number in 0..MANY {
+        entries.push((100, Action::Received, refusal(number)))?;
+    }
+    for tag in 0..=MANY / 2 {
+        entries.push((110, Action::Sent, 1000 + (MANY - 1 - tag) / 2))?;
+    }
+    Ok(entries)
+}
+
+/// Where two refusals have one To, an ACK pays the older one first, however many are owed before it.
+#[test]
+fn acks_of_equal_tos_pay_the_oldest_first(rt: HostRuntime) -> Result<(), Fail> {
+    let book = book_with_tos(rt.alloc(), &pairs(rt.alloc())?, 1000)?;
+    let client = InviteClient::new(params(500)?);
+    let pool = run(rt.alloc(), &client, &book, &paired(rt.alloc())?)?;
+    let states = states_of(rt.alloc(), &pool)?;
+    assert!(rt; states.len() == 1);
+    let owed = states[0]
+        .owes
+        .iter()
+        .map(|run| (run.debt.message, run.count));
+    assert!(rt; owed.eq((0..126).chain(127..128).map(|number| (refusal(number), 1))));
+    Ok(())
+}
+
+/// The number of the last of the refusals.
+const LAST: u64 = 521;
+
+/// The INVITE, the ACK for the last of many refusals, and these refusals.
+fn many_and_last(alloc: Global) -> Result<Vec<Numbered>, AllocError> {
+    let mut messages = Vec::new(alloc);
+    messages.push((1, Start::Request("INVITE"), None))?;
+    messages.push((2, Start::Request("ACK"), Some(255)))?;
+    for tag in 0..MANY - 1 {
+        messages.push((refusal(tag), Start::Response(486), Some(tag as u8)))?;
+    }
+    messages.push((LAST, Start::Response(486), Some(255)))?;
+    Ok(messages)
+}
+
+/// The Tos of all messages stand in the book but that of the last refusal, as where memory for it was refused. Its ACK finds it.
+#[test]
+fn an_ack_finds_a_response_without_its_to_among_many(rt: HostRuntime) -> Result<(), Fail> {
+    let messages = many_and_last(rt.alloc())?;
+    let book = book_with_tos(rt.alloc(), &messages, LAST)?;
+    let mut entries = Vec::new(rt.alloc());
+    entries.push((0, Action::Sent, 1))?;
+    for tag in 0..MANY - 1 {
+        entries.push((100, Action::Received, refusal(tag)))?;
+    }
+    entries.push((100, Action::Received, LAST))?;
+    entries.push((110, Action::Sent, 2))?;
+    let client = InviteClient::new(params(500)?);
+    let pool = run(rt.alloc(), &client, &book, &entries)?;
+    let states = states_of(rt.alloc(), &pool)?;
+    assert!(rt; states.len() == 1);
+    let owed = states[0]
+        .owes
+        .iter()
+        .map(|run| (run.debt.message, run.count));
+    assert!(rt; owed.eq((0..MANY - 1).map(|tag| (refusal(tag), 1))));
     Ok(())
 }

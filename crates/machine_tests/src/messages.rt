@@ -35,7 +35,7 @@ fn tag_of(alloc: Global, tag: Option<u8>) -> Result<String, AllocError> {
 }
 
 /// The bytes of a message that begins in this way, with this tag in To. A response answers the method `answered`.
-fn text_of(
+pub(crate) fn text_of(
     alloc: Global,
     start: Start,
     tag: Option<u8>,

@@ -1,4 +1,4 @@
-use Rattle.std.specs.Prelude.{if◌then◌else◌, ◌≡◌, ◌==◌, ◌&&◌, ◌||◌, ℕ, Bool, false, true, Option, None, Some, List, [], ◌∷◌, ◌++◌, All, filter, map, min, nat_le}
+use Rattle.std.specs.Prelude.{if◌then◌else◌, ◌≡◌, ◌==◌, ◌&&◌, ◌||◌, ℕ, Bool, false, true, Option, None, Some, List, [], ◌∷◌, ◌++◌, ◌≤◌, All, Contains, filter, map, min, nat_le}
 use Rattle.std.specs.List.{reduce}
 use Rattle.sip_ledger.specs.declared.debt.Debt.{Debt}
 
@@ -25,6 +25,10 @@ softened_debt debt = record { message = debt.message; deadline = debt.deadline; 
 -- a send of this message at t can pay the debt: the debt is of the message, and its deadline is not before t
 abbrev pub is_payable : ℕ → ℕ → Debt → Bool
 is_payable message t debt = debt.message == message && nat_le t debt.deadline
+
+-- a send of one of the messages at t can pay the debt
+abbrev pub PaysOne : List ℕ → ℕ → Debt → Type 0
+PaysOne messages t debt = Contains messages debt.message × (t ≤ debt.deadline)
 
 -- what is owed after a send of this message at t, which pays the first debt that it can pay
 abbrev pub paid_by : ℕ → ℕ → List Debt → List Debt

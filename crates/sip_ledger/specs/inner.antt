@@ -1,4 +1,3 @@
 pub mod Accounts
 pub mod Deadlines
 pub mod Ends
-pub mod Indexes

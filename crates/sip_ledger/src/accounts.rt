@@ -2,7 +2,7 @@
 ghost use Rattle.std.specs.Prelude.{◌≡◌, ◌↔◌, ◌<◌, ◌++◌, ◌∷◌, [], ℕ, List, IsTrue, OnOk, OnErr, IfOk, IfSome, IfNone, All, length, set, map, filter, take, drop, get_or};
 ghost use Rattle.std.specs.List.{list_any};
 ghost use Rattle.sip_ledger.specs.Accounts.{owed_in, debts_print, AppendsOwed};
-ghost use Rattle.sip_ledger.specs.Debts.{counts_at, softened_debt, is_payable, debt_deadlines, earliest, paid_by};
+ghost use Rattle.sip_ledger.specs.Debts.{IsWithoutFirst, PaysOne, counts_at, softened_debt, is_payable, debt_deadlines, earliest, paid_by};
 ghost use Rattle.sip_ledger.specs.Lists.{Rise};
 ghost use Rattle.sip_ledger.specs.Runs.{AreRuns};
 
@@ -16,8 +16,8 @@ mod seek;
 mod strikes;
 
 use crate::accounts::account::{
-    Account, EMPTY, debts, earliest_must, expired, find, first_debts, gained, gained_and_expired,
-    paid_and_expired, place_for, same, without,
+    Account, EMPTY, debts, earliest_must, expired, find, find_one, first_debts, gained,
+    gained_and_expired, paid_and_expired, place_for, same, without,
 };
 use crate::accounts::gains::Gains;
 use crate::accounts::left::{drop_front, let_go};
@@ -179,6 +179,18 @@ impl Accounts {
             moment,
         )
         .is_some()
+    }
+
+    /// The message of the row's first debt that a send of one of these messages at the moment pays, if there is one.
+    pub fn first_payable(&self, row: usize, messages: &[u64], moment: u64) -> Option<u64>
+        requires { row < length self.now }
+        ensures some { IfSome result (λ message. IsWithoutFirst (PaysOne messages.now moment) (owed_in self.now row) (paid_by message moment (owed_in self.now row))) }
+        ensures none { IfNone result (All (λ debt. ¬ (PaysOne messages.now moment debt)) (owed_in self.now row)) }
+    {
+        match find_one(&self.gains, &self.strikes, self.rows[row], messages, moment) {
+            Some(place) => Some(self.gains.entry(place).message),
+            None => None,
+        }
     }
 
     /// Drops what the row may send and whose deadline is below the moment. On an error all is as before.

@@ -1,6 +1,6 @@
 //! Indexes: numbers that stand under keys.
 ghost use Rattle.std.specs.Prelude.{◌≡◌, ◌≤◌, ◌==◌, ◌&&◌, ℕ, cond, true, false, [], IfSome, IfNone, OnOk, OnErr};
-ghost use Rattle.sip_ledger.specs.inner.Indexes.{holds, IsFirstFrom, IsNextUnder, NoneFrom};
+ghost use Rattle.sip_ledger.specs.Indexes.{holds, IsFirstFrom, IsNextUnder, NoneFrom};
 
 use std::alloc::{AllocError, Global};
 use std::collections::BTreeSet;
@@ -8,7 +8,7 @@ use std::marker::Model;
 
 /// Which numbers stand under which keys. Contracts see the pairs of a key and a number, in order.
 #[derive(Debug, Drop)]
-pub(crate) struct Index {
+pub struct Index {
     pairs: BTreeSet<(u64, u64)>,
 }
 
@@ -22,7 +22,7 @@ impl Model for Index {
 
 impl Index {
     /// An index without numbers.
-    pub(crate) fn new(alloc: Global) -> Self
+    pub fn new(alloc: Global) -> Self
         ensures { result ≡ [] }
     {
         Index {
@@ -31,7 +31,7 @@ impl Index {
     }
 
     /// Puts the number under the key. On an error all is as before.
-    pub(crate) fn put(&mut self, key: u64, number: u64) -> Result<(), AllocError>
+    pub fn put(&mut self, key: u64, number: u64) -> Result<(), AllocError>
         ensures ok { OnOk result ((k n : ℕ) → holds self.new k n ≡ cond (k == key && n == number) true (holds self.old k n)) }
         ensures err { OnErr result (self.new ≡ self.old) }
     {
@@ -40,14 +40,14 @@ impl Index {
     }
 
     /// Takes the number from the key, if it stands there.
-    pub(crate) fn take(&mut self, key: u64, number: u64)
+    pub fn take(&mut self, key: u64, number: u64)
         ensures { (k n : ℕ) → holds self.new k n ≡ cond (k == key && n == number) false (holds self.old k n) }
     {
         let _held = self.pairs.remove(&(key, number));
     }
 
     /// The first pair from (key, number) on, in the order of keys and then of numbers.
-    pub(crate) fn first_from(&self, key: u64, number: u64) -> Option<(u64, u64)>
+    pub fn first_from(&self, key: u64, number: u64) -> Option<(u64, u64)>
         ensures found { IfSome result (IsFirstFrom self.now key number) }
         ensures none { IfNone result (NoneFrom self.now key number) }
     {
@@ -58,7 +58,7 @@ impl Index {
     }
 
     /// The first number under the key, from `from` on.
-    pub(crate) fn next(&self, key: u64, from: u64) -> Option<u64>
+    pub fn next(&self, key: u64, from: u64) -> Option<u64>
         ensures found { IfSome result (IsNextUnder self.now key from) }
         ensures none { IfNone result ((n : ℕ) → from ≤ n → holds self.now key n ≡ false) }
     {

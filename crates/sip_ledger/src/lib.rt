@@ -9,4 +9,5 @@ mod run;
 
 pub use crate::accounts::Accounts;
 pub use crate::debt::Debt;
+pub use crate::index::Index;
 pub use crate::run::Run;

@@ -6,7 +6,7 @@ ghost use Rattle.sip_machine.specs.Texts.{Texts, IsBook, Keeps, text_of};
 ghost use Rattle.sip_machine.specs.Retained.{only};
 ghost use Rattle.sip_message.specs.Reads.{Reads};
 ghost use Rattle.sip_machine.specs.inner.ReadAs.{IsReadAs};
-ghost use Rattle.sip_machine.specs.inner.Tos.{AreTos, IsToOf, HoldsBetween, count_between};
+ghost use Rattle.sip_machine.specs.inner.Tos.{AreTos, IsToOf, HoldBetween, count_between};
 ghost use Rattle.sip_machine.specs.inner.Order.{texts_of, placed, bytes_at, key_of, compare, begins_by, places_of, index_of, most_places, IsLed, IsInRuns, StandInRuns, IsInside, IsGap};
 
 mod retain;
@@ -14,7 +14,7 @@ mod retain;
 use crate::book::retain::{keep_only, lay_aside, move_all};
 use crate::event::is_unsuccessful;
 use crate::hashed::{Hashed, hash};
-use crate::tos::{Holder, Tos};
+use crate::tos::Tos;
 use sip_key::solid_of;
 use sip_message::{Message, ReadError, StartLine};
 use std::alloc::{AllocError, Global};
@@ -182,15 +182,22 @@ impl Book {
         self.tos.get(number, near)
     }
 
-    /// Which of the messages with numbers from `low` up to `high` has this To, from which the blanks were taken. It is told without
-    /// a look at each of them where each has its To beside it and no two have this one.
-    pub(crate) fn holder(&self, to: &Hashed, low: u64, high: u64) -> Holder
-        ensures { HoldsBetween self.now to.now low high result }
+    /// The numbers of the messages from `low` up to `high` that have this To, from which the blanks were taken. They are told without a
+    /// look at each of these messages, where each has its To beside it and fewer than `most` have a To of this hash.
+    pub(crate) fn holders(
+        &self,
+        alloc: Global,
+        to: &Hashed,
+        low: u64,
+        high: u64,
+        most: usize,
+    ) -> Result<Option<Vec<u64>>, AllocError>
+        ensures { IfOk result (λ numbers. IfSome numbers (λ ns. HoldBetween self.now to.now low high ns.items)) }
     {
         if kept_between(&self.kept, low, high) != self.tos.between(low, high) {
-            return Holder::Unknown;
+            return Ok(None);
         }
-        self.tos.holder(to)
+        self.tos.holders(alloc, to, most)
     }
 
     /// Puts the To of a message beside it where an ACK is owed for the message, so that no ACK reads it anew. Where many messages
@@ -310,7 +317,8 @@ fn put_to(
     tos.push(number, Hashed::of(text))
 }
 
-/// Puts the To of a message, which is read anew, after the others, where those of all messages are to stand beside them.
+/// Reads a message anew and puts its To after the others, where each message has its To beside it. It puts none of an ACK, nor of bytes that
+/// are no message.
 fn put_read_to(alloc: Global, tos: &mut Tos, number: u64, bytes: &[u8]) -> Result<(), AllocError>
     ensures { (texts : Texts) → Keeps texts number → text_of texts number ≡ bytes.now → AreTos texts tos.old → AreTos texts tos.new }
 {

@@ -1,13 +1,13 @@
 //! The Tos of messages for which an ACK may come. They are found by the numbers of the messages, and by themselves.
-ghost use Rattle.std.specs.Prelude.{◌≡◌, ◌<◌, ◌≤◌, ◌++◌, ◌∷◌, [], ℕ, IfSome, OnOk, OnErr, IsTrue, All, AllPairs, Contains, length, map, take};
+ghost use Rattle.std.specs.Prelude.{◌≡◌, ◌<◌, ◌++◌, ◌∷◌, [], true, false, IfOk, IfSome, OnOk, OnErr, IsTrue, All, AllPairs, Contains, length, map};
 ghost use Rattle.std.specs.List.{HoldsAt};
 ghost use Rattle.sip_machine.specs.declared.tos.To.{To};
 ghost use Rattle.sip_machine.specs.inner.Order.{hash_of};
-ghost use Rattle.sip_machine.specs.inner.Tos.{AreOwned, IsHolder, MayOwn, count_between, owner_with};
+ghost use Rattle.sip_machine.specs.inner.Tos.{AreHolders, AreUnder, IsChanged, count_between};
 
 use crate::hashed::{Hashed, hash};
+use sip_ledger::Index;
 use std::alloc::{AllocError, Global};
-use std::collections::HashMap;
 use std::marker::Model;
 
 /// The To of the message with this number, without its blanks.
@@ -17,34 +17,14 @@ pub(crate) struct To {
     text: Hashed,
 }
 
-/// Whose the Tos of one hash are.
-#[derive(Clone, Copy, Debug)]
-enum Owner {
-    /// They are those of the message with this number alone.
-    Only(u64),
-    /// They may be those of several messages.
-    Several,
-}
-
-/// Which of some messages has a To.
-#[derive(Clone, Copy, Debug)]
-pub(crate) enum Holder {
-    One(u64),
-    Nobody,
-    /// Only a look at each of the messages can tell.
-    Unknown,
-}
-
-/// The Tos of messages, in the order of the messages' numbers. Beside them stands for each hash of a To whose it is, so that the
-/// only message with a To is found without a look at the others. Contracts see the list.
+/// The Tos of messages, in the order of the messages' numbers. Contracts see the list.
 #[derive(Debug, Drop)]
 pub(crate) struct Tos {
     list: Vec<To>,
-    owners: HashMap<u64, Owner>,
+    /// Where the Tos of all messages are to stand here: the numbers of the messages, under the hashes of their Tos.
+    hashes: Option<Index>,
     /// How many Tos of each call came since the last time that some went. Calls of one hash are counted together.
     calls: [u8; SLOTS],
-    /// Whether the Tos of all messages are to stand here.
-    takes_all: bool,
 }
 
 /// How many calls are told apart where Tos are counted.
@@ -57,13 +37,13 @@ const MANY: u8 = u8::MAX;
 impl Model for Tos {
     ghost use Rattle.std.specs.Prelude.{◌<◌, List, AllPairs};
     ghost use Rattle.sip_machine.specs.declared.tos.To.{To};
-    ghost use Rattle.sip_machine.specs.inner.Tos.{AreOwned};
+    ghost use Rattle.sip_machine.specs.inner.Tos.{AreUnder};
 
     ghost Value = { List To };
 
     ghost view = { λ t. t.list.items };
 
-    ghost invariant = { λ t. AllPairs (λ a b. a.number < b.number) t.list.items × AreOwned t.owners t.list.items };
+    ghost invariant = { λ t. AllPairs (λ a b. a.number < b.number) t.list.items × AreUnder t.hashes t.list.items };
 }
 
 impl Tos {
@@ -72,37 +52,35 @@ impl Tos {
     {
         Tos {
             list: Vec::new(alloc),
-            owners: HashMap::new(alloc),
+            hashes: None,
             calls: [0; SLOTS],
-            takes_all: false,
         }
     }
 
     /// Whether the Tos of all messages are to stand here.
     pub(crate) fn takes_all(&self) -> bool {
-        self.takes_all
+        self.hashes.is_some()
     }
 
     /// Counts a To of the call. It tells whether the Tos of all messages are to stand here from now on, and were not before.
     pub(crate) fn begins_with_all(&mut self, call: &[u8]) -> bool
         ensures { self.new ≡ self.old }
     {
-        if self.takes_all {
+        if self.takes_all() {
             return false;
         }
         let slot = hash(call) as usize % SLOTS;
-        let count = self.calls[slot].saturating_add(1);
+        let count = self.calls[slot].saturating_add(1) % MANY;
         self.calls[slot] = count;
-        self.takes_all = count == MANY;
-        self.takes_all
+        count == 0
     }
 
-    /// Puts these Tos in the place of those that are here.
+    /// Puts these Tos, which are those of all messages, in the place of those that are here.
     pub(crate) fn replace(&mut self, tos: Tos)
         ensures { self.new ≡ tos }
     {
+        self.hashes = hashes_of(*tos.list.allocator(), &tos.list);
         self.list = tos.list;
-        self.owners = tos.owners;
     }
 
     /// The To of the message with this number: at `near`, or where a search finds it. `near` is left after it, so that messages
@@ -131,7 +109,7 @@ impl Tos {
         ensures ok { OnOk result (self.new ≡ self.old ++ (record { number = number; text = text }) ∷ []) }
         ensures err { OnErr result (self.new ≡ self.old) }
     {
-        note(&mut self.owners, text.hash(), number)?;
+        note(&mut self.hashes, text.hash(), number)?;
         self.list.push(To { number, text })?;
         Ok(())
     }
@@ -141,50 +119,54 @@ impl Tos {
         ensures { All (Contains self.old) self.new }
     {
         match self.list.last() {
-            Some(last) if self.takes_all && last.number == number => {
+            Some(last) if self.hashes.is_some() && last.number == number => {
+                drop_note(&mut self.hashes, last.text.hash(), number);
                 let _ = self.list.pop();
             }
             _ => {}
         }
     }
 
-    /// Keeps the Tos of the messages with these numbers, which rise. It takes no memory: where some Tos went, there is room for
-    /// those that are left.
+    /// Keeps the Tos of the messages with these numbers, which rise. Where those that are left are few, or where there is no memory for
+    /// their hashes, the Tos of all messages are not to stand here any more.
     pub(crate) fn retain(&mut self, numbers: &[u64])
         ensures { All (λ to. Contains self.old to × Contains numbers.now to.number) self.new }
     {
         self.list.retain(|to| is_among(numbers, to.number));
-        self.owners.clear();
-        note_all(&mut self.owners, &mut self.list);
         self.calls = [0; SLOTS];
-        self.takes_all = self.takes_all && usize::from(MANY) <= self.list.len();
-    }
-
-    /// Which message of the list has this To, as far as the owners tell.
-    pub(crate) fn holder(&self, text: &Hashed) -> Holder
-        ensures { IsHolder self.now text.now result }
-    {
-        let hash = text.hash();
-        match self.owners.get(&hash).copied() {
-            Some(Owner::Only(number)) => self.held_by(number, text),
-            Some(Owner::Several) => Holder::Unknown,
-            None => Holder::Nobody,
+        if self.hashes.is_none() {
+            return;
         }
+        self.hashes = hashes_of(*self.list.allocator(), &self.list);
     }
 
-    /// Which message of the list has this To, where no message but the one with this number can have it.
-    fn held_by(&self, number: u64, text: &Hashed) -> Holder
-        requires { All (λ to. to.text ≡ text.now → to.number ≡ number) self.now }
-        ensures { IsHolder self.now text.now result }
+    /// The numbers of the messages of the list that have this To, where fewer than `most` have one of its hash.
+    pub(crate) fn holders(
+        &self,
+        alloc: Global,
+        text: &Hashed,
+        most: usize,
+    ) -> Result<Option<Vec<u64>>, AllocError>
+        ensures { IfOk result (λ numbers. IfSome numbers (λ ns. AreHolders self.now text.now ns.items)) }
     {
-        let Some(at) = place_of(&self.list, number, self.list.len()) else {
-            return Holder::Unknown;
+        let Some(hashes) = &self.hashes else {
+            return Ok(None);
         };
-        if self.list[at].text.is(text) {
-            Holder::One(number)
-        } else {
-            Holder::Nobody
+        let mut numbers = Vec::new(alloc);
+        let mut from = 0;
+        for _ in 0..most {
+            let Some(number) = hashes.next(text.hash(), from) else {
+                return Ok(Some(numbers));
+            };
+            let Some(at) = place_of(&self.list, number, self.list.len()) else {
+                return Ok(None);
+            };
+            if self.list[at].text.is(text) {
+                numbers.push(number)?;
+            }
+            from = number.saturating_add(1);
         }
+        Ok(None)
     }
 
     /// How many Tos of the list are of messages with numbers from `low` up to `high`.
@@ -219,45 +201,39 @@ fn is_among(numbers: &[u64], number: u64) -> bool
     numbers.binary_search(&number).is_ok()
 }
 
-/// Notes that the message with this number has a To of this hash as well.
-fn note(owners: &mut HashMap<u64, Owner>, hash: u64, number: u64) -> Result<(), AllocError>
-    ensures ok { OnOk result (MayOwn owners.new hash number) }
-    ensures others { (h n : ℕ) → MayOwn owners.old h n → MayOwn owners.new h n }
+/// Puts the number of a message under the hash of its To, where hashes are kept. On an error all is as before.
+fn note(hashes: &mut Option<Index>, hash: u64, number: u64) -> Result<(), AllocError>
+    ensures ok { OnOk result (IsChanged hash number true hashes.old hashes.new) }
+    ensures err { OnErr result (hashes.new ≡ hashes.old) }
 {
-    let owner = owner_with(owners.get(&hash).copied(), number);
-    owners.insert(hash, owner)?;
+    if let Some(hashes) = hashes {
+        hashes.put(hash, number)?;
+    }
     Ok(())
 }
 
-/// The owner of a hash, once the message with this number has a To of that hash as well.
-fn owner_with(owner: Option<Owner>, number: u64) -> Owner
-    ensures { result ≡ owner_with owner number }
+/// Takes the number of a message from the hash of its To, where hashes are kept.
+fn drop_note(hashes: &mut Option<Index>, hash: u64, number: u64)
+    ensures { IsChanged hash number false hashes.old hashes.new }
 {
-    match owner {
-        Some(Owner::Only(other)) if other != number => Owner::Several,
-        Some(Owner::Several) => Owner::Several,
-        _ => Owner::Only(number),
+    if let Some(hashes) = hashes {
+        hashes.take(hash, number);
     }
 }
 
-/// Notes whose all Tos of the list are. Tos for which there is no memory are dropped from the list.
-fn note_all(owners: &mut HashMap<u64, Owner>, list: &mut Vec<To>)
-    ensures kept { (n : ℕ) × (list.new.items ≡ take n list.old.items) }
-    ensures owned { AreOwned owners.new list.new.items }
+/// The numbers of the messages with these Tos, under the hashes of the Tos; None where they are few, or where there is no memory for it.
+fn hashes_of(alloc: Global, list: &[To]) -> Option<Index>
+    ensures { AreUnder result list.now }
 {
-    let told = note_each(owners, list);
-    list.truncate(told);
-}
-
-/// Notes whose the Tos of the list are, until there is no memory, and gives how many are noted then.
-fn note_each(owners: &mut HashMap<u64, Owner>, list: &[To]) -> usize
-    ensures { AreOwned owners.new (take result list.now) }
-{
+    if list.len() < usize::from(MANY) {
+        return None;
+    }
+    let mut hashes = Some(Index::new(alloc));
     for at in 0..list.len() {
         let to = &list[at];
-        if note(owners, to.text.hash(), to.number).is_err() {
-            return at;
+        if note(&mut hashes, to.text.hash(), to.number).is_err() {
+            return None;
         }
     }
-    list.len()
+    hashes
 }

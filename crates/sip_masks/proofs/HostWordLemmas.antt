@@ -1,22 +1,19 @@
 -- A hostname, by the bits of its bytes.
-use Rattle.std.proofs.Common.{◌≡◌, ℕ, zero, suc, ◌+◌, ◌-◌, ◌*◌, ◌/◌, ◌^◌, ◌<◌, ◌≤◌, Bool, true, false, not, ◌&&◌, ◌||◌, ◌==◌, List, ◌∷◌, None, Some, unwrap_or, length, take, get_or, nat_lt, slice_index, cond, bit_and, bit_or, refl, sym, ap, ap₂, ◌∙◌, subst, inl, inr, arith}
+use Rattle.std.proofs.Common.{◌≡◌, ℕ, zero, suc, ◌+◌, ◌-◌, ◌*◌, ◌/◌, ◌^◌, ◌<◌, ◌≤◌, Bool, true, false, not, ◌&&◌, ◌||◌, ◌==◌, List, ◌∷◌, length, take, get_or, bit_and, bit_or, refl, sym, ap, ap₂, ◌∙◌, subst, inl, inr, arith, w64}
 use Rattle.std.specs.Char.{is_ascii_alphabetic, is_ascii_alphanumeric}
-use Rattle.std.specs.Int.{bit_at}
-use Rattle.std.proofs.lemmas.Bool.{agree_below_at, cases_lt, false≢true}
+use Rattle.std.specs.Int.{bit_at, trailing_zeros}
+use Rattle.std.proofs.lemmas.Bool.{agree_below_at, cases_lt, cases_order, false≢true}
 use Rattle.std.proofs.lemmas.List.{get_or-take, length-take-le}
+use Rattle.std.proofs.lemmas.Nat.{and_le_l, and_le_r, or_lt}
 use Rattle.std.proofs.lemmas.Nat.Bits.{bit_at_above, bit_at_cat_high}
-use Rattle.sip_standard.specs.Profile.{Hostname}
 use Rattle.sip_text.specs.Bytes.{dot, hyphen}
-use Rattle.sip_text.specs.inner.Cut.{parts, up_to}
-use Rattle.sip_text.specs.inner.HostTests.{are_labels}
-use Rattle.sip_text.proofs.hosts.HostnameLemmas.{hostname-yes}
 use Rattle.sip_masks.specs.Bits.{test}
 use Rattle.sip_masks.specs.Marks.{is_plain}
 use Rattle.sip_masks.specs.inner.Strange.{is_beyond}
 use Rattle.sip_masks.proofs.BitLemmas.{shl, test-and, test-or, test-one_low, test-one_high, test-ones, test-shl_high, test-shl_low, test-shl_one}
 use Rattle.sip_masks.proofs.WordLemmas.{test-shr, test-above, or-false}
-use Rattle.sip_masks.proofs.RunLemmas.{none-set}
-use Rattle.sip_masks.proofs.HostLemmas.{bad, at, good-from, good-labels}
+use Rattle.sip_masks.proofs.RunLemmas.{none-set, lowest-set}
+use Rattle.sip_masks.proofs.HostLemmas.{bad, are_good, top_of, good-from, good-at, good-end, top-at}
 
 -- of the highest word of 64 bits, moved down by 64 - len, each bit below len is set
 ones-low : (len i : ℕ) → i < len → len ≤ 32 → test (18446744073709551615 / 2 ^ (64 - len)) i ≡ true
@@ -39,13 +36,6 @@ and-false false = refl
 or-true : (b : Bool) → (b || true) ≡ true
 or-true true = refl
 or-true false = refl
-
--- where two tests are false of three, of which the second is joined with what holds, each of the last two is false
-last-two : (a b h : Bool) → ((a || (b && true)) || h) ≡ false → (b ≡ false) × (h ≡ false)
-last-two false false false e = (refl, refl)
-last-two false false true e = absurd (false≢true (sym e))
-last-two false true h e = absurd (false≢true (sym e))
-last-two true b h e = absurd (false≢true (sym e))
 
 -- a word of which a bit is set is not 0
 pub some-set : (word i : ℕ) → test word i ≡ true → 0 < word
@@ -72,14 +62,6 @@ strange byte = (not (is_ascii_alphanumeric byte) && not (byte == dot)) && not (b
 -- a plain byte is beyond exactly if it stands in no name of a host
 beyond-strange : (b : ℕ) → b < 256 → is_plain b ≡ true → is_beyond b ≡ strange b
 beyond-strange b small plain = subst (λ p. (p && is_beyond b) ≡ (p && strange b)) plain (agree_below_at (λ x. is_plain x && is_beyond x) (λ x. is_plain x && strange x) 256 b refl small)
-
--- where the last byte of a text is no dot, no dot ends the text
-no-end : (text : List ℕ) → (slice_index text (length text - 1) == dot) ≡ false → up_to dot text ≡ None
-no-end text other = ap (λ b. cond (nat_lt 0 (length text) && b) (Some (take (length text - 1) text)) None) other ∙ go (nat_lt 0 (length text))
-  where
-    go : (b : Bool) → cond (b && false) (Some (take (length text - 1) text)) None ≡ None
-    go true = refl
-    go false = refl
 
 module _ (window : List ℕ) (len bs ds hs : ℕ) (room : 32 ≤ length window) (some : 0 < len) (small : len ≤ 32)
     (bytes : (i : ℕ) → get_or window i 0 < 256) (plain : (i : ℕ) → i < len → is_plain (get_or window i 0) ≡ true)
@@ -126,6 +108,10 @@ module _ (window : List ℕ) (len bs ds hs : ℕ) (room : 32 ≤ length window) 
   masked : (w i : ℕ) → i < len → test (bit_and w all) i ≡ test w i
   masked w i below = test-and w all i ∙ ap (λ b. test w i && b) (ones-low len i below small) ∙ and-true (test w i)
 
+  -- and no other
+  cut : (w i : ℕ) → len ≤ i → test (bit_and w all) i ≡ false
+  cut w i from = test-and w all i ∙ ap (λ b. test w i && b) (ones-high len i from small) ∙ and-false (test w i)
+
   -- the bits of the dots of the text, and the one after it
   dots-in : (i : ℕ) → i < len → test dot_word i ≡ (get_or text i 0 == dot)
   dots-in i below =
@@ -166,14 +152,57 @@ module _ (window : List ℕ) (len bs ds hs : ℕ) (room : 32 ≤ length window) 
       (test-or _ _ i ∙ ap₂ (λ a b. a || b) s (test-and _ _ i ∙ ap₂ (λ a b. a && b) (begins-is i within) (test-or dot_word hyphen_word i ∙ ap₂ (λ a b. a || b) d h)))
       (test-and _ _ i ∙ ap₂ (λ a b. a && b) d (hyphen-before i within))
 
-  -- where the bit after the text is not bad, neither a dot nor a hyphen ends it
-  ends : bad_word ≡ 0 → ((prev_is len == dot) ≡ false) × ((prev_is len == hyphen) ≡ false)
-  ends none =
+  -- and the bit after the text exactly if a dot is bad there
+  end-is : test bad_word len ≡ bad (prev_is len) dot
+  end-is =
       let within : len ≤ len = omega arith in
-      let at_len = test-or _ _ len ∙ ap₂ (λ a b. a || b)
-      (test-or _ _ len ∙ ap (λ b. test (bit_and bs all) len || b) (test-and _ _ len ∙ ap₂ (λ a b. a && b) (begins-is len within) (test-or dot_word hyphen_word len ∙ ap (λ b. b || test hyphen_word len) dot-after)))
-      (test-and _ _ len ∙ ap₂ (λ a b. a && b) dot-after (hyphen-before len within)) in
-      last-two (test (bit_and bs all) len) (prev_is len == dot) (prev_is len == hyphen) (sym at_len ∙ none-set bad_word len none)
+      test-or _ _ len ∙ ap₂ (λ a b. a || b)
+      (test-or _ _ len ∙ ap₂ (λ a b. a || b) (cut bs len within) (test-and _ _ len ∙ ap₂ (λ a b. a && b) (begins-is len within) (test-or dot_word hyphen_word len ∙ ap (λ b. b || test hyphen_word len) dot-after)))
+      (test-and _ _ len ∙ ap₂ (λ a b. a && b) dot-after (hyphen-before len within))
+
+  -- no higher bit is set
+  none-higher : (i : ℕ) → len < i → i < 64 → test bad_word i ≡ false
+  none-higher i past below =
+      let from : len ≤ i = omega (arith, past) in
+      let is : len + suc (i - len - 1) ≡ i = omega (arith, past) in
+      let no_dot : test dot_word i ≡ false =
+      test-or (bit_and ds all) (shl len 1) i
+      ∙ ap₂ (λ a b. a || b) (cut ds i from) (subst (λ n. test (shl len 1) n ≡ false) is (test-shl_high len (suc (i - len - 1)) 1 (omega (arith, is, below)) ∙ test-one_high (i - len - 1))) in
+      test-or _ _ i ∙ ap₂ (λ a b. a || b)
+      (test-or _ _ i ∙ ap₂ (λ a b. a || b) (cut bs i from) (test-and _ _ i ∙ ap (λ b. test begin_word i && b) (test-or dot_word hyphen_word i ∙ ap₂ (λ a b. a || b) no_dot (cut hs i from)) ∙ and-false (test begin_word i)))
+      (test-and _ _ i ∙ ap (λ b. b && test (shl 1 hyphen_word) i) no_dot)
+
+  -- where no bit is bad the text is good
+  good : bad_word ≡ 0 → are_good dot text ≡ true
+  good none =
+      good-from dot text
+      (λ i h.
+      let below : i < len = omega (arith, h, long) in
+      sym (bad-is i below) ∙ none-set bad_word i none)
+      (ap (λ n. bad (prev_is n) dot) long ∙ sym end-is ∙ none-set bad_word len none)
+
+  -- and where it is good no bit is bad
+  pub none-bad : bs < 2 ^ 64 → are_good dot text ≡ true → bad_word ≡ 0
+  none-bad fits is_good = elim (cases_lt 0 bad_word) [
+    | inr none ↦ omega (arith, none)
+    | inl some_bad ↦
+        let found = lowest-set bad_word some_bad word_fits in
+        absurd (false≢true (sym (unset (trailing_zeros w64 bad_word) found.0) ∙ found.1))
+  ]
+    where
+      word_fits : bad_word < 2 ^ 64
+      word_fits =
+          let begins = bit_and begin_word (bit_or dot_word hyphen_word) in
+          let begins_fit : begins < 2 ^ 64 = omega (arith, and_le_l begin_word (bit_or dot_word hyphen_word), or_lt 64 (shl 1 dot_word) 1 (omega arith) (omega arith)) in
+          or_lt 64 (bit_or (bit_and bs all) begins) (bit_and dot_word (shl 1 hyphen_word))
+          (or_lt 64 (bit_and bs all) begins (omega (arith, and_le_l bs all, fits)) begins_fit) (omega (arith, and_le_r dot_word (shl 1 hyphen_word)))
+
+      unset : (i : ℕ) → i < 64 → test bad_word i ≡ false
+      unset i below = elim (cases_order i len) [
+        | inl last ↦ ap (test bad_word) last ∙ end-is ∙ ap (λ n. bad (prev_is n) dot) (sym long) ∙ good-end dot text is_good
+        | inr (inl inside) ↦ bad-is i inside ∙ good-at dot text is_good i (omega (arith, inside, long))
+        | inr (inr past) ↦ none-higher i past below
+      ]
 
   -- some label begins in the text
   pub begins-some : 0 < bit_and begin_word all
@@ -183,24 +212,24 @@ module _ (window : List ℕ) (len bs ds hs : ℕ) (room : 32 ≤ length window) 
   pub top-within : (top : ℕ) → test (bit_and begin_word all) top ≡ true → top < len
   top-within top set = elim (cases_lt top len) [
     | inl low ↦ low
-    | inr high ↦ absurd (false≢true (sym (test-and begin_word all top ∙ ap (λ b. test begin_word top && b) (ones-high len top high small) ∙ and-false (test begin_word top)) ∙ set))
+    | inr high ↦ absurd (false≢true (sym (cut begin_word top high) ∙ set))
   ]
 
-  -- the first len bytes of the window are a hostname where no bit is bad, and a letter is where the last label begins
-  pub host-from : (top : ℕ) → bad_word ≡ 0 → test (bit_and begin_word all) top ≡ true → ((j : ℕ) → top < j → test (bit_and begin_word all) j ≡ false) → is_ascii_alphabetic (get_or window top 0) ≡ true → Hostname (take len window)
-  host-from top none set above letter =
+  -- where no bit is bad, the first len bytes of the window are an ordinary name exactly if a letter is where the last label begins
+  pub name-from : (top : ℕ) → bad_word ≡ 0 → test (bit_and begin_word all) top ≡ true → ((j : ℕ) → top < j → test (bit_and begin_word all) j ≡ false)
+      → (are_good dot text && is_ascii_alphabetic (top_of dot dot text)) ≡ is_ascii_alphabetic (get_or window top 0)
+  name-from top none set above =
       let within = top-within top set in
-      let step = λ (i : ℕ) (h : i < length text). (
-      let below : i < len = omega (arith, h, long) in
-      sym (bad-is i below) ∙ none-set bad_word i none) in
       let front : (prev_is top == dot) ≡ true = sym (begins-is top (omega (arith, within))) ∙ sym (masked begin_word top within) ∙ set in
       let no_dots : (i : ℕ) → top ≤ i → i < length text → (get_or text i 0 == dot) ≡ false = λ i from h. elim (cases_lt (suc i) len) [
         | inl inner ↦ sym (begins-is (suc i) (omega (arith, inner))) ∙ sym (masked begin_word (suc i) inner) ∙ above (suc i) (omega (arith, from))
         | inr last ↦
             let is : len ≡ suc i = omega (arith, last, h, long) in
-            subst (λ n. (prev_is n == dot) ≡ false) is (ends none).0
+            subst (λ n. (prev_is n == dot) ≡ false) is (end_dot (prev_is len == dot) (prev_is len == hyphen) (sym end-is ∙ none-set bad_word len none))
       ] in
-      let end : (prev_is (length text) == hyphen) ≡ false = ap (λ n. prev_is n == hyphen) long ∙ (ends none).1 in
-      let good = good-from dot dot text step end (at top (omega (arith, within, long)) front (ap is_ascii_alphabetic (here top within) ∙ letter) no_dots) in
-      let no_dot : up_to dot text ≡ None = no-end text (no_dots (length text - 1) (omega (arith, within, long)) (omega (arith, some, long))) in
-      hostname-yes text (ap (λ o. are_labels (parts dot (unwrap_or o text))) no_dot ∙ good-labels dot text good)
+      ap (λ g. g && is_ascii_alphabetic (top_of dot dot text)) (good none)
+      ∙ ap is_ascii_alphabetic (top-at dot dot text top (omega (arith, within, long)) front no_dots ∙ here top within)
+    where
+      end_dot : (d h : Bool) → ((d && true) || h) ≡ false → d ≡ false
+      end_dot false h e = refl
+      end_dot true h e = absurd (false≢true (sym e))

@@ -4,7 +4,7 @@ use Rattle.std.specs.List.{prefix_len}
 use Rattle.std.specs.Int.{bit_at, trailing_zeros}
 use Rattle.std.proofs.lemmas.Bool.{cases_lt, false≢true}
 use Rattle.std.proofs.lemmas.List.{length-drop, get_or-drop, get_or_past}
-use Rattle.std.proofs.lemmas.List.Sums.{prefix_len_is}
+use Rattle.std.proofs.lemmas.List.Sums.{prefix_len_is, prefix_len_stops}
 use Rattle.std.proofs.lemmas.Nat.Bits.{bit_at-zero, bit_at-trailing_zeros}
 use Rattle.sip_masks.specs.Bits.{test}
 
@@ -17,7 +17,7 @@ abbrev pub Passes : (ℕ → Bool) → List ℕ → ℕ → ℕ → Type 0
 Passes f text p e = (k : ℕ) → p ≤ k → k < e → f (get_or text k 0) ≡ true
 
 -- of a word that is not 0, the bit at its number of trailing zeros is set, and no lower one is
-lowest-set : (word : ℕ) → 0 < word → word < 2 ^ 64 → (trailing_zeros w64 word < 64) × (test word (trailing_zeros w64 word) ≡ true) × ((i : ℕ) → i < trailing_zeros w64 word → test word i ≡ false)
+pub lowest-set : (word : ℕ) → 0 < word → word < 2 ^ 64 → (trailing_zeros w64 word < 64) × (test word (trailing_zeros w64 word) ≡ true) × ((i : ℕ) → i < trailing_zeros w64 word → test word i ≡ false)
 unfolding test
 lowest-set word some small =
     let found = bit_at-trailing_zeros w64 word some small in
@@ -47,6 +47,16 @@ run-is f text p e from within passes stops =
     (λ below.
     let is : p + (e - p) ≡ e = omega (arith, from) in
     subst (λ x. f x ≡ false) (sym (get_or-drop p text (e - p) 0 ∙ ap (λ n. get_or text n 0) is)) (stops (omega (arith, below, long, from))))
+
+-- where n bytes from p on pass, and lie within the text, the longest front that passes after p has n bytes or more
+pub run-from : (f : ℕ → Bool) (text : List ℕ) (p n : ℕ) → Passes f text p (p + n) → p + n ≤ length text → n ≤ prefix_len f (drop p text)
+run-from f text p n passes within = elim (cases_lt (prefix_len f (drop p text)) n) [
+  | inl less ↦
+      let k = prefix_len f (drop p text) in
+      let stops = prefix_len_stops f (drop p text) 0 (omega (arith, less, within, length-drop p text)) in
+      absurd (false≢true (sym stops ∙ ap f (get_or-drop p text k 0) ∙ passes (p + k) (omega arith) (omega (arith, less))))
+  | inr enough ↦ enough
+]
 
 module _ (f q : ℕ → Bool) (opposite : (x : ℕ) → q x ≡ not (f x)) (nul : q 0 ≡ true) where
   -- where no bit of the word is set, n bytes more pass, and they lie within the text

@@ -1,9 +1,9 @@
 //! Names of hosts, by bit sets.
-ghost use Rattle.std.specs.Prelude.{◌≡◌, ◌+◌, ◌<◌, ◌≤◌, ℕ, true, false, IsTrue, IfSome, take, drop, length};
+ghost use Rattle.std.specs.Prelude.{◌≡◌, ◌↔◌, ◌<◌, ◌≤◌, ℕ, true, false, IsTrue, MatchOption, take, drop, length};
 ghost use Rattle.std.specs.List.{prefix_len};
-ghost use Rattle.sip_standard.specs.Profile.{Hostname};
 ghost use Rattle.sip_masks.specs.Bits.{test};
 ghost use Rattle.sip_masks.specs.Marks.{is_plain};
+ghost use Rattle.sip_masks.specs.Names.{OrdinaryName, BeginsWithName};
 
 use crate::block::{beyond, equal_to};
 use crate::masks::Masks;
@@ -18,7 +18,7 @@ impl<'t, 'm> Masks<'t, 'm> {
     #[inline]
     pub fn name_at(&self, p: usize) -> Option<usize>
         requires { p ≤ length self.now }
-        ensures { IfSome result (λ len. (p + len ≤ length self.now) × Hostname (take len (drop p self.now))) }
+        ensures { MatchOption result ((len : ℕ) → ¬ (BeginsWithName (drop p self.now) len)) (BeginsWithName (drop p self.now)) }
     {
         let rest = &self.text()[p..];
         let len = self.short_run_at(p)?;
@@ -35,7 +35,7 @@ impl<'t, 'm> Masks<'t, 'm> {
 #[inline(always)]
 fn is_ordinary_name(window: &[u8], len: usize) -> bool
     requires { len ≤ prefix_len is_plain window.now }
-    ensures { IsTrue result → Hostname (take len window.now) }
+    ensures { IsTrue result ↔ (OrdinaryName (take len window.now) × (32 ≤ length window.now)) }
 {
     if len == 0 || len > LONGEST || window.len() < LONGEST {
         return false;

@@ -1,5 +1,5 @@
 //! The masks of a text.
-ghost use Rattle.std.specs.Prelude.{◌≡◌, ℕ, false, not, ◌+◌, ◌-◌, ◌*◌, ◌/◌, ◌%◌, ◌<◌, ◌≤◌, IfSome, get_or, length, take, drop};
+ghost use Rattle.std.specs.Prelude.{◌≡◌, ℕ, false, not, ◌+◌, ◌-◌, ◌*◌, ◌/◌, ◌%◌, ◌<◌, ◌≤◌, MatchOption, get_or, length, take, drop};
 ghost use Rattle.std.specs.List.{prefix_len};
 ghost use Rattle.sip_masks.specs.Bits.{test};
 ghost use Rattle.sip_masks.specs.Marks.{is_plain, is_control, is_other, BitsTell, words_for};
@@ -126,7 +126,7 @@ impl<'t, 'm> Masks<'t, 'm> {
     #[inline(always)]
     pub fn short_run_at(&self, p: usize) -> Option<usize>
         requires { p ≤ length self.now }
-        ensures { IfSome result (λ len. len ≡ prefix_len is_plain (drop p self.now)) }
+        ensures { MatchOption result (64 ≤ prefix_len is_plain (drop p self.now)) (λ len. (len ≡ prefix_len is_plain (drop p self.now)) × (len < 64)) }
     {
         let word = word_at(self.others, p);
         if word == 0 {

@@ -164,9 +164,11 @@ top_found b value values via others first (v ∷ vias, more, says, later, same) 
 abbrev Ended : List (List ℕ) → List ℕ
 Ended lines = flat_map (λ line. line ++ codes "\r\n") lines
 
+-- lines and what follows them: the first line, its CRLF, the other lines and what follows
 ended_on : (line : List ℕ) (more : List (List ℕ)) (tail : List ℕ) → Ended (line ∷ more) ++ tail ≡ line ++ (13 ∷ (10 ∷ (Ended more ++ tail)))
 ended_on line more tail = append_assoc (line ++ codes "\r\n") (Ended more) tail ∙ append_assoc line (codes "\r\n") (Ended more ++ tail)
 
+-- lines: the first line, its CRLF and the other lines
 ended_one : (line : List ℕ) (more : List (List ℕ)) → Ended (line ∷ more) ≡ line ++ (13 ∷ (10 ∷ Ended more))
 ended_one line more = append_assoc line (codes "\r\n") (Ended more)
 

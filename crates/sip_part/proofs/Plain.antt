@@ -189,6 +189,7 @@ mark_led char c m one (s1, r, sws1, (e, s2, e_is, sws2, r_is), m_is) =
 led_rest : (c : ℕ) (m rest : List ℕ) (l : Led c m) → m ++ rest ≡ l.before ++ (c ∷ (l.after ++ rest))
 led_rest c m rest l = ap (λ t. t ++ rest) l.is ∙ append_assoc l.before (c ∷ l.after) rest
 
+-- a mark with blanks, of a byte that is in no token, and what follows it begin with no token
 led_no_token : (c : ℕ) (m rest : List ℕ) → is_token_byte c ≡ false → Led c m → NoToken (m ++ rest)
 led_no_token c m rest other l =
     subst NoToken (sym (led_rest c m rest l)) (sws_no_token l.before (c ∷ (l.after ++ rest)) l.blanks (ap (λ b. cond b (1 + prefix_len is_token_byte (l.after ++ rest)) 0) other))

@@ -14,7 +14,7 @@ use Rattle.sip_ledger.specs.declared.accounts.strikes.Strike.{Strike}
 use Rattle.sip_ledger.specs.Accounts.{debts_print}
 use Rattle.sip_ledger.specs.Entries.{debt_of, debts_from}
 use Rattle.sip_ledger.specs.inner.Accounts.{AreAccounts, AreGains, AreSameGains, IsAccount, IsDropped, IsGain, IsKept, IsLetGo, KeepsAccounts, account_debts, accounts_debts, blank, entries_of, entry_at, is_gone, is_left, is_struck, must_at, owes_at, strikes_of}
-use Rattle.sip_ledger.specs.inner.Indexes.{holds}
+use Rattle.sip_ledger.specs.Indexes.{holds}
 use Rattle.sip_ledger.proofs.debts.ListedLemmas.{listed-same, listed-none}
 use Rattle.sip_ledger.proofs.debts.OwedLemmas.{grown-debts}
 use Rattle.sip_ledger.proofs.gains.LeftLemmas.{entries-long, left-kept, listed-alike, owed-left, unleft-unowed}
@@ -66,6 +66,7 @@ kept-account gains old new a kept is =
       print = is.print ∙ ap debts_print (sym (kept-debts gains old new a kept last));
     }
 
+-- where strikes are appended, accounts stay accounts and owe what they owed
 pub kept-all : (gains : Gains) (old new : List Strike) (rows : List Account) → take (length old) new ≡ old → All (IsAccount gains old) rows →
     All (IsAccount gains new) rows × (accounts_debts gains new rows ≡ accounts_debts gains old rows)
 unfolding accounts_debts

@@ -14,7 +14,7 @@ use Rattle.sip_ledger.specs.declared.accounts.strikes.Strike.{Strike}
 use Rattle.sip_ledger.specs.Debts.{IsWithoutFirst, is_payable, paid_by}
 use Rattle.sip_ledger.specs.Entries.{debt_of, debts_from}
 use Rattle.sip_ledger.specs.inner.Accounts.{IsAccount, IsFirstPayable, IsWithout, account_debts, entries_of, entry_at, is_gone, is_left, is_struck, must_at, owes_at, pays_at, strikes_of}
-use Rattle.sip_ledger.specs.inner.Indexes.{holds}
+use Rattle.sip_ledger.specs.Indexes.{holds}
 use Rattle.sip_ledger.proofs.gains.LeftLemmas.{gone-left, gone-struck, held-left, owed-left}
 use Rattle.sip_ledger.proofs.debts.ListedLemmas.{no_entry, listed-All}
 use Rattle.sip_ledger.proofs.debts.OwedLemmas.{listed-any, removed}

@@ -14,7 +14,7 @@ use Rattle.sip_ledger.specs.declared.accounts.strikes.Strike.{Strike}
 use Rattle.sip_ledger.specs.Accounts.{debts_print, worth_of}
 use Rattle.sip_ledger.specs.Entries.{debt_of, debts_from}
 use Rattle.sip_ledger.specs.inner.Accounts.{IsAccount, IsGain, IsNextGain, IsStruck, KeepsAccounts, account_debts, accounts_debts, entries_of, entry_at, is_gone, is_left, is_struck, must_at, owes_at, strikes_of}
-use Rattle.sip_ledger.specs.inner.Indexes.{holds}
+use Rattle.sip_ledger.specs.Indexes.{holds}
 use Rattle.sip_ledger.proofs.debts.ListedLemmas.{listed-none}
 use Rattle.sip_ledger.proofs.debts.OwedLemmas.{gained-debts}
 use Rattle.sip_ledger.proofs.gains.LeftLemmas.{gone-left, gone-same, gone-struck, held-left}

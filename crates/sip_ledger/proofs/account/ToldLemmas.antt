@@ -14,7 +14,7 @@ use Rattle.sip_ledger.specs.Debts.{debt_deadlines, earliest}
 use Rattle.sip_ledger.specs.Entries.{debt_of, debts_from, IsGap}
 use Rattle.sip_ledger.specs.inner.Accounts.{AreAlike, AreGains, IsAccount, SharesRest, account_debts, entries_of, entry_at, is_gone, is_struck, must_at, owes_at, strikes_of}
 use Rattle.sip_ledger.proofs.gains.LeftLemmas.{entries-long, gone-same, left-kept, owed-left, rising-kept}
-use Rattle.sip_ledger.specs.inner.Indexes.{holds}
+use Rattle.sip_ledger.specs.Indexes.{holds}
 use Rattle.sip_ledger.proofs.debts.ListedLemmas.{back, back-none, back-over, back-same, back-set, earliest-first, earliest-push, front, front-gap, front-next, listed-All, listed-must, listed-none, listed-same, no_entry, parts}
 use Rattle.sip_ledger.proofs.account.AccountLemmas.{must-below, must-from, past-end, soft-must}
 use Rattle.sip_ledger.proofs.account.WithoutLemmas.{before-start, le-yes}

@@ -207,6 +207,7 @@ fold-push : (a m : ℕ) (ms : List ℕ) → fold min a (ms ++ m ∷ []) ≡ min 
 fold-push a m [] = refl
 fold-push a m (x ∷ xs) = fold-push (min a x) m xs
 
+-- the earliest moment is the same whether one comes last or first
 pub earliest-push : (ms : List ℕ) (m : ℕ) → earliest (ms ++ m ∷ []) ≡ earliest (m ∷ option_to_list (earliest ms))
 earliest-push [] m = refl
 earliest-push (x ∷ xs) m = let turned : min (fold min x xs) m ≡ min m (fold min x xs) = omega arith in ap Some (fold-push x m xs ∙ turned)
@@ -218,5 +219,6 @@ fold-first x (y ∷ ys) above =
     let here : min x y ≡ x = omega (arith, All-head (λ z. x ≤ z) y ys above) in
     ap (λ n. fold min n ys) here ∙ fold-first x ys (All-tail (λ z. x ≤ z) y ys above)
 
+-- a moment that none of the others is before is the earliest
 pub earliest-first : (x : ℕ) (xs : List ℕ) → All (λ y. x ≤ y) xs → Some x ≡ earliest (x ∷ xs)
 earliest-first x xs above = ap Some (sym (fold-first x xs above))

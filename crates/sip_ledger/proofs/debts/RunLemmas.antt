@@ -9,6 +9,7 @@ use Rattle.sip_ledger.specs.declared.run.Run.{Run}
 use Rattle.sip_ledger.specs.Runs.{debts_in, AreRuns}
 use Rattle.sip_ledger.specs.inner.Ends.{EndsWith}
 
+-- the debts of a run
 abbrev each : Run → List Debt
 each run = replicate run.count run.debt
 
@@ -23,6 +24,7 @@ last-apart runs n d long =
     ∙ ap (λ l. take n runs ++ l) (drop_more runs n d (omega (arith, long)))
     ∙ ap (λ l. take n runs ++ get_or runs n d ∷ l) (drop_all (n + 1) runs (omega (arith, long)))
 
+-- where the last run is set, the runs before it stay
 last-set : (runs : List Run) (n : ℕ) (run : Run) → length runs ≡ n + 1 → set runs n run ≡ take n runs ++ run ∷ []
 last-set runs n run long =
     set_split runs n run (omega (arith, long)) ∙ ap (λ l. take n runs ++ run ∷ l) (drop_all (suc n) runs (omega (arith, long)))

@@ -7,7 +7,7 @@ use Rattle.sip_ledger.specs.declared.debt.Entry.{Entry}
 use Rattle.sip_ledger.specs.declared.accounts.gains.Flags.{Flags}
 use Rattle.sip_ledger.specs.declared.accounts.gains.Gains.{Gains}
 use Rattle.sip_ledger.specs.inner.Accounts.{AreFlags, AreSameGains, IsDropped, IsGain, IsKept, IsLetGo, blank, entries_of, entry_at, flags_at, is_left, no_flags}
-use Rattle.sip_ledger.specs.inner.Indexes.{holds}
+use Rattle.sip_ledger.specs.Indexes.{holds}
 
 -- whether a gain is left depends on its entry and the index alone
 left-as : (old new : Gains) (k : ℕ) → entry_at (entries_of new) k ≡ entry_at (entries_of old) k → ((m : ℕ) → holds new.messages m k ≡ holds old.messages m k) → is_left new k ≡ is_left old k

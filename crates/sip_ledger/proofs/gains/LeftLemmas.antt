@@ -11,7 +11,7 @@ use Rattle.sip_ledger.specs.declared.accounts.gains.Gains.{Gains}
 use Rattle.sip_ledger.specs.declared.accounts.strikes.Strike.{Strike}
 use Rattle.sip_ledger.specs.Entries.{debt_of, debts_from}
 use Rattle.sip_ledger.specs.inner.Accounts.{AreFlags, AreGains, AreSameGains, IsDropped, IsGain, IsKept, IsLetGo, IsNoted, IsPlaceOf, blank, entries_of, entry_at, is_gone, is_left, is_struck, owes_at, strikes_of}
-use Rattle.sip_ledger.specs.inner.Indexes.{holds}
+use Rattle.sip_ledger.specs.Indexes.{holds}
 use Rattle.sip_ledger.specs.inner.Deadlines.{AreRising}
 use Rattle.sip_ledger.proofs.gains.FlagLemmas.{flags-none}
 use Rattle.sip_ledger.proofs.debts.ListedLemmas.{no_entry}

@@ -8,7 +8,7 @@ use Rattle.sip_ledger.specs.declared.accounts.account.Account.{Account}
 use Rattle.sip_ledger.specs.declared.accounts.gains.Gains.{Gains}
 use Rattle.sip_ledger.specs.declared.accounts.strikes.Strike.{Strike}
 use Rattle.sip_ledger.specs.inner.Accounts.{AreAccounts, AreGains, AreKept, IsAccount, IsClearedTo, IsDropped, IsKept, IsLetGo, StartFrom, entries_of, owes_at}
-use Rattle.sip_ledger.specs.inner.Indexes.{holds}
+use Rattle.sip_ledger.specs.Indexes.{holds}
 use Rattle.sip_ledger.proofs.gains.LeftLemmas.{not-kept}
 use Rattle.sip_ledger.proofs.account.AccountLemmas.{OwesAlike, all-alike, dropped-alike, let_go-alike, over-all, past-end}
 use Rattle.sip_ledger.proofs.account.WithoutLemmas.{before-start}

@@ -4,17 +4,21 @@ use Rattle.std.specs.Ordering.{is_eq, is_gt}
 use Rattle.std.specs.BTreeSet.{BTreeSet, IsKeyRangeOf}
 use Rattle.std.specs.declared.ops.Bound.TheVariants.{Included, Unbounded}
 use Rattle.std.proofs.lemmas.Bool.Decides.{nat_tests}
-use Rattle.sip_ledger.specs.inner.Indexes.{pair_cmp, holds, IsFrom, IsFirstFrom, NoneFrom}
+use Rattle.sip_ledger.specs.Indexes.{pair_cmp, holds, IsFrom, IsFirstFrom, NoneFrom}
 
+-- two pairs compare as equal exactly if both their numbers are equal
 pub is_pair : (a b c d : ℕ) → is_eq (pair_cmp (a, b) (c, d)) ≡ (c == a && d == b)
 is_pair a b c d = grind (arith, nat_tests)
 
+-- what is chosen by whether two pairs compare as equal is chosen by their numbers
 pub at-pair : (a b c d : ℕ) (here old : Bool) → cond (is_eq (pair_cmp (a, b) (c, d))) here old ≡ cond (c == a && d == b) here old
 at-pair a b c d here old = ap (λ x. cond x here old) (is_pair a b c d)
 
+-- a pair that does not compare as greater is from there on
 from-not_gt : (a b c d : ℕ) → is_gt (pair_cmp (a, b) (c, d)) ≡ false → IsFrom a b c d
 from-not_gt a b c d h = record { keys = grind (arith, nat_tests); numbers = λ e. grind (arith, nat_tests) }
 
+-- a pair from there on does not compare as greater
 not_gt-from : (a b c d : ℕ) → IsFrom a b c d → is_gt (pair_cmp (a, b) (c, d)) ≡ false
 not_gt-from a b c d h = let k = h.keys in let n = h.numbers in grind (arith, nat_tests)
 
@@ -28,6 +32,7 @@ range-first s key number p rest h = record {
   first = λ k n held after. from-not_gt p.0 p.1 k n (h.2 (k, n) (not_gt-from key number k n after, tt) held);
 }
 
+-- an empty range from a pair on has no key from there on
 pub range-none : (s : BTreeSet (ℕ × ℕ)) (key number : ℕ) → IsKeyRangeOf pair_cmp (Included (key, number)) Unbounded s [] → NoneFrom s.keys key number
 unfolding holds
 range-none s key number h k n after = h.5 refl (k, n) (not_gt-from key number k n after, tt)

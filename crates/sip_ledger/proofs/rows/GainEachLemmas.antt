@@ -115,18 +115,22 @@ least-late : (t x : ℕ) (ms : List ℕ) → t ≤ x → All (λ m. t ≤ m) ms 
 least-late t x [] low all = low
 least-late t x (m ∷ ms) low all = least-late t (min x m) ms (omega (arith, low, All-head (λ n. t ≤ n) m ms all)) (All-tail (λ n. t ≤ n) m ms all)
 
+-- the test finds a moment that is not later
 reaches-to : (t d : ℕ) → t ≤ d → nat_le t d ≡ true
 reaches-to t d low = grind (arith, nat_tests)
 
+-- where no moment is before t, t is within the earliest of them
 within-all : (t : ℕ) (ms : List ℕ) → All (λ m. t ≤ m) ms → is_within t (earliest ms) ≡ true
 within-all t [] all = refl
 within-all t (m ∷ ms) all = reaches-to t (fold min m ms) (least-late t m ms (All-head (λ n. t ≤ n) m ms all) (All-tail (λ n. t ≤ n) m ms all))
 
+-- where no deadline is before t, none is, with or without the first debt
 late-next : (t : ℕ) (debt : Debt) (rest : List Debt) (must : Bool) → t ≤ debt.deadline → All (λ m. t ≤ m) (map (λ (d : Debt). d.deadline) rest) →
     All (λ m. t ≤ m) (map (λ (d : Debt). d.deadline) (cond must (debt ∷ rest) rest))
 late-next t debt rest true low all = All-cons (λ m. t ≤ m) debt.deadline (map (λ (d : Debt). d.deadline) rest) low all
 late-next t debt rest false low all = all
 
+-- where no deadline is before t, none by which a debt must be sent is
 late-deadlines : (t : ℕ) (debts : List Debt) → All (λ (d : Debt). t ≤ d.deadline) debts → All (λ m. t ≤ m) (debt_deadlines debts)
 late-deadlines t [] all = All-nil (λ m. t ≤ m)
 late-deadlines t (debt ∷ debts) all =

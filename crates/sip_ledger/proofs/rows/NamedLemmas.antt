@@ -17,7 +17,7 @@ use Rattle.sip_ledger.specs.Accounts.{AppendsOwed, owes_message, some_owes}
 use Rattle.sip_ledger.specs.Debts.{is_payable}
 use Rattle.sip_ledger.specs.Lists.{Rise}
 use Rattle.sip_ledger.specs.inner.Accounts.{AreGains, account_debts, accounts_debts, entries_of, entry_at, must_at, owes_at}
-use Rattle.sip_ledger.specs.inner.Indexes.{IsFirstFrom, IsFrom, NoneFrom, holds}
+use Rattle.sip_ledger.specs.Indexes.{IsFirstFrom, IsFrom, NoneFrom, holds}
 use Rattle.sip_ledger.proofs.debts.ListedLemmas.{listed-All, no_entry}
 use Rattle.sip_ledger.proofs.account.AccountLemmas.{debts-length, row-debts}
 use Rattle.sip_ledger.proofs.gains.LeftLemmas.{held-left, owed-left}
@@ -34,6 +34,7 @@ message-before pairs key number found is m k after before =
 pub from-first : (m k : ℕ) → 0 ≤ m → IsFrom 0 0 m k
 from-first m k after = record { keys = omega arith; numbers = λ same. omega arith }
 
+-- each pair of a later message comes after (last, place)
 pub from-later : (last place m k : ℕ) → last + 1 ≤ m → IsFrom last place m k
 from-later last place m k later = record { keys = omega (arith, later); numbers = λ same. absurd (omega (arith, later, same)) }
 

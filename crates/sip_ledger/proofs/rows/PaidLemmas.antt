@@ -21,6 +21,7 @@ use Rattle.sip_ledger.proofs.rows.SeenLemmas.{account-at, pushed-to, row-inside,
 abbrev pub is_paid : ℕ → ℕ → List Debt → Bool
 is_paid message t owes = list_any (is_payable message t) owes && is_timely t owes
 
+-- the debts that a payment leaves
 abbrev pub left_by : ℕ → ℕ → List Debt → List Debt
 left_by message t owes = filter (counts_at t) (paid_by message t owes)
 

@@ -17,7 +17,7 @@ use Rattle.sip_ledger.specs.declared.accounts.strikes.Strike.{Strike}
 use Rattle.sip_ledger.specs.Accounts.{debts_print}
 use Rattle.sip_ledger.specs.Lists.{from_to}
 use Rattle.sip_ledger.specs.inner.Accounts.{AreAppended, AreMoved, AreThinned, HasStrikes, IsAccount, IsMoved, StrikesNoneFrom, account_debts, accounts_debts, entries_of, entry_at, is_gone, is_left, is_out, is_struck, must_at, owes_at, strikes_of}
-use Rattle.sip_ledger.specs.inner.Indexes.{holds}
+use Rattle.sip_ledger.specs.Indexes.{holds}
 use Rattle.sip_ledger.proofs.gains.LeftLemmas.{gone-same, held-left}
 use Rattle.sip_ledger.proofs.debts.ListedLemmas.{listed-same}
 use Rattle.sip_ledger.proofs.account.AccountLemmas.{kept-all, soft-must}

@@ -1,4 +1,4 @@
-use Rattle.std.specs.Prelude.{◌≡◌, ◌≢◌, ◌==◌, ◌&&◌, ◌||◌, ◌<◌, ◌≤◌, ◌+◌, ◌-◌, ◌^◌, ℕ, Bool, true, false, not, cond, Option, Some, None, IfSome, IfNone, List, [], ◌∷◌, ◌++◌, All, drop, get_or, length, map, nat_le, nat_lt, replicate, set, take}
+use Rattle.std.specs.Prelude.{◌≡◌, ◌≢◌, ◌==◌, ◌&&◌, ◌||◌, ◌<◌, ◌≤◌, ◌+◌, ◌-◌, ◌^◌, ℕ, Bool, true, false, not, cond, Option, Some, None, IfSome, IfNone, List, [], ◌∷◌, ◌++◌, All, Contains, drop, get_or, length, map, min, nat_le, nat_lt, replicate, set, take}
 use Rattle.std.specs.List.{list_any}
 use Rattle.sip_ledger.specs.declared.debt.Debt.{Debt}
 use Rattle.sip_ledger.specs.declared.debt.Entry.{Entry}
@@ -10,7 +10,7 @@ use Rattle.sip_ledger.specs.declared.accounts.strikes.Strike.{Strike}
 use Rattle.sip_ledger.specs.Accounts.{debts_print}
 use Rattle.sip_ledger.specs.Lists.{from_to}
 use Rattle.sip_ledger.specs.Entries.{debts_from}
-use Rattle.sip_ledger.specs.inner.Indexes.{holds}
+use Rattle.sip_ledger.specs.Indexes.{holds}
 use Rattle.sip_ledger.specs.inner.Deadlines.{AreRising}
 
 -- Accounts over one list of gains. A place is the number of a gain; from its place on, an account owes what it gained, but for what is struck.
@@ -197,6 +197,22 @@ pub record IsFirstPayable (entries : List Entry) (owes : ℕ → Bool) (message 
   pub owed : owes place ≡ true
   pub pays : pays_at entries message t place ≡ true
   pub before : (k : ℕ) → k < place → owes k ≡ true → pays_at entries message t k ≡ false
+
+-- a send of one of the messages at t pays the gain at a place
+abbrev pub PaysOneAt : List Entry → List ℕ → ℕ → ℕ → Type 0
+PaysOneAt entries messages t k = Contains messages (entry_at entries k).message × (t ≤ (entry_at entries k).deadline)
+
+-- the first place that is owed and whose gain a send of one of the messages at t pays, if there is one
+abbrev pub IsFirstOf : List Entry → (ℕ → Bool) → List ℕ → ℕ → Option ℕ → Type 0
+IsFirstOf entries owes messages t None = (k : ℕ) → owes k ≡ true → ¬ (PaysOneAt entries messages t k)
+IsFirstOf entries owes messages t (Some place) =
+    (owes place ≡ true) × PaysOneAt entries messages t place × ((k : ℕ) → k < place → owes k ≡ true → ¬ (PaysOneAt entries messages t k))
+
+-- the lesser of two places, where there are some
+abbrev pub sooner : Option ℕ → Option ℕ → Option ℕ
+sooner None other = other
+sooner (Some place) None = Some place
+sooner (Some place) (Some other) = Some (min place other)
 
 -- the strikes from the first on strike what was gained at the place too
 pub record StrikeToo (gains : Gains) (place first : ℕ) (old new : List Strike) : Type 0 where

@@ -5,8 +5,8 @@ ghost use Rattle.sip_ledger.specs.Debts.{counts_at, debt_deadlines, earliest, is
 ghost use Rattle.sip_ledger.specs.Accounts.{worth_of};
 ghost use Rattle.sip_ledger.specs.Entries.{debt_of};
 ghost use Rattle.sip_ledger.specs.declared.accounts.account.Account.{Account};
-ghost use Rattle.sip_ledger.specs.inner.Accounts.{AreAlike, AreGains, IsAccount, IsExpiredTo, IsFirstPayable, IsGainAt, IsKept, IsNextGain, IsPlaceOf, IsSeek, IsStruck, IsWithout, KeepsAccounts, SharesRest, account_debts, entries_of, entry_at, is_gone, is_struck, must_at, owes_at, pays_at, strikes_of};
-ghost use Rattle.sip_ledger.specs.inner.Indexes.{holds};
+ghost use Rattle.sip_ledger.specs.inner.Accounts.{AreAlike, AreGains, IsAccount, IsExpiredTo, IsFirstOf, IsFirstPayable, IsGainAt, IsKept, IsNextGain, IsPlaceOf, IsSeek, IsStruck, IsWithout, KeepsAccounts, SharesRest, account_debts, entries_of, entry_at, is_gone, is_struck, must_at, owes_at, pays_at, sooner, strikes_of};
+ghost use Rattle.sip_ledger.specs.Indexes.{holds};
 
 use crate::accounts::gains::Gains;
 use crate::accounts::seek::Seek;
@@ -183,6 +183,39 @@ pub(crate) fn find(
         }
     }
     None
+}
+
+/// The first place whose debt a send of one of these messages at the moment pays.
+pub(crate) fn find_one(
+    gains: &Gains,
+    strikes: &[Strike],
+    account: Account,
+    messages: &[u64],
+    moment: u64,
+) -> Option<usize>
+    requires gained { AreGains gains.now }
+    requires account { IsAccount gains.now strikes.now account }
+    ensures { IsFirstOf (entries_of gains.now) (owes_at gains.now strikes.now account) messages.now moment result }
+{
+    let mut first = None;
+    for at in 0..messages.len() {
+        let message = messages[at];
+        let mut seek = Seek::new(gains, message, account.start);
+        let place = find(gains, strikes, account, &mut seek, message, moment);
+        first = sooner(first, place);
+    }
+    first
+}
+
+/// The lesser of two places, where there are some.
+fn sooner(one: Option<usize>, other: Option<usize>) -> Option<usize>
+    ensures { result ≡ sooner one other }
+{
+    match (one, other) {
+        (Some(place), Some(beside)) => Some(place.min(beside)),
+        (Some(place), None) => Some(place),
+        (None, _) => other,
+    }
 }
 
 /// Whether what was gained at the place must be sent.

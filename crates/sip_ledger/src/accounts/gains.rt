@@ -2,7 +2,7 @@
 ghost use Rattle.std.specs.Prelude.{◌≡◌, ◌<◌, ◌≤◌, ◌+◌, ◌==◌, ◌&&◌, ◌++◌, ◌∷◌, ℕ, [], IfSome, IfNone, OnOk, OnErr, cond, length, true, false};
 ghost use Rattle.std.specs.Bool.{OnTrue};
 ghost use Rattle.sip_ledger.specs.inner.Accounts.{AreGains, AreSameGains, IsDropped, IsGain, IsKept, IsLetGo, IsNoted, IsPlaceOf, entries_of, entry_at, first_after, flags_at, is_left};
-ghost use Rattle.sip_ledger.specs.inner.Indexes.{holds, IsFirstFrom, NoneFrom};
+ghost use Rattle.sip_ledger.specs.Indexes.{holds, IsFirstFrom, NoneFrom};
 ghost use Rattle.sip_ledger.specs.inner.Deadlines.{AreRising};
 
 use crate::debt::{Debt, Entry};

@@ -1,26 +1,24 @@
 -- The To that stands beside a kept message stays what it is, and tells which of the messages has a To.
 use Prim.Native.Nat.{suc}
-use Rattle.std.specs.Prelude.{◌≡◌, ◌≢◌, ◌<◌, ◌≤◌, ◌↔◌, ◌-◌, ℕ, Bool, true, false, IfSome, IsTrue, IsSomeAnd, Option, Some, None, bytes_eq, List, [], ◌∷◌, ◌++◌, All, AllPairs, Contains, length, map, slice_get, take, nat_eq}
+use Rattle.std.specs.Prelude.{◌≡◌, ◌≢◌, ◌<◌, ◌≤◌, ◌↔◌, ◌-◌, ◌+◌, ◌⊎◌, ◌==◌, ◌&&◌, ℕ, Bool, true, false, cond, IfOk, IfSome, IsTrue, Option, Some, None, bytes_eq, List, [], ◌∷◌, ◌++◌, All, AllPairs, Contains, is_some, length, map, slice_get, take}
 use Rattle.std.specs.List.{items_where_true}
-use Rattle.std.specs.HashMap.{get}
 use Rattle.std.specs.Cmp.Lexicographic.{bytes_decides}
-use Rattle.std.proofs.Common.{Result, Ok, Err, OnOk, is_err, true≢false, inl, inr, sym, ◌∙◌, ap, subst, arith, get_or}
-use Rattle.std.proofs.lemmas.Bool.{cases_lt}
+use Rattle.std.proofs.Common.{Result, Ok, Err, OnOk, is_err, true≢false, inl, inr, refl, sym, ◌∙◌, ap, ap₂, subst, arith, get_or}
+use Rattle.std.proofs.Math.Bool.{and-false}
+use Rattle.std.proofs.lemmas.Bool.{cases_lt, eq-eqb, ne_eqb}
 use Rattle.std.proofs.lemmas.Grind.{get_or_picked}
 use Rattle.std.proofs.lemmas.Option.{slice_get-get_or, get_or_from_slice_get}
 use Rattle.std.proofs.lemmas.List.{get_or-map, get_or-take, get_or_default, length-map, length-take-le, take_all}
-use Rattle.std.proofs.lemmas.List.Elements.{All-contains, All-get_or, All-push, All-weaker, Contains-get_or}
+use Rattle.std.proofs.lemmas.List.Elements.{All-contains, All-get_or, All-push, All-weaker, Contains-append_left, Contains-get_or, Contains-push, Contains-push_cases}
 use Rattle.std.proofs.lemmas.List.Kept.{AllPairs-cons}
+use Rattle.sip_ledger.specs.Indexes.{IsNextUnder, holds}
 use Rattle.sip_message.proofs.lemmas.message.Views.{same_reading}
 use Rattle.sip_standard.specs.Solid.{solid}
 use Rattle.sip_machine.specs.Texts.{Texts, IsBook, Keeps, text_of}
 use Rattle.sip_machine.specs.Retained.{only}
 use Rattle.sip_machine.specs.declared.tos.To.{To}
-use Rattle.sip_machine.specs.declared.tos.Owner.TheVariants.{Only}
-use Rattle.sip_machine.specs.declared.tos.Holder.{Holder}
-use Rattle.sip_machine.specs.declared.tos.Holder.TheVariants.{One, Nobody, Unknown}
 use Rattle.sip_machine.specs.inner.Order.{hash_of}
-use Rattle.sip_machine.specs.inner.Tos.{IsToOf, IsTo, AreTos, Owners, IsOwner, MayOwn, AreOwned, IsHolder, HoldsBetween, count_between}
+use Rattle.sip_machine.specs.inner.Tos.{IsToOf, IsTo, AreTos, AreHolders, AreUnder, HoldBetween, IsChanged, IsUnder, count_between}
 use Rattle.sip_machine.proofs.texts.BesideLemmas.{among-all, count_between-is, many}
 use Rattle.sip_machine.proofs.texts.TextLaws.{Keeps-grow, text_of-grow}
 use Rattle.sip_machine.proofs.texts.RetainLemmas.{only-Keeps, text_of-only}
@@ -75,6 +73,7 @@ to_of texts tos number text all has =
 
 -- What follows is of the Tos in their list.
 
+-- what is read past the end of the list
 abbrev pub nobody : To
 nobody = record { number = 0; text = [] }
 
@@ -125,6 +124,19 @@ below_last (t ∷ ts) number None up is low = absurd (let e = is ∙ slice_get-g
 below_last (t ∷ ts) number (Some last) up is low =
     all_below (t ∷ ts) number last up (omega arith) (sym (get_or_from_slice_get (t ∷ ts) (length (t ∷ ts) - 1) last last (sym is))) low
 
+-- the Tos before the last one have numbers below its
+pub front_below : (tos : List To) (number : ℕ) (last : To) → AllPairs (λ a b. a.number < b.number) tos → Some last ≡ slice_get tos (length tos - 1) → last.number ≡ number →
+    All (λ to. to.number < number) (take (length tos - 1) tos)
+front_below [] number last up is same = λ k d low. absurd (omega arith)
+front_below (t ∷ ts) number last up is same = λ k d low.
+    let tos = t ∷ ts in
+    let n = length tos - 1 in
+    let size = length-take-le n tos (omega arith) in
+    let below : k < n = omega (arith, size, low) in
+    let end : get_or tos n d ≡ last = get_or_default tos n d last (omega arith) ∙ get_or_from_slice_get tos n last last (sym is) in
+    let lt = up k n d below (omega arith) in
+    rw (get_or-take n tos k d below) (omega (arith, lt, ap (λ to. to.number) end, same))
+
 -- what holds of all elements of a list holds of those that are picked
 pub All-picked : {X : Type 0} (P : X → Type 0) (bs : List Bool) (xs : List X) → All P xs → All P (items_where_true bs xs)
 All-picked P bs xs all = λ k d low.
@@ -159,32 +171,98 @@ AllPairs-take R n xs up = λ i j d lt low. elim (cases_lt (length xs) n) [
       rw (get_or-take n xs i d (omega (arith, lt, below)), get_or-take n xs j d below) (up i j d lt (omega (arith, below, within)))
 ]
 
--- What follows is of whose Tos the hashes are.
+-- What follows is of the numbers that stand under the hash of a To.
 
 -- where a result is no error, what holds of it where it is none holds
 pub on_ok : {T E : Type 0} (r : Result T E) (P : Type 0) → is_err r ≡ false → OnOk r P → P
 on_ok (Ok x) P is_not ok = ok
 on_ok (Err e) P is_not ok = absurd (true≢false is_not)
 
--- where the owners say that the Tos of the hash of a text are those of the message n alone, no other message of the list has that To
-pub owned_by : (owners : Owners) (tos : List To) (text : List ℕ) (n : ℕ) → AreOwned owners tos → get nat_eq owners (hash_of text) ≡ Some (Only n) → All (λ to. to.text ≡ text → to.number ≡ n) tos
-owned_by owners tos text n owned is =
-    All-weaker (λ to. MayOwn owners (hash_of to.text) to.number) (λ to. to.text ≡ text → to.number ≡ n)
-    (λ to may same. subst (λ o. IsSomeAnd o (IsOwner to.number)) (ap (λ t. get nat_eq owners (hash_of t)) same ∙ is) may) tos owned
+-- a number that is put under a hash stands there
+pub put-here : (hash number : ℕ) (old new : Option (List (ℕ × ℕ))) → IsChanged hash number true old new → IsUnder new hash number
+put-here hash number old None changed = tt
+put-here hash number None (Some new) changed = absurd changed
+put-here hash number (Some old) (Some new) changed =
+    changed hash number ∙ ap₂ (λ a b. cond (a && b) true (holds old hash number)) (eq-eqb hash hash refl) (eq-eqb number number refl)
 
--- where the owners say nothing of the hash of a text, no message of the list has that To
-pub owned_none : (owners : Owners) (tos : List To) (text : List ℕ) → AreOwned owners tos → get nat_eq owners (hash_of text) ≡ None → All (λ to. to.text ≢ text) tos
-owned_none owners tos text owned is =
-    All-weaker (λ to. MayOwn owners (hash_of to.text) to.number) (λ to. to.text ≢ text)
-    (λ to may same. subst (λ o. IsSomeAnd o (IsOwner to.number)) (ap (λ t. get nat_eq owners (hash_of t)) same ∙ is) may) tos owned
+-- where a number is put under a hash, what stood under a hash stands there
+pub put-keeps : (hash number : ℕ) (old new : Option (List (ℕ × ℕ))) → IsChanged hash number true old new → (h n : ℕ) → IsUnder old h n → IsUnder new h n
+put-keeps hash number old None changed h n is = tt
+put-keeps hash number None (Some new) changed h n is = absurd changed
+put-keeps hash number (Some old) (Some new) changed h n is = changed h n ∙ still (h == hash && n == number) (holds old h n) is
+  where
+    still : (here before : Bool) → before ≡ true → cond here true before ≡ true
+    still true before is = refl
+    still false before is = is
 
--- where no message but n can have a To, and n has another one, no message of the list has it
-pub held_by_none : (tos : List To) (text its : List ℕ) (n : ℕ) → AllPairs (λ a b. a.number < b.number) tos → All (λ to. to.text ≡ text → to.number ≡ n) tos →
-    Contains tos (record { number = n; text = its }) → its ≢ text → All (λ to. to.text ≢ text) tos
-held_by_none tos text its n up only has other = λ k d low same.
-    let to = get_or tos k d in
-    let number : to.number ≡ n = only k d low same in
-    other (sym (one_number tos to (record { number = n; text = its }) up (Contains-get_or tos k d low) has number) ∙ same)
+-- where a number is taken from a hash, other numbers stand where they stood
+pub taken-keeps : (hash number : ℕ) (old new : Option (List (ℕ × ℕ))) → IsChanged hash number false old new → (h n : ℕ) → n ≢ number → IsUnder old h n → IsUnder new h n
+taken-keeps hash number old None changed h n other is = tt
+taken-keeps hash number None (Some new) changed h n other is = absurd changed
+taken-keeps hash number (Some old) (Some new) changed h n other is =
+    changed h n ∙ ap (λ b. cond (h == hash && b) false (holds old h n)) (ne_eqb n number other) ∙ ap (λ b. cond b false (holds old h n)) (and-false (h == hash)) ∙ is
+
+-- where no hashes are kept, there is nothing to say
+pub none-under : (hashes : Option (List (ℕ × ℕ))) (tos : List To) → is_some hashes ≡ false → AreUnder hashes tos
+none-under None tos none = λ k d low. tt
+none-under (Some pairs) tos none = absurd (true≢false none)
+
+-- the numbers are of messages with this To, and those of all such messages that are below `from`
+pub record AreHoldersTo (tos : List To) (text : List ℕ) (from : ℕ) (numbers : List ℕ) : Type 0 where
+  pub each : (n : ℕ) → Contains numbers n → Contains tos (record { number = n; text = text })
+  pub below : (n : ℕ) → n < from → Contains tos (record { number = n; text = text }) → Contains numbers n
+
+module _ (tos : List To) (pairs : List (ℕ × ℕ)) (text : List ℕ) (up : AllPairs (λ a b. a.number < b.number) tos) (under : AreUnder (Some pairs) tos) where
+  abbrev Has : ℕ → Type 0
+  Has n = Contains tos (record { number = n; text = text })
+
+  -- a message with this To stands under the hash of the To
+  stands : (n : ℕ) → Has n → holds pairs (hash_of text) n ≡ true
+  stands n has = All-contains (λ to. IsUnder (Some pairs) (hash_of to.text) to.number) tos (record { number = n; text = text }) under has
+
+  -- where no number from `from` on stands under the hash, the numbers are those of all messages with the To
+  pub all_told : (from : ℕ) (numbers : List ℕ) → AreHoldersTo tos text from numbers → ((n : ℕ) → from ≤ n → holds pairs (hash_of text) n ≡ false) → AreHolders tos text numbers
+  all_told from numbers are none = λ n. (
+    λ has. elim (cases_lt n from) [
+      | inl low ↦ are.below n low has
+      | inr high ↦ absurd (true≢false (sym (stands n has) ∙ none n high))
+    ],
+    are.each n,
+  )
+
+  module _ (from : ℕ) (numbers : List ℕ) (number next : ℕ) (are : AreHoldersTo tos text from numbers) (at : IsNextUnder pairs (hash_of text) from number) (step : next ≤ number + 1) where
+    -- a message with the To that is below the next number is one of those told, or the next
+    told-or_next : (n : ℕ) → n < next → Has n → Contains numbers n ⊎ (n ≡ number)
+    told-or_next n low has = elim (cases_lt n from) [
+      | inl first ↦ inl (are.below n first has)
+      | inr after ↦ elim (cases_lt n number) [
+        | inl between ↦ absurd (true≢false (sym (stands n has) ∙ at.none_before n after between))
+        | inr last ↦ inr (omega (arith, low, step, last))
+      ]
+    ]
+
+    -- where the message has the To, it is told too
+    pub told-more : Has number → AreHoldersTo tos text next (numbers ++ number ∷ [])
+    told-more has = record {
+      each = λ n among. elim (Contains-push_cases numbers number n among) [
+        | inl before ↦ are.each n before
+        | inr same ↦ subst Has same has
+      ];
+      below = λ n low its. elim (told-or_next n low its) [
+        | inl before ↦ Contains-append_left numbers (number ∷ []) n before
+        | inr same ↦ subst (Contains (numbers ++ number ∷ [])) (sym same) (Contains-push numbers number)
+      ];
+    }
+
+    -- where the message has another To, it is passed
+    pub told-same : (its : List ℕ) → Contains tos (record { number = number; text = its }) → its ≢ text → AreHoldersTo tos text next numbers
+    told-same its has other = record {
+      each = are.each;
+      below = λ n low holds_it. elim (told-or_next n low holds_it) [
+        | inl before ↦ before
+        | inr same ↦ absurd (other (one_number tos (record { number = number; text = its }) (record { number = n; text = text }) up has holds_it (sym same)))
+      ];
+    }
 
 -- What follows is of which kept message has a To.
 
@@ -223,13 +301,20 @@ module _ (texts : Texts) (tos : List To) (text : List ℕ) (low high : ℕ) (boo
       let same = IsToOf-one (text_of texts number) text (get_or tos i nobody).text (subst (λ n. IsToOf (text_of texts n) (get_or tos i nobody).text) at its.text) is in
       (i, within, at, same)
 
-  -- which message of the list has the To is which of the kept messages with numbers from low up to high has it
-  pub holds_between : (holder : Holder) → IsHolder tos text holder → HoldsBetween texts text low high holder
-  holds_between (One n) is = λ number kept from to. (
-    λ its. (let (i, within, at, same) = owner number kept from to its in sym at ∙ All-get_or (λ to. to.text ≡ text → to.number ≡ n) tos i nobody within is.0 same),
-    λ e. subst (λ n. IsToOf (text_of texts n) text) (sym e) (to_of texts tos n text are is.1),
+  -- the messages of the list with the To are those of the kept messages with numbers from low up to high
+  hold_between : (numbers : List ℕ) → AreHolders tos text numbers → HoldBetween texts text low high numbers
+  hold_between numbers held = λ number kept from to. (
+    λ its.
+        let (i, within, at, same) = owner number kept from to its in
+        let its_to = get_or tos i nobody in
+        let has = has_to tos i its_to number within (sym (get_or_default tos i its_to nobody within)) at in
+        (held number).0 (subst (λ words. Contains tos (record { number = number; text = words })) same has),
+    λ among. to_of texts tos number text are ((held number).1 among),
   )
-  holds_between Nobody none = λ number kept from to its.
-      let (i, within, at, same) = owner number kept from to its in
-      All-get_or (λ to. to.text ≢ text) tos i nobody within none same
-  holds_between Unknown is = tt
+
+  -- what is told of the messages of the list is told of the kept messages
+  pub holds_told : {V E : Type 0} (items : V → List ℕ) (r : Result (Option V) E) → IfOk r (λ numbers. IfSome numbers (λ ns. AreHolders tos text (items ns))) →
+      IfOk r (λ numbers. IfSome numbers (λ ns. HoldBetween texts text low high (items ns)))
+  holds_told items (Ok (Some ns)) told = hold_between (items ns) told
+  holds_told items (Ok None) told = tt
+  holds_told items (Err e) told = tt

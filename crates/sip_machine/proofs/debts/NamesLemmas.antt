@@ -25,6 +25,7 @@ named-owed m (debt ∷ debts) there = elim (Contains-cons_cases debt.message (ow
   | inr rest ↦ or_right (debt.message == m) (owes_message m debts) (named-owed m debts rest)
 ]
 
+-- a message that is owed is among those that the debts name
 owed-named : (m : ℕ) (debts : List Debt) → owes_message m debts ≡ true → Contains (owes_names debts) m
 owed-named m [] is = absurd (true≢false (sym is))
 owed-named m (debt ∷ debts) is = elim (cases_eq debt.message m) [
@@ -45,10 +46,12 @@ some-step : (m : ℕ) (owes : List Debt) (rows : List (List Debt)) (b : Bool) �
 some-step m owes rows true here is later = Contains-append_left (owes_names owes) (flat_map owes_names rows) m (owed-named m owes here)
 some-step m owes rows false here is later = Contains-append_right (owes_names owes) (flat_map owes_names rows) m (later is)
 
+-- a message that some row owes is among those that the rows name
 some-named : (m : ℕ) (rows : List (List Debt)) → some_owes m rows ≡ true → Contains (flat_map owes_names rows) m
 some-named m [] is = absurd (true≢false (sym is))
 some-named m (owes ∷ rows) is = some-step m owes rows (owes_message m owes) refl is (some-named m rows)
 
+-- to append the messages that rows owe is to append the names of their debts
 pub owed-appends : (rows : List (List Debt)) (old new : List ℕ) → AppendsOwed rows old new → AppendsAll (flat_map owes_names rows) old new
 owed-appends rows old new a = (a.names, a.whole, λ m. (λ there. some-named m rows ((a.each m).0 there), λ there. (a.each m).1 (named-some m rows there)))
 
@@ -57,6 +60,7 @@ none-named : (count : ℕ) → flat_map owes_names (rows_in count None) ≡ []
 none-named zero = refl
 none-named (suc count) = none-named count
 
+-- rows that owe nothing append no name
 pub none-appends : (count : ℕ) (old : List ℕ) → AppendsAll (flat_map owes_names (rows_in count None)) old old
 none-appends count old =
     ([], sym (append-nil old), λ m. (λ there. absurd (Contains-nil m there), λ there. absurd (Contains-nil m (subst (λ ns. Contains ns m) (none-named count) there))))

@@ -53,6 +53,7 @@ from_to-map f (suc from) zero xs = refl
 from_to-map f (suc from) (suc to) [] = refl
 from_to-map f (suc from) (suc to) (x ∷ xs) = from_to-map f from to xs
 
+-- to map twice is to map by both functions at once
 map-again : {X Y Z : Type 0} (f : X → Y) (g : Y → Z) (xs : List X) → map g (map f xs) ≡ map (λ x. g (f x)) xs
 map-again f g [] = refl
 map-again f g (x ∷ xs) = ap (λ ys. g (f x) ∷ ys) (map-again f g xs)

@@ -217,6 +217,7 @@ module _ {X : Type 0} (f : X → Option X) (old now : List X) (left i : ℕ) (mo
     long = moves.long;
   }
 
+-- where all elements were moved, those that are kept stand in front
 pub moves_all : {X : Type 0} (f : X → Option X) (old now : List X) (left i : ℕ) → MovesInPlace f old now left i → length old ≤ i → take left now ≡ filter_map f old
 moves_all f old now left i moves end = moves.front ∙ ap (filter_map f) (take_all i old end)
 
@@ -330,6 +331,7 @@ keeps_all text numbers old now left i keeps end =
 
 -- What follows is of the runs, one after another.
 
+-- the places of a run
 abbrev items : PlaceRun → List Place
 items run = run.places.items
 
@@ -342,6 +344,7 @@ pub record MovesRuns (f : Place → Option Place) (most : ℕ) (old now : List P
   pub within : i ≤ length old
   pub long : length now ≡ length old
 
+-- before any run is moved, all stand where they stood
 pub moves_start : (f : Place → Option Place) (most : ℕ) (old : List PlaceRun) → All (λ run. length run.places.items ≤ most) old → MovesRuns f most old old 0
 moves_start f most old short = record { places = refl; rest = refl; led = All-nil (λ run. 0 < length run.places.items → IsLed run); short = short; within = omega arith; long = refl }
 

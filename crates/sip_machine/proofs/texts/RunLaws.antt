@@ -21,6 +21,7 @@ use Rattle.sip_machine.specs.declared.book.Gap.{Gap}
 use Rattle.sip_machine.specs.inner.Order.{key_of, bytes_at, compare, begins_by, places_of, index_of, IsLed, IsInRuns, IsGap}
 use Rattle.sip_machine.proofs.texts.OrderLaws.{searchable, found}
 
+-- the places of a run
 abbrev items : PlaceRun → List Place
 items run = run.places.items
 

@@ -1,17 +1,11 @@
-use Rattle.std.specs.Prelude.{◌≡◌, ◌≢◌, ◌≤◌, ◌↔◌, ◌-◌, ◌==◌, ℕ, Option, Some, None, List, All, Contains, IsSomeAnd, nat_eq, nat_le, nat_lt, if◌then◌else◌, ⊤}
+use Rattle.std.specs.Prelude.{◌≡◌, ◌≤◌, ◌↔◌, ◌-◌, ◌==◌, ◌&&◌, ℕ, Bool, true, cond, Option, Some, None, List, All, Contains, nat_le, nat_lt, ⊤}
 use Rattle.std.specs.List.{count_by}
-use Rattle.std.specs.HashMap.{get, HashMap}
-use Rattle.std.specs.declared.hash.FoldHasher.{FoldHasher}
-use Rattle.std.specs.declared.hash.BuildHasherDefault.{BuildHasherDefault}
+use Rattle.sip_ledger.specs.Indexes.{holds}
 use Rattle.sip_message.specs.Reading.{Reading}
 use Rattle.sip_message.specs.Reads.{Reads}
 use Rattle.sip_standard.specs.Solid.{solid}
 use Rattle.sip_machine.specs.Texts.{Texts, Keeps, text_of}
 use Rattle.sip_machine.specs.declared.tos.To.{To}
-use Rattle.sip_machine.specs.declared.tos.Owner.{Owner}
-use Rattle.sip_machine.specs.declared.tos.Owner.TheVariants.{Only, Several}
-use Rattle.sip_machine.specs.declared.tos.Holder.{Holder}
-use Rattle.sip_machine.specs.declared.tos.Holder.TheVariants.{One, Nobody, Unknown}
 use Rattle.sip_machine.specs.inner.Order.{hash_of}
 
 -- The To that stands beside a message for which an ACK may come.
@@ -35,38 +29,28 @@ pub record AreTos (texts : Texts) (tos : List To) : Type 0 where
 abbrev pub count_between : ℕ → ℕ → List ℕ → ℕ
 count_between low high numbers = count_by (λ n. nat_le n high) numbers - count_by (λ n. nat_lt n low) numbers
 
--- Whose the Tos of one hash are.
+-- Which messages have a To.
 
-abbrev pub Owners : Type 0
-Owners = HashMap ℕ Owner (BuildHasherDefault FoldHasher)
+-- the number of a message stands under this hash, where hashes are kept
+abbrev pub IsUnder : Option (List (ℕ × ℕ)) → ℕ → ℕ → Type 0
+IsUnder None hash number = ⊤
+IsUnder (Some pairs) hash number = holds pairs hash number ≡ true
 
--- the message with this number may have a To of the hash whose owner this is
-abbrev pub IsOwner : ℕ → Owner → Type 0
-IsOwner number (Only n) = number ≡ n
-IsOwner number Several = ⊤
+-- the number of the message of each To of the list stands under the hash of the To, where hashes are kept
+abbrev pub AreUnder : Option (List (ℕ × ℕ)) → List To → Type 0
+AreUnder hashes tos = All (λ to. IsUnder hashes (hash_of to.text) to.number) tos
 
--- the message with this number may have a To of this hash, by what the owners say
-abbrev pub MayOwn : Owners → ℕ → ℕ → Type 0
-MayOwn owners hash number = IsSomeAnd (get nat_eq owners hash) (IsOwner number)
+-- whether the number stands under the hash is `stands` now, where hashes are kept; of other numbers it is as it was
+abbrev pub IsChanged : ℕ → ℕ → Bool → Option (List (ℕ × ℕ)) → Option (List (ℕ × ℕ)) → Type 0
+IsChanged hash number stands None None = ⊤
+IsChanged hash number stands (Some old) (Some new) = (h n : ℕ) → holds new h n ≡ cond (h == hash && n == number) stands (holds old h n)
+IsChanged hash number stands None (Some new) = ⊥
+IsChanged hash number stands (Some old) None = ⊥
 
--- the owner of a hash, once a To of the message with this number has it as well
-abbrev pub owner_with : Option Owner → ℕ → Owner
-owner_with None number = Only number
-owner_with (Some (Only n)) number = if n == number then Only number else Several
-owner_with (Some Several) number = Several
+-- the numbers are those of the messages of the list that have this To
+abbrev pub AreHolders : List To → List ℕ → List ℕ → Type 0
+AreHolders tos text numbers = (number : ℕ) → Contains tos (record { number = number; text = text }) ↔ Contains numbers number
 
--- the owners tell of each To of the list that its message may have it
-abbrev pub AreOwned : Owners → List To → Type 0
-AreOwned owners tos = All (λ to. MayOwn owners (hash_of to.text) to.number) tos
-
--- which of the messages with these Tos has this one: one alone, none, or unknown
-abbrev pub IsHolder : List To → List ℕ → Holder → Type 0
-IsHolder tos text (One n) = All (λ to. to.text ≡ text → to.number ≡ n) tos × Contains tos (record { number = n; text = text })
-IsHolder tos text Nobody = All (λ to. to.text ≢ text) tos
-IsHolder tos text Unknown = ⊤
-
--- which of the kept messages with numbers from low up to high has this To: one alone, none, or unknown
-abbrev pub HoldsBetween : Texts → List ℕ → ℕ → ℕ → Holder → Type 0
-HoldsBetween texts text low high (One n) = (number : ℕ) → Keeps texts number → low ≤ number → number ≤ high → IsToOf (text_of texts number) text ↔ (number ≡ n)
-HoldsBetween texts text low high Nobody = (number : ℕ) → Keeps texts number → low ≤ number → number ≤ high → ¬ (IsToOf (text_of texts number) text)
-HoldsBetween texts text low high Unknown = ⊤
+-- of the kept messages with numbers from low up to high, those with these numbers have this To, and no others
+abbrev pub HoldBetween : Texts → List ℕ → ℕ → ℕ → List ℕ → Type 0
+HoldBetween texts text low high numbers = (number : ℕ) → Keeps texts number → low ≤ number → number ≤ high → IsToOf (text_of texts number) text ↔ Contains numbers number

@@ -1,18 +1,15 @@
 //! The response to which an ACK belongs: the INVITE and the ACK are read anew, and tell all but the response, which is told by
 //! its To alone.
-ghost use Rattle.std.specs.Prelude.{◌≡◌, ◌≢◌, ◌<◌, [], IfOk, All, length};
+ghost use Rattle.std.specs.Prelude.{◌≡◌, ◌<◌, IfOk, All, length};
 ghost use Rattle.sip_machine.specs.Owes.{owed_in, owes_names};
 ghost use Rattle.sip_machine.specs.Texts.{Keeps, text_of};
 ghost use Rattle.sip_machine.specs.inner.Acks.{HasTo, PaysDebt};
 ghost use Rattle.sip_machine.specs.inner.Paying.{FindsFirst};
-ghost use Rattle.sip_machine.specs.inner.Tos.{HoldsBetween};
 
 use crate::book::Book;
 use crate::dues::Dues;
 use crate::event::Event;
 use crate::hashed::Hashed;
-use crate::paying::payable;
-use crate::tos::Holder::{self, Nobody, One, Unknown};
 use sip_key::{is_ack_for, solid_of};
 use sip_ledger::Debt;
 use std::alloc::{AllocError, Global};
@@ -52,58 +49,9 @@ pub(crate) fn first_acked(
 }
 
 /// The message of the first debt of the row whose message has this To, from which the blanks were taken, and whose deadline has
-/// not passed.
+/// not passed. Few debts are looked at first, the oldest first. Where none of them is it, the messages that have the To are asked for, if
+/// few have it; else eight times as many debts are looked at.
 fn first_with_to(
-    alloc: Global,
-    book: &Book,
-    to: &Hashed,
-    moment: u64,
-    dues: &mut Dues,
-    row: usize,
-) -> Result<Option<u64>, AllocError>
-    requires row { row < length dues.old }
-    requires some { owed_in dues.old row ≢ [] }
-    requires owed { All (Keeps book.now) (owes_names (owed_in dues.old row)) }
-    ensures same { dues.new ≡ dues.old }
-    ensures finds { IfOk result (FindsFirst (HasTo book.now to.now moment) moment (owed_in dues.old row)) }
-{
-    let (low, high) = dues.span();
-    match holder(alloc, book, to, low, high)? {
-        One(number) => Ok(payable(number, moment, dues, row)),
-        Nobody => Ok(None),
-        Unknown => first_by_looks(alloc, book, to, moment, dues, row),
-    }
-}
-
-/// Where fewer messages than this may be owed, they are looked at one by one, which costs less than to find the one with a To.
-const FEW: u64 = 8;
-
-/// Which of the messages with numbers from `low` up to `high` has this To. It is told where there is one message alone, or where
-/// there are many and no two have the To.
-fn holder(
-    alloc: Global,
-    book: &Book,
-    to: &Hashed,
-    low: u64,
-    high: u64,
-) -> Result<Holder, AllocError>
-    requires { low ≡ high → Keeps book.now low }
-    ensures { IfOk result (HoldsBetween book.now to.now low high) }
-{
-    if low == high {
-        let has = book.has_to(alloc, low, to, &mut 0)?;
-        return Ok(if has { One(low) } else { Nobody });
-    }
-    if high.saturating_sub(low) < FEW {
-        return Ok(Unknown);
-    }
-    Ok(book.holder(to, low, high))
-}
-
-/// The message of the first debt of the row whose message has this To and whose deadline has not passed, found by a look at each, the
-/// oldest first. Few debts are looked at first, and then eight times as many: so what is looked at grows with the place of the one that is
-/// found, and not with what is owed.
-fn first_by_looks(
     alloc: Global,
     book: &Book,
     to: &Hashed,
@@ -115,6 +63,7 @@ fn first_by_looks(
     requires owed { All (Keeps book.now) (owes_names (owed_in dues.now row)) }
     ensures { IfOk result (FindsFirst (HasTo book.now to.now moment) moment (owed_in dues.now row)) }
 {
+    let (low, high) = dues.span();
     let mut most = 8;
     loop {
         let debts = dues.first_debts(alloc, row, most)?;
@@ -124,6 +73,9 @@ fn first_by_looks(
         }
         if debts.len() < most {
             return Ok(None);
+        }
+        if let Some(numbers) = book.holders(alloc, to, low, high, most / 2)? {
+            return Ok(dues.first_payable(row, &numbers, moment));
         }
         most = most.saturating_mul(8);
     }

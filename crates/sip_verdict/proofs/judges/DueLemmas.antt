@@ -30,9 +30,11 @@ module _ (texts : Texts) (t : Tabled) (es : List (Observation KeyParts)) (from :
 
   -- What follows is of one key, its set and its last moment on record.
   module _ (n : ℕ) (key : KeyParts) (s : AnySet) (at : slice_get t.keys n ≡ Some key) (here : slice_get t.sets n ≡ Some s) where
+    -- the set of the key leads to the runs over its events
     leads : LeadsOf texts t.times (machine_of_key t.times.rules key) (events_for key es) (newest_moment es) s
     leads = All-place (IsReady (key_keeping texts t.times) es) (transactions_of t) n (key, s) (zip-place t.keys t.sets n key s at here) tracks.ready
 
+    -- the set has waited no longer than until the moment
     low : moment_of s ≤ moment
     low = let h = All-place (λ x. moment_of x ≤ from) t.sets n s here may.order in omega (arith, h, later)
 

@@ -30,9 +30,11 @@ module _ {M X S : Type 0} (names : S → List ℕ) (InRange : S → Type 0) (see
   Stands e = StandFor names InRange seen texts (AfterRun (rules machine) events e) new.states
 
   module _ (e : MachineEvent) (late : from ≤ e.moment) (low : set.moment ≤ e.moment) (gives : StandFor names InRange seen texts (RunGives (rules set.machine) (WaitFrom set.machine e.moment) e) new.states) where
+    -- the new states are just those that the event gives, by the rules of the machine
     given : StandFor names InRange seen texts (RunGives (rules machine) (WaitFrom machine e.moment) e) new.states
     given = subst (λ own. StandFor names InRange seen texts (RunGives (rules own) (WaitFrom own e.moment) e) new.states) leads.machine_is gives
 
+    -- the new states lead to the runs over the events and e
     taken : Leads names seen texts (rules machine) (events ++ e ∷ []) e.moment e.moment new.states
     taken = Leads-take names InRange seen texts (rules machine) events from set.moment set.states leads.leads e late low new.states given
 

@@ -30,9 +30,11 @@ module _ (p : Times) (machine : MachineKind) (events : List MachineEvent) where
 
   -- What follows is of the last states of the runs that end with the event e.
   module _ (e : MachineEvent) where
+    -- a last state by the rules
     abbrev Last : PhaseOf machine → Type 0
     Last y = AfterRun (key_rules p machine) events e y
 
+    -- a last state in the words of the standard
     abbrev After : PhaseOf machine → Type 0
     After y = StandsAfter (transaction_of machine).figure p events e y
 

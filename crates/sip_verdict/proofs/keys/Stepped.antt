@@ -41,6 +41,7 @@ module _ {T : Type 0} (p : Times) (k : Keeping T) (es : List (Observation KeyPar
 
   -- What follows is of an entry e that concerns the key.
   module _ (concerned : concerns (k.key t) e ≡ true) where
+    -- the events of the key are those before and that of e
     own : events_for (k.key t) (es ++ e ∷ []) ≡ events_for (k.key t) es ++ e.event ∷ []
     own = events_for-concerned (k.key t) es e concerned
 
@@ -57,6 +58,7 @@ module _ {T : Type 0} (p : Times) (k : Keeping T) (es : List (Observation KeyPar
 
   -- What follows is of an entry e that does not concern the key: the key goes on if one of its runs can wait until e.
   module _ (unconcerned : concerns (k.key t) e ≡ false) where
+    -- the events of the key are those before
     other : events_for (k.key t) (es ++ e ∷ []) ≡ events_for (k.key t) es
     other = events_for-other (k.key t) es e unconcerned
 

@@ -170,9 +170,11 @@ module _ (way : Aim) (start : Option (List ℕ)) (now : log.ReaderState) (count 
       (ap (λ c. FaultOfLog (c + 1) reason) walks.counts ∙ ap (FaultOfLog (length walks.es + 1)) is) logs)
 
   module _ (e : Entry) (next : e.number ≡ count + 1) (order : now.last ≤ e.moment) (new : log.ReaderState) (read : HasRead start t.times (walks.items ++ item e ∷ []) new) where
+    -- the next entry has the number after those that were walked
     number_is : e.number ≡ length walks.es + 1
     number_is = next ∙ ap (λ n. n + 1) walks.counts
 
+    -- the next entry is not before the newest moment
     in_order : newest_moment walks.es ≤ e.moment
     in_order = (let newest = walks.newest in omega (arith, newest, order))
 

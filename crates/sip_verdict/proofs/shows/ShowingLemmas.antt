@@ -117,6 +117,7 @@ module _ (start : Option (List ℕ)) (now : log.ReaderState) (old w : Option (Li
         (Stands-stops start s.items now new e (inr s.on) s.stands nexts)
 
   module _ (e : Entry) (nexts : Nexts now new (Ok (Some e))) where
+    -- the next entry has the number after those that were shown
     number_is : e.number ≡ length s.items + 1
     number_is = (Nexts-counted start s.items now new e nexts).continues.number_is ∙ ap (λ n. n + 1) count_is
 

@@ -107,9 +107,11 @@ module _ (number : ℕ) (bytes : List ℕ) (new : Texts) where
 
   -- What follows is of sets none of which names the dropped message, each beside its key.
   module _ (p : Times) (es : List (Observation KeyParts)) (t : Tabled) (unnamed : All (λ set. ¬ Contains (numbers_of set) number) t.sets) where
+    -- the set at a place does not name the message
     unnamed_at : (n : ℕ) (x : KeyParts × AnySet) → slice_get (transactions_of t) n ≡ Some x → ¬ Contains (numbers_of x.1) number
     unnamed_at n x at = All-place (λ set. ¬ Contains (numbers_of set) number) t.sets n x.1 (place-zip t.keys t.sets n x at).1 unnamed
 
+    -- each set leads to the same runs beside the book without the message
     unnamed_ready : All (IsReady (key_keeping old p) es) (transactions_of t) → All (IsReady (key_keeping new p) es) (transactions_of t)
     unnamed_ready ready = All-places (IsReady (key_keeping new p) es) (transactions_of t) (λ n x at.
         unnamed_leads p (machine_of_key p.rules x.0) (events_for x.0 es) (newest_moment es) x.1 (unnamed_at n x at) (All-place (IsReady (key_keeping old p) es) (transactions_of t) n x at ready))

@@ -70,6 +70,7 @@ module _ (texts : Texts) (p : Times) (es : List (Observation KeyParts)) (e : Obs
 
   -- What follows is of tables in which no set is still to hear the event.
   module _ (t : Tabled) (long : length t.sets ≡ length t.keys) where
+    -- the keys of the transactions are the keys
     names : (h : t.keys ≡ keys) → map (λ x. x.0) (transactions_of t) ≡ keys
     names h = keys_are t long ∙ h
 
@@ -99,15 +100,19 @@ module _ (texts : Texts) (p : Times) (es : List (Observation KeyParts)) (e : Obs
   -- What follows is of one set more that hears the event.
   module _ (event : NumberedEvent) (is_event : (n : ℕ) (key : KeyParts) → slice_get keys n ≡ Some key → e.event ≡ event_in texts event) (number : ℕ) (ns : List ℕ) (once : is_among ns number ≡ false) (late : newest_moment es ≤ event.moment) (t u : Tabled) (outcome : Outcome)
       (h : IsHalfway (number ∷ ns) t outcome) (given : IsGiven t number) (one : Outcome) (own : Hears texts event number t u one) where
+    -- the place of the set
     abbrev place : ℕ
     place = number - 1
 
+    -- the number of the set is its place and one
     next : number - 1 + 1 ≡ number
     next = (let low = given.low in omega arith)
 
+    -- the key at the place
     mine : (key : KeyParts) × (slice_get keys place ≡ Some key)
     mine = at_place keys (number - 1) (omega (arith, next, given.high, ap length h.same))
 
+    -- the event concerns the key, whose set was ready for it
     before : (concerns mine.0 e ≡ true) × IsReady k es (mine.0, own.before)
     before = h.waiting place mine.0 own.before mine.1 own.was (among_first (place + 1) number ns next)
 
@@ -119,6 +124,7 @@ module _ (texts : Texts) (p : Times) (es : List (Observation KeyParts)) (e : Obs
         (λ f. StandsOf texts p (machine_of_key p.rules mine.0) (events_for mine.0 es) f own.after) one) (sym (is_event place mine.0 mine.1))
         (own.stepped p (machine_of_key p.rules mine.0) (events_for mine.0 es) (newest_moment es) late before.1))
 
+    -- the key at the place is this one
     mine_is : (n : ℕ) (key : KeyParts) → slice_get keys n ≡ Some key → n ≡ place → mine.0 ≡ key
     mine_is n key at same = let both : Some mine.0 ≡ Some key = sym mine.1 ∙ ap (slice_get keys) (sym same) ∙ at in cc
 
@@ -135,6 +141,7 @@ module _ (texts : Texts) (p : Times) (es : List (Observation KeyParts)) (e : Obs
     other : (n : ℕ) (s : AnySet) → slice_get u.sets n ≡ Some s → ((n ≡ place) × (own.after ≡ s)) ⊎ ((n ≢ place) × (slice_get t.sets n ≡ Some s))
     other n s at = set_place t.sets place n own.after s (ap (λ xs. slice_get xs n) (sym (leaves_sets number own.after one t u own.leaves)) ∙ at)
 
+    -- a set that is not to hear the event any more was not to hear it, or has just heard it
     no_more : (n : ℕ) → is_among ns (n + 1) ≡ false → (is_among (number ∷ ns) (n + 1) ≡ false) ⊎ (n ≡ place)
     no_more n none = elim (among_not (n + 1) number ns none) [ inl old ↦ inl old | inr same ↦ inr (omega (arith, next, same)) ]
 
@@ -185,9 +192,11 @@ module _ (texts : Texts) (p : Times) (es : List (Observation KeyParts)) (e : Obs
     → (concerns_number hearing (n + 1) ≡ false) ⊎ GoesOn p (key_keeping texts p) es e (key, s)) where
   -- What follows is of one key, its set and its last moment on record.
   module _ (n : ℕ) (key : KeyParts) (s : AnySet) (at : slice_get t.keys n ≡ Some key) (here : slice_get t.sets n ≡ Some s) where
+    -- the set of the key leads to the runs over its events
     leads : LeadsOf texts p (machine_of_key p.rules key) (events_for key es) (newest_moment es) s
     leads = All-place (IsReady (key_keeping texts p) es) (transactions_of t) n (key, s) (zip-place t.keys t.sets n key s at here) ready
 
+    -- the set has waited no longer than until the moment
     low : moment_of s ≤ moment
     low = All-place (λ x. moment_of x ≤ moment) t.sets n s here may.order
 

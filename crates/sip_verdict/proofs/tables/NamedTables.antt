@@ -88,12 +88,15 @@ many_texts texts book P all named numbers up same kept = record {
 module _ (texts : Texts) (book : IsBook texts) (p : Times) (moment : ℕ) where
   -- What follows is of one key: its runs name just what its set names.
   module _ (machine : MachineKind) (events : List MachineEvent) (from : ℕ) (old new : AnySet) (leads : LeadsOf texts p machine events from old) (late : from ≤ moment) (low : moment_of old ≤ moment) (text : List ℕ) where
+    -- what the code holds for the set
     abbrev held : Held Times (StateOf machine)
     held = leads.0
 
+    -- the rules of the machine
     abbrev r : MachineRules (PhaseOf machine)
     r = (meaning_of machine).rules p
 
+    -- the set has waited no longer than until the moment
     not_later : held.moment ≤ moment
     not_later = subst (λ n. n ≤ moment) (ap moment_of leads.1 ∙ moment_is machine held) low
 

@@ -65,6 +65,7 @@ module _ (Runs Wide : KeyParts → Type 0) (keys : List KeyParts) where
     abbrev Either : ℕ → Type 0
     Either n = A n ⊎ B n
 
+    -- what holds of the keys at the places of each holds at those of both
     of_both : (P : KeyParts → Type 0) → OfSome P A → OfSome P B → OfSome P Either
     of_both P a b n k at (inl among) = a n k at among
     of_both P a b n k at (inr among) = b n k at among

@@ -72,6 +72,7 @@ module _ (R : Receiving) (is : IsReceiving R) (p : Times) (invite : MachineEvent
   Awaits es m y = (invite.moment ≤ m) × (Waits es y.phase ⊎ Over es m)
 
   module _ (es : List MachineEvent) (e : MachineEvent) where
+    -- the events with the event that comes
     abbrev Now : List MachineEvent
     Now = es ++ e ∷ []
 
@@ -106,6 +107,7 @@ module _ (R : Receiving) (is : IsReceiving R) (p : Times) (invite : MachineEvent
     waits-sent (Completed reliable request set) row low waits h = rw (sends-completed p reliable request set e.kind e row h).1 (waits-later es (e ∷ []) (Completed reliable request set) waits)
     waits-sent x row low waits h = absurd waits
 
+    -- a send leaves a client that waits waiting
     waits-emits : (x : InviteClientPhase) (owes : List Owed) (y : Owing InviteClientPhase) → invite.moment ≤ e.moment → Waits es x → Emits f p e (record { phase = x; owes = owes }) y → Waits Now y.phase
     waits-emits x owes y low waits (inl (row, is_row, to)) = rw to (waits-sent x row low waits is_row)
     waits-emits x owes y low waits (inr (inl (left, pays, to))) = rw to (waits-later es (e ∷ []) x waits)
@@ -149,6 +151,7 @@ module _ (R : Receiving) (is : IsReceiving R) (p : Times) (invite : MachineEvent
   -- What follows leads from the response to its ACK.
 
   module _ (response : MachineEvent) where
+    -- the ACK of the response, which must be sent as late as an element may be
     abbrev debt : Owed
     debt = record { message = response.text; deadline = close_at p response.moment 0; must = true }
 
@@ -157,6 +160,7 @@ module _ (R : Receiving) (is : IsReceiving R) (p : Times) (invite : MachineEvent
     IsCompleted (Completed reliable request set) = request ≡ invite.text
     IsCompleted x = ⊥
 
+    -- the client is completed and owes the ACK of the response
     abbrev Owes : Owing InviteClientPhase → Type 0
     Owes y = IsCompleted y.phase × Contains y.owes debt
 
@@ -177,6 +181,7 @@ module _ (R : Receiving) (is : IsReceiving R) (p : Times) (invite : MachineEvent
     taken es (Completed reliable request set) row owes code kind bad waits h = rw (is.completed p reliable request set response.kind response row h).3 (waits.0, Contains-push owes debt)
     taken es x row owes code kind bad waits h = absurd waits
 
+    -- a row for a response is a row for a message of that kind
     has : (x : InviteClientPhase) (k : Kind) (code : ℕ) (row : Row) → k ≡ Response code → R p x (Response code) response row → (next : Row) × R p x k response next
     has x k code row kind is_row = (row, subst (λ j. R p x j response row) (sym kind) is_row)
 
@@ -204,11 +209,13 @@ module _ (R : Receiving) (is : IsReceiving R) (p : Times) (invite : MachineEvent
     abbrev Owing-on : List MachineEvent → ℕ → Owing InviteClientPhase → Type 0
     Owing-on es m y = Owes y ⊎ Any (Acknowledges p invite response) es ⊎ Any (λ g. IsRefused g ⊎ IsRestart g) es
 
+    -- the row of a received message leaves the client completed, and the ACK owed
     owes-received : (x : InviteClientPhase) (owes : List Owed) (e : MachineEvent) (row : Row) → IsCompleted x → Contains owes debt → R p x e.kind e row → IsCompleted row.0 × Contains (changed p e.moment row.1 owes) debt
     owes-received (Completed reliable request set) owes e row done owed h =
         rw (is.completed p reliable request set e.kind e row h).3 (done, more-owed debt refl owes (record { message = e.text; deadline = close_at p e.moment 0; must = true } ∷ []) owed)
     owes-received x owes e row done owed h = absurd done
 
+    -- the row of a sent message leaves the client completed, and the ACK owed
     owes-sent : (x : InviteClientPhase) (owes : List Owed) (e : MachineEvent) (row : Row) → IsCompleted x → Contains owes debt → Sends p x e.kind e row → IsCompleted row.0 × Contains (changed p e.moment row.1 owes) debt
     owes-sent (Completed reliable request set) owes e row done owed h = rw (sends-completed p reliable request set e.kind e row h).1 (done, owed)
     owes-sent x owes e row done owed h = absurd done

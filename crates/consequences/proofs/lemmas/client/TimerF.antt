@@ -90,9 +90,11 @@ module _ (p : Times) where
     IsSilent Ended = Unit {0}
     IsSilent x = ⊥
 
+    -- the client sends nothing any more: it has ended, or a final response came
     abbrev IsOver : List MachineEvent → Owing PlainClientPhase → Type 0
     IsOver es y = IsSilent y.phase × ((y ≡ quiet Ended) ⊎ Any (GetsResponse IsFinal) es)
 
+    -- the client still waits for a final response, or it is over
     abbrev Asks : List MachineEvent → ℕ → Owing PlainClientPhase → Type 0
     Asks es m y = WaitsBy moment y.phase ⊎ IsOver es y
 
@@ -112,6 +114,7 @@ module _ (p : Times) where
     sent-still (Proceeding w) (Response code) e row waits h = absurd h
     sent-still x k e row waits h = absurd waits
 
+    -- a client that waits is not idle
     not-idle : (x : PlainClientPhase) → WaitsBy moment x → ¬ (x ≡ Idle)
     not-idle x waits idle = absurd (subst (WaitsBy moment) idle waits)
 
@@ -131,21 +134,25 @@ module _ (p : Times) where
     waits-steps Restart es e x y was waits (inl (idle, to)) = absurd (not-idle x.phase waits idle)
     waits-steps Restart es e x y was waits (inr (other, to)) = inr (rw to tt, inl to)
 
+    -- a completed or ended client has no row for a sent message
     silent-sends : (x : PlainClientPhase) (k : Kind) (e : MachineEvent) (row : PlainClientPhase × Change) → IsSilent x → ¬ (Sends p x k e row)
     silent-sends (Completed reliable set) k e row silent h = absurd h
     silent-sends Ended k e row silent h = absurd h
     silent-sends x k e row silent h = absurd silent
 
+    -- a completed or ended client sends nothing
     silent-emits : (e : MachineEvent) (x y : Owing PlainClientPhase) → IsSilent x.phase → ¬ (Emits plain_client p e x y)
     silent-emits e x y silent (inl (row, is_row, to)) = silent-sends x.phase e.kind e row silent is_row
     silent-emits e x y silent (inr (inl (left, pays, to))) = pays.holds.0
     silent-emits e x y silent (inr (inr (stays, same))) = stays
 
+    -- a completed or ended client has no row for a received message
     silent-receives : (x : PlainClientPhase) (k : Kind) (e : MachineEvent) (row : PlainClientPhase × Change) → IsSilent x → ¬ (Receives p x k e row)
     silent-receives (Completed reliable set) k e row silent h = absurd h
     silent-receives Ended k e row silent h = absurd h
     silent-receives x k e row silent h = absurd silent
 
+    -- a completed or ended client is not idle
     silent-is-not-idle : (x : PlainClientPhase) → IsSilent x → ¬ (x ≡ Idle)
     silent-is-not-idle x silent idle = absurd (subst IsSilent idle silent)
 

@@ -136,6 +136,7 @@ module _ (R : Receiving) (is : IsReceiving R) (p : Times) where
     abbrev Over : List MachineEvent → ℕ → Type 0
     Over es m = Any (GetsResponse IsAnyCode) es ⊎ Any (λ g. IsRefused g ⊎ IsRestart g) es ⊎ (open_at p invite.moment (64 * p.t1) ≤ m)
 
+    -- Over stays true after more events, and later
     over-later : (es more : List MachineEvent) (h m : ℕ) → h ≤ m → Over es h → Over (es ++ more) m
     over-later es more h m low (inl came) = inl (any-earlier (GetsResponse IsAnyCode) es more came)
     over-later es more h m low (inr (inl broke)) = inr (inl (any-earlier (λ g. IsRefused g ⊎ IsRestart g) es more broke))
@@ -145,6 +146,7 @@ module _ (R : Receiving) (is : IsReceiving R) (p : Times) where
     abbrev Calls : List MachineEvent → ℕ → Owing InviteClientPhase → Type 0
     Calls es m y = CallsFrom invite y.phase ⊎ Over es m
 
+    -- a calling client may end only when timer B may have fired
     calls-ends : (es : List MachineEvent) (h : ℕ) (x : InviteClientPhase) (owes : List Owed) → CallsFrom invite x → MayEnd f p (record { phase = x; owes = owes }) h → Over es h
     calls-ends es h (Calling w) owes calls may = inr (inr (subst (λ m. open_at p m (64 * p.t1) ≤ h) calls.0 may.0))
     calls-ends es h x owes calls may = absurd calls
@@ -321,6 +323,7 @@ module _ (R : Receiving) (is : IsReceiving R) (p : Times) where
     waits-emits e x owes y calls (inr (inl (left, pays, to))) = rw to calls
     waits-emits e x owes y calls (inr (inr (stays, same))) = absurd stays
 
+    -- a refused message ends the client, or leaves it calling
     waits-fails : (ends : Bool) (es : List MachineEvent) (e : MachineEvent) (x : InviteClientPhase) (owes : List Owed) (y : Owing InviteClientPhase) → CallsBy moment x
         → Fails ends f p e (record { phase = x; owes = owes }) y → Waits es e.moment y
     waits-fails true es e x owes y calls fails = inr (inl fails.1)

@@ -75,6 +75,7 @@ module _ {X : Type 0} (f : Figure X) (p : Times) where
 
   -- What follows is of a fact that a run keeps.
   module _ (P : List MachineEvent → ℕ → Owing X → Type 0) (kept : IsKept f p P) where
+    -- a run keeps the fact while it waits and ends
     rest-keeps : (es : List MachineEvent) (x : Owing X) (h m : ℕ) (y : Owing X) → P es h x → Rests f p x h m y → P es m y
     rest-keeps es x h _ _ holds rests = holds
     rest-keeps es x h _ _ holds (rest_waits k m y rest low lasts) = kept.as_it_waits es k m y (rest-keeps es x h k y holds rest) low lasts

@@ -71,6 +71,7 @@ module _ {X : Type 0} (f : Figure X) (p : Times) (held : InviteServerPhase → X
   opens-left es e m x y opens = absurd opens
 
   module _ (es : List MachineEvent) (e : MachineEvent) where
+    -- the events with the event that comes
     abbrev Now : List MachineEvent
     Now = es ++ e ∷ []
 
@@ -164,6 +165,7 @@ module _ {X : Type 0} (f : Figure X) (p : Times) (held : InviteServerPhase → X
     abbrev IsGood : Type 0
     IsGood = IsResponse IsSuccess final
 
+    -- the final response is a 300 to 699
     abbrev IsBad : Type 0
     IsBad = IsResponse IsUnsuccessful final
 
@@ -175,6 +177,7 @@ module _ {X : Type 0} (f : Figure X) (p : Times) (held : InviteServerPhase → X
     abbrev Past : List MachineEvent → ℕ → Type 0
     Past es m = (open_at p final.moment (64 * p.t1) ≤ m) ⊎ Any (GetsRequest Ack) es ⊎ Any IsRestart es
 
+    -- Past stays true after more events, and later
     past-later : (es more : List MachineEvent) (h m : ℕ) → h ≤ m → Past es h → Past (es ++ more) m
     past-later es more h m low (inl late) = inl (omega (arith, low, late))
     past-later es more h m low (inr (inl came)) = inr (inl (any-earlier (GetsRequest Ack) es more came))
@@ -325,6 +328,7 @@ module _ {X : Type 0} (f : Figure X) (p : Times) (held : InviteServerPhase → X
             any-none IsRestart es (All-weaker (λ g. ¬ (GetsRequest Ack g) × ¬ (IsRestart g) × (g.moment < open_at p final.moment (64 * p.t1))) (λ g. ¬ (IsRestart g)) (λ g all. all.1) es
             (All-front (λ g. ¬ (GetsRequest Ack g) × ¬ (IsRestart g) × (g.moment < open_at p final.moment (64 * p.t1))) es (e ∷ []) lasting)) restarted
 
+    -- where no event begins the transaction anew, none of the first ones does
     anew-front : (es more : List MachineEvent) → BeginNoneAnew p final (es ++ more) → BeginNoneAnew p final es
     anew-front es more (inl none) = inl (All-front (λ g. ¬ (GetsRequest Invite g)) es more none)
     anew-front es more (inr lasting) = inr (All-front (λ g. ¬ (GetsRequest Ack g) × ¬ (IsRestart g) × (g.moment < open_at p final.moment (64 * p.t1))) es more lasting)

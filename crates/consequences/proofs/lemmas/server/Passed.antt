@@ -86,6 +86,7 @@ module _ (p : Times) where
 
   -- What follows is of the first final response of the server, which is a 2xx.
   module _ (before : List MachineEvent) (final : MachineEvent) (sends : SendsResponse IsSuccess final) (one_kind : All (λ g. g.text ≡ final.text → g.kind ≡ final.kind) before) where
+    -- a 2xx is a final response
     is_final : SendsResponse IsFinal final
     is_final = (sends.0, (sends.1.0, sends.1.1, (sends.1.2.0, omega (arith, sends.1.2.1))))
 

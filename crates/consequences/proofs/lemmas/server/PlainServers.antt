@@ -79,6 +79,7 @@ module _ (p : Times) where
   Is K y = K y.phase y.owes
 
   module _ (es : List MachineEvent) (e : MachineEvent) where
+    -- the events with the event that comes
     abbrev Now : List MachineEvent
     Now = es ++ e ∷ []
 
@@ -109,6 +110,7 @@ module _ (p : Times) where
     opens-sent (Proceeding reliable last) (Response code) row owes out kind never opens (inr h) = absurd (never (out, (code, kind, h.0)))
     opens-sent x k row owes out kind never opens h = absurd h
 
+    -- Opens stays true when a debt is paid
     opens-without : (P : Owed → Type 0) (x : PlainServerPhase) (owes left : List Owed) → IsWithoutFirst P owes left → Opens es x owes → Opens Now x left
     opens-without P x owes left pays opens =
         opens-later es (e ∷ []) x left
@@ -158,6 +160,7 @@ module _ (p : Times) where
     IsCompleted (Completed reliable message set) = (reliable ≡ false) × (message ≡ final.text) × (set ≡ final.moment)
     IsCompleted x = ⊥
 
+    -- the transaction may be over: timer J may have fired, or the element started again
     abbrev Past : List MachineEvent → ℕ → Type 0
     Past es m = (open_at p final.moment (64 * p.t1) ≤ m) ⊎ Any IsRestart es
 
@@ -176,6 +179,7 @@ module _ (p : Times) where
     final-paid P (Proceeding reliable last) owes left opens pays same = not-said before final is_final one_kind (subst (IsSaid before) same (all-first P (λ o. IsSaid before o.message) owes left pays opens.2))
     final-paid P x owes left opens pays same = absurd opens
 
+    -- where the final response is sent, it leads to completed, by that response
     final-emits : (x : PlainServerPhase) (owes : List Owed) (y : Owing PlainServerPhase) → Opens before x owes → Emits f p final (record { phase = x; owes = owes }) y → IsCompleted y.phase
     final-emits x owes y opens (inl (row, is_row, to)) = rw to (final-sent x final.kind row owes refl opens is_row)
     final-emits x owes y opens (inr (inl (left, pays, to))) = absurd (final-paid _ x owes left opens pays pays.holds.0)
@@ -212,10 +216,12 @@ module _ (p : Times) where
     completed-steps Mark es x owes e y was done h = absurd h
     completed-steps Restart es x owes e y was done h = inr (inr (any-last IsRestart es e was))
 
+    -- Past stays true after more events, and later
     past-later : (es more : List MachineEvent) (h m : ℕ) → h ≤ m → Past es h → Past (es ++ more) m
     past-later es more h m low (inl late) = inl (omega (arith, low, late))
     past-later es more h m low (inr restarted) = inr (any-earlier IsRestart es more restarted)
 
+    -- the server may end only when timer J may have fired
     completed-ends : (x : PlainServerPhase) (owes : List Owed) (h : ℕ) → IsCompleted x → MayEnd f p (record { phase = x; owes = owes }) h → open_at p final.moment (64 * p.t1) ≤ h
     completed-ends (Completed true message set) owes h done may = absurd (true-false done.0)
     completed-ends (Completed false message set) owes h done may = subst (λ m. open_at p m (64 * p.t1) ≤ h) done.2 may.0
@@ -240,9 +246,11 @@ module _ (p : Times) where
     -- What follows is of a request that comes again: the final response is owed to it.
 
     module _ (again : MachineEvent) where
+      -- the final response, which must be sent again as late as an element may be
       abbrev debt : Owed
       debt = record { message = final.text; deadline = close_at p again.moment 0; must = true }
 
+      -- the final response was sent again in time
       abbrev IsPaid : MachineEvent → Type 0
       IsPaid g = SendsBytes final.text g × (g.moment ≤ close_at p again.moment 0)
 
@@ -278,6 +286,7 @@ module _ (p : Times) where
       abbrev Owes : List MachineEvent → ℕ → Owing PlainServerPhase → Type 0
       Owes es m y = (IsCompleted y.phase × Contains y.owes debt) ⊎ Any IsPaid es ⊎ Any IsRestart es
 
+      -- the row of a received message leaves the final response owed
       owes-received : (x : PlainServerPhase) (owes : List Owed) (k : Kind) (e : MachineEvent) (row : Row) → IsCompleted x → Contains owes debt → Receives p x k e row → Contains (changed p e.moment row.1 owes) debt
       owes-received (Completed reliable message set) owes (Request method) e row done owed h = rw h (more-owed debt refl owes (record { message = message; deadline = close_at p e.moment 0; must = true } ∷ []) owed)
       owes-received (Completed reliable message set) owes (Response code) e row done owed h = absurd h

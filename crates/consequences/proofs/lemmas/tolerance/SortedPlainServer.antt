@@ -91,6 +91,7 @@ soft es final (o ∷ os) all =
 -- What follows is of the non-INVITE server.
 module _ (p : Times) where
   module _ (es : List MachineEvent) (e : MachineEvent) where
+    -- the events with the event that comes
     abbrev Now : List MachineEvent
     Now = es ++ e ∷ []
 
@@ -108,9 +109,11 @@ module _ (p : Times) where
         rw h (later.0, All-push (IsFinalOr Now final) owes _ later.1 (λ must. refl, λ may. absurd (yes-must may)))
     received x k row owes sorted h = absurd h
 
+    -- a provisional response that goes out now is one that was sent
     said-now : (code : ℕ) → IsOut e → e.kind ≡ Response code → IsProvisional code → IsSaid Now e.text
     said-now code out kind is_provisional = any-last (λ g. SendsResponse IsProvisional g × (g.text ≡ e.text)) es e ((out, (code, kind, is_provisional)), refl)
 
+    -- a final response that comes now is one of the events
     final-now : (code : ℕ) → e.kind ≡ Response code → IsFinal code → IsFinalSaid Now e.text
     final-now code kind is_final = any-last (λ g. IsResponse IsFinal g × (g.text ≡ e.text)) es e ((code, kind, is_final), refl)
 
@@ -124,6 +127,7 @@ module _ (p : Times) where
         rw h.1 (final-now code kind h.0, soft Now e.text owes (All-weaker (IsTold es) (λ o. IsSaid Now o.message) (λ o told. said-later es (e ∷ []) o.message told.2) owes sorted.1))
     sent x k row owes out kind sorted h = absurd h
 
+    -- a send keeps the debts sorted
     emits : (x y : Owing PlainServerPhase) → IsOut e → AreSorted es x.phase x.owes → Emits plain_server p e x y → AreSorted Now y.phase y.owes
     emits x y out sorted (inl (row, is_row, to)) = rw to (sent x.phase e.kind row x.owes out refl sorted is_row)
     emits x y out sorted (inr (inl (left, pays, to))) = rw to (sorted-without _ Now x.phase x.owes left pays (sorted-later es (e ∷ []) x.phase x.owes sorted))

@@ -234,15 +234,19 @@ module _ {X : Type 0} (f : Figure X) (p : Times) (early late : ℕ) (wider : p.l
   module _ (e : MachineEvent) (phase : X) (os ns : List Owed) (later : Later os ns)
       (pays : (left : List Owed) → IsWithoutFirst (λ o. f.Satisfies phase e.kind e o.message × (e.moment ≤ o.deadline)) os left →
       (others : List Owed) × IsWithoutFirst (λ o. f.Satisfies phase e.kind e o.message × (e.moment ≤ o.deadline)) ns others × Later left others) where
+    -- the first state, by the narrower tolerance
     abbrev before_it : Owing X
     before_it = record { phase = phase; owes = os }
 
+    -- the second state, by the wider tolerance
     abbrev beside_it : Owing X
     beside_it = record { phase = phase; owes = ns }
 
+    -- the second state has such a step, to a state near z
     abbrev Follow-near : Owing X → (Owing X → Type 0) → Type 0
     Follow-near z Step = (w : Owing X) × Step w × IsNear z w
 
+    -- one row leads from both states to states that are near
     row-near : (z : Owing X) (row : X × Change) → z ≡ record { phase = row.0; owes = changed p e.moment row.1 os } → IsNear z (record { phase = row.0; owes = changed q e.moment row.1 ns })
     row-near z row to = near (record { phase = row.0; owes = changed p e.moment row.1 os }) (record { phase = row.0; owes = changed q e.moment row.1 ns }) z to (refl, later-changed e.moment row.1 os ns later)
 
@@ -254,6 +258,7 @@ module _ {X : Type 0} (f : Figure X) (p : Times) (early late : ℕ) (wider : p.l
         (record { phase = phase; owes = others }, inr (inl (others, also, refl)), near (record { phase = phase; owes = left }) (record { phase = phase; owes = others }) z to (refl, less))
     emits-near z (inr (inr (stays, same))) = (record { phase = phase; owes = ns }, inr (inr (stays, refl)), near (record { phase = phase; owes = os }) (record { phase = phase; owes = ns }) z same (refl, later))
 
+    -- where a refused message leads from the first state to z, it leads from the second to a state near z
     fails-near : (ends : Bool) (z : Owing X) → Fails ends f p e before_it z → Follow-near z (Fails ends f q e beside_it)
     fails-near true z ((w, emits), to) = let (v, also, is_near) = emits-near w emits in (quiet f.ended, ((v, also), refl), near (quiet f.ended) (quiet f.ended) z to (refl, nothing))
     fails-near false z emits = emits-near z emits
@@ -284,15 +289,18 @@ module _ {X : Type 0} (f : Figure X) (p : Times) (early late : ℕ) (wider : p.l
     abbrev HasNear : List MachineEvent → ℕ → Owing X → Type 0
     HasNear es m x = (phase : X) × (ns : List Owed) × (x.phase ≡ phase) × Stands f q es m (record { phase = phase; owes = ns }) × Later x.owes ns
 
+    -- the debts that are left when an event comes are sorted still
     sorted-left : (es : List MachineEvent) (e : MachineEvent) (y : Owing X) → AreOneKind es → Stands f q es e.moment y →
         All (λ o. (o.must ≡ true → ¬ (May es y.phase o.message)) × (o.must ≡ false → May es y.phase o.message)) (left_at e y)
     sorted-left es e y one beside =
         All-filter (keep_at e.moment) (λ o. (o.must ≡ true → ¬ (May es y.phase o.message)) × (o.must ≡ false → May es y.phase o.message)) y.owes (is_sorted.sorted es e.moment y one beside)
 
     module _ (es : List MachineEvent) (e : MachineEvent) (x y : Owing X) where
+      -- the event satisfies a debt of this message
       abbrev S : List ℕ → Type 0
       S message = f.Satisfies y.phase e.kind e message
 
+      -- the debt is sorted: it must be sent where May does not hold of its message, and need not where it does
       abbrev Sorts : Owed → Type 0
       Sorts o = (o.must ≡ true → ¬ (May es y.phase o.message)) × (o.must ≡ false → May es y.phase o.message)
 

@@ -1,10 +1,15 @@
-use Rattle.std.proofs.Common.{◌<◌, ◌==◌, ℕ, get_or, sym, ap, ◌∙◌, arith, zero-add}
+use Rattle.std.proofs.Common.{◌≡◌, ◌<◌, ◌≤◌, ◌==◌, ℕ, get_or, length, take, sym, ap, ◌∙◌, subst, arith, zero-add}
+use Rattle.std.proofs.lemmas.Bool.{and_parts, eqb-true, eq-eqb, false≢true}
+use Rattle.std.proofs.lemmas.List.{length-take-le}
 use Rattle.std.proofs.lemmas.Simd.{get_or-chunk}
-use Rattle.std.proofs.lemmas.List.Sums.{prefix_len_passes}
+use Rattle.std.proofs.lemmas.List.Sums.{prefix_len_passes, prefix_len-le-length}
 use Rattle.sip_text.specs.Bytes.{dot, hyphen}
 use Rattle.sip_masks.specs.Marks.{is_plain}
+use Rattle.sip_masks.specs.Names.{OrdinaryName}
 use Rattle.sip_masks.specs.inner.Strange.{is_beyond}
-use Rattle.sip_masks.proofs.HostWordLemmas.{begins-some, top-within, host-from}
+use Rattle.sip_masks.proofs.HostLemmas.{name-is, not-empty}
+use Rattle.sip_masks.proofs.HostWordLemmas.{begins-some, top-within, none-bad, name-from}
+use Rattle.sip_masks.proofs.host.is_ordinary_name.Goals.{then-len-eq0-via-then-len-eq0, then-len-eq0-via-else-len-eq0+then-len-gt-LONGEST, then-len-eq0-via-else-len-eq0+else-len-gt-LONGEST+then-window-lt-LONGEST}
 use Rattle.sip_masks.proofs.host.is_ordinary_name.Goals as goal
 
 pub highest-requires : goal.highest-requires
@@ -26,10 +31,47 @@ bounds-window-highest c =
     omega (arith, within, c.if-len-gt-LONGEST.false, c.if-window-lt-LONGEST.false)
 
 pub returns-then-bad-eq0 : goal.returns-then-bad-eq0
-returns-then-bad-eq0 c letter =
+returns-then-bad-eq0 c =
     let w = c.args.window.now in
+    let len = c.args.len in
+    let room : 32 ≤ length w = omega (arith, c.if-window-lt-LONGEST.false) in
+    let small : len ≤ 32 = omega (arith, c.if-len-gt-LONGEST.false) in
     let same = λ (i : ℕ) (h : i < 32). get_or-chunk 0 32 w i 0 h ∙ ap (λ n. get_or w n 0) (zero-add i) in
-    host-from w c.args.len c.beyond.result c.equal_to.result c.equal_to-2.result (omega (arith, c.if-window-lt-LONGEST.false)) (omega (arith, c.if-len-eq0.false)) (omega (arith, c.if-len-gt-LONGEST.false))
+    let letter =
+    name-from w len c.beyond.result c.equal_to.result c.equal_to-2.result room (omega (arith, c.if-len-eq0.false)) small
     (λ i. (c.type_inv.window i).fits) (λ i h. prefix_len_passes is_plain w i 0 (omega (arith, h, c.requires)))
     (λ i h. c.beyond.ensures i h ∙ ap is_beyond (same i h)) (λ i h. c.equal_to.ensures i h ∙ ap (λ x. x == dot) (same i h)) (λ i h. c.equal_to-2.ensures i h ∙ ap (λ x. x == hyphen) (same i h))
-    c.highest.result (omega (arith, c.if-bad-eq0.true)) c.highest.ensures.set c.highest.ensures.above (sym c.is_ascii_alphabetic.ensures.value ∙ letter)
+    c.highest.result (omega (arith, c.if-bad-eq0.true)) c.highest.ensures.set c.highest.ensures.above ∙ sym c.is_ascii_alphabetic.ensures.value in
+    let name = name-is (take len w) (omega (arith, length-take-le len w (omega (arith, room, small)), small)) in
+    ((λ yes. (name.1 (letter ∙ yes), room)), λ is. sym letter ∙ name.0 is.0)
+
+pub returns-else-bad-eq0 : goal.returns-else-bad-eq0
+returns-else-bad-eq0 c =
+    let w = c.args.window.now in
+    let len = c.args.len in
+    let room : 32 ≤ length w = omega (arith, c.if-window-lt-LONGEST.false) in
+    let small : len ≤ 32 = omega (arith, c.if-len-gt-LONGEST.false) in
+    let same = λ (i : ℕ) (h : i < 32). get_or-chunk 0 32 w i 0 h ∙ ap (λ n. get_or w n 0) (zero-add i) in
+    let none =
+    none-bad w len c.beyond.result c.equal_to.result c.equal_to-2.result room (omega (arith, c.if-len-eq0.false)) small
+    (λ i. (c.type_inv.window i).fits) (λ i h. prefix_len_passes is_plain w i 0 (omega (arith, h, c.requires)))
+    (λ i h. c.beyond.ensures i h ∙ ap is_beyond (same i h)) (λ i h. c.equal_to.ensures i h ∙ ap (λ x. x == dot) (same i h)) (λ i h. c.equal_to-2.ensures i h ∙ ap (λ x. x == hyphen) (same i h))
+    c.beyond.type_inv in
+    let name = name-is (take len w) (omega (arith, length-take-le len w (omega (arith, room, small)), small)) in
+    ((λ yes. absurd (omega (arith, c.if-bad-eq0.false, eqb-true _ 0 yes))), λ is. eq-eqb _ 0 (none (and_parts _ _ (name.0 is.0)).0))
+
+pub returns-then-len-eq0 : goal.returns-then-len-eq0
+returns-then-len-eq0 c = (
+  (λ yes. absurd (false≢true yes)),
+  λ is.
+      let w = c.args.window.now in
+      let len = c.args.len in
+      elim c.then-len-eq0.branch [
+        | then-len-eq0-via-then-len-eq0 e ↦
+            let none : len ≡ 0 = omega (arith, e.if-len-eq0.true) in
+            absurd (not-empty (subst (λ n. OrdinaryName (take n w)) none is.0))
+        | then-len-eq0-via-else-len-eq0+then-len-gt-LONGEST e ↦
+            absurd (omega (arith, e.if-len-gt-LONGEST.true, is.0.1, length-take-le len w (omega (arith, c.requires, prefix_len-le-length is_plain w))))
+        | then-len-eq0-via-else-len-eq0+else-len-gt-LONGEST+then-window-lt-LONGEST e ↦ absurd (omega (arith, e.if-window-lt-LONGEST.true, is.1))
+      ],
+)

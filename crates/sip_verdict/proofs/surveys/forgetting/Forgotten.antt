@@ -40,7 +40,6 @@ use Rattle.sip_verdict.proofs.tables.TablesPassing.{at_place, All-place, All-pla
 use Rattle.sip_verdict.proofs.verdicts.Unique.{All-middle}
 
 -- whether a key is kept: as its flag says where it is among the keys, and kept where it is not or has no flag
-
 abbrev pub kept_by : List Bool → List KeyParts → KeyParts → Bool
 kept_by [] keys key = true
 kept_by (b ∷ flags) [] key = true
@@ -289,6 +288,7 @@ module _ (flags : List Bool) (t : Tabled) (long : length flags ≡ length t.keys
         let (h, of) = at_place b.each.items n (let l = told.long in let k = ap length tracks.keys in omega (arith, inside, l, k)) in
         (set, d, h, here, is, of)
 
+    -- a key whose set is quiet, or which is in trouble, is over
     over_by : (key : KeyParts) (set : AnySet) (d : Bool) → IsFollowed texts t.times es key set d → moment_of set ≤ newest_moment es → IsQuietSet set → IsOver t.times es key
     over_by key set true (leads, unsound) low quiet = inl unsound
     over_by key set false (leads, sound) low quiet = inr (quiet_over texts t.times (machine_of_key t.times.rules key) (events_for key es) (newest_moment es) set leads low quiet)
@@ -316,5 +316,6 @@ module _ (flags : List Bool) (t : Tabled) (long : length flags ≡ length t.keys
           let not_later = last_not_after es key last (max h.last b.restart) is_last (told.each n key h there of).last in
           kept_by_at flags t.keys apart n key flag at flagged ∙ (says.each n flag set h flagged here of).1 (over_quiet n key set at here over, omega (arith, not_later, low))
 
+      -- what is not kept is just what is over and has its last entry up to `until`
       pub forgets_kept : ForgetsUpTo until t.times es kept
       forgets_kept key = (forgotten key, λ both. remembers key both.0 both.1.0 both.1.1 both.1.2)

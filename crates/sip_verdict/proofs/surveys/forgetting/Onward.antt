@@ -191,6 +191,7 @@ module _ (key : KeyParts) where
     zip_join (x ∷ xs) [] us vs zip more = absurd zip
     zip_join (x ∷ xs) (y ∷ ys) us vs zip more = (zip.0, zip_join xs ys us vs zip.1 more)
 
+    -- the test finds the key equal to itself
     here_same : same_key key key ≡ true
     here_same = (same_key-decides key key).1 refl
 
@@ -198,6 +199,7 @@ module _ (key : KeyParts) where
     abbrev Alike : Entries → Observation KeyParts → Entries → Observation KeyParts → Type 0
     Alike front e back f = (Breaks p front e key ↔ Breaks p back f key) × (Widens p front e key ↔ Widens p back f key)
 
+    -- two logs in which the key fares as in a third one are alike
     through : (front mid back : Entries) (e c f : Observation KeyParts) → Alike front e mid c → Alike back f mid c → Alike front e back f
     through front mid back e c f a b = ((λ h. b.0.1 (a.0.0 h), λ h. a.0.1 (b.0.0 h)), (λ h. b.1.1 (a.1.0 h), λ h. a.1.1 (b.1.0 h)))
 
@@ -223,6 +225,7 @@ module _ (key : KeyParts) where
 
     -- What follows is of a transaction that is idle again.
 
+    -- the machine of the key
     abbrev kind : MachineKind
     kind = machine_of_key p.rules key
 
@@ -295,6 +298,7 @@ module _ (key : KeyParts) where
     abbrev Comes : Observation KeyParts → Observation KeyParts → Type 0
     Comes e f = ((e ≡ f) × (list_any (same_key key) e.keys ≡ true)) ⊎ (Passes e × Passes f)
 
+    -- an observation that both logs have concerns the key in both, or in none
     message : (e f : Observation KeyParts) → e ≡ f → (b : Bool) → list_any (same_key key) e.keys ≡ b → Comes e f
     message e f same true some = inl (same, some)
     message e f same false none = inr (inl none, inl (ap (λ g. list_any (same_key key) g.keys) (sym same) ∙ none))

@@ -139,6 +139,7 @@ module _ (kept : KeyParts → Bool) where
         go true e false same rest =
             ap (λ b. list_any (same_key key) (cond b (k ∷ filter kept keys) (filter kept keys))) e ∙ ap (λ b. b || list_any (same_key key) (filter kept keys)) same ∙ rest
 
+    -- no entry that is left concerns a key that is not kept
     none_concerns : (es : List (Observation KeyParts)) → All (λ e. list_any (same_key key) e.keys ≡ false) (remembered kept es)
     none_concerns [] = All-nil (λ e. list_any (same_key key) e.keys ≡ false)
     none_concerns (e ∷ es) = All-cons (λ f. list_any (same_key key) f.keys ≡ false) (one_of e) (remembered kept es) (none_left e.keys) (none_concerns es)

@@ -85,6 +85,7 @@ module _ (texts : Texts) (p : Times) (es : List (Observation KeyParts)) (e : Obs
         let now : newest_moment es ≤ e.event.moment = subst (λ f. newest_moment es ≤ f.moment) (sym told.0) late in
         (own.0, heard_left texts p es e key before ready now event told.0 told.1 after outcome stepped)
 
+    -- another transaction waits for the event as before
     apart : (n : ℕ) → n ≢ number - 1 → is_among (number ∷ waits) (n + 1) ≡ is_among waits (n + 1)
     apart n other = among_cons (n + 1) number waits (λ same. other (omega (arith, same)))
 
@@ -111,9 +112,11 @@ module _ (texts : Texts) (p : Times) (es : List (Observation KeyParts)) (e : Obs
   -- What follows is of a transaction that has waited longer than it can.
   module _ (moment : ℕ) (waits : List ℕ) (late : newest_moment es ≤ moment) (now : e.event.moment ≡ moment) (may : MayPass texts t moment) (watched : AreWatched waits t b)
       (past : is_overdue moment (slice_index_or t.records (number - 1) None) ≡ true) (h : ArePassing texts p es e any t b) where
+    -- the transaction has a last moment on record
     in_records : number - 1 < length t.records
     in_records = (let high = given.high in let low = given.low in let long = watched.recorded.long in omega arith)
 
+    -- what the record has at its place
     there : slice_get t.records (number - 1) ≡ Some (slice_index_or t.records (number - 1) None)
     there = slice_get-get_or t.records (number - 1) None in_records
 

@@ -55,9 +55,11 @@ module _ (texts : Texts) (p : Times) (es : List (Observation KeyParts)) (e : Obs
   -- What follows is of one transaction that passes the entry, while the others stay as they are.
   module _ (t u : Tabled) (b : Troubled) (v w : ℕ → Bool) (number : ℕ) (given : IsGiven t number) (keys : u.keys ≡ t.keys)
       (others : (n : ℕ) → n ≢ number - 1 → v (n + 1) ≡ w (n + 1)) (h : ArePassing texts p es e v t b) where
+    -- the place of the transaction with this number
     abbrev place : ℕ
     place = number - 1
 
+    -- the number is the place and one
     next : number - 1 + 1 ≡ number
     next = (let low = given.low in omega arith)
 

@@ -197,6 +197,7 @@ module _ (part : Option PartOf) (start : Option (List ℕ)) (now : log.ReaderSta
           written = Appends-trans before mid after lines (end_text end (length found)) told.written (subst (λ n. Appends mid after (end_text end n)) told.findings last);
         }) logs
 
+    -- where the log ends, the survey is written and summed up
     pub surveys_end : summary.end ≡ ended.Clean (length read.es) (length (keys_in read.es)) → Appends mid after (end_text (ended.Clean (length read.es) (length (keys_in read.es))) counts.findings)
         → IfSome start (λ input. LogSays input s.tables.times read.items Clean) → IfSome start (λ input. IsWritten part input summary before after)
     surveys_end is last logs = ends Clean (ended.Clean (length read.es) (length (keys_in read.es))) is last (refl, refl) logs

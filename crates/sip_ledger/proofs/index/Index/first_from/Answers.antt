@@ -1,7 +1,7 @@
 use Rattle.std.proofs.Common.{ℕ, List, subst}
 use Rattle.std.specs.BTreeSet.{IsKeyRangeOf}
 use Rattle.std.specs.declared.ops.Bound.TheVariants.{Included, Unbounded}
-use Rattle.sip_ledger.specs.inner.Indexes.{pair_cmp, IsFirstFrom, NoneFrom}
+use Rattle.sip_ledger.specs.Indexes.{pair_cmp, IsFirstFrom, NoneFrom}
 use Rattle.sip_ledger.proofs.lists.IndexLemmas.{range-first, range-none}
 use Rattle.sip_ledger.proofs.index.Index.first_from.Goals as goal
 

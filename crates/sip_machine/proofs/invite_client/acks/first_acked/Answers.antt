@@ -37,4 +37,4 @@ returns-clause-finds c =
     let by_to = AckOf-by_to ack invite response c.in-Some.ack c.in-Some-2.invite c.is_ack_for.result
     (rw (c.in-Some.is, c.number.ensures) at c.in_ok-ack.ensures) (rw c.in-Some-2.is at c.in_ok-invite.ensures) c.is_ack_for.ensures c.if-not-is_ack_for.false c.of-to.result to in
     (λ has. (by_to.0 has.0, has.1), λ pays. (by_to.1 pays.0, pays.1))) finds)
-    (rw c.moment.ensures at c.first_with_to.ensures.finds)
+    (rw c.moment.ensures at c.first_with_to.ensures)

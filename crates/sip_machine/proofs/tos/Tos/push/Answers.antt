@@ -1,28 +1,34 @@
-use Rattle.std.proofs.Common.{◌<◌, All, AllPairs, subst, sym}
+use Rattle.std.proofs.Common.{◌<◌, All, AllPairs, get_or, subst, sym}
 use Rattle.std.proofs.lemmas.List.Elements.{All-push}
 use Rattle.std.proofs.lemmas.List.Quantifiers.{all_pairs_push}
 use Rattle.sip_machine.specs.declared.tos.To.{To}
 use Rattle.sip_machine.specs.inner.Order.{hash_of}
-use Rattle.sip_machine.specs.inner.Tos.{AreOwned, MayOwn}
+use Rattle.sip_machine.specs.inner.Tos.{AreUnder, IsUnder}
+use Rattle.sip_machine.proofs.acks.ToLemmas.{put-here, put-keeps}
 use Rattle.sip_machine.proofs.tos.Tos.push.Goals as goal
 
 abbrev below : To → To → Type 0
 below a b = a.number < b.number
 
 pub invariant_of-self : goal.invariant_of-self
-invariant_of-self c = (c.self.invariant.0, λ k d low. c.note.ensures.others _ _ (c.self.invariant.1 k d low))
+invariant_of-self c = (c.self.invariant.0, subst (λ hashes. AreUnder hashes c.self.inside.list.items) (sym c.in_err-note.ensures.err) c.self.invariant.1)
 
 pub invariant_of-self-in_err-push : goal.invariant_of-self-in_err-push
 invariant_of-self-in_err-push c =
-    let owned : AreOwned c.note.new.owners c.self.inside.list.items = λ k d low. c.note.ensures.others _ _ (c.self.invariant.1 k d low) in
-    (subst (AllPairs below) (sym c.in_err-push.ensures.items) c.self.invariant.0, subst (AreOwned c.note.new.owners) (sym c.in_err-push.ensures.items) owned)
+    let tos = c.self.inside.list.items in
+    let noted = rw c.hash.ensures at c.in_ok-note.ensures.ok in
+    let under : AreUnder c.note.new.hashes tos = λ k d low.
+    put-keeps (hash_of c.args.text) c.args.number c.self.inside.hashes c.note.new.hashes noted (hash_of (get_or tos k d).text) (get_or tos k d).number (c.self.invariant.1 k d low) in
+    (subst (AllPairs below) (sym c.in_err-push.ensures.items) c.self.invariant.0, subst (AreUnder c.note.new.hashes) (sym c.in_err-push.ensures.items) under)
 
 pub invariant_of-self-2 : goal.invariant_of-self-2
 invariant_of-self-2 c =
     let tos = c.self.inside.list.items in
     let to : To = record { number = c.args.number; text = c.args.text } in
-    let P = λ (t : To). MayOwn c.note.new.owners (hash_of t.text) t.number in
-    let owned : All P tos = λ k d low. c.note.ensures.others _ _ (c.self.invariant.1 k d low) in
+    let P = λ (t : To). IsUnder c.note.new.hashes (hash_of t.text) t.number in
+    let noted = rw c.hash.ensures at c.in_ok-note.ensures.ok in
+    let under : All P tos = λ k d low.
+    put-keeps (hash_of c.args.text) c.args.number c.self.inside.hashes c.note.new.hashes noted (hash_of (get_or tos k d).text) (get_or tos k d).number (c.self.invariant.1 k d low) in
     let lower : All (λ t. t.number < c.args.number) tos = rw c.self.view_is c.requires in
-    let here : P to = rw c.hash.ensures at c.in_ok-note.ensures.ok in
-    (subst (AllPairs below) (sym c.in_ok-push.ensures.items) (all_pairs_push below tos to c.self.invariant.0 lower), subst (All P) (sym c.in_ok-push.ensures.items) (All-push P tos to owned here))
+    let here : P to = put-here (hash_of c.args.text) c.args.number c.self.inside.hashes c.note.new.hashes noted in
+    (subst (AllPairs below) (sym c.in_ok-push.ensures.items) (all_pairs_push below tos to c.self.invariant.0 lower), subst (All P) (sym c.in_ok-push.ensures.items) (All-push P tos to under here))

@@ -1,9 +1,10 @@
-use Rattle.std.proofs.Common.{◌≤◌, length, take, drop, ap, ◌∙◌, subst, arith}
+use Rattle.std.proofs.Common.{◌≤◌, length, take, drop, sym, ap, ◌∙◌, subst, arith}
 use Rattle.std.specs.List.{prefix_len}
-use Rattle.std.proofs.lemmas.List.{length-drop, take_rest}
+use Rattle.std.proofs.lemmas.Bool.{both_ways}
+use Rattle.std.proofs.lemmas.List.{length-take-le, take_rest}
 use Rattle.std.proofs.lemmas.List.Sums.{prefix_len-le-length}
-use Rattle.sip_standard.specs.Profile.{Hostname}
 use Rattle.sip_masks.specs.Marks.{is_plain}
+use Rattle.sip_masks.specs.Names.{OrdinaryName}
 use Rattle.sip_masks.proofs.masks.Masks.name_at.Goals as goal
 
 pub is_ordinary_name-requires : goal.is_ordinary_name-requires
@@ -11,14 +12,29 @@ is_ordinary_name-requires c =
     let p = c.args.p in
     let text = c.text.result.now in
     let all = ap (prefix_len is_plain) (take_rest text p) ∙ ap (λ t. prefix_len is_plain (drop p t)) c.text.ensures in
-    omega (arith, all, c.in_ok-len.ensures)
+    omega (arith, all, c.in_ok-len.ensures.0)
 
 pub returns-then-is_ordinary_name : goal.returns-then-is_ordinary_name
 returns-then-is_ordinary_name c =
-    let p = c.args.p in
     let len = c.in_ok-len.len in
-    let text = c.args.self.now in
-    let within : len ≤ length (drop p text) = omega (arith, c.in_ok-len.ensures, prefix_len-le-length is_plain (drop p text)) in (
-      omega (arith, within, length-drop p text, c.requires),
-      subst (λ t. Hostname (take len (drop p t))) c.text.ensures (subst (λ w. Hostname (take len w)) (take_rest c.text.result.now p) (c.is_ordinary_name.ensures c.if-is_ordinary_name.true)),
-    )
+    let p = c.args.p in
+    let name =
+    subst (λ t. OrdinaryName (take len (drop p t)) × (32 ≤ length (drop p t))) c.text.ensures
+    (subst (λ w. OrdinaryName (take len w) × (32 ≤ length w)) (take_rest c.text.result.now p) (c.is_ordinary_name.ensures.0 c.if-is_ordinary_name.true)) in
+    (c.in_ok-len.ensures.0, name.0, name.1)
+
+pub returns-else-is_ordinary_name : goal.returns-else-is_ordinary_name
+returns-else-is_ordinary_name c len begins =
+    let p = c.args.p in
+    let n = c.in_ok-len.len in
+    let name : OrdinaryName (take n (drop p c.args.self.now)) = subst (λ k. OrdinaryName (take k (drop p c.args.self.now))) (begins.0 ∙ sym c.in_ok-len.ensures.0) begins.1 in
+    both_ways c.is_ordinary_name.result c.if-is_ordinary_name.false
+    (c.is_ordinary_name.ensures.1 (subst (λ w. OrdinaryName (take n w) × (32 ≤ length w)) (sym (take_rest c.text.result.now p))
+    (subst (λ t. OrdinaryName (take n (drop p t)) × (32 ≤ length (drop p t))) (sym c.text.ensures) (name, begins.2))))
+
+pub returns-in_err-len : goal.returns-in_err-len
+returns-in_err-len c =
+    rw c.from_residual.ensures
+    (λ len begins.
+    let rest = drop c.args.p c.args.self.now in
+    omega (arith, begins.0, begins.1.1, c.in_err-len.ensures, length-take-le len rest (omega (arith, begins.0, prefix_len-le-length is_plain rest))))

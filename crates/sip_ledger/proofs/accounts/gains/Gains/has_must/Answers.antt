@@ -1,7 +1,7 @@
 use Rattle.std.proofs.Common.{◌≡◌, ◌<◌, ◌≤◌, ◌+◌, true, length, ap, sym, ◌∙◌, arith}
 use Rattle.sip_ledger.specs.declared.accounts.gains.Flags.{Flags}
 use Rattle.sip_ledger.specs.inner.Accounts.{IsKept}
-use Rattle.sip_ledger.specs.inner.Indexes.{holds}
+use Rattle.sip_ledger.specs.Indexes.{holds}
 use Rattle.sip_ledger.proofs.gains.SeekLemmas.{on-is}
 use Rattle.sip_ledger.proofs.accounts.gains.Gains.has_must.Goals as goal
 

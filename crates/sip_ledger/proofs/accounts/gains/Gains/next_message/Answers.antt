@@ -1,7 +1,7 @@
 use Rattle.std.proofs.Common.{◌≤◌, ◌<◌, ◌≡◌, ◌+◌, ◌-◌, ◌^◌, ℕ, Option, false, sym, subst}
 use Rattle.std.specs.Prelude.{IfNone, IfSome}
 use Rattle.sip_ledger.specs.inner.Accounts.{first_after}
-use Rattle.sip_ledger.specs.inner.Indexes.{holds}
+use Rattle.sip_ledger.specs.Indexes.{holds}
 use Rattle.sip_ledger.proofs.rows.NamedLemmas.{from-first, from-later, next-before, next-low, next-none}
 use Rattle.sip_ledger.proofs.accounts.gains.Gains.next_message.Goals as goal
 

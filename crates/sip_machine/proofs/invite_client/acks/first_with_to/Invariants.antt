@@ -1,5 +1,5 @@
 use Rattle.std.proofs.Common.{◌<◌, ◌-◌, ◌^◌}
-use Rattle.sip_machine.proofs.invite_client.acks.first_by_looks.Given as goal
+use Rattle.sip_machine.proofs.invite_client.acks.first_with_to.Given as goal
 
 -- some debts are looked at
 abbrev pub invariant-loop-debts : goal.invariant-loop-debts

@@ -199,9 +199,11 @@ class Fragments:
         return packet if len(packet.source) == 4 else behind_extensions(packet)
 
     def forget(self, key):
+        """Gives up a datagram that is not whole. It is told as missing where its first fragment came."""
         self.notes.missing[LACKS_FRAGMENTS] += self.waiting.pop(key).is_begun
 
     def end(self):
+        """Gives up all datagrams that are not whole."""
         for key in list(self.waiting):
             self.forget(key)
 

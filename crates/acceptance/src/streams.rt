@@ -156,7 +156,7 @@ fn keeps_few(
 }
 
 /// A judge needs a request until its response has come, and keeps no response. The first sweep comes after the 65th request, which is entry
-/// 129. Each sweep leaves the newest request alone.
+/// 129. Each sweep drops all but the newest request.
 #[test]
 fn keeps_few_messages_of_many(rt: HostRuntime) -> Result<(), Fail> {
     let log = answered(rt.alloc(), 1_000)?;
@@ -178,8 +178,8 @@ fn restarted(alloc: Global, count: u64) -> Result<String, Fail>
     Ok(log)
 }
 
-/// A judge needs no request after a restart. The first sweep comes after the 65th request, which is entry 129. Each sweep leaves the newest
-/// request alone.
+/// A judge needs no request after a restart. The first sweep comes after the 65th request, which is entry 129. Each sweep drops all but the
+/// newest request.
 #[test]
 fn forgets_after_restarts(rt: HostRuntime) -> Result<(), Fail> {
     let log = restarted(rt.alloc(), 1_000)?;
@@ -199,7 +199,7 @@ fn ended(alloc: Global) -> Result<String, Fail> {
 }
 
 /// A server needs its response, and not the request, until it ends 32 seconds after the response. The last request is the 65th message that
-/// is kept, so that a sweep comes after it, and leaves that request alone.
+/// is kept, so a sweep comes after it, and drops all but that request.
 #[test]
 fn forgets_what_ended_servers_sent(rt: HostRuntime) -> Result<(), Fail> {
     let log = ended(rt.alloc())?;
@@ -360,7 +360,7 @@ fn names_transactions_by_their_keys(rt: HostRuntime) -> Result<(), Fail> {
     said
 }
 
-/// Checks that the second entry of another log, at moment 4, may not come after an entry at 5, and that the second entry of the same log may.
+/// The stream's first entry is at moment 5. Checks that its own second one may come next, and that of another log, at 4, may not.
 fn takes_none_from_before(
     rt: &impl Abort,
     stream: &mut Stream<'_>,

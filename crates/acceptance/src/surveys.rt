@@ -222,7 +222,7 @@ fn takes_all(
 }
 
 /// A survey needs a request until its response has come, and keeps no response. The first sweep comes after the 65th request, which is entry
-/// 129, and leaves that request alone. Three requests come after it.
+/// 129, and drops all but that request. Three requests come after it, and are kept.
 #[test]
 fn a_survey_keeps_few_messages_of_many(rt: HostRuntime) -> Result<(), Fail> {
     let log = answered(rt.alloc(), 68)?;

@@ -119,7 +119,7 @@ fn an_ack_finds_the_ninth_debt(rt: HostRuntime) -> Result<(), Fail> {
     all_lead(&rt, &client, &book, &NINE_ROWS)
 }
 
-/// How many 486s there are in the next test: with so many of one call, the book puts the To of each message beside it.
+/// How many refusals there are in the next tests: with so many of one call, the book puts the To of each message beside it.
 const MANY: u64 = 256;
 
 /// The number of the 486 with this tag.

@@ -183,7 +183,8 @@ impl Book {
     }
 
     /// The numbers of the messages from `low` up to `high` that have this To, from which the blanks were taken. They are told without a
-    /// look at each of these messages, where each has its To beside it and fewer than `most` have a To of this hash.
+    /// look at each of these messages, where each has its To beside it and fewer than `most` have a To of this hash; else the answer is
+    /// None. An error comes where there is no memory for the numbers.
     pub(crate) fn holders(
         &self,
         alloc: Global,
@@ -275,7 +276,8 @@ impl Book {
         self.kept.len()
     }
 
-    /// Keeps the messages with these numbers alone, which rise. Their numbers and bytes stay. It takes no memory.
+    /// Keeps the messages with these numbers alone, which rise. Their numbers and bytes stay. It takes memory only for the hashes of Tos that
+    /// stand beside many messages. Where there is none, ACKs are found more slowly.
     pub fn retain_only(&mut self, numbers: &[u64])
         requires rising { AllPairs (λ a b. a < b) numbers.now }
         requires kept { All (Keeps self.old) numbers.now }
@@ -317,8 +319,8 @@ fn put_to(
     tos.push(number, Hashed::of(text))
 }
 
-/// Reads a message anew and puts its To after the others, where each message has its To beside it. It puts none of an ACK, nor of bytes that
-/// are no message.
+/// Reads a message anew and puts its To after the others, where the Tos of all messages are to stand there. It puts none of an ACK, nor of
+/// bytes that are no message.
 fn put_read_to(alloc: Global, tos: &mut Tos, number: u64, bytes: &[u8]) -> Result<(), AllocError>
     ensures { (texts : Texts) → Keeps texts number → text_of texts number ≡ bytes.now → AreTos texts tos.old → AreTos texts tos.new }
 {

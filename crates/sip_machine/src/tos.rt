@@ -23,15 +23,15 @@ pub(crate) struct Tos {
     list: Vec<To>,
     /// Where the Tos of all messages are to stand here: the numbers of the messages, under the hashes of their Tos.
     hashes: Option<Index>,
-    /// How many Tos of each call came since the last time that some went. Calls of one hash are counted together.
+    /// How many Tos of each call came since some went, counted anew after each `MANY`. Calls of one slot are counted together.
     calls: [u8; SLOTS],
 }
 
 /// How many calls are told apart where Tos are counted.
 const SLOTS: usize = 1024;
 
-/// Where as many Tos of one call come, those of all messages are to stand here: then messages without one do not lie between these, and an
-/// ACK of the call is found without a look at its debts.
+/// Where so many Tos of one call come, those of all messages are to stand here: then no message without one lies between these, and the
+/// response of an ACK is found without a look at each debt. Where fewer are left, no hashes are kept.
 const MANY: u8 = u8::MAX;
 
 impl Model for Tos {
@@ -62,7 +62,7 @@ impl Tos {
         self.hashes.is_some()
     }
 
-    /// Counts a To of the call. It tells whether the Tos of all messages are to stand here from now on, and were not before.
+    /// Counts a To of the call. It tells whether the Tos of all messages are to be put here now.
     pub(crate) fn begins_with_all(&mut self, call: &[u8]) -> bool
         ensures { self.new ≡ self.old }
     {
@@ -140,7 +140,8 @@ impl Tos {
         self.hashes = hashes_of(*self.list.allocator(), &self.list);
     }
 
-    /// The numbers of the messages of the list that have this To, where fewer than `most` have one of its hash.
+    /// The numbers of the messages of the list that have this To, where fewer than `most` have one of its hash; else None, as where no hashes
+    /// are kept. An error comes where there is no memory for the numbers.
     pub(crate) fn holders(
         &self,
         alloc: Global,

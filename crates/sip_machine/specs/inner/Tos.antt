@@ -40,7 +40,7 @@ IsUnder (Some pairs) hash number = holds pairs hash number ≡ true
 abbrev pub AreUnder : Option (List (ℕ × ℕ)) → List To → Type 0
 AreUnder hashes tos = All (λ to. IsUnder hashes (hash_of to.text) to.number) tos
 
--- whether the number stands under the hash is `stands` now, where hashes are kept; of other numbers it is as it was
+-- hashes are kept before and after, or neither; the number stands under the hash now just if `stands`, and other pairs are as they were
 abbrev pub IsChanged : ℕ → ℕ → Bool → Option (List (ℕ × ℕ)) → Option (List (ℕ × ℕ)) → Type 0
 IsChanged hash number stands None None = ⊤
 IsChanged hash number stands (Some old) (Some new) = (h n : ℕ) → holds new h n ≡ cond (h == hash && n == number) stands (holds old h n)

@@ -49,8 +49,9 @@ pub(crate) fn first_acked(
 }
 
 /// The message of the first debt of the row whose message has this To, from which the blanks were taken, and whose deadline has
-/// not passed. Few debts are looked at first, the oldest first. Where none of them is it, the messages that have the To are asked for, if
-/// few have it; else eight times as many debts are looked at.
+/// not passed. First the 8 oldest debts are looked at. Where none of their messages has the To, the book tells those that have it, if they are
+/// fewer than half as many; else eight times as many debts are looked at. So what is looked at grows with the place of the debt, or with how
+/// many messages have the To, whichever is less.
 fn first_with_to(
     alloc: Global,
     book: &Book,

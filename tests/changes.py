@@ -53,7 +53,7 @@ class Source:
         self.functions = {}
         for it in found:
             head = head_of(plain, it)
-            self.functions[it.named] = code(path, text[head : it.end])
+            self.functions[it.named] = self.functions.get(it.named, "") + code(path, text[head : it.end])
             block = next((word for start, end, word in blocks if start <= it.start < end), None)
             if not it.is_const and block != "trait":
                 is_public = block or re.search(r"\bpub\b(?!\s*\()", plain[head : it.start])
@@ -91,8 +91,9 @@ class State:
         found = found_in(sources)
         sources = {path: Source(path, text, [it for it in found if it.path == path]) for path, text in sources.items()}
         self.name, self.texts, self.functions = name, texts, {}
-        for it in sources.values():
-            self.functions.update(it.functions)
+        for source in sources.values():
+            for named, it in source.functions.items():
+                self.functions[named] = self.functions.get(named, "") + it
         self.outside = {path: sources[path].outside if path in sources else code(path, text) for path, text in texts.items()}
         for path in sorted(texts):
             own = path.removeprefix("proofs/").rpartition("/")[0].replace("/", "::")

@@ -298,7 +298,13 @@ impl Accounts {
         requires { row < length self.now }
         ensures { IfOk result (λ debts. debts.items ≡ owed_in self.now row) }
     {
-        first_debts(alloc, &self.gains, &self.strikes, self.rows[row], usize::MAX)
+        first_debts(
+            alloc,
+            &self.gains,
+            &self.strikes,
+            self.rows[row],
+            usize::MAX,
+        )
     }
 
     /// What the row owes first: so many debts, or all where it owes fewer.

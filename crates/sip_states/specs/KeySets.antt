@@ -81,9 +81,4 @@ held_at_start p machine = record { machine = p; moment = 0; states = idle_state 
 
 -- the set that a machine starts with, as one of the sets of all machines
 abbrev pub start_of_machine : Times → MachineKind → AnySet
-start_of_machine p OfInviteClient = InviteClient (held_at_start p OfInviteClient)
-start_of_machine p OfPlainClient = PlainClient (held_at_start p OfPlainClient)
-start_of_machine p OfInviteServer = InviteServer (held_at_start p OfInviteServer)
-start_of_machine p OfPlainServer = PlainServer (held_at_start p OfPlainServer)
-start_of_machine p OfInviteClient3261 = InviteClient3261 (held_at_start p OfInviteClient3261)
-start_of_machine p OfInviteServer3261 = InviteServer3261 (held_at_start p OfInviteServer3261)
+start_of_machine p machine = set_of machine (held_at_start p machine)

@@ -6,7 +6,7 @@ use Rattle.sip_standard.specs.KeyMachine.{MachineKind, OfInviteClient, OfPlainCl
 use Rattle.sip_standard.specs.PhaseWords.{words_of}
 use Rattle.sip_machine.specs.inner.Coded.{IsCoded}
 use Rattle.sip_states.specs.Held.{Held}
-use Rattle.sip_states.specs.KeySets.{code_of, coded_of, StateOf, set_of, by_machine, held_at_start, start_of_machine}
+use Rattle.sip_states.specs.KeySets.{code_of, coded_of, StateOf, set_of, by_machine}
 
 -- the code has the figure of each machine
 pub coded_holds : (machine : MachineKind) → IsCoded (transaction_of machine).figure (words_of machine) (coded_of machine)
@@ -20,15 +20,6 @@ by_machine_is of OfInviteServer s = refl
 by_machine_is of OfPlainServer s = refl
 by_machine_is of OfInviteClient3261 s = refl
 by_machine_is of OfInviteServer3261 s = refl
-
--- the set that a machine starts with is of that machine
-pub start_is : (p : Times) (machine : MachineKind) → start_of_machine p machine ≡ set_of machine (held_at_start p machine)
-start_is p OfInviteClient = refl
-start_is p OfPlainClient = refl
-start_is p OfInviteServer = refl
-start_is p OfPlainServer = refl
-start_is p OfInviteClient3261 = refl
-start_is p OfInviteServer3261 = refl
 
 -- a fact of the set of a machine, told by cases of the set, is the fact of that machine
 module _ (P : (machine : MachineKind) → Held Times (StateOf machine) → Type 0) where

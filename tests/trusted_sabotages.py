@@ -236,6 +236,9 @@ TABLES = {
     "a clause for all that stands before others": definition(
         "InviteClient", "ends_refused x (Request Invite) = true\n", "ends_refused x k = false\nends_refused x (Request Invite) = true\n",
         says("InviteClient", "no words for ends_refused x k = false")),
+    "what a clause calls the parts of a phase": definition(
+        "InviteServer", "Sends p (Completed reliable final set repeat interval)", "Sends p (Completed reliable final repeat set interval)",
+        says("InviteServer", "| no words for in Completed reliable final repeat set interval |")),
     "a word of the tables": words("IsSuccess code ⇒ a 2xx is received", "IsSuccess code ⇒ a 3xx is received", says("InviteClient", "| calling | a 3xx is received | accepted |")),
     "words that nothing has": words("drops ⇒", "hardens ⇒ what was owed is due\ndrops ⇒", "no definition of all has hardens"),
 }

@@ -60,10 +60,9 @@ def text_of_turn(told, clause, turn):
     leads = LEADS.fullmatch(last)
     if not leads:
         return told(f"{head} = {turn}")
-    here = phase.split()[0].lower() if re.fullmatch(r"\w+( [a-z]\w*)*", phase) else told(phase)
     happens = told(" × ".join([f"{name} {kind}", *conditions]))
     to = ["the same phase" if leads[1] == phase else told(leads[1]), told(leads[2])]
-    return f"| {here} | {happens} | {'; '.join(it for it in to if it != NOTHING)} |"
+    return f"| {told(f'in {phase}')} | {happens} | {'; '.join(it for it in to if it != NOTHING)} |"
 
 
 def differences(section, file, words):

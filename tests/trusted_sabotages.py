@@ -235,7 +235,10 @@ TABLES = {
         "InviteServer3261", "λ x k. false", "λ x k. true", says("InviteServer3261", "no words for ends_refused = λ x k. true")),
     "a clause for all that stands before others": definition(
         "InviteClient", "ends_refused x (Request Invite) = true\n", "ends_refused x k = false\nends_refused x (Request Invite) = true\n",
-        says("InviteClient", "no words for ends_refused x k = false")),
+        says("InviteClient", "no words for never: ends_refused x (Request Invite) = true")),
+    "a clause for all messages that stands before others": definition(
+        "InviteServer3261", "Receives p Passed (Request Invite) e y =", "Receives p Passed k e y = ⊥\nReceives p Passed (Request Invite) e y =",
+        says("InviteServer3261", "no words for never: Receives p Passed (Request Invite)")),
     "what a clause calls the parts of a phase": definition(
         "InviteServer", "Sends p (Completed reliable final set repeat interval)", "Sends p (Completed reliable final repeat set interval)",
         says("InviteServer", "| no words for in Completed reliable final repeat set interval |")),

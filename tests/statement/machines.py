@@ -9,7 +9,7 @@ from statement.files import STANDARD, flat, text_of
 
 ARGUMENT = r"(\((?:[^()]|\([^()]*\))*\)|\S+)"
 CLAUSE = re.compile(rf"((Receives|Sends) p {ARGUMENT} {ARGUMENT} e y) = (.*)")
-LEADS = re.compile(r"\(?y ≡ \((.+), (\w+(?: [\w.]+)*)\)\)?")
+LEADS = re.compile(r"\(y ≡ \((.+), (\w+(?: [\w.]+)*)\)\)")
 HEAD = re.compile(r"\| No\. \| In \| What happens \| Leads to \||\| In \| It \| When \(`timer_window`, `sends_by`\) \||\|(---\|)+")
 NOTHING = "(nothing)"
 
@@ -32,16 +32,18 @@ class Words:
 
 
 def pieces_of(item):
-    """The parts of a definition: its clauses, the fields of a figure, or a type as a whole. The last clause is marked where it is for all others."""
+    """The parts of a definition: its clauses, the fields of a figure, or a type as a whole. A clause after one that takes all of it is marked."""
     text = flat(item.text)
-    *clauses, last = [text] if text.startswith("pub data") else re.split(rf" (?={item.name} )", text)[2:]
-    if figure := re.fullmatch(r"\w+ = record { (.*) }", last):
+    clauses = [text] if text.startswith("pub data") else re.split(rf" (?={item.name} )", text)[2:]
+    if figure := re.fullmatch(r"\w+ = record { (.*) }", clauses[0]):
         return figure[1].split("; ")
-    return [*clauses, f"else {last}" if re.match(r"\w+ (p )?x (k )?[^(]*=", last) else last]
+    heads = [it.partition(" = ")[0] for it in clauses]
+    taken = [re.sub(r"\b[a-z]\w*", ".+", re.escape(it)) for it in heads]
+    return [f"never: {it}" if any(re.fullmatch(some, heads[at]) for some in taken[:at]) else it for at, it in enumerate(clauses)]
 
 
 def inside(text):
-    return text[1:-1] if text.startswith("(") else text
+    return text[1:-1] if text.startswith("(") and text.endswith(")") else text
 
 
 def texts_of(told, piece):
@@ -57,7 +59,7 @@ def text_of_turn(told, clause, turn):
     """What the words tell of one way in which a row leads on: where it stands, what happens, and where it leads."""
     head, name, phase, kind = clause[1], clause[2], inside(clause[3]), inside(clause[4])
     *conditions, last = turn.split(" × ")
-    leads = LEADS.fullmatch(last)
+    leads = LEADS.fullmatch(last if conditions else f"({last})")
     if not leads:
         return told(f"{head} = {turn}")
     happens = told(" × ".join([f"{name} {kind}", *conditions]))

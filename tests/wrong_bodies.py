@@ -116,6 +116,15 @@ def functions(path, text, types):
     return found
 
 
+def found_in(texts):
+    """Lists the functions of these sources, which are all of a crate by their paths."""
+    types = {}
+    for path, text in texts.items():
+        for it in re.finditer(r"(?m)^(?:pub(?:\([a-z]+\))? )?(?:struct|enum|trait) (\w+)", text):
+            types[it[1]] = module_of(path)
+    return [it for path, text in texts.items() for it in functions(path, text, types)]
+
+
 class Edit:
     """An edit: what it changes, and for each change the function whose body holds it, if one does. Its function is the one whose body holds all of it; or
     the one whose contract does, where nothing cites that contract, as that of a law."""
@@ -237,15 +246,8 @@ class Crate:
         return "src/main.rt" if os.path.isfile(f"{self.folder}/src/main.rt") else "src/lib.rt"
 
     def edits(self, folders=(*FOLDERS, HARMLESS)):
-        texts, types = {}, {}
-        for at, _, files in os.walk(f"{self.folder}/src"):
-            for name in sorted(files):
-                if name.endswith(".rt"):
-                    path = os.path.relpath(f"{at}/{name}", self.folder)
-                    texts[path] = read(f"{self.folder}/{path}")
-                    for it in re.finditer(r"(?m)^(?:pub(?:\([a-z]+\))? )?(?:struct|enum|trait) (\w+)", texts[path]):
-                        types[it[1]] = module_of(path)
-        found = [it for path, text in texts.items() for it in functions(path, text, types)]
+        paths = [os.path.relpath(f"{at}/{it}", self.folder) for at, _, names in os.walk(f"{self.folder}/src") for it in sorted(names) if it.endswith(".rt")]
+        found = found_in({it: read(f"{self.folder}/{it}") for it in paths})
         folders = [f"{self.folder}/{it}" for it in folders if os.path.isdir(f"{self.folder}/{it}")]
         return [Edit(self, f"{at}/{name}", found) for at in folders for name in sorted(os.listdir(at)) if name.endswith(".edit")]
 

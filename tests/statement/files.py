@@ -1,9 +1,11 @@
 """The files of the crates: as they stand, or with the texts that are tried in their place."""
 
 import re
+from difflib import ndiff
 from pathlib import Path
 
 TOP = Path(__file__).resolve().parent.parent.parent
+STANDARD, THEOREM = TOP / "docs/standard", TOP / "docs/THEOREM.md"
 # Texts that stand for those of the checkout, by their paths, so that tests/trusted-sabotage tries what is said of them.
 INSTEAD = {}
 
@@ -12,20 +14,39 @@ def text_of(path):
     return INSTEAD.get(str(path.relative_to(TOP))) or path.read_text()
 
 
-def without_comments(text):
-    """A text of code without its comments and without what stands in its strings."""
-    return re.sub(r'"(?:[^"\\]|\\.)*"|//.*', lambda found: '""' if found[0].startswith('"') else "", text)
+def flat(text):
+    return " ".join(text.split())
+
+
+def without_comments(text, comment=r"//.*"):
+    """A text of code without its comments and without what stands in its strings, its lines without blanks at their ends."""
+    bare = re.sub(rf'"(?:[^"\\]|\\.)*"|{comment}', lambda found: '""' if found[0].startswith('"') else "", text)
+    return re.sub(r"[ \t]+$", "", bare, flags=re.M)
+
+
+def changes(told, own):
+    """How the lines that a page tells differ from those that stand."""
+    return [line for line in ndiff(told, own) if line.startswith(("+ ", "- "))]
 
 
 class Code:
-    """A file of code: its path below crates/ and its lines without comments."""
+    """A file of code: its path below crates/, and its text with and without comments."""
 
     def __init__(self, path):
         self.path, self.text = path.relative_to(TOP / "crates"), text_of(path)
-        self.crate = self.path.parts[0]
-        self.bare = [line.rstrip() for line in without_comments(self.text).split("\n")]
+        self.crate, self.bare = self.path.parts[0], without_comments(self.text)
+
+    def name_of(self, files, function):
+        """The path under which the crate hands a function of this file on, or None where it does not."""
+        lib = next(it.bare for it in files if str(it.path) == f"{self.crate}/src/lib.rt")
+        module = "::".join(self.path.with_suffix("").parts[2:])
+        if re.search(rf"^pub mod {module};$", lib, re.M):
+            return f"{self.crate}::{module}::{function}"
+        if re.search(rf"^pub use (crate::)?{module}::(\{{[^}}]*\b{function}\b[^}}]*\}}|{function});$", lib, re.M):
+            return f"{self.crate}::{function}"
+        return None
 
 
 def code_of(*crates):
     """The files of code of some crates, or of all."""
-    return [Code(path) for path in sorted(TOP.glob("crates/*/src/**/*.rt")) if not crates or path.relative_to(TOP / "crates").parts[0] in crates]
+    return [Code(path) for crate in crates or ["*"] for path in sorted(TOP.glob(f"crates/{crate}/src/**/*.rt"))]

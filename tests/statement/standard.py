@@ -1,107 +1,80 @@
-"""The crate sip_standard, which is what one must believe: its files in the order of its lists, what each of them defines, and what in it cannot be read for
-sure. The crate is proved alone, so that what does not stand in it is not needed."""
+"""The crate sip_standard, which is what one must believe: its files in the order of its lists, what each of them defines, and what in it cannot be
+read for sure. The crate is proved alone, so that what does not stand in it is not needed."""
 
 import re
 from collections import Counter
 
-from statement.files import TOP, text_of, without_comments
+from statement.files import STANDARD, TOP, flat, text_of, without_comments
 
 CRATE = TOP / "crates/sip_standard"
-COMMENT = re.compile(r'"(?:[^"\\]|\\.)*"|(?<!\S)--.*')
-DEFINITION = re.compile(r"(?:abbrev pub|pub record|pub data) (\S+)(?= )")
-TYPE = re.compile(r"^pub (?:struct|enum|trait) (\w+)", re.M)
 USE = re.compile(r"use ((?:Rattle\.(?:std|sip_standard)|Prim)\.[\w.]+?)(?:\.\{([^{}.]+)\}| as (\w+))")
+HEAD = re.compile(r"(?:infix[lr]? \d+ (◌\w+◌)\n)?(?:abbrev pub|pub record|pub data) (\S+) .*")
+# What is not read in a line of specs/, and what leads out of the crate in a line of code.
+UNREAD = {"a mark that is not read": r"--|\{-|[«»]", "a path that is not read": r"^(?!use ).*\b(Rattle|package)\."}
+OUTSIDE = re.compile(r"Rattle\.(?!std\.|sip_standard\.)\w+|package\.|#!?\[\s*(?:path|cfg|cfg_attr)\b|\binclude!|^use .*\*", re.M)
 
 
 class Item:
-    """A definition with its lines, without comments and strings."""
+    """A definition: its lines without comments and strings, and the names that it gives, its own and those of its constructors."""
 
     def __init__(self, name, lines):
-        self.name, self.lines = name, lines
+        self.name, self.text = name, "\n".join(lines)
+        constructors = re.findall(r"^  (\S.*?) : ", self.text, re.M) if lines[0].startswith("pub data") else []
+        self.names = {name, *flat(" ".join(constructors)).split()}
 
-    def text(self):
-        return "\n".join(self.lines)
+    def pieces(self):
+        """The names by which another definition may need this one."""
+        return {it for name in self.names for it in [name, *name.split("◌")] if it}
 
 
 class File:
-    """A file of specs/: what it defines, the names that it has from other modules, and its lines that are not read for sure. Definitions stand between
-    empty lines, each with its comment, its fixity and its clauses."""
+    """A file of specs/: its definitions, the lines that import, and what is not read for sure. Definitions stand between empty lines, each with its
+    comment, its fixity and its clauses."""
 
     def __init__(self, path):
         self.path, self.text = path.relative_to(TOP / "crates"), text_of(path)
-        self.module = f"Rattle.sip_standard.specs.{path.stem}"
-        self.items, self.modules, self.aliases, self.faults = {}, {}, [], []
+        self.items, self.uses, self.faults = [], [], []
         at = 1
         for block in self.text.rstrip("\n").split("\n\n"):
-            self.read(at, block.split("\n"))
+            self.read(at, block)
             at += block.count("\n") + 2
-        for at, line in enumerate(self.text.split("\n"), 1):
-            for letter in sorted({it for it in line if not it.isprintable()}):
-                self.fault(at, f"a letter U+{ord(letter):04X}")
+        self.names = [it.name for it in self.items]
 
-    def fault(self, at, what):
-        self.faults.append(f"crates/{self.path}:{at}: {what}")
+    def read(self, at, block):
+        """Reads what stands between two empty lines, of which the first is this one: imports, or one definition."""
+        bare = [without_comments(line, r"(?<!\S)--.*").rstrip() for line in block.split("\n")]
+        found = [what for line in bare for what, mark in UNREAD.items() if re.search(mark, line)]
+        found += [f"a letter U+{ord(it):04X}" for it in block if not it.isprintable() and it != "\n"]
+        lines = [line for line in bare if line]
+        uses, head = [USE.fullmatch(line) for line in lines], HEAD.match("\n".join(lines))
+        if all(uses):
+            self.uses += uses
+        elif head and head[1] in (None, head[2]) and all(continues(head[2], line) for line in lines[1 + bool(head[1]) :]):
+            self.items.append(Item(head[2], lines[bool(head[1]) :]))
+        else:
+            found.append("neither a definition nor imports")
+        self.faults += [f"crates/{self.path}:{at}: {what}" for what in found]
 
-    def read(self, at, lines):
-        """Reads what stands between two empty lines, from this line on: imports, or one definition."""
-        name = None
-        for at, line in enumerate(lines, at):
-            bare = COMMENT.sub(lambda found: '""' if found[0].startswith('"') else "", line).rstrip()
-            if re.search(r"--|\{-|[«»]", bare):
-                self.fault(at, "a mark that is not read")
-            if re.search(r"\b(Rattle|package)\.", bare) and not bare.startswith("use "):
-                self.fault(at, "a path that is not read")
-            if not bare.strip():
-                continue
-            if found := USE.fullmatch(bare):
-                self.use(at, *found.groups())
-            elif not name and re.fullmatch(r"infix[lr]? \d+ ◌\w+◌", bare):
-                name = bare.split()[2]
-            elif (found := DEFINITION.match(bare)) and (name is None or name == found[1] and name not in self.items):
-                name = found[1]
-                self.declare(at, name, bare)
-            elif name in self.items and (bare.startswith("  ") or bare.startswith(name + " ") or "◌" in name and bare.startswith("(") and name.strip("◌") in bare.split()):
-                self.continues(name, bare)
-            else:
-                self.fault(at, "neither a definition nor a clause of one")
+    def renamed(self):
+        """The names that the file gives to what it imports."""
+        return [it for use in self.uses for it in re.findall(r" as ([^\s,}]+)", use[0])]
 
-    def declare(self, at, name, bare):
-        if name in self.items:
-            self.fault(at, f"{name} is defined twice")
-        self.items[name] = Item(name, [bare])
 
-    def continues(self, name, bare):
-        item = self.items[name]
-        item.lines.append(bare)
-        found = re.match(r"  (\S.*?) : ", bare)
-        if found and item.lines[0].startswith("pub data"):
-            self.items.update({it: item for it in found[1].split()})
-
-    def use(self, at, path, names, local):
-        if local:
-            self.modules[local] = path
-        for it in [it.strip() for it in (names or "").split(",")]:
-            name, renamed, local = it.partition(" as ")
-            self.aliases += [(at, name, local)] if renamed else []
-
-    def names(self):
-        """The names of the file's definitions, in order."""
-        return list(dict.fromkeys(it.name for it in self.items.values()))
+def continues(name, line):
+    """Whether a line belongs to a definition of this name: it is indented, or a clause."""
+    return line.startswith(("  ", f"{name} ")) or "◌" in name and line.startswith("(") and name.strip("◌") in line.split()
 
 
 def specs():
     """The files of specs/ in the order in which one reads them, by the list of the crate."""
-    listed = re.findall(r"^pub mod (\w+)$", text_of(CRATE / "specs/Lib.antt"), re.M)
-    return [File(CRATE / f"specs/{name}.antt") for name in listed]
+    return [File(CRATE / f"specs/{name}.antt") for name in re.findall(r"^pub mod (\w+)$", text_of(CRATE / "specs/Lib.antt"), re.M)]
 
 
 def code():
-    """The files of src/ with the types and traits of each, in the order of the crate's list."""
-    listed = re.findall(r"^(?:pub )?mod (\w+);", text_of(CRATE / "src/lib.rt"), re.M)
-    for name in ["lib", *listed]:
-        path = CRATE / f"src/{name}.rt"
-        text = text_of(path)
-        yield path.relative_to(TOP / "crates"), text, TYPE.findall(text)
+    """The files of src/ with their texts and with the types and traits of each, in the order of the crate's list."""
+    for name in ["lib", *re.findall(r"^(?:pub )?mod (\w+);", text_of(CRATE / "src/lib.rt"), re.M)]:
+        text = text_of(CRATE / f"src/{name}.rt")
+        yield CRATE.relative_to(TOP / "crates") / f"src/{name}.rt", text, re.findall(r"^pub (?:struct|enum|trait) (\w+)", text, re.M)
 
 
 def mentioned(text):
@@ -110,53 +83,62 @@ def mentioned(text):
 
 
 def faults(files):
-    """What is not read for sure, leads out of the crate, stands in no list, or is not needed: each definition has to be used by another or by the code."""
+    """What is not read for sure, has the name of something else, stands in no list, leads out of the crate, or is not needed."""
+    yield from [it for file in files for it in file.faults]
+    names = Counter(name for file in files for item in file.items for name in item.names)
     for file in files:
-        yield from file.faults
-        for at, name, local in file.aliases:
-            if any(local in other.items for other in files):
-                yield f"crates/{file.path}:{at}: {name} under the name {local}, which others have"
-    stand = {path.relative_to(CRATE) for folder in ("specs", "src") for path in (CRATE / folder).rglob("*.*t")}
-    listed = {file.path.relative_to("sip_standard") for file in files} | {path.relative_to("sip_standard") for path, *_ in code()}
-    for path in sorted(str(it) for it in stand ^ listed if it.name != "Lib.antt"):
-        yield f"crates/sip_standard/{path} stands in one of folder and list alone"
-    own = {(file, name): mentioned(file.items[name].text()) for file in files for name in file.names()}
-    by_code = [mentioned(without_comments(re.sub(r"^ghost use .*;$", "", text, flags=re.M))) for _, text, _ in code()]
-    times = Counter(name for names in [*own.values(), *by_code] for name in names)
-    for (file, name), names in own.items():
-        pieces = {name, *name.split("◌")} - {""} | {it for it, item in file.items.items() if item.name == name}
-        if not any(times[it] > (it in names) for it in pieces):
-            yield f"crates/{file.path}: nothing needs {name}"
+        yield from [f"crates/{file.path}: something under the name {it}, which others have" for it in file.renamed() if names[it]]
+        yield from [f"crates/{file.path}: {it} is defined twice" for it, times in Counter(file.names).items() if times > 1]
+    stand = {path.relative_to(TOP / "crates") for folder in ("specs", "src") for path in (CRATE / folder).rglob("*.*t") if path.name != "Lib.antt"}
+    listed = {file.path for file in files} | {path for path, *_ in code()}
+    yield from [f"crates/{path} stands in one of folder and list alone" for path in sorted(stand ^ listed)]
     for path, text, _ in code():
-        for at, line in enumerate(text.split("\n"), 1):
-            outside = re.search(r"Rattle\.(?!std\.|sip_standard\.)\w+|package\.|#!?\[\s*(?:path|cfg|cfg_attr)\b|\binclude!|^use .*\*", line.partition("//")[0])
-            if outside:
-                yield f"crates/{path}:{at}: {outside[0]} is not followed"
+        yield from [f"crates/{path}: {found[0]} is not followed" for found in OUTSIDE.finditer(re.sub(r"//.*", "", text))]
+    yield from unneeded(files)
+
+
+def unneeded(files):
+    """The definitions that no other one mentions, and no code but in an import."""
+    own = [(file, item, mentioned(item.text)) for file in files for item in file.items]
+    by_code = [mentioned(without_comments(re.sub(r"^ghost use .*;$", "", text, flags=re.M))) for _, text, _ in code()]
+    times = Counter(name for some in [*(it for *_, it in own), *by_code] for name in some)
+    for file, item, some in own:
+        if all(times[it] <= (it in some) for it in item.pieces()):
+            yield f"crates/{file.path}: nothing needs {item.name}"
 
 
 def page(files):
-    """The text of the whole crate, its contracts last. Of the imports of a file only those stand that give a name, or tell files of one name apart."""
-    doubles = [name for file in files for name in file.names()]
-    doubles = {name for name in doubles if doubles.count(name) > 1}
-    types = {path.stem: f"[crates/{path}]\n\n" + re.sub(r"\n{3,}", "\n\n", re.sub(r"(?m)^(ghost )?use .*;\n", "", text)).strip() for path, text, _ in code()}
-    contracts = ("judges", "program")
-    yield from [text for name, text in types.items() if name not in ("lib", *contracts)]
+    """The text of the whole crate, its contracts last. Of the imports only those stand that give a name, or tell definitions of one name apart."""
+    doubles = {name for name, times in Counter(name for file in files for name in file.names).items() if times > 1}
+    texts = {path: re.sub(r"(?m)^(ghost )?use .*;\n", "", text) for path, text, _ in code() if path.name != "lib.rt"}
+    contracts = {path: texts.pop(path) for path in [*texts] if path.stem in ("judges", "program")}
     for file in files:
-        kept = []
-        for line in file.text.strip().split("\n"):
-            found = USE.fullmatch(line)
-            if not found or found[3] or " as " in (found[2] or "") or doubles & {it.strip() for it in (found[2] or "").split(",")}:
-                kept.append(f"[{line[4:]}]" if found else line)
-        yield f"[crates/{file.path}]\n\n" + re.sub(r"\n{3,}", "\n\n", "\n".join(kept)).strip()
-    yield from [types[name] for name in contracts]
+        left_out = [it[0] for it in file.uses if " as " not in it[0] and not doubles & {*re.findall(r"[^\s{},]+", it[0])}]
+        kept = [line for line in file.text.split("\n") if line not in left_out]
+        texts[file.path] = "\n".join(f"[{line[4:]}]" if USE.fullmatch(line) else line for line in kept)
+    return "\n\n".join(f"[crates/{path}]\n\n" + re.sub(r"\n{3,}", "\n\n", text).strip() for path, text in (texts | contracts).items())
 
 
 def table(files):
     """A row of the table for each file: what it defines, and how many lines it has without imports and empty lines; and a row of the sums."""
-    rows = [(file.path, file.names(), file.text) for file in files] + [(path, types, text) for path, text, types in code() if types]
+    rows = [(file.path, file.names, file.text) for file in files] + [(path, types, text) for path, text, types in code() if types]
+    rows = [(path, names, len(re.findall(r"^(?!(?:ghost |pub )?use ).*\S", text, re.M))) for path, names, text in rows]
+    sums = [sum(it) for end in (".antt", ".rt") for it in zip(*[(len(names), lines) for path, names, lines in rows if path.suffix == end])]
     yield from ["| File of `crates/` | What it defines | Lines |", "|---|---|---|"]
-    lines = {path: sum(bool(line.strip()) and not re.match(r"(ghost |pub )?use ", line) for line in text.split("\n")) for path, _, text in rows}
-    for path, names, _ in rows:
-        yield f"| `{path}` | {', '.join(f'`{it}`' for it in names)} | {lines[path]} |"
-    counts = {end: [sum(len(names) for path, names, _ in rows if path.suffix == end), sum(it for path, it in lines.items() if path.suffix == end)] for end in (".antt", ".rt")}
-    yield "\nTogether {} definitions in {} lines, and {} types and traits of the code in {} lines.".format(*counts[".antt"], *counts[".rt"])
+    yield from [f"| `{path}` | {', '.join(f'`{it}`' for it in names)} | {lines} |" for path, names, lines in rows]
+    yield from ["", "Together {} definitions in {} lines, and {} types and traits of the code in {} lines.".format(*sums)]
+
+
+def untold(files):
+    """The definitions that no section of docs/standard names whose heading names their file; the types that no page names; and the files that a
+    heading names and that there are not."""
+    whole = "".join(text_of(path) for path in sorted(STANDARD.glob("*.md")))
+    sections = [it.partition("\n") for it in re.split(r"^#+ ", whole, flags=re.M)]
+    for file in files:
+        own = "".join(text for heading, _, text in sections if re.search(rf"\(.*\b{file.path.stem}\b", heading))
+        told = re.findall(r"`([^`\n]+)`", re.sub(r"``.*?``", "", own))
+        yield from [f"docs/standard: no section for crates/{file.path} names {it}" for it in file.names if it.strip("◌") not in told]
+    yield from [f"docs/standard: no page names {it} of crates/{path}" for path, _, types in code() for it in types if f"`{it}`" not in whole]
+    for name in [name for heading, *_ in sections for name in re.findall(r"`((?!sip_)\w+)`", heading)]:
+        if not any(TOP.glob(f"crates/sip_*/specs/{name}.antt")):
+            yield f"docs/standard: a heading names {name}, and there is no file {name}.antt"

@@ -54,29 +54,6 @@ impl Played {
         Ok(())
     }
 
-    fn gain(&mut self, rt: &impl Abort, row: usize, debt: Debt) -> Result<(), Fail> {
-        assert!(rt; row < self.accounts.len());
-        assert!(rt; row < self.lists.len());
-        self.accounts.gain(row, debt)?;
-        self.lists[row].push(debt)?;
-        Ok(())
-    }
-
-    fn pay(&mut self, rt: &impl Abort, row: usize, message: u64, moment: u64) -> Result<(), Fail> {
-        assert!(rt; row < self.accounts.len());
-        assert!(rt; row < self.lists.len());
-        let first = self.lists[row]
-            .iter()
-            .position(|debt| debt.message == message && moment <= debt.deadline);
-        let can = self.accounts.can_pay(row, message, moment);
-        assert!(rt; can == first.is_some());
-        self.accounts.pay(row, message, moment)?;
-        if let Some(first) = first {
-            self.lists[row].remove(first);
-        }
-        Ok(())
-    }
-
     /// Of the rows from one up to another, those that pay come once more, without what they pay and what is past.
     fn push_paid(
         &mut self,
@@ -181,6 +158,8 @@ impl Played {
         let first = self.lists[row]
             .iter()
             .position(|debt| debt.message == message && moment <= debt.deadline);
+        let can = self.accounts.can_pay(row, message, moment);
+        assert!(rt; can == first.is_some());
         self.accounts.pay_and_expire(row, message, moment)?;
         if let Some(first) = first {
             self.lists[row].remove(first);
@@ -305,14 +284,16 @@ impl Played {
     }
 
     /// Rows are told to owe the same where their lists are the same.
-    fn compares(&self, rt: &impl Abort, row: usize, other: usize) {
+    fn compares(&self, rt: &impl Abort, prints: &[u64], row: usize, other: usize) {
         assert!(rt; row < self.accounts.len());
         assert!(rt; other < self.accounts.len());
         assert!(rt; row < self.lists.len());
         assert!(rt; other < self.lists.len());
         let same = self.lists[row] == self.lists[other];
         assert!(rt; self.accounts.same(row, other) == same, "{row} and {other}");
-        assert!(rt; !same || self.accounts.print(row) == self.accounts.print(other));
+        assert!(rt; row < prints.len());
+        assert!(rt; other < prints.len());
+        assert!(rt; !same || prints[row] == prints[other]);
     }
 
     /// The messages that rows owe are told, from the least on, each once.
@@ -338,11 +319,8 @@ impl Played {
         let prints = self.accounts.prints(rt.alloc(), 0)?;
         for (row, list) in self.lists.iter().enumerate() {
             self.owes(rt, row, list)?;
-            assert!(rt; row < prints.len());
-            assert!(rt; row < self.accounts.len());
-            assert!(rt; prints[row] == self.accounts.print(row), "{row}");
             for other in 0..self.lists.len() {
-                self.compares(rt, row, other);
+                self.compares(rt, &prints, row, other);
             }
         }
         Ok(())
@@ -381,7 +359,7 @@ fn gain_some(
                 deadline,
                 must,
             };
-            played.gain(rt, row, debt)?;
+            played.gain_and_expire(rt, row, debt, 0)?;
         }
     }
     Ok(())
@@ -462,7 +440,7 @@ fn play(rt: &(impl Abort + AllocGlobal), seed: u64, steps: u64, rises: bool) -> 
             2 | 3 => played.expire(rt, row, moment)?,
             4..11 => {
                 let message = chance.below(4);
-                played.pay(rt, row, message, moment)?;
+                played.pay_and_expire(rt, row, message, moment)?;
             }
             11..15 => change_rows(rt, &mut chance, &mut played)?,
             15..17 => change_many(rt, &mut chance, &mut played, moment)?,
@@ -534,13 +512,13 @@ fn equal_debts_count_as_often_as_they_were_gained(rt: HostRuntime) -> Result<(),
     for count in [0, 1, 63, 64, 65] {
         let mut played = Played::new(&rt)?;
         for _ in 0..count {
-            played.gain(&rt, 0, debt)?;
+            played.gain_and_expire(&rt, 0, debt, 0)?;
         }
         played.agree(&rt)?;
         for _ in 0..count {
-            played.pay(&rt, 0, 7, 10)?;
+            played.pay_and_expire(&rt, 0, 7, 10)?;
         }
-        played.pay(&rt, 0, 7, 10)?;
+        played.pay_and_expire(&rt, 0, 7, 10)?;
         played.agree(&rt)?;
     }
     Ok(())
@@ -557,10 +535,10 @@ fn what_is_owed_is_told_after_a_long_life(rt: HostRuntime) -> Result<(), Fail> {
             deadline: moment + 3,
             must: moment % 7 == 0,
         };
-        played.gain(&rt, 0, debt)?;
-        played.gain(&rt, 1, debt)?;
-        played.pay(&rt, 0, (moment + 3) % 5, moment)?;
-        played.pay(&rt, 1, (moment + 4) % 5, moment)?;
+        played.gain_and_expire(&rt, 0, debt, 0)?;
+        played.gain_and_expire(&rt, 1, debt, 0)?;
+        played.pay_and_expire(&rt, 0, (moment + 3) % 5, moment)?;
+        played.pay_and_expire(&rt, 1, (moment + 4) % 5, moment)?;
         played.expire(&rt, 0, moment)?;
         played.expire(&rt, 1, moment)?;
         played.accounts.tidy();
@@ -579,10 +557,10 @@ fn one_row_pays_in_any_order(rt: HostRuntime) -> Result<(), Fail> {
             deadline: 10,
             must: message % 2 == 0,
         };
-        played.gain(&rt, 0, debt)?;
+        played.gain_and_expire(&rt, 0, debt, 0)?;
     }
     for step in 0..100_u64 {
-        played.pay(&rt, 0, step * 37 % 100, 5)?;
+        played.pay_and_expire(&rt, 0, step * 37 % 100, 5)?;
         played.accounts.tidy();
         played.agree(&rt)?;
     }

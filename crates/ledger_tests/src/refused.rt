@@ -37,7 +37,7 @@ fn step(rt: &impl Abort, accounts: &mut Accounts, number: u32) -> Result<(), All
         0 => accounts.push(),
         1 => accounts.push_copy(0),
         2 | 3 => accounts.gain_and_expire(0, debt, moment),
-        4 => accounts.gain(1, debt),
+        4 => accounts.gain_and_expire(1, debt, 0),
         5 => accounts.pay_and_expire(0, message, moment),
         6 => accounts.push_paid(0, rows, message, moment),
         _ => accounts.push_timely(0, rows, moment),

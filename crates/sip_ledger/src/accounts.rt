@@ -1,7 +1,7 @@
 //! What many rows owe: one list of what they gained, and for each row an account of what it owes of that list.
 ghost use Rattle.std.specs.Prelude.{◌≡◌, ◌↔◌, ◌<◌, ◌++◌, ◌∷◌, [], ℕ, List, IsTrue, OnOk, OnErr, IfOk, IfSome, IfNone, All, length, set, map, filter, take, drop, get_or};
 ghost use Rattle.std.specs.List.{list_any};
-ghost use Rattle.sip_ledger.specs.Accounts.{owed_in, debts_print, AppendsOwed};
+ghost use Rattle.sip_ledger.specs.Accounts.{owed_in, AppendsOwed};
 ghost use Rattle.sip_ledger.specs.Debts.{IsWithoutFirst, PaysOne, counts_at, softened_debt, is_payable, debt_deadlines, earliest, paid_by};
 ghost use Rattle.sip_ledger.specs.Lists.{Rise};
 ghost use Rattle.sip_ledger.specs.Runs.{AreRuns};
@@ -16,8 +16,8 @@ mod seek;
 mod strikes;
 
 use crate::accounts::account::{
-    Account, EMPTY, debts, earliest_must, expired, find, find_one, first_debts, gained,
-    gained_and_expired, paid_and_expired, place_for, same, without,
+    Account, EMPTY, earliest_must, expired, find, find_one, first_debts, gained_and_expired,
+    paid_and_expired, place_for, same,
 };
 use crate::accounts::gains::Gains;
 use crate::accounts::left::{drop_front, let_go};
@@ -53,6 +53,7 @@ impl Model for Accounts {
     ghost invariant = { λ a. AreAccounts a.gains a.strikes.items a.rows.items };
 }
 
+#[tactic(auto, using(crate::proofs::account::AccountLemmas::debts_length))]
 impl Accounts {
     /// There are no rows.
     pub fn new(alloc: Global) -> Self
@@ -126,41 +127,6 @@ impl Accounts {
         ensures { self.new ≡ set self.old to (owed_in self.old from) }
     {
         self.rows[to] = self.rows[from];
-    }
-
-    /// Lets the row owe one more debt, after its others. On an error all is as before.
-    pub fn gain(&mut self, row: usize, debt: Debt) -> Result<(), AllocError>
-        requires { row < length self.old }
-        ensures ok { OnOk result (self.new ≡ set self.old row (owed_in self.old row ++ debt ∷ [])) }
-        ensures err { OnErr result (self.new ≡ self.old) }
-    {
-        let account = self.rows[row];
-        let place = place_for(&mut self.gains, &self.strikes, account, debt)?;
-        self.rows[row] = gained(&self.gains, &mut self.strikes, account, debt, place)?;
-        Ok(())
-    }
-
-    /// Takes out of the row the first debt that a send of the message at the moment pays, if there is one. On an error all is
-    /// as before.
-    pub fn pay(&mut self, row: usize, message: u64, moment: u64) -> Result<(), AllocError>
-        requires { row < length self.old }
-        ensures ok { OnOk result (self.new ≡ set self.old row (paid_by message moment (owed_in self.old row))) }
-        ensures err { OnErr result (self.new ≡ self.old) }
-    {
-        let account = self.rows[row];
-        let mut seek = Seek::new(&self.gains, message, account.start);
-        if let Some(place) = find(
-            &self.gains,
-            &self.strikes,
-            account,
-            &mut seek,
-            message,
-            moment,
-        ) {
-            self.rows[row] = without(&self.gains, &mut self.strikes, account, place)?;
-            self.paid = Some(message);
-        }
-        Ok(())
     }
 
     /// Whether the row has a debt that a send of the message at the moment pays.
@@ -292,20 +258,12 @@ impl Accounts {
         same(&self.gains, &self.strikes, self.rows[row], self.rows[other])
     }
 
-    /// A number for what the row owes: rows that owe the same have the same, and others hardly ever.
-    pub fn print(&self, row: usize) -> u64
-        requires { row < length self.now }
-        ensures { result ≡ debts_print (owed_in self.now row) }
-    {
-        self.rows[row].print
-    }
-
     /// Puts the number of each message that the row owes after the others, once for each debt.
     pub fn names(&self, alloc: Global, row: usize, numbers: &mut Vec<u64>) -> Result<(), AllocError>
         requires { row < length self.now }
         ensures { OnOk result (numbers.new.items ≡ numbers.old.items ++ map (λ debt. debt.message) (owed_in self.now row)) }
     {
-        let debts = debts(alloc, &self.gains, &self.strikes, self.rows[row])?;
+        let debts = self.debts(alloc, row)?;
         for debt in &debts {
             numbers.push(debt.message)?;
         }
@@ -331,8 +289,22 @@ impl Accounts {
         requires { row < length self.now }
         ensures { IfOk result (λ runs. AreRuns (owed_in self.now row) runs.items) }
     {
-        let debts = debts(alloc, &self.gains, &self.strikes, self.rows[row])?;
+        let debts = self.debts(alloc, row)?;
         runs_of(alloc, &debts)
+    }
+
+    /// What the row owes.
+    fn debts(&self, alloc: Global, row: usize) -> Result<Vec<Debt>, AllocError>
+        requires { row < length self.now }
+        ensures { IfOk result (λ debts. debts.items ≡ owed_in self.now row) }
+    {
+        first_debts(
+            alloc,
+            &self.gains,
+            &self.strikes,
+            self.rows[row],
+            usize::MAX,
+        )
     }
 
     /// What the row owes first: so many debts, or all where it owes fewer.

@@ -47,7 +47,7 @@ impl Index {
     }
 
     /// The first pair from (key, number) on, in the order of keys and then of numbers.
-    pub fn first_from(&self, key: u64, number: u64) -> Option<(u64, u64)>
+    pub(crate) fn first_from(&self, key: u64, number: u64) -> Option<(u64, u64)>
         ensures found { IfSome result (IsFirstFrom self.now key number) }
         ensures none { IfNone result (NoneFrom self.now key number) }
     {

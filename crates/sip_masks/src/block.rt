@@ -24,8 +24,11 @@ const HIGH: [u8; 64] = [
     0x20, 0x40, 0x01, 0x02, 0x04, 0x08, 0x04, 0x90, 0x00, 0x00, 0x00, 0x00, 0x00, 0x00, 0x00, 0x00,
 ];
 
-// A control has a kind that is this one or above; a plain byte has none.
-const CONTROL: u8 = 32;
+// The kinds of a control are 32 or above; those of a plain byte are below. With this number added the kinds of controls have the top bit,
+// and no others have it.
+const RAISE: u8 = 96;
+
+const TOP: u8 = 128;
 
 // A bit for each byte of the block that is not plain.
 #[inline(always)]
@@ -35,7 +38,8 @@ pub(crate) fn others(v: u8x64) -> u64
     let low = u8x64::from_array(LOW).swizzle_dyn_within::<16>(v & u8x64::splat(15));
     let high = u8x64::from_array(HIGH).swizzle_dyn_within::<16>(v >> u8x64::splat(4));
     let kinds = low & high;
-    kinds.simd_eq(u8x64::splat(0)).to_bitmask() | kinds.simd_ge(u8x64::splat(CONTROL)).to_bitmask()
+    let raised = kinds + u8x64::splat(RAISE);
+    kinds.simd_eq(u8x64::splat(0)).to_bitmask() | raised.simd_ge(u8x64::splat(TOP)).to_bitmask()
 }
 
 // A bit for each control of the block other than HTAB. They are found by the same look-ups as the bytes that are not plain.
@@ -45,7 +49,8 @@ pub(crate) fn controls(v: u8x64) -> u64
 {
     let low = u8x64::from_array(LOW).swizzle_dyn_within::<16>(v & u8x64::splat(15));
     let high = u8x64::from_array(HIGH).swizzle_dyn_within::<16>(v >> u8x64::splat(4));
-    (low & high).simd_ge(u8x64::splat(CONTROL)).to_bitmask()
+    let raised = (low & high) + u8x64::splat(RAISE);
+    raised.simd_ge(u8x64::splat(TOP)).to_bitmask()
 }
 
 // The last bytes of the text, filled up with NUL: nothing is read past the end.

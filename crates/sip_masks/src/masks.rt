@@ -64,7 +64,8 @@ fn mark(text: &[u8], other: &mut [u64], control: &mut [u64]) -> usize
 // bytes are marked.
 #[inline(always)]
 fn holds_empty_line(ends: u64) -> bool {
-    ends & (ends >> 1) & (ends >> 2) & (ends >> 3) != 0
+    let pairs = ends & (ends >> 1);
+    pairs & (pairs >> 2) != 0
 }
 
 // The 64 bits of the words from place p on.

@@ -1,13 +1,14 @@
 -- Plain parts of values, and the texts of the grammar that they are.
-use Rattle.std.proofs.Common.{◌≡◌, ℕ, ◌+◌, ◌-◌, ◌<◌, ◌≤◌, true, false, ◌&&◌, ◌||◌, List, [], ◌∷◌, ◌++◌, Option, None, Some, length, take, drop, refl, sym, ap, ap₂, ◌∙◌, subst, inl, inr, arith}
+use Rattle.std.proofs.Common.{◌≡◌, ℕ, suc, ◌+◌, ◌-◌, ◌<◌, ◌≤◌, true, false, not, ◌&&◌, ◌||◌, List, [], ◌∷◌, ◌++◌, Option, None, Some, length, take, drop, get_or, refl, sym, ap, ap₂, ◌∙◌, subst, inl, inr, arith}
 use Rattle.std.specs.Prelude.{codes}
 use Rattle.std.specs.Char.{is_ascii_alphanumeric}
 use Rattle.std.specs.List.{AllByRecursion, prefix_len}
-use Rattle.std.proofs.Math.Seq.{take-add}
-use Rattle.std.proofs.lemmas.Bool.{agree_below_at, and_parts, or_cases, cases_lt}
-use Rattle.std.proofs.lemmas.List.{drop-drop, append_assoc, append-nil, length-append, length-drop, length-take-le}
+use Rattle.std.proofs.Math.Seq.{drop-cons, take-add}
+use Rattle.std.proofs.lemmas.Bool.{agree_below_at, and_parts, or_cases, cases_lt, lt-ltb, ne_eqb}
+use Rattle.std.proofs.lemmas.List.{drop-drop, get_or-take, get_or-drop, append_assoc, append-nil, length-append, length-drop, length-take-le}
 use Rattle.sip_standard.specs.Text.{One, Exactly, ◌then◌, ◌or◌}
 use Rattle.sip_standard.specs.Chars.{is_among}
+use Rattle.sip_standard.specs.Field.{is_lws_byte}
 use Rattle.sip_standard.specs.Profile.{Token, Sws, Blanks, Hostname, Ipv4, Bracketed, User, Port}
 use Rattle.sip_text.specs.Bytes.{at_sign, colon, equals, semicolon, space, Byte}
 use Rattle.sip_text.specs.Host.{HostParts, HostText, name, v4, v6, host_text}
@@ -21,6 +22,7 @@ use Rattle.sip_message.specs.Params.{OpensSolid, ParamsText, ParamsPart, BehindB
 use Rattle.sip_message.specs.inner.Marks.{left_angle, right_angle, Mark}
 use Rattle.sip_message.specs.Address.{AddressParts, AddressFits, DisplayName, name_addr}
 use Rattle.sip_message.specs.inner.AddressFronts.{Words}
+use Rattle.sip_message.specs.inner.Values.{is_solid}
 use Rattle.sip_message.specs.inner.Plain.{segment, LiesWithin, PlainRun, HostPort, SomeUri, Opening, PlainParam, SomeParams, SomeAddress}
 use Rattle.sip_message.proofs.QuickLemmas.{low-one, plain-token}
 use Rattle.sip_message.proofs.lemmas.front.Prefix.{prefix-at, all-some}
@@ -40,6 +42,33 @@ pub segment-none : (text : List ℕ) (at : ℕ) → segment at at text ≡ []
 segment-none text at =
     let none : at - at ≡ 0 = omega arith in
     ap (λ n. take n (drop at text)) none
+
+-- a byte above SP is none of a blank run
+above-blanks : (b : ℕ) → 32 < b → is_lws_byte b ≡ false
+above-blanks b above =
+    ap₂ (λ x y. x || y) (ap₂ (λ x y. x || y) (ne_eqb b 32 (λ is. omega (arith, above, is))) (ne_eqb b 9 (λ is. omega (arith, above, is))))
+    (ap₂ (λ x y. x || y) (ne_eqb b 13 (λ is. omega (arith, above, is))) (ne_eqb b 10 (λ is. omega (arith, above, is))))
+
+-- a segment whose first byte and whose last one are above SP is solid
+pub segment-solid : (text : List ℕ) (at end : ℕ) → at < end → end ≤ length text → 32 < get_or text at 0 → 32 < get_or text (end - 1) 0 → is_solid (segment at end text) ≡ true
+segment-solid text at end some within first last =
+    let s = segment at end text in
+    let long : length s ≡ end - at = length-take-le (end - at) (drop at text) (omega (arith, length-drop at text, within)) in
+    let from : at + 0 ≡ at = omega arith in
+    let to : at + (end - at - 1) ≡ end - 1 = omega (arith, some) in
+    let front : get_or s 0 0 ≡ get_or text at 0 = get_or-take (end - at) (drop at text) 0 0 (omega (arith, some)) ∙ get_or-drop at text 0 0 ∙ ap (λ k. get_or text k 0) from in
+    let back : get_or s (length s - 1) 0 ≡ get_or text (end - 1) 0 =
+    ap (λ n. get_or s (n - 1) 0) long ∙ get_or-take (end - at) (drop at text) (end - at - 1) 0 (omega (arith, some)) ∙ get_or-drop at text (end - at - 1) 0 ∙ ap (λ k. get_or text k 0) to in
+    ap₂ (λ x y. x && y)
+    (ap₂ (λ x y. x && y) (lt-ltb 0 (length s) (omega (arith, long, some))) (ap not (ap is_lws_byte front ∙ above-blanks (get_or text at 0) first)))
+    (ap not (ap is_lws_byte back ∙ above-blanks (get_or text (end - 1) 0) last))
+
+-- a segment that begins with a SP is the SP and the segment behind it
+pub segment-space : (text : List ℕ) (at end : ℕ) → at < end → end ≤ length text → get_or text at 0 ≡ space → segment at end text ≡ space ∷ segment (at + 1) end text
+segment-space text at end some within is =
+    let count : end - at ≡ suc (end - (at + 1)) = omega (arith, some) in
+    let next : suc at ≡ at + 1 = omega arith in
+    ap₂ (λ n t. take n t) count (drop-cons text at 0 (omega (arith, some, within)) ∙ ap₂ (λ b k. b ∷ drop k text) is next)
 
 -- where a text of P lies between two places, and a text of Q from the second one on, a text of P and then Q lies from the first one on
 pub then-stands : (P Q : List ℕ → Type 0) (text : List ℕ) (at end mid to : ℕ) → LiesWithin P text at end mid → LiesWithin Q text mid end to → LiesWithin (P then Q) text at end to

@@ -80,7 +80,7 @@ fn past_plain_quoted(masks: &Masks<'_, '_>, at: usize, end: usize) -> Option<usi
 // The place after the plain runs, with a SP between any two, that stand at `at`.
 #[inline(always)]
 fn past_words(masks: &Masks<'_, '_>, at: usize, end: usize) -> Option<usize>
-    requires { end ≤ length masks.now }
+    requires { (at ≤ end) × (end ≤ length masks.now) }
     ensures { IfSome result (LiesWithin Words masks.now at end) }
 {
     let mut to = past_run(masks, at, end)?;
@@ -108,7 +108,7 @@ pub(crate) fn past_uri(masks: &Masks<'_, '_>, at: usize, end: usize) -> Option<u
 // The place after the user and its `@` that stand at `at`, and `at` itself if no `@` follows the plain run there.
 #[inline]
 fn past_user(masks: &Masks<'_, '_>, at: usize, end: usize) -> Option<usize>
-    requires { end ≤ length masks.now }
+    requires { (at ≤ end) × (end ≤ length masks.now) }
     ensures { IfSome result (LiesWithin (λ u. (u ≡ []) ⊎ (PlainRun then Byte at_sign) u) masks.now at end) }
 {
     let user = past_run(masks, at, end)?;
@@ -132,7 +132,7 @@ fn past_sip(masks: &Masks<'_, '_>, at: usize, end: usize) -> Option<usize>
 // The place after the host that stands at `at`, and after its port if it has one.
 #[inline]
 fn past_hostport(masks: &Masks<'_, '_>, at: usize, end: usize) -> Option<usize>
-    requires { end ≤ length masks.now }
+    requires { (at ≤ end) × (end ≤ length masks.now) }
     ensures { IfSome result (LiesWithin HostPort masks.now at end) }
 {
     let host = past_any_host(masks, at, end)?;
@@ -145,7 +145,7 @@ fn past_hostport(masks: &Masks<'_, '_>, at: usize, end: usize) -> Option<usize>
 // The place after the host that stands at `at`. Most hosts are names of an ordinary kind.
 #[inline]
 fn past_any_host(masks: &Masks<'_, '_>, at: usize, end: usize) -> Option<usize>
-    requires { end ≤ length masks.now }
+    requires { (at ≤ end) × (end ≤ length masks.now) }
     ensures { IfSome result (LiesWithin (λ u. (host : HostParts) × HostText u host) masks.now at end) }
 {
     match past_hostname(masks, at, end) {
@@ -160,12 +160,9 @@ fn past_any_host(masks: &Masks<'_, '_>, at: usize, end: usize) -> Option<usize>
 // The place after the hostname of an ordinary kind that stands at `at`.
 #[inline]
 fn past_hostname(masks: &Masks<'_, '_>, at: usize, end: usize) -> Option<usize>
-    requires { end ≤ length masks.now }
+    requires { (at ≤ end) × (end ≤ length masks.now) }
     ensures { IfSome result (LiesWithin Hostname masks.now at end) }
 {
-    if at >= end {
-        return None;
-    }
     let len = masks.name_at(at)?;
     if len > end - at {
         return None;
@@ -176,7 +173,7 @@ fn past_hostname(masks: &Masks<'_, '_>, at: usize, end: usize) -> Option<usize>
 // The host of any kind that the plain run at `at` is, and the place after it.
 #[inline(never)]
 fn past_other_host<'a>(masks: &Masks<'a, '_>, at: usize, end: usize) -> Option<(Host<'a>, usize)>
-    requires { end ≤ length masks.now }
+    requires { (at ≤ end) × (end ≤ length masks.now) }
     ensures { IfSome result (λ found. LiesWithin (λ u. HostText u (host_parts found.0)) masks.now at end found.1) }
 {
     let to = past_run(masks, at, end)?;
@@ -191,7 +188,7 @@ pub(crate) fn past_host<'a>(
     at: usize,
     end: usize,
 ) -> Option<(Host<'a>, usize)>
-    requires { end ≤ length masks.now }
+    requires { (at ≤ end) × (end ≤ length masks.now) }
     ensures { IfSome result (λ found. LiesWithin (λ u. HostText u (host_parts found.0)) masks.now at end found.1) }
 {
     if let Some(to) = past_hostname(masks, at, end) {
@@ -202,7 +199,7 @@ pub(crate) fn past_host<'a>(
 
 /// The place after the port that stands at `at`.
 pub(crate) fn past_port(masks: &Masks<'_, '_>, at: usize, end: usize) -> Option<usize>
-    requires { end ≤ length masks.now }
+    requires { (at ≤ end) × (end ≤ length masks.now) }
     ensures { IfSome result (LiesWithin Port masks.now at end) }
 {
     let to = past_run(masks, at, end)?;
@@ -252,12 +249,9 @@ pub(crate) fn past_param<'a>(
 /// The place after the run of plain bytes that stands at `at`, however long it is.
 #[inline]
 pub(crate) fn past_any_run(masks: &Masks<'_, '_>, at: usize, end: usize) -> Option<usize>
-    requires { end ≤ length masks.now }
+    requires { (at ≤ end) × (end ≤ length masks.now) }
     ensures { IfSome result (LiesWithin PlainRun masks.now at end) }
 {
-    if at >= end {
-        return None;
-    }
     let len = masks.run_at(at);
     if len == 0 || len > end - at {
         return None;
@@ -268,12 +262,9 @@ pub(crate) fn past_any_run(masks: &Masks<'_, '_>, at: usize, end: usize) -> Opti
 /// The place after the run of plain bytes that stands at `at`, if it has fewer than 64.
 #[inline(always)]
 pub(crate) fn past_run(masks: &Masks<'_, '_>, at: usize, end: usize) -> Option<usize>
-    requires { end ≤ length masks.now }
+    requires { (at ≤ end) × (end ≤ length masks.now) }
     ensures { IfSome result (LiesWithin PlainRun masks.now at end) }
 {
-    if at >= end {
-        return None;
-    }
     let len = masks.short_run_at(at)?;
     if len == 0 || len > end - at {
         return None;

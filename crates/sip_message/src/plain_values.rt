@@ -22,7 +22,7 @@ pub(crate) fn is_call_id_at(masks: &Masks<'_, '_>, at: usize, end: usize) -> boo
 
 // Whether one plain run stands from one place up to another, or two with an `@` between them.
 fn is_plain_call_id(masks: &Masks<'_, '_>, at: usize, end: usize) -> bool
-    requires { end ≤ length masks.now }
+    requires { (at ≤ end) × (end ≤ length masks.now) }
     ensures { IsTrue result → CallId (segment at end masks.now) }
 {
     let Some(word) = past_any_run(masks, at, end) else {
@@ -53,7 +53,7 @@ pub(crate) fn cseq_at<'a>(masks: &Masks<'a, '_>, at: usize, end: usize) -> Optio
 
 // The CSeq from one place up to another, if a short number, a SP and a plain method stand there.
 fn plain_cseq<'a>(masks: &Masks<'a, '_>, at: usize, end: usize) -> Option<CSeq<'a>>
-    requires { end ≤ length masks.now }
+    requires { (at ≤ end) × (end ≤ length masks.now) }
     ensures { IfSome result (λ cseq. CSeqValue (segment at end masks.now) (cseq_parts cseq)) }
 {
     let digits = past_run(masks, at, end)?;

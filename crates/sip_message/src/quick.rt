@@ -1,24 +1,24 @@
 //! The quick reader of ordinary heads: no line of theirs is folded, and no blank stands before a colon.
 //! It finds the ends of lines and of names in masks of the text. What is not ordinary it leaves to the
 //! reader of all heads.
-ghost use Rattle.std.specs.Prelude.{◌≡◌, ◌+◌, ◌-◌, ◌^◌, ◌≤◌, ◌<◌, ◌++◌, [], IsTrue, IfOk, IfSome, length, take, drop};
+ghost use Rattle.std.specs.Prelude.{◌≡◌, ◌+◌, ◌-◌, ◌^◌, ◌≤◌, ◌<◌, ◌++◌, [], true, IsTrue, IfOk, IfSome, length, take, drop};
 ghost use Rattle.sip_message.specs.inner.Lines.{with_end};
 ghost use Rattle.sip_message.specs.inner.FieldText.{Row, ValueText, FieldText};
 ghost use Rattle.sip_message.specs.inner.Views.{name_parts, field_parts, fields_parts};
 ghost use Rattle.sip_message.specs.ValueParts.{start_parts};
 ghost use Rattle.sip_message.specs.inner.Asked.{AskedOf, AsksMore, KeepsVia};
 ghost use Rattle.sip_message.specs.inner.Plain.{segment, SomeAddress};
+ghost use Rattle.sip_message.specs.inner.Values.{is_solid};
 ghost use Rattle.sip_message.specs.inner.Quick.{IsOpen, AreOrdinary, IsOrdinary, PushesField};
 
 use crate::asked::{Asked, keep_once, keep_one};
-use crate::cursor::past;
 use crate::field::Field;
 use crate::name::{Known, Name, quick_name};
 use crate::plain::is_plain_address;
 use crate::plain_start::start_up_to;
 use crate::plain_values::{cseq_at, is_call_id_at};
 use crate::plain_via::plain_via;
-use crate::row::{is_address, is_solid};
+use crate::row::is_address;
 use crate::start_line::StartLine;
 use crate::values::is_length;
 use crate::via::{Via, first_via};
@@ -137,10 +137,10 @@ fn push_ordinary<'a>(
     if len == 0 || len >= end - at || text[at + len] != b':' {
         return Ok(false);
     }
-    let name = quick_name(&text[at..], len);
     let Some(from) = value_place(text, at + len + 1, end) else {
         return Ok(false);
     };
+    let name = quick_name(&text[at..], len);
     if !is_value_at(masks, from, end, name, asked) {
         return Ok(false);
     }
@@ -153,17 +153,32 @@ fn push_ordinary<'a>(
 
 // The place where the value between two places begins, if at most one SP stands before it, and it neither begins nor
 // ends with a blank.
-#[inline]
+#[inline(always)]
 fn value_place(text: &[u8], at: usize, end: usize) -> Option<usize>
     requires { (at ≤ end) × (end ≤ length text.now) }
     ensures within { IfSome result (λ from. (at ≤ from) × (from ≤ end)) }
     ensures value { IfSome result (λ from. ValueText (segment at end text.now) (segment from end text.now)) }
 {
-    let rest = &text[at..end];
-    let Some(value) = past(rest, b' ') else {
-        return if is_solid(rest) { Some(at) } else { None };
-    };
-    if is_solid(value) { Some(at + 1) } else { None }
+    if at < end && text[at] == b' ' && is_solid_at(text, at + 1, end) {
+        return Some(at + 1);
+    }
+    if is_solid_at(text, at, end) {
+        Some(at)
+    } else {
+        None
+    }
+}
+
+// Whether the bytes between two places neither begin nor end with SP or with a byte below it.
+#[inline(always)]
+fn is_solid_at(text: &[u8], at: usize, end: usize) -> bool
+    requires { (at ≤ end) × (end ≤ length text.now) }
+    ensures { IsTrue result → is_solid (segment at end text.now) ≡ true }
+{
+    if at == end || text[at] <= b' ' || text[end - 1] <= b' ' {
+        return false;
+    }
+    true
 }
 
 // Whether a field of this name may have the value between two places, in which no control stands. What

@@ -5,17 +5,24 @@ use Rattle.sip_machine.specs.Rules.{MachineRules}
 use Rattle.sip_standard.specs.Figure.{Owing}
 use Rattle.sip_machine.specs.FigureRules.{rules_of as rules_of_figure}
 use Rattle.sip_machine.specs.Owing.{CodeOwing}
-use Rattle.sip_machine.specs.inner.Coded.{Coded, idle_state}
+use Rattle.sip_machine.specs.inner.Coded.{Coded, IsCoded, idle_state}
 use Rattle.sip_machine.specs.inner.InviteClient.{invite_client_coded}
+use Rattle.sip_machine.specs.inner.InviteClient.Laws.{invite_client_is_coded}
 use Rattle.sip_machine.specs.inner.PlainClient.{plain_client_coded}
+use Rattle.sip_machine.specs.inner.PlainClient.Laws.{plain_client_is_coded}
 use Rattle.sip_machine.specs.inner.InviteServer.{invite_server_coded}
+use Rattle.sip_machine.specs.inner.InviteServer.Laws.{invite_server_is_coded}
 use Rattle.sip_machine.specs.inner.InviteClient3261.{invite_client_3261_coded}
+use Rattle.sip_machine.specs.inner.InviteClient3261.Laws.{invite_client_3261_is_coded}
 use Rattle.sip_machine.specs.inner.InviteServer3261.{invite_server_3261_coded}
+use Rattle.sip_machine.specs.inner.InviteServer3261.Laws.{invite_server_3261_is_coded}
 use Rattle.sip_machine.specs.inner.PlainServer.{plain_server_coded}
+use Rattle.sip_machine.specs.inner.PlainServer.Laws.{plain_server_is_coded}
 use Rattle.sip_states.specs.Held.{Held}
 use Rattle.sip_states.specs.declared.any_set.AnySet.{AnySet}
 use Rattle.sip_states.specs.declared.any_set.AnySet.TheVariants.{InviteClient, PlainClient, InviteServer, PlainServer, InviteClient3261, InviteServer3261}
 use Rattle.sip_standard.specs.KeyMachine.{MachineKind, OfInviteClient, OfPlainClient, OfInviteServer, OfPlainServer, OfInviteClient3261, OfInviteServer3261, transaction_of}
+use Rattle.sip_standard.specs.PhaseWords.{words_of}
 
 -- a state of the machine: a phase, and what is owed
 abbrev pub PhaseOf : MachineKind → Type 0
@@ -27,14 +34,24 @@ key_rules p machine = rules_of_figure (transaction_of machine).figure p
 
 -- What follows is how the code represents the machines and the sets of their states.
 
--- how the code represents each machine
+-- a machine as the code has it: its phases, that they are those of its figure, and the set of its states
+pub record MachineCode (machine : MachineKind) : Type 1 where
+  pub phases : Coded (transaction_of machine).Phase
+  pub are_coded : IsCoded (transaction_of machine).figure (words_of machine) phases
+  pub set : Held Times (CodeOwing phases.Code) → AnySet
+
+-- each machine as the code has it
+abbrev pub code_of : (machine : MachineKind) → MachineCode machine
+code_of OfInviteClient = record { phases = invite_client_coded; are_coded = invite_client_is_coded; set = λ s. InviteClient s }
+code_of OfPlainClient = record { phases = plain_client_coded; are_coded = plain_client_is_coded; set = λ s. PlainClient s }
+code_of OfInviteServer = record { phases = invite_server_coded; are_coded = invite_server_is_coded; set = λ s. InviteServer s }
+code_of OfPlainServer = record { phases = plain_server_coded; are_coded = plain_server_is_coded; set = λ s. PlainServer s }
+code_of OfInviteClient3261 = record { phases = invite_client_3261_coded; are_coded = invite_client_3261_is_coded; set = λ s. InviteClient3261 s }
+code_of OfInviteServer3261 = record { phases = invite_server_3261_coded; are_coded = invite_server_3261_is_coded; set = λ s. InviteServer3261 s }
+
+-- how the code represents the machine
 abbrev pub coded_of : (machine : MachineKind) → Coded (transaction_of machine).Phase
-coded_of OfInviteClient = invite_client_coded
-coded_of OfPlainClient = plain_client_coded
-coded_of OfInviteServer = invite_server_coded
-coded_of OfPlainServer = plain_server_coded
-coded_of OfInviteClient3261 = invite_client_3261_coded
-coded_of OfInviteServer3261 = invite_server_3261_coded
+coded_of machine = (code_of machine).phases
 
 -- a state of the machine as the code represents it
 abbrev pub StateOf : MachineKind → Type 0
@@ -42,12 +59,7 @@ StateOf machine = CodeOwing (coded_of machine).Code
 
 -- the set of this machine that holds these states
 abbrev pub set_of : (machine : MachineKind) → Held Times (StateOf machine) → AnySet
-set_of OfInviteClient s = InviteClient s
-set_of OfPlainClient s = PlainClient s
-set_of OfInviteServer s = InviteServer s
-set_of OfPlainServer s = PlainServer s
-set_of OfInviteClient3261 s = InviteClient3261 s
-set_of OfInviteServer3261 s = InviteServer3261 s
+set_of machine s = (code_of machine).set s
 
 module _ {ℓ} (P : AnySet → Type ℓ) (of : (machine : MachineKind) (s : Held Times (StateOf machine)) → P (set_of machine s)) where
   -- what is given of the set of each machine, given of any set
@@ -69,9 +81,4 @@ held_at_start p machine = record { machine = p; moment = 0; states = idle_state 
 
 -- the set that a machine starts with, as one of the sets of all machines
 abbrev pub start_of_machine : Times → MachineKind → AnySet
-start_of_machine p OfInviteClient = InviteClient (held_at_start p OfInviteClient)
-start_of_machine p OfPlainClient = PlainClient (held_at_start p OfPlainClient)
-start_of_machine p OfInviteServer = InviteServer (held_at_start p OfInviteServer)
-start_of_machine p OfPlainServer = PlainServer (held_at_start p OfPlainServer)
-start_of_machine p OfInviteClient3261 = InviteClient3261 (held_at_start p OfInviteClient3261)
-start_of_machine p OfInviteServer3261 = InviteServer3261 (held_at_start p OfInviteServer3261)
+start_of_machine p machine = set_of machine (held_at_start p machine)

@@ -8,40 +8,63 @@ ghost use Rattle.sip_states.specs.Told.{AreTold};
 use crate::state_set::{StateSet, TakeError};
 use crate::told::{ToldState, told_states};
 use sip_key::{Key, Role};
-use sip_machine::{
-    Book, Event, InviteClient, InviteClient3261, InviteServer, InviteServer3261, Params,
-    PlainClient, PlainServer, Rules,
-};
+use sip_machine::{Book, Event, Params, Rules};
 use std::alloc::{AllocError, Global};
 
 /// The states in which the runs of one of the machines of RFC 3261 section 17 can stand.
 #[derive(Debug, Drop)]
 pub enum AnySet {
     /// The INVITE client of section 17.1.1, with the accepted state of RFC 6026.
-    InviteClient(StateSet<InviteClient>),
+    InviteClient(StateSet<sip_machine::InviteClient>),
     /// The non-INVITE client of section 17.1.2.
-    PlainClient(StateSet<PlainClient>),
+    PlainClient(StateSet<sip_machine::PlainClient>),
     /// The INVITE server of section 17.2.1, with the accepted state of RFC 6026.
-    InviteServer(StateSet<InviteServer>),
+    InviteServer(StateSet<sip_machine::InviteServer>),
     /// The non-INVITE server of section 17.2.2.
-    PlainServer(StateSet<PlainServer>),
+    PlainServer(StateSet<sip_machine::PlainServer>),
     /// The INVITE client of section 17.1.1, without the accepted state of RFC 6026.
-    InviteClient3261(StateSet<InviteClient3261>),
+    InviteClient3261(StateSet<sip_machine::InviteClient3261>),
     /// The INVITE server of section 17.2.1, without the accepted state of RFC 6026.
-    InviteServer3261(StateSet<InviteServer3261>),
+    InviteServer3261(StateSet<sip_machine::InviteServer3261>),
+}
+
+/// Gives the macro `$then` what stands in brackets, and each machine with its keys: their role, whether their method is INVITE, and
+/// the rules.
+macro_rules! machines {
+    ($then:ident $given:tt) => {
+        $then! { $given
+            InviteClient: (Role::Client, true, Rules::R6026),
+            PlainClient: (Role::Client, false, _),
+            InviteServer: (Role::Server, true, Rules::R6026),
+            PlainServer: (Role::Server, false, _),
+            InviteClient3261: (Role::Client, true, Rules::R3261),
+            InviteServer3261: (Role::Server, true, Rules::R3261),
+        }
+    };
+}
+
+/// The set with which the machine of a key starts.
+macro_rules! start_of_machine {
+    ([$key:expr, $alloc:expr, $params:expr] $($name:ident: $of:pat,)*) => {
+        match $key {
+            $($of => AnySet::$name(StateSet::start($alloc, sip_machine::$name::new($params))?),)*
+        }
+    };
+}
+
+/// What `$answer` gives of the set of states, whichever of the machines it is of.
+macro_rules! answer_of_machine {
+    ([$any:expr, $set:ident => $answer:expr] $($name:ident: $of:pat,)*) => {
+        match $any {
+            $(AnySet::$name($set) => $answer,)*
+        }
+    };
 }
 
 /// What `$answer` gives of the set of states that a set of any machine holds.
 macro_rules! each_machine {
     ($any:expr, $set:ident => $answer:expr) => {
-        match $any {
-            AnySet::InviteClient($set) => $answer,
-            AnySet::PlainClient($set) => $answer,
-            AnySet::InviteServer($set) => $answer,
-            AnySet::PlainServer($set) => $answer,
-            AnySet::InviteClient3261($set) => $answer,
-            AnySet::InviteServer3261($set) => $answer,
-        }
+        machines!(answer_of_machine [$any, $set => $answer])
     };
 }
 
@@ -51,26 +74,8 @@ impl AnySet {
         ensures { IfOk result (λ set. set ≡ start_of params key.now) }
     {
         let is_invite = key.method() == b"INVITE".as_slice();
-        let set = match (key.role(), is_invite, params.rules()) {
-            (Role::Client, true, Rules::R6026) => {
-                AnySet::InviteClient(StateSet::start(alloc, InviteClient::new(params))?)
-            }
-            (Role::Client, true, Rules::R3261) => {
-                AnySet::InviteClient3261(StateSet::start(alloc, InviteClient3261::new(params))?)
-            }
-            (Role::Client, false, _) => {
-                AnySet::PlainClient(StateSet::start(alloc, PlainClient::new(params))?)
-            }
-            (Role::Server, true, Rules::R6026) => {
-                AnySet::InviteServer(StateSet::start(alloc, InviteServer::new(params))?)
-            }
-            (Role::Server, true, Rules::R3261) => {
-                AnySet::InviteServer3261(StateSet::start(alloc, InviteServer3261::new(params))?)
-            }
-            (Role::Server, false, _) => {
-                AnySet::PlainServer(StateSet::start(alloc, PlainServer::new(params))?)
-            }
-        };
+        let set =
+            machines!(start_of_machine [(key.role(), is_invite, params.rules()), alloc, params]);
         Ok(set)
     }
 

@@ -1,11 +1,11 @@
 //! The states in which the runs of a machine can stand at a moment.
-ghost use Rattle.std.specs.Prelude.{◌≡◌, ◌≢◌, ◌↔◌, ◌+◌, ◌⊎◌, [], ◌∷◌, ◌<◌, ◌≤◌, OnOk, OnErr, All, AllPairs, Any, Contains, IfOk, IsErrOf, IsTrue, flat_map, length, map, take};
+ghost use Rattle.std.specs.Prelude.{◌≡◌, ◌≢◌, ◌↔◌, ◌+◌, ◌⊎◌, [], ◌∷◌, ◌<◌, ◌≤◌, false, OnOk, OnErr, All, AllPairs, Any, Contains, IfOk, IsErrOf, IsTrue, flat_map, length, map, take};
 ghost use Rattle.std.specs.Bool.{OnTrue, OnFalse};
 ghost use Rattle.std.specs.List.{HoldsAt};
 ghost use Rattle.sip_machine.specs.Texts.{Texts, IsBook};
 ghost use Rattle.sip_machine.specs.NumberedEvent.{FitsBook, event_in};
 ghost use Rattle.sip_machine.specs.Naming.{AppendsAll};
-ghost use Rattle.sip_machine.specs.Owing.{CodeOwing};
+ghost use Rattle.sip_machine.specs.Owing.{CodeOwing, owing_names};
 ghost use Rattle.sip_machine.specs.Rules.{Knows, StandFor};
 ghost use Rattle.sip_machine.specs.Pools.{picked};
 ghost use Rattle.sip_states.specs.Held.{IsKept};
@@ -227,7 +227,8 @@ impl<M: Machine> StateSet<M> {
 impl<M: Phases> StateSet<M> {
     /// Whether a state may name the message with this number. A state that owes something is taken to name any.
     pub(crate) fn may_name(&self, number: u64) -> bool
-        ensures { IsTrue result ↔ Any (MayName M.names number) self.now.states }
+        ensures may { IsTrue result ↔ Any (MayName M.names number) self.now.states }
+        ensures none { result ≡ false → ¬ Contains (flat_map (owing_names M.names) self.now.states) number }
     {
         for at in 0..self.states.len() {
             if state_may_name(&self.machine, &self.states, at, number) {

@@ -1,27 +1,21 @@
 -- Accounts stay accounts, and owe what they owed, while gains and strikes grow, are let go or are dropped.
-use Rattle.std.proofs.Common.{◌≡◌, ◌≢◌, ℕ, zero, suc, ◌+◌, ◌<◌, ◌≤◌, ◌==◌, ◌&&◌, ◌||◌, Bool, true, false, cond, not, List, [], ◌∷◌, ◌++◌, length, take, drop, get_or, set, map, filter, refl, sym, ap, ap₂, ◌∙◌, subst, inl, inr, arith}
+use Rattle.std.proofs.Common.{◌≡◌, ◌≢◌, ℕ, ◌+◌, ◌<◌, ◌≤◌, ◌&&◌, ◌||◌, Bool, true, false, not, List, [], ◌∷◌, ◌++◌, length, take, drop, get_or, set, append-nil, refl, sym, ap, ap₂, ◌∙◌, subst, inl, inr, arith}
 use Rattle.std.specs.Prelude.{All, nat_le, nat_lt}
-use Rattle.std.proofs.lemmas.Bool.{cases_eq, cases_lt, false_from_ne_true, true≢false}
-use Rattle.std.proofs.Math.Bool.{and-false}
-use Rattle.std.proofs.lemmas.Bool.Decides.{nat_tests}
-use Rattle.std.proofs.lemmas.List.{drop-map, get_or_append_left, get_or-map, length-append, length-map, length-take, map-append, map-set, take-map, take-take}
-use Rattle.std.proofs.lemmas.List.Elements.{All-cons, All-drop, All-get_or, All-head, All-nil, All-push, All-set, All-tail, All-take}
+use Rattle.std.proofs.lemmas.Bool.{cases_eq, cases_lt, le-leb, le-ltb, lt-leb, true≢false}
+use Rattle.std.proofs.Math.Bool.{and-false, and-true}
+use Rattle.std.proofs.lemmas.List.{drop-map, get_or_append_left, get_or-map, get_or-take, length-map, length-take, length-take-le, map-append, map-set, take-map, take-take}
+use Rattle.std.proofs.lemmas.List.Elements.{All-cons, All-drop, All-get_or, All-head, All-nil, All-push, All-set, All-tail, All-take, All-weaker}
 use Rattle.sip_ledger.specs.declared.debt.Debt.{Debt}
 use Rattle.sip_ledger.specs.declared.debt.Entry.{Entry}
 use Rattle.sip_ledger.specs.declared.accounts.account.Account.{Account}
 use Rattle.sip_ledger.specs.declared.accounts.gains.Gains.{Gains}
 use Rattle.sip_ledger.specs.declared.accounts.strikes.Strike.{Strike}
 use Rattle.sip_ledger.specs.Accounts.{debts_print}
-use Rattle.sip_ledger.specs.Entries.{debt_of, debts_from}
 use Rattle.sip_ledger.specs.inner.Accounts.{AreAccounts, AreGains, AreSameGains, IsAccount, IsDropped, IsGain, IsKept, IsLetGo, KeepsAccounts, account_debts, accounts_debts, blank, entries_of, entry_at, is_gone, is_left, is_struck, must_at, owes_at, strikes_of}
 use Rattle.sip_ledger.specs.Indexes.{holds}
-use Rattle.sip_ledger.proofs.debts.ListedLemmas.{listed-same, listed-none}
-use Rattle.sip_ledger.proofs.debts.OwedLemmas.{grown-debts}
+use Rattle.sip_ledger.proofs.debts.ListedLemmas.{back-none, front, listed-same, listed-none, parts}
+use Rattle.sip_ledger.proofs.gains.FlagLemmas.{left-as}
 use Rattle.sip_ledger.proofs.gains.LeftLemmas.{entries-long, left-kept, listed-alike, owed-left, unleft-unowed}
-
--- where n is at most m, the test of m < n fails
-lt-no : (m n : ℕ) → n ≤ m → nat_lt m n ≡ false
-lt-no m n is = grind (arith, nat_tests)
 
 -- an account keeps its strikes when others are put after them
 pub kept-strikes : (old new : List Strike) (a : Account) → take (length old) new ≡ old → a.last ≤ length old → strikes_of new a ≡ strikes_of old a
@@ -66,17 +60,25 @@ kept-account gains old new a kept is =
       print = is.print ∙ ap debts_print (sym (kept-debts gains old new a kept last));
     }
 
+-- the account is one over other gains and strikes too, and owes what it owed
+abbrev pub Stays : Gains → Gains → List Strike → List Strike → Account → Type 0
+Stays old new strikes strikes' a = IsAccount new strikes' a × (account_debts new strikes' a ≡ account_debts old strikes a)
+
+-- where each of the accounts stays, they all do, with the debts that they had
+each-stays : (old new : Gains) (strikes strikes' : List Strike) (rows : List Account) → All (Stays old new strikes strikes') rows →
+    All (IsAccount new strikes') rows × (accounts_debts new strikes' rows ≡ accounts_debts old strikes rows)
+unfolding accounts_debts
+each-stays old new strikes strikes' [] each = (All-nil (IsAccount new strikes'), refl)
+each-stays old new strikes strikes' (a ∷ rows) each =
+    let here = All-head (Stays old new strikes strikes') a rows each in
+    let rest = each-stays old new strikes strikes' rows (All-tail (Stays old new strikes strikes') a rows each) in
+    (All-cons (IsAccount new strikes') a rows here.0 rest.0, ap₂ (λ d ds. d ∷ ds) here.1 rest.1)
+
 -- where strikes are appended, accounts stay accounts and owe what they owed
 pub kept-all : (gains : Gains) (old new : List Strike) (rows : List Account) → take (length old) new ≡ old → All (IsAccount gains old) rows →
     All (IsAccount gains new) rows × (accounts_debts gains new rows ≡ accounts_debts gains old rows)
-unfolding accounts_debts
-kept-all gains old new [] kept each = (All-nil (IsAccount gains new), refl)
-kept-all gains old new (a ∷ rows) kept each =
-    let here = All-head (IsAccount gains old) a rows each in
-    let rest = kept-all gains old new rows kept (All-tail (IsAccount gains old) a rows each) in (
-      All-cons (IsAccount gains new) a rows (kept-account gains old new a kept here) rest.0,
-      ap₂ (λ d ds. d ∷ ds) (kept-debts gains old new a kept here.last) rest.1,
-    )
+kept-all gains old new rows kept each =
+    each-stays gains gains old new rows (All-weaker (IsAccount gains old) (Stays gains gains old new) (λ a is. (kept-account gains old new a kept is, kept-debts gains old new a kept is.last)) rows each)
 
 -- where one of the accounts is replaced, and the strikes may have grown, all are accounts, and the others owe what they owed
 pub changed : (gains : Gains) (old new : List Strike) (rows : List Account) (row : ℕ) (a : Account) → take (length old) new ≡ old → AreAccounts gains old rows →
@@ -94,39 +96,22 @@ pub soft-must : (gains : Gains) (a b : Account) (k : ℕ) → b.soft ≡ a.soft 
 unfolding must_at
 soft-must gains a b k soft = ap (λ s. holds gains.musts 0 k && nat_le s k) soft
 
--- where n is below m, the test of m ≤ n fails
-le-no : (m n : ℕ) → n < m → nat_le m n ≡ false
-le-no m n is = grind (arith, nat_tests)
-
--- where m is at most n, the test of m ≤ n passes
-le-yes : (m n : ℕ) → m ≤ n → nat_le m n ≡ true
-le-yes m n is = grind (arith, nat_tests)
-
 -- a gain below `soft` need not be sent
 pub must-below : (gains : Gains) (a : Account) (k : ℕ) → k < a.soft → false ≡ must_at gains a k
 unfolding must_at
-must-below gains a k low = sym (ap (λ b. holds gains.musts 0 k && b) (le-no a.soft k low) ∙ and-false (holds gains.musts 0 k))
+must-below gains a k low = sym (ap (λ b. holds gains.musts 0 k && b) (lt-leb a.soft k low) ∙ and-false (holds gains.musts 0 k))
 
 -- a gain from `soft` on must be sent if it must be as it was gained
 pub must-from : (gains : Gains) (a : Account) (k : ℕ) → a.soft ≤ k → holds gains.musts 0 k ≡ must_at gains a k
 unfolding must_at
-must-from gains a k high = sym (ap (λ b. holds gains.musts 0 k && b) (le-yes a.soft k high) ∙ and-true (holds gains.musts 0 k))
-  where
-    and-true : (b : Bool) → (b && true) ≡ b
-    and-true true = refl
-    and-true false = refl
-
--- `a && false && x` is false
-and-false-middle : (a x : Bool) → (a && (false && x)) ≡ false
-and-false-middle true x = refl
-and-false-middle false x = refl
+must-from gains a k high = sym (ap (λ b. holds gains.musts 0 k && b) (le-leb a.soft k high) ∙ and-true (holds gains.musts 0 k))
 
 -- an account owes nothing at its end or after it
 pub past-end : (gains : Gains) (strikes : List Strike) (a : Account) (k : ℕ) → a.end ≤ k → owes_at gains strikes a k ≡ false
 unfolding owes_at
 past-end gains strikes a k past =
-    ap (λ b. nat_le a.start k && (b && not (is_gone gains (strikes_of strikes a) k))) (lt-no k a.end past)
-    ∙ and-false-middle (nat_le a.start k) (not (is_gone gains (strikes_of strikes a) k))
+    ap (λ b. nat_le a.start k && (b && not (is_gone gains (strikes_of strikes a) k))) (le-ltb k a.end past)
+    ∙ and-false (nat_le a.start k)
 
 -- what an account owes lies below its end
 pub owed-within : (gains : Gains) (strikes : List Strike) (a : Account) (k : ℕ) → owes_at gains strikes a k ≡ true → k < a.end
@@ -150,21 +135,12 @@ kept-from k are is low high =
     let end = is.end in
     kept-passed k are is (omega (arith, low, high)) low (omega (arith, high, end))
 
--- where an entry is the same among old and new gains, and is left in both or in neither, it is gone in both or in neither
-gone-over : (old new : Gains) (own : List Strike) (k : ℕ) → entry_at (entries_of new) k ≡ entry_at (entries_of old) k → is_left new k ≡ is_left old k → is_gone new own k ≡ is_gone old own k
-unfolding is_gone
-gone-over old new own k entry left = ap₂ (λ (l : Bool) (e : Entry). not l || is_struck own e.message k) left entry
-
 -- where an entry is the same among old and new gains, and is left in both or in neither, an account owes it in both or in neither
 owes-over : (old new : Gains) (strikes : List Strike) (a : Account) (k : ℕ) → entry_at (entries_of new) k ≡ entry_at (entries_of old) k → is_left new k ≡ is_left old k →
     owes_at new strikes a k ≡ owes_at old strikes a k
-unfolding owes_at
-owes-over old new strikes a k entry left = ap (λ b. nat_le a.start k && (nat_lt k a.end && not b)) (gone-over old new (strikes_of strikes a) k entry left)
-
--- a gain whose entry is the same, and under whose message the same places stand, is left in both or in neither
-left-over : (old new : Gains) (k : ℕ) → entry_at (entries_of new) k ≡ entry_at (entries_of old) k → ((m : ℕ) → holds new.messages m k ≡ holds old.messages m k) → is_left new k ≡ is_left old k
-unfolding is_left
-left-over old new k entry messages = messages (entry_at (entries_of new) k).message ∙ ap (λ (e : Entry). holds old.messages e.message k) entry
+unfolding owes_at is_gone
+owes-over old new strikes a k entry left =
+    ap₂ (λ (l : Bool) (e : Entry). nat_le a.start k && (nat_lt k a.end && not (not l || is_struck (strikes_of strikes a) e.message k))) left entry
 
 -- a gain whose place stands under no message is not left
 not-left : (gains : Gains) (k : ℕ) → ((m : ℕ) → holds gains.messages m k ≡ false) → is_left gains k ≡ false
@@ -177,23 +153,29 @@ pub record OwesAlike (old new : Gains) (strikes : List Strike) (a : Account) : T
   pub same : (k : ℕ) → owes_at old strikes a k ≡ true → (entry_at (entries_of new) k ≡ entry_at (entries_of old) k) × (holds new.musts 0 k ≡ holds old.musts 0 k)
 
 -- an account that owes alike over old and new gains has the same debts
-over-debts : (old new : Gains) (strikes : List Strike) (a : Account) → length (entries_of new) ≡ length (entries_of old) → OwesAlike old new strikes a →
-    account_debts new strikes a ≡ account_debts old strikes a
+over-debts : (old new : Gains) (strikes : List Strike) (a : Account) → length (entries_of old) ≤ length (entries_of new) → a.end ≤ length (entries_of old) →
+    OwesAlike old new strikes a → account_debts new strikes a ≡ account_debts old strikes a
 unfolding account_debts must_at
-over-debts old new strikes a long alike =
-    listed-alike (owes_at new strikes a) (must_at new a) (owes_at old strikes a) (must_at old a) 0 (entries_of new) (entries_of old) long
+over-debts old new strikes a long end alike =
+    let n = length (entries_of old) in
+    let short : length (take n (entries_of new)) ≡ n = length-take-le n (entries_of new) long in
+    parts (owes_at new strikes a) (must_at new a) (entries_of new) n long
+    ∙ ap (λ l. front (owes_at new strikes a) (must_at new a) (entries_of new) n ++ l)
+    (back-none (owes_at new strikes a) (must_at new a) (entries_of new) n (λ k past. past-end new strikes a k (omega (arith, past, end))))
+    ∙ append-nil (front (owes_at new strikes a) (must_at new a) (entries_of new) n)
+    ∙ listed-alike (owes_at new strikes a) (must_at new a) (owes_at old strikes a) (must_at old a) 0 (take n (entries_of new)) (entries_of old) short
     (λ j below.
     let here : 0 + j ≡ j = omega arith in
     ap (owes_at new strikes a) here ∙ alike.owes j ∙ ap (owes_at old strikes a) (sym here))
     (λ j below is.
     let here : 0 + j ≡ j = omega arith in
     let both = alike.same j (sym (alike.owes j) ∙ ap (owes_at new strikes a) (sym here) ∙ is) in (
-      both.0,
+      get_or-take n (entries_of new) j blank (omega (arith, below, short)) ∙ both.0,
       ap (λ n. holds new.musts 0 n && nat_le a.soft n) here ∙ ap (λ b. b && nat_le a.soft j) both.1 ∙ ap (λ n. holds old.musts 0 n && nat_le a.soft n) (sym here),
     ))
 
 -- an account that owes alike over old and new gains stays one
-over-account : (old new : Gains) (strikes : List Strike) (a : Account) → length (entries_of new) ≡ length (entries_of old) → OwesAlike old new strikes a → IsAccount old strikes a →
+over-account : (old new : Gains) (strikes : List Strike) (a : Account) → length (entries_of old) ≤ length (entries_of new) → OwesAlike old new strikes a → IsAccount old strikes a →
     IsAccount new strikes a
 over-account old new strikes a long alike is =
     let end = is.end in
@@ -206,36 +188,29 @@ over-account old new strikes a long alike is =
       last = is.last;
       bound = λ m k past. is.bound m k (omega (arith, past, long));
       begins = λ some. alike.owes a.start ∙ is.begins some;
-      print = is.print ∙ ap debts_print (sym (over-debts old new strikes a long alike));
+      print = is.print ∙ ap debts_print (sym (over-debts old new strikes a long end alike));
     }
 
 -- accounts that owe alike over old and new gains stay accounts, with the same debts
-pub over-all : (old new : Gains) (strikes : List Strike) (rows : List Account) → length (entries_of new) ≡ length (entries_of old) → All (OwesAlike old new strikes) rows →
+pub over-all : (old new : Gains) (strikes : List Strike) (rows : List Account) → length (entries_of old) ≤ length (entries_of new) → All (OwesAlike old new strikes) rows →
     All (IsAccount old strikes) rows → All (IsAccount new strikes) rows × (accounts_debts new strikes rows ≡ accounts_debts old strikes rows)
-unfolding accounts_debts
-over-all old new strikes [] long alike each = (All-nil (IsAccount new strikes), refl)
-over-all old new strikes (a ∷ rows) long alike each =
-    let here = All-head (OwesAlike old new strikes) a rows alike in
-    let rest = over-all old new strikes rows long (All-tail (OwesAlike old new strikes) a rows alike) (All-tail (IsAccount old strikes) a rows each) in (
-      All-cons (IsAccount new strikes) a rows (over-account old new strikes a long here (All-head (IsAccount old strikes) a rows each)) rest.0,
-      ap₂ (λ d ds. d ∷ ds) (over-debts old new strikes a long here) rest.1,
-    )
-
--- where each account owes alike over both gains, all accounts of a list do
-pub all-alike : (old new : Gains) (strikes : List Strike) (rows : List Account) → ((a : Account) → OwesAlike old new strikes a) → All (OwesAlike old new strikes) rows
-all-alike old new strikes [] each = All-nil (OwesAlike old new strikes)
-all-alike old new strikes (a ∷ rows) each = All-cons (OwesAlike old new strikes) a rows (each a) (all-alike old new strikes rows each)
+over-all old new strikes rows long alike each =
+    each-stays old new strikes strikes rows (λ k d below. (
+      over-account old new strikes (get_or rows k d) long (alike k d below) (each k d below),
+      over-debts old new strikes (get_or rows k d) long (each k d below).end (alike k d below),
+    ))
 
 -- accounts are kept over gains that are the same
 pub same-keeps : (old new : Gains) → AreSameGains old new → KeepsAccounts old new
 same-keeps old new same = record {
   each = λ strikes accounts are.
-      over-all old new strikes accounts (ap length same.entries) (all-alike old new strikes accounts (λ a.
+      over-all old new strikes accounts (omega (arith, ap length same.entries)) (λ k d below.
       let entry = λ (k : ℕ). ap (λ l. entry_at l k) same.entries in
+      let a = get_or accounts k d in
       record {
-        owes = λ k. owes-over old new strikes a k (entry k) (left-over old new k (entry k) (λ m. same.messages m k));
+        owes = λ k. owes-over old new strikes a k (entry k) (left-as old new k (entry k) (λ m. same.messages m k));
         same = λ k owed. (entry k, same.musts k);
-      })) are;
+      }) are;
 }
 
 -- an account owes alike where a gain is let go that it does not owe
@@ -247,7 +222,7 @@ let_go-alike old new strikes a place gone unowed =
         | inl is ↦
             ap (owes_at new strikes a) is ∙ unleft-unowed new strikes a place (not-left new place gone.here)
             ∙ sym (ap (owes_at old strikes a) is ∙ unowed)
-        | inr other ↦ owes-over old new strikes a k (entry k) (left-over old new k (entry k) (λ m. gone.others m k other))
+        | inr other ↦ owes-over old new strikes a k (entry k) (left-as old new k (entry k) (λ m. gone.others m k other))
       ];
       same = λ k owed. elim (cases_eq k place) [
         | inl is ↦ absurd (true≢false (sym owed ∙ ap (owes_at old strikes a) is ∙ unowed))
@@ -265,7 +240,7 @@ dropped-alike old new strikes a place dropped none =
         | inl early ↦
             unleft-unowed new strikes a k (not-left new k (λ m. messages m k ∙ none m k early))
             ∙ sym (unleft-unowed old strikes a k (not-left old k (λ m. none m k early)))
-        | inr above ↦ owes-over old new strikes a k (dropped.entries k above) (left-over old new k (dropped.entries k above) (λ m. messages m k))
+        | inr above ↦ owes-over old new strikes a k (dropped.entries k above) (left-as old new k (dropped.entries k above) (λ m. messages m k))
       ];
       same = λ k owed. elim (cases_lt k place) [
         | inl early ↦ absurd (true≢false (sym owed ∙ unleft-unowed old strikes a k (not-left old k (λ m. none m k early))))
@@ -273,63 +248,24 @@ dropped-alike old new strikes a place dropped none =
       ];
     }
 
--- an account that ends before a new gain does not owe the new gain, and owes what it owed
-pub grown-owes : (old new : Gains) (debt : Debt) (strikes : List Strike) (a : Account) (k : ℕ) → IsGain debt old new → a.end ≤ length (entries_of old) →
-    owes_at new strikes a k ≡ owes_at old strikes a k
-grown-owes old new debt strikes a k gain end = elim (cases_lt k a.end) [
-  | inl below ↦
-      let e : Entry = record { message = debt.message; deadline = debt.deadline } in
-      let inside : k < length (entries_of old) = omega (arith, below, end) in
+-- an account that ends before a new gain owes alike with it
+pub grown-alike : (old new : Gains) (debt : Debt) (strikes : List Strike) (a : Account) → IsGain debt old new → a.end ≤ length (entries_of old) → OwesAlike old new strikes a
+grown-alike old new debt strikes a gain end = record {
+  owes = λ k. elim (cases_lt k a.end) [
+    | inl below ↦
+        let inside : k < length (entries_of old) = omega (arith, below, end) in
+        let other : k ≢ length (entries_of old) = omega (arith, inside) in
+        owes-over old new strikes a k (entry k inside) (left-as old new k (entry k inside) (λ m. gain.messages m k other))
+    | inr past ↦ past-end new strikes a k past ∙ sym (past-end old strikes a k past)
+  ];
+  same = λ k owed.
+      let inside : k < length (entries_of old) = omega (arith, owed-within old strikes a k owed, end) in
       let other : k ≢ length (entries_of old) = omega (arith, inside) in
-      let entry : entry_at (entries_of new) k ≡ entry_at (entries_of old) k = ap (λ l. entry_at l k) gain.entries ∙ get_or_append_left (entries_of old) (e ∷ []) blank k inside in
-      owes-over old new strikes a k entry (left-over old new k entry (λ m. gain.messages m k other))
-  | inr past ↦ past-end new strikes a k past ∙ sym (past-end old strikes a k past)
-]
-
--- an account that ends before a new gain has the debts that it had
-pub grown-debts_of : (old new : Gains) (debt : Debt) (strikes : List Strike) (a : Account) → IsGain debt old new → a.end ≤ length (entries_of old) →
-    account_debts new strikes a ≡ account_debts old strikes a
-unfolding account_debts must_at
-grown-debts_of old new debt strikes a gain end =
-    let entries = entries_of old in
-    let entry : Entry = record { message = debt.message; deadline = debt.deadline } in
-    let o = owes_at new strikes a in
-    ap (λ (l : List Entry). debts_from o (must_at new a) 0 l) gain.entries
-    ∙ grown-debts entries entry o (must_at new a) (λ k is. omega (arith, owed-within new strikes a k is, end))
-    ∙ listed-same o (must_at new a) (owes_at old strikes a) (must_at old a) 0 entries
-    (λ k from below. let other : k ≢ length entries = omega (arith, below) in
-    (grown-owes old new debt strikes a k gain end, ap (λ b. b && nat_le a.soft k) (gain.musts k other)))
-
--- an account stays one when a gain comes
-pub grown-account : (old new : Gains) (debt : Debt) (strikes : List Strike) (a : Account) → IsGain debt old new → IsAccount old strikes a → IsAccount new strikes a
-grown-account old new debt strikes a gain is =
-    let entries = entries_of old in
-    let entry : Entry = record { message = debt.message; deadline = debt.deadline } in
-    let longer : length (entries_of new) ≡ length entries + 1 = ap length gain.entries ∙ length-append entries (entry ∷ []) in
-    let end = is.end in
-    let soft = is.soft in
-    record {
-      order = is.order;
-      end = omega (arith, end, longer);
-      soft = omega (arith, soft, longer);
-      first = is.first;
-      last = is.last;
-      bound = λ m k past. is.bound m k (omega (arith, past, longer));
-      begins = λ some. grown-owes old new debt strikes a a.start gain end ∙ is.begins some;
-      print = is.print ∙ ap debts_print (sym (grown-debts_of old new debt strikes a gain end));
-    }
-
--- accounts stay accounts, with the debts that they had, when a gain comes
-pub grown-all : (old new : Gains) (debt : Debt) (strikes : List Strike) (rows : List Account) → IsGain debt old new → All (IsAccount old strikes) rows →
-    All (IsAccount new strikes) rows × (accounts_debts new strikes rows ≡ accounts_debts old strikes rows)
-unfolding accounts_debts
-grown-all old new debt strikes [] gain each = (All-nil (IsAccount new strikes), refl)
-grown-all old new debt strikes (a ∷ rows) gain each =
-    let here = All-head (IsAccount old strikes) a rows each in
-    let rest = grown-all old new debt strikes rows gain (All-tail (IsAccount old strikes) a rows each) in (
-      All-cons (IsAccount new strikes) a rows (grown-account old new debt strikes a gain here) rest.0,
-      ap₂ (λ d ds. d ∷ ds) (grown-debts_of old new debt strikes a gain here.end) rest.1,
-    )
+      (entry k inside, gain.musts k other);
+}
+  where
+    entry : (k : ℕ) → k < length (entries_of old) → entry_at (entries_of new) k ≡ entry_at (entries_of old) k
+    entry k inside = ap (λ l. entry_at l k) gain.entries ∙ get_or_append_left (entries_of old) ((record { message = debt.message; deadline = debt.deadline }) ∷ []) blank k inside
 
 -- the debts in a row of the list are the debts of the account of that row
 pub row-debts : (gains : Gains) (strikes : List Strike) (rows : List Account) (row : ℕ) (a : Account) → row < length rows → a ≡ get_or rows row a →
@@ -344,9 +280,9 @@ pub row-account : (gains : Gains) (strikes : List Strike) (rows : List Account) 
 row-account gains strikes rows row a within is each = subst (IsAccount gains strikes) (sym is) (All-get_or (IsAccount gains strikes) rows row a within each)
 
 -- there are as many lists of debts as rows
-pub debts-length : (gains : Gains) (strikes : List Strike) (rows : List Account) → length (accounts_debts gains strikes rows) ≡ length rows
+pub debts_length : (gains : Gains) (strikes : List Strike) (rows : List Account) → length (accounts_debts gains strikes rows) ≡ length rows
 unfolding accounts_debts
-debts-length gains strikes rows = length-map rows (account_debts gains strikes)
+debts_length gains strikes rows = length-map rows (account_debts gains strikes)
 
 -- an account that ends where it starts has no debts
 pub empty-debts : (gains : Gains) (strikes : List Strike) (a : Account) → a.end ≤ a.start → account_debts gains strikes a ≡ []
@@ -354,12 +290,9 @@ unfolding account_debts owes_at
 empty-debts gains strikes a none =
     listed-none (owes_at gains strikes a) (must_at gains a) 0 (entries_of gains) (λ k from below. elim (cases_lt k a.end) [
       | inl early ↦
-          ap (λ b. b && (nat_lt k a.end && not (is_gone gains (strikes_of strikes a) k))) (le-not a.start k (omega (arith, early, none)))
+          ap (λ b. b && (nat_lt k a.end && not (is_gone gains (strikes_of strikes a) k))) (lt-leb a.start k (omega (arith, early, none)))
       | inr past ↦ past-end gains strikes a k past
     ])
-  where
-    le-not : (m n : ℕ) → n < m → nat_le m n ≡ false
-    le-not m n is = grind (arith, nat_tests)
 
 -- the account that owes nothing is one over any gains
 pub empty-account : (gains : Gains) (strikes : List Strike) → IsAccount gains strikes (record { start = 0; end = 0; soft = 0; first = 0; last = 0; print = 0 })

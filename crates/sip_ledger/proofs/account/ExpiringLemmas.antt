@@ -1,8 +1,8 @@
 -- An account drops what is past, place by place.
 use Rattle.std.proofs.Common.{◌≡◌, ◌≢◌, ℕ, ◌+◌, ◌<◌, ◌≤◌, ◌&&◌, ◌||◌, Bool, true, false, List, length, take, get_or, filter, refl, sym, ap, ap₂, ◌∙◌, subst, inl, inr, arith}
 use Rattle.std.specs.Prelude.{nat_le}
-use Rattle.std.proofs.Math.Bool.{and-false}
-use Rattle.std.proofs.lemmas.Bool.{cases_eq, cases_lt}
+use Rattle.std.proofs.Math.Bool.{and-false, and-true, or-true}
+use Rattle.std.proofs.lemmas.Bool.{cases_eq, cases_lt, le-leb, lt-leb}
 use Rattle.std.proofs.lemmas.List.{get_or_default}
 use Rattle.sip_ledger.specs.declared.debt.Entry.{Entry}
 use Rattle.sip_ledger.specs.declared.accounts.account.Account.{Account}
@@ -13,7 +13,7 @@ use Rattle.sip_ledger.specs.inner.Accounts.{AreGains, IsAccount, IsExpiredTo, Is
 use Rattle.sip_ledger.proofs.gains.LeftLemmas.{entries-long, rising-kept}
 use Rattle.sip_ledger.proofs.debts.ListedLemmas.{listed-counting, listed-same, no_entry}
 use Rattle.sip_ledger.proofs.account.AccountLemmas.{past-end, soft-must}
-use Rattle.sip_ledger.proofs.account.WithoutLemmas.{before-start, le-no, le-yes}
+use Rattle.sip_ledger.proofs.account.WithoutLemmas.{before-start}
 
 -- whether what is owed at a place counts still at t: it must be sent, or its deadline is not past
 abbrev counting : ℕ → List Entry → (ℕ → Bool) → (ℕ → Bool) → ℕ → Bool
@@ -26,10 +26,6 @@ unowed t entries m o o' k same none = same ∙ none ∙ sym (ap (λ b. b && (m k
 -- what is owed and counts still is owed once what is past is dropped
 counted : (t : ℕ) (entries : List Entry) (m o o' : ℕ → Bool) (k : ℕ) → o' k ≡ o k → (m k || nat_le t (entry_at entries k).deadline) ≡ true → o' k ≡ counting t entries m o k
 counted t entries m o o' k same counts = same ∙ sym (ap (λ b. o k && b) counts ∙ and-true (o k))
-  where
-    and-true : (b : Bool) → (b && true) ≡ b
-    and-true true = refl
-    and-true false = refl
 
 -- IsExpiredTo holds at the start of an account: nothing is owed before it
 pub expired-start : (t : ℕ) (gains : Gains) (strikes : List Strike) (m : ℕ → Bool) (a : Account) →
@@ -55,11 +51,7 @@ pub stays-early : (t : ℕ) (entries : List Entry) (m o o' : ℕ → Bool) (plac
     IsExpiredTo t entries m o o' (place + 1)
 stays-early t entries m o o' place was early =
     stays t entries m o o' place was
-    (counted t entries m o o' place (was.later place (omega arith)) (ap (λ b. m place || b) (le-yes t (entry_at entries place).deadline early) ∙ or-true (m place)))
-  where
-    or-true : (b : Bool) → (b || true) ≡ true
-    or-true true = refl
-    or-true false = refl
+    (counted t entries m o o' place (was.later place (omega arith)) (ap (λ b. m place || b) (le-leb t (entry_at entries place).deadline early) ∙ or-true (m place)))
 
 -- IsExpiredTo goes on over a gain that must be sent
 pub stays-must : (t : ℕ) (entries : List Entry) (m o o' : ℕ → Bool) (place : ℕ) → IsExpiredTo t entries m o o' place → m place ≡ true → IsExpiredTo t entries m o o' (place + 1)
@@ -75,7 +67,7 @@ goes t entries m o o' o'' place was late may without = record {
     | inl is ↦
         ap o'' is ∙ without.gone
         ∙ sym (and-false (o place))
-        ∙ sym (ap₂ (λ x y. o place && (x || y)) may (le-no t (entry_at entries place).deadline late))
+        ∙ sym (ap₂ (λ x y. o place && (x || y)) may (lt-leb t (entry_at entries place).deadline late))
         ∙ sym (ap (counting t entries m o) is)
     | inr other ↦ without.others k other ∙ was.gone k (omega (arith, early, other))
   ];
@@ -118,13 +110,9 @@ expired-rising gains old new a b t place soft gained rises kept early is =
           let count = entries-long gains gained.long in
           let above = rising-kept gains place k gained rises kept late (omega (arith, within, count)) in
           let counts : (must_at gains a k || nat_le t (entry_at (entries_of gains) k).deadline) ≡ true =
-          ap (λ b. must_at gains a k || b) (le-yes t (entry_at (entries_of gains) k).deadline (omega (arith, early, above))) ∙ or-true (must_at gains a k) in
+          ap (λ b. must_at gains a k || b) (le-leb t (entry_at (entries_of gains) k).deadline (omega (arith, early, above))) ∙ or-true (must_at gains a k) in
           counted t (entries_of gains) (must_at gains a) (owes_at gains old a) (owes_at gains new b) k (is.later k late) counts
     ])
-  where
-    or-true : (b : Bool) → (b || true) ≡ true
-    or-true true = refl
-    or-true false = refl
 
 -- the account b is a, without what is past at t before the place
 pub record IsExpiring (gains : Gains) (old new : List Strike) (a b : Account) (t place : ℕ) : Type 0 where

@@ -1,24 +1,20 @@
 -- The first debt of an account that a send pays.
-use Rattle.std.proofs.Common.{◌≡◌, ◌≢◌, ℕ, ◌+◌, ◌<◌, ◌≤◌, ◌==◌, ◌&&◌, Bool, true, false, not, List, [], ◌∷◌, ◌++◌, length, get_or, refl, sym, ap, ap₂, ◌∙◌, subst, inl, inr, arith}
+use Rattle.std.proofs.Common.{◌≡◌, ◌≢◌, ℕ, ◌+◌, ◌<◌, ◌≤◌, ◌==◌, ◌&&◌, Bool, true, false, not, List, [], ◌∷◌, ◌++◌, get_or, sym, ap, ap₂, ◌∙◌, inl, inr, arith}
 use Rattle.std.specs.Prelude.{All, IsTrue, nat_le, nat_lt}
-use Rattle.std.specs.List.{list_any}
 use Rattle.std.proofs.Math.Bool.{and-false}
-use Rattle.std.proofs.lemmas.Bool.{cases_eq, cases_lt, eq-eqb, ne_eqb, true≢false}
-use Rattle.std.proofs.lemmas.Bool.Decides.{nat_tests}
+use Rattle.std.proofs.lemmas.Bool.{and_right, cases_eq, cases_lt, eq-eqb, le-leb, lt-leb, lt-ltb, ne_eqb, true≢false}
 use Rattle.std.proofs.lemmas.List.{get_or_default}
-use Rattle.sip_ledger.specs.declared.debt.Debt.{Debt}
 use Rattle.sip_ledger.specs.declared.debt.Entry.{Entry}
 use Rattle.sip_ledger.specs.declared.accounts.account.Account.{Account}
 use Rattle.sip_ledger.specs.declared.accounts.gains.Gains.{Gains}
 use Rattle.sip_ledger.specs.declared.accounts.strikes.Strike.{Strike}
-use Rattle.sip_ledger.specs.Debts.{IsWithoutFirst, is_payable, paid_by}
-use Rattle.sip_ledger.specs.Entries.{debt_of, debts_from}
-use Rattle.sip_ledger.specs.inner.Accounts.{IsAccount, IsFirstPayable, IsWithout, account_debts, entries_of, entry_at, is_gone, is_left, is_struck, must_at, owes_at, pays_at, strikes_of}
+use Rattle.sip_ledger.specs.Debts.{is_payable, paid_by}
+use Rattle.sip_ledger.specs.inner.Accounts.{IsAccount, IsFirstPayable, IsWithout, account_debts, entries_of, entry_at, is_gone, is_struck, must_at, owes_at, pays_at, strikes_of}
 use Rattle.sip_ledger.specs.Indexes.{holds}
 use Rattle.sip_ledger.proofs.gains.LeftLemmas.{gone-left, gone-struck, held-left, owed-left}
 use Rattle.sip_ledger.proofs.debts.ListedLemmas.{no_entry, listed-All}
-use Rattle.sip_ledger.proofs.debts.OwedLemmas.{listed-any, removed}
-use Rattle.sip_ledger.proofs.debts.PayLemmas.{paid-is, unpaid-is}
+use Rattle.sip_ledger.proofs.debts.OwedLemmas.{removed}
+use Rattle.sip_ledger.proofs.debts.PayLemmas.{paid-is}
 use Rattle.sip_ledger.proofs.account.AccountLemmas.{owed-within, soft-must}
 
 -- a send of the message does not pay a gain of another message
@@ -27,29 +23,18 @@ unnamed-unpaid entries message t k other = ap (λ b. b && nat_le t (entry_at ent
 
 -- a send does not pay a gain that is past
 pub late-unpaid : (entries : List Entry) (message t k : ℕ) → (entry_at entries k).deadline < t → pays_at entries message t k ≡ false
-late-unpaid entries message t k late = ap (λ b. (entry_at entries k).message == message && b) (le-no t (entry_at entries k).deadline late) ∙ and-false ((entry_at entries k).message == message)
-  where
-    le-no : (m n : ℕ) → n < m → nat_le m n ≡ false
-    le-no m n is = grind (arith, nat_tests)
+late-unpaid entries message t k late = ap (λ b. (entry_at entries k).message == message && b) (lt-leb t (entry_at entries k).deadline late) ∙ and-false ((entry_at entries k).message == message)
 
 -- a send pays a gain of its message that is not past
 pub named-pays : (entries : List Entry) (message t k : ℕ) → (entry_at entries k).message ≡ message → t ≤ (entry_at entries k).deadline → pays_at entries message t k ≡ true
-named-pays entries message t k is early = ap₂ (λ a b. a && b) (eq-eqb (entry_at entries k).message message is) (le-yes t (entry_at entries k).deadline early)
-  where
-    le-yes : (m n : ℕ) → m ≤ n → nat_le m n ≡ true
-    le-yes m n is = grind (arith, nat_tests)
+named-pays entries message t k is early = ap₂ (λ a b. a && b) (eq-eqb (entry_at entries k).message message is) (le-leb t (entry_at entries k).deadline early)
 
 -- a place that is struck is not owed
 pub struck-unowed : (gains : Gains) (strikes : List Strike) (a : Account) (k : ℕ) → is_struck (strikes_of strikes a) (entry_at (entries_of gains) k).message k ≡ true →
     owes_at gains strikes a k ≡ false
 unfolding owes_at
 struck-unowed gains strikes a k struck =
-    ap (λ b. nat_le a.start k && (nat_lt k a.end && not b)) (gone-struck gains (strikes_of strikes a) k (λ left. struck)) ∙ no-more (nat_le a.start k) (nat_lt k a.end)
-  where
-    no-more : (x y : Bool) → (x && (y && not true)) ≡ false
-    no-more true true = refl
-    no-more true false = refl
-    no-more false y = refl
+    ap (λ b. nat_le a.start k && (nat_lt k a.end && not b)) (gone-struck gains (strikes_of strikes a) k (λ left. struck)) ∙ and_right (nat_le a.start k) (nat_lt k a.end && false) (and-false (nat_lt k a.end))
 
 -- no gain before the place `to` is owed and is paid by a send of the message at t
 abbrev pub NonePays : List Entry → (ℕ → Bool) → ℕ → ℕ → ℕ → Type 0
@@ -90,13 +75,7 @@ pub owed-here : (gains : Gains) (strikes : List Strike) (a : Account) (at : ℕ)
     is_gone gains (strikes_of strikes a) at ≡ false → owes_at gains strikes a at ≡ true
 unfolding owes_at
 owed-here gains strikes a at low high free =
-    ap₂ (λ x y. x && (y && not (is_gone gains (strikes_of strikes a) at))) (le-yes a.start at low) (lt-yes at a.end high) ∙ ap not free
-  where
-    le-yes : (m n : ℕ) → m ≤ n → nat_le m n ≡ true
-    le-yes m n is = grind (arith, nat_tests)
-
-    lt-yes : (m n : ℕ) → m < n → nat_lt m n ≡ true
-    lt-yes m n is = grind (arith, nat_tests)
+    ap₂ (λ x y. x && (y && not (is_gone gains (strikes_of strikes a) at))) (le-leb a.start at low) (lt-ltb at a.end high) ∙ ap not free
 
 -- the first gain of the message that is left, not struck and not past is the first debt that a send pays
 pub first-payable : (gains : Gains) (strikes : List Strike) (a : Account) (message t at : ℕ) → NonePays (entries_of gains) (owes_at gains strikes a) message t at → a.start ≤ at → at < a.end →
@@ -116,10 +95,9 @@ pub paid-account : (gains : Gains) (old new : List Strike) (a b : Account) (mess
 unfolding account_debts
 paid-account gains old new a b message t place is found without soft =
     paid-is message t (account_debts gains old a) (account_debts gains new b)
-    (removed (λ debt. IsTrue (is_payable message t debt)) (entries_of gains) (owes_at gains old a) (must_at gains a)
-    (owes_at gains new b) (must_at gains b) place (account_debts gains new b) (omega (arith, owed-within gains old a place found.owed, is.end)) found.owed without.gone without.others
-    (λ k other. soft-must gains a b k soft) found.pays
-    (λ k early owed pays. true≢false (sym pays ∙ found.before k early owed)) refl)
+    (removed (λ debt. IsTrue (is_payable message t debt)) (entries_of gains) (owes_at gains old a) (must_at gains a) (owes_at gains new b) (must_at gains b) place
+    (omega (arith, owed-within gains old a place found.owed, is.end)) found.owed without (λ k. soft-must gains a b k soft) found.pays
+    (λ k early owed pays. true≢false (sym pays ∙ found.before k early owed)))
 
 -- where a send pays nothing that an account owes, it pays none of its debts
 pub unpaid-account : (gains : Gains) (strikes : List Strike) (a : Account) (message t : ℕ) →
@@ -137,10 +115,4 @@ unpaid-account gains strikes a message t none =
 pub owes-inside : (gains : Gains) (strikes : List Strike) (a : Account) (k : ℕ) → a.start ≤ k → k < a.end → owes_at gains strikes a k ≡ not (is_gone gains (strikes_of strikes a) k)
 unfolding owes_at
 owes-inside gains strikes a k low high =
-    ap₂ (λ x y. x && (y && not (is_gone gains (strikes_of strikes a) k))) (le-yes a.start k low) (lt-yes k a.end high)
-  where
-    le-yes : (m n : ℕ) → m ≤ n → nat_le m n ≡ true
-    le-yes m n is = grind (arith, nat_tests)
-
-    lt-yes : (m n : ℕ) → m < n → nat_lt m n ≡ true
-    lt-yes m n is = grind (arith, nat_tests)
+    ap₂ (λ x y. x && (y && not (is_gone gains (strikes_of strikes a) k))) (le-leb a.start k low) (lt-ltb k a.end high)

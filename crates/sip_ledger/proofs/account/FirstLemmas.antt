@@ -1,7 +1,7 @@
 -- The first debt of an account that a send of one of some messages pays.
 use Rattle.std.proofs.Common.{◌≡◌, ◌≢◌, ℕ, ◌<◌, ◌≤◌, ◌==◌, ◌&&◌, Bool, true, false, not, List, [], ◌∷◌, ◌++◌, length, get_or, ◌+◌, refl, sym, ap, ◌∙◌, subst, inl, inr, arith}
 use Rattle.std.specs.Prelude.{All, Contains, IfNone, IfSome, IsTrue, Option, None, Some, min, nat_le}
-use Rattle.std.proofs.Math.Bool.{and-false}
+use Rattle.std.proofs.Math.Bool.{and-false, and-true}
 use Rattle.std.proofs.lemmas.Bool.{cases_lt, eq-eqb, ne_eqb, true≢false}
 use Rattle.std.proofs.lemmas.Bool.Decides.{nat_tests}
 use Rattle.std.proofs.lemmas.List.{get_or_default}
@@ -12,7 +12,7 @@ use Rattle.sip_ledger.specs.declared.accounts.gains.Gains.{Gains}
 use Rattle.sip_ledger.specs.declared.accounts.strikes.Strike.{Strike}
 use Rattle.sip_ledger.specs.Debts.{IsWithoutFirst, PaysOne, is_payable, paid_by}
 use Rattle.sip_ledger.specs.Entries.{debts_from}
-use Rattle.sip_ledger.specs.inner.Accounts.{IsAccount, IsFirstOf, IsFirstPayable, PaysOneAt, account_debts, entries_of, entry_at, must_at, owes_at, pays_at, sooner}
+use Rattle.sip_ledger.specs.inner.Accounts.{IsAccount, IsFirstOf, IsFirstPayable, IsWithout, PaysOneAt, account_debts, entries_of, entry_at, must_at, owes_at, pays_at, sooner}
 use Rattle.sip_ledger.proofs.debts.ListedLemmas.{no_entry, listed-All}
 use Rattle.sip_ledger.proofs.debts.OwedLemmas.{removed}
 use Rattle.sip_ledger.proofs.debts.PayLemmas.{paid-is}
@@ -73,19 +73,17 @@ module _ (gains : Gains) (strikes : List Strike) (a : Account) (messages : List 
       let less : ℕ → Bool = λ k. owed k && not (k == place) in
       let left = debts_from less must 0 entries in
       let inside : place < length entries = omega (arith, owed-within gains strikes a place found.0, is.end) in
-      let gone : less place ≡ false = ap (λ b. owed place && not b) (eq-eqb place place refl) ∙ and-false (owed place) in
-      let others : (k : ℕ) → k ≢ place → less k ≡ owed k = λ k other. ap (λ b. owed k && not b) (ne_eqb k place other) ∙ and-true (owed k) in
-      let one = removed (PaysOne messages t) entries owed must less must place left inside found.0 gone others (λ k other. refl) found.1 found.2 refl in
-      let only = removed (λ debt. IsTrue (is_payable message t debt)) entries owed must less must place left inside found.0 gone others (λ k other. refl)
+      let without : IsWithout place owed less = record {
+        gone = ap (λ b. owed place && not b) (eq-eqb place place refl) ∙ and-false (owed place);
+        others = λ k other. ap (λ b. owed k && not b) (ne_eqb k place other) ∙ and-true (owed k);
+      } in
+      let one = removed (PaysOne messages t) entries owed must less must place inside found.0 without (λ k. refl) found.1 found.2 in
+      let only = removed (λ debt. IsTrue (is_payable message t debt)) entries owed must less must place inside found.0 without (λ k. refl)
       (named-pays entries message t place refl found.1.1)
       (λ k early here pays.
       let parts = pays-parts message t (entry_at entries k) pays in
-      found.2 k early here (subst (Contains messages) (sym parts.0) found.1.0, parts.1)) refl in
+      found.2 k early here (subst (Contains messages) (sym parts.0) found.1.0, parts.1)) in
       subst (IsWithoutFirst (PaysOne messages t) debts) (paid-is message t debts left only) one
-    where
-      and-true : (b : Bool) → (b && true) ≡ b
-      and-true true = refl
-      and-true false = refl
 
   -- where a send of one of the messages pays no gain that is owed, it pays none of the debts
   pub none-account : IsFirstOf (entries_of gains) owed messages t None → All (λ debt. ¬ (PaysOne messages t debt)) (account_debts gains strikes a)

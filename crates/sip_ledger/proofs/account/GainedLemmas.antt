@@ -1,8 +1,9 @@
 -- An account gains one debt.
-use Rattle.std.proofs.Common.{◌≡◌, ◌≢◌, ℕ, zero, suc, ◌+◌, ◌<◌, ◌≤◌, ◌%◌, ◌^◌, ◌==◌, ◌&&◌, ◌||◌, Bool, true, false, not, List, [], ◌∷◌, ◌++◌, length, take, drop, get_or, refl, sym, ap, ap₂, ◌∙◌, subst, inl, inr, arith}
-use Rattle.std.specs.Prelude.{All, nat_le, nat_lt}
+use Rattle.std.proofs.Common.{◌≡◌, ◌≢◌, ℕ, ◌+◌, ◌<◌, ◌≤◌, ◌%◌, ◌^◌, ◌==◌, ◌&&◌, ◌||◌, Bool, true, false, not, List, [], ◌∷◌, ◌++◌, length, take, drop, get_or, refl, sym, ap, ap₂, ◌∙◌, subst, inl, inr, arith}
+use Rattle.std.specs.Prelude.{nat_le, nat_lt}
 use Rattle.std.specs.List.{sum_by}
-use Rattle.std.proofs.lemmas.Bool.{cases_lt}
+use Rattle.std.proofs.lemmas.Bool.{and_right, cases_lt, le-leb, le-ltb, lt-leb, lt-ltb}
+use Rattle.std.proofs.Math.Bool.{and-false, and-true, or-false, or-true}
 use Rattle.std.proofs.lemmas.List.{get_or_push, length-append}
 use Rattle.std.proofs.lemmas.List.Sums.{sum_by_push}
 use Rattle.std.proofs.Math.Nat.{mod-add-mod}
@@ -12,14 +13,13 @@ use Rattle.sip_ledger.specs.declared.accounts.account.Account.{Account}
 use Rattle.sip_ledger.specs.declared.accounts.gains.Gains.{Gains}
 use Rattle.sip_ledger.specs.declared.accounts.strikes.Strike.{Strike}
 use Rattle.sip_ledger.specs.Accounts.{debts_print, worth_of}
-use Rattle.sip_ledger.specs.Entries.{debt_of, debts_from}
-use Rattle.sip_ledger.specs.inner.Accounts.{IsAccount, IsGain, IsNextGain, IsStruck, KeepsAccounts, account_debts, accounts_debts, entries_of, entry_at, is_gone, is_left, is_struck, must_at, owes_at, strikes_of}
+use Rattle.sip_ledger.specs.Entries.{debt_of}
+use Rattle.sip_ledger.specs.inner.Accounts.{IsAccount, IsGain, IsNextGain, IsStruck, KeepsAccounts, account_debts, entries_of, entry_at, is_gone, is_left, is_struck, must_at, owes_at, strikes_of}
 use Rattle.sip_ledger.specs.Indexes.{holds}
-use Rattle.sip_ledger.proofs.debts.ListedLemmas.{listed-none}
 use Rattle.sip_ledger.proofs.debts.OwedLemmas.{gained-debts}
 use Rattle.sip_ledger.proofs.gains.LeftLemmas.{gone-left, gone-same, gone-struck, held-left}
-use Rattle.sip_ledger.proofs.account.AccountLemmas.{grown-all, owed-within, past-end}
-use Rattle.sip_ledger.proofs.account.WithoutLemmas.{before-start, le-no, le-yes, lt-yes, lt-no}
+use Rattle.sip_ledger.proofs.account.AccountLemmas.{grown-alike, over-all, past-end}
+use Rattle.sip_ledger.proofs.account.WithoutLemmas.{before-start}
 
 -- the print of debts with one debt more is their print and the worth of that debt
 pub print-more : (debts : List Debt) (debt : Debt) → debts_print (debts ++ debt ∷ []) ≡ (debts_print debts + worth_of debt.message debt.deadline) % 2 ^ 64
@@ -40,7 +40,7 @@ gained-account gains old new a b debt place is next here others soft low end fir
     let entries = (entries_of gains) in
     let inside = next.gain.within in
     let entry = entry_at entries place in
-    let due : must_at gains b place ≡ debt.must = ap₂ (λ x y. x && y) next.gain.must (le-yes b.soft place (omega (arith, soft, next.soft))) ∙ and-true debt.must in
+    let due : must_at gains b place ≡ debt.must = ap₂ (λ x y. x && y) next.gain.must (le-leb b.soft place (omega (arith, soft, next.soft))) ∙ and-true debt.must in
     let same : debt_of entry (must_at gains b place) ≡ debt = debt-is entry debt (must_at gains b place) next.gain.message next.gain.deadline due in
     let debts : account_debts gains new b ≡ account_debts gains old a ++ debt ∷ [] =
     gained-debts entries (owes_at gains old a) (must_at gains a) (owes_at gains new b) (must_at gains b) place inside
@@ -60,10 +60,6 @@ gained-account gains old new a b debt place is next here others soft low end fir
       debts,
     )
   where
-    and-true : (b : Bool) → (b && true) ≡ b
-    and-true true = refl
-    and-true false = refl
-
     debt-is : (e : Entry) (d : Debt) (must : Bool) → e.message ≡ d.message → e.deadline ≡ d.deadline → must ≡ d.must → debt_of e must ≡ d
     debt-is e d must message deadline due =
         ap₂ (λ (m t : ℕ). let x : Debt = record { message = m; deadline = t; must = must } in x) message deadline
@@ -84,7 +80,7 @@ first-gain gains old new a b debt place is next none same print =
     let own : strikes_of new b ≡ [] = ap₂ (λ f l. drop f (take l new)) first last in
     let left : is_left gains place ≡ true = sym (held-left gains debt.message place next.gain.message) ∙ next.gain.left in
     let here : owes_at gains new b place ≡ true =
-    ap₂ (λ x y. x && (y && not (is_gone gains (strikes_of new b) place))) (le-yes b.start place (omega (arith, start))) (lt-yes place b.end (omega (arith, end)))
+    ap₂ (λ x y. x && (y && not (is_gone gains (strikes_of new b) place))) (le-leb b.start place (omega (arith, start))) (lt-ltb place b.end (omega (arith, end)))
     ∙ ap (λ l. not (is_gone gains l place)) own ∙ ap not (gone-left gains [] place left) in
     gained-account gains old new a b debt place is next here
     (λ k other. elim (cases_lt k place) [
@@ -100,22 +96,6 @@ first-gain gains old new a b debt place is next none same print =
     (λ some. ap (owes_at gains new b) start ∙ here)
     print
 
--- `x || (false && y)` is x
-or-no : (x y : Bool) → (x || (false && y)) ≡ x
-or-no true y = refl
-or-no false y = refl
-
--- `x || true` is true
-or-yes : (x : Bool) → (x || (true && true)) ≡ true
-or-yes true = refl
-or-yes false = refl
-
--- `x && y && false` is false
-no-more : (x y : Bool) → (x && (y && not true)) ≡ false
-no-more true true = refl
-no-more true false = refl
-no-more false y = refl
-
 -- at other places an account that gains at a place owes what it owed, where the gains between its end and the place are struck
 passed-others : (gains : Gains) (old new : List Strike) (a p b : Account) (place k : ℕ) → IsStruck gains a.end place old new a p → a.end ≤ length (entries_of gains) → a.end ≤ place →
     place < length (entries_of gains) → b.start ≡ a.start → b.end ≡ place + 1 → strikes_of new b ≡ strikes_of new p → k ≢ place → owes_at gains new b k ≡ owes_at gains old a k
@@ -130,17 +110,17 @@ passed-others gains old new a p b place k passed within low inside start end own
             let gone : is_gone gains (strikes_of new b) k ≡ is_gone gains (strikes_of old a) k =
             gone-same gains (strikes_of old a) (strikes_of new b) k (λ left.
             ap (λ l. is_struck l m k) own ∙ passed.struck k from left
-            ∙ ap (λ x. was || (x && nat_lt k place)) (le-no a.end k below) ∙ or-no was (nat_lt k place)) in
-            ap₂ (λ x y. x && (y && not (is_gone gains (strikes_of new b) k))) (le-yes b.start k (omega (arith, start, from)) ∙ sym (le-yes a.start k from))
-            (lt-yes k b.end (omega (arith, below, low, end)) ∙ sym (lt-yes k a.end below))
+            ∙ ap (λ x. was || (x && nat_lt k place)) (lt-leb a.end k below) ∙ or-false was) in
+            ap₂ (λ x y. x && (y && not (is_gone gains (strikes_of new b) k))) (le-leb b.start k (omega (arith, start, from)) ∙ sym (le-leb a.start k from))
+            (lt-ltb k b.end (omega (arith, below, low, end)) ∙ sym (lt-ltb k a.end below))
             ∙ ap (λ x. nat_le a.start k && (nat_lt k a.end && not x)) gone
         | inr past ↦ elim (cases_lt k place) [
           | inl before ↦
               let gone : is_gone gains (strikes_of new b) k ≡ true =
               gone-struck gains (strikes_of new b) k (λ left.
               ap (λ l. is_struck l m k) own ∙ passed.struck k from left
-              ∙ ap₂ (λ x y. was || (x && y)) (le-yes a.end k past) (lt-yes k place before) ∙ or-yes was) in
-              ap (λ x. nat_le b.start k && (nat_lt k b.end && not x)) gone ∙ no-more (nat_le b.start k) (nat_lt k b.end) ∙ sym (past-end gains old a k past)
+              ∙ ap₂ (λ x y. was || (x && y)) (le-leb a.end k past) (lt-ltb k place before) ∙ or-true was) in
+              ap (λ x. nat_le b.start k && (nat_lt k b.end && not x)) gone ∙ and_right (nat_le b.start k) (nat_lt k b.end && false) (and-false (nat_lt k b.end)) ∙ sym (past-end gains old a k past)
           | inr after ↦ past-end gains new b k (omega (arith, after, other, end)) ∙ sym (past-end gains old a k past)
         ]
       ]
@@ -167,10 +147,10 @@ more-gain gains old new a p b debt place is next some passed same print =
     let struck = λ (k : ℕ) (from : a.start ≤ k) (left : is_left gains k ≡ true). ap (λ l. is_struck l (m k) k) own ∙ passed.struck k from left in
     let free : is_struck (strikes_of new b) (m place) place ≡ false =
     struck place (omega (arith, order, low)) left
-    ∙ ap₂ (λ x y. x || (nat_le a.end place && y)) (ap (λ n. is_struck (strikes_of old a) n place) next.gain.message ∙ next.free) (lt-no place place (omega arith))
-    ∙ and-no (nat_le a.end place) in
+    ∙ ap₂ (λ x y. x || (nat_le a.end place && y)) (ap (λ n. is_struck (strikes_of old a) n place) next.gain.message ∙ next.free) (le-ltb place place (omega arith))
+    ∙ and-false (nat_le a.end place) in
     let here : owes_at gains new b place ≡ true =
-    ap₂ (λ x y. x && (y && not (is_gone gains (strikes_of new b) place))) (le-yes b.start place (omega (arith, start, order, low))) (lt-yes place b.end (omega (arith, end)))
+    ap₂ (λ x y. x && (y && not (is_gone gains (strikes_of new b) place))) (le-leb b.start place (omega (arith, start, order, low))) (lt-ltb place b.end (omega (arith, end)))
     ∙ ap not (gone-left gains (strikes_of new b) place left ∙ free) in
     let others = λ (k : ℕ) (other : k ≢ place). passed-others gains old new a p b place k passed within low next.gain.within start end own other in
     gained-account gains old new a b debt place is next here others
@@ -179,10 +159,6 @@ more-gain gains old new a p b debt place is next some passed same print =
     (λ _. let other : a.start ≢ place = omega (arith, order, low, some) in
     ap (owes_at gains new b) start ∙ others a.start other ∙ is.begins (omega (arith, order, some)))
     print
-  where
-    and-no : (b : Bool) → (false || (b && false)) ≡ false
-    and-no true = refl
-    and-no false = refl
 
 -- an account can gain what was gained last, after all other gains
 pub new-gain : (old new : Gains) (strikes : List Strike) (a : Account) (debt : Debt) → IsGain debt old new → IsAccount old strikes a → IsNextGain new strikes a debt (length (entries_of old))
@@ -207,4 +183,9 @@ new-gain old new strikes a debt gain is =
 
 -- accounts keep what they owe when a gain comes
 pub gain-keeps : (old new : Gains) (debt : Debt) → IsGain debt old new → KeepsAccounts old new
-gain-keeps old new debt gain = record { each = λ strikes accounts are. grown-all old new debt strikes accounts gain are }
+gain-keeps old new debt gain =
+    let more = length-append (entries_of old) ((record { message = debt.message; deadline = debt.deadline }) ∷ []) in
+    record {
+      each = λ strikes accounts are.
+          over-all old new strikes accounts (omega (arith, ap length gain.entries, more)) (λ k d below. grown-alike old new debt strikes (get_or accounts k d) gain (are k d below).end) are;
+    }

@@ -2,8 +2,8 @@
 use Rattle.std.proofs.Common.{◌≡◌, ◌≢◌, ℕ, ◌+◌, ◌<◌, ◌≤◌, ◌==◌, ◌&&◌, Bool, true, false, cond, not, List, [], ◌∷◌, ◌++◌, length, take, drop, get_or, map, refl, sym, ap, ap₂, ◌∙◌, subst, inl, inr, ◌⊎◌, arith, append-nil}
 use Rattle.std.specs.Prelude.{IsTrue, Option, Some, None, ◌↔◌, nat_le, nat_lt, option_to_list}
 use Rattle.std.specs.Bool.{OnTrue}
-use Rattle.std.proofs.lemmas.Bool.{cases_eq, cases_lt, eq-eqb, eqb-true, true≢false}
-use Rattle.std.proofs.lemmas.List.{get_or-drop, get_or_default, length-drop, length-take-le, map-append, take-append-le, take_all}
+use Rattle.std.proofs.lemmas.Bool.{and_left, and_right, cases_eq, cases_lt, eq-eqb, eqb-true, le-leb, true≢false}
+use Rattle.std.proofs.lemmas.List.{append_cancel_left, get_or-drop, get_or_default, length-append, length-drop, length-take-le, map-append, take-append-le, take_all}
 use Rattle.std.proofs.lemmas.List.Elements.{All-map}
 use Rattle.sip_ledger.specs.declared.debt.Debt.{Debt}
 use Rattle.sip_ledger.specs.declared.debt.Entry.{Entry}
@@ -15,9 +15,9 @@ use Rattle.sip_ledger.specs.Entries.{debt_of, debts_from, IsGap}
 use Rattle.sip_ledger.specs.inner.Accounts.{AreAlike, AreGains, IsAccount, SharesRest, account_debts, entries_of, entry_at, is_gone, is_struck, must_at, owes_at, strikes_of}
 use Rattle.sip_ledger.proofs.gains.LeftLemmas.{entries-long, gone-same, left-kept, owed-left, rising-kept}
 use Rattle.sip_ledger.specs.Indexes.{holds}
-use Rattle.sip_ledger.proofs.debts.ListedLemmas.{back, back-none, back-over, back-same, back-set, earliest-first, earliest-push, front, front-gap, front-next, listed-All, listed-must, listed-none, listed-same, no_entry, parts}
+use Rattle.sip_ledger.proofs.debts.ListedLemmas.{back, back-none, back-same, back-set, earliest-first, earliest-push, front, front-gap, front-next, listed-All, listed-must, listed-none, listed-same, no_entry, parts}
 use Rattle.sip_ledger.proofs.account.AccountLemmas.{must-below, must-from, past-end, soft-must}
-use Rattle.sip_ledger.proofs.account.WithoutLemmas.{before-start, le-yes}
+use Rattle.sip_ledger.proofs.account.WithoutLemmas.{before-start}
 
 -- What follows is of all debts: what is told up to a place, and the next debt.
 pub front-start : (gains : Gains) (strikes : List Strike) (m : ℕ → Bool) (a : Account) → a.start ≤ length (entries_of gains) → front (owes_at gains strikes a) m (entries_of gains) a.start ≡ []
@@ -31,78 +31,6 @@ pub front-more : (entries : List Entry) (o m : ℕ → Bool) (at next : ℕ) →
 front-more entries o m at next inside is after within gap =
     front-gap o m entries (at + 1) next (omega (arith, after)) within gap
     ∙ front-next o m entries at at no_entry (omega arith) inside (λ j above below. absurd (omega (arith, above, below))) is
-
--- what is told up to the end of an account or a later place is all that it owes
-pub front-end : (gains : Gains) (strikes : List Strike) (m : ℕ → Bool) (a : Account) (at : ℕ) → a.end ≤ at → at ≤ length (entries_of gains) →
-    debts_from (owes_at gains strikes a) m 0 (entries_of gains) ≡ front (owes_at gains strikes a) m (entries_of gains) at
-front-end gains strikes m a at end within =
-    let o = owes_at gains strikes a in
-    parts o m (entries_of gains) at within
-    ∙ ap (λ l. front o m (entries_of gains) at ++ l) (back-none o m (entries_of gains) at (λ k past. past-end gains strikes a k (omega (arith, past, end))))
-    ∙ append-nil (front o m (entries_of gains) at)
-
--- both lists are the same exactly if what is left of them is
-pub record AreBeside (one other left right : List Debt) : Type 0 where
-  pub to : one ≡ other → left ≡ right
-  pub from : left ≡ right → one ≡ other
-
--- what is left from the start of an account on is all that it owes
-pub beside-start : (gains : Gains) (strikes : List Strike) (m : ℕ → Bool) (a : Account) → a.start ≤ length (entries_of gains) →
-    debts_from (owes_at gains strikes a) m 0 (entries_of gains) ≡ back (owes_at gains strikes a) m (entries_of gains) a.start
-beside-start gains strikes m a within =
-    parts (owes_at gains strikes a) m (entries_of gains) a.start within ∙ ap (λ l. l ++ back (owes_at gains strikes a) m (entries_of gains) a.start) (front-start gains strikes m a within)
-
--- what is left from a place on is the debt of this place, and then what is left from the next place on
-pub back-more : (entries : List Entry) (o m : ℕ → Bool) (at next : ℕ) → at < length entries → o at ≡ true → at < next → next ≤ length entries → IsGap o (at + 1) next →
-    back o m entries at ≡ debt_of (entry_at entries at) (m at) ∷ back o m entries next
-back-more entries o m at next inside is after within gap =
-    back-set o m entries at no_entry inside is ∙ ap (λ l. debt_of (entry_at entries at) (m at) ∷ l) (back-over o m entries (at + 1) next (omega (arith, after)) within gap)
-
--- where the same debt is first in what is left of both lists, both are the same exactly if what is left after it is
-pub beside-more : (one other left right left' right' : List Debt) (d : Debt) → AreBeside one other left right → left ≡ d ∷ left' → right ≡ d ∷ right' → AreBeside one other left' right'
-beside-more one other left right left' right' d are first second = record {
-  to = λ same. tails (sym first ∙ are.to same ∙ second);
-  from = λ same. are.from (first ∙ ap (λ l. d ∷ l) same ∙ sym second);
-}
-  where
-    tails : d ∷ left' ≡ d ∷ right' → left' ≡ right'
-    tails same = cc
-
--- each account stands at a place where it owes something, or at its end: what is left of both is the same exactly if all of it is
-pub record AreAt (gains : Gains) (strikes : List Strike) (one other : Account) (at beside : ℕ) : Type 0 where
-  pub left : AreBeside (account_debts gains strikes one) (account_debts gains strikes other) (back (owes_at gains strikes one) (must_at gains one) (entries_of gains) at)
-      (back (owes_at gains strikes other) (must_at gains other) (entries_of gains) beside)
-  pub low : one.start ≤ at
-  pub low_beside : other.start ≤ beside
-  pub end : at ≤ one.end
-  pub end_beside : beside ≤ other.end
-  pub owed : at < one.end → owes_at gains strikes one at ≡ true
-  pub owed_beside : beside < other.end → owes_at gains strikes other beside ≡ true
-
--- the debts of an account are those from its start on
-start-debts : (gains : Gains) (strikes : List Strike) (a : Account) → IsAccount gains strikes a →
-    account_debts gains strikes a ≡ back (owes_at gains strikes a) (must_at gains a) (entries_of gains) a.start
-unfolding account_debts
-start-debts gains strikes a is =
-    let order = is.order in
-    let end = is.end in
-    beside-start gains strikes (must_at gains a) a (omega (arith, order, end))
-
--- AreAt holds at the starts of two accounts
-pub at-start : (gains : Gains) (strikes : List Strike) (one other : Account) → IsAccount gains strikes one → IsAccount gains strikes other →
-    AreAt gains strikes one other one.start other.start
-at-start gains strikes one other is is_other =
-    let first = start-debts gains strikes one is in
-    let second = start-debts gains strikes other is_other in
-    record {
-      left = record { to = λ same. sym first ∙ same ∙ second; from = λ same. first ∙ same ∙ sym second };
-      low = omega arith;
-      low_beside = omega arith;
-      end = is.order;
-      end_beside = is_other.order;
-      owed = is.begins;
-      owed_beside = is_other.begins;
-    }
 
 -- `next` is the next place after `at` at which the account owes something, or its end
 pub record IsAfter (gains : Gains) (strikes : List Strike) (a : Account) (at next : ℕ) : Type 0 where
@@ -147,95 +75,111 @@ module _ {gains : Gains} {strikes : List Strike} {a : Account} where
         owed = after.is;
       }
 
-  -- before its end it owes all of its debts
-  pub told-all : {place : ℕ} {debts : List Debt} → IsAccount gains strikes a → IsToldTo gains strikes a place debts → a.end ≤ place → debts ≡ account_debts gains strikes a
+  -- what it owes is what it owes before a place and from there on
+  pub told-split : {place : ℕ} {debts : List Debt} → IsAccount gains strikes a → IsToldTo gains strikes a place debts →
+      account_debts gains strikes a ≡ debts ++ back (owes_at gains strikes a) (must_at gains a) (entries_of gains) place
   unfolding account_debts
-  told-all {place} is was past =
+  told-split {place} is was =
       let end = is.end in
       let within = was.end in
-      was.told ∙ sym (front-end gains strikes (must_at gains a) a place past (omega (arith, within, end)))
+      parts (owes_at gains strikes a) (must_at gains a) (entries_of gains) place (omega (arith, within, end))
+      ∙ ap (λ l. l ++ back (owes_at gains strikes a) (must_at gains a) (entries_of gains) place) (sym was.told)
+
+  -- what it owes is what it owes before a place of it, the debt of that place, and what it owes after it
+  pub told-here : {place : ℕ} {debts : List Debt} → IsAccount gains strikes a → IsToldTo gains strikes a place debts → place < a.end →
+      account_debts gains strikes a
+      ≡ debts ++ debt_of (entry_at (entries_of gains) place) (must_at gains a place) ∷ back (owes_at gains strikes a) (must_at gains a) (entries_of gains) (place + 1)
+  told-here {place} {debts} is was inside =
+      let end = is.end in
+      told-split is was ∙ ap (λ l. debts ++ l) (back-set (owes_at gains strikes a) (must_at gains a) (entries_of gains) place no_entry (omega (arith, inside, end)) (was.owed inside))
+
+  -- before its end it owes all of its debts
+  pub told-all : {place : ℕ} {debts : List Debt} → IsAccount gains strikes a → IsToldTo gains strikes a place debts → a.end ≤ place → debts ≡ account_debts gains strikes a
+  told-all {place} {debts} is was past =
+      sym (told-split is was
+      ∙ ap (λ l. debts ++ l) (back-none (owes_at gains strikes a) (must_at gains a) (entries_of gains) place (λ k above. past-end gains strikes a k (omega (arith, above, past))))
+      ∙ append-nil debts)
 
   -- before a place of it, it owes the first of its debts
   pub told-first : {place n : ℕ} {debts : List Debt} → IsAccount gains strikes a → IsToldTo gains strikes a place debts → length debts ≡ n → debts ≡ take n (account_debts gains strikes a)
-  unfolding account_debts
-  told-first {place} {n} is was long =
-      let end = is.end in
-      let within = was.end in
-      let o = owes_at gains strikes a in
-      let m = must_at gains a in
-      let before = front o m (entries_of gains) place in
-      let short : length before ≡ n = ap length (sym was.told) ∙ long in
-      was.told ∙ sym (take_all n before (omega (arith, short)))
-      ∙ sym (take-append-le n before (back o m (entries_of gains) place) (omega (arith, short)))
-      ∙ ap (take n) (sym (parts o m (entries_of gains) place (omega (arith, within, end))))
+  told-first {place} {n} {debts} is was long =
+      sym (take_all n debts (omega (arith, long)))
+      ∙ sym (take-append-le n debts (back (owes_at gains strikes a) (must_at gains a) (entries_of gains) place) (omega (arith, long)))
+      ∙ ap (take n) (sym (told-split is was))
 
--- what an account owes from a place on is the debt of this place, and then what it owes from the next one on
-after-more : (gains : Gains) (strikes : List Strike) (a : Account) (at next : ℕ) → IsAccount gains strikes a → at < a.end → owes_at gains strikes a at ≡ true →
-    IsAfter gains strikes a at next →
-    back (owes_at gains strikes a) (must_at gains a) (entries_of gains) at
-    ≡ debt_of (entry_at (entries_of gains) at) (must_at gains a at) ∷ back (owes_at gains strikes a) (must_at gains a) (entries_of gains) next
-after-more gains strikes a at next is inside owed after =
-    let end = is.end in
-    let low = after.within.0 in
-    let high = after.within.1 in
-    back-more (entries_of gains) (owes_at gains strikes a) (must_at gains a) at next (omega (arith, inside, end)) owed (omega (arith, low)) (omega (arith, high, end)) after.before
+-- an account with something left does not owe what an account at its end owes
+longer : {gains : Gains} {strikes : List Strike} {one other : Account} {at beside : ℕ} {debts : List Debt} → IsAccount gains strikes one → IsAccount gains strikes other →
+    IsToldTo gains strikes one at debts → IsToldTo gains strikes other beside debts → at < one.end → other.end ≤ beside → account_debts gains strikes one ≢ account_debts gains strikes other
+longer {gains} {strikes} {one} {other} {at} {beside} {debts} is is_other told told_beside inside past same =
+    let more = debt_of (entry_at (entries_of gains) at) (must_at gains one at) ∷ back (owes_at gains strikes one) (must_at gains one) (entries_of gains) (at + 1) in
+    let equal : debts ++ more ≡ debts = sym (told-here is told inside) ∙ same ∙ sym (told-all is_other told_beside past) in
+    absurd (omega (arith, ap length equal, length-append debts more))
 
--- AreAt goes on with the next places of both accounts, where both owe the same debt at their places
-pub at-more : (gains : Gains) (strikes : List Strike) (one other : Account) (at beside next next_beside : ℕ) → IsAccount gains strikes one → IsAccount gains strikes other →
-    AreAt gains strikes one other at beside → at < one.end → beside < other.end →
-    debt_of (entry_at (entries_of gains) at) (must_at gains one at) ≡ debt_of (entry_at (entries_of gains) beside) (must_at gains other beside) →
-    IsAfter gains strikes one at next → IsAfter gains strikes other beside next_beside → AreAt gains strikes one other next next_beside
-at-more gains strikes one other at beside next next_beside is is_other are inside inside_beside same after after_beside =
-    let entries = (entries_of gains) in
-    let left' = back (owes_at gains strikes one) (must_at gains one) entries next in
-    let right' = back (owes_at gains strikes other) (must_at gains other) entries next_beside in
-    let low = are.low in
-    let low_beside = are.low_beside in
-    let above = after.within.0 in
-    let above_beside = after_beside.within.0 in
-    record {
-      left = beside-more (account_debts gains strikes one) (account_debts gains strikes other) (back (owes_at gains strikes one) (must_at gains one) entries at)
-          (back (owes_at gains strikes other) (must_at gains other) entries beside) left' right' (debt_of (entry_at entries at) (must_at gains one at)) are.left
-          (after-more gains strikes one at next is inside (are.owed inside) after)
-          (after-more gains strikes other beside next_beside is_other inside_beside (are.owed_beside inside_beside) after_beside ∙ ap (λ d. d ∷ right') (sym same));
-      low = omega (arith, low, above);
-      low_beside = omega (arith, low_beside, above_beside);
-      end = after.within.1;
-      end_beside = after_beside.within.1;
-      owed = after.is;
-      owed_beside = after_beside.is;
-    }
+-- both accounts owe the same before their places, at which each owes something or ends
+pub record AreAt (gains : Gains) (strikes : List Strike) (one other : Account) (at beside : ℕ) : Type 0 where
+  pub debts : List Debt
+  pub told : IsToldTo gains strikes one at debts
+  pub told_beside : IsToldTo gains strikes other beside debts
 
--- what is left from a place at which something is owed begins with that debt
-back-here : (gains : Gains) (strikes : List Strike) (a : Account) (at : ℕ) → IsAccount gains strikes a → at < a.end → owes_at gains strikes a at ≡ true →
-    back (owes_at gains strikes a) (must_at gains a) (entries_of gains) at
-    ≡ debt_of (entry_at (entries_of gains) at) (must_at gains a at) ∷ back (owes_at gains strikes a) (must_at gains a) (entries_of gains) (at + 1)
-back-here gains strikes a at is inside owed =
-    let end = is.end in
-    back-set (owes_at gains strikes a) (must_at gains a) (entries_of gains) at no_entry (omega (arith, inside, end)) owed
+module _ {gains : Gains} {strikes : List Strike} {one other : Account} (is : IsAccount gains strikes one) (is_other : IsAccount gains strikes other) where
+  -- AreAt holds at the starts of two accounts
+  pub at-start : AreAt gains strikes one other one.start other.start
+  at-start = record { debts = []; told = told-none is refl; told_beside = told-none is_other refl }
 
--- nothing is left at the end of an account
-back-end : (gains : Gains) (strikes : List Strike) (a : Account) (at : ℕ) → a.end ≤ at → back (owes_at gains strikes a) (must_at gains a) (entries_of gains) at ≡ []
-back-end gains strikes a at past =
-    back-none (owes_at gains strikes a) (must_at gains a) (entries_of gains) at (λ j above. past-end gains strikes a j (omega (arith, above, past)))
+  -- AreAt goes on with the next places of both accounts, where both owe the same debt at their places
+  pub at-more : {at beside next next_beside : ℕ} (d : Debt) → AreAt gains strikes one other at beside → at < one.end → beside < other.end →
+      d ≡ debt_of (entry_at (entries_of gains) at) (must_at gains one at) → d ≡ debt_of (entry_at (entries_of gains) beside) (must_at gains other beside) →
+      IsAfter gains strikes one at next → IsAfter gains strikes other beside next_beside → AreAt gains strikes one other next next_beside
+  at-more d are inside inside_beside here there after after_beside = record {
+    debts = are.debts ++ d ∷ [];
+    told = told-more is are.told inside after here refl;
+    told_beside = told-more is_other are.told_beside inside_beside after_beside there refl;
+  }
 
--- two accounts at whose ends AreAt holds owe the same
-pub at-end : (gains : Gains) (strikes : List Strike) (one other : Account) (at beside : ℕ) → IsAccount gains strikes one → IsAccount gains strikes other →
-    AreAt gains strikes one other at beside → one.end ≤ at → other.end ≤ beside → account_debts gains strikes one ≡ account_debts gains strikes other
-at-end gains strikes one other at beside is is_other are past past_beside = are.left.from (back-end gains strikes one at past ∙ sym (back-end gains strikes other beside past_beside))
+  -- accounts that owe different debts at their places do not owe the same
+  pub at-apart : {at beside : ℕ} → AreAt gains strikes one other at beside → at < one.end → beside < other.end →
+      debt_of (entry_at (entries_of gains) at) (must_at gains one at) ≢ debt_of (entry_at (entries_of gains) beside) (must_at gains other beside) →
+      account_debts gains strikes one ≢ account_debts gains strikes other
+  at-apart {at} {beside} are inside inside_beside apart same =
+      let rest = back (owes_at gains strikes one) (must_at gains one) (entries_of gains) (at + 1) in
+      let rest_beside = back (owes_at gains strikes other) (must_at gains other) (entries_of gains) (beside + 1) in
+      apart (first (append_cancel_left are.debts (debt_of (entry_at (entries_of gains) at) (must_at gains one at) ∷ rest)
+      (debt_of (entry_at (entries_of gains) beside) (must_at gains other beside) ∷ rest_beside)
+      (sym (told-here is are.told inside) ∙ same ∙ told-here is_other are.told_beside inside_beside)))
+    where
+      first : {d d' : Debt} {ds ds' : List Debt} → d ∷ ds ≡ d' ∷ ds' → d ≡ d'
+      first equal = cc
 
--- a list with a first debt is not empty
-cons≢nil : (d : Debt) (ds : List Debt) → d ∷ ds ≢ []
-cons≢nil d ds none = cc
+  -- accounts at one place that owe the same from there on owe the same
+  pub rest-same : {at beside : ℕ} → AreAt gains strikes one other at beside → at ≡ beside → SharesRest strikes one other at → account_debts gains strikes one ≡ account_debts gains strikes other
+  rest-same {at} are here shared =
+      told-split is are.told
+      ∙ ap (λ l. are.debts ++ l)
+      (back-same (owes_at gains strikes one) (must_at gains one) (owes_at gains strikes other) (must_at gains other) (entries_of gains) at
+      (λ k above. (shared.owes gains k above, soft-must gains other one k shared.soft))
+      ∙ ap (back (owes_at gains strikes other) (must_at gains other) (entries_of gains)) here)
+      ∙ sym (told-split is_other are.told_beside)
 
--- accounts at one place that owe the same from there on owe the same
-pub rest-same : (gains : Gains) (strikes : List Strike) (one other : Account) (at beside : ℕ) → AreAt gains strikes one other at beside → at ≡ beside →
-    SharesRest strikes one other at → account_debts gains strikes one ≡ account_debts gains strikes other
-rest-same gains strikes one other at beside are here shared =
-    let entries = (entries_of gains) in
-    are.left.from (back-same (owes_at gains strikes one) (must_at gains one) (owes_at gains strikes other) (must_at gains other) entries at
-    (λ k above. (shared.owes gains k above, soft-must gains other one k shared.soft))
-    ∙ ap (back (owes_at gains strikes other) (must_at gains other) entries) here)
+  -- where one account is at its end, both owe the same exactly if the other one is at its end too
+  pub end-same : {at beside : ℕ} → AreAt gains strikes one other at beside → at ≡ one.end → IsTrue (beside == other.end) ↔ (account_debts gains strikes one ≡ account_debts gains strikes other)
+  end-same {at} {beside} are here = (
+    λ same. sym (told-all is are.told (omega (arith, here))) ∙ told-all is_other are.told_beside (let there = eqb-true beside other.end same in omega (arith, there)),
+    λ same. elim (cases_eq beside other.end) [
+      | inl there ↦ eq-eqb beside other.end there
+      | inr short ↦
+          let end = are.told_beside.end in
+          absurd (longer is_other is are.told_beside are.told (omega (arith, short, end)) (omega (arith, here)) (sym same))
+    ],
+  )
+
+  -- where one account is not at its end and the other is, they do not owe the same
+  pub end-other : {at beside : ℕ} → AreAt gains strikes one other at beside → at ≢ one.end → other.end ≤ beside →
+      IsTrue (at == one.end) ↔ (account_debts gains strikes one ≡ account_debts gains strikes other)
+  end-other {at} are short past =
+      let end = are.told.end in (
+        λ here. absurd (short (eqb-true at one.end here)),
+        λ same. absurd (longer is is_other are.told are.told_beside (omega (arith, short, end)) past same),
+      )
 
 -- accounts that begin and end alike and have the same strikes owe the same
 pub alike-debts : (gains : Gains) (strikes : List Strike) (one other : Account) → AreAlike strikes one other → account_debts gains strikes one ≡ account_debts gains strikes other
@@ -258,51 +202,15 @@ shares-rest strikes one other place end soft start start_other free free_other =
       let m = (entry_at (entries_of gains) k).message in
       let gone : is_gone gains (strikes_of strikes one) k ≡ is_gone gains (strikes_of strikes other) k =
       gone-same gains (strikes_of strikes other) (strikes_of strikes one) k (λ left. free m k above ∙ sym (free_other m k above)) in
-      ap₂ (λ a b. a && (nat_lt k one.end && not b)) (le-yes one.start k (omega (arith, start, above))) gone
+      ap₂ (λ a b. a && (nat_lt k one.end && not b)) (le-leb one.start k (omega (arith, start, above))) gone
       ∙ ap (λ n. nat_lt k n && not (is_gone gains (strikes_of strikes other) k)) end
-      ∙ sym (ap (λ a. a && (nat_lt k other.end && not (is_gone gains (strikes_of strikes other) k))) (le-yes other.start k (omega (arith, start_other, above))));
+      ∙ sym (ap (λ a. a && (nat_lt k other.end && not (is_gone gains (strikes_of strikes other) k))) (le-leb other.start k (omega (arith, start_other, above))));
 }
 
 -- what is said where a test is true may say less
 pub on-true : {P Q : Type 0} (b : Bool) → OnTrue b P → (P → Q) → OnTrue b Q
 on-true true p more = more p
 on-true false p more = p
-
--- an account with something left does not owe what an account at its end owes
-pub at-longer : (gains : Gains) (strikes : List Strike) (one other : Account) (at beside : ℕ) → IsAccount gains strikes one → AreAt gains strikes one other at beside →
-    at < one.end → other.end ≤ beside → account_debts gains strikes one ≢ account_debts gains strikes other
-at-longer gains strikes one other at beside is are inside past same =
-    cons≢nil (debt_of (entry_at (entries_of gains) at) (must_at gains one at)) (back (owes_at gains strikes one) (must_at gains one) (entries_of gains) (at + 1))
-    (sym (back-here gains strikes one at is inside (are.owed inside)) ∙ are.left.to same ∙ back-end gains strikes other beside past)
-
--- an account at its end does not owe what one with something left owes
-pub at-shorter : (gains : Gains) (strikes : List Strike) (one other : Account) (at beside : ℕ) → IsAccount gains strikes other → AreAt gains strikes one other at beside →
-    one.end ≤ at → beside < other.end → account_debts gains strikes one ≢ account_debts gains strikes other
-at-shorter gains strikes one other at beside is_other are past inside same =
-    cons≢nil (debt_of (entry_at (entries_of gains) beside) (must_at gains other beside)) (back (owes_at gains strikes other) (must_at gains other) (entries_of gains) (beside + 1))
-    (sym (back-here gains strikes other beside is_other inside (are.owed_beside inside)) ∙ sym (are.left.to same) ∙ back-end gains strikes one at past)
-
--- where one account is at its end, both owe the same exactly if the other one is at its end too
-pub end-same : (gains : Gains) (strikes : List Strike) (one other : Account) (at beside : ℕ) → IsAccount gains strikes one → IsAccount gains strikes other →
-    AreAt gains strikes one other at beside → at ≡ one.end → IsTrue (beside == other.end) ↔ (account_debts gains strikes one ≡ account_debts gains strikes other)
-end-same gains strikes one other at beside is is_other are here = (
-  λ same. at-end gains strikes one other at beside is is_other are (omega (arith, here)) (let there = eqb-true beside other.end same in omega (arith, there)),
-  λ same. elim (cases_eq beside other.end) [
-    | inl there ↦ eq-eqb beside other.end there
-    | inr short ↦
-        let end = are.end_beside in
-        absurd (at-shorter gains strikes one other at beside is_other are (omega (arith, here)) (omega (arith, short, end)) same)
-  ],
-)
-
--- where one account is not at its end and the other is, they do not owe the same
-pub end-other : (gains : Gains) (strikes : List Strike) (one other : Account) (at beside : ℕ) → IsAccount gains strikes one →
-    AreAt gains strikes one other at beside → at ≢ one.end → other.end ≤ beside → IsTrue (at == one.end) ↔ (account_debts gains strikes one ≡ account_debts gains strikes other)
-end-other gains strikes one other at beside is are short past =
-    let end = are.end in (
-      λ here. absurd (short (eqb-true at one.end here)),
-      λ same. absurd (at-longer gains strikes one other at beside is are (omega (arith, short, end)) past same),
-    )
 
 -- whether what is owed at a place must be sent
 abbrev pub due : (ℕ → Bool) → (ℕ → Bool) → ℕ → Bool
@@ -389,25 +297,16 @@ pub record IsLeastTo (gains : Gains) (strikes : List Strike) (a : Account) (from
   pub within : from ≤ length (entries_of gains)
   pub none : gains.rises ≡ true → (k : ℕ) → k < from → due (owes_at gains strikes a) (must_at gains a) k ≡ false
 
--- `a && b` is false where b is
-and-no : (a b : Bool) → b ≡ false → (a && b) ≡ false
-and-no true b is = is
-and-no false b is = refl
-
--- `a && b` is false where a is
-no-and : (a b : Bool) → a ≡ false → (a && b) ≡ false
-no-and a b is = ap (λ x. x && b) is
-
 -- a gain that need not be sent as it was gained need not be sent by any account
 unmust : (gains : Gains) (a : Account) (k : ℕ) → holds gains.musts 0 k ≡ false → must_at gains a k ≡ false
 unfolding must_at
-unmust gains a k none = no-and (holds gains.musts 0 k) (nat_le a.soft k) none
+unmust gains a k none = and_left (holds gains.musts 0 k) (nat_le a.soft k) none
 
 -- nothing is due before the start or the `soft` of an account
 not-due-before : (gains : Gains) (strikes : List Strike) (a : Account) (from k : ℕ) → from ≤ a.start ⊎ from ≤ a.soft → k < from →
     due (owes_at gains strikes a) (must_at gains a) k ≡ false
-not-due-before gains strikes a from k (inl start) early = no-and (owes_at gains strikes a k) (must_at gains a k) (before-start gains strikes a k (omega (arith, start, early)))
-not-due-before gains strikes a from k (inr soft) early = and-no (owes_at gains strikes a k) (must_at gains a k) (sym (must-below gains a k (omega (arith, soft, early))))
+not-due-before gains strikes a from k (inl start) early = and_left (owes_at gains strikes a k) (must_at gains a k) (before-start gains strikes a k (omega (arith, start, early)))
+not-due-before gains strikes a from k (inr soft) early = and_right (owes_at gains strikes a k) (must_at gains a k) (sym (must-below gains a k (omega (arith, soft, early))))
 
 -- IsLeastTo holds at the later one of the start and the `soft` of an account, with no deadline
 pub least-first : (gains : Gains) (strikes : List Strike) (a : Account) (from : ℕ) → IsAccount gains strikes a → a.start ≤ from → a.soft ≤ from → from ≤ a.start ⊎ from ≤ a.soft →
@@ -431,7 +330,7 @@ least-first gains strikes a from is low soft one =
 -- nothing is due before the next place of a gain that must be sent
 gap-due : (gains : Gains) (strikes : List Strike) (a : Account) (from at : ℕ) → ((k : ℕ) → from ≤ k → k < at → holds gains.musts 0 k ≡ false) →
     IsGap (due (owes_at gains strikes a) (must_at gains a)) from at
-gap-due gains strikes a from at none k above below = and-no (owes_at gains strikes a k) (must_at gains a k) (unmust gains a k (none k above below))
+gap-due gains strikes a from at none k above below = and_right (owes_at gains strikes a k) (must_at gains a k) (unmust gains a k (none k above below))
 
 -- IsLeastTo goes on over places at which nothing has to be sent, and over one that the account does not owe
 pub least-passed : (gains : Gains) (strikes : List Strike) (a : Account) (from at : ℕ) (least : Option ℕ) → IsLeastTo gains strikes a from least → from ≤ at → at < length (entries_of gains) →
@@ -440,7 +339,7 @@ least-passed gains strikes a from at least was above inside gap unowed =
     let m = due (owes_at gains strikes a) (must_at gains a) in
     let low = was.low in
     let soft = was.soft in
-    let here : m at ≡ false = no-and (owes_at gains strikes a at) (must_at gains a at) unowed in
+    let here : m at ≡ false = and_left (owes_at gains strikes a at) (must_at gains a at) unowed in
     let free = gap-due gains strikes a from at gap in
     record {
       is = was.is ∙ sym (least-over (entries_of gains) m from (at + 1) (omega (arith, above)) (omega (arith, inside)) (λ k low_k high_k. elim (cases_lt k at) [
@@ -512,7 +411,7 @@ least-last gains strikes a from at least was gap past =
     was.is
     ∙ sym (least-end entries m from was.within (λ k later. elim (cases_lt k at) [
       | inl early ↦ gap-due gains strikes a from at gap k later early
-      | inr late ↦ no-and (o k) (must_at gains a k) (past-end gains strikes a k (omega (arith, late, past)))
+      | inr late ↦ and_left (o k) (must_at gains a k) (past-end gains strikes a k (omega (arith, late, past)))
     ]))
     ∙ sym (ap earliest (due-deadlines entries o (must_at gains a)))
 

@@ -1,63 +1,40 @@
 -- An account loses one of its debts.
-use Rattle.std.proofs.Common.{◌≡◌, ◌≢◌, ℕ, ◌+◌, ◌-◌, ◌<◌, ◌≤◌, ◌%◌, ◌^◌, ◌==◌, ◌&&◌, ◌||◌, Bool, true, false, cond, not, List, [], ◌∷◌, ◌++◌, length, take, drop, get_or, refl, sym, ap, ap₂, ◌∙◌, subst, inl, inr, arith, lit<}
+use Rattle.std.proofs.Common.{◌≡◌, ◌≢◌, ℕ, ◌+◌, ◌-◌, ◌<◌, ◌≤◌, ◌%◌, ◌^◌, ◌==◌, ◌&&◌, ◌||◌, Bool, true, false, not, List, [], ◌∷◌, ◌++◌, length, take, drop, refl, sym, ap, ap₂, ◌∙◌, subst, inl, inr, arith, lit<}
 use Rattle.std.specs.Prelude.{nat_le, nat_lt}
 use Rattle.std.specs.List.{sum_by}
-use Rattle.std.proofs.lemmas.Bool.{cases_eq, cases_lt, eq-eqb, ne_eqb, true≢false}
-use Rattle.std.proofs.Math.Bool.{or-false}
+use Rattle.std.proofs.lemmas.Bool.{and_right, cases_lt, eq-eqb, le-leb, lt-leb, lt-ltb, ne_eqb, true≢false}
+use Rattle.std.proofs.Math.Bool.{and-false, or-false, or-true}
 use Rattle.std.proofs.lemmas.Bool.Decides.{nat_tests}
 use Rattle.std.proofs.lemmas.List.Sums.{sum_by-append, sum_by-cons}
 use Rattle.std.proofs.lemmas.Nat.{mod_below}
 use Rattle.std.proofs.Math.Nat.{add-mod_right, mod-add-mod, mod-eq_of_lt}
 use Rattle.sip_ledger.specs.declared.debt.Debt.{Debt}
-use Rattle.sip_ledger.specs.declared.debt.Entry.{Entry}
 use Rattle.sip_ledger.specs.declared.accounts.account.Account.{Account}
 use Rattle.sip_ledger.specs.declared.accounts.gains.Gains.{Gains}
 use Rattle.sip_ledger.specs.declared.accounts.strikes.Strike.{Strike}
 use Rattle.sip_ledger.specs.Accounts.{debts_print, worth_of}
-use Rattle.sip_ledger.specs.Entries.{debt_of, debts_from}
-use Rattle.sip_ledger.specs.inner.Accounts.{AreGains, IsAccount, IsStruck, IsWithout, account_debts, entries_of, entry_at, is_gone, is_left, is_struck, must_at, owes_at, strikes_of}
-use Rattle.sip_ledger.proofs.debts.ListedLemmas.{no_entry, front, back, parts, back-set, back-unset, back-same, front-same}
+use Rattle.sip_ledger.specs.Entries.{debt_of}
+use Rattle.sip_ledger.specs.inner.Accounts.{IsAccount, IsStruck, IsWithout, account_debts, entries_of, entry_at, is_gone, is_struck, must_at, owes_at, strikes_of}
+use Rattle.sip_ledger.proofs.debts.ListedLemmas.{back, front}
+use Rattle.sip_ledger.proofs.debts.OwedLemmas.{IsCut, cut-at}
 use Rattle.sip_ledger.proofs.gains.LeftLemmas.{gone-same, gone-struck}
 use Rattle.sip_ledger.proofs.account.AccountLemmas.{owed-within, past-end, soft-must}
-
--- the new debts are the old ones without this one
-pub record IsCut (debt : Debt) (old new : List Debt) : Type 0 where
-  pub before : List Debt
-  pub after : List Debt
-  pub whole : old ≡ before ++ debt ∷ after
-  pub rest : new ≡ before ++ after
-
--- where the entry at a place is owed no more, the debts are those of before without the debt of this entry
-pub cut-at : (entries : List Entry) (o m o' m' : ℕ → Bool) (at : ℕ) → at < length entries → o at ≡ true → IsWithout at o o' → ((k : ℕ) → m' k ≡ m k) →
-    IsCut (debt_of (get_or entries at no_entry) (m at)) (debts_from o m 0 entries) (debts_from o' m' 0 entries)
-cut-at entries o m o' m' at within is without must =
-    let less : at ≤ length entries = omega (arith, within) in
-    record {
-      before = front o m entries at;
-      after = back o m entries (at + 1);
-      whole = parts o m entries at less ∙ ap (λ l. front o m entries at ++ l) (back-set o m entries at no_entry within is);
-      rest = parts o' m' entries at less
-          ∙ ap₂ (λ a b. a ++ b)
-          (front-same o' m' o m entries at less (λ j below. let other : j ≢ at = omega (arith, below) in (without.others j other, must j)))
-          (back-unset o' m' entries at within without.gone
-          ∙ back-same o' m' o m entries (at + 1) (λ j above. let other : j ≢ at = omega (arith, above) in (without.others j other, must j)));
-    }
 
 -- the sum of the worths of debts
 abbrev worths : List Debt → ℕ
 worths debts = sum_by (λ debt. worth_of debt.message debt.deadline) debts
 
 -- the print of debts, with the worth of the one that was taken out, is the print of those of before
-pub cut-print : (debt : Debt) (old new : List Debt) → IsCut debt old new → (w : ℕ) → w ≡ worth_of debt.message debt.deadline →
+pub cut-print : {before after : List Debt} (debt : Debt) (old new : List Debt) → IsCut before debt after old new → (w : ℕ) → w ≡ worth_of debt.message debt.deadline →
     (debts_print new + w) % 2 ^ 64 ≡ debts_print old
 unfolding debts_print
-cut-print debt old new cut w is =
+cut-print {before} {after} debt old new cut w is =
     mod-add-mod (worths new) (2 ^ 64) w
     ∙ ap (λ n. n % 2 ^ 64)
-    (ap₂ (λ a b. a + b) (ap worths cut.rest ∙ sum_by-append (λ debt. worth_of debt.message debt.deadline) cut.before cut.after) is
-    ∙ turned (worths cut.before) (worths cut.after) (worth_of debt.message debt.deadline)
-    ∙ sym (ap worths cut.whole ∙ sum_by-append (λ debt. worth_of debt.message debt.deadline) cut.before (debt ∷ cut.after)
-    ∙ ap (λ n. worths cut.before + n) (sum_by-cons (λ debt. worth_of debt.message debt.deadline) debt cut.after)))
+    (ap₂ (λ a b. a + b) (ap worths cut.rest ∙ sum_by-append (λ debt. worth_of debt.message debt.deadline) before after) is
+    ∙ turned (worths before) (worths after) (worth_of debt.message debt.deadline)
+    ∙ sym (ap worths cut.whole ∙ sum_by-append (λ debt. worth_of debt.message debt.deadline) before (debt ∷ after)
+    ∙ ap (λ n. worths before + n) (sum_by-cons (λ debt. worth_of debt.message debt.deadline) debt after)))
   where
     turned : (a b c : ℕ) → a + b + c ≡ a + (c + b)
     turned a b c = omega arith
@@ -80,27 +57,11 @@ taken-print q w fits less =
 abbrev rest : Gains → List Strike → Account → ℕ → Bool
 rest gains own a k = nat_lt k a.end && not (is_gone gains own k)
 
--- where m is at most n, the test of m ≤ n passes
-pub le-yes : (m n : ℕ) → m ≤ n → nat_le m n ≡ true
-le-yes m n is = grind (arith, nat_tests)
-
--- where n is below m, the test of m ≤ n fails
-pub le-no : (m n : ℕ) → n < m → nat_le m n ≡ false
-le-no m n is = grind (arith, nat_tests)
-
--- where m is below n, the test of m < n passes
-pub lt-yes : (m n : ℕ) → m < n → nat_lt m n ≡ true
-lt-yes m n is = grind (arith, nat_tests)
-
--- where n is at most m, the test of m < n fails
-pub lt-no : (m n : ℕ) → n ≤ m → nat_lt m n ≡ false
-lt-no m n is = grind (arith, nat_tests)
-
 -- an account owes nothing before its start
 pub before-start : (gains : Gains) (strikes : List Strike) (a : Account) (k : ℕ) → k < a.start → owes_at gains strikes a k ≡ false
 unfolding owes_at
 before-start gains strikes a k early =
-    ap (λ b. b && (nat_lt k a.end && not (is_gone gains (strikes_of strikes a) k))) (le-no a.start k early)
+    ap (λ b. b && (nat_lt k a.end && not (is_gone gains (strikes_of strikes a) k))) (lt-leb a.start k early)
 
 -- where the account begins later, and owed nothing between, it is without its first gain
 pub later-start : (gains : Gains) (strikes : List Strike) (a b : Account) (place : ℕ) → a.start ≡ place → place < b.start → b.end ≡ a.end → b.first ≡ a.first → b.last ≡ a.last →
@@ -114,10 +75,10 @@ later-start gains strikes a b place start later end first last none = record {
       | inr behind ↦ none k (omega (arith, behind, other)) early
     ])
     | inr late ↦
-        ap (λ c. c && (nat_lt k b.end && not (is_gone gains (strikes_of strikes b) k))) (le-yes b.start k late)
+        ap (λ c. c && (nat_lt k b.end && not (is_gone gains (strikes_of strikes b) k))) (le-leb b.start k late)
         ∙ ap (λ e. nat_lt k e && not (is_gone gains (strikes_of strikes b) k)) end
         ∙ ap₂ (λ f l. nat_lt k a.end && not (is_gone gains (drop f (take l strikes)) k)) first last
-        ∙ sym (ap (λ c. c && rest gains (strikes_of strikes a) a k) (le-yes a.start k (omega (arith, late, later, start))))
+        ∙ sym (ap (λ c. c && rest gains (strikes_of strikes a) a k) (le-leb a.start k (omega (arith, late, later, start))))
   ];
 }
 
@@ -132,21 +93,10 @@ earlier-end gains strikes a b place end now start first last = record {
         ap₂ (λ s e. nat_le s k && (nat_lt k e && not (is_gone gains (strikes_of strikes b) k))) start now
         ∙ ap₂ (λ f l. nat_le a.start k && (nat_lt k place && not (is_gone gains (drop f (take l strikes)) k))) first last
         ∙ ap (λ c. nat_le a.start k && (c && not (is_gone gains (strikes_of strikes a) k)))
-        (lt-yes k place early ∙ sym (lt-yes k a.end (omega (arith, early, end))))
+        (lt-ltb k place early ∙ sym (lt-ltb k a.end (omega (arith, early, end))))
     | inr late ↦ past-end gains strikes b k (omega (arith, late, now)) ∙ sym (past-end gains strikes a k (omega (arith, late, other, end)))
   ];
 }
-
--- `x || true` is true
-or-last : (x : Bool) → (x || true) ≡ true
-or-last true = refl
-or-last false = refl
-
--- `x && y && false` is false
-no-more : (x y : Bool) → (x && (y && not true)) ≡ false
-no-more true true = refl
-no-more true false = refl
-no-more false y = refl
 
 -- a place lies from `place` up to the one after it exactly if it is `place`
 one-place : (place k : ℕ) → (nat_le place k && nat_lt k (place + 1)) ≡ (k == place)
@@ -160,8 +110,8 @@ struck-without gains old new a b c place s low start end first last = record {
   gone = is place
       ∙ ap (λ x. nat_le a.start place && (nat_lt place a.end && not x)) (gone-struck gains (strikes_of new b) place (λ left. s.struck place low left
       ∙ ap (λ x. is_struck (strikes_of old a) (entry_at (entries_of gains) place).message place || x) (one-place place place ∙ eq-eqb place place refl)
-      ∙ or-last (is_struck (strikes_of old a) (entry_at (entries_of gains) place).message place)))
-      ∙ no-more (nat_le a.start place) (nat_lt place a.end);
+      ∙ or-true (is_struck (strikes_of old a) (entry_at (entries_of gains) place).message place)))
+      ∙ and_right (nat_le a.start place) (nat_lt place a.end && false) (and-false (nat_lt place a.end));
   others = λ k other. elim (cases_lt k a.start) [
     | inl early ↦ before-start gains new c k (omega (arith, early, start, s.start)) ∙ sym (before-start gains old a k early)
     | inr from ↦
@@ -205,7 +155,8 @@ without-account gains old new a b place w is owed without soft order end first l
     must : (k : ℕ) → must_at gains b k ≡ must_at gains a k
     must k = soft-must gains a b k soft
 
-    cut : IsCut debt (account_debts gains old a) (account_debts gains new b)
+    cut : IsCut (front (owes_at gains old a) (must_at gains a) (entries_of gains) place) debt (back (owes_at gains old a) (must_at gains a) (entries_of gains) (place + 1))
+        (account_debts gains old a) (account_debts gains new b)
     cut = cut-at (entries_of gains) (owes_at gains old a) (must_at gains a) (owes_at gains new b) (must_at gains b) place inside owed without must
 
 -- what an account owes stands at its start or after it

@@ -62,6 +62,15 @@ listed-none o m i (x ∷ xs) none =
     ap (λ b. cond b (debt_of x (m i) ∷ debts_from o m (i + 1) xs) (debts_from o m (i + 1) xs)) (none i (omega arith) (omega arith))
     ∙ listed-none o m (i + 1) xs (λ k from below. none k (omega (arith, from)) (omega (arith, below)))
 
+-- there are no more debts than entries
+pub listed-few : (o m : ℕ → Bool) (i : ℕ) (xs : List Entry) → length (debts_from o m i xs) ≤ length xs
+listed-few o m i [] = omega arith
+listed-few o m i (x ∷ xs) = by (o i) (debt_of x (m i)) (debts_from o m (i + 1) xs) (listed-few o m (i + 1) xs)
+  where
+    by : (b : Bool) (d : Debt) (ds : List Debt) → length ds ≤ length xs → length (cond b (d ∷ ds) ds) ≤ suc (length xs)
+    by true d ds few = omega (arith, few)
+    by false d ds few = omega (arith, few)
+
 -- where P holds of the debt of each place that is owed, it holds of all debts
 pub listed-All : (P : Debt → Type 0) (o m : ℕ → Bool) (i : ℕ) (xs : List Entry) →
     ((j : ℕ) (e : Entry) → j < length xs → o (i + j) ≡ true → P (debt_of (get_or xs j e) (m (i + j)))) → All P (debts_from o m i xs)

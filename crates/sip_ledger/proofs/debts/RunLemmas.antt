@@ -1,9 +1,9 @@
 -- Runs of equal debts, and what they are with one debt more.
 use Rattle.std.proofs.Common.{◌≡◌, ℕ, ◌+◌, ◌-◌, ◌<◌, List, [], ◌∷◌, ◌++◌, length, take, get_or, set, replicate, suc, sym, ap, ◌∙◌, inl, inr, arith}
-use Rattle.std.proofs.lemmas.Bool.{cases_lt, cases_eq}
+use Rattle.std.proofs.lemmas.Bool.{cases_eq}
 use Rattle.std.proofs.lemmas.Grind.{flat_map-append}
-use Rattle.std.proofs.lemmas.List.{append-nil, append_assoc, drop_all, get_or_append_left, get_or_default, get_or_push, get_or-set_same, get_or-set_other, length-set, length_push, replicate_more, set_split, take-append-drop, drop_more}
-use Rattle.std.proofs.lemmas.List.Elements.{All-push, All-set}
+use Rattle.std.proofs.lemmas.List.{append-nil, append_assoc, drop_all, get_or_default, get_or-set_same, get_or-set_other, length-set, replicate_more, set_split, take-append-drop, drop_more}
+use Rattle.std.proofs.lemmas.List.Elements.{All-set}
 use Rattle.sip_ledger.specs.declared.debt.Debt.{Debt}
 use Rattle.sip_ledger.specs.declared.run.Run.{Run}
 use Rattle.sip_ledger.specs.Runs.{debts_in, AreRuns}
@@ -68,31 +68,4 @@ widened-run debts runs a debt are ends is =
       apart = λ at e below same.
           let within : at + 1 < length runs = omega (arith, below, length-set runs n wide) in
           are.apart at e within (sym (kept at e (omega (arith, within))) ∙ same ∙ kept (at + 1) e within);
-    }
-
--- where debts stand in runs, and the last run is not of a debt, the debts and that one stand in the runs and one more
-pub pushed-run : (debts : List Debt) (runs : List Run) (debt : Debt) → AreRuns debts runs → ¬ (EndsWith runs debt) →
-    AreRuns (debts ++ debt ∷ []) (runs ++ (record { debt = debt; count = 1 }) ∷ [])
-pushed-run debts runs debt are other =
-    let run : Run = record { debt = debt; count = 1 } in
-    record {
-      whole = debts-push runs run ∙ ap (λ l. l ++ debt ∷ []) are.whole;
-      filled = All-push (λ r. 0 < r.count) runs run are.filled (omega arith);
-      apart = λ at e below same. elim (cases_lt (at + 1) (length runs)) [
-        | inl within ↦
-            are.apart at e within
-            (ap (λ (r : Run). r.debt) (sym (get_or_append_left runs (run ∷ []) e at (omega (arith, within)))) ∙ same
-            ∙ ap (λ (r : Run). r.debt) (get_or_append_left runs (run ∷ []) e (at + 1) within))
-        | inr behind ↦
-            let end : length runs ≡ at + 1 = omega (arith, below, behind, length_push runs run) in
-            let here : length runs - 1 ≡ at = omega (arith, end) in
-            other (record {
-              filled = omega (arith, end);
-              last = λ d.
-                  ap (λ k. (get_or runs k d).debt) here
-                  ∙ ap (λ (r : Run). r.debt) (get_or_default runs at d e (omega (arith, end)) ∙ sym (get_or_append_left runs (run ∷ []) e at (omega (arith, end))))
-                  ∙ same
-                  ∙ ap (λ (r : Run). r.debt) (get_or_push runs run e (at + 1) end);
-            })
-      ];
     }

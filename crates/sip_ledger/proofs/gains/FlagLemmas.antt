@@ -1,5 +1,5 @@
 -- What is known beside each gain by its flags, so that the index is not asked.
-use Rattle.std.proofs.Common.{◌≡◌, ◌≢◌, ℕ, ◌+◌, ◌-◌, ◌<◌, ◌≤◌, true, false, List, [], ◌∷◌, ◌++◌, length, drop, set, get_or, refl, sym, ap, ◌∙◌, subst, inl, inr, arith}
+use Rattle.std.proofs.Common.{◌≡◌, ◌≢◌, ℕ, ◌+◌, ◌-◌, ◌<◌, ◌≤◌, true, false, List, [], ◌∷◌, ◌++◌, length, drop, set, get_or, sym, ap, ◌∙◌, subst, inl, inr, arith}
 use Rattle.std.proofs.lemmas.Bool.{cases_eq}
 use Rattle.std.proofs.lemmas.List.{get_or_default, get_or-drop, get_or-set_other, get_or-set_same, get_or_append_left, get_or_push, length-append, length-drop, length-set}
 use Rattle.sip_ledger.specs.declared.debt.Debt.{Debt}
@@ -10,7 +10,7 @@ use Rattle.sip_ledger.specs.inner.Accounts.{AreFlags, AreSameGains, IsDropped, I
 use Rattle.sip_ledger.specs.Indexes.{holds}
 
 -- whether a gain is left depends on its entry and the index alone
-left-as : (old new : Gains) (k : ℕ) → entry_at (entries_of new) k ≡ entry_at (entries_of old) k → ((m : ℕ) → holds new.messages m k ≡ holds old.messages m k) → is_left new k ≡ is_left old k
+pub left-as : (old new : Gains) (k : ℕ) → entry_at (entries_of new) k ≡ entry_at (entries_of old) k → ((m : ℕ) → holds new.messages m k ≡ holds old.messages m k) → is_left new k ≡ is_left old k
 unfolding is_left
 left-as old new k same messages =
     ap (λ (e : Entry). holds new.messages e.message k) same ∙ messages (entry_at (entries_of old) k).message

@@ -1,16 +1,16 @@
 -- Gains that no account owes any more are let go.
-use Rattle.std.proofs.Common.{◌≡◌, ◌≢◌, ℕ, ◌+◌, ◌<◌, ◌≤◌, Bool, true, false, List, [], ◌∷◌, ◌++◌, length, take, get_or, refl, sym, ap, ◌∙◌, subst, inl, inr, arith}
+use Rattle.std.proofs.Common.{◌≡◌, ◌≢◌, ℕ, ◌+◌, ◌<◌, ◌≤◌, false, List, [], ◌∷◌, ◌++◌, length, take, get_or, refl, sym, ap, ◌∙◌, subst, inl, inr, arith}
 use Rattle.std.specs.Prelude.{All}
 use Rattle.std.proofs.lemmas.Bool.{cases_eq, cases_lt}
 use Rattle.std.proofs.lemmas.List.{take_more}
-use Rattle.std.proofs.lemmas.List.Elements.{All-nil, All-push, All-weaker}
+use Rattle.std.proofs.lemmas.List.Elements.{All-push, All-weaker}
 use Rattle.sip_ledger.specs.declared.accounts.account.Account.{Account}
 use Rattle.sip_ledger.specs.declared.accounts.gains.Gains.{Gains}
 use Rattle.sip_ledger.specs.declared.accounts.strikes.Strike.{Strike}
-use Rattle.sip_ledger.specs.inner.Accounts.{AreAccounts, AreGains, AreKept, IsAccount, IsClearedTo, IsDropped, IsKept, IsLetGo, StartFrom, entries_of, owes_at}
+use Rattle.sip_ledger.specs.inner.Accounts.{AreAccounts, AreGains, AreKept, IsClearedTo, IsDropped, IsKept, IsLetGo, StartFrom, owes_at}
 use Rattle.sip_ledger.specs.Indexes.{holds}
 use Rattle.sip_ledger.proofs.gains.LeftLemmas.{not-kept}
-use Rattle.sip_ledger.proofs.account.AccountLemmas.{OwesAlike, all-alike, dropped-alike, let_go-alike, over-all, past-end}
+use Rattle.sip_ledger.proofs.account.AccountLemmas.{OwesAlike, dropped-alike, let_go-alike, over-all, past-end}
 use Rattle.sip_ledger.proofs.account.WithoutLemmas.{before-start}
 
 -- all accounts are kept where nothing has been let go
@@ -22,7 +22,7 @@ pub kept-less : (first old new : Gains) (strikes : List Strike) (rows : List Acc
     All (λ a. owes_at old strikes a place ≡ false) rows → AreKept strikes rows first new
 kept-less first old new strikes rows place was gone are unowed =
     let alike = All-weaker (λ a. owes_at old strikes a place ≡ false) (OwesAlike old new strikes) (λ a none. let_go-alike old new strikes a place gone none) rows unowed in
-    let all = over-all old new strikes rows (ap length gone.entries) alike was.accounts.each in
+    let all = over-all old new strikes rows (omega (arith, ap length gone.entries)) alike was.accounts.each in
     record { accounts = record { gained = are; each = all.0 }; debts = all.1 ∙ was.debts }
 
 -- before the place at which it starts an account owes nothing
@@ -75,13 +75,8 @@ cleared-more first old new strikes rows start place was gone are from early = re
 pub cleared-dropped : (first old new : Gains) (strikes : List Strike) (rows : List Account) (place : ℕ) → IsClearedTo place strikes rows first old → IsDropped place old new → AreGains new →
     AreKept strikes rows first new
 cleared-dropped first old new strikes rows place was dropped are =
-    let alike = all-alike old new strikes rows (λ a. dropped-alike old new strikes a place dropped was.none) in
-    let all = over-all old new strikes rows dropped.long alike was.kept.accounts.each in
+    let all = over-all old new strikes rows (omega (arith, dropped.long)) (λ k d below. dropped-alike old new strikes (get_or rows k d) place dropped was.none) was.kept.accounts.each in
     record { accounts = record { gained = are; each = all.0 }; debts = all.1 ∙ was.kept.debts }
-
--- no account owes anything before the place, so far
-pub start-none : (rows : List Account) (place : ℕ) → StartFrom place (take 0 rows)
-start-none rows place = All-nil (λ (a : Account). a.start < a.end → place ≤ a.start)
 
 -- with one account more, all start from a place on that is neither above the one before nor above its own start
 pub start-more : (rows : List Account) (place lower at : ℕ) (d : Account) → at < length rows → StartFrom place (take at rows) → lower ≤ place →

@@ -1,20 +1,19 @@
 -- Many rows gain a debt, and rows of which nothing is past lose nothing.
-use Rattle.std.proofs.Common.{◌≡◌, ◌<◌, ◌≤◌, ℕ, ◌+◌, Bool, true, false, List, [], ◌∷◌, ◌++◌, length, drop, take, get_or, set, map, filter, refl, sym, ap, ◌∙◌, subst, arith}
+use Rattle.std.proofs.Common.{◌≡◌, ◌<◌, ◌≤◌, ℕ, ◌+◌, true, List, [], ◌∷◌, ◌++◌, length, drop, take, get_or, set, map, filter, refl, sym, ap, ◌∙◌, subst, arith}
 use Rattle.std.specs.Prelude.{All, ◌||◌, cond, fold, min, nat_le}
-use Rattle.std.proofs.lemmas.Bool.Decides.{nat_tests}
+use Rattle.std.proofs.lemmas.Bool.{le-leb, or_right}
 use Rattle.std.proofs.lemmas.List.{get_or_default}
-use Rattle.std.proofs.lemmas.List.Elements.{All-cons, All-get_or, All-head, All-nil, All-tail}
+use Rattle.std.proofs.lemmas.List.Elements.{All-filter, All-get_or, All-head, All-map, All-tail, All-weaker}
 use Rattle.sip_ledger.specs.declared.debt.Debt.{Debt}
 use Rattle.sip_ledger.specs.declared.accounts.account.Account.{Account}
 use Rattle.sip_ledger.specs.declared.accounts.gains.Gains.{Gains}
 use Rattle.sip_ledger.specs.declared.accounts.strikes.Strike.{Strike}
 use Rattle.sip_ledger.specs.declared.debt.Entry.{Entry}
 use Rattle.sip_ledger.specs.Debts.{counts_at, debt_deadlines, earliest, is_timely, is_within}
-use Rattle.sip_ledger.specs.Entries.{debt_of}
 use Rattle.sip_ledger.specs.inner.Accounts.{AreAccounts, AreGains, IsAccount, IsKept, KeepsAccounts, account_debts, accounts_debts, entries_of, entry_at, must_at, owes_at}
 use Rattle.sip_ledger.proofs.debts.ListedLemmas.{listed-All, no_entry}
 use Rattle.sip_ledger.proofs.lists.EachLemmas.{changing, changing-front, changing-length, changing-more, changing-none, unchanged-each}
-use Rattle.sip_ledger.proofs.account.AccountLemmas.{debts-length}
+use Rattle.sip_ledger.proofs.account.AccountLemmas.{debts_length}
 use Rattle.sip_ledger.proofs.gains.LeftLemmas.{left-kept, owed-left}
 use Rattle.sip_ledger.proofs.rows.SeenLemmas.{account-at, changed-by, over-to, row-inside, unchanged}
 
@@ -34,7 +33,7 @@ gained-none debt from gains strikes rows are = record { accounts = are; debts = 
 
 -- there are as many lists of debts as accounts
 pub debts-count : (gains : Gains) (strikes : List Strike) (rows : List Account) (n : ℕ) → n ≡ length rows → n ≡ length (accounts_debts gains strikes rows)
-debts-count gains strikes rows n is = is ∙ sym (debts-length gains strikes rows)
+debts-count gains strikes rows n is = is ∙ sym (debts_length gains strikes rows)
 
 module _ {debt : Debt} {from k : ℕ} {old : List (List Debt)} {gains : Gains} {strikes : List Strike} {rows : List Account} where
   -- each row of the old ones is one of the rows
@@ -78,30 +77,35 @@ kept-each t (x ∷ xs) all =
     ap (λ b. cond b (x ∷ filter (counts_at t) xs) (filter (counts_at t) xs)) (All-head (λ d. counts_at t d ≡ true) x xs all)
     ∙ ap (λ l. x ∷ l) (kept-each t xs (All-tail (λ d. counts_at t d ≡ true) x xs all))
 
--- where no gain that is kept is past, an account has no debt that goes
-pub none-goes : (gains : Gains) (strikes : List Strike) (a : Account) (t : ℕ) → AreGains gains → ((k : ℕ) → IsKept gains k → t ≤ (entry_at (entries_of gains) k).deadline) →
-    filter (counts_at t) (account_debts gains strikes a) ≡ account_debts gains strikes a
+-- where no gain that is kept is past, no debt of an account is
+debts-late : (gains : Gains) (strikes : List Strike) (a : Account) (t : ℕ) → AreGains gains → ((k : ℕ) → IsKept gains k → t ≤ (entry_at (entries_of gains) k).deadline) →
+    All (λ (d : Debt). t ≤ d.deadline) (account_debts gains strikes a)
 unfolding account_debts
-none-goes gains strikes a t are late =
-    kept-each t (account_debts gains strikes a) (listed-All (λ d. counts_at t d ≡ true) (owes_at gains strikes a) (must_at gains a) 0 (entries_of gains)
+debts-late gains strikes a t are late =
+    listed-All (λ (d : Debt). t ≤ d.deadline) (owes_at gains strikes a) (must_at gains a) 0 (entries_of gains)
     (λ j e below owed.
     let here : 0 + j ≡ j = omega arith in
     let same : get_or (entries_of gains) j e ≡ entry_at (entries_of gains) j = get_or_default (entries_of gains) j e no_entry below in
     let is = late j (left-kept gains j are (owed-left gains strikes a j (ap (owes_at gains strikes a) (sym here) ∙ owed))) in
-    counts (must_at gains a (0 + j)) (get_or (entries_of gains) j e).deadline (omega (arith, is, ap (λ (x : Entry). x.deadline) same))))
-  where
-    counts : (b : Bool) (d : ℕ) → t ≤ d → (b || nat_le t d) ≡ true
-    counts true d low = refl
-    counts false d low = grind (arith, nat_tests)
+    omega (arith, is, ap (λ (x : Entry). x.deadline) same))
+
+-- a debt that is not past counts still
+late-counts : (t : ℕ) (d : Debt) → t ≤ d.deadline → counts_at t d ≡ true
+late-counts t d late = or_right d.must (nat_le t d.deadline) (le-leb t d.deadline late)
+
+-- where no gain that is kept is past, an account has no debt that goes
+pub none-goes : (gains : Gains) (strikes : List Strike) (a : Account) (t : ℕ) → AreGains gains → ((k : ℕ) → IsKept gains k → t ≤ (entry_at (entries_of gains) k).deadline) →
+    filter (counts_at t) (account_debts gains strikes a) ≡ account_debts gains strikes a
+none-goes gains strikes a t are late =
+    let debts = account_debts gains strikes a in
+    kept-each t debts (All-weaker (λ (d : Debt). t ≤ d.deadline) (λ d. counts_at t d ≡ true) (late-counts t) debts (debts-late gains strikes a t are late))
 
 -- where no gain that is kept is past, no row has a debt that goes
 rows-same : (gains : Gains) (strikes : List Strike) (rows : List Account) (t : ℕ) → AreGains gains → ((k : ℕ) → IsKept gains k → t ≤ (entry_at (entries_of gains) k).deadline) →
     All (λ owes. filter (counts_at t) owes ≡ owes) (accounts_debts gains strikes rows)
 unfolding accounts_debts
-rows-same gains strikes [] t are late = All-nil (λ (owes : List Debt). filter (counts_at t) owes ≡ owes)
-rows-same gains strikes (a ∷ rows) t are late =
-    All-cons (λ (owes : List Debt). filter (counts_at t) owes ≡ owes) (account_debts gains strikes a) (accounts_debts gains strikes rows) (none-goes gains strikes a t are late)
-    (rows-same gains strikes rows t are late)
+rows-same gains strikes rows t are late =
+    All-map (λ (owes : List Debt). filter (counts_at t) owes ≡ owes) (account_debts gains strikes) rows (λ k d below. none-goes gains strikes (get_or rows k d) t are late)
 
 -- where no gain that is kept is past, what many rows owe is as it is once what is past is dropped from some
 pub none-past : (gains : Gains) (strikes : List Strike) (rows : List Account) (seen : List (List Debt)) (from t : ℕ) → AreGains gains → accounts_debts gains strikes rows ≡ seen →
@@ -115,37 +119,15 @@ least-late : (t x : ℕ) (ms : List ℕ) → t ≤ x → All (λ m. t ≤ m) ms 
 least-late t x [] low all = low
 least-late t x (m ∷ ms) low all = least-late t (min x m) ms (omega (arith, low, All-head (λ n. t ≤ n) m ms all)) (All-tail (λ n. t ≤ n) m ms all)
 
--- the test finds a moment that is not later
-reaches-to : (t d : ℕ) → t ≤ d → nat_le t d ≡ true
-reaches-to t d low = grind (arith, nat_tests)
-
 -- where no moment is before t, t is within the earliest of them
 within-all : (t : ℕ) (ms : List ℕ) → All (λ m. t ≤ m) ms → is_within t (earliest ms) ≡ true
 within-all t [] all = refl
-within-all t (m ∷ ms) all = reaches-to t (fold min m ms) (least-late t m ms (All-head (λ n. t ≤ n) m ms all) (All-tail (λ n. t ≤ n) m ms all))
-
--- where no deadline is before t, none is, with or without the first debt
-late-next : (t : ℕ) (debt : Debt) (rest : List Debt) (must : Bool) → t ≤ debt.deadline → All (λ m. t ≤ m) (map (λ (d : Debt). d.deadline) rest) →
-    All (λ m. t ≤ m) (map (λ (d : Debt). d.deadline) (cond must (debt ∷ rest) rest))
-late-next t debt rest true low all = All-cons (λ m. t ≤ m) debt.deadline (map (λ (d : Debt). d.deadline) rest) low all
-late-next t debt rest false low all = all
-
--- where no deadline is before t, none by which a debt must be sent is
-late-deadlines : (t : ℕ) (debts : List Debt) → All (λ (d : Debt). t ≤ d.deadline) debts → All (λ m. t ≤ m) (debt_deadlines debts)
-late-deadlines t [] all = All-nil (λ m. t ≤ m)
-late-deadlines t (debt ∷ debts) all =
-    late-next t debt (filter (λ (d : Debt). d.must) debts) debt.must (All-head (λ (d : Debt). t ≤ d.deadline) debt debts all)
-    (late-deadlines t debts (All-tail (λ (d : Debt). t ≤ d.deadline) debt debts all))
+within-all t (m ∷ ms) all = le-leb t (fold min m ms) (least-late t m ms (All-head (λ n. t ≤ n) m ms all) (All-tail (λ n. t ≤ n) m ms all))
 
 -- where no gain is past, a row is timely
 pub none-late : (gains : Gains) (strikes : List Strike) (a : Account) (t : ℕ) → AreGains gains → ((k : ℕ) → IsKept gains k → t ≤ (entry_at (entries_of gains) k).deadline) →
     is_timely t (account_debts gains strikes a) ≡ true
-unfolding account_debts
 none-late gains strikes a t are late =
-    within-all t (debt_deadlines (account_debts gains strikes a)) (late-deadlines t (account_debts gains strikes a)
-    (listed-All (λ (d : Debt). t ≤ d.deadline) (owes_at gains strikes a) (must_at gains a) 0 (entries_of gains)
-    (λ j e below owed.
-    let here : 0 + j ≡ j = omega arith in
-    let same : get_or (entries_of gains) j e ≡ entry_at (entries_of gains) j = get_or_default (entries_of gains) j e no_entry below in
-    let is = late j (left-kept gains j are (owed-left gains strikes a j (ap (owes_at gains strikes a) (sym here) ∙ owed))) in
-    omega (arith, is, ap (λ (x : Entry). x.deadline) same))))
+    let must = filter (λ (d : Debt). d.must) (account_debts gains strikes a) in
+    within-all t (debt_deadlines (account_debts gains strikes a))
+    (All-map (λ m. t ≤ m) (λ (d : Debt). d.deadline) must (All-filter (λ (d : Debt). d.must) (λ (d : Debt). t ≤ d.deadline) (account_debts gains strikes a) (debts-late gains strikes a t are late)))

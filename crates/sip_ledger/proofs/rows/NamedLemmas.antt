@@ -4,7 +4,7 @@ use Rattle.std.specs.Prelude.{All, Contains, IfSome, IfNone}
 use Rattle.std.specs.List.{list_any}
 use Rattle.std.proofs.Math.Bool.{and-true}
 use Rattle.std.proofs.Math.Seq.{take-append_seam}
-use Rattle.std.proofs.lemmas.Bool.{cases_eq, cases_lt, eqb-true, false_from_ne_true, true≢false}
+use Rattle.std.proofs.lemmas.Bool.{cases_eq, cases_lt, eqb-true, false_from_ne_true, le-leb, true≢false}
 use Rattle.std.proofs.lemmas.List.{append-nil, append_assoc, get_or_append_left, get_or_default, get_or_push, length_push}
 use Rattle.std.proofs.lemmas.List.Elements.{All-map, Contains-append_left, Contains-push, Contains-push_cases}
 use Rattle.std.proofs.lemmas.List.Folds.{list_any_at, list_any_none}
@@ -19,9 +19,8 @@ use Rattle.sip_ledger.specs.Lists.{Rise}
 use Rattle.sip_ledger.specs.inner.Accounts.{AreGains, account_debts, accounts_debts, entries_of, entry_at, must_at, owes_at}
 use Rattle.sip_ledger.specs.Indexes.{IsFirstFrom, IsFrom, NoneFrom, holds}
 use Rattle.sip_ledger.proofs.debts.ListedLemmas.{listed-All, no_entry}
-use Rattle.sip_ledger.proofs.account.AccountLemmas.{debts-length, row-debts}
+use Rattle.sip_ledger.proofs.account.AccountLemmas.{debts_length, row-debts}
 use Rattle.sip_ledger.proofs.gains.LeftLemmas.{held-left, owed-left}
-use Rattle.sip_ledger.proofs.account.WithoutLemmas.{le-yes}
 
 -- the first pair from one on is of the first message from there on
 message-before : (pairs : List (ℕ × ℕ)) (key number : ℕ) (found : ℕ × ℕ) → IsFirstFrom pairs key number found → (m k : ℕ) → IsFrom key number m k → m < found.0 → holds pairs m k ≡ false
@@ -69,14 +68,14 @@ next-none pairs key number low (Some message) from none = tt
 pub payable-owes : (message : ℕ) (debts : List Debt) → list_any (is_payable message 0) debts ≡ owes_message message debts
 payable-owes message [] = refl
 payable-owes message (debt ∷ debts) =
-    ap₂ (λ a b. a || b) (ap (λ late. debt.message == message && late) (le-yes 0 debt.deadline (omega arith)) ∙ and-true (debt.message == message)) (payable-owes message debts)
+    ap₂ (λ a b. a || b) (ap (λ late. debt.message == message && late) (le-leb 0 debt.deadline (omega arith)) ∙ and-true (debt.message == message)) (payable-owes message debts)
 
 -- where one of the accounts owes the message, some row does
 pub named-here : (gains : Gains) (strikes : List Strike) (rows : List Account) (message at : ℕ) (none : Account) → at < length rows →
     owes_message message (account_debts gains strikes (get_or rows at none)) ≡ true → some_owes message (accounts_debts gains strikes rows) ≡ true
 named-here gains strikes rows message at none inside is =
     let a = get_or rows at none in
-    list_any_at (owes_message message) (accounts_debts gains strikes rows) at [] (omega (arith, inside, debts-length gains strikes rows))
+    list_any_at (owes_message message) (accounts_debts gains strikes rows) at [] (omega (arith, inside, debts_length gains strikes rows))
     (ap (owes_message message) (row-debts gains strikes rows at a inside (get_or_default rows at none a inside)) ∙ is)
 
 -- where none of the accounts owes the message, none of their lists of debts has it

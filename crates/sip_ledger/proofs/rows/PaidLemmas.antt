@@ -14,7 +14,6 @@ use Rattle.sip_ledger.specs.Debts.{counts_at, is_payable, is_timely, paid_by}
 use Rattle.sip_ledger.specs.Lists.{from_to}
 use Rattle.sip_ledger.specs.inner.Accounts.{AreAccounts, IsAccount, account_debts, accounts_debts}
 use Rattle.sip_ledger.proofs.lists.EachLemmas.{passing-more}
-use Rattle.sip_ledger.proofs.account.AccountLemmas.{debts-length}
 use Rattle.sip_ledger.proofs.rows.SeenLemmas.{account-at, pushed-to, row-inside, unchanged}
 
 -- whether a row is paid, and what is left to it

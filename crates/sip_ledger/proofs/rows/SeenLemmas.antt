@@ -1,10 +1,10 @@
 -- Accounts as contracts see them: a list of what each row owes.
-use Rattle.std.proofs.Common.{◌≡◌, ◌≢◌, ℕ, ◌+◌, ◌<◌, ◌≤◌, ◌%◌, ◌^◌, ◌==◌, Bool, true, false, List, [], ◌∷◌, ◌++◌, length, take, get_or, set, map, refl, sym, ap, ap₂, ◌∙◌, inl, inr, arith}
-use Rattle.std.specs.Prelude.{All, IsTrue, Option, Some, None, IfSome, IfNone, Result, Ok, Err, IsErr, OnErr, ◌↔◌, is_err, is_some}
+use Rattle.std.proofs.Common.{◌≡◌, ◌≢◌, ℕ, ◌+◌, ◌<◌, ◌≤◌, ◌%◌, ◌^◌, ◌==◌, true, false, List, [], ◌∷◌, ◌++◌, length, take, get_or, set, map, refl, sym, ap, ap₂, ◌∙◌, inl, inr, arith}
+use Rattle.std.specs.Prelude.{IsTrue, Option, Some, None, IfSome, IfNone, Result, Ok, Err, IsErr, OnErr, ◌↔◌, is_err, is_some}
 use Rattle.std.specs.List.{list_any, sum_by}
 use Rattle.std.proofs.lemmas.Bool.{cases_eq, eq-eqb, eqb-true, false_from_ne_true, true≢false}
-use Rattle.std.proofs.lemmas.List.{set-get_or}
-use Rattle.std.proofs.lemmas.List.Elements.{All-cons, All-head, All-nil, All-tail}
+use Rattle.std.proofs.lemmas.List.{get_or_default}
+use Rattle.std.proofs.lemmas.List.Elements.{All-weaker}
 use Rattle.std.proofs.lemmas.List.Folds.{list_any_none}
 use Rattle.std.proofs.lemmas.List.Sums.{sum_by-cons}
 use Rattle.sip_ledger.specs.declared.debt.Debt.{Debt}
@@ -13,11 +13,11 @@ use Rattle.sip_ledger.specs.declared.accounts.gains.Gains.{Gains}
 use Rattle.sip_ledger.specs.declared.accounts.strikes.Strike.{Strike}
 use Rattle.sip_ledger.specs.Accounts.{debts_print, owed_in, worth_of}
 use Rattle.sip_ledger.specs.Debts.{is_payable, softened_debt}
-use Rattle.sip_ledger.specs.Entries.{debts_from}
 use Rattle.sip_ledger.specs.inner.Accounts.{AreAccounts, AreGains, IsAccount, IsFirstPayable, KeepsAccounts, account_debts, accounts_debts, entries_of, must_at, owes_at, pays_at}
-use Rattle.sip_ledger.proofs.debts.ListedLemmas.{listed-same, listed-softened, no_entry}
+use Rattle.sip_ledger.proofs.debts.ListedLemmas.{listed-few, listed-same, listed-softened}
 use Rattle.sip_ledger.proofs.debts.OwedLemmas.{listed-any, some-debt}
-use Rattle.sip_ledger.proofs.account.AccountLemmas.{changed, debts-length, empty-debts, kept-all, must-below, over, owed-within, pushed, row-account, row-debts}
+use Rattle.sip_ledger.proofs.gains.LeftLemmas.{entries-long}
+use Rattle.sip_ledger.proofs.account.AccountLemmas.{changed, debts_length, empty-debts, kept-all, must-below, over, owed-within, pushed, row-account, row-debts}
 use Rattle.sip_ledger.proofs.account.FindLemmas.{unpaid-account}
 
 -- what holds is said of an answer that is an error
@@ -33,7 +33,7 @@ on-err (Err e) P is p = p
 module _ {gains : Gains} {strikes : List Strike} {rows : List Account} {seen : List (List Debt)} where
   -- a row of the list that contracts see is the row of one of the accounts
   pub row-inside : (row : ℕ) → AreAccounts gains strikes rows → accounts_debts gains strikes rows ≡ seen → row < length seen → row < length rows
-  row-inside row are view inside = omega (arith, inside, ap length view, debts-length gains strikes rows)
+  row-inside row are view inside = omega (arith, inside, ap length view, debts_length gains strikes rows)
 
   -- what stands in a row is an account, and its debts are those that contracts see there
   pub account-at : (row : ℕ) (a : Account) → AreAccounts gains strikes rows → accounts_debts gains strikes rows ≡ seen → row < length seen → a ≡ get_or rows row a →
@@ -43,6 +43,18 @@ module _ {gains : Gains} {strikes : List Strike} {rows : List Account} {seen : L
         row-account gains strikes rows row a within is are.each,
         sym (row-debts gains strikes rows row a within is) ∙ ap (λ l. owed_in l row) view,
       )
+
+  -- a row owes no more debts than were gained
+  pub row-few : (row : ℕ) → AreAccounts gains strikes rows → accounts_debts gains strikes rows ≡ seen → row < length seen → length (owed_in seen row) < 2 ^ 64
+  unfolding account_debts
+  row-few row are view inside =
+      let none : Account = record { start = 0; end = 0; soft = 0; first = 0; last = 0; print = 0 } in
+      let a = get_or rows row none in
+      let at = account-at row a are view inside (get_or_default rows row none a (row-inside row are view inside)) in
+      let few : length (account_debts gains strikes a) ≤ length (entries_of gains) = listed-few (owes_at gains strikes a) (must_at gains a) 0 (entries_of gains) in
+      let count = entries-long gains are.gained.long in
+      let small = are.gained.small in
+      omega (arith, ap length at.1, few, count, small)
 
   -- where one of the accounts changes, contracts see its row changed
   pub changed-to : (new : List Strike) (row : ℕ) (a : Account) (debts : List Debt) → take (length strikes) new ≡ strikes →
@@ -81,10 +93,6 @@ module _ {gains : Gains} {strikes : List Strike} {rows : List Account} {seen : L
   pushed-to a debts are view is owes =
       let all = pushed gains strikes rows a are is in
       (all.0, all.1 ∙ ap₂ (λ l d. l ++ d ∷ []) view owes)
-
--- where a row owes what it owed, contracts see the same rows
-pub row-same : (seen : List (List Debt)) (row : ℕ) (debts : List Debt) → debts ≡ owed_in seen row → seen ≡ set seen row debts
-row-same seen row debts is = sym (ap (set seen row) is ∙ set-get_or seen row [])
 
 -- the account, of which no gain below the place must be sent any more
 abbrev pub softened_account : ℕ → Account → Account
@@ -158,13 +166,6 @@ owes-nothing gains strikes a debts is owes = (
   ],
 )
 
--- where none of the debts can be paid, the test of them fails
-none-payable : (message t : ℕ) (debts : List Debt) → All (λ debt. ¬ (IsTrue (is_payable message t debt))) debts → All (λ debt. is_payable message t debt ≡ false) debts
-none-payable message t [] none = All-nil (λ debt. is_payable message t debt ≡ false)
-none-payable message t (debt ∷ debts) none =
-    All-cons (λ d. is_payable message t d ≡ false) debt debts (false_from_ne_true (is_payable message t debt) (All-head (λ d. ¬ (IsTrue (is_payable message t d))) debt debts none))
-    (none-payable message t debts (All-tail (λ d. ¬ (IsTrue (is_payable message t d))) debt debts none))
-
 -- a send pays one of the debts of an account exactly if a first one is found
 pub can-pay : (gains : Gains) (strikes : List Strike) (a : Account) (message t : ℕ) (found : Option ℕ) → IsAccount gains strikes a →
     IfSome found (IsFirstPayable (entries_of gains) (owes_at gains strikes a) message t) →
@@ -176,4 +177,5 @@ can-pay gains strikes a message t (Some place) is some none =
     sym (listed-any (is_payable message t) (entries_of gains) (owes_at gains strikes a) (must_at gains a) place
     (omega (arith, owed-within gains strikes a place some.owed, end)) some.owed some.pays)
 can-pay gains strikes a message t None is some none =
-    sym (list_any_none (is_payable message t) (account_debts gains strikes a) (none-payable message t (account_debts gains strikes a) (unpaid-account gains strikes a message t none)))
+    sym (list_any_none (is_payable message t) (account_debts gains strikes a) (All-weaker (λ debt. ¬ (IsTrue (is_payable message t debt))) (λ debt. is_payable message t debt ≡ false) (λ debt no. false_from_ne_true (is_payable message t debt) no) (account_debts gains strikes a)
+    (unpaid-account gains strikes a message t none)))

@@ -1,46 +1,23 @@
 -- Accounts whose strikes are written anew owe what they owed.
-use Rattle.std.proofs.Common.{◌≡◌, ℕ, ◌+◌, ◌<◌, ◌≤◌, ◌==◌, ◌&&◌, ◌||◌, Bool, true, false, not, List, [], ◌∷◌, ◌++◌, length, take, drop, get_or, map, filter, refl, sym, ap, ap₂, ◌∙◌, subst, inl, inr, arith}
+use Rattle.std.proofs.Common.{◌≡◌, ℕ, ◌+◌, ◌<◌, ◌≤◌, ◌==◌, ◌&&◌, ◌||◌, true, false, not, List, [], ◌∷◌, ◌++◌, length, take, drop, get_or, map, refl, sym, ap, ap₂, ◌∙◌, subst, inl, inr, arith}
 use Rattle.std.specs.Prelude.{All, max, nat_le, nat_lt}
-use Rattle.std.specs.Bool.{OnFalse}
-use Rattle.std.specs.List.{list_any}
 use Rattle.std.proofs.Math.Bool.{or-false}
-use Rattle.std.proofs.lemmas.Bool.Decides.{nat_tests}
-use Rattle.std.proofs.lemmas.List.Folds.{list_any-append}
 use Rattle.std.proofs.Math.Seq.{drop-append_seam, take-append_seam, take-length}
-use Rattle.std.proofs.lemmas.Bool.{cases_lt, false_from_ne_true, true≢false}
+use Rattle.std.proofs.lemmas.Bool.{cases_lt, false_from_ne_true, or_parts, true≢false}
 use Rattle.std.proofs.lemmas.List.{append_assoc, append-nil, length-append, map-append, take_more}
 use Rattle.std.proofs.lemmas.List.Elements.{All-get_or, All-nil, All-push, All-weaker}
-use Rattle.sip_ledger.specs.declared.debt.Entry.{Entry}
+use Rattle.sip_ledger.proofs.strikes.StrikeLemmas.{out-high, out-is, out-low, struck-next, struck-push}
 use Rattle.sip_ledger.specs.declared.accounts.account.Account.{Account}
 use Rattle.sip_ledger.specs.declared.accounts.gains.Gains.{Gains}
 use Rattle.sip_ledger.specs.declared.accounts.strikes.Strike.{Strike}
 use Rattle.sip_ledger.specs.Accounts.{debts_print}
 use Rattle.sip_ledger.specs.Lists.{from_to}
-use Rattle.sip_ledger.specs.inner.Accounts.{AreAppended, AreMoved, AreThinned, HasStrikes, IsAccount, IsMoved, StrikesNoneFrom, account_debts, accounts_debts, entries_of, entry_at, is_gone, is_left, is_out, is_struck, must_at, owes_at, strikes_of}
+use Rattle.sip_ledger.specs.inner.Accounts.{AreAppended, AreMoved, AreThinned, HasStrikes, IsAccount, IsMoved, StrikesNoneFrom, account_debts, accounts_debts, entries_of, entry_at, is_gone, is_out, is_struck, must_at, owes_at, strikes_of}
 use Rattle.sip_ledger.specs.Indexes.{holds}
 use Rattle.sip_ledger.proofs.gains.LeftLemmas.{gone-same, held-left}
 use Rattle.sip_ledger.proofs.debts.ListedLemmas.{listed-same}
 use Rattle.sip_ledger.proofs.account.AccountLemmas.{kept-all, soft-must}
 use Rattle.sip_ledger.proofs.account.WithoutLemmas.{before-start}
-
--- strikes with one more strike what they struck and what the new one strikes
-struck-push : (xs : List Strike) (s : Strike) (m k : ℕ) → is_struck (xs ++ s ∷ []) m k ≡ (is_struck xs m k || is_out m k s)
-unfolding is_struck
-struck-push xs s m k = list_any-append (is_out m k) xs (s ∷ []) ∙ ap (λ b. list_any (is_out m k) xs || b) (or-false (is_out m k s))
-
--- one strike more strikes what the others did, and what it strikes itself
-struck-next : (xs : List Strike) (at m k : ℕ) (d : Strike) → at < length xs → is_struck (take (at + 1) xs) m k ≡ (is_struck (take at xs) m k || is_out m k (get_or xs at d))
-struck-next xs at m k d within = ap (λ l. is_struck l m k) (take_more xs at d within) ∙ struck-push (take at xs) (get_or xs at d) m k
-
--- where `a || b` is false, a is
-or-left : (a b : Bool) → (a || b) ≡ false → a ≡ false
-or-left true b none = none
-or-left false b none = refl
-
--- where `a || b` is false, b is
-or-right : (a b : Bool) → (a || b) ≡ false → b ≡ false
-or-right true b none = absurd (true≢false none)
-or-right false b none = none
 
 -- AreAppended holds where no strike has been looked at
 pub appended-none : (gains : Gains) (from : ℕ) (strikes old : List Strike) → AreAppended gains from (take 0 strikes) old old
@@ -64,9 +41,9 @@ appended-more gains from strikes old new new' at d within was is =
             let m = (entry_at (entries_of gains) k).message in
             struck-push more s m k ∙ ap (λ b. b || is_out m k s) (was.thinned.same k low left) ∙ sym (struck-next strikes at m k d within);
         among = λ m k none.
-            let both = sym (struck-next strikes at m k d within) ∙ none in
+            let both = or_parts (is_struck (take at strikes) m k) (is_out m k s) (sym (struck-next strikes at m k d within) ∙ none) in
             struck-push more s m k
-            ∙ ap₂ (λ a b. a || b) (was.thinned.among m k (or-left (is_struck (take at strikes) m k) (is_out m k s) both)) (or-right (is_struck (take at strikes) m k) (is_out m k s) both);
+            ∙ ap₂ (λ a b. a || b) (was.thinned.among m k both.0) both.1;
       };
     }
 
@@ -82,30 +59,18 @@ appended-fewer gains from strikes old new at d within was free = record {
         was.thinned.same k low left
         ∙ sym (struck-next strikes at m k d within ∙ ap (λ b. is_struck (take at strikes) m k || b) (free k low left) ∙ or-false (is_struck (take at strikes) m k));
     among = λ m k none.
-        was.thinned.among m k (or-left (is_struck (take at strikes) m k) (is_out m k (get_or strikes at d)) (sym (struck-next strikes at m k d within) ∙ none));
+        was.thinned.among m k (or_parts (is_struck (take at strikes) m k) (is_out m k (get_or strikes at d)) (sym (struck-next strikes at m k d within) ∙ none)).0;
   };
 }
-
--- what a strike strikes stands at its first place or after it
-out-from : (m sm from to k : ℕ) → (sm == m && (nat_le from k && nat_lt k to)) ≡ true → from ≤ k
-out-from m sm from to k is = grind (arith, nat_tests)
-
--- what a strike strikes stands before its end
-out-to : (m sm from to k : ℕ) → (sm == m && (nat_le from k && nat_lt k to)) ≡ true → k < to
-out-to m sm from to k is = grind (arith, nat_tests)
-
--- what a strike strikes is of its message
-out-of : (m sm from to k : ℕ) → (sm == m && (nat_le from k && nat_lt k to)) ≡ true → sm ≡ m
-out-of m sm from to k is = grind (arith, nat_tests)
 
 -- a strike strikes nothing that is left from the place on, where nothing of its message is left at its places from there on
 pub strikes-none : (gains : Gains) (place low : ℕ) (s : Strike) → low ≤ max s.from place → ((k : ℕ) → low ≤ k → k < s.to → holds gains.messages s.message k ≡ false) → StrikesNoneFrom gains place s
 strikes-none gains place low s within none k above left =
     let m = (entry_at (entries_of gains) k).message in
     false_from_ne_true (is_out m k s) (λ out.
-    let from = out-from m s.message s.from s.to k out in
-    let same : m ≡ s.message = sym (out-of m s.message s.from s.to k out) in
-    true≢false (sym (held-left gains s.message k same ∙ left) ∙ none k (omega (arith, from, above, within)) (out-to m s.message s.from s.to k out)))
+    let from = out-low m s.message s.from s.to k out in
+    let same : m ≡ s.message = sym (out-is m s.message s.from s.to k out) in
+    true≢false (sym (held-left gains s.message k same ∙ left) ∙ none k (omega (arith, from, above, within)) (out-high m s.message s.from s.to k out)))
 
 -- the strikes of each account stand among all strikes
 pub has-strikes : (gains : Gains) (strikes : List Strike) (rows : List Account) → All (IsAccount gains strikes) rows → All (HasStrikes strikes) rows
@@ -189,12 +154,3 @@ moved-more gains strikes old new rows rows' at d b within was moved each =
           ∙ ap₂ (λ l d. l ++ d ∷ []) (kept.1 ∙ was.debts) (moved-debts gains strikes old new a b moved)
           ∙ sym (ap (map (account_debts gains strikes)) (take_more rows at d within) ∙ map-append (account_debts gains strikes) (take at rows) (a ∷ []));
     }
-
--- what holds where a test is false is said of its answer
-pub on-false : {P : Type 0} (b : Bool) → (b ≡ false → P) → OnFalse b P
-on-false true p = tt
-on-false false p = p refl
-
--- where the test of m < n fails, n is at most m
-pub lt-not : (m n : ℕ) → nat_lt m n ≡ false → n ≤ m
-lt-not m n is = grind (arith, nat_tests)

@@ -104,26 +104,30 @@ lengthened-bound gains place m k old at s past none =
     let was = get_or old at s in
     none-set (is_out m k) old at (record { message = was.message; from = was.from; to = place + 1 }) (past-out m was.message was.from place k past) none
 
+-- strikes with one more strike what they struck and what the new one strikes
+pub struck-push : (xs : List Strike) (s : Strike) (m k : ℕ) → is_struck (xs ++ s ∷ []) m k ≡ (is_struck xs m k || is_out m k s)
+unfolding is_struck
+struck-push xs s m k = list_any-append (is_out m k) xs (s ∷ []) ∙ ap (λ b. list_any (is_out m k) xs || b) (or-false (is_out m k s))
+
+-- one strike more strikes what the others did, and what it strikes itself
+pub struck-next : (xs : List Strike) (at m k : ℕ) (d : Strike) → at < length xs → is_struck (take (at + 1) xs) m k ≡ (is_struck (take at xs) m k || is_out m k (get_or xs at d))
+struck-next xs at m k d within = ap (λ l. is_struck l m k) (take_more xs at d within) ∙ struck-push (take at xs) (get_or xs at d) m k
+
 -- where a strike of one place is put after the others, the gain there is struck too, and no other
-pub added : (gains : Gains) (place k : ℕ) (old : List Strike) →
+added : (gains : Gains) (place k : ℕ) (old : List Strike) →
     is_struck (old ++ (record { message = (entry_at (entries_of gains) place).message; from = place; to = place + 1 }) ∷ []) (entry_at (entries_of gains) k).message k
     ≡ (is_struck old (entry_at (entries_of gains) k).message k || k == place)
-unfolding is_struck
 added gains place k old =
     let m = (entry_at (entries_of gains) k).message in
     let mp = (entry_at (entries_of gains) place).message in
-    let s : Strike = record { message = mp; from = place; to = place + 1 } in
-    list_any-append (is_out m k) old (s ∷ [])
-    ∙ ap (λ b. list_any (is_out m k) old || b) (or-false (is_out m k s) ∙ one-out m mp place k (λ is. ap (λ n. (entry_at (entries_of gains) n).message) is))
+    struck-push old (record { message = mp; from = place; to = place + 1 }) m k
+    ∙ ap (λ b. is_struck old m k || b) (one-out m mp place k (λ is. ap (λ n. (entry_at (entries_of gains) n).message) is))
 
 -- where a strike of one place is put after the others, nothing more is struck after the place
-pub added-bound : (m mp place k : ℕ) (old : List Strike) → place < k → is_struck old m k ≡ false →
+added-bound : (m mp place k : ℕ) (old : List Strike) → place < k → is_struck old m k ≡ false →
     is_struck (old ++ (record { message = mp; from = place; to = place + 1 }) ∷ []) m k ≡ false
-unfolding is_struck
 added-bound m mp place k old past none =
-    let s : Strike = record { message = mp; from = place; to = place + 1 } in
-    list_any-append (is_out m k) old (s ∷ [])
-    ∙ ap₂ (λ a b. a || b) none (or-false (is_out m k s) ∙ past-out m mp place place k past)
+    struck-push old (record { message = mp; from = place; to = place + 1 }) m k ∙ ap₂ (λ a b. a || b) none (past-out m mp place place k past)
 
 -- without the strikes that end at the start or before it, the same is struck from there on
 pub struck-ending : (m k start : ℕ) (xs : List Strike) → start ≤ k → is_struck (ending start xs) m k ≡ is_struck xs m k
@@ -232,11 +236,8 @@ none-struck m k = refl
 -- where the first i strikes do not strike the place, and the next one does not, the first i + 1 do not
 pub struck-more : (xs : List Strike) (i m k : ℕ) (s : Strike) → i < length xs → is_struck (take i xs) m k ≡ false → is_out m k (get_or xs i s) ≡ false →
     is_struck (take (i + 1) xs) m k ≡ false
-unfolding is_struck
 struck-more xs i m k s within none not =
-    ap (list_any (is_out m k)) (take_more xs i s within)
-    ∙ list_any-append (is_out m k) (take i xs) (get_or xs i s ∷ [])
-    ∙ ap₂ (λ a b. a || b) none (or-false (is_out m k (get_or xs i s)) ∙ not)
+    struck-next xs i m k s within ∙ ap₂ (λ a b. a || b) none not
 
 -- a strike strikes a place between its own places, under its message
 out-yes : (m from to sm k : ℕ) → sm ≡ m → from ≤ k → k < to → (sm == m && (nat_le from k && nat_lt k to)) ≡ true
@@ -250,15 +251,15 @@ struck-by xs i m k s within is low high =
     list_any_at (is_out m k) xs i s within (out-yes m was.from was.to was.message k is low high)
 
 -- what a strike strikes stands at its first place or after it
-out-low : (m sm from to k : ℕ) → (sm == m && (nat_le from k && nat_lt k to)) ≡ true → from ≤ k
+pub out-low : (m sm from to k : ℕ) → (sm == m && (nat_le from k && nat_lt k to)) ≡ true → from ≤ k
 out-low m sm from to k is = grind (arith, nat_tests)
 
 -- what a strike strikes stands before its end
-out-high : (m sm from to k : ℕ) → (sm == m && (nat_le from k && nat_lt k to)) ≡ true → k < to
+pub out-high : (m sm from to k : ℕ) → (sm == m && (nat_le from k && nat_lt k to)) ≡ true → k < to
 out-high m sm from to k is = grind (arith, nat_tests)
 
 -- what a strike strikes is of its message
-out-is : (m sm from to k : ℕ) → (sm == m && (nat_le from k && nat_lt k to)) ≡ true → sm ≡ m
+pub out-is : (m sm from to k : ℕ) → (sm == m && (nat_le from k && nat_lt k to)) ≡ true → sm ≡ m
 out-is m sm from to k is = grind (arith, nat_tests)
 
 -- where a strike strikes a place, it strikes each place from there up to its end

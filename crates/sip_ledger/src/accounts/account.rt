@@ -674,26 +674,6 @@ pub(crate) fn same(gains: &Gains, strikes: &[Strike], one: Account, other: Accou
     at == one.end && beside == other.end
 }
 
-/// What the account owes.
-pub(crate) fn debts(
-    alloc: Global,
-    gains: &Gains,
-    strikes: &[Strike],
-    account: Account,
-) -> Result<Vec<Debt>, AllocError>
-    requires gained { AreGains gains.now }
-    requires account { IsAccount gains.now strikes.now account }
-    ensures { IfOk result (λ debts. debts.items ≡ account_debts gains.now strikes.now account) }
-{
-    let mut debts = Vec::new(alloc);
-    let mut place = account.start;
-    while place < account.end {
-        debts.push(debt_for(gains, account, place))?;
-        place = next(gains, strikes, account, place + 1);
-    }
-    Ok(debts)
-}
-
 /// What the account owes first: so many debts, or all where it owes fewer.
 pub(crate) fn first_debts(
     alloc: Global,

@@ -13,6 +13,7 @@ use crate::accounts::strikes::Strike;
 use crate::debt::Debt;
 use std::alloc::{AllocError, Global};
 
+#[tactic(auto, using(crate::proofs::account::AccountLemmas::debts_length))]
 impl Accounts {
     /// Whether nothing that the row must send is past at the moment.
     pub fn is_timely(&self, row: usize, moment: u64) -> bool
@@ -84,7 +85,7 @@ impl Accounts {
     {
         let mut prints = Vec::with_capacity(alloc, self.len().saturating_sub(from))?;
         for row in from..self.len() {
-            prints.push_reserved(self.print(row));
+            prints.push_reserved(self.rows[row].print);
         }
         Ok(prints)
     }

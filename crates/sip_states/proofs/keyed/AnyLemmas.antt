@@ -1,15 +1,31 @@
--- What `AnySet` says of waiting and of taking an event, put together from the clauses of `StateSet`.
-use Rattle.std.proofs.Common.{◌≡◌, ◌≤◌, ◌+◌, ℕ, Result, Ok, Err, OnOk, length, refl}
-use Rattle.sip_standard.specs.KeyMachine.{MachineKind}
+-- What `AnySet` says of its start, of waiting and of taking an event, put together from the clauses of `StateSet`.
+use Rattle.std.proofs.Common.{◌≡◌, ◌≤◌, ◌+◌, ℕ, Result, Ok, Err, OnOk, length, refl, sym, ap, ◌∙◌}
+use Rattle.sip_standard.specs.KeyMachine.{MachineKind, machine_of_key}
+use Rattle.sip_standard.specs.Key.{KeyParts}
 use Rattle.sip_standard.specs.Times.{Times}
 use Rattle.sip_machine.specs.NumberedEvent.{NumberedEvent}
 use Rattle.sip_machine.specs.Texts.{Texts, IsBook}
 use Rattle.sip_machine.specs.Rules.{StandFor}
 use Rattle.sip_states.specs.Runs.{widest}
 use Rattle.sip_states.specs.Held.{Held}
-use Rattle.sip_states.specs.KeySets.{StateOf, set_of}
+use Rattle.sip_states.specs.KeySets.{StateOf, set_of, each_set, by_machine, held_at_start, start_of_machine}
+use Rattle.sip_states.proofs.keyed.KeySetLaws.{by_machine_is, of_machine}
 use Rattle.sip_states.specs.Meaning.{IsKnown, Waiting, Given, HasWaited, HasTaken}
-use Rattle.sip_states.specs.AnySet.{meaning_of, IsSetOf}
+use Rattle.sip_states.specs.AnySet.{meaning_of, start_of, IsSetOf}
+use Rattle.sip_states.specs.declared.any_set.AnySet.{AnySet}
+
+-- the machine of the set
+abbrev kind_of : AnySet → MachineKind
+kind_of set = by_machine (λ machine s. machine) set
+
+-- the set is of the machine of the key, and holds what this machine starts with: so it is the set that the key starts with
+pub has_started : (p : Times) (key : KeyParts) (set : AnySet) → machine_of_key p.rules key ≡ kind_of set → by_machine (λ machine s. s ≡ held_at_start p machine) set → set ≡ start_of p key
+has_started p key set of_key at_start =
+    each_set (λ any. machine_of_key p.rules key ≡ kind_of any → by_machine (λ machine s. s ≡ held_at_start p machine) any → any ≡ start_of p key)
+    (λ machine s is holds.
+    ap (set_of machine) (of_machine (λ kind held. held ≡ held_at_start p kind) machine s holds)
+    ∙ ap (start_of_machine p) (sym (is ∙ by_machine_is (λ kind held. kind) machine s)))
+    set of_key at_start
 
 module _ {T E : Type 0} (machine : MachineKind) (old new : Held Times (StateOf machine)) where
   -- the clauses of `StateSet::advance`, taken together, say that the set has waited

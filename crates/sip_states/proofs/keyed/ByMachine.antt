@@ -13,7 +13,7 @@ use Rattle.sip_machine.specs.inner.OwingLaws.{owing_by_names, quiet_stands}
 use Rattle.sip_states.specs.Held.{Held}
 use Rattle.sip_standard.specs.KeyMachine.{MachineKind, transaction_of}
 use Rattle.sip_states.specs.KeySets.{coded_of, PhaseOf, StateOf, set_of, each_set, held_at_start, start_of_machine}
-use Rattle.sip_states.proofs.keyed.KeySetLaws.{coded_holds, by_machine_is, start_is, of_machine, to_machine}
+use Rattle.sip_states.proofs.keyed.KeySetLaws.{coded_holds, by_machine_is, of_machine, to_machine}
 use Rattle.sip_states.specs.Meaning.{Meaning}
 use Rattle.sip_states.specs.AnySet.{meaning_of, IsQuietIn, IsQuietSet, OfHeld, OfSet, IsSetOf, OfHelds, OfSets, moment_of}
 use Rattle.sip_states.specs.Sweep.{names_of, numbers_of, AppendsNumbers}
@@ -63,7 +63,7 @@ numbers_appended set old new appends =
 -- the set that a machine starts with names no message
 pub start_silent : (p : Times) (machine : MachineKind) → numbers_of (start_of_machine p machine) ≡ []
 start_silent p machine =
-    ap numbers_of (start_is p machine) ∙ numbers_are machine (held_at_start p machine) ∙ ap (λ names. (names ++ []) ++ []) (coded_holds machine).idle_fits.0
+    numbers_are machine (held_at_start p machine) ∙ ap (λ names. (names ++ []) ++ []) (coded_holds machine).idle_fits.0
 
 -- What follows is of the ended state.
 
@@ -87,8 +87,7 @@ quiet_in machine s quiet = of_machine IsQuietIn machine s quiet
 
 -- the set that a machine starts with is quiet
 pub start_is_quiet : (p : Times) (machine : MachineKind) → IsQuietSet (start_of_machine p machine)
-start_is_quiet p machine =
-    subst IsQuietSet (sym (start_is p machine)) (to_machine IsQuietIn machine (held_at_start p machine) (inl refl))
+start_is_quiet p machine = to_machine IsQuietIn machine (held_at_start p machine) (inl refl)
 
 -- a quiet set names no message
 pub quiet_silent : (set : AnySet) → IsQuietSet set → numbers_of set ≡ []

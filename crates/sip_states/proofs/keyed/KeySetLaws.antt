@@ -5,23 +5,12 @@ use Rattle.sip_standard.specs.Times.{Times}
 use Rattle.sip_standard.specs.KeyMachine.{MachineKind, OfInviteClient, OfPlainClient, OfInviteServer, OfPlainServer, OfInviteClient3261, OfInviteServer3261, transaction_of}
 use Rattle.sip_standard.specs.PhaseWords.{words_of}
 use Rattle.sip_machine.specs.inner.Coded.{IsCoded}
-use Rattle.sip_machine.specs.inner.InviteClient.Laws.{invite_client_is_coded}
-use Rattle.sip_machine.specs.inner.PlainClient.Laws.{plain_client_is_coded}
-use Rattle.sip_machine.specs.inner.InviteServer.Laws.{invite_server_is_coded}
-use Rattle.sip_machine.specs.inner.InviteClient3261.Laws.{invite_client_3261_is_coded}
-use Rattle.sip_machine.specs.inner.InviteServer3261.Laws.{invite_server_3261_is_coded}
-use Rattle.sip_machine.specs.inner.PlainServer.Laws.{plain_server_is_coded}
 use Rattle.sip_states.specs.Held.{Held}
-use Rattle.sip_states.specs.KeySets.{coded_of, StateOf, set_of, by_machine, held_at_start, start_of_machine}
+use Rattle.sip_states.specs.KeySets.{code_of, coded_of, StateOf, set_of, by_machine}
 
 -- the code has the figure of each machine
 pub coded_holds : (machine : MachineKind) → IsCoded (transaction_of machine).figure (words_of machine) (coded_of machine)
-coded_holds OfInviteClient = invite_client_is_coded
-coded_holds OfPlainClient = plain_client_is_coded
-coded_holds OfInviteServer = invite_server_is_coded
-coded_holds OfPlainServer = plain_server_is_coded
-coded_holds OfInviteClient3261 = invite_client_3261_is_coded
-coded_holds OfInviteServer3261 = invite_server_3261_is_coded
+coded_holds machine = (code_of machine).are_coded
 
 -- what is given by the machine of a set is, of the set of this machine, what is given of this machine
 pub by_machine_is {ℓ} : {A : Type ℓ} (of : (machine : MachineKind) → Held Times (StateOf machine) → A) (machine : MachineKind) (s : Held Times (StateOf machine)) → by_machine of (set_of machine s) ≡ of machine s
@@ -31,15 +20,6 @@ by_machine_is of OfInviteServer s = refl
 by_machine_is of OfPlainServer s = refl
 by_machine_is of OfInviteClient3261 s = refl
 by_machine_is of OfInviteServer3261 s = refl
-
--- the set that a machine starts with is of that machine
-pub start_is : (p : Times) (machine : MachineKind) → start_of_machine p machine ≡ set_of machine (held_at_start p machine)
-start_is p OfInviteClient = refl
-start_is p OfPlainClient = refl
-start_is p OfInviteServer = refl
-start_is p OfPlainServer = refl
-start_is p OfInviteClient3261 = refl
-start_is p OfInviteServer3261 = refl
 
 -- a fact of the set of a machine, told by cases of the set, is the fact of that machine
 module _ (P : (machine : MachineKind) → Held Times (StateOf machine) → Type 0) where

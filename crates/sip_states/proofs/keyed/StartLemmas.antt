@@ -6,7 +6,6 @@ use Rattle.sip_machine.specs.Texts.{Texts}
 use Rattle.sip_states.specs.Runs.{IsAgenda}
 use Rattle.sip_standard.specs.KeyMachine.{MachineKind, machine_of_key}
 use Rattle.sip_states.specs.KeySets.{held_at_start, start_of_machine}
-use Rattle.sip_states.proofs.keyed.KeySetLaws.{start_is}
 use Rattle.sip_states.specs.Meaning.{HasAgenda}
 use Rattle.sip_states.specs.AnySet.{IsAgendaOf, meaning_of, start_of}
 use Rattle.sip_states.specs.declared.any_set.AnySet.{AnySet}
@@ -25,7 +24,7 @@ module _ (p : Times) (machine : MachineKind) where
 
   -- the set that a machine starts with can wait for ever
   start_waits : IsAgendaOf None (start_of_machine p machine)
-  start_waits = subst (IsAgendaOf None) (sym (start_is p machine)) (to_set (λ X M S m s. HasAgenda m None s) machine (held_at_start p machine) waits_on)
+  start_waits = to_set (λ X M S m s. HasAgenda m None s) machine (held_at_start p machine) waits_on
 
 -- the set that a key starts with can wait for ever
 pub start_endless : (p : Times) (key : KeyParts) → IsAgendaOf None (start_of p key)

@@ -12,7 +12,6 @@ use Rattle.sip_machine.specs.Texts.{Texts, Keeps}
 use Rattle.sip_machine.specs.NumberedEvent.{event_in}
 use Rattle.sip_standard.specs.KeyMachine.{MachineKind, machine_of_key}
 use Rattle.sip_states.specs.KeySets.{held_at_start}
-use Rattle.sip_states.proofs.keyed.KeySetLaws.{start_is}
 use Rattle.sip_states.specs.Meaning.{IsKnown}
 use Rattle.sip_states.specs.AnySet.{moment_of, IsKnownSet, start_of, meaning_of}
 use Rattle.sip_states.specs.Tables.{Tabled, Touches, with_key}
@@ -64,13 +63,13 @@ touches_few (k ∷ ks) (n ∷ ns) old new (between, one, rest) =
 pub start_at : (p : Times) (key : KeyParts) → moment_of (start_of p key) ≡ 0
 start_at p key =
     let machine = machine_of_key p.rules key in
-    ap moment_of (start_is p machine) ∙ moment_is machine (held_at_start p machine)
+    moment_is machine (held_at_start p machine)
 
 -- every book knows the set that a key starts with
 pub start_known : (texts : Texts) (p : Times) (key : KeyParts) → IsKnownSet texts (start_of p key)
 start_known texts p key =
     let machine = machine_of_key p.rules key in
-    subst (IsKnownSet texts) (sym (start_is p machine)) (to_set (λ X M S m s. IsKnown m texts s) machine (held_at_start p machine) (known_one machine))
+    to_set (λ X M S m s. IsKnown m texts s) machine (held_at_start p machine) (known_one machine)
   where
     known_one : (machine : MachineKind) → IsKnown (meaning_of machine) texts (held_at_start p machine)
     known_one machine = All-push (λ x. All (Keeps texts) ((meaning_of machine).names x)) [] (first_of machine) (λ k d l. absurd (omega (arith, l))) (first_knows machine texts)
@@ -129,7 +128,7 @@ module _ (texts : Texts) (p : Times) where
       let machine = machine_of_key p.rules key in
       let m = meaning_of machine in (
         held_at_start p machine,
-        start_is p machine,
+        refl,
         record { machine_is = refl; leads = Leads-start m.names m.seen texts (m.rules p) (first_of machine) (first_is_of machine texts p) (first_knows machine texts) from },
       )
 

@@ -1,6 +1,6 @@
 use Rattle.std.proofs.Common.{◌≡◌, ◌∙◌, sym, length, arith, true≢false}
 use Rattle.sip_ledger.specs.inner.Ends.{EndsWith}
-use Rattle.sip_ledger.proofs.debts.RunLemmas.{widened-run, pushed-run}
+use Rattle.sip_ledger.proofs.debts.RunLemmas.{widened-run}
 use Rattle.sip_ledger.proofs.run.append.Goals as goal
 
 pub returns-then-ends_with : goal.returns-then-ends_with
@@ -12,9 +12,3 @@ returns-then-ends_with c debts are =
     let size : c.len-last.result ≡ length old = omega arith in
     let is = rw size at c.index_mut.ensures.value in
     rw size (widened-run debts old a c.args.debt are ends is)
-
-pub returns : goal.returns
-returns c debts are =
-    let old = c.args.runs.now.items in
-    rw c.in_ok-push.ensures.items
-    (pushed-run debts old c.args.debt are (λ ends. true≢false (sym (c.ends_with.ensures.1 (rw c.deref.ensures.value ends)) ∙ c.if-ends_with.false)))

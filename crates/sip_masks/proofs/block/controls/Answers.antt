@@ -2,7 +2,7 @@ use Rattle.std.proofs.Common.{refl, arith}
 use Rattle.sip_masks.specs.Marks.{is_control}
 use Rattle.sip_masks.proofs.LaneLemmas.{from_byte, classified}
 use Rattle.sip_masks.proofs.TableLemmas.{low_ok, high_ok}
-use Rattle.sip_masks.proofs.KindLemmas.{kind, kinds}
+use Rattle.sip_masks.proofs.KindLemmas.{raised}
 use Rattle.sip_masks.proofs.block.controls.Goals as goal
 
 pub swizzle-low : goal.swizzle-low
@@ -14,4 +14,4 @@ swizzle-high c = high_ok c.args.v c.fits-v
 pub returns : goal.returns
 returns c =
     let v = c.args.v in
-    classified _ is_control 64 v _ c.fits-v (omega arith) (from_byte kind 64 32 v c.fits-v.0 (kinds v c.fits-v)) refl
+    classified _ is_control 64 v _ c.fits-v (omega arith) (from_byte _ 64 128 v c.fits-v.0 (raised v c.fits-v)) refl

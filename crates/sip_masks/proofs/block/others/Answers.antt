@@ -5,7 +5,7 @@ use Rattle.sip_masks.specs.Marks.{is_control, is_other}
 use Rattle.sip_masks.proofs.BitLemmas.{test-or}
 use Rattle.sip_masks.proofs.LaneLemmas.{equal, from_byte, classified}
 use Rattle.sip_masks.proofs.TableLemmas.{low_ok, high_ok}
-use Rattle.sip_masks.proofs.KindLemmas.{kind, kinds}
+use Rattle.sip_masks.proofs.KindLemmas.{kind, kinds, raised}
 use Rattle.sip_masks.proofs.block.others.Goals as goal
 
 pub swizzle-low : goal.swizzle-low
@@ -24,6 +24,6 @@ returns c i h =
     let long = c.fits-v.0 in
     let all = kinds v c.fits-v in
     let neither = classified _ is_neither 64 v _ c.fits-v (omega arith) (equal kind 64 0 v long all) refl i h in
-    let control = classified _ is_control 64 v _ c.fits-v (omega arith) (from_byte kind 64 32 v long all) refl i h in
+    let control = classified _ is_control 64 v _ c.fits-v (omega arith) (from_byte _ 64 128 v long (raised v c.fits-v)) refl i h in
     test-or _ _ i ∙ ap₂ (λ a b. a || b) neither control
     ∙ agree_below_at (λ x. is_neither x || is_control x) is_other 256 (get_or v i 0) refl (Each1-get_or (Fits w8) v i 0 (omega (arith, long, h)) c.fits-v.1).fits

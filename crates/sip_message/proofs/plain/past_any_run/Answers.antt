@@ -4,5 +4,5 @@ use Rattle.sip_message.proofs.plain.past_any_run.Goals as goal
 
 pub returns : goal.returns
 returns c =
-    run-stands c.args.masks.now c.args.at c.args.end c.run_at-len.result (omega (arith, c.if-at-end.false)) c.requires c.run_at-len.ensures
+    run-stands c.args.masks.now c.args.at c.args.end c.run_at-len.result (omega (arith, c.if-len-eq0.false, c.if-len-end.false)) c.requires.1 c.run_at-len.ensures
     (omega (arith, c.if-len-eq0.false)) (omega (arith, c.if-len-end.false))

@@ -4,5 +4,5 @@ use Rattle.sip_message.proofs.plain.past_run.Goals as goal
 
 pub returns : goal.returns
 returns c =
-    run-stands c.args.masks.now c.args.at c.args.end c.in_ok-len.len (omega (arith, c.if-at-end.false)) c.requires c.in_ok-len.ensures.0
+    run-stands c.args.masks.now c.args.at c.args.end c.in_ok-len.len (omega (arith, c.if-len-eq0.false, c.if-len-end.false)) c.requires.1 c.in_ok-len.ensures.0
     (omega (arith, c.if-len-eq0.false)) (omega (arith, c.if-len-end.false))

@@ -1,12 +1,8 @@
 use Rattle.std.proofs.Common.{◌<◌, length, ap, ◌∙◌, arith}
 use Rattle.std.specs.List.{list_any}
 use Rattle.sip_ledger.specs.Debts.{is_payable}
-use Rattle.sip_ledger.proofs.rows.SeenLemmas.{account-at, can-pay, row-inside}
+use Rattle.sip_ledger.proofs.rows.SeenLemmas.{account-at, can-pay}
 use Rattle.sip_ledger.proofs.accounts.Accounts.can_pay.Goals as goal
-
-pub index-account-requires : goal.index-account-requires
-index-account-requires c =
-    omega (arith, row-inside c.args.row c.self.invariant c.self.view_is c.requires, c.self.inside.rows.ok.0)
 
 pub find-requires-clause-account : goal.find-requires-clause-account
 find-requires-clause-account c =

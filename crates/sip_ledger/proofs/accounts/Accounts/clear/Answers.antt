@@ -1,12 +1,8 @@
 use Rattle.std.proofs.Common.{◌<◌, length, set, [], arith}
 use Rattle.std.proofs.Math.Seq.{take-length}
 use Rattle.sip_ledger.proofs.account.AccountLemmas.{empty-account, empty-debts}
-use Rattle.sip_ledger.proofs.rows.SeenLemmas.{changed-to, row-inside}
+use Rattle.sip_ledger.proofs.rows.SeenLemmas.{changed-to}
 use Rattle.sip_ledger.proofs.accounts.Accounts.clear.Goals as goal
-
-pub index_mut-requires : goal.index_mut-requires
-index_mut-requires c =
-    omega (arith, row-inside c.args.row c.self.invariant c.self.view_is c.requires, c.self.inside.rows.ok.0)
 
 pub invariant_of-self : goal.invariant_of-self
 invariant_of-self c =

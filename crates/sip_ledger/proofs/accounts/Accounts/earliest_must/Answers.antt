@@ -2,12 +2,8 @@ use Rattle.std.proofs.Common.{◌<◌, length, ap, ◌∙◌, arith}
 use Rattle.sip_ledger.specs.declared.debt.Debt.{Debt}
 use Rattle.std.proofs.Common.{List}
 use Rattle.sip_ledger.specs.Debts.{debt_deadlines, earliest}
-use Rattle.sip_ledger.proofs.rows.SeenLemmas.{account-at, row-inside}
+use Rattle.sip_ledger.proofs.rows.SeenLemmas.{account-at}
 use Rattle.sip_ledger.proofs.accounts.Accounts.earliest_must.Goals as goal
-
-pub index-requires : goal.index-requires
-index-requires c =
-    omega (arith, row-inside c.args.row c.self.invariant c.self.view_is c.requires, c.self.inside.rows.ok.0)
 
 pub earliest_must-requires-clause-account : goal.earliest_must-requires-clause-account
 earliest_must-requires-clause-account c =

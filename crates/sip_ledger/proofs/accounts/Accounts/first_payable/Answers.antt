@@ -5,12 +5,8 @@ use Rattle.sip_ledger.specs.Debts.{IsWithoutFirst, PaysOne, paid_by}
 use Rattle.sip_ledger.specs.inner.Accounts.{entries_of, entry_at}
 use Rattle.sip_ledger.proofs.gains.LeftLemmas.{left-kept, owed-left}
 use Rattle.sip_ledger.proofs.account.FirstLemmas.{first-account, none-account}
-use Rattle.sip_ledger.proofs.rows.SeenLemmas.{account-at, row-inside}
+use Rattle.sip_ledger.proofs.rows.SeenLemmas.{account-at}
 use Rattle.sip_ledger.proofs.accounts.Accounts.first_payable.Goals as goal
-
-pub index-requires : goal.index-requires
-index-requires c =
-    omega (arith, row-inside c.args.row c.self.invariant c.self.view_is c.requires, c.self.inside.rows.ok.0)
 
 pub find_one-requires-clause-account : goal.find_one-requires-clause-account
 find_one-requires-clause-account c =

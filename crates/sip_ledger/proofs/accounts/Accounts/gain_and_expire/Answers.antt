@@ -1,11 +1,7 @@
 use Rattle.std.proofs.Common.{◌<◌, length, set, filter, [], ◌∷◌, ◌++◌, arith}
 use Rattle.sip_ledger.specs.Debts.{counts_at}
-use Rattle.sip_ledger.proofs.rows.SeenLemmas.{account-at, changed-by, on-error, over-to, row-inside, unchanged}
+use Rattle.sip_ledger.proofs.rows.SeenLemmas.{account-at, changed-by, on-error, over-to, unchanged}
 use Rattle.sip_ledger.proofs.accounts.Accounts.gain_and_expire.Goals as goal
-
-pub index-account-requires : goal.index-account-requires
-index-account-requires c =
-    omega (arith, row-inside c.args.row c.self.invariant c.self.view_is c.requires, c.self.inside.rows.ok.0)
 
 pub place_for-requires-clause-account : goal.place_for-requires-clause-account
 place_for-requires-clause-account c =
@@ -25,10 +21,6 @@ pub returns-in_err-self-inside-clause-err : goal.returns-in_err-self-inside-clau
 returns-in_err-self-inside-clause-err c =
     let all = over-to c.place_for.new.gains c.place_for.ensures.kept c.place_for.ensures.gained c.self.invariant c.self.view_is in
     on-error c.from_residual-in_err-self-inside.result c.from_residual-in_err-self-inside.ensures.0 (unchanged c.gained_and_expired.new.strikes.items c.gained_and_expired.ensures.kept all.0 all.1).1
-
-pub index_mut-requires : goal.index_mut-requires
-index_mut-requires c =
-    omega (arith, row-inside c.args.row c.self.invariant c.self.view_is c.requires, c.self.inside.rows.ok.0)
 
 pub invariant_of-self-2 : goal.invariant_of-self-2
 invariant_of-self-2 c =

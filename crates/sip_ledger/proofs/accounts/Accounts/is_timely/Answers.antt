@@ -1,12 +1,8 @@
 use Rattle.std.proofs.Common.{List, ap, ◌∙◌, arith}
 use Rattle.sip_ledger.specs.declared.debt.Debt.{Debt}
 use Rattle.sip_ledger.specs.Debts.{is_timely}
-use Rattle.sip_ledger.proofs.rows.SeenLemmas.{account-at, row-inside}
+use Rattle.sip_ledger.proofs.rows.SeenLemmas.{account-at}
 use Rattle.sip_ledger.proofs.accounts.Accounts.is_timely.Goals as goal
-
-pub index-requires : goal.index-requires
-index-requires c =
-    omega (arith, row-inside c.args.row c.self.invariant c.self.view_is c.requires, c.self.inside.rows.ok.0)
 
 pub is_timely-requires-clause-account : goal.is_timely-requires-clause-account
 is_timely-requires-clause-account c =

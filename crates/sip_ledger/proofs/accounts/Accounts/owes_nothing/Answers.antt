@@ -1,11 +1,7 @@
 use Rattle.std.proofs.Common.{◌<◌, length, arith}
 use Rattle.sip_ledger.specs.Accounts.{owed_in}
-use Rattle.sip_ledger.proofs.rows.SeenLemmas.{account-at, owes-nothing, row-inside}
+use Rattle.sip_ledger.proofs.rows.SeenLemmas.{account-at, owes-nothing}
 use Rattle.sip_ledger.proofs.accounts.Accounts.owes_nothing.Goals as goal
-
-pub index-account-requires : goal.index-account-requires
-index-account-requires c =
-    omega (arith, row-inside c.args.row c.self.invariant c.self.view_is c.requires, c.self.inside.rows.ok.0)
 
 pub returns : goal.returns
 returns c =

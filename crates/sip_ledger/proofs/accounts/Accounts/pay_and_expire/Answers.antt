@@ -1,11 +1,7 @@
 use Rattle.std.proofs.Common.{◌<◌, length, set, filter, arith}
 use Rattle.sip_ledger.specs.Debts.{counts_at, paid_by}
-use Rattle.sip_ledger.proofs.rows.SeenLemmas.{account-at, changed-by, on-error, row-inside, unchanged}
+use Rattle.sip_ledger.proofs.rows.SeenLemmas.{account-at, changed-by, on-error, unchanged}
 use Rattle.sip_ledger.proofs.accounts.Accounts.pay_and_expire.Goals as goal
-
-pub index-requires : goal.index-requires
-index-requires c =
-    omega (arith, row-inside c.args.row c.self.invariant c.self.view_is c.requires, c.self.inside.rows.ok.0)
 
 pub paid_and_expired-requires-clause-account : goal.paid_and_expired-requires-clause-account
 paid_and_expired-requires-clause-account c =
@@ -18,10 +14,6 @@ invariant_of-self c =
 pub returns-in_err-self-inside-clause-err : goal.returns-in_err-self-inside-clause-err
 returns-in_err-self-inside-clause-err c =
     on-error c.from_residual.result c.from_residual.ensures.0 (unchanged c.paid_and_expired.new.strikes.items c.paid_and_expired.ensures.kept c.self.invariant c.self.view_is).1
-
-pub index_mut-requires : goal.index_mut-requires
-index_mut-requires c =
-    omega (arith, row-inside c.args.row c.self.invariant c.self.view_is c.requires, c.self.inside.rows.ok.0)
 
 pub invariant_of-self-2 : goal.invariant_of-self-2
 invariant_of-self-2 c =

@@ -1,11 +1,7 @@
 use Rattle.std.proofs.Common.{◌<◌, length, ◌++◌, ◌∷◌, [], arith}
 use Rattle.sip_ledger.specs.Accounts.{owed_in}
-use Rattle.sip_ledger.proofs.rows.SeenLemmas.{account-at, pushed-to, row-inside}
+use Rattle.sip_ledger.proofs.rows.SeenLemmas.{account-at, pushed-to}
 use Rattle.sip_ledger.proofs.accounts.Accounts.push_copy.Goals as goal
-
-pub index-requires : goal.index-requires
-index-requires c =
-    omega (arith, row-inside c.args.row c.self.invariant c.self.view_is c.requires, c.self.inside.rows.ok.0)
 
 pub invariant_of-self-2 : goal.invariant_of-self-2
 invariant_of-self-2 c =

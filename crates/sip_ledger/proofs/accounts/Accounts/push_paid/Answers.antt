@@ -3,15 +3,9 @@ use Rattle.sip_ledger.specs.Accounts.{paid_rows}
 use Rattle.sip_ledger.specs.Lists.{from_to}
 use Rattle.sip_ledger.specs.inner.Accounts.{accounts_debts}
 use Rattle.sip_ledger.proofs.lists.EachLemmas.{on_ok}
-use Rattle.sip_ledger.proofs.account.AccountLemmas.{debts-length, truncated}
+use Rattle.sip_ledger.proofs.account.AccountLemmas.{truncated}
 use Rattle.sip_ledger.proofs.rows.SeenLemmas.{on-err}
 use Rattle.sip_ledger.proofs.accounts.Accounts.push_paid.Goals as goal
-
-pub push_some-requires-clause-to : goal.push_some-requires-clause-to
-push_some-requires-clause-to c =
-    let s = c.self.inside in
-    let to = c.requires in
-    omega (arith, debts-length s.gains s.strikes.items s.rows.items, ap length c.self.view_is, to)
 
 pub invariant_of-self : goal.invariant_of-self
 invariant_of-self c =

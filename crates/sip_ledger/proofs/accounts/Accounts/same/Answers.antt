@@ -1,14 +1,6 @@
 use Rattle.std.proofs.Common.{◌<◌, length, sym, ◌∙◌, arith}
-use Rattle.sip_ledger.proofs.rows.SeenLemmas.{account-at, row-inside}
+use Rattle.sip_ledger.proofs.rows.SeenLemmas.{account-at}
 use Rattle.sip_ledger.proofs.accounts.Accounts.same.Goals as goal
-
-pub index-requires : goal.index-requires
-index-requires c =
-    omega (arith, row-inside c.args.row c.self.invariant c.self.view_is c.requires.row, c.self.inside.rows.ok.0)
-
-pub index-requires-2 : goal.index-requires-2
-index-requires-2 c =
-    omega (arith, row-inside c.args.other c.self.invariant c.self.view_is c.requires.other, c.self.inside.rows.ok.0)
 
 pub same-requires-clause-one : goal.same-requires-clause-one
 same-requires-clause-one c =

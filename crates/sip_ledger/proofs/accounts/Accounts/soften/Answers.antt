@@ -4,16 +4,8 @@ use Rattle.sip_ledger.specs.Accounts.{owed_in}
 use Rattle.sip_ledger.specs.Debts.{softened_debt}
 use Rattle.sip_ledger.specs.inner.Accounts.{AreAccounts, accounts_debts, entries_of}
 use Rattle.sip_ledger.proofs.gains.LeftLemmas.{entries-long}
-use Rattle.sip_ledger.proofs.rows.SeenLemmas.{account-at, changed-by, row-inside, softened-account, softened_account}
+use Rattle.sip_ledger.proofs.rows.SeenLemmas.{account-at, changed-by, softened-account, softened_account}
 use Rattle.sip_ledger.proofs.accounts.Accounts.soften.Goals as goal
-
-pub index-requires : goal.index-requires
-index-requires c =
-    omega (arith, row-inside c.args.row c.self.invariant c.self.view_is c.requires, c.self.inside.rows.ok.0)
-
-pub index_mut-requires : goal.index_mut-requires
-index_mut-requires c =
-    omega (arith, row-inside c.args.row c.self.invariant c.self.view_is c.requires, c.self.inside.rows.ok.0)
 
 pub invariant_of-self : goal.invariant_of-self
 invariant_of-self c =

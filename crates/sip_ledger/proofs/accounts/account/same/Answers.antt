@@ -1,17 +1,18 @@
-use Rattle.std.proofs.Common.{refl, rules, ◌≡◌, ◌<◌, ◌≤◌, ◌∙◌, sym, arith}
+use Rattle.std.proofs.Common.{refl, rules, ◌≡◌, ◌≢◌, ◌<◌, ◌≤◌, ◌∙◌, sym, arith}
+use Rattle.std.proofs.lemmas.Bool.{false≢true}
 use Rattle.sip_ledger.proofs.account.AccountLemmas.{kept-from}
-use Rattle.sip_ledger.proofs.account.ToldLemmas.{alike-debts, at-more, at-start, end-other, end-same, rest-same}
+use Rattle.sip_ledger.proofs.account.ToldLemmas.{alike-debts, at-apart, at-more, at-start, end-other, end-same, rest-same}
 use Rattle.sip_ledger.proofs.accounts.account.same.Goals.{then-loop-at-test+else-beside-other, else-loop-at-test}
 use Rattle.sip_ledger.proofs.accounts.account.same.Goals as goal
 
 pub loop-at-init : goal.loop-at-init
-loop-at-init c = at-start c.args.gains.now c.args.strikes.now c.args.one c.args.other c.requires.one c.requires.other
+loop-at-init c = at-start c.requires.one c.requires.other
 
 pub debt_for-requires-clause-kept : goal.debt_for-requires-clause-kept
-debt_for-requires-clause-kept c = kept-from c.loop-at.at c.requires.gained c.requires.one c.loop-at.invariant.low c.loop-at-test.true
+debt_for-requires-clause-kept c = kept-from c.loop-at.at c.requires.gained c.requires.one c.loop-at.invariant.told.low c.loop-at-test.true
 
 pub debt_for-requires-in-loop-at-clause-kept : goal.debt_for-requires-in-loop-at-clause-kept
-debt_for-requires-in-loop-at-clause-kept c = kept-from c.loop-at.beside c.requires.gained c.requires.other c.loop-at.invariant.low_beside c.if-beside-other.true
+debt_for-requires-in-loop-at-clause-kept c = kept-from c.loop-at.beside c.requires.gained c.requires.other c.loop-at.invariant.told_beside.low c.if-beside-other.true
 
 pub returns-then-is_alike : goal.returns-then-is_alike
 returns-then-is_alike c = (λ _. alike-debts c.args.gains.now c.args.strikes.now c.args.one c.args.other c.if-is_alike.ensures, λ _. refl)
@@ -21,27 +22,29 @@ loop-at-preserved c =
     let same : c.debt_for.result ≡ c.debt_for-in-loop-at.result = search rules in
     let one = c.next-at.ensures in
     let other = c.next-beside.ensures in
-    at-more c.args.gains.now c.args.strikes.now c.args.one c.args.other c.loop-at.at c.loop-at.beside c.next-at.result c.next-beside.result c.requires.one c.requires.other c.loop-at.invariant
-    c.loop-at-test.true c.if-beside-other.true (sym c.debt_for.ensures ∙ same ∙ c.debt_for-in-loop-at.ensures) (record { within = one.within; before = one.before; is = one.is })
-    (record { within = other.within; before = other.before; is = other.is })
+    at-more c.requires.one c.requires.other c.debt_for.result c.loop-at.invariant c.loop-at-test.true c.if-beside-other.true c.debt_for.ensures (same ∙ c.debt_for-in-loop-at.ensures)
+    (record { within = one.within; before = one.before; is = one.is }) (record { within = other.within; before = other.before; is = other.is })
 
 pub returns-then-shares_rest : goal.returns-then-shares_rest
-returns-then-shares_rest c = (
-  λ _. rest-same c.args.gains.now c.args.strikes.now c.args.one c.args.other c.loop-at.at c.loop-at.beside c.loop-at.invariant c.if-at-beside.true c.if-shares_rest.ensures,
-  λ _. refl,
-)
+returns-then-shares_rest c = (λ _. rest-same c.requires.one c.requires.other c.loop-at.invariant c.if-at-beside.true c.if-shares_rest.ensures, λ _. refl)
+
+pub returns-then-ne : goal.returns-then-ne
+returns-then-ne c =
+    let apart : c.debt_for.result ≢ c.debt_for-in-loop-at.result = search rules in (
+      λ none. absurd (false≢true none),
+      λ same. absurd (at-apart c.requires.one c.requires.other c.loop-at.invariant c.loop-at-test.true c.if-beside-other.true
+          (λ is. apart (c.debt_for.ensures ∙ is ∙ sym c.debt_for-in-loop-at.ensures)) same),
+    )
 
 pub returns-then-at-one : goal.returns-then-at-one
-returns-then-at-one c =
-    end-same c.args.gains.now c.args.strikes.now c.args.one c.args.other c.loop-at.at c.loop-at.beside c.requires.one c.requires.other c.loop-at.invariant c.if-at-one.true
+returns-then-at-one c = end-same c.requires.one c.requires.other c.loop-at.invariant c.if-at-one.true
 
 pub returns-else-at-one : goal.returns-else-at-one
 returns-else-at-one c =
     let was = c.loop-at.invariant in
-    let end = was.end in
+    let end = was.told.end in
     let other = c.if-at-one.false in
     elim c.loop-at-test.branch [
-      | then-loop-at-test+else-beside-other w ↦
-          end-other c.args.gains.now c.args.strikes.now c.args.one c.args.other c.loop-at.at c.loop-at.beside c.requires.one was other w.if-beside-other.false
+      | then-loop-at-test+else-beside-other w ↦ end-other c.requires.one c.requires.other was other w.if-beside-other.false
       | else-loop-at-test w ↦ let past = w.loop-at-test.false in absurd (omega (arith, end, other, past))
     ]

@@ -1,9 +1,8 @@
 use Rattle.std.proofs.Common.{◌≡◌, ◌<◌, ◌≤◌, ◌+◌, ◌++◌, length, inl, inr, ap, sym, subst, ◌∙◌, refl, arith}
-use Rattle.sip_ledger.specs.declared.debt.Debt.{Debt}
 use Rattle.sip_ledger.specs.Accounts.{paid_rows}
 use Rattle.sip_ledger.specs.inner.Accounts.{AreAccounts, account_debts, accounts_debts}
 use Rattle.sip_ledger.proofs.lists.EachLemmas.{from_to-end, from_to-none}
-use Rattle.sip_ledger.proofs.account.AccountLemmas.{debts-length}
+use Rattle.sip_ledger.proofs.account.AccountLemmas.{debts_length}
 use Rattle.sip_ledger.proofs.rows.PaidLemmas.{ArePaidTo, account-there, paid-front, paid-grown, paid-next, paid-none, row-there}
 use Rattle.sip_ledger.proofs.rows.SeenLemmas.{on-error}
 use Rattle.sip_ledger.proofs.accounts.each.push_some.Goals as goal
@@ -20,14 +19,14 @@ loop-row-init c =
 
 pub index-requires : goal.index-requires
 index-requires c =
-    let long = debts-length c.args.gains.now c.args.strikes.now.items c.args.rows.now.items in
+    let long = debts_length c.args.gains.now c.args.strikes.now.items c.args.rows.now.items in
     let to = c.requires.to in
     let there = row-there c.loop-row.row c.loop-row.invariant.3 (omega (arith, long, to)) in
     omega (arith, there, c.loop-row.rows.ok.0)
 
 pub paid-requires-clause-account : goal.paid-requires-clause-account
 paid-requires-clause-account c =
-    let long = debts-length c.args.gains.now c.args.strikes.now.items c.args.rows.now.items in
+    let long = debts_length c.args.gains.now c.args.strikes.now.items c.args.rows.now.items in
     let to = c.requires.to in
     (account-there c.loop-row.row c.index.result.now c.loop-row.invariant.3 (omega (arith, long, to)) c.index.ensures).0
 
@@ -39,7 +38,7 @@ pub returns-in_err-left-clause-err : goal.returns-in_err-left-clause-err
 returns-in_err-left-clause-err c =
     let grown = paid-grown c.paid.new.strikes.items c.paid.ensures.kept c.loop-row.invariant.3 in
     on-error c.from_residual.result c.from_residual.ensures.0
-    (paid-front (length c.args.rows.now.items) grown (sym (debts-length c.args.gains.now c.args.strikes.now.items c.args.rows.now.items)))
+    (paid-front (length c.args.rows.now.items) grown (sym (debts_length c.args.gains.now c.args.strikes.now.items c.args.rows.now.items)))
 
 pub returns-in_err-push_left-clause-accounts : goal.returns-in_err-push_left-clause-accounts
 returns-in_err-push_left-clause-accounts c =
@@ -53,13 +52,13 @@ returns-in_err-push_left-clause-err c =
     let grown = paid-grown c.paid.new.strikes.items c.paid.ensures.kept c.loop-row.invariant.3 in
     let same = subst (λ r. ArePaidTo g c.args.message c.args.moment c.args.from c.loop-row.row seen c.paid.new.strikes.items r) (sym c.in_err-push_left.ensures.err) grown in
     on-error c.from_residual-in_err-push_left.result c.from_residual-in_err-push_left.ensures.0
-    (paid-front (length c.args.rows.now.items) same (sym (debts-length g c.args.strikes.now.items c.args.rows.now.items)))
+    (paid-front (length c.args.rows.now.items) same (sym (debts_length g c.args.strikes.now.items c.args.rows.now.items)))
 
 pub loop-row-preserved : goal.loop-row-preserved
 loop-row-preserved c =
     let g = c.args.gains.now in
     let seen = accounts_debts g c.args.strikes.now.items c.args.rows.now.items in
-    let long = debts-length g c.args.strikes.now.items c.args.rows.now.items in
+    let long = debts_length g c.args.strikes.now.items c.args.rows.now.items in
     let to = c.requires.to in
     let low = c.loop-row.invariant.0 in
     let k = c.loop-row.row in

@@ -2,12 +2,9 @@ use Rattle.std.proofs.Common.{◌≡◌, ◌<◌, ◌≤◌, ◌∙◌, length, 
 use Rattle.std.proofs.Math.Seq.{take-length}
 use Rattle.sip_ledger.specs.declared.accounts.account.Account.{Account}
 use Rattle.sip_ledger.specs.inner.Accounts.{StartFrom}
-use Rattle.sip_ledger.proofs.gains.LetGoLemmas.{start-more, start-none}
+use Rattle.sip_ledger.proofs.gains.LetGoLemmas.{start-more}
 use Rattle.sip_ledger.proofs.accounts.left.first_owed.Goals as goal
 use Rattle.sip_ledger.proofs.accounts.left.first_owed.Goals.{then-row, else-row}
-
-pub loop-at-init : goal.loop-at-init
-loop-at-init c = (omega arith, start-none c.args.rows.now c.args.end)
 
 pub returns-clause-start : goal.returns-clause-start
 returns-clause-start c =

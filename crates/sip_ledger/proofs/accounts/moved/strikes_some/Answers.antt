@@ -1,11 +1,12 @@
 use Rattle.std.proofs.Common.{◌<◌, ◌≤◌, arith}
-use Rattle.sip_ledger.proofs.strikes.MovedLemmas.{lt-not, on-false, strikes-none}
+use Rattle.std.proofs.lemmas.Bool.{OnFalse_from, ltb-false}
+use Rattle.sip_ledger.proofs.strikes.MovedLemmas.{strikes-none}
 use Rattle.sip_ledger.proofs.accounts.moved.strikes_some.Goals as goal
 
 pub returns-in-Some : goal.returns-in-Some
 returns-in-Some c =
-    on-false _ (λ late.
-    let end = lt-not c.in-Some.at c.args.strike.to late in
+    OnFalse_from _ _ (λ late.
+    let end = ltb-false c.in-Some.at c.args.strike.to late in
     strikes-none c.args.gains.now c.args.place c.max-from.result c.args.strike (omega (arith, c.max-from.ensures)) (λ k above below. c.in-Some.ensures.before k above (omega (arith, end, below))))
 
 pub returns-in-None : goal.returns-in-None

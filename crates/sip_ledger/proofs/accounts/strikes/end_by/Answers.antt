@@ -1,7 +1,5 @@
 use Rattle.std.proofs.Common.{◌≡◌, ◌≤◌, ℕ, length, take, ap, sym, ◌∙◌, arith}
-use Rattle.std.proofs.Math.Seq.{take-length}
 use Rattle.sip_ledger.specs.declared.accounts.strikes.Strike.{Strike}
-use Rattle.sip_ledger.specs.inner.Accounts.{is_struck}
 use Rattle.sip_ledger.proofs.strikes.StrikeLemmas.{none-struck, struck-by_end, struck-more}
 use Rattle.sip_ledger.proofs.accounts.strikes.end_by.Goals as goal
 
@@ -13,8 +11,3 @@ loop-strike-preserved c = λ m k past.
     let s : Strike = record { message = 0; from = 0; to = 0 } in
     let end = c.if-place-strike.false in
     struck-more c.args.strikes.now c.loop-strike.strike-index m k s (omega arith) (c.loop-strike.invariant m k past) (struck-by_end m k _ _ _ (omega (arith, past, end)))
-
-pub returns : goal.returns
-returns c = λ m k past.
-    let full : c.loop-strike.strike-index ≡ length c.args.strikes.now = omega arith in
-    ap (λ l. is_struck l m k) (sym (ap (λ n. take n c.args.strikes.now) full ∙ take-length c.args.strikes.now)) ∙ c.loop-strike.invariant m k past

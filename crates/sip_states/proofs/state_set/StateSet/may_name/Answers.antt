@@ -5,7 +5,7 @@ use Rattle.std.proofs.lemmas.Bool.{false≢true}
 use Rattle.std.proofs.lemmas.List.{get_or_default, take_all}
 use Rattle.sip_machine.specs.Owing.{at_rest}
 use Rattle.sip_states.specs.Naming.{MayName}
-use Rattle.sip_states.proofs.keyed.NamesLemmas.{none_more}
+use Rattle.sip_states.proofs.keyed.NamesLemmas.{none_more, may_not_name}
 use Rattle.sip_states.proofs.state_set.StateSet.may_name.Goals as goal
 
 pub loop-at-init : goal.loop-at-init
@@ -21,8 +21,8 @@ loop-at-preserved g c =
     none_more (MayName g.M.Phases.names c.args.number) xs c.loop-at.at d low c.loop-at.invariant
     (λ may. false≢true (sym c.if-state_may_name.false ∙ tells.1 may))
 
-pub returns-then-state_may_name : goal.returns-then-state_may_name
-returns-then-state_may_name g c =
+pub returns-then-state_may_name-clause-may : goal.returns-then-state_may_name-clause-may
+returns-then-state_may_name-clause-may g c =
     let xs = c.args.self.now.states in
     let same : length c.self.inside.states ≡ length xs = ap (λ h. length h.states) c.self.view_is in
     let low : c.loop-at.at < length xs = omega (arith, same) in
@@ -30,10 +30,18 @@ returns-then-state_may_name g c =
     let tells = rw (ap (λ h. h.states) c.self.view_is) at c.state_may_name.ensures d in
     (λ _. (c.loop-at.at, get_or xs c.loop-at.at d, low, get_or_default xs c.loop-at.at (get_or xs c.loop-at.at d) d low, tells.0 c.if-state_may_name.true), λ _. refl)
 
-pub returns : goal.returns
-returns g c =
+pub returns-clause-may : goal.returns-clause-may
+returns-clause-may g c =
     let xs = c.args.self.now.states in
     let same : length c.self.inside.states ≡ length xs = ap (λ h. length h.states) c.self.view_is in
     let all = take_all c.loop-at.at xs (omega (arith, same)) in
     let none = subst (λ ss. ¬ Any (MayName g.M.Phases.names c.args.number) ss) all c.loop-at.invariant in
     (λ yes. absurd (false≢true yes), λ any. absurd (none any))
+
+pub returns-clause-none : goal.returns-clause-none
+returns-clause-none g c =
+    let xs = c.args.self.now.states in
+    let same : length c.self.inside.states ≡ length xs = ap (λ h. length h.states) c.self.view_is in
+    let all = take_all c.loop-at.at xs (omega (arith, same)) in
+    let none = subst (λ ss. ¬ Any (MayName g.M.Phases.names c.args.number) ss) all c.loop-at.invariant in
+    λ _. may_not_name g.M.Phases.names xs c.args.number none

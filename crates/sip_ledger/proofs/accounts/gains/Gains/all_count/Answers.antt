@@ -1,12 +1,12 @@
 use Rattle.std.proofs.Common.{◌≡◌, ◌<◌, ◌≤◌, ◌+◌, length, [], ap, ◌∙◌, arith}
+use Rattle.std.proofs.lemmas.Bool.{OnTrue_from}
 use Rattle.sip_ledger.specs.declared.debt.Entry.{Entry}
 use Rattle.sip_ledger.specs.inner.Accounts.{IsKept}
 use Rattle.sip_ledger.proofs.gains.LeftLemmas.{rising-kept}
-use Rattle.sip_ledger.proofs.gains.SeekLemmas.{on-is}
 use Rattle.sip_ledger.proofs.accounts.gains.Gains.all_count.Goals as goal
 
 pub returns : goal.returns
-returns c = on-is c.args.self.now.rises (λ rises k kept.
+returns c = OnTrue_from c.args.self.now.rises _ (λ rises k kept.
     let g = c.args.self.now in
     let first = c.first.ensures in
     let from = kept.from in

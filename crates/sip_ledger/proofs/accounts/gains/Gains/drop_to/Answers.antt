@@ -4,15 +4,6 @@ use Rattle.sip_ledger.proofs.gains.FlagLemmas.{flags-dropped}
 use Rattle.sip_ledger.proofs.gains.LeftLemmas.{gains-dropped}
 use Rattle.sip_ledger.proofs.accounts.gains.Gains.drop_to.Goals as goal
 
-pub drop_first-requires-2 : goal.drop_first-requires-2
-drop_first-requires-2 c =
-    let g = c.args.self.now in
-    let len : c.len.result ≡ length g.entries.items = c.len.ensures ∙ g.entries.ok.0 in
-    let long = c.requires.gained.long in
-    let within = c.requires.within in
-    let many = c.requires.gained.flags.many in
-    omega (arith, len, long, within, many)
-
 pub returns : goal.returns
 returns c =
     let g = c.args.self.now in

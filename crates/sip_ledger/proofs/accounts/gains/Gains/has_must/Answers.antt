@@ -1,8 +1,8 @@
 use Rattle.std.proofs.Common.{◌≡◌, ◌<◌, ◌≤◌, ◌+◌, true, length, ap, sym, ◌∙◌, arith}
+use Rattle.std.proofs.lemmas.Bool.{OnTrue_from}
 use Rattle.sip_ledger.specs.declared.accounts.gains.Flags.{Flags}
 use Rattle.sip_ledger.specs.inner.Accounts.{IsKept}
 use Rattle.sip_ledger.specs.Indexes.{holds}
-use Rattle.sip_ledger.proofs.gains.SeekLemmas.{on-is}
 use Rattle.sip_ledger.proofs.accounts.gains.Gains.has_must.Goals as goal
 
 pub returns : goal.returns
@@ -11,5 +11,5 @@ returns c =
     let first = c.first.ensures in
     let low = c.if-place-first.false in
     let kept : IsKept g c.args.place = record { from = omega (arith, first, low); within = c.if-self-place.false } in
-    on-is {P = (c.args.place < g.end) × (holds g.musts 0 c.args.place ≡ true)} c.flags.result.must
+    OnTrue_from c.flags.result.must ((c.args.place < g.end) × (holds g.musts 0 c.args.place ≡ true))
     (λ yes. (c.if-self-place.false, sym (c.requires.flags.must c.args.place kept) ∙ ap (λ (f : Flags). f.must) (sym c.flags.ensures) ∙ yes))

@@ -1,11 +1,13 @@
 //! The entries of a log, one after another.
-ghost use Rattle.std.specs.Prelude.{◌≡◌, ◌+◌, ◌<◌, ◌≤◌, [], IfOk, IfSome, OnSome};
+ghost use Rattle.std.specs.Prelude.{◌≡◌, ◌+◌, ◌<◌, ◌≤◌, [], ℕ, IfOk, IfSome, OnOk, OnSome, length};
 ghost use Rattle.sip_standard.specs.Times.{last_moment};
-ghost use Rattle.sip_log.specs.inner.Line.{KeepsLimits, cut_head, head_of, moment_of};
+ghost use Rattle.sip_log.specs.inner.Line.{KeepsLimits, cut_head, head_of, moment_of, item_of};
 ghost use Rattle.sip_log.specs.inner.Window.{unread};
 ghost use Rattle.sip_log.specs.inner.Entry.{MessageComes, BodyComes, HeadComes, LineComes, EntryComes};
 ghost use Rattle.sip_standard.specs.LogSays.{most_entries};
-ghost use Rattle.sip_log.specs.Told.{TellsWhatComes, entry_next, next_of};
+ghost use Rattle.sip_standard.specs.declared.action.Action as standard;
+ghost use Rattle.sip_log.specs.Next.{gives};
+ghost use Rattle.sip_log.specs.Told.{TellsWhatComes, next_of};
 ghost use Rattle.sip_log.specs.Reading.{Continues};
 ghost use Rattle.sip_log.specs.inner.Line as log;
 
@@ -34,7 +36,7 @@ pub struct Entry {
 /// of the log.
 #[inline(always)]
 pub(crate) fn next_entry<R: Source>(
-    buffer: Vec<u8>,
+    mut buffer: Vec<u8>,
     window: &mut Window,
     source: &mut R,
     format: Format,
@@ -53,25 +55,30 @@ pub(crate) fn next_entry<R: Source>(
     if count >= MOST_ENTRIES {
         return Err(LogError::Limit);
     }
-    match read_entry(buffer, window, source, format, count + 1, last) {
-        Ok(entry) => Ok(Some(entry)),
+    match read_entry(&mut buffer, window, source, format, last) {
+        Ok(head) => Ok(Some(Entry {
+            number: count + 1,
+            moment: head.moment(),
+            action: head.action(),
+            bytes: buffer,
+        })),
         Err(error) => Err(error),
     }
 }
 
-/// Reads an entry that must come, since bytes are left: its line, and what stands after it.
+/// Reads an entry that must come, since bytes are left: its line, and what stands after it, which goes into the buffer.
 #[inline(always)]
 fn read_entry<R: Source>(
-    buffer: Vec<u8>,
+    buffer: &mut Vec<u8>,
     window: &mut Window,
     source: &mut R,
     format: Format,
-    number: u64,
     last: u64,
-) -> Result<Entry, LogError>
-    ensures entry { IfOk result (Continues number last) }
+) -> Result<Head, LogError>
+    ensures order { IfOk result (λ head. (last ≤ moment_of (head_of head)) × (moment_of (head_of head) ≤ last_moment)) }
+    ensures long { OnOk result (length buffer.new.items ≤ 65535) }
     ensures says { TellsWhatComes (unread window.old (R.left source.old)) (unread window.new (R.left source.new))
-        (R.has_failed source.old) (R.has_failed source.new) (LineComes format last) entry_next result }
+        (R.has_failed source.old) (R.has_failed source.new) (LineComes format last) (λ head. gives (item_of (head_of head) buffer.new.items)) result }
 {
     let Some(len) = window.line_len(source, LONGEST_LINE)? else {
         if window.as_slice().len() < LONGEST_LINE {
@@ -83,22 +90,25 @@ fn read_entry<R: Source>(
         return Err(LogError::EntryLine);
     };
     window.consume(len + 1);
-    after_line(buffer, window, source, number, last, head)
+    match after_line(buffer, window, source, last, head) {
+        Ok(()) => Ok(head),
+        Err(error) => Err(error),
+    }
 }
 
 /// Reads what stands after an entry's line, where the line keeps the limits and the order.
 #[inline(always)]
 fn after_line<R: Source>(
-    buffer: Vec<u8>,
+    buffer: &mut Vec<u8>,
     window: &mut Window,
     source: &mut R,
-    number: u64,
     last: u64,
     head: Head,
-) -> Result<Entry, LogError>
-    ensures entry { IfOk result (Continues number last) }
+) -> Result<(), LogError>
+    ensures order { OnOk result ((last ≤ moment_of (head_of head)) × (moment_of (head_of head) ≤ last_moment)) }
+    ensures long { OnOk result (length buffer.new.items ≤ 65535) }
     ensures says { (h : log.Head) → head ≡ cut_head h → TellsWhatComes (unread window.old (R.left source.old)) (unread window.new (R.left source.new))
-        (R.has_failed source.old) (R.has_failed source.new) (HeadComes last h) entry_next result }
+        (R.has_failed source.old) (R.has_failed source.new) (HeadComes last h) (λ nothing. gives (item_of (head_of head) buffer.new.items)) result }
 {
     if !head.is_within_limits() {
         return Err(LogError::Limit);
@@ -106,54 +116,43 @@ fn after_line<R: Source>(
     if head.moment() < last {
         return Err(LogError::Order);
     }
-    read_body(buffer, window, source, number, head)
+    read_body(buffer, window, source, head)
 }
 
-/// Reads the message after an entry's line, or nothing where the entry has none.
+/// Reads the message after an entry's line into the buffer, or nothing where the entry has none.
 #[inline(always)]
 fn read_body<R: Source>(
-    mut buffer: Vec<u8>,
+    buffer: &mut Vec<u8>,
     window: &mut Window,
     source: &mut R,
-    number: u64,
     head: Head,
-) -> Result<Entry, LogError>
+) -> Result<(), LogError>
     requires { KeepsLimits (head_of head) }
-    ensures entry { IfOk result (Continues number (moment_of (head_of head))) }
+    ensures long { OnOk result (length buffer.new.items ≤ 65535) }
     ensures says { TellsWhatComes (unread window.old (R.left source.old)) (unread window.new (R.left source.new))
-        (R.has_failed source.old) (R.has_failed source.new) (BodyComes (head_of head)) entry_next result }
+        (R.has_failed source.old) (R.has_failed source.new) (BodyComes (head_of head)) (λ nothing. gives (item_of (head_of head) buffer.new.items)) result }
 {
     buffer.clear();
     match head {
-        Head::Message(action, moment, len) => {
-            read_message(buffer, window, source, number, action, moment, len)
-        }
-        Head::Plain(action, moment) => Ok(Entry {
-            number,
-            moment,
-            action,
-            bytes: buffer,
-        }),
+        Head::Message(_, _, len) => read_message(buffer, window, source, len),
+        Head::Plain(_, _) => Ok(()),
     }
 }
 
 /// Reads a message of `len` bytes and the line feed after it. Its bytes are copied once, out of the window into the empty buffer.
 #[inline(always)]
 fn read_message<R: Source>(
-    mut buffer: Vec<u8>,
+    buffer: &mut Vec<u8>,
     window: &mut Window,
     source: &mut R,
-    number: u64,
-    action: Action,
-    moment: u64,
     len: u64,
-) -> Result<Entry, LogError>
-    requires moment { moment ≤ last_moment }
+) -> Result<(), LogError>
     requires len { len ≤ 65535 }
-    requires empty { buffer.items ≡ [] }
-    ensures entry { IfOk result (Continues number moment) }
-    ensures says { TellsWhatComes (unread window.old (R.left source.old)) (unread window.new (R.left source.new))
-        (R.has_failed source.old) (R.has_failed source.new) (MessageComes action moment len) entry_next result }
+    requires empty { buffer.old.items ≡ [] }
+    ensures long { OnOk result (length buffer.new.items ≤ 65535) }
+    ensures says { (action : standard.Action) (moment : ℕ) → TellsWhatComes (unread window.old (R.left source.old)) (unread window.new (R.left source.new))
+        (R.has_failed source.old) (R.has_failed source.new) (MessageComes action moment len)
+        (λ nothing. gives (record { action = action; moment = moment; text = buffer.new.items })) result }
 {
     let len = len as usize;
     if !window.hold(source, len + 1)? {
@@ -165,10 +164,5 @@ fn read_message<R: Source>(
     }
     buffer.extend_from_slice(&held[..len])?;
     window.consume(len + 1);
-    Ok(Entry {
-        number,
-        moment,
-        action,
-        bytes: buffer,
-    })
+    Ok(())
 }

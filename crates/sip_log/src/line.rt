@@ -4,7 +4,7 @@ ghost use Rattle.sip_standard.specs.declared.action.Action.{Action};
 ghost use Rattle.sip_log.specs.inner.Number.{cut};
 ghost use Rattle.sip_standard.specs.LogEntry.{HasMessage, IsOf, IsWithinLimits};
 ghost use Rattle.sip_log.specs.inner.Spelling.{letter, space};
-ghost use Rattle.sip_log.specs.inner.Line.{Numbers, HeadLine, cut_head, head_of, moment_of, KeepsLimits};
+ghost use Rattle.sip_log.specs.inner.Line.{Numbers, HeadLine, action_of, cut_head, head_of, moment_of, KeepsLimits};
 ghost use Rattle.sip_log.specs.inner.Line as log;
 
 use crate::number::{digits, is_plain, number};
@@ -31,6 +31,15 @@ impl Head {
     {
         match self {
             Head::Message(_, moment, _) | Head::Plain(_, moment) => moment,
+        }
+    }
+
+    /// What was done.
+    pub(crate) fn action(self) -> Action
+        ensures { result ≡ action_of (head_of self) }
+    {
+        match self {
+            Head::Message(action, _, _) | Head::Plain(action, _) => action,
         }
     }
 

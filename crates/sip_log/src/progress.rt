@@ -165,25 +165,23 @@ impl Progress {
         ensures says { TellsWhatComes (unread window (R.left source.old)) (beside_source self.new (R.left source.new) (R.has_failed source.new)).left
             (R.has_failed source.old) (R.has_failed source.new) (EntryComes self.old.format self.old.count self.old.last) next_of result }
     {
-        match next_entry(
+        let told = next_entry(
             buffer,
             &mut window,
             source,
             self.format,
             self.count,
             self.last,
-        ) {
+        );
+        match &told {
             Ok(Some(entry)) => {
                 self.count = entry.number;
                 self.last = entry.moment;
                 self.stage = Stage::Entries(window);
-                Ok(Some(entry))
             }
-            Ok(None) => {
-                self.stage = Stage::Ended;
-                Ok(None)
-            }
-            Err(error) => Err(error),
+            Ok(None) => self.stage = Stage::Ended,
+            Err(_) => {}
         }
+        told
     }
 }

@@ -5,7 +5,7 @@ use Rattle.sip_log.specs.declared.line.Head.{Head as CodeHead}
 use Rattle.sip_log.specs.declared.line.Head.TheVariants as code
 use Rattle.sip_standard.specs.declared.format.Format.{Format}
 use Rattle.sip_log.specs.inner.Spelling.{space, letter}
-use Rattle.sip_standard.specs.LogEntry.{HasMessage, IsOf}
+use Rattle.sip_standard.specs.LogEntry.{HasMessage, IsOf, Item}
 use Rattle.sip_log.specs.inner.Number.{IsNumber, cut}
 
 -- The line at which an entry begins.
@@ -30,10 +30,19 @@ HeadLine format line (message action moment len) =
 HeadLine format line (plain action moment) =
     (text : List ℕ) × ¬ (HasMessage action) × IsOf format action × IsNumber text moment × (line ≡ letter action ∷ space ∷ text)
 
+-- the action that an entry's line tells
+abbrev pub action_of : Head → Action
+action_of (message action moment len) = action
+action_of (plain action moment) = action
+
 -- the moment that an entry's line tells
 abbrev pub moment_of : Head → ℕ
 moment_of (message action moment len) = moment
 moment_of (plain action moment) = moment
+
+-- the entry of a log whose line tells this, with this message
+abbrev pub item_of : Head → List ℕ → Item
+item_of head text = record { action = action_of head; moment = moment_of head; text = text }
 
 -- the moment is at most 9,999,999,999,999, and a message has 1 to 65,535 bytes
 abbrev pub KeepsLimits : Head → Type 0

@@ -1,7 +1,8 @@
-use Rattle.std.proofs.Common.{◌≡◌, ◌+◌, ◌<◌, ◌≤◌, inl, inr, [], length, drop, arith, ap}
+use Rattle.std.proofs.Common.{◌≡◌, ◌+◌, ◌<◌, ◌≤◌, inl, inr, [], length, drop, Ok, Err, None, arith, ap}
 use Rattle.sip_standard.specs.declared.log_reason.LogReason.TheVariants as faults
 use Rattle.sip_log.specs.inner.Entry.{LineComes, HeadComes}
-use Rattle.sip_log.specs.Told.{entry_next}
+use Rattle.sip_log.specs.Next.{gives}
+use Rattle.sip_log.specs.inner.Line.{head_of, item_of}
 use Rattle.sip_log.specs.inner.Window.{items}
 use Rattle.sip_log.proofs.answers.SaysLemmas.{Says-fault, Says-step}
 use Rattle.sip_log.proofs.lines.FrontLemmas.{AtLine-truncated, AtLine-long, AtLine-other, AtLine-head}
@@ -35,12 +36,24 @@ returns-in_default-read_head-clause-says g c =
     (λ ys left. AtLine-other c.args.format c.args.last held ys c.in-Some.len within.1 (rw c.in-Some.is at line.first)
     (rw c.as_slice-2.ensures.value at c.in_default-read_head.ensures))
 
-pub returns-clause-says : goal.returns-clause-says
-returns-clause-says g c =
+pub returns-in-Ok-clause-says : goal.returns-in-Ok-clause-says
+returns-in-Ok-clause-says g c =
     let line = c.in_ok-len.ensures in
     let held = items c.line_len.new.self in
     let within = rw c.in-Some.is at line.within in
     let head = rw c.as_slice-2.ensures.value at c.in-Some-read_head.ensures in
-    Says-step line.reads (LineComes c.args.format c.args.last) (drop (c.in-Some.len + 1) held) _ _ (HeadComes c.args.last head.0) entry_next c.after_line.result
+    Says-step line.reads (LineComes c.args.format c.args.last) (drop (c.in-Some.len + 1) held) _ _ (HeadComes c.args.last head.0)
+    (λ nothing. gives (item_of (head_of c.in-Some-read_head.head) c.after_line.new.buffer.items)) (Ok tt)
     (λ ys next left behind. AtLine-head c.args.format c.args.last held ys c.in-Some.len within.1 (rw c.in-Some.is at line.first) head.0 next head.1 behind)
-    (rw (← c.consume.ensures) (c.after_line.ensures.says head.0 head.2))
+    (rw (← c.consume.ensures) (c.in-Ok.ensures.says head.0 head.2))
+
+pub returns-in-Err-clause-says : goal.returns-in-Err-clause-says
+returns-in-Err-clause-says g c =
+    let line = c.in_ok-len.ensures in
+    let held = items c.line_len.new.self in
+    let within = rw c.in-Some.is at line.within in
+    let head = rw c.as_slice-2.ensures.value at c.in-Some-read_head.ensures in
+    Says-step line.reads (LineComes c.args.format c.args.last) (drop (c.in-Some.len + 1) held) None _ (HeadComes c.args.last head.0)
+    (λ nothing. gives (item_of (head_of c.in-Some-read_head.head) c.after_line.new.buffer.items)) (Err c.in-Err.error)
+    (λ ys next left behind. AtLine-head c.args.format c.args.last held ys c.in-Some.len within.1 (rw c.in-Some.is at line.first) head.0 next head.1 behind)
+    (rw (← c.consume.ensures) (c.in-Err.ensures.says head.0 head.2))

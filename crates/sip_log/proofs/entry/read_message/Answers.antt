@@ -8,17 +8,17 @@ use Rattle.sip_log.proofs.lines.MessageLemmas.{AtMessage-open, AtMessage-gives}
 use Rattle.sip_log.proofs.entry.read_message.Goals as goal
 
 pub returns-then-held-len-ne10-clause-says : goal.returns-then-held-len-ne10-clause-says
-returns-then-held-len-ne10-clause-says g c =
+returns-then-held-len-ne10-clause-says g c action moment =
     let hold = c.in_ok-hold.ensures in
     let len = c.args.len in
     let held = items c.hold.new.self in
     let inside : len < length held = omega (arith, hold.some) in
     let byte = ap (λ (t : List ℕ). get_or t len 0) c.as_slice-held.ensures.value in
-    Says-fault hold.reads (MessageComes c.args.action c.args.moment len) faults.EntryLine
-    (λ ys left. AtMessage-open c.args.action c.args.moment len held ys inside (λ same. c.if-held-len-ne10.true (byte ∙ same)))
+    Says-fault hold.reads (MessageComes action moment len) faults.EntryLine
+    (λ ys left. AtMessage-open action moment len held ys inside (λ same. c.if-held-len-ne10.true (byte ∙ same)))
 
 pub returns-clause-says : goal.returns-clause-says
-returns-clause-says g c =
+returns-clause-says g c action moment =
     let hold = c.in_ok-hold.ensures in
     let len = c.args.len in
     let held = items c.hold.new.self in
@@ -26,6 +26,6 @@ returns-clause-says g c =
     let byte = ap (λ (t : List ℕ). get_or t len 0) c.as_slice-held.ensures.value in
     let text = (rw c.requires.empty at c.in_ok-extend_from_slice.ensures.items) ∙ ap (take len) c.as_slice-held.ensures.value in
     rw c.consume.ensures
-    (Says-value hold.reads (MessageComes c.args.action c.args.moment len) (drop (len + 1) held)
-    (λ behind. gives (record { action = c.args.action; moment = c.args.moment; text = c.extend_from_slice.new.self.items }) behind)
-    (λ ys left. AtMessage-gives c.args.action c.args.moment len held ys _ inside (sym byte ∙ c.if-held-len-ne10.false) text))
+    (Says-value hold.reads (MessageComes action moment len) (drop (len + 1) held)
+    (λ behind. gives (record { action = action; moment = moment; text = c.extend_from_slice.new.self.items }) behind)
+    (λ ys left. AtMessage-gives action moment len held ys _ inside (sym byte ∙ c.if-held-len-ne10.false) text))

@@ -1,10 +1,14 @@
 -- What a key feeds a hasher: one text, which tells its parts.
 use Rattle.std.proofs.Common.{◌≡◌, ◌/◌, ◌%◌, ◌<◌, ◌++◌, ◌∷◌, [], ℕ, zero, suc, List, length, take, drop, get_or, replicate, refl, sym, ap, ap₂, ◌∙◌, append_assoc, arith}
+use Rattle.std.specs.Bool.{one_answer}
+use Rattle.std.specs.Cmp.Lexicographic.{bytes_decides}
+use Rattle.std.specs.Str.{bytes_eq}
 use Rattle.std.proofs.lemmas.List.{take_at, drop_at, length-append}
 use Rattle.sip_standard.specs.declared.role.Role.{Role}
 use Rattle.sip_standard.specs.declared.role.Role.TheVariants.{Client, Server}
 use Rattle.sip_key.specs.contracts.key.KeyHash.TheImpl as key_hash
-use Rattle.sip_standard.specs.Key.{KeyParts}
+use Rattle.sip_standard.specs.Key.{KeyParts, same_key}
+use Rattle.sip_key.specs.inner.KeyLaws.{same_key-decides}
 use Rattle.sip_key.specs.inner.KeyText.{role_byte, length_bytes, key_text}
 
 -- roles with the same byte are the same
@@ -51,6 +55,13 @@ key-by_its_text a b same =
     let fronts = alike (a.branch ++ a.sent_by) (b.branch ++ b.sent_by) a.method b.method long texts.1 in
     let parts = alike a.branch b.branch a.sent_by b.sent_by lengths.0 fronts.0 in
     λ i. record { role = role i; branch = parts.0 i; sent_by = parts.1 i; method = fronts.1 i }
+
+-- keys are equal exactly if their texts are
+pub same_key-by_text : (a b : KeyParts) (t u : List ℕ) → t ≡ key_text a → u ≡ key_text b → bytes_eq t u ≡ same_key a b
+same_key-by_text a b t u t_is u_is =
+    one_answer (bytes_eq t u) (same_key a b)
+    (λ h. key-by_its_text a b (sym t_is ∙ (bytes_decides t u).0 h ∙ u_is), λ same. (bytes_decides t u).1 (t_is ∙ ap key_text same ∙ sym u_is))
+    (same_key-decides a b)
 
 -- keys that feed a hasher the same bytes are the same
 pub key_by_its_feed : (a b : KeyParts) → key_hash.ghosts.hash_input a ≡ key_hash.ghosts.hash_input b → a ≡ b

@@ -181,10 +181,7 @@ impl PartialEq for Key {
     ghost laws = { partial_equiv_from_equiv (decided same_key same_key-decides) };
 
     fn eq(&self, other: &Key) -> bool {
-        self.role == other.role
-            && self.branch() == other.branch()
-            && self.sent_by() == other.sent_by()
-            && self.method() == other.method()
+        self.text == other.text
     }
 }
 

@@ -22,8 +22,10 @@ laid c =
     (c.in_ok-extend_from_slice.ensures.items ∙ ap (λ text. text ++ c.args.method.now) ported)
     refl (omega (arith, begun_length)) ported_length
 
-pub invariant_of-result : goal.invariant_of-result
-invariant_of-result c = (laid (goal.at.invariant_of-result c).In_ok-extend_from_slice).sound
+pub placed-requires : goal.placed-requires
+placed-requires c =
+    let sound = (laid (goal.at.placed-requires c).In_ok-extend_from_slice).sound in
+    record { order = (sound.0, sound.1, sound.2); text = sound.3 }
 
 pub returns : goal.returns
-returns c = (laid (goal.at.returns c).In_ok-extend_from_slice).parts
+returns c = c.in_ok-key.ensures ∙ (laid (goal.at.returns c).In_ok-extend_from_slice).parts

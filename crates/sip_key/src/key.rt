@@ -56,6 +56,7 @@ fn head_room(branch: usize, method: usize) -> usize
 }
 
 /// Puts a length after the text, in one byte where it is below 64.
+#[inline(always)]
 fn push_length(text: &mut Vec<u8>, count: usize) -> Result<(), AllocError>
     ensures { OnOk result (text.new.items ≡ text.old.items ++ length_bytes count) }
 {
@@ -76,26 +77,31 @@ fn role_byte(role: Role) -> u8
     }
 }
 
-/// The beginning of a key's text, with this much room: the head, and then the branch and the host in lower case.
+/// The beginning of a key's text, with this much room: the head, and then the branch as it is.
 #[inline(always)]
 fn begun(
     alloc: Global,
     room: usize,
     role: Role,
     branch: &[u8],
-    host: &[u8],
     method: &[u8],
 ) -> Result<Vec<u8>, AllocError>
-    ensures { IfOk result (λ text. text.items ≡ key_head role (length branch.now) (length method.now) ++ folded (branch.now ++ host.now)) }
+    ensures { IfOk result (λ text. text.items ≡ key_head role (length branch.now) (length method.now) ++ branch.now) }
 {
     let mut text = Vec::with_capacity(alloc, room)?;
     text.push(role_byte(role))?;
     push_length(&mut text, branch.len())?;
     push_length(&mut text, method.len())?;
     text.extend_from_slice(branch)?;
-    text.extend_from_slice(host)?;
-    text.make_ascii_lowercase();
     Ok(text)
+}
+
+/// Turns the text into lower case.
+#[inline(always)]
+fn fold(text: &mut Vec<u8>)
+    ensures { text.new.items ≡ folded text.old.items }
+{
+    text.make_ascii_lowercase();
 }
 
 impl Key {
@@ -132,7 +138,8 @@ impl Key {
         let room = head_room(branch.len(), method.len())
             .saturating_add(branch.len())
             .saturating_add(method.len());
-        let mut text = begun(alloc, room, Role::Client, branch, b"", method)?;
+        let mut text = begun(alloc, room, Role::Client, branch, method)?;
+        fold(&mut text);
         let branch_end = text.len();
         text.extend_from_slice(method)?;
         let branch_start = branch_end - branch.len();
@@ -156,7 +163,9 @@ impl Key {
             .saturating_add(branch.len())
             .saturating_add(sent_by_room)
             .saturating_add(method.len());
-        let mut text = begun(alloc, room, Role::Server, branch, host, method)?;
+        let mut text = begun(alloc, room, Role::Server, branch, method)?;
+        text.extend_from_slice(host)?;
+        fold(&mut text);
         let branch_end = text.len() - host.len();
         push_port(&mut text, port)?;
         let sent_by_end = text.len();

@@ -1,22 +1,16 @@
 use Rattle.std.proofs.Common.{◌≡◌, ◌++◌, ◌∷◌, [], length, ap, ap₂, ◌∙◌, arith}
 use Rattle.std.proofs.lemmas.Grind.{common_steps}
-use Rattle.sip_standard.specs.Case.{folded}
 use Rattle.sip_key.specs.inner.KeyText.{length_bytes, role_byte, key_head}
-use Rattle.sip_key.proofs.KeyLemmas.{begun_folded}
 use Rattle.sip_key.proofs.key.begun.Goals as goal
 
 pub returns : goal.returns
 returns c =
     let branch = c.args.branch.now in
-    let host = c.args.host.now in
     let method = c.args.method.now in
     let head = key_head c.args.role (length branch) (length method) in
     let side : c.push.new.self.items ≡ role_byte c.args.role ∷ [] =
     c.in_ok-push.ensures.items ∙ ap₂ (λ text byte. text ++ byte ∷ []) c.in_ok-text.ensures.items c.role_byte.ensures in
     let lengths : c.push_length-2.new.text.items ≡ head =
     c.in_ok-push_length-2.ensures ∙ ap (λ text. text ++ length_bytes (length method)) (c.in_ok-push_length.ensures ∙ ap (λ text. text ++ length_bytes (length branch)) side) in
-    let texts : c.extend_from_slice-2.new.self.items ≡ (head ++ branch) ++ host =
-    c.in_ok-extend_from_slice-2.ensures.items ∙ ap (λ text. text ++ host) (c.in_ok-extend_from_slice.ensures.items ∙ ap (λ text. text ++ branch) lengths) in
-    let whole : folded c.extend_from_slice-2.new.self.items ≡ head ++ folded (branch ++ host) =
-    ap folded texts ∙ begun_folded c.args.role (length branch) (length method) branch host in
+    let texts : c.extend_from_slice.new.self.items ≡ head ++ branch = c.in_ok-extend_from_slice.ensures.items ∙ ap (λ text. text ++ branch) lengths in
     grind (arith, common_steps)

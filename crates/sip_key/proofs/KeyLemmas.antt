@@ -1,5 +1,5 @@
 -- The text of a key: its head, and then its branch, its sent-by and its method, one after another.
-use Rattle.std.proofs.Common.{◌≡◌, ◌+◌, ◌-◌, ◌/◌, ◌%◌, ◌≤◌, ◌++◌, ◌∷◌, [], ℕ, zero, suc, List, length, map, take, drop, replicate, refl, sym, ap, ap₂, ◌∙◌, append_assoc, arith}
+use Rattle.std.proofs.Common.{◌≡◌, ◌+◌, ◌-◌, ◌/◌, ◌%◌, ◌<◌, ◌≤◌, ◌++◌, get_or, ◌∷◌, [], ℕ, zero, suc, List, length, map, take, drop, replicate, refl, sym, ap, ap₂, ◌∙◌, append_assoc, arith}
 use Rattle.std.specs.Prelude.{slice_range}
 use Rattle.std.specs.Char.{to_ascii_lowercase}
 use Rattle.std.proofs.lemmas.List.{take_at, drop_at, length-append, length-map, length-replicate, map-append}
@@ -7,7 +7,7 @@ use Rattle.std.proofs.lemmas.Str.Ascii.{lowercase_is}
 use Rattle.sip_standard.specs.Case.{folded}
 use Rattle.sip_standard.specs.declared.role.Role.{Role}
 use Rattle.sip_standard.specs.declared.role.Role.TheVariants.{Client, Server}
-use Rattle.sip_key.specs.inner.KeyText.{parts_at, length_bytes, role_byte, key_head, key_text}
+use Rattle.sip_key.specs.inner.KeyText.{parts_at, parts_by, head_end, role_told, IsTextBy, length_bytes, role_byte, key_head, key_text}
 
 -- the bytes from the end of a front, as many as a text has that stands there, are that text
 between : (front text rest : List ℕ) (from to : ℕ) → from ≡ length front → to ≡ from + length text → slice_range (front ++ (text ++ rest)) from to ≡ text
@@ -116,3 +116,29 @@ built role branch host port method begun text branch_start branch_end sent_by_en
     (omega (arith, start, first, begun_length, ap length head_is))
     (omega (arith, start, first, begun_length, branch_length))
     (omega (arith, first, second, begun_length, host_length, length-append (folded host) port))
+
+-- the byte of a role tells the role
+told-role : (role : Role) (rest : List ℕ) → role_told (role_byte role ∷ rest) ≡ role
+told-role Client rest = refl
+told-role Server rest = refl
+
+-- the text of a key, and how long its branch and its method are, tell the key's parts
+pub told : (role : Role) (branch sent_by method text : List ℕ) (b m : ℕ) → text ≡ key_text (record { role = role; branch = branch; sent_by = sent_by; method = method })
+    → b ≡ length branch → m ≡ length method
+    → (parts_by text b m ≡ record { role = role; branch = branch; sent_by = sent_by; method = method }) × IsTextBy text b m
+told role branch sent_by method text b m whole b_is m_is =
+    let head = key_head role (length branch) (length method) in
+    let first = head_length role (length branch) (length method) in
+    let start : head_end b m ≡ length head = rw (b_is, m_is) (sym first) in
+    let long : length text ≡ length head + (length branch + length sent_by + length method) =
+    omega (arith, ap length whole, length-append head ((branch ++ sent_by) ++ method), length-append (branch ++ sent_by) method, length-append branch sent_by) in
+    let laid = laid-out role branch sent_by method text (head_end b m) (head_end b m + b) (length text - m) whole start (omega (arith, b_is)) (omega (arith, long, start, b_is, m_is)) in
+    let parts : parts_by text b m ≡ record { role = role; branch = branch; sent_by = sent_by; method = method } =
+    ap (λ r. parts_at r text (head_end b m) (head_end b m + b) (length text - m)) (ap role_told whole ∙ told-role role _) ∙ laid.parts in
+    (parts, (omega (arith, long, start, b_is, m_is), whole ∙ ap key_text (sym parts)))
+
+-- a text whose first byte is 0 tells a client, and another one a server
+pub told_by_first : (text : List ℕ) (byte : ℕ) → 0 < length text → byte ≡ get_or text 0 byte → (byte ≡ 0 → Client ≡ role_told text) × ((byte ≡ 0 → ⊥) → Server ≡ role_told text)
+told_by_first [] byte some is = absurd (omega (arith, some))
+told_by_first (zero ∷ rest) byte some is = (λ h. refl, λ h. absurd (h is))
+told_by_first (suc n ∷ rest) byte some is = (λ h. absurd (omega (arith, h, is)), λ h. refl)

@@ -1,11 +1,11 @@
 //! The keys of transactions.
-ghost use Rattle.std.specs.Prelude.{◌≡◌, ◌++◌, ◌∷◌, ◌≤◌, [], IfOk, OnOk, IfSome, length, option_copied};
+ghost use Rattle.std.specs.Prelude.{◌≡◌, ◌++◌, ◌∷◌, [], IfOk, OnOk, IfSome, length, option_copied};
 ghost use Rattle.std.specs.Cmp.{decided, partial_equiv_from_equiv};
 ghost use Rattle.std.specs.Hash as fed;
 ghost use Rattle.sip_standard.specs.Case.{folded};
 ghost use Rattle.sip_standard.specs.Profile.{Port};
 ghost use Rattle.sip_standard.specs.Key.{same_key};
-ghost use Rattle.sip_key.specs.inner.KeyText.{key_text, key_head, length_bytes, parts_at, role_byte};
+ghost use Rattle.sip_key.specs.inner.KeyText.{key_text, key_head, head_end, length_bytes, role_byte};
 ghost use Rattle.sip_standard.specs.SentBy.{sent_by};
 ghost use Rattle.sip_standard.specs.declared.role.Role.{Role};
 ghost use Rattle.sip_standard.specs.declared.role.Role.TheVariants.{Client, Server};
@@ -21,36 +21,29 @@ use std::marker::Model;
 /// folded, and it borrows nothing.
 #[derive(Debug, Drop)]
 pub struct Key {
-    role: Role,
     /// What a hasher is fed: the role, how long the branch and the method are, and then the branch, the sent-by and the method.
     text: Vec<u8>,
-    branch_start: u32,
-    branch_end: u32,
-    sent_by_end: u32,
+    branch_length: usize,
+    method_length: usize,
 }
 
 impl Model for Key {
-    ghost use Rattle.std.specs.Prelude.{◌≡◌, ◌≤◌, length};
     ghost use Rattle.sip_standard.specs.Key.{KeyParts};
-    ghost use Rattle.sip_key.specs.inner.KeyText.{key_text, parts_at};
+    ghost use Rattle.sip_key.specs.inner.KeyText.{IsTextBy, parts_by};
 
     ghost Value = { KeyParts };
 
-    ghost view = { λ k. parts_at k.role k.text.items k.branch_start k.branch_end k.sent_by_end };
+    ghost view = { λ k. parts_by k.text.items k.branch_length k.method_length };
 
-    ghost invariant = { λ k. (k.branch_start ≤ k.branch_end) × (k.branch_end ≤ k.sent_by_end) × (k.sent_by_end ≤ length k.text.items)
-        × (k.text.items ≡ key_text (parts_at k.role k.text.items k.branch_start k.branch_end k.sent_by_end)) };
+    ghost invariant = { λ k. IsTextBy k.text.items k.branch_length k.method_length };
 }
-
-/// The most bytes of a key's text, so that each place in it fits a `u32`.
-const LONGEST: usize = u32::MAX as usize;
 
 /// The byte of a length that says that the length goes on, and how much of the length it stands for. It is no letter, so that lower case leaves it.
 const GOES_ON: usize = 64;
 
 /// How many bytes stand before the texts of a key with a branch and a method of these lengths.
 fn head_room(branch: usize, method: usize) -> usize
-    ensures { (role : Role) → result ≡ length (key_head role branch method) }
+    ensures { result ≡ head_end branch method }
 {
     3 + branch / GOES_ON + method / GOES_ON
 }
@@ -105,31 +98,6 @@ fn fold(text: &mut Vec<u8>)
 }
 
 impl Key {
-    /// The key whose branch, sent-by and method stand in the text between these places. A text of 4 GiB or more is refused, as memory is.
-    #[inline(always)]
-    fn placed(
-        role: Role,
-        text: Vec<u8>,
-        branch_start: usize,
-        branch_end: usize,
-        sent_by_end: usize,
-    ) -> Result<Key, AllocError>
-        requires order { (branch_start ≤ branch_end) × (branch_end ≤ sent_by_end) × (sent_by_end ≤ length text.items) }
-        requires text { text.items ≡ key_text (parts_at role text.items branch_start branch_end sent_by_end) }
-        ensures { IfOk result (λ key. key ≡ parts_at role text.items branch_start branch_end sent_by_end) }
-    {
-        if text.len() > LONGEST {
-            return Err(AllocError);
-        }
-        Ok(Key {
-            role,
-            text,
-            branch_start: branch_start as u32,
-            branch_end: branch_end as u32,
-            sent_by_end: sent_by_end as u32,
-        })
-    }
-
     /// The key of a client transaction with this branch and method.
     #[inline(always)]
     pub(crate) fn client(alloc: Global, branch: &[u8], method: &[u8]) -> Result<Key, AllocError>
@@ -140,11 +108,12 @@ impl Key {
             .saturating_add(method.len());
         let mut text = begun(alloc, room, Role::Client, branch, method)?;
         fold(&mut text);
-        let branch_end = text.len();
         text.extend_from_slice(method)?;
-        let branch_start = branch_end - branch.len();
-        let key = Key::placed(Role::Client, text, branch_start, branch_end, branch_end)?;
-        Ok(key)
+        Ok(Key {
+            text,
+            branch_length: branch.len(),
+            method_length: method.len(),
+        })
     }
 
     /// The key of a server transaction with this branch, host and port of sent-by, and method.
@@ -166,41 +135,50 @@ impl Key {
         let mut text = begun(alloc, room, Role::Server, branch, method)?;
         text.extend_from_slice(host)?;
         fold(&mut text);
-        let branch_end = text.len() - host.len();
         push_port(&mut text, port)?;
-        let sent_by_end = text.len();
         text.extend_from_slice(method)?;
-        let branch_start = branch_end - branch.len();
-        let key = Key::placed(Role::Server, text, branch_start, branch_end, sent_by_end)?;
-        Ok(key)
+        Ok(Key {
+            text,
+            branch_length: branch.len(),
+            method_length: method.len(),
+        })
     }
 
     /// The role in the transaction: client or server.
     pub fn role(&self) -> Role
         ensures { result ≡ self.now.role }
     {
-        self.role
+        if self.text[0] == 0 {
+            Role::Client
+        } else {
+            Role::Server
+        }
     }
 
     /// The top Via's branch, in lower case.
     pub fn branch(&self) -> &[u8]
         ensures { result.now ≡ self.now.branch }
     {
-        &self.text[self.branch_start as usize..self.branch_end as usize]
+        let start = head_room(self.branch_length, self.method_length);
+        let end = start + self.branch_length;
+        &self.text[start..end]
     }
 
     /// The top Via's sent-by in the key of a server: the host in lower case, `:` and the number of the port. It is empty in a client's key.
     pub fn sent_by(&self) -> &[u8]
         ensures { result.now ≡ self.now.sent_by }
     {
-        &self.text[self.branch_end as usize..self.sent_by_end as usize]
+        let start = head_room(self.branch_length, self.method_length) + self.branch_length;
+        let end = self.text.len() - self.method_length;
+        &self.text[start..end]
     }
 
     /// The method of the request that made the transaction.
     pub fn method(&self) -> &[u8]
         ensures { result.now ≡ self.now.method }
     {
-        &self.text[self.sent_by_end as usize..]
+        let start = self.text.len() - self.method_length;
+        &self.text[start..]
     }
 }
 

@@ -1,4 +1,4 @@
-use Rattle.std.specs.Prelude.{ℕ, ◌/◌, ◌%◌, List, [], ◌∷◌, ◌++◌, length, drop, replicate, slice_range}
+use Rattle.std.specs.Prelude.{◌≡◌, ◌≤◌, ◌+◌, ◌-◌, ℕ, zero, suc, ◌/◌, ◌%◌, List, [], ◌∷◌, ◌++◌, length, drop, replicate, slice_range}
 use Rattle.sip_standard.specs.declared.role.Role.{Role}
 use Rattle.sip_standard.specs.declared.role.Role.TheVariants.{Client, Server}
 use Rattle.sip_standard.specs.Key.{KeyParts}
@@ -24,3 +24,21 @@ key_head role branch method = role_byte role ∷ (length_bytes branch ++ length_
 -- the text of a key: its head, its branch, its sent-by and its method
 abbrev pub key_text : KeyParts → List ℕ
 key_text k = key_head k.role (length k.branch) (length k.method) ++ ((k.branch ++ k.sent_by) ++ k.method)
+
+-- the role that the first byte of a text tells
+abbrev pub role_told : List ℕ → Role
+role_told [] = Client
+role_told (zero ∷ rest) = Client
+role_told (suc byte ∷ rest) = Server
+
+-- where the head of a key ends whose branch and method are so long
+abbrev pub head_end : (branch method : ℕ) → ℕ
+head_end branch method = 3 + branch / 64 + method / 64
+
+-- the parts of a key by its text, and how long its branch and its method are
+abbrev pub parts_by : List ℕ → (branch method : ℕ) → KeyParts
+parts_by text branch method = parts_at (role_told text) text (head_end branch method) (head_end branch method + branch) (length text - method)
+
+-- the text is that of a key whose branch and method are so long
+abbrev pub IsTextBy : List ℕ → (branch method : ℕ) → Type 0
+IsTextBy text branch method = (head_end branch method + branch + method ≤ length text) × (text ≡ key_text (parts_by text branch method))

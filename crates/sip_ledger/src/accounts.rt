@@ -16,8 +16,8 @@ mod seek;
 mod strikes;
 
 use crate::accounts::account::{
-    Account, EMPTY, earliest_must, expired, find, find_one, first_debts, gained_and_expired,
-    paid_and_expired, place_for, same,
+    Account, EMPTY, earliest_must, expired, find, find_one, first_debts, gained, place_for, same,
+    without_paid,
 };
 use crate::accounts::gains::Gains;
 use crate::accounts::left::{drop_front, let_go};
@@ -178,14 +178,8 @@ impl Accounts {
     {
         let account = self.rows[row];
         let place = place_for(&mut self.gains, &self.strikes, account, debt)?;
-        self.rows[row] = gained_and_expired(
-            &self.gains,
-            &mut self.strikes,
-            account,
-            debt,
-            place,
-            moment,
-        )?;
+        let grown = gained(&self.gains, &mut self.strikes, account, debt, place)?;
+        self.rows[row] = expired(&self.gains, &mut self.strikes, grown, moment)?;
         Ok(())
     }
 
@@ -201,13 +195,9 @@ impl Accounts {
         ensures ok { OnOk result (self.new ≡ set self.old row (filter (counts_at moment) (paid_by message moment (owed_in self.old row)))) }
         ensures err { OnErr result (self.new ≡ self.old) }
     {
-        self.rows[row] = paid_and_expired(
-            &self.gains,
-            &mut self.strikes,
-            self.rows[row],
-            message,
-            moment,
-        )?;
+        let account = self.rows[row];
+        let rest = without_paid(&self.gains, &mut self.strikes, account, message, moment)?;
+        self.rows[row] = expired(&self.gains, &mut self.strikes, rest, moment)?;
         self.paid = Some(message);
         Ok(())
     }

@@ -294,28 +294,8 @@ pub(crate) fn expired(
     Ok(left)
 }
 
-/// The account without the first debt that a send of the message at the moment pays, if there is one, and without what is past then.
-/// The strikes that were there stay.
-pub(crate) fn paid_and_expired(
-    gains: &Gains,
-    strikes: &mut Vec<Strike>,
-    account: Account,
-    message: u64,
-    moment: u64,
-) -> Result<Account, AllocError>
-    requires gained { AreGains gains.now }
-    requires account { IsAccount gains.now strikes.old.items account }
-    ensures kept { take (length strikes.old.items) strikes.new.items ≡ strikes.old.items }
-    ensures account { IfOk result (IsAccount gains.now strikes.new.items) }
-    ensures debts { IfOk result (λ new. account_debts gains.now strikes.new.items new ≡ filter (counts_at moment) (paid_by message moment (account_debts gains.now strikes.old.items account))) }
-{
-    let rest = without_paid(gains, strikes, account, message, moment)?;
-    let left = expired(gains, strikes, rest, moment)?;
-    Ok(left)
-}
-
 /// The account without the first debt that a send of the message at the moment pays, if there is one. The strikes that were there stay.
-fn without_paid(
+pub(crate) fn without_paid(
     gains: &Gains,
     strikes: &mut Vec<Strike>,
     account: Account,
@@ -493,28 +473,6 @@ pub(crate) fn gained(
         print,
         ..passed
     })
-}
-
-/// The account with what was gained at the place, after all that it owes, and without what is past at the moment. The strikes that were
-/// there stay.
-pub(crate) fn gained_and_expired(
-    gains: &Gains,
-    strikes: &mut Vec<Strike>,
-    account: Account,
-    debt: Debt,
-    place: usize,
-    moment: u64,
-) -> Result<Account, AllocError>
-    requires gained { AreGains gains.now }
-    requires account { IsAccount gains.now strikes.old.items account }
-    requires next { IsNextGain gains.now strikes.old.items account debt place }
-    ensures kept { take (length strikes.old.items) strikes.new.items ≡ strikes.old.items }
-    ensures account { IfOk result (IsAccount gains.now strikes.new.items) }
-    ensures debts { IfOk result (λ new. account_debts gains.now strikes.new.items new ≡ filter (counts_at moment) (account_debts gains.now strikes.old.items account ++ debt ∷ [])) }
-{
-    let grown = gained(gains, strikes, account, debt, place)?;
-    let left = expired(gains, strikes, grown, moment)?;
-    Ok(left)
 }
 
 /// The least deadline of what the account must send. The first debt is looked at before the index is asked.

@@ -44,16 +44,16 @@ def without(text, cuts):
 
 
 class Source:
-    """A file of src/: its functions by their names, what of it a crate above sees, and what stands outside of its functions."""
+    """A file of src/: its functions and their contracts by their names, what of it a crate above sees, and what stands outside of its functions."""
 
     def __init__(self, path, text, found):
         plain = blank(text)
         blocks = [(it.start(), close_of(plain, it.end() - 1), it[1]) for it in OF_TRAIT.finditer(plain)]
         whole, hidden = [], []
-        self.functions = {}
+        self.functions, self.heads = {}, {}
         for it in found:
             head = head_of(plain, it)
-            self.functions[it.named] = code(path, text[head : it.end])
+            self.functions[it.named], self.heads[it.named] = code(path, text[head : it.end]), code(path, text[head : it.body])
             block = next((word for start, end, word in blocks if start <= it.start < end), None)
             if not it.is_const and block != "trait":
                 is_public = block or re.search(r"\bpub\b(?!\s*\()", plain[head : it.start])
@@ -83,16 +83,17 @@ def has(text, name):
 
 
 class State:
-    """A crate as its files of src/, specs/ and proofs/ are: each function with its own proof, what stands outside of them, and what is seen, all by their
-    names or paths."""
+    """A crate as its files of src/, specs/ and proofs/ are: each function with its own proof, and its contract alone, what stands outside of them, and what is
+    seen, all by their names or paths."""
 
     def __init__(self, name, texts, above):
         sources = {path: it for path, it in texts.items() if path.endswith(".rt")}
         found = found_in(sources)
         sources = {path: Source(path, text, [it for it in found if it.path == path]) for path, text in sources.items()}
-        self.name, self.texts, self.functions = name, texts, {}
+        self.name, self.texts, self.functions, self.heads = name, texts, {}, {}
         for it in sources.values():
             self.functions.update(it.functions)
+            self.heads.update(it.heads)
         self.outside = {path: sources[path].outside if path in sources else code(path, text) for path, text in texts.items()}
         for path in sorted(texts):
             own = path.removeprefix("proofs/").rpartition("/")[0].replace("/", "::")
@@ -162,6 +163,13 @@ def texts_at(base, name):
     paths = [it for it in listed if re.match(rf"crates/{name}/({'|'.join(PARTS)})/.*\.(rt|antt)$", it)]
     with tarfile.open(fileobj=io.BytesIO(git("archive", base, "--", *paths))) if paths else contextlib.nullcontext() as archive:
         return {it.removeprefix(f"crates/{name}/"): archive.extractfile(it).read().decode() for it in paths}
+
+
+def states_of(crates):
+    """Returns the states of these crates as they are, by their names."""
+    texts = {it.name: texts_in(it.folder) for it in crates}
+    above = {it.name: [text for other in crates if it.name in other.below for text in texts[other.name].values()] for it in crates}
+    return {name: State(name, texts[name], above[name]) for name in texts}
 
 
 def changes_since(base, crates):

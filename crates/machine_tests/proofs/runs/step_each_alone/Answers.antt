@@ -1,5 +1,5 @@
 use Rattle.std.proofs.lemmas.Bool.{OnTrue_at}
-use Rattle.machine_tests.proofs.runs.run_alone.Goals as goal
+use Rattle.machine_tests.proofs.runs.step_each_alone.Goals as goal
 
 pub loop-moment-preserved : goal.loop-moment-preserved
 loop-moment-preserved g c =

@@ -1,6 +1,6 @@
 use Rattle.std.specs.Prelude.{◌≡◌, All, length}
 use Rattle.sip_machine.specs.Rules.{Knows}
-use Rattle.machine_tests.proofs.runs.run_alone.Given as goal
+use Rattle.machine_tests.proofs.runs.step_each_alone.Given as goal
 
 abbrev pub invariant-loop-moment : goal.invariant-loop-moment
 invariant-loop-moment g l =

@@ -1,7 +1,7 @@
 use Rattle.std.specs.Prelude.{◌<◌, ◌≤◌}
 use Rattle.std.proofs.Common.{inl, inr, arith}
 use Rattle.sip_machine.proofs.texts.TextLaws.{Keeps-grow_cases}
-use Rattle.machine_tests.proofs.tests.forgets_the_newest_message_alone.Goals as goal
+use Rattle.machine_tests.proofs.tests.forgets_newest.Goals as goal
 
 pub keep-requires-2 : goal.keep-requires-2
 keep-requires-2 g c = λ n keeps. let low : n ≤ 3 = c.in_ok-keep.ensures.ok n keeps in omega (arith, low)

@@ -1,8 +1,7 @@
 -- The first debt of an account that a send of one of some messages pays.
 use Rattle.std.proofs.Common.{◌≡◌, ◌≢◌, ℕ, ◌<◌, ◌≤◌, ◌==◌, ◌&&◌, Bool, true, false, not, List, [], ◌∷◌, ◌++◌, length, get_or, ◌+◌, refl, sym, ap, ◌∙◌, subst, inl, inr, arith}
 use Rattle.std.specs.Prelude.{All, Contains, IfNone, IfSome, IsTrue, Option, None, Some, min, nat_le}
-use Rattle.std.proofs.Math.Bool.{and-false, and-true}
-use Rattle.std.proofs.lemmas.Bool.{cases_lt, eq-eqb, ne_eqb, true≢false}
+use Rattle.std.proofs.lemmas.Bool.{cases_lt, true≢false}
 use Rattle.std.proofs.lemmas.Bool.Decides.{nat_tests}
 use Rattle.std.proofs.lemmas.List.{get_or_default}
 use Rattle.std.proofs.lemmas.List.Elements.{Contains-append_left, Contains-push, Contains-push_cases}
@@ -69,21 +68,17 @@ module _ (gains : Gains) (strikes : List Strike) (a : Account) (messages : List 
       let entries = entries_of gains in
       let must = must_at gains a in
       let message = (entry_at entries place).message in
-      let debts = debts_from owed must 0 entries in
       let less : ℕ → Bool = λ k. owed k && not (k == place) in
       let left = debts_from less must 0 entries in
       let inside : place < length entries = omega (arith, owed-within gains strikes a place found.0, is.end) in
-      let without : IsWithout place owed less = record {
-        gone = ap (λ b. owed place && not b) (eq-eqb place place refl) ∙ and-false (owed place);
-        others = λ k other. ap (λ b. owed k && not b) (ne_eqb k place other) ∙ and-true (owed k);
-      } in
+      let without : IsWithout place owed less = grind (arith, nat_tests) in
       let one = removed (PaysOne messages t) entries owed must less must place inside found.0 without (λ k. refl) found.1 found.2 in
       let only = removed (λ debt. IsTrue (is_payable message t debt)) entries owed must less must place inside found.0 without (λ k. refl)
       (named-pays entries message t place refl found.1.1)
       (λ k early here pays.
       let parts = pays-parts message t (entry_at entries k) pays in
       found.2 k early here (subst (Contains messages) (sym parts.0) found.1.0, parts.1)) in
-      subst (IsWithoutFirst (PaysOne messages t) debts) (paid-is message t debts left only) one
+      subst (IsWithoutFirst (PaysOne messages t) (debts_from owed must 0 entries)) (paid-is message t (debts_from owed must 0 entries) left only) one
 
   -- where a send of one of the messages pays no gain that is owed, it pays none of the debts
   pub none-account : IsFirstOf (entries_of gains) owed messages t None → All (λ debt. ¬ (PaysOne messages t debt)) (account_debts gains strikes a)

@@ -20,7 +20,7 @@ use Rattle.sip_ledger.specs.inner.Accounts.{account_debts, accounts_debts, entri
 use Rattle.sip_ledger.specs.Indexes.{holds}
 use Rattle.sip_ledger.proofs.debts.ListedLemmas.{listed-All, no_entry}
 use Rattle.sip_ledger.proofs.account.AccountLemmas.{debts_length, row-debts}
-use Rattle.sip_ledger.proofs.gains.LeftLemmas.{held-left, owed-left}
+use Rattle.sip_ledger.proofs.gains.LeftLemmas.{held_left, owed-left}
 
 -- a send at moment 0 can pay each debt of its message
 pub payable-owes : (message : ℕ) (debts : List Debt) → list_any (is_payable message 0) debts ≡ owes_message message debts
@@ -55,7 +55,7 @@ unleft-account gains strikes a message none =
     let same : get_or (entries_of gains) j e ≡ entry_at (entries_of gains) j = get_or_default (entries_of gains) j e no_entry below in
     let named : (entry_at (entries_of gains) j).message ≡ message = ap (λ (x : Entry). x.message) (sym same) ∙ eqb-true (get_or (entries_of gains) j e).message message is in
     let left = owed-left gains strikes a j (ap (owes_at gains strikes a) (sym here) ∙ owed) in
-    absurd (true≢false (sym (held-left gains message j named ∙ left) ∙ none j)))))
+    absurd (true≢false (sym (held_left gains message j named ∙ left) ∙ none j)))))
 
 -- a message of which nothing is left is owed by none of the accounts
 pub unleft-unnamed : (gains : Gains) (strikes : List Strike) (rows : List Account) (message : ℕ) → ((k : ℕ) → holds gains.messages message k ≡ false) →
@@ -132,3 +132,6 @@ named-more rows low message old new now are order between some is = record {
 -- where no message from `low` on is owed, all that are owed are told
 pub named-all : (rows : List (List Debt)) (low : ℕ) (old new : List ℕ) → AreNamedTo rows low old new → ((m : ℕ) → low ≤ m → some_owes m rows ≡ false) → AppendsOwed rows old new
 named-all rows low old new are none = grind (arith, nat_tests, cases_lt, true≢false)
+
+-- what is named, message by message
+pub ruleset named_by_message = (named-all, named-more, named-past, unleft-unnamed)

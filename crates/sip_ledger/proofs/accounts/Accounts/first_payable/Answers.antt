@@ -1,6 +1,4 @@
 use Rattle.std.proofs.Common.{List, subst, arith}
-use Rattle.std.proofs.lemmas.Grind.{common_steps}
-use Rattle.std.proofs.lemmas.Bool.Decides.{nat_tests}
 use Rattle.std.specs.Prelude.{All}
 use Rattle.sip_ledger.specs.declared.debt.Debt.{Debt}
 use Rattle.sip_ledger.specs.Debts.{IsWithoutFirst, PaysOne, paid_by}
@@ -11,7 +9,7 @@ use Rattle.sip_ledger.proofs.rows.SeenLemmas.{account-at}
 use Rattle.sip_ledger.proofs.accounts.Accounts.first_payable.Goals as goal
 
 pub entry-requires-clause-kept : goal.entry-requires-clause-kept
-entry-requires-clause-kept c = grind (arith, nat_tests, common_steps, left-kept, owed-left)
+entry-requires-clause-kept c = grind (arith, left-kept, owed-left, first-account, none-account, account-at)
 
 pub returns-in-Some-clause-some : goal.returns-in-Some-clause-some
 returns-in-Some-clause-some c =

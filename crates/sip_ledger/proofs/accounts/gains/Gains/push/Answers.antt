@@ -5,7 +5,7 @@ use Rattle.sip_ledger.specs.declared.accounts.gains.Gains.{Gains}
 use Rattle.sip_ledger.specs.declared.debt.Entry.{Entry}
 use Rattle.sip_ledger.specs.Indexes.{holds}
 use Rattle.sip_ledger.proofs.gains.FlagLemmas.{flags-more, flags-same}
-use Rattle.sip_ledger.proofs.gains.LeftLemmas.{entries-long, gains-more, gains-same}
+use Rattle.sip_ledger.proofs.gains.LeftLemmas.{entries_long, gains-more, gains-same}
 use Rattle.sip_ledger.proofs.rows.SeenLemmas.{on-error}
 use Rattle.sip_ledger.proofs.accounts.gains.Gains.push.Goals as goal
 
@@ -41,5 +41,5 @@ returns c =
     let entries : new.entries.items ≡ g.entries.items ++ e ∷ [] = c.push_reserved.ensures.items ∙ ap (λ l. l ++ e ∷ []) c.reserve.ensures.items in
     let flags : new.flags.items ≡ g.flags.items ++ f ∷ [] = c.push_reserved-2.ensures.items ∙ ap (λ l. l ++ f ∷ []) c.reserve-2.ensures.items in
     let all = gains-more g new c.args.debt c.requires entries refl (omega (arith, c.if-self.false, c.requires.small)) c.in_ok-note.ensures.ok (rw c.deref.ensures.value at c.rise-rises.ensures)
-    (flags-more g new c.args.debt c.requires.flags c.requires.long (entries-long g c.requires.long) entries flags refl) in
+    (flags-more g new c.args.debt c.requires.flags c.requires.long (entries_long g c.requires.long) entries flags refl) in
     record { gained = all.0; ok = all.1; err = tt }

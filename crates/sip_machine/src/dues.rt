@@ -79,6 +79,7 @@ impl Dues {
     }
 
     /// Keeps the first `rows` rows, and drops those after them.
+    #[tactic(auto, using(crate::proofs::debts::DueLemmas::take_none))]
     pub(crate) fn truncate(&mut self, rows: usize)
         ensures { self.new ≡ take rows self.old }
     {
@@ -89,6 +90,7 @@ impl Dues {
     }
 
     /// Drops the first `rows` rows.
+    #[tactic(auto, using(crate::proofs::debts::DueLemmas::drop_none))]
     pub(crate) fn drop_first(&mut self, rows: usize)
         requires { rows ≤ length self.old }
         ensures { self.new ≡ drop rows self.old }
@@ -186,6 +188,7 @@ impl Dues {
     }
 
     /// Lets the row owe nothing.
+    #[tactic(auto, using(crate::proofs::debts::DueLemmas::set_none))]
     pub(crate) fn clear(&mut self, row: usize)
         requires { row < length self.old }
         ensures { self.new ≡ set self.old row [] }

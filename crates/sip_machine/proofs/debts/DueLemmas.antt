@@ -53,8 +53,7 @@ module _ (message t : ℕ) where
   -- where a send can pay one of the debts, it takes the first that it can pay out of them
   pub pays-some : (debts : List Debt) → list_any (is_payable message t) debts ≡ true → IsWithoutFirst Pays debts (paid_by message t debts)
   pays-some [] any = absurd (true≢false (sym any))
-  pays-some (debt ∷ debts) any =
-      some-step debt debts (is_payable message t debt) refl any (pays-some debts)
+  pays-some (debt ∷ debts) any = some-step debt debts (is_payable message t debt) refl any (pays-some debts)
 
   -- where a send can pay neither a debt nor one of those after it, it can pay none of all
   none-step : (debt : Debt) (debts : List Debt) (b : Bool) → is_payable message t debt ≡ b → (b || list_any (is_payable message t) debts) ≡ false →
@@ -81,9 +80,8 @@ blank-rows [] none = refl
 blank-rows (row ∷ rows) none = ap₂ (λ r rs. r ∷ rs) (none 0 (omega arith)) (blank-rows rows (λ k low. none (suc k) (omega (arith, low))))
 
 -- where a row that owes nothing is put in the place of one, rows without accounts stay as they are
-pub set-none : (count row : ℕ) (debts : List Debt) → debts ≡ [] → rows_in count None ≡ set (rows_in count None) row debts
-set-none count row debts is =
-    sym (set-get_or (rows_in count None) row []) ∙ ap (set (rows_in count None) row) (owed-none count row ∙ sym is)
+pub set_none : (count row : ℕ) (debts : List Debt) → debts ≡ [] → rows_in count None ≡ set (rows_in count None) row debts
+set_none count row debts is = sym (set-get_or (rows_in count None) row []) ∙ ap (set (rows_in count None) row) (owed-none count row ∙ sym is)
 
 -- where a row comes to owe debts whose messages lie between the two numbers, the messages of all rows still do
 pub AreDues-set : (rows : List (List Debt)) (count low high row : ℕ) (debts : List Debt) → AreDues rows count low high → AreBetween low high debts → AreDues (set rows row debts) count low high
@@ -108,25 +106,22 @@ between-paid message t low high (debt ∷ debts) all =
     (between-paid message t low high debts (All-tail (λ d. (low ≤ d.message) × (d.message ≤ high)) debt debts all))
 
 -- without accounts, the first n rows owe nothing
-pub take-none : (count n : ℕ) → rows_in (min count n) None ≡ take n (rows_in count None)
-take-none zero zero = let e : min 0 0 ≡ 0 = omega arith in ap (λ k. rows_in k None) e
-take-none zero (suc n) = let e : min 0 (suc n) ≡ 0 = omega arith in ap (λ k. rows_in k None) e
-take-none (suc count) zero = let e : min (suc count) 0 ≡ 0 = omega arith in ap (λ k. rows_in k None) e
-take-none (suc count) (suc n) =
-    let e : min (suc count) (suc n) ≡ suc (min count n) = omega arith in ap (λ k. rows_in k None) e ∙ ap (λ rows. [] ∷ rows) (take-none count n)
+pub take_none : (count n : ℕ) → rows_in (min count n) None ≡ take n (rows_in count None)
+take_none zero zero = let e : min 0 0 ≡ 0 = omega arith in ap (λ k. rows_in k None) e
+take_none zero (suc n) = let e : min 0 (suc n) ≡ 0 = omega arith in ap (λ k. rows_in k None) e
+take_none (suc count) zero = let e : min (suc count) 0 ≡ 0 = omega arith in ap (λ k. rows_in k None) e
+take_none (suc count) (suc n) =
+    let e : min (suc count) (suc n) ≡ suc (min count n) = omega arith in ap (λ k. rows_in k None) e ∙ ap (λ rows. [] ∷ rows) (take_none count n)
 
 -- without accounts, the rows after the first n owe nothing
-pub drop-none : (count n : ℕ) → n ≤ count → rows_in (count - n) None ≡ drop n (rows_in count None)
-drop-none count zero le = let e : count - 0 ≡ count = omega arith in ap (λ k. rows_in k None) e
-drop-none zero (suc n) le = absurd (omega (arith, le))
-drop-none (suc count) (suc n) le = let e : suc count - suc n ≡ count - n = omega arith in ap (λ k. rows_in k None) e ∙ drop-none count n (omega (arith, le))
+pub drop_none : (count n : ℕ) → n ≤ count → rows_in (count - n) None ≡ drop n (rows_in count None)
+drop_none count zero le = let e : count - 0 ≡ count = omega arith in ap (λ k. rows_in k None) e
+drop_none zero (suc n) le = absurd (omega (arith, le))
+drop_none (suc count) (suc n) le = let e : suc count - suc n ≡ count - n = omega arith in ap (λ k. rows_in k None) e ∙ drop_none count n (omega (arith, le))
 
 -- messages that lie between two numbers lie between wider ones
 pub between-wider : (low high message : ℕ) (rows : List (List Debt)) → All (AreBetween low high) rows → All (AreBetween (min low message) (max high message)) rows
-between-wider low high message rows all =
-    All-weaker (AreBetween low high) (AreBetween (min low message) (max high message))
-    (λ debts between. All-weaker (λ (d : Debt). (low ≤ d.message) × (d.message ≤ high)) (λ (d : Debt). (min low message ≤ d.message) × (d.message ≤ max high message))
-    (λ d is. let a = is.0 in let b = is.1 in (omega (arith, a), omega (arith, b))) debts between) rows all
+between-wider low high message rows all = grind (arith, nat_tests, All-weaker)
 
 -- where a row gains a debt, and keeps what passes a test, the messages of all rows lie between the numbers widened by that of the debt
 pub AreDues-gain : (p : Debt → Bool) (rows : List (List Debt)) (count low high row : ℕ) (debt : Debt) → row < length rows → AreDues rows count low high →
@@ -140,9 +135,9 @@ AreDues-gain p rows count low high row debt low_row dues =
     (All-push P (owed_in rows row) debt (All-get_or (AreBetween (min low m) (max high m)) rows row [] low_row wider) (omega arith, omega arith)))
 
 -- a row that is changed and then changed again is as if it was changed once, to what the second change makes of the first
-pub set-again : (rows : List (List Debt)) (row : ℕ) (debts : List Debt) (f : List Debt → List Debt) → row < length rows →
+pub set_again : (rows : List (List Debt)) (row : ℕ) (debts : List Debt) (f : List Debt → List Debt) → row < length rows →
     set (set rows row debts) row (f (owed_in (set rows row debts) row)) ≡ set rows row (f debts)
-set-again rows row debts f low = ap (λ x. set (set rows row debts) row (f x)) (get_or-set_same rows row debts [] low) ∙ set-twice rows row debts (f debts)
+set_again rows row debts f low = ap (λ x. set (set rows row debts) row (f x)) (get_or-set_same rows row debts [] low) ∙ set-twice rows row debts (f debts)
   where
     set-twice : (rows : List (List Debt)) (row : ℕ) (x y : List Debt) → set (set rows row x) row y ≡ set rows row y
     set-twice [] row x y = refl
@@ -151,6 +146,4 @@ set-again rows row debts f low = ap (λ x. set (set rows row debts) row (f x)) (
 
 -- a debt that is gained counts at its own moment, so that dropping what has expired before or after comes to the same
 pub counted-gain : (t : ℕ) (owes : List Debt) (debt : Debt) → t ≤ debt.deadline → filter (counts_at t) (owes ++ debt ∷ []) ≡ filter (counts_at t) owes ++ debt ∷ []
-counted-gain t owes debt now =
-    let counts : counts_at t debt ≡ true = grind (arith, nat_tests) in
-    filter-append (counts_at t) owes (debt ∷ []) ∙ ap (λ b. filter (counts_at t) owes ++ cond b (debt ∷ []) []) counts
+counted-gain t owes debt now = grind (arith, filter-append)

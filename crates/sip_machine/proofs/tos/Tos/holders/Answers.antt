@@ -1,18 +1,8 @@
 use Rattle.std.proofs.Common.{◌≡◌, ◌≢◌, ◌≤◌, ◌+◌, ◌∙◌, Contains, arith, subst, sym, true≢false}
 use Rattle.std.specs.Cmp.Lexicographic.{bytes_decides}
-use Rattle.sip_machine.proofs.acks.ToLemmas.{AreHoldersTo, all_told, has_to, told-more, told-same}
+use Rattle.sip_machine.proofs.acks.ToLemmas.{AreHoldersTo, has_to, told-more, told-same}
 use Rattle.sip_machine.proofs.tos.Tos.holders.Goals.{then-is+in_ok-push, else-is}
 use Rattle.sip_machine.proofs.tos.Tos.holders.Goals as goal
-
-pub loop-init : goal.loop-init
-loop-init c = rw c.new-numbers.ensures.items (record { each = λ n among. absurd (omega (arith, among.1)); below = λ n low has. absurd (omega (arith, low)) })
-
-pub returns-in_default-next : goal.returns-in_default-next
-returns-in_default-next c =
-    let tos = c.self.inside.list.items in
-    let under = rw c.in-Some.is at c.self.invariant.1 in
-    let are : AreHoldersTo tos c.args.text.now c.loop.from c.loop.numbers.items = rw c.self.view_is c.loop.invariant in
-    rw (← c.self.view_is) (all_told tos c.in-Some.hashes c.args.text.now c.self.invariant.0 under c.loop.from c.loop.numbers.items are (rw c.hash.ensures at c.in_default-next.ensures.none))
 
 pub loop-preserved : goal.loop-preserved
 loop-preserved c =

@@ -1,6 +1,6 @@
 -- What is known beside each gain by its flags, so that the index is not asked.
-use Rattle.std.proofs.Common.{◌≡◌, ◌≢◌, ℕ, ◌+◌, ◌-◌, ◌<◌, ◌≤◌, true, false, List, [], ◌∷◌, ◌++◌, length, drop, set, get_or, sym, ap, ◌∙◌, subst, inl, inr, arith}
-use Rattle.std.proofs.lemmas.Bool.{cases_eq}
+use Rattle.std.proofs.Common.{◌≡◌, ◌≢◌, ℕ, Bool, ◌+◌, ◌-◌, ◌<◌, ◌≤◌, true, false, List, [], ◌∷◌, ◌++◌, length, drop, set, get_or, sym, ap, ◌∙◌, subst, inl, inr, arith}
+use Rattle.std.proofs.lemmas.Bool.{cases_eq, true≢false}
 use Rattle.std.proofs.lemmas.List.{get_or_default, get_or-drop, get_or-set_other, get_or-set_same, get_or_append_left, get_or_push, length-append, length-drop, length-set}
 use Rattle.sip_ledger.specs.declared.debt.Debt.{Debt}
 use Rattle.sip_ledger.specs.declared.debt.Entry.{Entry}
@@ -21,6 +21,7 @@ flags-none gains entries flags = record {
   many = ap length flags ∙ sym (ap length entries);
   left = λ k kept. let from = kept.from in let within = kept.within in absurd (omega (arith, from, within, ap length entries));
   must = λ k kept. let from = kept.from in let within = kept.within in absurd (omega (arith, from, within, ap length entries));
+  newest = λ j k order early kept says. let from = kept.from in let within = kept.within in absurd (omega (arith, from, within, ap length entries));
 }
 
 -- flags stay right where entries, flags and index stay the same
@@ -38,16 +39,20 @@ flags-same old new are entries flags end same =
       many = ap length flags ∙ are.many ∙ sym some;
       left = λ k is. ap (λ (f : Flags). f.left) (at k) ∙ are.left k (kept k is) ∙ sym (left-as old new k (ap (λ l. entry_at l k) same.entries) (λ m. same.messages m k));
       must = λ k is. ap (λ (f : Flags). f.must) (at k) ∙ are.must k (kept k is) ∙ sym (same.musts k);
+      newest = λ j k order early is says.
+          subst (λ l. (entry_at l j).message ≤ (entry_at l k).message) (sym same.entries)
+          (are.newest j k order (kept j early) (kept k is) (sym (ap (λ (f : Flags). f.newest) (at k)) ∙ says));
     }
 
 -- where a gain is put after the others, with flags of its own, the flags are right still
-pub flags-more : (old new : Gains) (debt : Debt) → AreFlags old → length old.entries.items ≤ old.end → length (entries_of old) ≡ old.end →
+pub flags-more : (old new : Gains) (debt : Debt) (newest : Bool) → AreFlags old → (newest ≡ true → (k : ℕ) → IsKept old k → (entry_at (entries_of old) k).message ≤ debt.message) →
+    length old.entries.items ≤ old.end → length (entries_of old) ≡ old.end →
     new.entries.items ≡ old.entries.items ++ (record { message = debt.message; deadline = debt.deadline }) ∷ [] →
-    new.flags.items ≡ old.flags.items ++ (record { must = debt.must; left = true }) ∷ [] → new.end ≡ old.end + 1 → IsGain debt old new → AreFlags new
+    new.flags.items ≡ old.flags.items ++ (record { must = debt.must; left = true; newest = newest }) ∷ [] → new.end ≡ old.end + 1 → IsGain debt old new → AreFlags new
 unfolding is_left
-flags-more old new debt are long count entries flags end gain =
+flags-more old new debt newest are above long count entries flags end gain =
     let e : Entry = record { message = debt.message; deadline = debt.deadline } in
-    let f : Flags = record { must = debt.must; left = true } in
+    let f : Flags = record { must = debt.must; left = true; newest = newest } in
     let n = length (entries_of old) in
     let some : length new.entries.items ≡ length old.entries.items + 1 = ap length entries ∙ length-append old.entries.items (e ∷ []) in
     let many = are.many in
@@ -83,6 +88,24 @@ flags-more old new debt are long count entries flags end gain =
         | inr other ↦
             let was = before k is other in
             ap (λ (x : Flags). x.must) (there k was) ∙ are.must k was ∙ sym (gain.musts k other)
+      ];
+      newest = λ j k order early is says. elim (cases_eq j n) [
+        | inl same ↦
+            let within = is.within in
+            let also : k ≡ n = omega (arith, same, order, within, end, count) in
+            omega (arith, message j same, message k also)
+        | inr other ↦
+            let was_j = before j early other in
+            let one = ap (λ (x : Entry). x.message) (entry j was_j) in
+            elim (cases_eq k n) [
+              | inl same ↦
+                  let low = above (sym (ap (λ (x : Flags). x.newest) (here k same)) ∙ says) j was_j in
+                  omega (arith, low, one, message k same)
+              | inr also ↦
+                  let was = before k is also in
+                  let low = are.newest j k order was_j was (sym (ap (λ (x : Flags). x.newest) (there k was)) ∙ says) in
+                  omega (arith, low, one, ap (λ (x : Entry). x.message) (entry k was))
+            ]
       ];
     }
 
@@ -123,6 +146,12 @@ flags-let_go old new place are long kept entries flags must gone =
         | inl same ↦ ap (λ (x : Flags). x.must) (here k same) ∙ sym (subst (λ j. holds new.musts 0 j ≡ false) (sym same) must)
         | inr other ↦ ap (λ (x : Flags). x.must) (there k (was k is) other) ∙ are.must k (was k is) ∙ sym (gone.musts k other)
       ];
+      newest = λ j k order early is says. elim (cases_eq k place) [
+        | inl same ↦ absurd (true≢false (sym says ∙ ap (λ (x : Flags). x.newest) (here k same)))
+        | inr other ↦
+            subst (λ l. (entry_at l j).message ≤ (entry_at l k).message) (sym gone.entries)
+            (are.newest j k order (was j early) (was k is) (sym (ap (λ (x : Flags). x.newest) (there k (was k is) other)) ∙ says))
+      ];
     }
 
 -- where the first gains are dropped, with their flags, the flags are right still
@@ -148,6 +177,9 @@ flags-dropped old new place count are long here within entries flags end dropped
       left = λ k is. ap (λ (f : Flags). f.left) (at k is) ∙ are.left k (was k is)
           ∙ sym (left-as old new k (dropped.entries k (above k is)) (λ m. ap (λ l. holds l m k) dropped.messages));
       must = λ k is. ap (λ (f : Flags). f.must) (at k is) ∙ are.must k (was k is) ∙ sym (ap (λ l. holds l 0 k) dropped.musts);
+      newest = λ j k order early is says.
+          let low = are.newest j k order (was j early) (was k is) (sym (ap (λ (f : Flags). f.newest) (at k is)) ∙ says) in
+          omega (arith, low, ap (λ (x : Entry). x.message) (dropped.entries j (above j early)), ap (λ (x : Entry). x.message) (dropped.entries k (above k is)));
     }
 
 -- the flags at the index of a kept gain are those of its place

@@ -97,6 +97,7 @@ none-gained gains entries flags end messages musts = record {
   messages = λ m k is. absurd (true≢false (sym is ∙ ap (λ l. holds l m k) messages));
   musts = λ k is. absurd (true≢false (sym is ∙ ap (λ l. holds l 0 k) musts));
   rises = λ _ i k e order below. absurd (omega (arith, below, ap length entries));
+  highest = λ k kept. let from = kept.from in let within = kept.within in absurd (omega (arith, from, within, ap length entries));
   flags = flags-none gains entries flags;
 }
 
@@ -187,9 +188,9 @@ more-entries old new entry long entries end =
 -- where a gain comes and stands under its message, the gains are right, and the new one is theirs
 pub gains-more : (old new : Gains) (debt : Debt) → AreGains old → new.entries.items ≡ old.entries.items ++ (record { message = debt.message; deadline = debt.deadline }) ∷ [] →
     new.end ≡ old.end + 1 → new.end < 2 ^ 64 → IsNoted old.end debt old.messages old.musts new.messages new.musts →
-    (new.rises ≡ true → AreRising (old.entries.items ++ (record { message = debt.message; deadline = debt.deadline }) ∷ [])) → (IsGain debt old new → AreFlags new) →
-    AreGains new × IsGain debt old new
-gains-more old new debt are entries end small noted rises flags =
+    (new.rises ≡ true → AreRising (old.entries.items ++ (record { message = debt.message; deadline = debt.deadline }) ∷ [])) → old.highest ≤ new.highest → debt.message ≤ new.highest →
+    (IsGain debt old new → AreFlags new) → AreGains new × IsGain debt old new
+gains-more old new debt are entries end small noted rises higher own flags =
     let n = old.end in
     let e : Entry = record { message = debt.message; deadline = debt.deadline } in
     let long = are.long in
@@ -235,6 +236,17 @@ gains-more old new debt are entries end small noted rises flags =
               omega (arith, within, end)
         ];
         rises = λ said. subst AreRising (sym entries) (rises said);
+        highest = λ k is.
+            let from = is.from in
+            let within = is.within in
+            elim (cases_eq k n) [
+              | inl there ↦ omega (arith, ap (λ i. (entry_at (entries_of new) i).message) there, ap (λ (x : Entry). x.message) here, own)
+              | inr other ↦
+                  let below : k < n = omega (arith, within, end, other) in
+                  let low = are.highest k (record { from = omega (arith, from, some, end); within = below }) in
+                  let same = ap (λ (l : List Entry). (entry_at l k).message) all ∙ ap (λ (x : Entry). x.message) (get_or_append_left (entries_of old) (e ∷ []) blank k (omega (arith, below, count))) in
+                  omega (arith, low, same, higher)
+            ];
         flags = flags gain;
       },
       gain,
@@ -251,9 +263,9 @@ gains-more old new debt are entries end small noted rises flags =
 
 -- where the entries and the places under the messages stay, the gains are right still, and the same
 pub gains-same : (old new : Gains) → AreGains old → new.entries.items ≡ old.entries.items → new.end ≡ old.end → ((m k : ℕ) → holds new.messages m k ≡ holds old.messages m k) →
-    ((k : ℕ) → holds new.musts 0 k ≡ holds old.musts 0 k) → new.rises ≡ old.rises → (AreSameGains old new → AreFlags new) → AreGains new × AreSameGains old new
+    ((k : ℕ) → holds new.musts 0 k ≡ holds old.musts 0 k) → new.rises ≡ old.rises → new.highest ≡ old.highest → (AreSameGains old new → AreFlags new) → AreGains new × AreSameGains old new
 unfolding entries_of
-gains-same old new are entries end messages musts rises flags =
+gains-same old new are entries end messages musts rises highest flags =
     let all : entries_of new ≡ entries_of old = ap₂ (λ (n : ℕ) (l : List Entry). replicate (n - length l) blank ++ l) end entries in
     let some = ap length entries in
     let long = are.long in (
@@ -270,18 +282,23 @@ gains-same old new are entries end messages musts rises flags =
             };
         musts = λ k is. let within = are.musts k (sym (musts k) ∙ is) in omega (arith, within, end);
         rises = λ said. subst AreRising (sym entries) (are.rises (sym rises ∙ said));
+        highest = λ k is.
+            let from = is.from in
+            let within = is.within in
+            let low = are.highest k (record { from = omega (arith, from, some, end); within = omega (arith, within, end) }) in
+            omega (arith, low, highest, ap (λ (l : List Entry). (entry_at l k).message) all);
         flags = flags (record { entries = all; messages = messages; musts = musts });
       },
       record { entries = all; messages = messages; musts = musts },
     )
 
 -- where a gain is taken from under its message, the gains are right still, and it is let go
-pub gains-let_go : (old new : Gains) (place : ℕ) → AreGains old → new.entries.items ≡ old.entries.items → new.end ≡ old.end → new.rises ≡ old.rises →
+pub gains-let_go : (old new : Gains) (place : ℕ) → AreGains old → new.entries.items ≡ old.entries.items → new.end ≡ old.end → new.rises ≡ old.rises → new.highest ≡ old.highest →
     ((m k : ℕ) → holds new.messages m k ≡ cond (m == (entry_at (entries_of old) place).message && k == place) false (holds old.messages m k)) →
     ((m k : ℕ) → holds new.musts m k ≡ cond (m == 0 && k == place) false (holds old.musts m k)) → (IsLetGo place old new → AreFlags new) →
     AreGains new × IsLetGo place old new
 unfolding entries_of
-gains-let_go old new place are entries end rises messages musts flags =
+gains-let_go old new place are entries end rises highest messages musts flags =
     let all : entries_of new ≡ entries_of old = ap₂ (λ (n : ℕ) (l : List Entry). replicate (n - length l) blank ++ l) end entries in
     let some = ap length entries in
     let long = are.long in
@@ -314,6 +331,11 @@ gains-let_go old new place are entries end rises messages musts flags =
             let within = are.musts k (fewer (0 == 0 && k == place) (holds old.musts 0 k) (sym (musts 0 k) ∙ is)) in
             omega (arith, within, end);
         rises = λ said. subst AreRising (sym entries) (are.rises (sym rises ∙ said));
+        highest = λ k is.
+            let from = is.from in
+            let within = is.within in
+            let low = are.highest k (record { from = omega (arith, from, some, end); within = omega (arith, within, end) }) in
+            omega (arith, low, highest, ap (λ (l : List Entry). (entry_at l k).message) all);
         flags = flags gone;
       },
       gone,
@@ -325,9 +347,9 @@ gains-let_go old new place are entries end rises messages musts flags =
 
 -- where the first gains are dropped, none of which is left, the gains are right still
 pub gains-dropped : (old new : Gains) (place count : ℕ) → AreGains old → count + (old.end - length old.entries.items) ≡ place → place ≤ old.end →
-    new.entries.items ≡ drop count old.entries.items → new.end ≡ old.end → new.messages ≡ old.messages → new.musts ≡ old.musts → new.rises ≡ old.rises →
+    new.entries.items ≡ drop count old.entries.items → new.end ≡ old.end → new.messages ≡ old.messages → new.musts ≡ old.musts → new.rises ≡ old.rises → new.highest ≡ old.highest →
     ((m k : ℕ) → k < place → holds old.messages m k ≡ false) → (IsDropped place old new → AreFlags new) → AreGains new × IsDropped place old new
-gains-dropped old new place count are here within entries end messages musts rises none flags =
+gains-dropped old new place count are here within entries end messages musts rises highest none flags =
     let xs = old.entries.items in
     let long = are.long in
     let fewer = length-drop count xs in
@@ -372,6 +394,11 @@ gains-dropped old new place count are here within entries end messages musts ris
             let one = ap (λ (x : Entry). x.deadline) (ap (λ (l : List Entry). get_or l i e) entries ∙ get_or-drop count xs i e) in
             let other = ap (λ (x : Entry). x.deadline) (ap (λ (l : List Entry). get_or l k e) entries ∙ get_or-drop count xs k e) in
             omega (arith, above, one, other);
+        highest = λ k is.
+            let from = is.from in
+            let inside = is.within in
+            let low = are.highest k (record { from = omega (arith, from, some, end); within = omega (arith, inside, end) }) in
+            omega (arith, low, highest, ap (λ (e : Entry). e.message) (same k (omega (arith, from, here, some, end, long))));
         flags = flags dropped;
       },
       dropped,

@@ -24,7 +24,7 @@ returns-clause-gained c =
     let messages = rw c.entry-message.ensures at c.take.ensures in
     let must : holds c.take-2.new.self 0 place ≡ false =
     c.take-2.ensures 0 place ∙ ap (λ b. cond (0 == 0 && b) false (holds g.musts 0 place)) (eq-eqb place place refl) in
-    (gains-let_go g _ place c.requires.gained refl refl refl messages c.take-2.ensures
+    (gains-let_go g _ place c.requires.gained refl refl refl refl messages c.take-2.ensures
     (flags-let_go g _ place c.requires.gained.flags c.requires.gained.long c.requires.kept refl (ap (λ (n : ℕ). set g.flags.items (place - (g.end - n)) no_flags) len) must)).0
 
 pub returns-clause-gone : goal.returns-clause-gone
@@ -35,5 +35,5 @@ returns-clause-gone c =
     let messages = rw c.entry-message.ensures at c.take.ensures in
     let must : holds c.take-2.new.self 0 place ≡ false =
     c.take-2.ensures 0 place ∙ ap (λ b. cond (0 == 0 && b) false (holds g.musts 0 place)) (eq-eqb place place refl) in
-    (gains-let_go g _ place c.requires.gained refl refl refl messages c.take-2.ensures
+    (gains-let_go g _ place c.requires.gained refl refl refl refl messages c.take-2.ensures
     (flags-let_go g _ place c.requires.gained.flags c.requires.gained.long c.requires.kept refl (ap (λ (n : ℕ). set g.flags.items (place - (g.end - n)) no_flags) len) must)).1

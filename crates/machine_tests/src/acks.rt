@@ -1,14 +1,17 @@
 //! ACKs of an INVITE client for responses of which all have their To beside them, one alone has, or none has.
 
-ghost use Rattle.std.specs.Prelude.{◌≡◌};
+ghost use Rattle.std.specs.Prelude.{◌≡◌, ◌<◌, ◌≤◌, ℕ, OnOk};
+ghost use Rattle.sip_machine.specs.Texts.{Keeps};
 
 use crate::messages::{Numbered, Start, book_of, keep, text_of};
 use crate::rows::{MUST, Row, all_lead};
-use crate::runs::{Entry, run, states_of};
+use crate::runs::{Entry, State, run, states_of};
 use crate::times::params;
+use crate::wants::holds;
 use sip_machine::{Action, Book, InviteClient, InviteClientPhase, Run};
 use sip_message::{Message, ReadError};
 use std::alloc::{AllocError, Global};
+use std::process::Abort;
 use std::test::Fail;
 
 /// The INVITE, two 486s with a To each, with numbers so far apart that a search does not look at each of them, and the ACK for the second.
@@ -57,9 +60,14 @@ static ROWS: [Row<InviteClientPhase>; 1] = [(
 #[test]
 fn an_ack_finds_a_response_without_its_to(rt: HostRuntime) -> Result<(), Fail> {
     let mut book = book_of(rt.alloc(), &MESSAGES, "INVITE", "UDP")?;
-    keep_to(rt.alloc(), &mut book, 2)?;
+    finds_without_to(&rt, &mut book)
+}
+
+/// Keeps the To of the first 486 of the book, and asserts where `ROWS` lead.
+fn finds_without_to(rt: &(impl Abort + AllocGlobal), book: &mut Book) -> Result<(), Fail> {
+    keep_to(rt.alloc(), book, 2)?;
     let client = InviteClient::new(params(500)?);
-    all_lead(&rt, &client, &book, &ROWS)
+    all_lead(rt, &client, book, &ROWS)
 }
 
 /// The INVITE, nine 486s with a To each, and the ACK for the last.
@@ -130,6 +138,12 @@ fn refusal(tag: u64) -> u64 {
 /// The INVITE, many 486s with a To each, another request between the first two of them, and an ACK for each.
 fn many(alloc: Global) -> Result<Vec<Numbered>, AllocError> {
     let mut messages = Vec::new(alloc);
+    push_many(&mut messages)?;
+    Ok(messages)
+}
+
+/// Appends the messages of `many`.
+fn push_many(messages: &mut Vec<Numbered>) -> Result<(), AllocError> {
     messages.push((1, Start::Request("INVITE"), None))?;
     messages.push((refusal(0), Start::Response(486), Some(0)))?;
     messages.push((11, Start::Request("OPTIONS"), None))?;
@@ -139,12 +153,18 @@ fn many(alloc: Global) -> Result<Vec<Numbered>, AllocError> {
     for tag in 0..MANY {
         messages.push((1000 + tag, Start::Request("ACK"), Some(tag as u8)))?;
     }
-    Ok(messages)
+    Ok(())
 }
 
 /// The INVITE is sent, all 486s are received, and an ACK is sent for each of the second half of them, the newest first.
 fn entries(alloc: Global) -> Result<Vec<Entry>, AllocError> {
     let mut entries = Vec::new(alloc);
+    push_entries(&mut entries)?;
+    Ok(entries)
+}
+
+/// Appends the entries of `entries`.
+fn push_entries(entries: &mut Vec<Entry>) -> Result<(), AllocError> {
     entries.push((0, Action::Sent, 1))?;
     for tag in 0..MANY {
         entries.push((100, Action::Received, refusal(tag)))?;
@@ -152,7 +172,7 @@ fn entries(alloc: Global) -> Result<Vec<Entry>, AllocError> {
     for tag in 0..MANY / 2 {
         entries.push((110, Action::Sent, 1000 + MANY - 1 - tag))?;
     }
-    Ok(entries)
+    Ok(())
 }
 
 /// Whether the debts are those of the first half of the 486s, once each.
@@ -171,15 +191,52 @@ fn are_first_half(runs: &[Run]) -> bool {
 fn acks_find_their_debts_among_many(rt: HostRuntime) -> Result<(), Fail> {
     let messages = many(rt.alloc())?;
     let mut book = book_of(rt.alloc(), &messages, "INVITE", "UDP")?;
-    for tag in 0..MANY {
-        keep_to(rt.alloc(), &mut book, refusal(tag))?;
-    }
-    let client = InviteClient::new(params(500)?);
-    let pool = run(rt.alloc(), &client, &book, &entries(rt.alloc())?)?;
-    let states = states_of(rt.alloc(), &pool)?;
-    assert!(rt; states.len() == 1);
-    assert!(rt; are_first_half(&states[0].owes));
+    keep_tos(rt.alloc(), &mut book)?;
+    let states = states_after(rt.alloc(), &book, &entries(rt.alloc())?)?;
+    holds(&rt, are_first_half(owed(&states)?), "the first half");
     Ok(())
+}
+
+/// Keeps the To of each of the 486s beside it.
+fn keep_tos(alloc: Global, book: &mut Book) -> Result<(), Fail> {
+    for tag in 0..MANY {
+        keep_to(alloc, book, refusal(tag))?;
+    }
+    Ok(())
+}
+
+/// The states of the client after the entries.
+fn states_after(
+    alloc: Global,
+    book: &Book,
+    entries: &[Entry],
+) -> Result<Vec<State<InviteClientPhase>>, Fail> {
+    let client = InviteClient::new(params(500)?);
+    let pool = run(alloc, &client, book, entries)?;
+    states_of(alloc, &pool)
+}
+
+/// What the only state owes.
+fn owed(states: &[State<InviteClientPhase>]) -> Result<&[Run], Fail> {
+    match states {
+        [state] => Ok(state.owes.as_slice()),
+        _ => Err("not one state".into()),
+    }
+}
+
+/// Keeps a message that begins in this way, with this tag in To, under the number, which is above all others.
+fn keep_text(
+    alloc: Global,
+    book: &mut Book,
+    number: u64,
+    start: Start,
+    tag: Option<u8>,
+) -> Result<(), AllocError>
+    requires { (n : ℕ) → Keeps book.old n → n < number }
+    ensures { OnOk result ((n : ℕ) → Keeps book.new n → n ≤ number) }
+{
+    let text = text_of(alloc, start, tag, "INVITE", "UDP")?;
+    keep(book, number, text.as_bytes())
 }
 
 /// A book that keeps the messages, and beside each whose number is below this one its To.
@@ -190,8 +247,7 @@ fn book_with_tos(alloc: Global, messages: &[Numbered], below: u64) -> Result<Boo
         if number <= last {
             return Err("out of order".into());
         }
-        let text = text_of(alloc, start, tag, "INVITE", "UDP")?;
-        keep(&mut book, number, text.as_bytes())?;
+        keep_text(alloc, &mut book, number, start, tag)?;
         last = number;
         if number < below {
             keep_to(alloc, &mut book, number)?;
@@ -203,6 +259,12 @@ fn book_with_tos(alloc: Global, messages: &[Numbered], below: u64) -> Result<Boo
 /// The INVITE, many refusals of which each two have one To, and an ACK for each To.
 fn pairs(alloc: Global) -> Result<Vec<Numbered>, AllocError> {
     let mut messages = Vec::new(alloc);
+    push_pairs(&mut messages)?;
+    Ok(messages)
+}
+
+/// Appends the messages of `pairs`.
+fn push_pairs(messages: &mut Vec<Numbered>) -> Result<(), AllocError> {
     messages.push((1, Start::Request("INVITE"), None))?;
     for number in 0..MANY {
         let start = Start::Response(if number % 2 == 0 { 486 } else { 487 });
@@ -211,12 +273,18 @@ fn pairs(alloc: Global) -> Result<Vec<Numbered>, AllocError> {
     for tag in 0..MANY / 2 {
         messages.push((1000 + tag, Start::Request("ACK"), Some(tag as u8)))?;
     }
-    Ok(messages)
+    Ok(())
 }
 
 /// The INVITE is sent, all refusals are received, and the newest half of them is acknowledged, the newest To first, and one of the To before.
 fn paired(alloc: Global) -> Result<Vec<Entry>, AllocError> {
     let mut entries = Vec::new(alloc);
+    push_paired(&mut entries)?;
+    Ok(entries)
+}
+
+/// Appends the entries of `paired`.
+fn push_paired(entries: &mut Vec<Entry>) -> Result<(), AllocError> {
     entries.push((0, Action::Sent, 1))?;
     for number in 0..MANY {
         entries.push((100, Action::Received, refusal(number)))?;
@@ -224,22 +292,43 @@ fn paired(alloc: Global) -> Result<Vec<Entry>, AllocError> {
     for tag in 0..=MANY / 2 {
         entries.push((110, Action::Sent, 1000 + (MANY - 1 - tag) / 2))?;
     }
-    Ok(entries)
+    Ok(())
+}
+
+/// Whether the debts are those of the first 126 refusals and of the one after the next, once each.
+fn are_oldest(runs: &[Run]) -> bool {
+    let owed = runs.iter().map(|run| (run.debt.message, run.count));
+    owed.eq((0..126).chain(127..128).map(|number| (refusal(number), 1)))
 }
 
 /// Where two refusals have one To, an ACK pays the older one first, however many are owed before it.
 #[test]
 fn acks_of_equal_tos_pay_the_oldest_first(rt: HostRuntime) -> Result<(), Fail> {
     let book = book_with_tos(rt.alloc(), &pairs(rt.alloc())?, 1000)?;
+    let states = states_after(rt.alloc(), &book, &paired(rt.alloc())?)?;
+    holds(&rt, are_oldest(owed(&states)?), "the oldest");
+    Ok(())
+}
+
+/// A refusal that was acknowledged and came again is owed after those that came since. So the next ACK for its To pays the other refusal with
+/// this To.
+#[test]
+fn a_refusal_that_came_again_is_paid_after_the_others(rt: HostRuntime) -> Result<(), Fail> {
+    let book = book_with_tos(rt.alloc(), &pairs(rt.alloc())?, 1000)?;
+    let mut entries = Vec::new(rt.alloc());
+    entries.push((0, Action::Sent, 1))?;
+    for number in 0..MANY {
+        entries.push((100, Action::Received, refusal(number)))?;
+    }
+    entries.push((110, Action::Sent, 1000 + MANY / 2 - 1))?;
+    entries.push((110, Action::Received, refusal(MANY - 2)))?;
+    entries.push((110, Action::Sent, 1000 + MANY / 2 - 1))?;
     let client = InviteClient::new(params(500)?);
-    let pool = run(rt.alloc(), &client, &book, &paired(rt.alloc())?)?;
+    let pool = run(rt.alloc(), &client, &book, &entries)?;
     let states = states_of(rt.alloc(), &pool)?;
     assert!(rt; states.len() == 1);
-    let owed = states[0]
-        .owes
-        .iter()
-        .map(|run| (run.debt.message, run.count));
-    assert!(rt; owed.eq((0..126).chain(127..128).map(|number| (refusal(number), 1))));
+    let owed = states[0].owes.iter().map(|run| run.debt.message);
+    assert!(rt; owed.eq((0..MANY - 1).map(refusal)));
     Ok(())
 }
 
@@ -249,13 +338,36 @@ const LAST: u64 = 521;
 /// The INVITE, the ACK for the last of many refusals, and these refusals.
 fn many_and_last(alloc: Global) -> Result<Vec<Numbered>, AllocError> {
     let mut messages = Vec::new(alloc);
+    push_many_and_last(&mut messages)?;
+    Ok(messages)
+}
+
+/// Appends the messages of `many_and_last`.
+fn push_many_and_last(messages: &mut Vec<Numbered>) -> Result<(), AllocError> {
     messages.push((1, Start::Request("INVITE"), None))?;
     messages.push((2, Start::Request("ACK"), Some(255)))?;
     for tag in 0..MANY - 1 {
         messages.push((refusal(tag), Start::Response(486), Some(tag as u8)))?;
     }
     messages.push((LAST, Start::Response(486), Some(255)))?;
-    Ok(messages)
+    Ok(())
+}
+
+/// The INVITE is sent, all refusals are received, and the last one is acknowledged.
+fn push_to_last(entries: &mut Vec<Entry>) -> Result<(), AllocError> {
+    entries.push((0, Action::Sent, 1))?;
+    for tag in 0..MANY - 1 {
+        entries.push((100, Action::Received, refusal(tag)))?;
+    }
+    entries.push((100, Action::Received, LAST))?;
+    entries.push((110, Action::Sent, 2))?;
+    Ok(())
+}
+
+/// Whether the debts are those of all refusals but the last, once each.
+fn are_all_but_last(runs: &[Run]) -> bool {
+    let owed = runs.iter().map(|run| (run.debt.message, run.count));
+    owed.eq((0..MANY - 1).map(|tag| (refusal(tag), 1)))
 }
 
 /// The Tos of all messages stand in the book but that of the last refusal, as where memory for it was refused. Its ACK finds it.
@@ -264,20 +376,8 @@ fn an_ack_finds_a_response_without_its_to_among_many(rt: HostRuntime) -> Result<
     let messages = many_and_last(rt.alloc())?;
     let book = book_with_tos(rt.alloc(), &messages, LAST)?;
     let mut entries = Vec::new(rt.alloc());
-    entries.push((0, Action::Sent, 1))?;
-    for tag in 0..MANY - 1 {
-        entries.push((100, Action::Received, refusal(tag)))?;
-    }
-    entries.push((100, Action::Received, LAST))?;
-    entries.push((110, Action::Sent, 2))?;
-    let client = InviteClient::new(params(500)?);
-    let pool = run(rt.alloc(), &client, &book, &entries)?;
-    let states = states_of(rt.alloc(), &pool)?;
-    assert!(rt; states.len() == 1);
-    let owed = states[0]
-        .owes
-        .iter()
-        .map(|run| (run.debt.message, run.count));
-    assert!(rt; owed.eq((0..MANY - 1).map(|tag| (refusal(tag), 1))));
+    push_to_last(&mut entries)?;
+    let states = states_after(rt.alloc(), &book, &entries)?;
+    holds(&rt, are_all_but_last(owed(&states)?), "all but the last");
     Ok(())
 }

@@ -3,6 +3,7 @@ use crate::messages::{Numbered, Start, book_of};
 use crate::rows::{self, EndsRow, MAY, MUST, all_end, phase_ends};
 use crate::runs::Entry;
 use crate::times::params;
+use crate::wants::holds;
 use sip_machine::{Action, InviteServer, InviteServerPhase, Machine};
 use std::process::Abort;
 use std::test::Fail;
@@ -528,7 +529,7 @@ fn ends(rt: HostRuntime) -> Result<(), Fail> {
     let server = server()?;
     let book = book_of(rt.alloc(), &MESSAGES, "INVITE", "UDP")?;
     all_end(&rt, &server, &book, ENDS)?;
-    assert!(rt; server.ended() == IDLE);
+    holds(&rt, server.ended() == IDLE, "the end");
     Ok(())
 }
 

@@ -344,17 +344,27 @@ static REPEATS: [Entry; 11] = [
     AGAIN,
 ];
 
+/// Whether there are as many states as are wanted, each with its last response and its debts.
+fn each_proceeds(states: &[State<PlainServerPhase>], wants: &[(u64, Turns)]) -> bool {
+    states.len() == wants.len()
+        && states
+            .iter()
+            .zip(wants)
+            .all(|(state, want)| proceeds(state, *want))
+}
+
 /// Whether the entries lead to as many states as are wanted, each with its last response and its debts.
 fn all_proceed(alloc: Global, entries: &[Entry], wants: &[(u64, Turns)]) -> Result<bool, Fail> {
-    let pool = run(alloc, &server()?, &book(alloc)?, entries)?;
+    let server = server()?;
+    let book = book(alloc)?;
+    let pool = run(alloc, &server, &book, entries)?;
     let states = states_of(alloc, &pool)?;
-    Ok(
-        states.len() == wants.len()
-            && states
-                .iter()
-                .zip(wants)
-                .all(|(state, want)| proceeds(state, *want)),
-    )
+    Ok(each_proceeds(&states, wants))
+}
+
+/// Asserts that something is so after the first of the entries, of which there are so many.
+fn holds_of_first(rt: &impl Abort, is_so: bool, len: usize) {
+    assert!(rt; is_so, "{len}");
 }
 
 /// How many of the entries of `REPEATS` are taken, and the last response and the debts of each state then.
@@ -389,7 +399,8 @@ static RUNS: &[(usize, &[(u64, Turns)])] = &[
 fn equal_debts_stand_in_runs(rt: HostRuntime) -> Result<(), Fail> {
     for &(len, wants) in RUNS {
         let entries = REPEATS.get(..len).ok_or("too many")?;
-        assert!(rt; all_proceed(rt.alloc(), entries, wants)?, "{len}");
+        let is_so = all_proceed(rt.alloc(), entries, wants)?;
+        holds_of_first(&rt, is_so, len);
     }
     Ok(())
 }

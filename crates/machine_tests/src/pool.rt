@@ -171,12 +171,17 @@ fn make_one(alloc: Global, these: &[u64], others: &[u64]) -> Result<bool, Fail> 
     Ok(pool.first_ones(0)?.len() == 1)
 }
 
+/// Asserts that it is told of the lists at these places whether they are one.
+fn is_same_at(rt: &impl Abort, told: bool, want: bool, place: usize, other: usize) {
+    assert!(rt; told == want, "{place} {other}");
+}
+
 /// Asserts that states with two of the lists are the same state exactly where the two are one list.
 fn pairs_are_told_apart(rt: &(impl Abort + AllocGlobal), lists: &[&[u64]]) -> Result<(), Fail> {
     for (place, these) in lists.iter().enumerate() {
         for (other, others) in lists.iter().enumerate() {
             let is_one = make_one(rt.alloc(), these, others)?;
-            assert!(rt; is_one == (place == other), "{place} {other}");
+            is_same_at(rt, is_one, place == other, place, other);
         }
     }
     Ok(())
@@ -197,25 +202,40 @@ fn first_ones_follow(
     from: usize,
     count: usize,
 ) -> Result<(), Fail> {
-    assert!(rt; from <= pool.len());
+    holds(rt, from <= pool.len(), "the first row");
     let ones = pool.first_ones(from)?;
-    assert!(rt; are_from(&ones, from, from.saturating_add(count)));
+    let are_these = are_from(&ones, from, from.saturating_add(count));
+    holds(rt, are_these, "the first ones");
     Ok(())
+}
+
+/// Keeps the first of the states that are the same.
+fn keep_first_ones(pool: &mut Pool<PlainServerPhase>) -> Result<(), Fail> {
+    let ones = pool.first_ones(0)?;
+    pool.keep(&ones);
+    Ok(())
+}
+
+/// Asserts that each of `count` states stands in the pool twice, and once where the first ones are kept.
+fn are_twice(
+    rt: &(impl Abort + AllocGlobal),
+    pool: &mut Pool<PlainServerPhase>,
+    count: usize,
+) -> Result<(), Fail> {
+    holds(rt, pool.len() == count.saturating_mul(2), "twice");
+    first_ones_follow(rt, pool, count, count)?;
+    first_ones_follow(rt, pool, 2, count)?;
+    first_ones_follow(rt, pool, 0, count)?;
+    keep_first_ones(pool)?;
+    holds(rt, pool.len() == count, "once");
+    first_ones_follow(rt, pool, 0, count)
 }
 
 /// Asserts that equal lists make one state, and different lists two.
 fn are_told_apart(rt: &(impl Abort + AllocGlobal), lists: &[&[u64]]) -> Result<(), Fail> {
     pairs_are_told_apart(rt, lists)?;
-    let count = lists.len();
     let mut pool = twice(rt.alloc(), lists)?;
-    assert!(rt; pool.len() == count.saturating_mul(2));
-    first_ones_follow(rt, &pool, count, count)?;
-    first_ones_follow(rt, &pool, 2, count)?;
-    first_ones_follow(rt, &pool, 0, count)?;
-    let ones = pool.first_ones(0)?;
-    pool.keep(&ones);
-    assert!(rt; pool.len() == count);
-    first_ones_follow(rt, &pool, 0, count)
+    are_twice(rt, &mut pool, lists.len())
 }
 
 #[test]
@@ -259,55 +279,79 @@ fn owed_in_turn<P: Phase>(alloc: Global, pool: &Pool<P>) -> Result<Vec<u64>, Fai
     Ok(messages)
 }
 
+/// Asserts that the messages are those that are wanted.
+fn are_equal(rt: &impl Abort, messages: &[u64], wants: &[u64]) {
+    assert_eq!(rt; messages, wants);
+}
+
 /// Asserts that the states, one after another, owe these messages.
 fn owe<P: Phase>(
     rt: &(impl Abort + AllocGlobal),
     pool: &Pool<P>,
     messages: &[u64],
 ) -> Result<(), Fail> {
-    assert_eq!(rt; owed_in_turn(rt.alloc(), pool)?.as_slice(), messages);
+    let owed = owed_in_turn(rt.alloc(), pool)?;
+    are_equal(rt, &owed, messages);
     Ok(())
 }
 
 #[test]
 fn a_state_is_at_rest_in_its_phase_where_it_owes_nothing(rt: HostRuntime) -> Result<(), Fail> {
     let mut pool = pool_of(rt.alloc(), &[&[1], &[]])?;
-    assert!(rt; pool.len() == 2);
-    let phase = pool.phase(1);
-    assert!(rt; !pool.is_at_rest(0, phase) && pool.is_at_rest(1, phase));
-    assert!(rt; !pool.is_at_rest(1, PlainServerPhase::Idle));
-    pool.copy(0, 1);
-    assert!(rt; pool.len() == 2);
-    assert!(rt; !pool.is_at_rest(1, phase));
+    second_rests(&rt, &mut pool);
     Ok(())
 }
 
-/// The last two of four states, of which the fourth was made a copy of the first.
-fn kept_pool(rt: &(impl Abort + AllocGlobal)) -> Result<Pool<PlainServerPhase>, Fail> {
-    let mut pool = pool_of(rt.alloc(), &[&[1], &[2], &[3], &[]])?;
-    assert!(rt; pool.len() == 4);
+/// Asserts that of two states the second alone is at rest, until it is made a copy of the first.
+fn second_rests(rt: &impl Abort, pool: &mut Pool<PlainServerPhase>) {
+    holds(rt, pool.len() == 2, "two states");
+    let phase = pool.phase(1);
+    holds(rt, !pool.is_at_rest(0, phase), "the first");
+    holds(rt, pool.is_at_rest(1, phase), "the second");
+    let is_idle = pool.is_at_rest(1, PlainServerPhase::Idle);
+    holds(rt, !is_idle, "the second in another phase");
+    pool.copy(0, 1);
+    holds(rt, pool.len() == 2, "two states still");
+    holds(rt, !pool.is_at_rest(1, phase), "the copy");
+}
+
+/// Leaves the last two of four states, after the fourth was made a copy of the first.
+fn keep_two(
+    rt: &(impl Abort + AllocGlobal),
+    pool: &mut Pool<PlainServerPhase>,
+) -> Result<(), Fail> {
+    holds(rt, pool.len() == 4, "four states");
     pool.copy(0, 3);
-    owe(rt, &pool, &[1, 2, 3, 1])?;
+    owe(rt, pool, &[1, 2, 3, 1])?;
     let rows = indices(rt.alloc(), 2, pool.len())?;
     pool.keep(&rows);
     pool.fit();
     pool.tidy();
-    Ok(pool)
+    owe(rt, pool, &[3, 1])
+}
+
+/// Adds a state to two, and takes the states away again.
+fn come_and_go(
+    rt: &(impl Abort + AllocGlobal),
+    pool: &mut Pool<PlainServerPhase>,
+) -> Result<(), Fail> {
+    pool.push(PlainServerPhase::Idle)?;
+    holds(rt, pool.len() == 3, "three states");
+    let is_idle = pool.is_at_rest(2, PlainServerPhase::Idle);
+    holds(rt, is_idle, "the third");
+    pool.truncate(1);
+    pool.tidy();
+    owe(rt, pool, &[3])?;
+    pool.truncate(0);
+    holds(rt, pool.is_empty(), "no state");
+    Ok(())
 }
 
 #[test]
 fn states_come_and_go(rt: HostRuntime) -> Result<(), Fail> {
-    let mut pool = kept_pool(&rt)?;
-    owe(&rt, &pool, &[3, 1])?;
-    pool.push(PlainServerPhase::Idle)?;
-    assert!(rt; pool.len() == 3);
-    assert!(rt; pool.is_at_rest(2, PlainServerPhase::Idle));
-    pool.truncate(1);
-    pool.tidy();
-    owe(&rt, &pool, &[3])?;
-    pool.truncate(0);
-    assert!(rt; pool.is_empty());
-    Ok(())
+    let mut pool = pool_of(rt.alloc(), &[&[1], &[2], &[3], &[]])?;
+    keep_two(&rt, &mut pool)?;
+    come_and_go(&rt, &mut pool)
 }
 
 /// Lets the first state take the event. Where memory is refused, the states may take the event again.
@@ -333,7 +377,7 @@ static OWED_THEN: [u64; 9] = [1, 2, 1, 3, 1, 2, 1, 2, 1];
 
 /// Asserts that there are five states, which owe `OWED_THEN`.
 fn are_five<P: Phase>(rt: &(impl Abort + AllocGlobal), pool: &Pool<P>) -> Result<(), Fail> {
-    assert!(rt; pool.len() == 5);
+    holds(rt, pool.len() == 5, "five states");
     owe(rt, pool, &OWED_THEN)
 }
 
@@ -362,15 +406,30 @@ fn goes_on<M: Machine>(
     requires in_range { All M.in_range pool.old }
 {
     let before = states_of(rt.alloc(), pool)?;
-    assert!(rt; pool.len() == 3);
+    holds(rt, pool.len() == 3, "three states");
     let Err(error) = first_takes(machine, book, pool, event) else {
         return are_five(rt, pool);
     };
     are_as_before(rt, pool, &before)?;
-    assert!(rt; pool.len() == 3);
+    holds(rt, pool.len() == 3, "three states still");
     first_takes(machine, book, pool, event)?;
     are_five(rt, pool)?;
     Err(error.into())
+}
+
+/// Puts three states into the pool, of which the first takes an event that leads to two more.
+fn three_go_on<M: Machine>(
+    rt: &(impl Abort + AllocGlobal),
+    machine: &M,
+    book: &Book,
+    pool: &mut Pool<M::Phase>,
+) -> Result<(), Fail>
+    requires known { All (Knows M.names book.now) pool.old }
+    requires in_range { All M.in_range pool.old }
+{
+    push_each(rt.alloc(), machine, book, pool, &[&[1, 2, 1], &[3], &[]])?;
+    let event = event_of(rt.alloc(), book, 20, Action::Sent, 1)?;
+    goes_on(rt, machine, book, pool, &event)
 }
 
 /// The first of three states takes an event that leads to two more. `tests/growths` refuses each growth in turn. The test then fails
@@ -380,15 +439,7 @@ fn a_pool_goes_on_after_a_refused_growth(rt: HostRuntime) -> Result<(), Fail> {
     let server = server()?;
     let book = book_of(rt.alloc(), &MESSAGES, "OPTIONS", "UDP")?;
     let mut pool = Pool::new(rt.alloc());
-    push_each(
-        rt.alloc(),
-        &server,
-        &book,
-        &mut pool,
-        &[&[1, 2, 1], &[3], &[]],
-    )?;
-    let event = event_of(rt.alloc(), &book, 20, Action::Sent, 1)?;
-    goes_on(&rt, &server, &book, &mut pool, &event)
+    three_go_on(&rt, &server, &book, &mut pool)
 }
 
 /// Asserts that the request of the first of two states comes again, which leads to a third state with one debt more. Where memory is
@@ -405,15 +456,30 @@ fn gains_again<M: Machine>(
     requires in_range { All M.in_range pool.old }
 {
     let before = states_of(rt.alloc(), pool)?;
-    assert!(rt; pool.len() == 2);
+    holds(rt, pool.len() == 2, "two states");
     let Err(error) = first_takes(machine, book, pool, event) else {
         return owe(rt, pool, &[1, 2, 3, 1, 1, 2, 3, 1, LAST]);
     };
     are_as_before(rt, pool, &before)?;
-    assert!(rt; pool.len() == 2);
+    holds(rt, pool.len() == 2, "two states still");
     first_takes(machine, book, pool, event)?;
     owe(rt, pool, &[1, 2, 3, 1, 1, 2, 3, 1, LAST])?;
     Err(error.into())
+}
+
+/// Puts two states into the pool, of which the first owes four messages, and gains a fifth.
+fn two_gain<M: Machine>(
+    rt: &(impl Abort + AllocGlobal),
+    machine: &M,
+    book: &Book,
+    pool: &mut Pool<M::Phase>,
+) -> Result<(), Fail>
+    requires known { All (Knows M.names book.now) pool.old }
+    requires in_range { All M.in_range pool.old }
+{
+    push_each(rt.alloc(), machine, book, pool, &[&[1, 2, 3, 1], &[]])?;
+    let event = event_of(rt.alloc(), book, 20, Action::Received, REQUEST)?;
+    gains_again(rt, machine, book, pool, &event)
 }
 
 /// The first of two states owes four messages, and comes to owe a fifth, for which there is no room yet.
@@ -422,7 +488,5 @@ fn a_debt_comes_after_a_refused_growth(rt: HostRuntime) -> Result<(), Fail> {
     let server = server()?;
     let book = book_of(rt.alloc(), &MESSAGES, "OPTIONS", "UDP")?;
     let mut pool = Pool::new(rt.alloc());
-    push_each(rt.alloc(), &server, &book, &mut pool, &[&[1, 2, 3, 1], &[]])?;
-    let event = event_of(rt.alloc(), &book, 20, Action::Received, REQUEST)?;
-    gains_again(&rt, &server, &book, &mut pool, &event)
+    two_gain(&rt, &server, &book, &mut pool)
 }

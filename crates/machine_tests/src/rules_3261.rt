@@ -427,6 +427,11 @@ static BY_RFC_6026: (&[Row<InviteServerPhase>], &[Client]) = (
 #[test]
 fn by_rfc_6026_an_invite_after_a_2xx_changes_nothing(rt: HostRuntime) -> Result<(), Fail> {
     let book = book(rt.alloc())?;
-    all_lead(&rt, &InviteServer::new(params(500)?), &book, BY_RFC_6026.0)?;
-    all_lead(&rt, &InviteClient::new(params(500)?), &book, BY_RFC_6026.1)
+    lead_by_rfc_6026(&rt, &book)
+}
+
+/// Asserts where the rules of RFC 6026 lead a server and a client.
+fn lead_by_rfc_6026(rt: &(impl Abort + AllocGlobal), book: &Book) -> Result<(), Fail> {
+    all_lead(rt, &InviteServer::new(params(500)?), book, BY_RFC_6026.0)?;
+    all_lead(rt, &InviteClient::new(params(500)?), book, BY_RFC_6026.1)
 }

@@ -55,11 +55,23 @@ pub(crate) fn run<M: Machine>(
 {
     let mut pool = first_pool(alloc, machine)?;
     let is_alone = step_each(alloc, machine, book, &mut pool, entries)?;
-    let together = run_together(alloc, machine, book, entries)?;
-    are_alike(alloc, &pool, &together)?;
-    let alone = run_alone(alloc, machine, book, entries)?;
-    agree(alloc, &pool, is_alone, &alone)?;
+    agree_with_others(alloc, machine, book, entries, &pool, is_alone)?;
     Ok(pool)
+}
+
+/// Asserts that all states at once, and one state that steps where it stands, lead to the states of the pool.
+fn agree_with_others<M: Machine>(
+    alloc: Global,
+    machine: &M,
+    book: &Book,
+    entries: &[Entry],
+    pool: &Pool<M::Phase>,
+    is_alone: bool,
+) -> Result<(), Fail> {
+    let together = run_together(alloc, machine, book, entries)?;
+    are_alike(alloc, pool, &together)?;
+    let alone = run_alone(alloc, machine, book, entries)?;
+    agree(alloc, pool, is_alone, &alone)
 }
 
 /// Lets the states take each entry, one state after another. Returns whether there was exactly one state after each entry.
@@ -138,11 +150,26 @@ fn run_together<M: Machine>(
     entries: &[Entry],
 ) -> Result<Pool<M::Phase>, Fail> {
     let mut pool = first_pool(alloc, machine)?;
+    step_each_together(alloc, machine, book, &mut pool, entries)?;
+    Ok(pool)
+}
+
+/// Lets all states take each entry at once.
+fn step_each_together<M: Machine>(
+    alloc: Global,
+    machine: &M,
+    book: &Book,
+    pool: &mut Pool<M::Phase>,
+    entries: &[Entry],
+) -> Result<(), Fail>
+    requires known { All (Knows M.names book.now) pool.old }
+    requires in_range { All M.in_range pool.old }
+{
     for &(moment, action, number) in entries {
         let event = event_of(alloc, book, moment, action, number)?;
-        step_together(alloc, machine, book, &mut pool, &event)?;
+        step_together(alloc, machine, book, pool, &event)?;
     }
-    Ok(pool)
+    Ok(())
 }
 
 /// Puts the states that the event gives in the place of those that take it, each once. It asserts that the latter are not changed.
@@ -221,11 +248,29 @@ fn run_alone<M: Machine>(
     entries: &[Entry],
 ) -> Result<Option<Pool<M::Phase>>, Fail> {
     let mut pool = first_pool(alloc, machine)?;
-    for &(moment, action, number) in entries {
-        let event = event_of(alloc, book, moment, action, number)?;
-        if !machine.step(book, &mut pool, &event)? {
-            return Ok(None);
-        }
+    if !step_each_alone(alloc, machine, book, &mut pool, entries)? {
+        return Ok(None);
     }
     Ok(Some(pool))
+}
+
+/// Lets the only state take each entry where it stands. Returns whether it could.
+fn step_each_alone<M: Machine>(
+    alloc: Global,
+    machine: &M,
+    book: &Book,
+    pool: &mut Pool<M::Phase>,
+    entries: &[Entry],
+) -> Result<bool, Fail>
+    requires alone { length pool.old ≡ 1 }
+    requires known { All (Knows M.names book.now) pool.old }
+    requires in_range { All M.in_range pool.old }
+{
+    for &(moment, action, number) in entries {
+        let event = event_of(alloc, book, moment, action, number)?;
+        if !machine.step(book, pool, &event)? {
+            return Ok(false);
+        }
+    }
+    Ok(true)
 }

@@ -1,9 +1,9 @@
 //! The limits of the times, and the book of messages.
-ghost use Rattle.std.specs.Prelude.{◌+◌, ◌<◌, ◌≤◌, ℕ, OnOk};
+ghost use Rattle.std.specs.Prelude.{◌≡◌, [], ◌+◌, ◌<◌, ◌≤◌, ℕ, OnOk};
 ghost use Rattle.sip_machine.specs.Texts.{Keeps};
 
 use crate::messages::{forget, keep};
-use crate::wants::is;
+use crate::wants::{holds, is};
 use sip_machine::{Book, Params};
 use std::alloc::{AllocError, Global};
 use std::process::Abort;
@@ -34,54 +34,87 @@ fn limits(rt: HostRuntime) -> Result<(), Fail> {
     is(&rt, params.t4(), 60_000, "T4");
     is(&rt, params.early(), 10_000, "early");
     is(&rt, params.late(), 10_000, "late");
-    assert!(rt; Params::new(1, 1, 1, 0).is_some());
+    holds(&rt, Params::new(1, 1, 1, 0).is_some(), "the least");
+    Ok(())
+}
+
+/// Asserts that an empty book keeps bytes once that are added twice.
+fn keeps_once(rt: &impl Abort, book: &mut Book) -> Result<(), Fail>
+    requires { book.old ≡ [] }
+{
+    is(rt, book.add(3, b"OPTIONS")?, 3, "the first");
+    is(rt, book.add(5, b"OPTIONS")?, 3, "the same again");
+    is(rt, book.add(8, b"")?, 8, "an empty one");
+    keeps(rt, book, 3, Some(b"OPTIONS"));
+    keeps(rt, book, 5, None);
+    keeps(rt, book, 8, Some(b""));
     Ok(())
 }
 
 #[test]
 fn keeps_equal_bytes_once(rt: HostRuntime) -> Result<(), Fail> {
     let mut book = Book::new(rt.alloc());
-    is(&rt, book.add(3, b"OPTIONS")?, 3, "the first");
-    is(&rt, book.add(5, b"OPTIONS")?, 3, "the same again");
-    is(&rt, book.add(8, b"")?, 8, "an empty one");
-    keeps(&rt, &book, 3, Some(b"OPTIONS"));
-    keeps(&rt, &book, 5, None);
-    keeps(&rt, &book, 8, Some(b""));
+    keeps_once(&rt, &mut book)
+}
+
+/// Asserts that an empty book forgets the newest of two messages alone.
+fn forgets_newest(rt: &impl Abort, book: &mut Book) -> Result<(), Fail>
+    requires { book.old ≡ [] }
+{
+    keep(book, 3, b"OPTIONS")?;
+    keep(book, 5, b"ACK")?;
+    forget(book, 3, 5);
+    keeps(rt, book, 3, Some(b"OPTIONS"));
+    forget(book, 5, 5);
+    keeps(rt, book, 5, None);
+    forget(book, 3, 5);
+    keeps(rt, book, 3, Some(b"OPTIONS"));
+    is(rt, book.add(8, b"ACK")?, 8, "it comes again");
+    is(rt, book.add(9, b"OPTIONS")?, 3, "the first is still kept");
     Ok(())
 }
 
 #[test]
 fn forgets_the_newest_message_alone(rt: HostRuntime) -> Result<(), Fail> {
     let mut book = Book::new(rt.alloc());
-    keep(&mut book, 3, b"OPTIONS")?;
-    keep(&mut book, 5, b"ACK")?;
-    forget(&mut book, 3, 5);
-    keeps(&rt, &book, 3, Some(b"OPTIONS"));
-    forget(&mut book, 5, 5);
-    keeps(&rt, &book, 5, None);
-    forget(&mut book, 3, 5);
-    keeps(&rt, &book, 3, Some(b"OPTIONS"));
-    is(&rt, book.add(8, b"ACK")?, 8, "it comes again");
-    is(&rt, book.add(9, b"OPTIONS")?, 3, "the first is still kept");
+    forgets_newest(&rt, &mut book)
+}
+
+/// Asserts that an empty book keeps 200,000 messages, the first half of them first.
+fn keeps_many(rt: &(impl Abort + AllocGlobal), book: &mut Book) -> Result<(), Fail>
+    requires { book.old ≡ [] }
+{
+    let end = b" SIP/2.0 200 OK".as_slice();
+    let first = are_numbered(rt.alloc(), book, 0, 100_000, end)?;
+    holds(rt, first, "the first half");
+    let second = are_numbered(rt.alloc(), book, 100_000, 100_000, end)?;
+    holds(rt, second, "the second half");
     Ok(())
 }
 
 #[test]
 fn keeps_many_messages(rt: HostRuntime) -> Result<(), Fail> {
     let mut book = Book::new(rt.alloc());
-    assert!(rt; are_numbered(rt.alloc(), &mut book, 0, 100_000, b" SIP/2.0 200 OK")?);
-    assert!(rt; are_numbered(rt.alloc(), &mut book, 100_000, 100_000, b" SIP/2.0 200 OK")?);
+    keeps_many(&rt, &mut book)
+}
+
+/// Asserts that an empty book keeps 40,000 messages of one hash, the first half of them first.
+fn keeps_of_one_hash(rt: &(impl Abort + AllocGlobal), book: &mut Book) -> Result<(), Fail>
+    requires { book.old ≡ [] }
+{
+    let end = b"    \x15\x7c\x4a\x7f\xb9\x79\x37\x9e".as_slice();
+    let first = are_numbered(rt.alloc(), book, 0, 20_000, end)?;
+    holds(rt, first, "the first half");
+    let second = are_numbered(rt.alloc(), book, 20_000, 20_000, end)?;
+    holds(rt, second, "the second half");
     Ok(())
 }
 
 /// The second word of each message is the factor of `FoldHasher`, so that all messages have the hash 0.
 #[test]
 fn keeps_messages_of_one_hash(rt: HostRuntime) -> Result<(), Fail> {
-    let end = b"    \x15\x7c\x4a\x7f\xb9\x79\x37\x9e".as_slice();
     let mut book = Book::new(rt.alloc());
-    assert!(rt; are_numbered(rt.alloc(), &mut book, 0, 20_000, end)?);
-    assert!(rt; are_numbered(rt.alloc(), &mut book, 20_000, 20_000, end)?);
-    Ok(())
+    keeps_of_one_hash(&rt, &mut book)
 }
 
 /// A new book is refused memory. `tests/growths` refuses each growth in turn. The test then fails for want of memory, once it has seen
@@ -100,13 +133,21 @@ fn a_new_book_goes_on_after_a_refused_growth(rt: HostRuntime) -> Result<(), Fail
 #[test]
 fn a_book_goes_on_after_a_refused_growth(rt: HostRuntime) -> Result<(), Fail> {
     let mut book = Book::new(rt.alloc());
-    assert!(rt; are_numbered(rt.alloc(), &mut book, 0, 64, b" SIP/2.0 200 OK")?);
-    let Err(error) = keep(&mut book, 64, b"ACK") else {
-        keeps(&rt, &book, 64, Some(b"ACK"));
+    full_goes_on(&rt, &mut book)
+}
+
+/// Fills an empty book, and asserts that it keeps one message more, at once or after it was refused memory.
+fn full_goes_on(rt: &(impl Abort + AllocGlobal), book: &mut Book) -> Result<(), Fail>
+    requires { book.old ≡ [] }
+{
+    let are_kept = are_numbered(rt.alloc(), book, 0, 64, b" SIP/2.0 200 OK")?;
+    holds(rt, are_kept, "64 messages");
+    let Err(error) = keep(book, 64, b"ACK") else {
+        keeps(rt, book, 64, Some(b"ACK"));
         return Ok(());
     };
-    goes_on(&rt, &mut book, 64)?;
-    keeps(&rt, &book, 63, Some(b"\0\0\0\0\0\0\0\x3f SIP/2.0 200 OK"));
+    goes_on(rt, book, 64)?;
+    keeps(rt, book, 63, Some(b"\0\0\0\0\0\0\0\x3f SIP/2.0 200 OK"));
     Err(error.into())
 }
 

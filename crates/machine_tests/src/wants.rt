@@ -1,4 +1,5 @@
 //! Assertions that tell their row. They are functions, since an assertion is proved anew wherever it is written out.
+ghost use Rattle.std.specs.Prelude.{IsTrue};
 
 use std::fmt::Debug;
 use std::process::Abort;
@@ -9,6 +10,8 @@ pub(crate) fn is<T: PartialEq + Debug + Drop>(rt: &impl Abort, read: T, want: T,
 }
 
 /// Asserts that something holds, as the row wants it.
-pub(crate) fn holds(rt: &impl Abort, is_so: bool, row: &str) {
+pub(crate) fn holds(rt: &impl Abort, is_so: bool, row: &str)
+    ensures { IsTrue is_so }
+{
     assert!(rt; is_so, "{row}");
 }

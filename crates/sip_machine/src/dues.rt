@@ -1,7 +1,8 @@
 //! What each of many states owes: accounts of all of them, if any owes something.
-ghost use Rattle.std.specs.Prelude.{◌≡◌, ◌↔◌, ◌<◌, ◌≤◌, ◌++◌, ◌∷◌, [], List, IsTrue, IfOk, IfSome, IfNone, OnOk, OnErr, None, All, flat_map, length, set, map, filter, take, drop};
+ghost use Rattle.std.specs.Prelude.{◌≡◌, ◌↔◌, ◌<◌, ◌≤◌, ◌++◌, ◌∷◌, [], List, IsTrue, IfOk, IfSome, OnOk, OnErr, None, All, flat_map, length, set, map, filter, take, drop};
 ghost use Rattle.std.specs.List.{list_any};
-ghost use Rattle.sip_ledger.specs.Debts.{IsWithoutFirst, PaysOne, counts_at, softened_debt, is_payable, debt_deadlines, paid_by};
+ghost use Rattle.sip_ledger.specs.Debts.{IsFirstPaid, PaysSome, counts_at, softened_debt, is_payable, debt_deadlines, paid_by};
+ghost use Rattle.sip_ledger.specs.Indexes.{holds};
 ghost use Rattle.sip_ledger.specs.Runs.{AreRuns};
 ghost use Rattle.sip_machine.specs.Deadlines.{earliest};
 ghost use Rattle.sip_machine.specs.Naming.{AppendsAll};
@@ -11,31 +12,29 @@ ghost use Rattle.sip_machine.specs.inner.Dues.{AreBetween, rows_in};
 
 mod each;
 
-use sip_ledger::{Accounts, Debt, Run};
+use sip_ledger::{Accounts, Debt, Index, Run};
 use std::alloc::{AllocError, Global};
 use std::marker::Model;
 
 /// What each of many states owes, oldest cause first, in a row of its own. Where none owes anything, nothing is allocated.
-/// Contracts see the rows. Beside them stand two numbers, and the numbers of all messages that are owed are between these.
+/// Contracts see the rows.
 #[derive(Debug, Drop)]
 pub struct Dues {
     rows: usize,
     accounts: Option<Box<Accounts>>,
-    lowest: u64,
-    highest: u64,
 }
 
 impl Model for Dues {
-    ghost use Rattle.std.specs.Prelude.{List};
+    ghost use Rattle.std.specs.Prelude.{◌≡◌, List, length};
     ghost use Rattle.std.specs.Option.{option_map};
     ghost use Rattle.sip_ledger.specs.declared.debt.Debt.{Debt};
-    ghost use Rattle.sip_machine.specs.inner.Dues.{AreDues, rows_in};
+    ghost use Rattle.sip_machine.specs.inner.Dues.{rows_in};
 
     ghost Value = { List (List Debt) };
 
     ghost view = { λ d. rows_in d.rows (option_map (λ boxed. boxed.value) d.accounts) };
 
-    ghost invariant = { λ d. AreDues (rows_in d.rows (option_map (λ boxed. boxed.value) d.accounts)) d.rows d.lowest d.highest };
+    ghost invariant = { λ d. length (rows_in d.rows (option_map (λ boxed. boxed.value) d.accounts)) ≡ d.rows };
 }
 
 impl Dues {
@@ -46,8 +45,6 @@ impl Dues {
         Dues {
             rows: 0,
             accounts: None,
-            lowest: u64::MAX,
-            highest: 0,
         }
     }
 
@@ -79,6 +76,7 @@ impl Dues {
     }
 
     /// Keeps the first `rows` rows, and drops those after them.
+    #[tactic(auto, using(crate::proofs::debts::DueLemmas::take_none))]
     pub(crate) fn truncate(&mut self, rows: usize)
         ensures { self.new ≡ take rows self.old }
     {
@@ -89,6 +87,7 @@ impl Dues {
     }
 
     /// Drops the first `rows` rows.
+    #[tactic(auto, using(crate::proofs::debts::DueLemmas::drop_none))]
     pub(crate) fn drop_first(&mut self, rows: usize)
         requires { rows ≤ length self.old }
         ensures { self.new ≡ drop rows self.old }
@@ -127,8 +126,6 @@ impl Dues {
             Some(accounts) => accounts.gain_and_expire(row, debt, moment)?,
             None => self.accounts = Some(opened(alloc, self.rows, row, debt, moment)?),
         }
-        self.lowest = self.lowest.min(debt.message);
-        self.highest = self.highest.max(debt.message);
         Ok(())
     }
 
@@ -186,6 +183,7 @@ impl Dues {
     }
 
     /// Lets the row owe nothing.
+    #[tactic(auto, using(crate::proofs::debts::DueLemmas::set_none))]
     pub(crate) fn clear(&mut self, row: usize)
         requires { row < length self.old }
         ensures { self.new ≡ set self.old row [] }
@@ -302,15 +300,22 @@ impl Dues {
         }
     }
 
-    /// The message of the first debt of the row that is of one of these messages and whose deadline is not before the moment.
-    pub(crate) fn first_payable(&self, row: usize, messages: &[u64], moment: u64) -> Option<u64>
+    /// The message of the first debt of the row whose message stands under the key and whose deadline is not before the moment, if there is
+    /// one. Where it is not found in `most` steps, the answer is None.
+    pub(crate) fn first_payable(
+        &self,
+        row: usize,
+        index: &Index,
+        key: u64,
+        moment: u64,
+        most: usize,
+    ) -> Option<Option<u64>>
         requires { row < length self.now }
-        ensures some { IfSome result (λ message. IsWithoutFirst (PaysOne messages.now moment) (owed_in self.now row) (paid_by message moment (owed_in self.now row))) }
-        ensures none { IfNone result (All (λ debt. ¬ (PaysOne messages.now moment debt)) (owed_in self.now row)) }
+        ensures { IfSome result (IsFirstPaid (PaysSome (holds index.now key) moment) moment (owed_in self.now row)) }
     {
         match &self.accounts {
-            Some(accounts) => accounts.first_payable(row, messages, moment),
-            None => None,
+            Some(accounts) => accounts.first_payable(row, index, key, moment, most),
+            None => Some(None),
         }
     }
 
@@ -318,7 +323,10 @@ impl Dues {
     pub(crate) fn span(&self) -> (u64, u64)
         ensures { All (AreBetween result.0 result.1) self.now }
     {
-        (self.lowest, self.highest)
+        match &self.accounts {
+            Some(accounts) => accounts.span(),
+            None => (0, 0),
+        }
     }
 
     /// Gives memory back that no row needs.
@@ -330,8 +338,6 @@ impl Dues {
         };
         if is_blank(accounts) {
             self.accounts = None;
-            self.lowest = u64::MAX;
-            self.highest = 0;
         } else {
             accounts.tidy();
         }

@@ -7,17 +7,19 @@ use sip_text::token_len;
 
 /// The branch of the top Via, where the field is spelled `Via:` or `v:` and the branch stands plainly in it. A message whose branch is not so
 /// plain may still have one.
+#[inline(always)]
 pub fn led_branch(text: &[u8]) -> Option<&[u8]>
     ensures { option_copied result ≡ led_branch text.now }
 {
     let line = via_line(text)?;
-    if line.starts_with(b"Via:") {
-        return branch_from_stop(&line[4..]);
-    }
-    if line.starts_with(b"v:") {
-        return branch_from_stop(&line[2..]);
-    }
-    None
+    let past = if line.starts_with(b"Via:") {
+        4
+    } else if line.starts_with(b"v:") {
+        2
+    } else {
+        return None;
+    };
+    branch_from_stop(&line[past..])
 }
 
 /// The text from the first line that begins as a Via does, after the first line of all.

@@ -12,6 +12,7 @@ use crate::accounts::gains::Gains;
 use crate::accounts::seek::Seek;
 use crate::accounts::strikes::{Strike, are_same, end_by, put, struck_to};
 use crate::debt::Debt;
+use crate::index::Index;
 use std::alloc::{AllocError, Global};
 
 /// What a row owes: what was gained at the places from `start` up to `end`, but for what its strikes say. What was gained below
@@ -63,6 +64,7 @@ pub(crate) fn owes(gains: &Gains, strikes: &[Strike], account: Account, place: u
 }
 
 /// Whether what was gained at the place is not left, or is struck.
+#[tactic(auto, using(crate::proofs::gains::LeftLemmas::gone_of_left))]
 fn is_gone(gains: &Gains, strikes: &[Strike], place: usize) -> bool
     requires gained { AreGains gains.now }
     requires kept { IsKept gains.now place }
@@ -94,6 +96,7 @@ fn next(gains: &Gains, strikes: &[Strike], account: Account, from: usize) -> usi
 }
 
 /// A number for a message and a deadline, which tells most apart at once.
+#[tactic(auto, unfolding(crate::specs::Accounts::worth_of))]
 fn worth(message: u64, deadline: u64) -> u64
     ensures { result ≡ worth_of message deadline }
 {
@@ -185,26 +188,43 @@ pub(crate) fn find(
     None
 }
 
-/// The first place whose debt a send of one of these messages at the moment pays.
-pub(crate) fn find_one(
+/// The first place whose debt a send of a message at the moment pays that stands under the key. The messages that stand there and are left
+/// are gone through from the least on, until what is found stands before all greater ones. Where that takes more than `most` steps, the
+/// answer is None.
+pub(crate) fn find_under(
     gains: &Gains,
     strikes: &[Strike],
     account: Account,
-    messages: &[u64],
+    index: &Index,
+    key: u64,
     moment: u64,
-) -> Option<usize>
+    most: usize,
+) -> Option<Option<usize>>
     requires gained { AreGains gains.now }
     requires account { IsAccount gains.now strikes.now account }
-    ensures { IsFirstOf (entries_of gains.now) (owes_at gains.now strikes.now account) messages.now moment result }
+    ensures { IfSome result (IsFirstOf (entries_of gains.now) (owes_at gains.now strikes.now account) (holds index.now key) moment) }
 {
     let mut first = None;
-    for at in 0..messages.len() {
-        let message = messages[at];
-        let mut seek = Seek::new(gains, message, account.start);
-        let place = find(gains, strikes, account, &mut seek, message, moment);
-        first = sooner(first, place);
+    let mut from = 0;
+    for _ in 0..most {
+        let Some(message) = index.next(key, from) else {
+            return Some(first);
+        };
+        let Some(left) = gains.message_from(message, 0) else {
+            return Some(first);
+        };
+        from = left;
+        if left == message {
+            let mut seek = Seek::new(gains, message, account.start);
+            let place = find(gains, strikes, account, &mut seek, message, moment);
+            first = sooner(first, place);
+            if gains.is_newest(place) {
+                return Some(first);
+            }
+            from = message.checked_add(1)?;
+        }
     }
-    first
+    None
 }
 
 /// The lesser of two places, where there are some.
@@ -219,6 +239,7 @@ fn sooner(one: Option<usize>, other: Option<usize>) -> Option<usize>
 }
 
 /// Whether what was gained at the place must be sent.
+#[tactic(auto, using(crate::proofs::account::AccountLemmas::must_by_place))]
 fn must(gains: &Gains, account: Account, place: usize) -> bool
     requires gained { AreGains gains.now }
     requires kept { IsKept gains.now place }
@@ -401,6 +422,7 @@ fn fits(strikes: &[Strike], account: Account, message: u64, place: usize) -> boo
 }
 
 /// The first place from the account's end on at which the debt was gained already, if the account can gain it there.
+#[tactic(auto, using(crate::proofs::gains::LeftLemmas::entries_long))]
 fn shared_place(gains: &Gains, strikes: &[Strike], account: Account, debt: Debt) -> Option<usize>
     requires gained { AreGains gains.now }
     requires account { IsAccount gains.now strikes.now account }
@@ -417,6 +439,7 @@ fn shared_place(gains: &Gains, strikes: &[Strike], account: Account, debt: Debt)
 }
 
 /// Whether the account, which ends before the place, can gain the debt there, where its message was gained.
+#[tactic(auto, using(crate::proofs::gains::LeftLemmas::entries_long))]
 fn takes(gains: &Gains, strikes: &[Strike], account: Account, debt: Debt, place: usize) -> bool
     requires gained { AreGains gains.now }
     requires account { IsAccount gains.now strikes.now account }
@@ -575,6 +598,7 @@ fn least_must(gains: &Gains, strikes: &[Strike], account: Account) -> Option<u64
 }
 
 /// Whether nothing that the account must send is past at the moment. It is asked first whether anything is past of what was gained.
+#[tactic(auto, using(crate::proofs::rows::GainEachLemmas::none_late))]
 pub(crate) fn is_timely(gains: &Gains, strikes: &[Strike], account: Account, moment: u64) -> bool
     requires gained { AreGains gains.now }
     requires account { IsAccount gains.now strikes.now account }

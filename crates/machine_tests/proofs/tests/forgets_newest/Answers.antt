@@ -1,0 +1,21 @@
+use Rattle.std.specs.Prelude.{◌<◌, ◌≤◌}
+use Rattle.std.proofs.Common.{inl, inr, arith}
+use Rattle.sip_machine.proofs.texts.TextLaws.{Keeps-grow_cases}
+use Rattle.machine_tests.proofs.tests.forgets_newest.Goals as goal
+
+pub keep-requires-2 : goal.keep-requires-2
+keep-requires-2 g c = λ n keeps. let low : n ≤ 3 = c.in_ok-keep.ensures.ok n keeps in omega (arith, low)
+
+pub add-requires : goal.add-requires
+add-requires g c = λ n keeps. let low : n ≤ 5 = c.forget-3.ensures n keeps in omega (arith, low)
+
+pub add-requires-2 : goal.add-requires-2
+add-requires-2 g c = λ n keeps.
+    elim c.in_ok-add.ensures.grows [
+      | inl same ↦ let low : n ≤ 5 = c.forget-3.ensures n (rw same.0 at keeps) in omega (arith, low)
+      | inr grown ↦
+          elim (Keeps-grow_cases c.forget-3.new.book 8 _ n (rw grown.0 at keeps)) [
+            | inl old ↦ let low : n ≤ 5 = c.forget-3.ensures n old in omega (arith, low)
+            | inr is ↦ omega (arith, is)
+          ]
+    ]

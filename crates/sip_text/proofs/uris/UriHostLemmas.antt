@@ -68,7 +68,7 @@ host-spelled text (v4 host) fits = fits.1
 host-spelled text (v6 host) fits = fits.1
 
 -- u, the mark and v do not lack the mark
-has-mark : (mark : ℕ) (u v : List ℕ) → Lacks mark (u ++ mark ∷ v) → ⊥
+pub has-mark : (mark : ℕ) (u v : List ℕ) → Lacks mark (u ++ mark ∷ v) → ⊥
 has-mark mark [] v lacks = both_ways (nat_eq mark mark) lacks.0 (eq-eqb mark mark refl)
 has-mark mark (b ∷ u) v lacks = has-mark mark u v lacks.1
 

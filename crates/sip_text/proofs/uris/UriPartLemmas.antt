@@ -1,5 +1,5 @@
 -- A part of a URI is cut at its mark: parameters and headers.
-use Rattle.std.proofs.Common.{◌≡◌, ℕ, ◌<◌, ◌↔◌, ◌==◌, nat_eq, Bool, true, false, List, [], ◌∷◌, ◌++◌, Option, None, Some, IfSome, IsSomeAnd, if◌then◌else◌, length, refl, sym, ap, ◌∙◌, subst, inl, inr, arith}
+use Rattle.std.proofs.Common.{◌≡◌, ℕ, ◌<◌, ◌↔◌, ◌==◌, nat_eq, Bool, true, false, List, [], ◌∷◌, ◌++◌, Option, None, Some, IfSome, IsSomeAnd, length, refl, sym, ap, ◌∙◌, subst, inl, inr, arith}
 use Rattle.std.specs.Prelude.{⊤}
 use Rattle.std.specs.Bool.{Decides}
 use Rattle.std.specs.List.{AllByRecursion}
@@ -15,7 +15,7 @@ use Rattle.sip_text.specs.inner.Cut.{before, behind, past, parts}
 use Rattle.sip_text.specs.inner.Pieces.{Joined, ParamChar, ParamWord, UriParameter, HeaderChar, Header}
 use Rattle.sip_text.proofs.texts.ManyLemmas.{many-nil, many-cons, some-many}
 use Rattle.sip_text.proofs.texts.LacksLemmas.{AllLack, lack-byte, lack-then, lack-optional, lack-many, lack-some}
-use Rattle.sip_text.proofs.cuts.CutLemmas.{cut-whole, before-led, behind-led, later_parts, parts-cut}
+use Rattle.sip_text.proofs.cuts.CutLemmas.{cut-whole, before-led, behind-led, later_parts, parts-cut, past-some}
 use Rattle.sip_text.proofs.uris.UriCharLemmas.{is_char_byte, lack-char}
 use Rattle.sip_text.proofs.texts.JoinedLemmas.{parts-joined, joined-parts}
 
@@ -110,15 +110,6 @@ first-alone x first = (λ is. (first.0 is, tt), λ both. first.1 both.0)
 abbrev pub Each : ℕ → (List ℕ → Type 0) → List ℕ → Type 0
 Each mark P text = AllByRecursion P (parts mark text)
 
--- a text that has a rest past the mark at its front is the mark and that rest
-past-is : (mark : ℕ) (text rest : List ℕ) → past mark text ≡ Some rest → text ≡ mark ∷ rest
-past-is mark [] rest is = cc
-past-is mark (b ∷ text) rest is = at (b == mark) refl is
-  where
-    at : (same : Bool) → (b == mark) ≡ same → (if same then Some text else None) ≡ Some rest → b ∷ text ≡ mark ∷ rest
-    at false same is = cc
-    at true same is = let tail : text ≡ rest = cc in ap (λ x. x ∷ text) (eqb-true b mark same) ∙ ap (λ t. mark ∷ t) tail
-
 -- where the first part is of P, all parts of what follows it are exactly if all parts of the text are, and what follows is shorter
 pub each-past : (mark : ℕ) (P : List ℕ → Type 0) (text part rest : List ℕ) → part ≡ before mark text → Some rest ≡ behind mark text → P part → (Each mark P rest ↔ Each mark P text) × (length rest < length text)
 each-past mark P text part rest part_is rest_is one =
@@ -207,7 +198,7 @@ params-led text many =
 -- where ";" is first in a text, what decides whether the rest is parameters with ";" between them decides whether the text is those of a URI
 pub decides-params : (text params : List ℕ) (r : Bool) → Some params ≡ past semicolon text → Decides r (Joined semicolon UriParameter params) → Decides r (UriParameters text)
 decides-params text params r is =
-    let same : text ≡ semicolon ∷ params = past-is semicolon text params (sym is) in
+    let same : text ≡ semicolon ∷ params = past-some semicolon text params (sym is) in
     Decides-like r (λ joined. subst UriParameters (sym same) (joined-params params joined))
     (λ many. params-joined params (subst UriParameters same many))
 

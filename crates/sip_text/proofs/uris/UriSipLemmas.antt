@@ -1,7 +1,7 @@
 -- What follows the scheme of a SIP URI is cut into its parts in one way.
 use Rattle.std.proofs.Common.{◌≡◌, ℕ, Bool, true, false, nat_eq, List, [], ◌∷◌, ◌++◌, Option, None, Some, IsNone, IfSome, is_some, length, drop, ◌≤◌, arith, refl, sym, ap, ◌∙◌, subst}
 use Rattle.std.specs.List.{list_all}
-use Rattle.std.proofs.lemmas.Bool.{false≢true, both_ways, and_parts, eq-eqb}
+use Rattle.std.proofs.lemmas.Bool.{false≢true, and_parts}
 use Rattle.std.proofs.lemmas.List.{append-nil, append_assoc, length-append}
 use Rattle.std.specs.Char.{is_ascii_digit}
 use Rattle.sip_standard.specs.Text.{One}
@@ -21,7 +21,7 @@ use Rattle.sip_text.proofs.cuts.LastLemmas.{before_last-mark, behind_last-mark}
 use Rattle.sip_text.proofs.uris.UriCharLemmas.{is_char_byte, lack-char}
 use Rattle.sip_text.proofs.uris.UriPartLemmas.{lack-param, params-led}
 use Rattle.sip_text.proofs.uris.UriPortLemmas.{lack-port}
-use Rattle.sip_text.proofs.uris.UriHostLemmas.{IsForeign, lack-host, host-spelled, host-no_port}
+use Rattle.sip_text.proofs.uris.UriHostLemmas.{IsForeign, lack-host, host-spelled, host-no_port, has-mark}
 
 -- an optional part after another mark lacks the mark where the part does
 lacks-led : (mark sep : ℕ) (o : Option (List ℕ)) → nat_eq sep mark ≡ false → IfSome o (Lacks mark) → Lacks mark (led sep o)
@@ -191,11 +191,6 @@ lacks-all mark test (b ∷ u) fails all =
     let both = and_parts (test b) (list_all test u) all in
     ((lack-one mark test fails (b ∷ []) (b, both.0, refl)).0, lacks-all mark test u fails both.1)
 
--- u, the mark and v do not lack the mark
-not-lacks : (mark : ℕ) (u v : List ℕ) → Lacks mark (u ++ mark ∷ v) → ⊥
-not-lacks mark [] v lacks = both_ways (nat_eq mark mark) lacks.0 (eq-eqb mark mark refl)
-not-lacks mark (b ∷ u) v lacks = not-lacks mark u v lacks.1
-
 -- where all bytes after the userinfo are of a class without "?", ";" and ":", they are the host, and no other part follows
 pub host-cut : (test : ℕ → Bool) (text : List ℕ) (user password : Option (List ℕ)) (rest : List ℕ) → test question ≡ false → test semicolon ≡ false → test colon ≡ false → IsInfoCut text user password rest → list_all test rest ≡ true → IsSipCut text (record { user = user; password = password; host = rest; port = None; params = []; headers = None })
 host-cut test text user password rest no_question no_semicolon no_colon info all =
@@ -209,7 +204,7 @@ host-cut test text user password rest no_question no_semicolon no_colon info all
       params = sym (ap (λ t. led semicolon (behind semicolon t)) (headers.0) ∙ ap (led semicolon) (params.1));
       port = (
         sym whole,
-        λ u v is_port split. not-lacks colon u v (subst (Lacks colon) (sym whole ∙ split) (lacks-all colon test rest no_colon all)),
+        λ u v is_port split. has-mark colon u v (subst (Lacks colon) (sym whole ∙ split) (lacks-all colon test rest no_colon all)),
       );
     }
 

@@ -2,7 +2,7 @@
 use Rattle.std.proofs.Common.{◌≡◌, zero, suc, Bool, true, false, cond, ◌||◌, List, [], ◌∷◌, ◌++◌, All, Contains, map, refl, sym, ap, ◌∙◌, arith}
 use Rattle.std.specs.Prelude.{filter, fold, flat_map}
 use Rattle.std.specs.List.{list_any}
-use Rattle.std.proofs.lemmas.Bool.{false≢true, cond-true}
+use Rattle.std.proofs.lemmas.Bool.{false≢true, cond-true, or_right, or_parts}
 use Rattle.std.proofs.lemmas.List.{map-append, append-nil}
 use Rattle.std.proofs.lemmas.List.Elements.{filter-append, All-head, All-tail, Contains-get_or}
 use Rattle.std.proofs.lemmas.List.Folds.{list_any-append}
@@ -14,16 +14,6 @@ use Rattle.sip_standard.specs.Observation.{Observation}
 use Rattle.sip_standard.specs.VerdictOf.{keys_in, events_for}
 use Rattle.sip_verdict.specs.Entries.{newest_moment}
 use Rattle.sip_verdict.specs.inner.Keyed.{with_key, concerns}
-
--- where the disjunction of two tests is false, both are false
-pub or_false : (a b : Bool) → (a || b) ≡ false → (a ≡ false) × (b ≡ false)
-or_false true b h = absurd (false≢true (sym h))
-or_false false b h = (refl, h)
-
--- a disjunction is true where its second test is
-or_true : (a b : Bool) → b ≡ true → (a || b) ≡ true
-or_true true b h = refl
-or_true false b h = h
 
 -- the newest moment is that of the last entry
 pub newest_moment-push : (es : List (Observation KeyParts)) (e : Observation KeyParts) → newest_moment (es ++ e ∷ []) ≡ e.event.moment
@@ -64,7 +54,7 @@ among-contains key (k ∷ keys) h = go (same_key key k) refl (among-contains key
 pub contains-among : (key : KeyParts) (keys : List KeyParts) → Contains keys key → list_any (same_key key) keys ≡ true
 contains-among key [] h = absurd (omega (arith, h.1))
 contains-among key (k ∷ keys) (zero, lt, h) = ap (λ b. b || list_any (same_key key) keys) ((same_key-decides key k).1 (sym h))
-contains-among key (k ∷ keys) (suc n, lt, h) = or_true (same_key key k) (list_any (same_key key) keys) (contains-among key keys (n, omega arith, h))
+contains-among key (k ∷ keys) (suc n, lt, h) = or_right (same_key key k) (list_any (same_key key) keys) (contains-among key keys (n, omega arith, h))
 
 -- keys that are all among the keys bring no new one
 known_keys : (keys more : List KeyParts) → All (Contains keys) more → fold with_key keys more ≡ keys
@@ -95,7 +85,7 @@ among-with_key key keys k h = go (list_any (same_key k) keys) refl h
 
     go : (b : Bool) → list_any (same_key k) keys ≡ b → list_any (same_key key) (cond b keys (keys ++ k ∷ [])) ≡ false → (list_any (same_key key) keys ≡ false) × (same_key key k ≡ false)
     go true e none = (none, old (same_key key k) refl e none)
-    go false e none = let (a, b) = or_false _ _ (sym (list_any-append (same_key key) keys (k ∷ [])) ∙ none) in (a, (or_false _ _ b).0)
+    go false e none = let (a, b) = or_parts _ _ (sym (list_any-append (same_key key) keys (k ∷ [])) ∙ none) in (a, (or_parts _ _ b).0)
 
 -- a key that is not found among the keys with more keys added is found neither among the keys nor among those that were added
 pub among-fold : (key : KeyParts) (keys more : List KeyParts) → list_any (same_key key) (fold with_key keys more) ≡ false → (list_any (same_key key) keys ≡ false) × (list_any (same_key key) more ≡ false)
@@ -109,7 +99,7 @@ among-fold key keys (k ∷ more) h =
 no_events : (key : KeyParts) (es : List (Observation KeyParts)) → list_any (same_key key) (flat_map (λ e. e.keys) es) ≡ false → events_for key es ≡ []
 no_events key [] h = refl
 no_events key (e ∷ es) h =
-    let (a, b) = or_false _ _ (sym (list_any-append (same_key key) e.keys (flat_map (λ f. f.keys) es)) ∙ h) in
+    let (a, b) = or_parts _ _ (sym (list_any-append (same_key key) e.keys (flat_map (λ f. f.keys) es)) ∙ h) in
     ap (λ t. map (λ f. f.event) (cond t (e ∷ filter (concerns key) es) (filter (concerns key) es))) a ∙ no_events key es b
 
 -- a key that is not among the keys of the entries has no event

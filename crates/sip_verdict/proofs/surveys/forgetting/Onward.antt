@@ -3,7 +3,7 @@
 use Rattle.std.proofs.Common.{◌≡◌, ◌≢◌, ◌≤◌, ◌<◌, ◌↔◌, ◌⊎◌, inl, inr, ℕ, Bool, true, false, cond, List, [], ◌∷◌, ◌++◌, ◌||◌, All, AllPairs, length, map, get_or, append_assoc, append-nil, refl, sym, ap, ap₂, ◌∙◌, subst, arith, zero-le}
 use Rattle.std.specs.Prelude.{filter, fold, flat_map}
 use Rattle.std.specs.List.{list_any, AllZip}
-use Rattle.std.proofs.lemmas.Bool.{false≢true}
+use Rattle.std.proofs.lemmas.Bool.{false≢true, or_right}
 use Rattle.std.proofs.lemmas.Grind.{flat_map-append}
 use Rattle.std.proofs.lemmas.List.{get_or-map, length-map, map-append}
 use Rattle.std.proofs.lemmas.List.Elements.{All-nil, All-cons}
@@ -106,17 +106,12 @@ module _ (key : KeyParts) where
       go true e any rest =
           ap (λ b. fold with_key [] (cond b (k ∷ own keys) (own keys))) e ∙ ap (λ z. fold with_key (z ∷ []) (own keys)) (same_back k e) ∙ stays_one keys
 
-  -- a disjunction is true where its second test is
-  or_last : (a b : Bool) → b ≡ true → (a || b) ≡ true
-  or_last true b e = refl
-  or_last false b e = e
-
   -- after an entry that concerns the key, the key is once among the keys of all entries
   own_with : (es : Entries) (e : Observation KeyParts) → list_any (same_key key) e.keys ≡ true → own (keys_in (es ++ e ∷ [])) ≡ key ∷ []
   own_with es e some =
       let all = flat_map (λ f. f.keys) es in
       let whole : flat_map (λ f. f.keys) (es ++ e ∷ []) ≡ all ++ e.keys = flat_map-append (λ f. f.keys) es (e ∷ []) ∙ ap (λ keys. all ++ keys) (append-nil e.keys) in
-      let any : list_any (same_key key) (all ++ e.keys) ≡ true = list_any-append (same_key key) all e.keys ∙ or_last (list_any (same_key key) all) (list_any (same_key key) e.keys) some in
+      let any : list_any (same_key key) (all ++ e.keys) ≡ true = list_any-append (same_key key) all e.keys ∙ or_right (list_any (same_key key) all) (list_any (same_key key) e.keys) some in
       ap (λ keys. own (fold with_key [] keys)) whole ∙ sym (filter_keys (same_key key) [] (all ++ e.keys)) ∙ becomes_one (all ++ e.keys) any
 
   -- the entry with no other key than the one

@@ -3,7 +3,7 @@ use Rattle.std.proofs.Common.{◌≡◌, ◌≢◌, ◌≤◌, ◌<◌, ◌+◌,
 use Rattle.std.specs.Prelude.{bytes_eq, codes, fold, flat_map, max}
 use Rattle.std.specs.List.{list_any}
 use Rattle.std.specs.Cmp.{unsigned_Decides}
-use Rattle.std.proofs.lemmas.Bool.{false≢true, ltb-true}
+use Rattle.std.proofs.lemmas.Bool.{false≢true, ltb-true, or_parts}
 use Rattle.std.proofs.lemmas.List.{length-set}
 use Rattle.std.proofs.lemmas.List.Elements.{All-cons, All-nil, All-push}
 use Rattle.std.proofs.lemmas.List.Folds.{list_any-append}
@@ -33,7 +33,7 @@ use Rattle.sip_verdict.specs.Surveys.{IsHistoryOf, AreHistories}
 use Rattle.sip_verdict.specs.inner.Histories.{SpellsBranch, Notes, NotesEach}
 use Rattle.sip_verdict.specs.inner.TablesTracking.{TouchesEach, is_among}
 use Rattle.sip_verdict.proofs.judges.ObservingLemmas.{no_keys, went}
-use Rattle.sip_verdict.proofs.keys.Keys.{among-fold, contains-among, not_among, or_false, keys_in-push, keys_in-none, keys_in-all}
+use Rattle.sip_verdict.proofs.keys.Keys.{among-fold, contains-among, not_among, keys_in-push, keys_in-none, keys_in-all}
 use Rattle.sip_verdict.proofs.verdicts.MessageUnique.{fault_says_none}
 use Rattle.sip_verdict.proofs.surveys.passing.Begun.{AreMore, more_each, none_more, touched_keys}
 use Rattle.sip_verdict.proofs.tables.TablesPassing.{at_place}
@@ -87,7 +87,7 @@ last_low es key n (before, o, after, whole, is, none, counts) = let long = ap le
 pub none_in : (key : KeyParts) (es : Entries) → list_any (same_key key) (flat_map (λ e. e.keys) es) ≡ false → All (λ o. is_of key o ≡ false) es
 none_in key [] none = All-nil (λ o. is_of key o ≡ false)
 none_in key (e ∷ es) none =
-    let (here, later) = or_false _ _ (sym (list_any-append (same_key key) e.keys (flat_map (λ f. f.keys) es)) ∙ none) in
+    let (here, later) = or_parts _ _ (sym (list_any-append (same_key key) e.keys (flat_map (λ f. f.keys) es)) ∙ none) in
     All-cons (λ o. is_of key o ≡ false) e es here (none_in key es later)
 
 -- where a key is not among the keys of the entries, no entry is of the key

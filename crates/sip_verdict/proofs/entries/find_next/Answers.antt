@@ -17,45 +17,38 @@ returns-then-kept-left-clause-found g c = λ es surveyed counts late.
 pub returns-then-kept-left-clause-keyless : goal.returns-then-kept-left-clause-keyless
 returns-then-kept-left-clause-keyless g c none = same_within c.args.standing.now.book c.find.new.standing.book (c.in_ok-find.ensures.keyless none)
 
-pub returns-clause-may : goal.returns-clause-may
-returns-clause-may g c =
-    let mid = c.find.new.standing in
-    let new = c.sweep.new.self in
-    let e = c.args.entry.now in
-    let swept = c.in_ok-sweep.ensures in
-    swept_take mid.book new.book mid.tables new.tables (e.number + 1) e.moment c.in_ok-find.ensures.may swept.may swept.recorded (within_keeps mid.book new.book swept.fewer) swept.keys
-
-pub returns-clause-keys : goal.returns-clause-keys
-returns-clause-keys g c = let same = ap length c.in_ok-sweep.ensures.keys in let few = c.in_ok-find.ensures.keys in omega arith
-
-pub returns-clause-left : goal.returns-clause-left
-returns-clause-left g c =
-    let may = c.in_ok-find.ensures.may in
-    let fewer = within_keeps c.find.new.standing.book c.sweep.new.self.book c.in_ok-sweep.ensures.fewer in
-    let high = c.kept-2.ensures.few (c.args.entry.now.number + 1) (λ n keeps. may.numbered n (fewer n keeps)) in
-    omega (arith, high, c.requires.count)
-
-pub returns-clause-keyless : goal.returns-clause-keyless
-returns-clause-keyless g c none = subst (λ b. All (Contains b) c.sweep.new.self.book) (c.in_ok-find.ensures.keyless none) c.in_ok-sweep.ensures.fewer
-
-pub returns-clause-watched : goal.returns-clause-watched
-returns-clause-watched g c =
-    let h = c.in_ok-find.ensures.watched in
-    let swept = c.in_ok-sweep.ensures in
-    record { long = h.long ∙ ap length (sym swept.keys); recorded = swept.recorded; silent = λ n is. ap (λ rs. slice_get rs n) swept.records ∙ h.silent n is }
-
-pub returns-clause-found : goal.returns-clause-found
-returns-clause-found g c = λ es surveyed counts late.
-    let mid = c.find.new.standing in
+pub returns : goal.returns
+returns g c =
     let new = c.sweep.new.self in
     let swept = c.in_ok-sweep.ensures in
-    let h = c.in_ok-find.ensures in
-    let (e, here, seen, now, found, added, tracks) = h.found es surveyed.tracks counts late in (
-      e,
-      here,
-      seen,
-      found,
-      added,
-      surveyed_swept new.book mid.tables new.tables c.find.new.troubled.deaf.items c.kept-2.result (es ++ e ∷ []) swept.times c.kept-2.ensures.kept
-          (swept.surveyed (es ++ e ∷ []) c.find.new.troubled.deaf.items tracks (newest_moment-push es e ∙ now) h.watched.long),
-    )
+    let mid = c.find.new.standing in
+    record {
+      times = search rules;
+      keys = let same = ap length c.in_ok-sweep.ensures.keys in let few = c.in_ok-find.ensures.keys in omega arith;
+      may =
+          let e = c.args.entry.now in
+          swept_take mid.book new.book mid.tables new.tables (e.number + 1) e.moment c.in_ok-find.ensures.may swept.may swept.recorded (within_keeps mid.book new.book swept.fewer) swept.keys;
+      watched =
+          let h = c.in_ok-find.ensures.watched in
+          record { long = h.long ∙ ap length (sym swept.keys); recorded = swept.recorded; silent = λ n is. ap (λ rs. slice_get rs n) swept.records ∙ h.silent n is };
+      fresh = search rules;
+      left =
+          let may = c.in_ok-find.ensures.may in
+          let fewer = within_keeps c.find.new.standing.book c.sweep.new.self.book c.in_ok-sweep.ensures.fewer in
+          let high = c.kept-2.ensures.few (c.args.entry.now.number + 1) (λ n keeps. may.numbered n (fewer n keeps)) in
+          omega (arith, high, c.requires.count);
+      keyless = λ none. subst (λ b. All (Contains b) c.sweep.new.self.book) (c.in_ok-find.ensures.keyless none) c.in_ok-sweep.ensures.fewer;
+      histories = search rules;
+      front = search rules;
+      found = λ es surveyed counts late.
+          let h = c.in_ok-find.ensures in
+          let (e, here, seen, now, found, added, tracks) = h.found es surveyed.tracks counts late in (
+            e,
+            here,
+            seen,
+            found,
+            added,
+            surveyed_swept new.book mid.tables new.tables c.find.new.troubled.deaf.items c.kept-2.result (es ++ e ∷ []) swept.times c.kept-2.ensures.kept
+                (swept.surveyed (es ++ e ∷ []) c.find.new.troubled.deaf.items tracks (newest_moment-push es e ∙ now) h.watched.long),
+          );
+    }

@@ -72,17 +72,56 @@ returns-in_ok-pass_each-in-Restart-clause-histories g c = λ es e told keys coun
     restart_histories es e b (record { each = b.each; restart = number }) number
     (ap (λ o. o.keys) (observes_one es (item c.args.entry.now) e f seen f_seen ∙ is)) counts refl refl told
 
-pub returns-in_ok-pass_each-in-Heard-clause-histories : goal.returns-in_ok-pass_each-in-Heard-clause-histories
-returns-in_ok-pass_each-in-Heard-clause-histories g c = λ es e told t_keys counts seen.
+pub returns-in_ok-pass_each-in-Heard : goal.returns-in_ok-pass_each-in-Heard
+returns-in_ok-pass_each-in-Heard g c =
     let s = c.args.standing.now in
-    let entry = c.args.entry.now in
-    let kept = rw c.in-Heard.is at c.in_ok-told.ensures.kept in
-    let noted = c.in_ok-note_each-in-Heard.ensures in
-    let (f, f_seen, f_is) = (rw c.in-Heard.is at c.in_ok-told.ensures.observed) es in
-    let is = observes_one es (item entry) e f seen f_seen ∙ f_is in
-    heard_histories es e c.args.histories.now c.note_each.new.self entry.number entry.bytes.items s.tables c.touch_each.new.tables (each c.in-Heard.concerned) (each c.in_ok-concerned-in-Heard.concerned)
-    told t_keys c.requires.may.passes.long counts c.in_ok-concerned-in-Heard.ensures.touched c.known-in-Heard.ensures.unique noted.noted c.note_each.ensures.restart (ap (λ o. o.keys) is)
-    (message_says es (item entry) e kept.0 seen) (ap (λ o. o.event.text) is ∙ kept.3)
+    let e = c.args.entry.now in
+    let new = c.drop_unnamed.new.self in
+    let mid = c.observe.new.book in
+    let t = c.pass_each-in-Heard.new.tables in
+    record {
+      times = search rules;
+      keys =
+          let few = few_keys c.in-Heard.concerned (each c.in_ok-concerned-in-Heard.concerned) c.args.standing.now.tables c.touch_each.new.tables c.in_ok-concerned-in-Heard.ensures.touched in
+          let same = ap length (ap (λ x. x.keys) c.drop_unnamed.ensures.tables ∙ c.in_ok-pass_each-in-Heard.ensures.keys) in
+          omega arith;
+      may =
+          let passed = c.in_ok-pass_each-in-Heard.ensures in
+          subst (λ x. MayTake new.book x (e.number + 1) e.moment) (sym c.drop_unnamed.ensures.tables)
+          (dropped_take e.number mid new.book t (e.number + 1) e.moment c.drop_unnamed.ensures.book
+          (may_next None s.book mid mid s.tables c.touch_each.new.tables t e.number e.moment e.bytes.items c.requires.may
+          (rw c.in-Heard.is at c.in_ok-told.ensures.kept).4
+          (few_keys c.in-Heard.concerned (each c.in_ok-concerned-in-Heard.concerned) s.tables c.touch_each.new.tables c.in_ok-concerned-in-Heard.ensures.touched)
+          passed.keys refl passed.may passed.watched.recorded));
+      watched = subst (λ x. AreWatched [] x c.pass_each-in-Heard.new.troubled) (sym c.drop_unnamed.ensures.tables) c.in_ok-pass_each-in-Heard.ensures.watched;
+      keyless = search rules;
+      histories = λ es e told t_keys counts seen.
+          let entry = c.args.entry.now in
+          let kept = rw c.in-Heard.is at c.in_ok-told.ensures.kept in
+          let noted = c.in_ok-note_each-in-Heard.ensures in
+          let (f, f_seen, f_is) = (rw c.in-Heard.is at c.in_ok-told.ensures.observed) es in
+          let is = observes_one es (item entry) e f seen f_seen ∙ f_is in
+          heard_histories es e c.args.histories.now c.note_each.new.self entry.number entry.bytes.items s.tables c.touch_each.new.tables (each c.in-Heard.concerned) (each c.in_ok-concerned-in-Heard.concerned)
+          told t_keys c.requires.may.passes.long counts c.in_ok-concerned-in-Heard.ensures.touched c.known-in-Heard.ensures.unique noted.noted c.note_each.ensures.restart (ap (λ o. o.keys) is)
+          (message_says es (item entry) e kept.0 seen) (ap (λ o. o.event.text) is ∙ kept.3);
+      taken = λ es fresh tracks late.
+          let b = c.pass_each-in-Heard.new.troubled in
+          let dropped = c.drop_unnamed.ensures in
+          let grown = c.in_ok-grow-in-Heard.ensures in
+          let is_heard = rw c.in-Heard.is at c.in_ok-told.ensures.heard in
+          let (f, seen, fine, now, keys, passing) =
+          heard_taken s.book mid e.number e.bytes.items (rw c.in-Heard.is at c.in_ok-told.ensures.kept).4 (item e) e.moment refl c.in-Heard.event c.in-Heard.concerned c.in_ok-concerned-in-Heard.concerned
+          s.tables c.touch_each.new.tables t c.args.troubled.now c.grow.new.self b grown.deaf.0
+          c.requires.watched.long c.requires.may.passes.long fresh grown.deaf.1 grown.deaf.2 grown.broken grown.wide c.in_ok-concerned-in-Heard.ensures.touched c.known-in-Heard.ensures.unique
+          c.in_ok-pass_each-in-Heard.ensures.keys is_heard.1 (c.in_ok-concerned-in-Heard.ensures.same ∙ is_heard.3) (rw c.in-Heard.is at c.in_ok-told.ensures.observed) c.in_ok-pass_each-in-Heard.ensures.passed es tracks late in (
+            f,
+            seen,
+            fine,
+            now,
+            ap (λ x. x.keys) dropped.tables ∙ keys,
+            subst (λ x. ArePassing new.book s.tables.times es f (is_among []) x b) (sym dropped.tables) (dropped_passing e.number mid new.book s.tables.times es f t b dropped.book passing),
+          );
+    }
 
 pub returns-in_ok-pass_each-in-Unheard-clause-may : goal.returns-in_ok-pass_each-in-Unheard-clause-may
 returns-in_ok-pass_each-in-Unheard-clause-may g c =
@@ -130,49 +169,6 @@ returns-in_ok-pass_each-in-Restart-clause-taken g c = λ es fresh tracks late.
     restart_taken s.book c.observe.new.book e.number e.bytes.items (inl same) (item e) e.moment refl s.tables c.pass_each-in-Restart.new.tables c.args.troubled.now c.pass_each-in-Restart.new.troubled
     c.requires.watched.long c.requires.may.passes.long fresh c.in_ok-pass_each-in-Restart.ensures.keys c.restart-event.result c.restart-event.ensures (λ n keeps. c.requires.may.some n (subst (λ b. Keeps b n) same keeps)) (rw c.in-Restart.is at c.in_ok-told.ensures.observed) c.in_ok-pass_each-in-Restart.ensures.passed es tracks late
 
-pub returns-in_ok-pass_each-in-Heard-clause-may : goal.returns-in_ok-pass_each-in-Heard-clause-may
-returns-in_ok-pass_each-in-Heard-clause-may g c =
-    let s = c.args.standing.now in
-    let e = c.args.entry.now in
-    let mid = c.observe.new.book in
-    let t = c.pass_each-in-Heard.new.tables in
-    let new = c.drop_unnamed.new.self in
-    let passed = c.in_ok-pass_each-in-Heard.ensures in
-    subst (λ x. MayTake new.book x (e.number + 1) e.moment) (sym c.drop_unnamed.ensures.tables)
-    (dropped_take e.number mid new.book t (e.number + 1) e.moment c.drop_unnamed.ensures.book
-    (may_next None s.book mid mid s.tables c.touch_each.new.tables t e.number e.moment e.bytes.items c.requires.may
-    (rw c.in-Heard.is at c.in_ok-told.ensures.kept).4
-    (few_keys c.in-Heard.concerned (each c.in_ok-concerned-in-Heard.concerned) s.tables c.touch_each.new.tables c.in_ok-concerned-in-Heard.ensures.touched)
-    passed.keys refl passed.may passed.watched.recorded))
-
-pub returns-in_ok-pass_each-in-Heard-clause-watched : goal.returns-in_ok-pass_each-in-Heard-clause-watched
-returns-in_ok-pass_each-in-Heard-clause-watched g c =
-    subst (λ x. AreWatched [] x c.pass_each-in-Heard.new.troubled) (sym c.drop_unnamed.ensures.tables) c.in_ok-pass_each-in-Heard.ensures.watched
-
-pub returns-in_ok-pass_each-in-Heard-clause-taken : goal.returns-in_ok-pass_each-in-Heard-clause-taken
-returns-in_ok-pass_each-in-Heard-clause-taken g c = λ es fresh tracks late.
-    let s = c.args.standing.now in
-    let e = c.args.entry.now in
-    let mid = c.observe.new.book in
-    let t = c.pass_each-in-Heard.new.tables in
-    let b = c.pass_each-in-Heard.new.troubled in
-    let new = c.drop_unnamed.new.self in
-    let dropped = c.drop_unnamed.ensures in
-    let grown = c.in_ok-grow-in-Heard.ensures in
-    let is_heard = rw c.in-Heard.is at c.in_ok-told.ensures.heard in
-    let (f, seen, fine, now, keys, passing) =
-    heard_taken s.book mid e.number e.bytes.items (rw c.in-Heard.is at c.in_ok-told.ensures.kept).4 (item e) e.moment refl c.in-Heard.event c.in-Heard.concerned c.in_ok-concerned-in-Heard.concerned
-    s.tables c.touch_each.new.tables t c.args.troubled.now c.grow.new.self b grown.deaf.0
-    c.requires.watched.long c.requires.may.passes.long fresh grown.deaf.1 grown.deaf.2 grown.broken grown.wide c.in_ok-concerned-in-Heard.ensures.touched c.known-in-Heard.ensures.unique
-    c.in_ok-pass_each-in-Heard.ensures.keys is_heard.1 (c.in_ok-concerned-in-Heard.ensures.same ∙ is_heard.3) (rw c.in-Heard.is at c.in_ok-told.ensures.observed) c.in_ok-pass_each-in-Heard.ensures.passed es tracks late in (
-      f,
-      seen,
-      fine,
-      now,
-      ap (λ x. x.keys) dropped.tables ∙ keys,
-      subst (λ x. ArePassing new.book s.tables.times es f (is_among []) x b) (sym dropped.tables) (dropped_passing e.number mid new.book s.tables.times es f t b dropped.book passing),
-    )
-
 pub returns-in_ok-pass_each-in-Unheard-clause-keys : goal.returns-in_ok-pass_each-in-Unheard-clause-keys
 returns-in_ok-pass_each-in-Unheard-clause-keys g c = let same = ap length c.in_ok-pass_each-in-Unheard.ensures.keys in omega arith
 
@@ -181,9 +177,3 @@ returns-in_ok-pass_each-in-Fault-clause-keys g c = let same = ap length c.in_ok-
 
 pub returns-in_ok-pass_each-in-Restart-clause-keys : goal.returns-in_ok-pass_each-in-Restart-clause-keys
 returns-in_ok-pass_each-in-Restart-clause-keys g c = let same = ap length c.in_ok-pass_each-in-Restart.ensures.keys in omega arith
-
-pub returns-in_ok-pass_each-in-Heard-clause-keys : goal.returns-in_ok-pass_each-in-Heard-clause-keys
-returns-in_ok-pass_each-in-Heard-clause-keys g c =
-    let few = few_keys c.in-Heard.concerned (each c.in_ok-concerned-in-Heard.concerned) c.args.standing.now.tables c.touch_each.new.tables c.in_ok-concerned-in-Heard.ensures.touched in
-    let same = ap length (ap (λ x. x.keys) c.drop_unnamed.ensures.tables ∙ c.in_ok-pass_each-in-Heard.ensures.keys) in
-    omega arith

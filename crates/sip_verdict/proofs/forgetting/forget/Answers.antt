@@ -1,5 +1,5 @@
-use Rattle.std.proofs.Common.{◌≡◌, ◌≤◌, ◌+◌, ◌∙◌, Bool, List, All, Contains, length, slice_get, sym, ap, subst, refl, arith, []}
-use Rattle.sip_states.specs.Kept.{kept_of, kept_tables}
+use Rattle.std.proofs.Common.{◌+◌, ◌∙◌, All, Contains, length, slice_get, sym, ap, subst, refl, arith, []}
+use Rattle.sip_states.specs.Kept.{kept_of}
 use Rattle.sip_states.specs.Tables.{Tabled}
 use Rattle.sip_verdict.specs.Forgetting.{ForgetsUpTo, remembered}
 use Rattle.sip_verdict.specs.Named.{AreMany}
@@ -19,86 +19,63 @@ keep-requires g c = ap length c.as_slice-flags.ensures.value ∙ c.in_ok-flags.e
 pub keep-requires-2 : goal.keep-requires-2
 keep-requires-2 g c = ap length c.as_slice-flags.ensures.value ∙ c.in_ok-flags.ensures.long ∙ ap length c.in_ok-wait.ensures.keys ∙ sym c.requires.watched.long
 
-pub sweep-requires-clause-may : goal.sweep-requires-clause-may
-sweep-requires-clause-may g c =
+pub sweep-requires : goal.sweep-requires
+sweep-requires g c =
     let s = c.wait.new.self in
     let flags = c.as_slice-flags.result.now in
     let long = ap length c.as_slice-flags.ensures.value ∙ c.in_ok-flags.ensures.long in
-    subst (λ t. MayPass s.book t c.args.newest.moment) (sym c.in_ok-keep.ensures.ok) (pass_kept flags s.tables long c.known.ensures.unique s.book c.args.newest.moment c.in_ok-wait.ensures.may)
+    record {
+      may = subst (λ t. MayPass s.book t c.args.newest.moment) (sym c.in_ok-keep.ensures.ok) (pass_kept flags s.tables long c.known.ensures.unique s.book c.args.newest.moment c.in_ok-wait.ensures.may);
+      recorded = subst AllAreOnRecord (sym c.in_ok-keep.ensures.ok) (recorded_kept flags s.tables long c.known.ensures.unique c.in_ok-wait.ensures.recorded);
+    }
 
-pub sweep-requires-clause-recorded : goal.sweep-requires-clause-recorded
-sweep-requires-clause-recorded g c =
-    let s = c.wait.new.self in
-    let flags = c.as_slice-flags.result.now in
-    let long = ap length c.as_slice-flags.ensures.value ∙ c.in_ok-flags.ensures.long in
-    subst AllAreOnRecord (sym c.in_ok-keep.ensures.ok) (recorded_kept flags s.tables long c.known.ensures.unique c.in_ok-wait.ensures.recorded)
-
-pub returns-clause-may : goal.returns-clause-may
-returns-clause-may g c =
+pub returns : goal.returns
+returns g c =
     let old = c.args.standing.now in
-    let s = c.wait.new.self in
     let flags = c.as_slice-flags.result.now in
     let long = ap length c.as_slice-flags.ensures.value ∙ c.in_ok-flags.ensures.long in
-    let newest = c.args.newest in
     let new = c.sweep.new.self in
     let mid = c.keep.new.self in
     let swept = c.in_ok-sweep.ensures in
-    let waited = take_waited old.book s.book old.tables s.tables (newest.number + 1) newest.moment c.in_ok-wait.ensures.book c.in_ok-wait.ensures.keys c.in_ok-wait.ensures.may c.in_ok-wait.ensures.recorded c.requires.may in
-    let may = subst (λ t. MayTake s.book t (newest.number + 1) newest.moment) (sym c.in_ok-keep.ensures.ok) (take_kept flags s.tables long c.known.ensures.unique s.book (newest.number + 1) newest.moment waited) in
-    swept_take s.book new.book mid new.tables (newest.number + 1) newest.moment may swept.may swept.recorded (within_keeps s.book new.book swept.fewer) swept.keys
-
-pub returns-clause-watched : goal.returns-clause-watched
-returns-clause-watched g c =
     let s = c.wait.new.self in
-    let flags = c.as_slice-flags.result.now in
-    let long = ap length c.as_slice-flags.ensures.value ∙ c.in_ok-flags.ensures.long in
-    let b = c.keep-2.new.self in
-    let waited = watched_waited c.args.standing.now.tables s.tables c.args.troubled.now c.in_ok-wait.ensures.keys c.in_ok-wait.ensures.records c.in_ok-wait.ensures.recorded c.requires.watched in
-    let h = subst (λ t. AreWatched [] t b) (sym c.in_ok-keep.ensures.ok) (watched_kept flags s.tables long c.known.ensures.unique c.args.troubled.now b c.keep-2.ensures.deaf waited) in
-    let swept = c.in_ok-sweep.ensures in
-    record { long = h.long ∙ ap length (sym swept.keys); recorded = swept.recorded; silent = λ n is. ap (λ rs. slice_get rs n) swept.records ∙ h.silent n is }
-
-pub returns-clause-fresh : goal.returns-clause-fresh
-returns-clause-fresh g c = record { broken = c.keep-2.ensures.broken ∙ c.requires.fresh.broken; wide = c.keep-2.ensures.wide ∙ c.requires.fresh.wide }
-
-pub returns-clause-left : goal.returns-clause-left
-returns-clause-left g c =
-    let old = c.args.standing.now in
-    let s = c.wait.new.self in
-    let fewer = subst (λ b. All (Contains b) c.sweep.new.self.book) c.in_ok-wait.ensures.book c.in_ok-sweep.ensures.fewer in
-    let high = c.kept.ensures.few (c.args.newest.number + 1) (λ n keeps. c.requires.may.numbered n (within_keeps old.book c.sweep.new.self.book fewer n keeps)) in
-    omega (arith, high, c.requires.count)
-
-pub returns-clause-fewer : goal.returns-clause-fewer
-returns-clause-fewer g c = subst (λ b. All (Contains b) c.sweep.new.self.book) c.in_ok-wait.ensures.book c.in_ok-sweep.ensures.fewer
-
-pub returns-clause-forgets : goal.returns-clause-forgets
-returns-clause-forgets g c = λ es surveyed told newest.
-    let old = c.args.standing.now in
-    let s = c.wait.new.self in
-    let t = s.tables in
-    let flags = c.as_slice-flags.result.now in
-    let long = ap length c.as_slice-flags.ensures.value ∙ c.in_ok-flags.ensures.long in
-    let apart = c.known.ensures.unique in
-    let says = subst (AreFlags c.args.until t c.args.histories.now) (sym c.as_slice-flags.ensures.value) c.in_ok-flags.ensures in
-    let troubled = c.args.troubled.now in
-    let deaf = troubled.deaf.items in
-    let (tracks_on, quiet) = c.in_ok-wait.ensures.surveyed es deaf surveyed.tracks newest c.requires.watched.long in
-    let waited = watched_waited old.tables t troubled c.in_ok-wait.ensures.keys c.in_ok-wait.ensures.records c.in_ok-wait.ensures.recorded c.requires.watched in
-    let kept = kept_by flags t.keys in
-    let left = remembered kept es in
-    let mid = c.keep.new.self in
-    let new = c.sweep.new.self in
-    let swept = c.in_ok-sweep.ensures in
-    let now = c.keep-2.new.self.deaf.items in
-    let tracks = subst (TablesSurvey s.book left mid) (sym c.keep-2.ensures.deaf) (subst (λ u. TablesSurvey s.book left u (kept_of flags deaf)) (sym c.in_ok-keep.ensures.ok) (survey_kept flags t long apart s.book es deaf tracks_on)) in
-    let watched = subst (λ u. AreWatched [] u c.keep-2.new.self) (sym c.in_ok-keep.ensures.ok) (watched_kept flags t long apart troubled c.keep-2.new.self c.keep-2.ensures.deaf waited) in
-    let both = swept.surveyed left now tracks (newest_kept kept es ∙ newest) watched.long in
-    let times = ap (λ (u : Tabled). u.times) c.in_ok-keep.ensures.ok ∙ c.in_ok-wait.ensures.times in (
-      kept,
-      subst (λ p. ForgetsUpTo c.args.until p es kept) c.in_ok-wait.ensures.times
-          (forgets_kept flags t long apart s.book es deaf c.args.histories.now c.args.until c.args.newest.moment says tracks_on waited.long c.in_ok-wait.ensures.may newest told quiet),
-      surveyed_swept new.book mid new.tables now c.kept.result left swept.times c.kept.ensures.kept both,
-      histories_kept flags t long apart es c.args.histories.now (record { each = c.keep_each.new.items; restart = c.args.histories.now.restart }) tracks_on.keys c.keep_each.ensures refl told,
-      subst (λ p. AreMany (IsStillNamed p left) (length new.book)) times both.1,
-    )
+    record {
+      times = search rules;
+      may =
+          let newest = c.args.newest in
+          let waited = take_waited old.book s.book old.tables s.tables (newest.number + 1) newest.moment c.in_ok-wait.ensures.book c.in_ok-wait.ensures.keys c.in_ok-wait.ensures.may c.in_ok-wait.ensures.recorded c.requires.may in
+          let may = subst (λ t. MayTake s.book t (newest.number + 1) newest.moment) (sym c.in_ok-keep.ensures.ok) (take_kept flags s.tables long c.known.ensures.unique s.book (newest.number + 1) newest.moment waited) in
+          swept_take s.book new.book mid new.tables (newest.number + 1) newest.moment may swept.may swept.recorded (within_keeps s.book new.book swept.fewer) swept.keys;
+      watched =
+          let b = c.keep-2.new.self in
+          let waited = watched_waited c.args.standing.now.tables s.tables c.args.troubled.now c.in_ok-wait.ensures.keys c.in_ok-wait.ensures.records c.in_ok-wait.ensures.recorded c.requires.watched in
+          let h = subst (λ t. AreWatched [] t b) (sym c.in_ok-keep.ensures.ok) (watched_kept flags s.tables long c.known.ensures.unique c.args.troubled.now b c.keep-2.ensures.deaf waited) in
+          record { long = h.long ∙ ap length (sym swept.keys); recorded = swept.recorded; silent = λ n is. ap (λ rs. slice_get rs n) swept.records ∙ h.silent n is };
+      fresh = record { broken = c.keep-2.ensures.broken ∙ c.requires.fresh.broken; wide = c.keep-2.ensures.wide ∙ c.requires.fresh.wide };
+      left =
+          let fewer = subst (λ b. All (Contains b) c.sweep.new.self.book) c.in_ok-wait.ensures.book c.in_ok-sweep.ensures.fewer in
+          let high = c.kept.ensures.few (c.args.newest.number + 1) (λ n keeps. c.requires.may.numbered n (within_keeps old.book c.sweep.new.self.book fewer n keeps)) in
+          omega (arith, high, c.requires.count);
+      fewer = subst (λ b. All (Contains b) c.sweep.new.self.book) c.in_ok-wait.ensures.book c.in_ok-sweep.ensures.fewer;
+      forgets = λ es surveyed told newest.
+          let t = s.tables in
+          let apart = c.known.ensures.unique in
+          let says = subst (AreFlags c.args.until t c.args.histories.now) (sym c.as_slice-flags.ensures.value) c.in_ok-flags.ensures in
+          let troubled = c.args.troubled.now in
+          let deaf = troubled.deaf.items in
+          let (tracks_on, quiet) = c.in_ok-wait.ensures.surveyed es deaf surveyed.tracks newest c.requires.watched.long in
+          let waited = watched_waited old.tables t troubled c.in_ok-wait.ensures.keys c.in_ok-wait.ensures.records c.in_ok-wait.ensures.recorded c.requires.watched in
+          let kept = kept_by flags t.keys in
+          let left = remembered kept es in
+          let now = c.keep-2.new.self.deaf.items in
+          let tracks = subst (TablesSurvey s.book left mid) (sym c.keep-2.ensures.deaf) (subst (λ u. TablesSurvey s.book left u (kept_of flags deaf)) (sym c.in_ok-keep.ensures.ok) (survey_kept flags t long apart s.book es deaf tracks_on)) in
+          let watched = subst (λ u. AreWatched [] u c.keep-2.new.self) (sym c.in_ok-keep.ensures.ok) (watched_kept flags t long apart troubled c.keep-2.new.self c.keep-2.ensures.deaf waited) in
+          let both = swept.surveyed left now tracks (newest_kept kept es ∙ newest) watched.long in
+          let times = ap (λ (u : Tabled). u.times) c.in_ok-keep.ensures.ok ∙ c.in_ok-wait.ensures.times in (
+            kept,
+            subst (λ p. ForgetsUpTo c.args.until p es kept) c.in_ok-wait.ensures.times
+                (forgets_kept flags t long apart s.book es deaf c.args.histories.now c.args.until c.args.newest.moment says tracks_on waited.long c.in_ok-wait.ensures.may newest told quiet),
+            surveyed_swept new.book mid new.tables now c.kept.result left swept.times c.kept.ensures.kept both,
+            histories_kept flags t long apart es c.args.histories.now (record { each = c.keep_each.new.items; restart = c.args.histories.now.restart }) tracks_on.keys c.keep_each.ensures refl told,
+            subst (λ p. AreMany (IsStillNamed p left) (length new.book)) times both.1,
+          );
+    }

@@ -26,40 +26,35 @@ pub hear_each-requires-clause-may : goal.hear_each-requires-clause-may
 hear_each-requires-clause-may g c =
     subst (MayPass c.args.book.now c.args.tables.now) (sym (c.requires.hear c.in-Some.hearing c.in-Some.is).at) c.requires.may
 
-pub returns-clause-may : goal.returns-clause-may
-returns-clause-may g c =
-    IfOk-weaker c.hear_each.result _ _ (λ outcome h. subst (MayPass c.args.book.now c.hear_each.new.tables) (c.requires.hear c.in-Some.hearing c.in-Some.is).at h.0) c.hear_each.ensures.heard
-
-pub returns-clause-recorded : goal.returns-clause-recorded
-returns-clause-recorded g c =
+pub returns : goal.returns
+returns g c =
     let h = c.in-Some.hearing.now in
     let t = c.args.tables.now in
-    IfOk-weaker c.hear_each.result _ _
-    (λ outcome heard.
-    let hearers = heard.1.1 in
-    heard_recorded c.args.book.now h.event heard.1.0 t c.hear_each.new.tables c.overdue-overdue.result outcome hearers.given
-    (recorded_more (each h.concerned) heard.1.0 t hearers.named (rw c.in-Some.is at c.requires.recorded)) heard.1.2) c.hear_each.ensures.heard
-
-pub returns-clause-outcome : goal.returns-clause-outcome
-returns-clause-outcome g c =
-    let h = c.in-Some.hearing.now in
-    let t = c.args.tables.now in
-    let u = c.hear_each.new.tables in
-    let hear = c.requires.hear c.in-Some.hearing c.in-Some.is in
-    IfOk-weaker c.hear_each.result _ _
-    (λ outcome heard p es e newest told ready.
-    let told_it = rw c.in-Some.is at told in
-    let hearers = heard.1.1 in
-    let recorded = recorded_more (each h.concerned) heard.1.0 t hearers.named (rw c.in-Some.is at c.requires.recorded) in
-    heard_outcome c.args.book.now p es e c.args.moment _ t c.requires.may heard.1.0 recorded told_it ready newest hearers.heard
-    (quiet_others c.args.book.now p es e c.args.moment h t c.requires.may told_it ready newest hear heard.1.0 hearers) h.event (λ n key at. (told_it n key at).event)
-    (omega (arith, newest, hear.at)) hearers.given hearers.apart u heard.0.long outcome
-    (subst (λ o. HearsEach c.args.book.now h.event heard.1.0 t o u outcome) c.overdue-overdue.ensures heard.1.2)) c.hear_each.ensures.heard
-
-pub returns-clause-others : goal.returns-clause-others
-returns-clause-others g c =
-    let h = c.in-Some.hearing.now in
-    IfOk-weaker c.hear_each.result _ _
-    (λ outcome heard n none.
-    hears_others c.args.book.now h.event heard.1.0 c.args.tables.now c.hear_each.new.tables c.overdue-overdue.result outcome heard.1.1.given heard.1.2 n
-    (others_left h.concerned heard.1.0 (n + 1) heard.1.1.heard (rw c.in-Some.is at none))) c.hear_each.ensures.heard
+    record {
+      times = search rules;
+      keys = search rules;
+      may = IfOk-weaker c.hear_each.result _ _ (λ outcome h. subst (MayPass c.args.book.now c.hear_each.new.tables) (c.requires.hear c.in-Some.hearing c.in-Some.is).at h.0) c.hear_each.ensures.heard;
+      recorded =
+          IfOk-weaker c.hear_each.result _ _
+          (λ outcome heard.
+          let hearers = heard.1.1 in
+          heard_recorded c.args.book.now h.event heard.1.0 t c.hear_each.new.tables c.overdue-overdue.result outcome hearers.given
+          (recorded_more (each h.concerned) heard.1.0 t hearers.named (rw c.in-Some.is at c.requires.recorded)) heard.1.2) c.hear_each.ensures.heard;
+      outcome =
+          let u = c.hear_each.new.tables in
+          let hear = c.requires.hear c.in-Some.hearing c.in-Some.is in
+          IfOk-weaker c.hear_each.result _ _
+          (λ outcome heard p es e newest told ready.
+          let told_it = rw c.in-Some.is at told in
+          let hearers = heard.1.1 in
+          let recorded = recorded_more (each h.concerned) heard.1.0 t hearers.named (rw c.in-Some.is at c.requires.recorded) in
+          heard_outcome c.args.book.now p es e c.args.moment _ t c.requires.may heard.1.0 recorded told_it ready newest hearers.heard
+          (quiet_others c.args.book.now p es e c.args.moment h t c.requires.may told_it ready newest hear heard.1.0 hearers) h.event (λ n key at. (told_it n key at).event)
+          (omega (arith, newest, hear.at)) hearers.given hearers.apart u heard.0.long outcome
+          (subst (λ o. HearsEach c.args.book.now h.event heard.1.0 t o u outcome) c.overdue-overdue.ensures heard.1.2)) c.hear_each.ensures.heard;
+      others =
+          IfOk-weaker c.hear_each.result _ _
+          (λ outcome heard n none.
+          hears_others c.args.book.now h.event heard.1.0 c.args.tables.now c.hear_each.new.tables c.overdue-overdue.result outcome heard.1.1.given heard.1.2 n
+          (others_left h.concerned heard.1.0 (n + 1) heard.1.1.heard (rw c.in-Some.is at none))) c.hear_each.ensures.heard;
+    }

@@ -56,64 +56,52 @@ returns-in-Fine-clause-others g c =
     on_ok_weaker c.settle.result (λ settles.
     let (limit, agenda, is) = settles_leaves c.args.number c.hear.new.set t c.settle.new.self settles in others_still t c.settle.new.self c.args.number c.hear.new.set c.requires.given (ap (λ x. x.sets) is)) c.settle.ensures.ok
 
-pub returns-in_ok-restart_key-in-NoRun-clause-others : goal.returns-in_ok-restart_key-in-NoRun-clause-others
-returns-in_ok-restart_key-in-NoRun-clause-others g c =
+pub returns-in_ok-restart_key-in-NoRun : goal.returns-in_ok-restart_key-in-NoRun
+returns-in_ok-restart_key-in-NoRun g c =
     let t = c.args.tables.now in
     let anew = c.in_ok-restart_key-in-NoRun.ensures.ok in
-    on_ok_weaker c.add_broken.result (λ added. others_still t c.restart_key.new.self c.args.number (start_of t.times anew.key) c.requires.given
-    (anew_sets t c.restart_key.new.self c.args.number c.hear.new.set anew.key (ap (λ x. x.sets) anew.begun))) c.add_broken.ensures
+    record {
+      times = search rules;
+      keys = search rules;
+      may =
+          on_ok_weaker c.add_broken.result (λ added. passes_anew c.args.book.now t c.restart_key.new.self (c.args.number - 1) c.args.event.now.moment anew.key t.times c.requires.may (ap (λ x. x.keys) anew.begun)
+          (anew_sets t c.restart_key.new.self c.args.number c.hear.new.set anew.key (ap (λ x. x.sets) anew.begun))) c.add_broken.ensures;
+      others =
+          on_ok_weaker c.add_broken.result (λ added. others_still t c.restart_key.new.self c.args.number (start_of t.times anew.key) c.requires.given
+          (anew_sets t c.restart_key.new.self c.args.number c.hear.new.set anew.key (ap (λ x. x.sets) anew.begun))) c.add_broken.ensures;
+      long = search rules;
+      watched =
+          on_ok_weaker c.add_broken.result (λ added waits h. watched_off t c.args.troubled.now c.args.number waits c.requires.given h c.restart_key.new.self c.add_broken.new.self (start_of t.times anew.key) anew.endless added.deaf
+          (ap (λ x. x.keys) anew.begun) (anew_sets t c.restart_key.new.self c.args.number c.hear.new.set anew.key (ap (λ x. x.sets) anew.begun)) (ap (λ x. x.records) anew.begun)) c.add_broken.ensures;
+      heard =
+          let b = c.args.troubled.now in
+          on_ok_weaker c.add_broken.result (λ added p es e waits times late once concerned h.
+          heard_broken c.args.book.now p es e t b c.args.number c.requires.given waits c.args.event.now late once concerned h (c.has.ensures ∙ ap Some c.if-has.false) c.set_mut.result.now c.hear.new.set c.set_mut.ensures.value
+          c.in_ok-hear.field-0 c.in_ok-hear.ensures.stepped c.in-NoRun.is c.restart_key.new.self c.add_broken.new.self t.times anew.key anew.at times (ap (λ x. x.keys) anew.begun)
+          (anew_sets t c.restart_key.new.self c.args.number c.hear.new.set anew.key (ap (λ x. x.sets) anew.begun)) added.deaf added.broken added.wide) c.add_broken.ensures;
+    }
 
-pub returns-in_ok-restart_key-in-TooWide-clause-others : goal.returns-in_ok-restart_key-in-TooWide-clause-others
-returns-in_ok-restart_key-in-TooWide-clause-others g c =
+pub returns-in_ok-restart_key-in-TooWide : goal.returns-in_ok-restart_key-in-TooWide
+returns-in_ok-restart_key-in-TooWide g c =
     let t = c.args.tables.now in
     let anew = c.in_ok-restart_key-in-TooWide.ensures.ok in
-    on_ok_weaker c.add_wide.result (λ added. others_still t c.restart_key-in-TooWide.new.self c.args.number (start_of t.times anew.key) c.requires.given
-    (anew_sets t c.restart_key-in-TooWide.new.self c.args.number c.hear.new.set anew.key (ap (λ x. x.sets) anew.begun))) c.add_wide.ensures
-
-pub returns-in_ok-restart_key-in-NoRun-clause-may : goal.returns-in_ok-restart_key-in-NoRun-clause-may
-returns-in_ok-restart_key-in-NoRun-clause-may g c =
-    let t = c.args.tables.now in
-    let anew = c.in_ok-restart_key-in-NoRun.ensures.ok in
-    on_ok_weaker c.add_broken.result (λ added. passes_anew c.args.book.now t c.restart_key.new.self (c.args.number - 1) c.args.event.now.moment anew.key t.times c.requires.may (ap (λ x. x.keys) anew.begun)
-    (anew_sets t c.restart_key.new.self c.args.number c.hear.new.set anew.key (ap (λ x. x.sets) anew.begun))) c.add_broken.ensures
-
-pub returns-in_ok-restart_key-in-NoRun-clause-watched : goal.returns-in_ok-restart_key-in-NoRun-clause-watched
-returns-in_ok-restart_key-in-NoRun-clause-watched g c =
-    let t = c.args.tables.now in
-    let anew = c.in_ok-restart_key-in-NoRun.ensures.ok in
-    on_ok_weaker c.add_broken.result (λ added waits h. watched_off t c.args.troubled.now c.args.number waits c.requires.given h c.restart_key.new.self c.add_broken.new.self (start_of t.times anew.key) anew.endless added.deaf
-    (ap (λ x. x.keys) anew.begun) (anew_sets t c.restart_key.new.self c.args.number c.hear.new.set anew.key (ap (λ x. x.sets) anew.begun)) (ap (λ x. x.records) anew.begun)) c.add_broken.ensures
-
-pub returns-in_ok-restart_key-in-NoRun-clause-heard : goal.returns-in_ok-restart_key-in-NoRun-clause-heard
-returns-in_ok-restart_key-in-NoRun-clause-heard g c =
-    let t = c.args.tables.now in
-    let b = c.args.troubled.now in
-    let anew = c.in_ok-restart_key-in-NoRun.ensures.ok in
-    on_ok_weaker c.add_broken.result (λ added p es e waits times late once concerned h.
-    heard_broken c.args.book.now p es e t b c.args.number c.requires.given waits c.args.event.now late once concerned h (c.has.ensures ∙ ap Some c.if-has.false) c.set_mut.result.now c.hear.new.set c.set_mut.ensures.value
-    c.in_ok-hear.field-0 c.in_ok-hear.ensures.stepped c.in-NoRun.is c.restart_key.new.self c.add_broken.new.self t.times anew.key anew.at times (ap (λ x. x.keys) anew.begun)
-    (anew_sets t c.restart_key.new.self c.args.number c.hear.new.set anew.key (ap (λ x. x.sets) anew.begun)) added.deaf added.broken added.wide) c.add_broken.ensures
-
-pub returns-in_ok-restart_key-in-TooWide-clause-may : goal.returns-in_ok-restart_key-in-TooWide-clause-may
-returns-in_ok-restart_key-in-TooWide-clause-may g c =
-    let t = c.args.tables.now in
-    let anew = c.in_ok-restart_key-in-TooWide.ensures.ok in
-    on_ok_weaker c.add_wide.result (λ added. passes_anew c.args.book.now t c.restart_key-in-TooWide.new.self (c.args.number - 1) c.args.event.now.moment anew.key t.times c.requires.may (ap (λ x. x.keys) anew.begun)
-    (anew_sets t c.restart_key-in-TooWide.new.self c.args.number c.hear.new.set anew.key (ap (λ x. x.sets) anew.begun))) c.add_wide.ensures
-
-pub returns-in_ok-restart_key-in-TooWide-clause-watched : goal.returns-in_ok-restart_key-in-TooWide-clause-watched
-returns-in_ok-restart_key-in-TooWide-clause-watched g c =
-    let t = c.args.tables.now in
-    let anew = c.in_ok-restart_key-in-TooWide.ensures.ok in
-    on_ok_weaker c.add_wide.result (λ added waits h. watched_off t c.args.troubled.now c.args.number waits c.requires.given h c.restart_key-in-TooWide.new.self c.add_wide.new.self (start_of t.times anew.key) anew.endless added.deaf
-    (ap (λ x. x.keys) anew.begun) (anew_sets t c.restart_key-in-TooWide.new.self c.args.number c.hear.new.set anew.key (ap (λ x. x.sets) anew.begun)) (ap (λ x. x.records) anew.begun)) c.add_wide.ensures
-
-pub returns-in_ok-restart_key-in-TooWide-clause-heard : goal.returns-in_ok-restart_key-in-TooWide-clause-heard
-returns-in_ok-restart_key-in-TooWide-clause-heard g c =
-    let t = c.args.tables.now in
-    let b = c.args.troubled.now in
-    let anew = c.in_ok-restart_key-in-TooWide.ensures.ok in
-    on_ok_weaker c.add_wide.result (λ added p es e waits times late once concerned h.
-    heard_wide c.args.book.now p es e t b c.args.number c.requires.given waits c.args.event.now late once concerned h (c.has.ensures ∙ ap Some c.if-has.false) c.set_mut.result.now c.hear.new.set c.set_mut.ensures.value
-    c.in_ok-hear.field-0 c.in_ok-hear.ensures.stepped c.in-TooWide.is c.restart_key-in-TooWide.new.self c.add_wide.new.self t.times anew.key anew.at times (ap (λ x. x.keys) anew.begun)
-    (anew_sets t c.restart_key-in-TooWide.new.self c.args.number c.hear.new.set anew.key (ap (λ x. x.sets) anew.begun)) added.deaf added.wide added.broken) c.add_wide.ensures
+    record {
+      times = search rules;
+      keys = search rules;
+      may =
+          on_ok_weaker c.add_wide.result (λ added. passes_anew c.args.book.now t c.restart_key-in-TooWide.new.self (c.args.number - 1) c.args.event.now.moment anew.key t.times c.requires.may (ap (λ x. x.keys) anew.begun)
+          (anew_sets t c.restart_key-in-TooWide.new.self c.args.number c.hear.new.set anew.key (ap (λ x. x.sets) anew.begun))) c.add_wide.ensures;
+      others =
+          on_ok_weaker c.add_wide.result (λ added. others_still t c.restart_key-in-TooWide.new.self c.args.number (start_of t.times anew.key) c.requires.given
+          (anew_sets t c.restart_key-in-TooWide.new.self c.args.number c.hear.new.set anew.key (ap (λ x. x.sets) anew.begun))) c.add_wide.ensures;
+      long = search rules;
+      watched =
+          on_ok_weaker c.add_wide.result (λ added waits h. watched_off t c.args.troubled.now c.args.number waits c.requires.given h c.restart_key-in-TooWide.new.self c.add_wide.new.self (start_of t.times anew.key) anew.endless added.deaf
+          (ap (λ x. x.keys) anew.begun) (anew_sets t c.restart_key-in-TooWide.new.self c.args.number c.hear.new.set anew.key (ap (λ x. x.sets) anew.begun)) (ap (λ x. x.records) anew.begun)) c.add_wide.ensures;
+      heard =
+          let b = c.args.troubled.now in
+          on_ok_weaker c.add_wide.result (λ added p es e waits times late once concerned h.
+          heard_wide c.args.book.now p es e t b c.args.number c.requires.given waits c.args.event.now late once concerned h (c.has.ensures ∙ ap Some c.if-has.false) c.set_mut.result.now c.hear.new.set c.set_mut.ensures.value
+          c.in_ok-hear.field-0 c.in_ok-hear.ensures.stepped c.in-TooWide.is c.restart_key-in-TooWide.new.self c.add_wide.new.self t.times anew.key anew.at times (ap (λ x. x.keys) anew.begun)
+          (anew_sets t c.restart_key-in-TooWide.new.self c.args.number c.hear.new.set anew.key (ap (λ x. x.sets) anew.begun)) added.deaf added.wide added.broken) c.add_wide.ensures;
+    }

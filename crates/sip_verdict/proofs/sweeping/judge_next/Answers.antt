@@ -14,33 +14,28 @@ returns-then-kept-left-clause-judged g c =
     let few : length mid.book ≤ left + left + 64 = omega (arith, c.kept.ensures.kept, c.if-kept-left.true) in
     followed_kept s.book mid.book s.tables mid.tables c.in_ok-verdict.ensures.times e.number (item e) (rw c.in_default.is at c.in_ok-verdict.ensures.judged) left few
 
-pub returns-clause-may : goal.returns-clause-may
-returns-clause-may g c =
-    let mid = c.judge.new.self in
+pub returns : goal.returns
+returns g c =
     let new = c.sweep.new.self in
     let e = c.args.entry.now in
     let swept = c.in_ok-sweep.ensures in
-    swept_take mid.book new.book mid.tables new.tables (e.number + 1) e.moment (rw c.in_default.is at c.in_ok-verdict.ensures.may) swept.may swept.recorded (within_keeps mid.book new.book swept.fewer) swept.keys
-
-pub returns-clause-left : goal.returns-clause-left
-returns-clause-left g c =
-    let may = rw c.in_default.is at c.in_ok-verdict.ensures.may in
-    let fewer = within_keeps c.judge.new.self.book c.sweep.new.self.book c.in_ok-sweep.ensures.fewer in
-    let high = c.kept-2.ensures.few (c.args.entry.now.number + 1) (λ n keeps. may.numbered n (fewer n keeps)) in
-    omega (arith, high, c.requires.count)
-
-pub returns-clause-keyless : goal.returns-clause-keyless
-returns-clause-keyless g c none =
-    let old = c.args.standing.now.book in
-    let mid = c.judge.new.self.book in
-    All-weaker (Contains mid) (Contains old) (λ x has. All-contains (Contains old) mid x (c.in_ok-verdict.ensures.keyless none) has) c.sweep.new.self.book c.in_ok-sweep.ensures.fewer
-
-pub returns-clause-judged : goal.returns-clause-judged
-returns-clause-judged g c =
-    let s = c.args.standing.now in
-    let mid = c.judge.new.self in
-    let new = c.sweep.new.self in
-    let e = c.args.entry.now in
-    let swept = c.in_ok-sweep.ensures in
-    followed_swept s.book mid.book s.tables mid.tables c.in_ok-verdict.ensures.times e.number (item e) (rw c.in_default.is at c.in_ok-verdict.ensures.judged) new.book new.tables swept.times swept.tracks swept.named
-    c.kept-2.result c.kept-2.ensures.kept c.args.left.now
+    record {
+      times = search rules;
+      may =
+          let mid = c.judge.new.self in
+          swept_take mid.book new.book mid.tables new.tables (e.number + 1) e.moment (rw c.in_default.is at c.in_ok-verdict.ensures.may) swept.may swept.recorded (within_keeps mid.book new.book swept.fewer) swept.keys;
+      left =
+          let may = rw c.in_default.is at c.in_ok-verdict.ensures.may in
+          let fewer = within_keeps c.judge.new.self.book c.sweep.new.self.book c.in_ok-sweep.ensures.fewer in
+          let high = c.kept-2.ensures.few (c.args.entry.now.number + 1) (λ n keeps. may.numbered n (fewer n keeps)) in
+          omega (arith, high, c.requires.count);
+      keyless = λ none.
+          let old = c.args.standing.now.book in
+          let mid = c.judge.new.self.book in
+          All-weaker (Contains mid) (Contains old) (λ x has. All-contains (Contains old) mid x (c.in_ok-verdict.ensures.keyless none) has) c.sweep.new.self.book c.in_ok-sweep.ensures.fewer;
+      judged =
+          let s = c.args.standing.now in
+          let mid = c.judge.new.self in
+          followed_swept s.book mid.book s.tables mid.tables c.in_ok-verdict.ensures.times e.number (item e) (rw c.in_default.is at c.in_ok-verdict.ensures.judged) new.book new.tables swept.times swept.tracks swept.named
+          c.kept-2.result c.kept-2.ensures.kept c.args.left.now;
+    }

@@ -9,32 +9,27 @@ pub drop_unnamed-requires-clause-others : goal.drop_unnamed-requires-clause-othe
 drop_unnamed-requires-clause-others g c some n set among at =
     known_unnamed c.args.self.now.book c.args.entry.now.number c.requires.may.numbered set (c.in_ok-taken.ensures.others some n set among at)
 
-pub returns-clause-may : goal.returns-clause-may
-returns-clause-may g c =
-    let e = c.args.entry.now in
-    let mid = c.take.new.self in
+pub returns : goal.returns
+returns g c =
     let new = c.drop_unnamed.new.self in
-    subst (λ t. MayTake new.book t (e.number + 1) e.moment) (sym c.drop_unnamed.ensures.tables)
-    (dropped_take e.number mid.book new.book mid.tables (e.number + 1) e.moment c.drop_unnamed.ensures.book (rw c.in_default.is at c.in_ok-taken.ensures.may))
-
-pub returns-clause-keyless : goal.returns-clause-keyless
-returns-clause-keyless g c none =
     let mid = c.take.new.self in
-    let new = c.drop_unnamed.new.self in
-    subst (λ b. All (Contains b) new.book) (c.in_ok-taken.ensures.keyless none) (dropped_within mid.tables.sets c.args.entry.now.number mid.book new.book c.drop_unnamed.ensures.book)
+    record {
+      times = search rules;
+      may =
+          let e = c.args.entry.now in
+          subst (λ t. MayTake new.book t (e.number + 1) e.moment) (sym c.drop_unnamed.ensures.tables)
+          (dropped_take e.number mid.book new.book mid.tables (e.number + 1) e.moment c.drop_unnamed.ensures.book (rw c.in_default.is at c.in_ok-taken.ensures.may));
+      keyless = λ none. subst (λ b. All (Contains b) new.book) (c.in_ok-taken.ensures.keyless none) (dropped_within mid.tables.sets c.args.entry.now.number mid.book new.book c.drop_unnamed.ensures.book);
+      judged = λ es tracks counts newest.
+          let number = c.args.entry.now.number in
+          let p = c.args.self.now.tables.times in
+          let (e, seen, judged, have) = c.in_ok-taken.ensures.judged es tracks counts newest in (
+            e,
+            seen,
+            subst (λ t. IsJudged p (key_keeping new.book p) es e (transactions_of t) None) (sym c.drop_unnamed.ensures.tables)
+                (dropped_judged number mid.book new.book p es e mid.tables c.drop_unnamed.ensures.book (rw c.in_default.is at judged)),
+          );
+    }
 
 pub returns-in-Some-clause-keyless : goal.returns-in-Some-clause-keyless
 returns-in-Some-clause-keyless g c none = same_within c.args.self.now.book c.take.new.self.book (c.in_ok-taken.ensures.keyless none)
-
-pub returns-clause-judged : goal.returns-clause-judged
-returns-clause-judged g c = λ es tracks counts newest.
-    let number = c.args.entry.now.number in
-    let p = c.args.self.now.tables.times in
-    let mid = c.take.new.self in
-    let new = c.drop_unnamed.new.self in
-    let (e, seen, judged, have) = c.in_ok-taken.ensures.judged es tracks counts newest in (
-      e,
-      seen,
-      subst (λ t. IsJudged p (key_keeping new.book p) es e (transactions_of t) None) (sym c.drop_unnamed.ensures.tables)
-          (dropped_judged number mid.book new.book p es e mid.tables c.drop_unnamed.ensures.book (rw c.in_default.is at judged)),
-    )

@@ -9,83 +9,40 @@ use Rattle.sip_verdict.proofs.sweeps.SweptTables.{named_is, swept_may, swept_tra
 use Rattle.sip_verdict.proofs.surveys.kept.Swept.{swept_survey, swept_many}
 use Rattle.sip_verdict.proofs.standing.Standing.sweep.Goals as goal
 
-pub retain_only-requires-clause-rising : goal.retain_only-requires-clause-rising
-retain_only-requires-clause-rising g c =
+pub retain_only-requires : goal.retain_only-requires
+retain_only-requires g c =
     let s = c.args.self.now in
     let u = c.advance_all.new.self in
     let numbers = c.deref.result.now in
     let named = named_is u c.new-named.result.items c.named.new.out.items c.new-named.ensures.items c.in_ok-named.ensures.ok numbers c.deref.ensures.value in
     let advances = c.in_ok-advance_all.ensures.ok in
-    named.0
+    record {
+      rising = named.0;
+      kept = swept_kept s.book c.known.ensures s.tables u c.args.moment advances c.requires.may numbers named.0 named.1;
+    }
 
-pub retain_only-requires-clause-kept : goal.retain_only-requires-clause-kept
-retain_only-requires-clause-kept g c =
-    let s = c.args.self.now in
-    let u = c.advance_all.new.self in
-    let numbers = c.deref.result.now in
-    let named = named_is u c.new-named.result.items c.named.new.out.items c.new-named.ensures.items c.in_ok-named.ensures.ok numbers c.deref.ensures.value in
-    let advances = c.in_ok-advance_all.ensures.ok in
-    swept_kept s.book c.known.ensures s.tables u c.args.moment advances c.requires.may numbers named.0 named.1
-
-pub returns-clause-may : goal.returns-clause-may
-returns-clause-may g c =
+pub returns : goal.returns
+returns g c =
     let s = c.args.self.now in
     let u = c.advance_all.new.self in
     let numbers = c.deref.result.now in
     let named = named_is u c.new-named.result.items c.named.new.out.items c.new-named.ensures.items c.in_ok-named.ensures.ok numbers c.deref.ensures.value in
     let advances = c.in_ok-advance_all.ensures.ok in
     let kept = swept_kept s.book c.known.ensures s.tables u c.args.moment advances c.requires.may numbers named.0 named.1 in
-    subst (λ b. MayPass b u c.args.moment) (sym c.retain_only.ensures) (swept_may s.book c.known.ensures s.tables u c.args.moment advances c.requires.may numbers named.0 named.1 kept)
-
-pub returns-clause-recorded : goal.returns-clause-recorded
-returns-clause-recorded g c =
-    let s = c.args.self.now in
-    let u = c.advance_all.new.self in
-    let numbers = c.deref.result.now in
-    let named = named_is u c.new-named.result.items c.named.new.out.items c.new-named.ensures.items c.in_ok-named.ensures.ok numbers c.deref.ensures.value in
-    let advances = c.in_ok-advance_all.ensures.ok in
-    swept_recorded s.book c.known.ensures s.tables u c.args.moment advances c.requires.may numbers named.0 named.1 c.requires.recorded
-
-pub returns-clause-fewer : goal.returns-clause-fewer
-returns-clause-fewer g c =
-    let s = c.args.self.now in
-    let u = c.advance_all.new.self in
-    let numbers = c.deref.result.now in
-    let named = named_is u c.new-named.result.items c.named.new.out.items c.new-named.ensures.items c.in_ok-named.ensures.ok numbers c.deref.ensures.value in
-    let advances = c.in_ok-advance_all.ensures.ok in
-    let kept = swept_kept s.book c.known.ensures s.tables u c.args.moment advances c.requires.may numbers named.0 named.1 in
-    subst (λ b. All (Contains s.book) b) (sym c.retain_only.ensures) (only_within s.book c.known.ensures numbers kept)
-
-pub returns-clause-tracks : goal.returns-clause-tracks
-returns-clause-tracks g c =
-    let s = c.args.self.now in
-    let u = c.advance_all.new.self in
-    let numbers = c.deref.result.now in
-    let named = named_is u c.new-named.result.items c.named.new.out.items c.new-named.ensures.items c.in_ok-named.ensures.ok numbers c.deref.ensures.value in
-    let advances = c.in_ok-advance_all.ensures.ok in
-    let kept = swept_kept s.book c.known.ensures s.tables u c.args.moment advances c.requires.may numbers named.0 named.1 in
-    λ es tracks. subst (λ b. TablesTrack b es u) (sym c.retain_only.ensures) (swept_track s.book c.known.ensures s.tables u c.args.moment advances c.requires.may numbers named.0 named.1 kept es tracks)
-
-pub returns-clause-named : goal.returns-clause-named
-returns-clause-named g c =
-    let s = c.args.self.now in
-    let u = c.advance_all.new.self in
-    let numbers = c.deref.result.now in
-    let named = named_is u c.new-named.result.items c.named.new.out.items c.new-named.ensures.items c.in_ok-named.ensures.ok numbers c.deref.ensures.value in
-    let advances = c.in_ok-advance_all.ensures.ok in
-    let kept = swept_kept s.book c.known.ensures s.tables u c.args.moment advances c.requires.may numbers named.0 named.1 in
-    λ es tracks newest. subst (λ b. AreMany (IsNamed s.tables.times es) (length b)) (sym c.retain_only.ensures)
-    (many_named s.book c.known.ensures s.tables.times c.args.moment es s.tables u refl tracks c.requires.may.long newest c.requires.may.order advances.long advances.each numbers named.0 named.1 kept)
-
-pub returns-clause-surveyed : goal.returns-clause-surveyed
-returns-clause-surveyed g c =
-    let s = c.args.self.now in
-    let u = c.advance_all.new.self in
-    let numbers = c.deref.result.now in
-    let named = named_is u c.new-named.result.items c.named.new.out.items c.new-named.ensures.items c.in_ok-named.ensures.ok numbers c.deref.ensures.value in
-    let advances = c.in_ok-advance_all.ensures.ok in
-    let kept = swept_kept s.book c.known.ensures s.tables u c.args.moment advances c.requires.may numbers named.0 named.1 in
-    λ es deaf tracks newest long. subst (λ b. TablesSurvey b es u deaf × AreMany (IsStillNamed s.tables.times es) (length b)) (sym c.retain_only.ensures) (
-      swept_survey s.book c.known.ensures s.tables u c.args.moment advances c.requires.may numbers named.0 named.1 kept es deaf tracks newest long,
-      swept_many s.book c.known.ensures s.tables u c.args.moment advances c.requires.may numbers named.0 named.1 kept es deaf tracks newest long,
-    )
+    record {
+      times = search rules;
+      keys = search rules;
+      may = subst (λ b. MayPass b u c.args.moment) (sym c.retain_only.ensures) (swept_may s.book c.known.ensures s.tables u c.args.moment advances c.requires.may numbers named.0 named.1 kept);
+      recorded = swept_recorded s.book c.known.ensures s.tables u c.args.moment advances c.requires.may numbers named.0 named.1 c.requires.recorded;
+      records = search rules;
+      fewer = subst (λ b. All (Contains s.book) b) (sym c.retain_only.ensures) (only_within s.book c.known.ensures numbers kept);
+      tracks = λ es tracks. subst (λ b. TablesTrack b es u) (sym c.retain_only.ensures) (swept_track s.book c.known.ensures s.tables u c.args.moment advances c.requires.may numbers named.0 named.1 kept es tracks);
+      named =
+          λ es tracks newest. subst (λ b. AreMany (IsNamed s.tables.times es) (length b)) (sym c.retain_only.ensures)
+          (many_named s.book c.known.ensures s.tables.times c.args.moment es s.tables u refl tracks c.requires.may.long newest c.requires.may.order advances.long advances.each numbers named.0 named.1 kept);
+      surveyed =
+          λ es deaf tracks newest long. subst (λ b. TablesSurvey b es u deaf × AreMany (IsStillNamed s.tables.times es) (length b)) (sym c.retain_only.ensures) (
+            swept_survey s.book c.known.ensures s.tables u c.args.moment advances c.requires.may numbers named.0 named.1 kept es deaf tracks newest long,
+            swept_many s.book c.known.ensures s.tables u c.args.moment advances c.requires.may numbers named.0 named.1 kept es deaf tracks newest long,
+          );
+    }

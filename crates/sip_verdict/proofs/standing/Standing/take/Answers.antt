@@ -30,31 +30,30 @@ pass-requires-in-Restart-clause-hear g c =
 pub pass-requires-in-Restart-clause-recorded : goal.pass-requires-in-Restart-clause-recorded
 pass-requires-in-Restart-clause-recorded g c = c.requires.may.recorded
 
-pub returns-in_ok-verdict-in-Restart-clause-may : goal.returns-in_ok-verdict-in-Restart-clause-may
-returns-in_ok-verdict-in-Restart-clause-may g c =
+pub returns-in_ok-verdict-in-Restart : goal.returns-in_ok-verdict-in-Restart
+returns-in_ok-verdict-in-Restart g c =
     let s = c.args.self.now in
     let e = c.args.entry.now in
-    let passed = c.in_ok-verdict-in-Restart in
-    may_next passed.verdict s.book c.observe.new.book c.pass-in-Restart.new.self.book s.tables s.tables c.pass-in-Restart.new.self.tables e.number e.moment e.bytes.items c.requires.may
-    (inl (rw c.in-Restart.is at c.in_ok-told.ensures.kept).0) (omega arith) passed.ensures.keys passed.ensures.book passed.ensures.may passed.ensures.recorded
-
-pub returns-in_ok-verdict-in-Restart-clause-numbered : goal.returns-in_ok-verdict-in-Restart-clause-numbered
-returns-in_ok-verdict-in-Restart-clause-numbered g c =
-    let s = c.args.self.now in
-    let e = c.args.entry.now in
-    let kept = rw c.in-Restart.is at c.in_ok-told.ensures.kept in
-    let new = c.pass-in-Restart.new.self.book in
-    unless_trouble (StaysNumbered (item e) e.number s.book new) c.in_ok-verdict-in-Restart.verdict
-    (numbered_none (item e) e.number s.book new kept.1 (c.in_ok-verdict-in-Restart.ensures.book ∙ kept.0))
-
-pub returns-in_ok-verdict-in-Restart-clause-judged : goal.returns-in_ok-verdict-in-Restart-clause-judged
-returns-in_ok-verdict-in-Restart-clause-judged g c =
-    let s = c.args.self.now in
-    let e = c.args.entry.now in
-    let same = (rw c.in-Restart.is at c.in_ok-told.ensures.kept).0 in
-    restart_judged c.in_ok-verdict-in-Restart.verdict s.book c.observe.new.book c.pass-in-Restart.new.self.book e.number e.bytes.items (inl same) (item e) e.moment e.number
-    c.restart-event.result s.tables c.pass-in-Restart.new.self.tables c.requires.may.passes.long c.known-in-Restart.ensures.unique c.in_ok-verdict-in-Restart.ensures.keys c.restart-event.ensures
-    (λ n keeps. c.requires.may.some n (subst (λ b. Keeps b n) same keeps)) refl (rw c.in-Restart.is at c.in_ok-told.ensures.observed) c.in_ok-verdict-in-Restart.ensures.judged
+    record {
+      times = search rules;
+      may =
+          let passed = c.in_ok-verdict-in-Restart in
+          may_next passed.verdict s.book c.observe.new.book c.pass-in-Restart.new.self.book s.tables s.tables c.pass-in-Restart.new.self.tables e.number e.moment e.bytes.items c.requires.may
+          (inl (rw c.in-Restart.is at c.in_ok-told.ensures.kept).0) (omega arith) passed.ensures.keys passed.ensures.book passed.ensures.may passed.ensures.recorded;
+      numbered =
+          let kept = rw c.in-Restart.is at c.in_ok-told.ensures.kept in
+          let new = c.pass-in-Restart.new.self.book in
+          unless_trouble (StaysNumbered (item e) e.number s.book new) c.in_ok-verdict-in-Restart.verdict
+          (numbered_none (item e) e.number s.book new kept.1 (c.in_ok-verdict-in-Restart.ensures.book ∙ kept.0));
+      given = search rules;
+      others = λ some. absurd (false≢true (sym some));
+      keyless = search rules;
+      judged =
+          let same = (rw c.in-Restart.is at c.in_ok-told.ensures.kept).0 in
+          restart_judged c.in_ok-verdict-in-Restart.verdict s.book c.observe.new.book c.pass-in-Restart.new.self.book e.number e.bytes.items (inl same) (item e) e.moment e.number
+          c.restart-event.result s.tables c.pass-in-Restart.new.self.tables c.requires.may.passes.long c.known-in-Restart.ensures.unique c.in_ok-verdict-in-Restart.ensures.keys c.restart-event.ensures
+          (λ n keeps. c.requires.may.some n (subst (λ b. Keeps b n) same keeps)) refl (rw c.in-Restart.is at c.in_ok-told.ensures.observed) c.in_ok-verdict-in-Restart.ensures.judged;
+    }
 
 pub pass-requires-in-Heard-clause-may : goal.pass-requires-in-Heard-clause-may
 pass-requires-in-Heard-clause-may g c =
@@ -76,30 +75,29 @@ pass-requires-in-Heard-clause-recorded g c =
     touched_recorded (each c.in-Heard.concerned) (each c.in_ok-concerned-in-Heard.concerned) c.args.self.now.tables c.touch_each.new.tables c.in_ok-concerned-in-Heard.ensures.touched
     c.requires.may.passes.long c.requires.may.recorded
 
-pub returns-in_ok-verdict-in-Unheard-clause-may : goal.returns-in_ok-verdict-in-Unheard-clause-may
-returns-in_ok-verdict-in-Unheard-clause-may g c =
+pub returns-in_ok-verdict-in-Unheard : goal.returns-in_ok-verdict-in-Unheard
+returns-in_ok-verdict-in-Unheard g c =
     let s = c.args.self.now in
     let e = c.args.entry.now in
-    let passed = c.in_ok-verdict-in-Unheard in
-    may_next passed.verdict s.book c.observe.new.book c.pass.new.self.book s.tables s.tables c.pass.new.self.tables e.number e.moment e.bytes.items c.requires.may
-    (inl (rw c.in-Unheard.is at c.in_ok-told.ensures.kept)) (omega arith) passed.ensures.keys passed.ensures.book passed.ensures.may passed.ensures.recorded
-
-pub returns-in_ok-verdict-in-Unheard-clause-numbered : goal.returns-in_ok-verdict-in-Unheard-clause-numbered
-returns-in_ok-verdict-in-Unheard-clause-numbered g c =
-    let s = c.args.self.now in
-    let e = c.args.entry.now in
-    let kept = rw c.in-Unheard.is at c.in_ok-told.ensures.kept in
-    let told = (rw c.in-Unheard.is at c.in_ok-told.ensures.observed) [] in
-    let new = c.pass.new.self.book in
-    unless_trouble (StaysNumbered (item e) e.number s.book new) c.in_ok-verdict-in-Unheard.verdict
-    (numbered_none (item e) e.number s.book new (told.0, told.1, told.2.2) (c.in_ok-verdict-in-Unheard.ensures.book ∙ kept))
-
-pub returns-in_ok-verdict-in-Unheard-clause-judged : goal.returns-in_ok-verdict-in-Unheard-clause-judged
-returns-in_ok-verdict-in-Unheard-clause-judged g c =
-    let s = c.args.self.now in
-    let e = c.args.entry.now in
-    unheard_judged c.in_ok-verdict-in-Unheard.verdict s.book c.observe.new.book c.pass.new.self.book e.number e.bytes.items (inl (rw c.in-Unheard.is at c.in_ok-told.ensures.kept)) (item e) e.moment e.number
-    s.tables c.pass.new.self.tables refl (rw c.in-Unheard.is at c.in_ok-told.ensures.observed) c.in_ok-verdict-in-Unheard.ensures.judged
+    record {
+      times = search rules;
+      may =
+          let passed = c.in_ok-verdict-in-Unheard in
+          may_next passed.verdict s.book c.observe.new.book c.pass.new.self.book s.tables s.tables c.pass.new.self.tables e.number e.moment e.bytes.items c.requires.may
+          (inl (rw c.in-Unheard.is at c.in_ok-told.ensures.kept)) (omega arith) passed.ensures.keys passed.ensures.book passed.ensures.may passed.ensures.recorded;
+      numbered =
+          let kept = rw c.in-Unheard.is at c.in_ok-told.ensures.kept in
+          let told = (rw c.in-Unheard.is at c.in_ok-told.ensures.observed) [] in
+          let new = c.pass.new.self.book in
+          unless_trouble (StaysNumbered (item e) e.number s.book new) c.in_ok-verdict-in-Unheard.verdict
+          (numbered_none (item e) e.number s.book new (told.0, told.1, told.2.2) (c.in_ok-verdict-in-Unheard.ensures.book ∙ kept));
+      given = search rules;
+      others = others_known s.book concerned.None None s.tables c.pass.new.self.tables c.requires.may.passes.known c.in_ok-verdict-in-Unheard.ensures.others (λ n some among. refl);
+      keyless = search rules;
+      judged =
+          unheard_judged c.in_ok-verdict-in-Unheard.verdict s.book c.observe.new.book c.pass.new.self.book e.number e.bytes.items (inl (rw c.in-Unheard.is at c.in_ok-told.ensures.kept)) (item e) e.moment e.number
+          s.tables c.pass.new.self.tables refl (rw c.in-Unheard.is at c.in_ok-told.ensures.observed) c.in_ok-verdict-in-Unheard.ensures.judged;
+    }
 
 pub returns-in-Fault-clause-judged : goal.returns-in-Fault-clause-judged
 returns-in-Fault-clause-judged g c = λ es tracks counts newest.
@@ -110,68 +108,52 @@ returns-in-Fault-clause-judged g c = λ es tracks counts newest.
       tt,
     )
 
-pub returns-in_ok-verdict-in-Heard-clause-may : goal.returns-in_ok-verdict-in-Heard-clause-may
-returns-in_ok-verdict-in-Heard-clause-may g c =
+pub returns-in_ok-verdict-in-Heard : goal.returns-in_ok-verdict-in-Heard
+returns-in_ok-verdict-in-Heard g c =
     let s = c.args.self.now in
     let e = c.args.entry.now in
-    let passed = c.in_ok-verdict-in-Heard in
-    may_next passed.verdict s.book c.observe.new.book c.pass-in-Heard.new.self.book s.tables c.touch_each.new.tables c.pass-in-Heard.new.self.tables e.number e.moment e.bytes.items c.requires.may
-    (rw c.in-Heard.is at c.in_ok-told.ensures.kept).4
-    (few_keys c.in-Heard.concerned (each c.in_ok-concerned-in-Heard.concerned) s.tables c.touch_each.new.tables c.in_ok-concerned-in-Heard.ensures.touched)
-    passed.ensures.keys passed.ensures.book passed.ensures.may passed.ensures.recorded
-
-pub returns-in_ok-verdict-in-Heard-clause-numbered : goal.returns-in_ok-verdict-in-Heard-clause-numbered
-returns-in_ok-verdict-in-Heard-clause-numbered g c =
-    let s = c.args.self.now in
-    let e = c.args.entry.now in
-    let mid = c.observe.new.book in
-    let kept = rw c.in-Heard.is at c.in_ok-told.ensures.kept in
-    let new = c.pass-in-Heard.new.self.book in
-    unless_trouble (StaysNumbered (item e) e.number s.book new) c.in_ok-verdict-in-Heard.verdict
-    (subst (StaysNumbered (item e) e.number s.book) (sym c.in_ok-verdict-in-Heard.ensures.book)
-    (numbered_heard (item e) e.number c.in-Heard.event.number s.book mid kept.0 kept.1 kept.2 kept.3 c.requires.may.numbered c.known.ensures kept.4))
-
-pub returns-in_ok-verdict-in-Heard-clause-given : goal.returns-in_ok-verdict-in-Heard-clause-given
-returns-in_ok-verdict-in-Heard-clause-given g c =
-    let keys = each c.in-Heard.concerned in
-    let numbers = each c.in_ok-concerned-in-Heard.concerned in
-    are_given c.pass-in-Heard.new.self.tables numbers keys
-    (subst (λ all. HaveNumbers all numbers keys) (sym c.in_ok-verdict-in-Heard.ensures.keys)
-    (have_numbers keys numbers c.args.self.now.tables c.touch_each.new.tables c.in_ok-concerned-in-Heard.ensures.touched))
-
-pub returns-in_ok-verdict-in-Heard-clause-judged : goal.returns-in_ok-verdict-in-Heard-clause-judged
-returns-in_ok-verdict-in-Heard-clause-judged g c = λ es tracks counts newest.
-    let s = c.args.self.now in
-    let e = c.args.entry.now in
-    let new = c.pass-in-Heard.new.self in
-    let some = c.in_ok-concerned-in-Heard.ensures.same ∙ (rw c.in-Heard.is at c.in_ok-told.ensures.heard).3 in
-    let h = heard_judged c.in_ok-verdict-in-Heard.verdict s.book c.observe.new.book new.book e.number e.bytes.items (rw c.in-Heard.is at c.in_ok-told.ensures.kept).4 (item e) e.moment e.number
-    c.in-Heard.event c.in-Heard.concerned c.in_ok-concerned-in-Heard.concerned s.tables c.touch_each.new.tables new.tables
-    c.requires.may.passes.long c.in_ok-concerned-in-Heard.ensures.touched c.known-in-Heard.ensures.unique c.in_ok-verdict-in-Heard.ensures.keys (rw c.in-Heard.is at c.in_ok-told.ensures.heard).1
-    some (rw c.in-Heard.is at c.in_ok-told.ensures.observed) c.in_ok-verdict-in-Heard.ensures.judged es tracks counts newest in (
-      h.0,
-      h.1,
-      h.2,
-      subst (λ ns. HaveNumbers new.tables.keys ns h.0.keys) (sym (listed_each (length new.tables.keys) c.in_ok-concerned-in-Heard.concerned some)) h.3,
-    )
-
-pub returns-in_ok-verdict-in-Unheard-clause-others : goal.returns-in_ok-verdict-in-Unheard-clause-others
-returns-in_ok-verdict-in-Unheard-clause-others g c =
-    let s = c.args.self.now in
-    others_known s.book concerned.None None s.tables c.pass.new.self.tables c.requires.may.passes.known c.in_ok-verdict-in-Unheard.ensures.others (λ n some among. refl)
+    record {
+      times = search rules;
+      may =
+          let passed = c.in_ok-verdict-in-Heard in
+          may_next passed.verdict s.book c.observe.new.book c.pass-in-Heard.new.self.book s.tables c.touch_each.new.tables c.pass-in-Heard.new.self.tables e.number e.moment e.bytes.items c.requires.may
+          (rw c.in-Heard.is at c.in_ok-told.ensures.kept).4
+          (few_keys c.in-Heard.concerned (each c.in_ok-concerned-in-Heard.concerned) s.tables c.touch_each.new.tables c.in_ok-concerned-in-Heard.ensures.touched)
+          passed.ensures.keys passed.ensures.book passed.ensures.may passed.ensures.recorded;
+      numbered =
+          let mid = c.observe.new.book in
+          let kept = rw c.in-Heard.is at c.in_ok-told.ensures.kept in
+          let new = c.pass-in-Heard.new.self.book in
+          unless_trouble (StaysNumbered (item e) e.number s.book new) c.in_ok-verdict-in-Heard.verdict
+          (subst (StaysNumbered (item e) e.number s.book) (sym c.in_ok-verdict-in-Heard.ensures.book)
+          (numbered_heard (item e) e.number c.in-Heard.event.number s.book mid kept.0 kept.1 kept.2 kept.3 c.requires.may.numbered c.known.ensures kept.4));
+      given =
+          let keys = each c.in-Heard.concerned in
+          let numbers = each c.in_ok-concerned-in-Heard.concerned in
+          are_given c.pass-in-Heard.new.self.tables numbers keys
+          (subst (λ all. HaveNumbers all numbers keys) (sym c.in_ok-verdict-in-Heard.ensures.keys)
+          (have_numbers keys numbers c.args.self.now.tables c.touch_each.new.tables c.in_ok-concerned-in-Heard.ensures.touched));
+      others =
+          let u = c.touch_each.new.tables in
+          let numbers = c.in_ok-concerned-in-Heard.concerned in
+          let may = touches_may s.book c.args.entry.now.moment (each c.in-Heard.concerned) (each numbers) s.tables u c.requires.may.passes c.in_ok-concerned-in-Heard.ensures.touched in
+          others_known s.book numbers (Some (record { event = c.in-Heard.event; concerned = numbers })) u c.pass-in-Heard.new.self.tables may.known c.in_ok-verdict-in-Heard.ensures.others (λ n some among. ap (λ b. b || is_among (each numbers) n) some ∙ among);
+      keyless = search rules;
+      judged = λ es tracks counts newest.
+          let new = c.pass-in-Heard.new.self in
+          let some = c.in_ok-concerned-in-Heard.ensures.same ∙ (rw c.in-Heard.is at c.in_ok-told.ensures.heard).3 in
+          let h = heard_judged c.in_ok-verdict-in-Heard.verdict s.book c.observe.new.book new.book e.number e.bytes.items (rw c.in-Heard.is at c.in_ok-told.ensures.kept).4 (item e) e.moment e.number
+          c.in-Heard.event c.in-Heard.concerned c.in_ok-concerned-in-Heard.concerned s.tables c.touch_each.new.tables new.tables
+          c.requires.may.passes.long c.in_ok-concerned-in-Heard.ensures.touched c.known-in-Heard.ensures.unique c.in_ok-verdict-in-Heard.ensures.keys (rw c.in-Heard.is at c.in_ok-told.ensures.heard).1
+          some (rw c.in-Heard.is at c.in_ok-told.ensures.observed) c.in_ok-verdict-in-Heard.ensures.judged es tracks counts newest in (
+            h.0,
+            h.1,
+            h.2,
+            subst (λ ns. HaveNumbers new.tables.keys ns h.0.keys) (sym (listed_each (length new.tables.keys) c.in_ok-concerned-in-Heard.concerned some)) h.3,
+          );
+    }
 
 pub returns-in-Fault-clause-others : goal.returns-in-Fault-clause-others
 returns-in-Fault-clause-others g c =
     let s = c.args.self.now in
     others_known s.book concerned.None None s.tables s.tables c.requires.may.passes.known (λ n none. refl) (λ n some among. refl)
-
-pub returns-in_ok-verdict-in-Restart-clause-others : goal.returns-in_ok-verdict-in-Restart-clause-others
-returns-in_ok-verdict-in-Restart-clause-others g c some = absurd (false≢true (sym some))
-
-pub returns-in_ok-verdict-in-Heard-clause-others : goal.returns-in_ok-verdict-in-Heard-clause-others
-returns-in_ok-verdict-in-Heard-clause-others g c =
-    let s = c.args.self.now in
-    let u = c.touch_each.new.tables in
-    let numbers = c.in_ok-concerned-in-Heard.concerned in
-    let may = touches_may s.book c.args.entry.now.moment (each c.in-Heard.concerned) (each numbers) s.tables u c.requires.may.passes c.in_ok-concerned-in-Heard.ensures.touched in
-    others_known s.book numbers (Some (record { event = c.in-Heard.event; concerned = numbers })) u c.pass-in-Heard.new.self.tables may.known c.in_ok-verdict-in-Heard.ensures.others (λ n some among. ap (λ b. b || is_among (each numbers) n) some ∙ among)

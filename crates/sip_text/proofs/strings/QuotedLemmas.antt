@@ -94,12 +94,12 @@ pub item-step : IsStep QuotedItem item_len
 item-step = record { at_piece = item-at_front; moves = item-moves; piece = item-piece }
 
 -- what is empty or a blank run is blanks
-units-sws : (text : List ℕ) → Sws text → Many Blank text
+pub units-sws : (text : List ℕ) → Sws text → Many Blank text
 units-sws text (inl none) = subst (Many Blank) (sym none) (many-nil Blank)
 units-sws text (inr blanks) = units-blanks text blanks
 
 -- the contents of a quoted string are pieces
-items-contents : (text : List ℕ) → Many (Qdtext or QuotedPair) text → Many QuotedItem text
+pub items-contents : (text : List ℕ) → Many (Qdtext or QuotedPair) text → Many QuotedItem text
 items-contents text many = many-flat (Qdtext or QuotedPair) QuotedItem text each many
   where
     each : (u : List ℕ) → (Qdtext or QuotedPair) u → Many QuotedItem u

@@ -38,7 +38,7 @@ scheme-lacks =
     lack-then colon _ _ (lack-one colon is_ascii_alphabetic refl) (lack-many colon _ (lack-one colon is_scheme_byte refl))
 
 -- a scheme that is one of "sip" and "sips" is one of them alone
-one-scheme : (scheme : List ℕ) (a b : Bool) → SameText scheme (scheme_name a) → SameText scheme (scheme_name b) → a ≡ b
+pub one-scheme : (scheme : List ℕ) (a b : Bool) → SameText scheme (scheme_name a) → SameText scheme (scheme_name b) → a ≡ b
 one-scheme scheme true true same also = refl
 one-scheme scheme false false same also = refl
 one-scheme scheme true false same also = let names = sym same ∙ also in cc

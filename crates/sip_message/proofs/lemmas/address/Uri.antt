@@ -32,6 +32,7 @@ use Rattle.sip_message.specs.inner.AddressFronts.{HasScheme}
 use Rattle.sip_message.proofs.lemmas.text.Cuts.{All, same_front}
 use Rattle.sip_message.proofs.lemmas.text.Each.{Each, each-one, each-then, each-many}
 use Rattle.sip_message.proofs.lemmas.front.OneWay.{AtMostOne, all-lacks, same-host}
+use Rattle.sip_text.proofs.uris.UriLemmas.{one-scheme}
 
 -- a byte whose lower case is one of a token is one
 lower-token : (b : ℕ) → is_token_byte (to_ascii_lowercase b) ≡ true → is_token_byte b ≡ true
@@ -202,18 +203,11 @@ same-sip text p q secure p_fits q_fits p_is q_is =
     parts-only q.secure text found.0 p.host (sip p) found.1 only (secure, p_fits, p_is)
     ∙ sym (parts-only q.secure text found.0 p.host (sip q) found.1 only (refl, q_fits, q_is))
 
--- a scheme is "sip" or "sips", and not both
-same-name : (scheme : List ℕ) (a b : Bool) → SameText scheme (scheme_name a) → SameText scheme (scheme_name b) → a ≡ b
-same-name scheme true true same also = refl
-same-name scheme false false same also = refl
-same-name scheme true false same also = let names = sym same ∙ also in cc
-same-name scheme false true same also = let names = sym same ∙ also in cc
-
 -- a URI is read in one way
 pub one-uri : (text : List ℕ) → AtMostOne (UriText text)
 one-uri text (sip p) (sip q) a b =
     let same = scheme-one text (uri-scheme text (sip p) a) (uri-scheme text (sip q) b) in
-    let secure = same-name b.0 p.secure q.secure (subst (λ s. SameText s (scheme_name p.secure)) same.0 a.1) b.1 in
+    let secure = one-scheme b.0 p.secure q.secure (subst (λ s. SameText s (scheme_name p.secure)) same.0 a.1) b.1 in
     same-sip (sip_text p) p q secure a.2 b.2 refl same.1
 one-uri text (sip p) (other scheme rest) a b =
     let same = scheme-one text (uri-scheme text (sip p) a) (uri-scheme text (other scheme rest) b) in

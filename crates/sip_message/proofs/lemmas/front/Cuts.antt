@@ -6,19 +6,20 @@ use Rattle.std.proofs.lemmas.List.{append_assoc, length-append}
 use Rattle.std.proofs.Math.Seq.{take-append_seam}
 use Rattle.sip_text.proofs.cuts.CutLemmas.{past-some}
 use Rattle.sip_standard.specs.Text.{One, Many}
-use Rattle.sip_standard.specs.Profile.{Token, Sws, Blanks}
+use Rattle.sip_standard.specs.Profile.{Token, Blanks}
 use Rattle.sip_text.specs.Bytes.{carriage_return, line_feed, is_token_byte}
 use Rattle.sip_text.specs.inner.Blanks.{is_wsp, Blank, blank_len}
 use Rattle.sip_text.specs.Parts.{HasFront, IsLongestFront}
 use Rattle.sip_text.specs.inner.Cut.{past}
-use Rattle.sip_text.proofs.texts.ManyLemmas.{front-rest, many-nil, many-push, same_many}
-use Rattle.sip_text.proofs.strings.BlanksLemmas.{units-blanks, blanks-units, blank-step, blanks-longest}
+use Rattle.sip_text.proofs.texts.ManyLemmas.{front-rest, many-push, same_many}
+use Rattle.sip_text.proofs.strings.BlanksLemmas.{blanks-units, blank-step, blanks-longest}
 use Rattle.sip_standard.specs.Field.{is_lws_byte}
 use Rattle.sip_message.specs.inner.Fronts.{Stops, StopsBlank, Behind, IsOnlyBehind, TokenFront, MarkFront, BlanksFront, Seq, both}
 use Rattle.sip_message.proofs.lemmas.text.Cuts.{same_front}
 use Rattle.sip_message.proofs.lemmas.field.OneWay.{each-token}
 use Rattle.sip_message.proofs.lemmas.via.Transport.{some-blanks}
 use Rattle.sip_message.proofs.lemmas.params.Closed.{some-run}
+use Rattle.sip_text.proofs.strings.QuotedLemmas.{units-sws}
 
 -- the first n bytes of a text, which are a front of P, are the text of that front
 front-take : (P : List ℕ → Type 0) (text : List ℕ) (n : ℕ) (front : HasFront P text n) → take n text ≡ front.0
@@ -76,12 +77,8 @@ same-token text t r u s one other =
 -- what is left after the blanks at the front of a text is one text
 pub same-behind : (text r s : List ℕ) → Behind text r → Behind text s → r ≡ s
 same-behind text r s (r_stops, (u, v, u_is, v_is, whole)) (s_stops, (x, y, x_is, y_is, whole_too)) =
-    (same_many Blank blank_len u r x s blank-step (many u u_is) (many x x_is)
+    (same_many Blank blank_len u r x s blank-step (units-sws u u_is) (units-sws x x_is)
     (ap (λ t. u ++ t) (sym v_is) ∙ sym whole ∙ whole_too ∙ ap (λ t. x ++ t) y_is) r_stops s_stops).1
-  where
-    many : (t : List ℕ) → Sws t → Many Blank t
-    many t (inl none) = subst (Many Blank) (sym none) (many-nil Blank)
-    many t (inr blanks) = units-blanks t blanks
 
 -- what is left after the longest run of blanks is the one rest after the blanks
 pub longest-behind : (text : List ℕ) (n : ℕ) → IsLongestFront Blanks text n → IsOnlyBehind text (drop n text)

@@ -11,16 +11,14 @@ use Rattle.sip_standard.specs.Chars.{is_among}
 use Rattle.sip_text.specs.Host.{HostText}
 use Rattle.sip_text.specs.inner.Class.{is_label_byte}
 use Rattle.sip_text.specs.inner.Cut.{behind}
-use Rattle.sip_text.specs.inner.Blanks.{Blank}
 use Rattle.sip_text.specs.inner.Pieces.{Qdtext, QuotedPair, DecimalGroup, Hex4, Hexpart}
 use Rattle.sip_text.specs.inner.Quoted.{QuotedItem, item_len}
 use Rattle.sip_text.specs.inner.HostTests.{is_v4, is_v6, is_v6_reference, is_hostname}
 use Rattle.sip_text.proofs.texts.LacksLemmas.{Lacks}
 use Rattle.sip_text.proofs.hosts.LabelLemmas.{other_byte, alphanumeric-alphabetic}
 use Rattle.sip_text.proofs.cuts.CutLemmas.{behind-led}
-use Rattle.sip_text.proofs.texts.ManyLemmas.{many-one, many-map, many-flat, same_many}
-use Rattle.sip_text.proofs.strings.BlanksLemmas.{blanks-lws}
-use Rattle.sip_text.proofs.strings.QuotedLemmas.{item-step}
+use Rattle.sip_text.proofs.texts.ManyLemmas.{same_many}
+use Rattle.sip_text.proofs.strings.QuotedLemmas.{item-step, items-contents}
 use Rattle.sip_text.proofs.hosts.V6Lemmas.{v6-is}
 use Rattle.sip_text.proofs.hosts.HostLemmas.{only-v6, only-v4, only-name, no-host}
 use Rattle.sip_standard.specs.Field.{is_lws_byte}
@@ -206,15 +204,6 @@ one-bare text (v, r) (w, s) a b =
 same_pair : (v r w s text : List ℕ) → text ≡ v ++ r → text ≡ w ++ s → r ≡ s → ◌≡◌ {A = List ℕ × List ℕ} (v, r) (w, s)
 same_pair v r w s text v_is w_is rest =
     ap (λ x. (x, r)) (same_by_end v r w s (ap length rest) (sym v_is ∙ w_is)).0 ∙ ap (λ x. (w, x)) rest
-
--- the contents of a quoted string are pieces of it
-pub items-contents : (text : List ℕ) → Many (Qdtext or QuotedPair) text → Many QuotedItem text
-items-contents text many = many-flat (Qdtext or QuotedPair) QuotedItem text each many
-  where
-    each : (u : List ℕ) → (Qdtext or QuotedPair) u → Many QuotedItem u
-    each u (inl (inl lws)) = many-map Blank QuotedItem u (λ w blank. inr (inr blank)) (blanks-lws u lws)
-    each u (inl (inr byte)) = many-one QuotedItem u (inl byte)
-    each u (inr pair) = many-one QuotedItem u (inr (inl pair))
 
 -- a quoted string and what follows it are a quote, the contents, a quote and what follows
 pub quoted-whole : (value rest : List ℕ) → (q : Quoted value) → value ++ rest ≡ dquote ∷ (q.3.0 ++ dquote ∷ rest)

@@ -4,13 +4,12 @@ use Rattle.std.specs.Bool.{Decides}
 use Rattle.std.specs.List.{prefix_len}
 use Rattle.std.proofs.lemmas.Bool.{both_ways, and_parts, not-true, eqb-true, eq-eqb}
 use Rattle.std.proofs.lemmas.List.{append-nil, append_cancel_left, take-append-drop}
-use Rattle.sip_standard.specs.Text.{Many}
 use Rattle.sip_standard.specs.Profile.{Blanks, Sws}
 use Rattle.sip_text.specs.Bytes.{space}
 use Rattle.sip_text.specs.Parts.{IsLongestFront, IsOnlyValue}
 use Rattle.sip_text.specs.inner.Blanks.{Blank}
-use Rattle.sip_text.proofs.texts.ManyLemmas.{many-nil, many-one, many-append, front-whole}
-use Rattle.sip_text.proofs.strings.BlanksLemmas.{units-blanks, blanks-units}
+use Rattle.sip_text.proofs.texts.ManyLemmas.{many-one, many-append, front-whole}
+use Rattle.sip_text.proofs.strings.BlanksLemmas.{blanks-units}
 use Rattle.sip_message.specs.Params.{OpensSolid}
 use Rattle.sip_message.specs.inner.FieldText.{EndsSolid, ValueText}
 use Rattle.sip_standard.specs.Field.{is_lws_byte}
@@ -20,6 +19,7 @@ use Rattle.sip_message.proofs.lemmas.text.Each.{each-sws}
 use Rattle.sip_message.proofs.lemmas.field.OneWay.{same_solid}
 use Rattle.sip_message.proofs.lemmas.text.Closed.{blank_opens}
 use Rattle.sip_message.proofs.lemmas.front.Prefix.{prefix-at}
+use Rattle.sip_text.proofs.strings.QuotedLemmas.{units-sws}
 
 -- a text of no bytes is the empty text
 pub length-none : (u : List ℕ) → length u ≡ 0 → u ≡ []
@@ -43,11 +43,7 @@ sws-whole text n within longest = (
 
 -- an optional blank run after another is an optional blank run
 sws-append : (u v : List ℕ) → Sws u → Sws v → Sws (u ++ v)
-sws-append u v left right = blanks-units (u ++ v) (many-append Blank u v (many u left) (many v right))
-  where
-    many : (t : List ℕ) → Sws t → Many Blank t
-    many t (inl none) = subst (Many Blank) (sym none) (many-nil Blank)
-    many t (inr blanks) = units-blanks t blanks
+sws-append u v left right = blanks-units (u ++ v) (many-append Blank u v (units-sws u left) (units-sws v right))
 
 -- where each byte from place n on passes a test, the text without its first n bytes does
 all-from : (test : ℕ → Bool) (text : List ℕ) (n : ℕ) → ((k : ℕ) → n ≤ k → k < length text → test (get_or text k 0) ≡ true) → All test (drop n text)

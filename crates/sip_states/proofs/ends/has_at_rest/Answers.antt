@@ -1,13 +1,8 @@
-use Rattle.std.specs.Prelude.{◌≢◌, ◌<◌, length}
+use Rattle.std.specs.Prelude.{◌≢◌}
 use Rattle.std.proofs.Common.{◌∙◌, refl, sym, arith, take_all, true≢false}
 use Rattle.std.proofs.lemmas.List.Elements.{All-contains, All-more}
 use Rattle.sip_machine.specs.Owing.{at_rest}
 use Rattle.sip_states.proofs.ends.has_at_rest.Goals as goal
-
-pub returns-then-is_at_rest : goal.returns-then-is_at_rest
-returns-then-is_at_rest g c =
-    let low : c.loop-at.at < length c.args.pool.now = omega arith in
-    (λ _. (c.loop-at.at, low, (c.is_at_rest.ensures (at_rest c.args.phase)).0 c.if-is_at_rest.true), λ _. refl)
 
 pub loop-at-preserved : goal.loop-at-preserved
 loop-at-preserved g c =

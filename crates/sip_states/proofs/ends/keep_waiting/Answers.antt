@@ -2,30 +2,10 @@ use Rattle.std.specs.Prelude.{◌≡◌, ◌<◌, get_or, length}
 use Rattle.std.proofs.Common.{◌∙◌, ap, sym, arith}
 use Rattle.std.proofs.lemmas.List.{get_or_default}
 use Rattle.std.proofs.lemmas.List.Elements.{All-get_or, All-set}
-use Rattle.std.proofs.lemmas.List.Filters.{FiltersInPlace-all, FiltersInPlace-more_set, FiltersInPlace-more_no}
+use Rattle.std.proofs.lemmas.List.Filters.{FiltersInPlace-more_set, FiltersInPlace-more_no}
 use Rattle.sip_states.specs.inner.Ways.{is_within}
 use Rattle.sip_states.proofs.ends.keep_waiting.Goals as goal
 use Rattle.sip_states.proofs.ends.keep_waiting.Goals.{then-is_within, else-is_within}
-
-pub until-requires-clause-at : goal.until-requires-clause-at
-until-requires-clause-at g c = let long = c.loop-at.invariant.filters.long in omega (arith, long)
-
-pub until-requires-clause-in_range : goal.until-requires-clause-in_range
-until-requires-clause-in_range g c = λ d.
-    let long = c.loop-at.invariant.filters.long in
-    All-get_or g.M.Machine.in_range c.loop-at.pool c.loop-at.at d (omega (arith, long)) c.loop-at.invariant.in_range
-
-pub copy-requires-clause-from : goal.copy-requires-clause-from
-copy-requires-clause-from g c = let long = c.loop-at.invariant.filters.long in omega (arith, long)
-
-pub copy-requires-clause-to : goal.copy-requires-clause-to
-copy-requires-clause-to g c =
-    let long = c.loop-at.invariant.filters.long in
-    let behind = c.loop-at.invariant.filters.behind in
-    omega (arith, long, behind)
-
-pub overflow_add-kept : goal.overflow_add-kept
-overflow_add-kept g c = let behind = c.loop-at.invariant.filters.behind in omega (arith, behind)
 
 pub loop-at-preserved : goal.loop-at-preserved
 loop-at-preserved g c =
@@ -49,6 +29,3 @@ loop-at-preserved g c =
           })
       | else-is_within w ↦ rw (w.pool-is, w.kept-is) (record { filters = FiltersInPlace-more_no filters low (test ∙ w.if-is_within.false) is; in_range = in_range })
     ]
-
-pub returns : goal.returns
-returns g c = c.truncate.ensures ∙ FiltersInPlace-all c.loop-at.invariant.filters (omega arith)

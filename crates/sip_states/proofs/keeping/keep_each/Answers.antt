@@ -1,4 +1,4 @@
-use Rattle.std.proofs.Common.{◌+◌, ◌∙◌, arith, rules}
+use Rattle.std.proofs.Common.{◌∙◌, arith, rules}
 use Rattle.sip_states.proofs.lists.Kept.{keeps_done, step_not, step_swap}
 use Rattle.sip_states.proofs.keeping.keep_each.Goals.{then-flags-at, else-flags-at}
 use Rattle.sip_states.proofs.keeping.keep_each.Goals as goal

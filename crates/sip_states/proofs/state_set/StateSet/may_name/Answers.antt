@@ -8,9 +8,6 @@ use Rattle.sip_states.specs.Naming.{MayName}
 use Rattle.sip_states.proofs.keyed.NamesLemmas.{none_more, may_not_name}
 use Rattle.sip_states.proofs.state_set.StateSet.may_name.Goals as goal
 
-pub loop-at-init : goal.loop-at-init
-loop-at-init g c any = omega (arith, any.2)
-
 pub loop-at-preserved : goal.loop-at-preserved
 loop-at-preserved g c =
     let xs = c.args.self.now.states in

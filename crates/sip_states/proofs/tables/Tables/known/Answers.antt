@@ -1,17 +1,7 @@
-use Rattle.std.proofs.Common.{sym, ◌∙◌}
 use Rattle.std.proofs.lemmas.Map.Made.{AllPairs-from_IsDistinct}
-use Rattle.std.proofs.lemmas.Map.Entries.{length-keys_of, length-values_of}
 use Rattle.indexmap.specs.IndexMap.{keys}
 use Rattle.sip_key.specs.inner.KeyLaws.{same_key-decides}
 use Rattle.sip_states.proofs.tables.Tables.known.Goals as goal
 
 pub returns-clause-unique : goal.returns-clause-unique
 returns-clause-unique g c = rw (← c.self.view_is) (AllPairs-from_IsDistinct same_key-decides (keys c.self.inside.sets) c.len.ensures.unique)
-
-pub returns-clause-sets : goal.returns-clause-sets
-returns-clause-sets g c =
-    rw (← c.self.view_is) (length-values_of c.self.inside.sets.entries ∙ sym (length-keys_of c.self.inside.sets.entries))
-
-pub returns-clause-records : goal.returns-clause-records
-returns-clause-records g c =
-    rw (← c.self.view_is) (c.self.invariant.1 ∙ sym (length-keys_of c.self.inside.sets.entries))

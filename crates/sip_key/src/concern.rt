@@ -50,6 +50,17 @@ pub fn key_of(
 ) -> Result<Option<Key>, KeyError>
     ensures { IsOwnKey (said_of message.now) direction result }
 {
+    key_in(Vec::new(alloc), message, direction)
+}
+
+/// As `key_of`, in this memory.
+pub fn key_in(
+    text: Vec<u8>,
+    message: &Message<'_>,
+    direction: Direction,
+) -> Result<Option<Key>, KeyError>
+    ensures { IsOwnKey (said_of message.now) direction result }
+{
     message.known();
     let start = message.start();
     let via = message.top_via();
@@ -60,7 +71,7 @@ pub fn key_of(
         };
     };
     let role = role_of(start, direction);
-    let key = key_with(alloc, role, branch, via, method_of(message))?;
+    let key = key_with(text, role, branch, via, method_of(message))?;
     Ok(Some(key))
 }
 
@@ -81,7 +92,7 @@ pub fn cancelled_key(
     let Some(branch) = cookie_branch(message.top_via()) else {
         return Ok(None);
     };
-    let key = Key::client(alloc, branch, b"INVITE")?;
+    let key = Key::client(Vec::new(alloc), branch, b"INVITE")?;
     Ok(Some(key))
 }
 
@@ -106,7 +117,7 @@ fn role_of(start: StartLine<'_>, direction: Direction) -> Role
 
 // The key with this role, branch and method, and with the sent-by of the Via where the role is that of a server.
 fn key_with(
-    alloc: Global,
+    text: Vec<u8>,
     role: Role,
     branch: &[u8],
     via: Via<'_>,
@@ -116,8 +127,8 @@ fn key_with(
     ensures { IfOk result (λ key. key ≡ record { role = role; branch = folded branch.now; sent_by = sent_by_of role (said_via (element via.entry)); method = method.now }) }
 {
     match role {
-        Role::Client => Key::client(alloc, branch, method),
-        Role::Server => Key::server(alloc, branch, host_text(via.host), via.port, method),
+        Role::Client => Key::client(text, branch, method),
+        Role::Server => Key::server(text, branch, host_text(via.host), via.port, method),
     }
 }
 

@@ -81,7 +81,7 @@ fn role_byte(role: Role) -> u8
 /// The beginning of a key's text, with this much room: the head, and then the branch as it is.
 #[inline(always)]
 fn begun(
-    alloc: Global,
+    text: Vec<u8>,
     room: usize,
     role: Role,
     branch: &[u8],
@@ -89,7 +89,9 @@ fn begun(
 ) -> Result<Vec<u8>, AllocError>
     ensures { IfOk result (λ text. text.items ≡ key_head role (length branch.now) (length method.now) ++ branch.now) }
 {
-    let mut text = Vec::with_capacity(alloc, room)?;
+    let mut text = text;
+    text.clear();
+    text.reserve_exact(room)?;
     text.push(role_byte(role))?;
     push_length(&mut text, branch.len())?;
     push_length(&mut text, method.len())?;
@@ -133,13 +135,13 @@ impl Key {
 
     /// The key of a client transaction with this branch and method.
     #[inline(always)]
-    pub(crate) fn client(alloc: Global, branch: &[u8], method: &[u8]) -> Result<Key, AllocError>
+    pub(crate) fn client(text: Vec<u8>, branch: &[u8], method: &[u8]) -> Result<Key, AllocError>
         ensures { IfOk result (λ key. key ≡ record { role = Client; branch = folded branch.now; sent_by = []; method = method.now }) }
     {
         let room = head_room(branch.len(), method.len())
             .saturating_add(branch.len())
             .saturating_add(method.len());
-        let mut text = begun(alloc, room, Role::Client, branch, method)?;
+        let mut text = begun(text, room, Role::Client, branch, method)?;
         fold(&mut text);
         let branch_end = text.len();
         text.extend_from_slice(method)?;
@@ -150,7 +152,7 @@ impl Key {
 
     /// The key of a server transaction with this branch, host and port of sent-by, and method.
     pub(crate) fn server(
-        alloc: Global,
+        text: Vec<u8>,
         branch: &[u8],
         host: &[u8],
         port: Option<&[u8]>,
@@ -164,7 +166,7 @@ impl Key {
             .saturating_add(branch.len())
             .saturating_add(sent_by_room)
             .saturating_add(method.len());
-        let mut text = begun(alloc, room, Role::Server, branch, method)?;
+        let mut text = begun(text, room, Role::Server, branch, method)?;
         text.extend_from_slice(host)?;
         fold(&mut text);
         let branch_end = text.len() - host.len();
@@ -174,6 +176,11 @@ impl Key {
         let branch_start = branch_end - branch.len();
         let key = Key::placed(Role::Server, text, branch_start, branch_end, sent_by_end)?;
         Ok(key)
+    }
+
+    /// The memory of its text.
+    pub fn into_text(self) -> Vec<u8> {
+        self.text
     }
 
     /// The role in the transaction: client or server.

@@ -11,7 +11,7 @@ mod sent_by;
 mod solid;
 
 pub use crate::ack_of::{is_ack_for, is_ack_of};
-pub use crate::concern::{KeyError, cancelled_key, key_of};
+pub use crate::concern::{KeyError, cancelled_key, key_in, key_of};
 pub use crate::key::Key;
 pub use crate::solid::solid_of;
 pub use sip_standard::{Direction, Role};

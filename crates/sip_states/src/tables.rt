@@ -229,6 +229,11 @@ impl<H: BuildHasher> Tables<H> {
         Ok(self.sets.len() as u64)
     }
 
+    /// The number of the key, if it is known.
+    pub fn find(&self, key: &Key) -> Option<u64> {
+        self.sets.get_index_of(key).map(|index| index as u64 + 1)
+    }
+
     /// The set of the key with this number.
     pub fn set(&self, number: u64) -> &AnySet
         requires { IsGiven self.now number }

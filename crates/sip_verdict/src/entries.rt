@@ -20,7 +20,7 @@ use crate::histories::Histories;
 use crate::observing::{Observed, observe};
 use crate::passing::Hearing;
 use crate::releasing::pass_each;
-use crate::standing::{Standing, touch_each};
+use crate::standing::{Standing, is_again, touch_each};
 use crate::sweeping::SPARE;
 use crate::troubled::Troubled;
 use sip_log::Entry;
@@ -56,7 +56,7 @@ fn take<H: BuildHasher>(
         × (standing.new.tables.keys ≡ keys_in (es ++ e ∷ []))
         × ArePassing standing.new.book standing.old.tables.times es e (is_among []) standing.new.tables troubled.new) }
 {
-    let told = observe(alloc, &mut standing.book, entry)?;
+    let told = observe(alloc, &mut standing.book, &mut standing.spare, entry)?;
     standing.book.known();
     match told {
         Observed::Unheard => {
@@ -95,7 +95,7 @@ fn take<H: BuildHasher>(
             Ok(None)
         }
         Observed::Heard { event, concerned } => {
-            let concerned = touch_each(&mut standing.tables, concerned)?;
+            let concerned = touch_each(&mut standing.tables, &mut standing.spare, concerned, is_again(&event))?;
             troubled.grow(standing.tables.len())?;
             histories.note_each(alloc, concerned, entry)?;
             standing.tables.known();

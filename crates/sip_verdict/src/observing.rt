@@ -10,12 +10,13 @@ ghost use Rattle.sip_standard.specs.VerdictOf.{Sees};
 ghost use Rattle.sip_verdict.specs.inner.Observing.{AreKeysOf, IsObserved, IsKept, IsHeard, silent_told};
 
 use crate::concerned::Concerned;
-use sip_key::{Direction, Key, KeyError, cancelled_key, key_of};
+use sip_key::{Direction, Key, KeyError, cancelled_key, key_in};
 use sip_log::Entry;
 use sip_machine::{Action, Book, Event};
-use sip_message::{Message, ReadError};
+use sip_message::{Message, ReadError, StartLine};
 use sip_standard::{Fault, Reason, Unit};
 use std::alloc::{AllocError, Global};
+use std::mem;
 
 /// What an entry says to the judge.
 #[derive(Drop)]
@@ -53,12 +54,17 @@ pub(crate) fn direction_of(action: Action) -> Option<Direction>
 /// The keys of the transactions that a message concerns: its own, and for a CANCEL that is sent also the key of the request that it cancels.
 fn keys_of(
     alloc: Global,
+    spare: &mut Vec<u8>,
     message: &Message<'_>,
     direction: Direction,
 ) -> Result<Concerned<Key>, KeyError>
     ensures { AreKeysOf (said_of message.now) direction result }
 {
-    let Some(own) = key_of(alloc, message, direction)? else {
+    let text = match message.start() {
+        StartLine::Request { .. } => Vec::new(alloc),
+        StartLine::Status { .. } => mem::replace(spare, Vec::new(alloc)),
+    };
+    let Some(own) = key_in(text, message, direction)? else {
         return Ok(Concerned::None);
     };
     Ok(match cancelled_key(alloc, message, direction)? {
@@ -78,7 +84,7 @@ fn told_without_message(action: Action) -> Observed
 }
 
 /// Reads the message of an entry, and keeps it in the book if it concerns a transaction. On an error the book is as before.
-pub(crate) fn observe(alloc: Global, book: &mut Book, entry: &Entry) -> Result<Observed, AllocError>
+pub(crate) fn observe(alloc: Global, book: &mut Book, spare: &mut Vec<u8>, entry: &Entry) -> Result<Observed, AllocError>
     requires limit { entry.now.moment ≤ last_moment }
     requires numbered { (n : ℕ) → Keeps book.old n → n < entry.now.number }
     ensures observed { IfOk result (λ told. (es : List (Observation KeyParts)) → (e : Observation KeyParts) × Sees es (item entry.now) e
@@ -95,7 +101,7 @@ pub(crate) fn observe(alloc: Global, book: &mut Book, entry: &Entry) -> Result<O
         Err(ReadError::Fault(fault)) => return Ok(Observed::Fault(fault)),
         Err(ReadError::Memory) => return Err(AllocError),
     };
-    let concerned = match keys_of(alloc, &message, direction) {
+    let concerned = match keys_of(alloc, spare, &message, direction) {
         Ok(concerned) => concerned,
         Err(KeyError::NoCookie) => return Ok(Observed::Fault(NO_COOKIE)),
         Err(KeyError::Memory) => return Err(AllocError),

@@ -31,7 +31,7 @@ use sip_key::Key;
 use sip_listing::push_transaction;
 use sip_log::Entry;
 use sip_machine::{Book, Event, Params};
-use sip_standard::{Listing, Verdict};
+use sip_standard::{Kind, Listing, Verdict};
 use sip_states::Tables;
 use std::alloc::{AllocError, Global};
 use std::hash::BuildHasher;
@@ -42,6 +42,7 @@ use std::hash::BuildHasher;
 pub(crate) struct Standing<H: BuildHasher> {
     pub(crate) book: Book,
     pub(crate) tables: Tables<H>,
+    pub(crate) spare: Vec<u8>,
 }
 
 /// What was judged of an entry: its verdict if it is in trouble, and the numbers of the transactions that it concerns.
@@ -51,10 +52,31 @@ struct Taken {
     concerned: Concerned<u64>,
 }
 
+/// The number of the key.
+#[inline(always)]
+fn touch_one<H: BuildHasher>(
+    tables: &mut Tables<H>,
+    spare: &mut Vec<u8>,
+    key: Key,
+    again: bool,
+) -> Result<u64, AllocError>
+    requires { length tables.old.keys + 2 ≤ most_keys }
+{
+    if again {
+        if let Some(number) = tables.find(&key) {
+            *spare = key.into_text();
+            return Ok(number);
+        }
+    }
+    tables.touch(key)
+}
+
 /// The number of the transaction of each key, which starts where the key is new.
 pub(crate) fn touch_each<H: BuildHasher>(
     tables: &mut Tables<H>,
+    spare: &mut Vec<u8>,
     keys: Concerned<Key>,
+    again: bool,
 ) -> Result<Concerned<u64>, AllocError>
     requires { length tables.old.keys + 2 ≤ most_keys }
     ensures touched { IfOk result (λ numbers. TouchesEach (each keys) (each numbers) tables.old tables.new) }
@@ -63,12 +85,20 @@ pub(crate) fn touch_each<H: BuildHasher>(
     Ok(match keys {
         Concerned::None => Concerned::None,
         Concerned::All => Concerned::All,
-        Concerned::Own(own) => Concerned::Own(tables.touch(own)?),
+        Concerned::Own(own) => Concerned::Own(touch_one(tables, spare, own, again)?),
         Concerned::OwnAndCancelled(own, cancelled) => {
             let own = tables.touch(own)?;
             Concerned::OwnAndCancelled(own, tables.touch(cancelled)?)
         }
     })
+}
+
+#[inline(always)]
+pub(crate) fn is_again(event: &Event) -> bool {
+    match event.kind() {
+        Kind::Response(_) => true,
+        Kind::Request(_) => false,
+    }
 }
 
 /// Whether one of these transactions may name the message with this number. Where all are concerned, it may be.
@@ -96,6 +126,7 @@ impl<H: BuildHasher> Standing<H> {
         Standing {
             book: Book::new(alloc),
             tables: Tables::new(alloc, params, hasher),
+            spare: Vec::new(alloc),
         }
     }
 
@@ -288,7 +319,7 @@ impl<H: BuildHasher> Standing<H> {
             × IsJudged self.old.tables.times (key_keeping self.new.book self.old.tables.times) es e (transactions_of self.new.tables) taken.verdict
             × HaveNumbers self.new.tables.keys (listed (length self.new.tables.keys) taken.concerned) e.keys) }
     {
-        let told = observe(alloc, &mut self.book, entry)?;
+        let told = observe(alloc, &mut self.book, &mut self.spare, entry)?;
         self.book.known();
         match told {
             Observed::Unheard => {
@@ -314,7 +345,7 @@ impl<H: BuildHasher> Standing<H> {
                 Ok(Taken { verdict, concerned })
             }
             Observed::Heard { event, concerned } => {
-                let concerned = touch_each(&mut self.tables, concerned)?;
+                let concerned = touch_each(&mut self.tables, &mut self.spare, concerned, is_again(&event))?;
                 self.tables.known();
                 let hearing = Hearing { event, concerned };
                 let verdict = self.pass(entry.number, entry.moment, Some(&hearing))?;

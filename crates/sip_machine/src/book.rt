@@ -19,6 +19,7 @@ use sip_key::solid_of;
 use sip_ledger::Index;
 use sip_message::{Message, ReadError, StartLine};
 use std::alloc::{AllocError, Global};
+use std::cell::Cell;
 use std::cmp::Ordering;
 use std::marker::Model;
 
@@ -36,6 +37,8 @@ pub struct Book {
     tos: Tos,
     /// The buffers of messages that were forgotten, for those that come.
     spare: Vec<Vec<u8>>,
+    /// How many debts were looked at to find Tos, since messages were forgotten last.
+    looked: Cell<u64>,
 }
 
 /// A message with the number of its first entry.
@@ -77,6 +80,9 @@ struct Loose {
 /// A run with as many places as this is halved before it takes another one.
 const MOST: usize = 128;
 
+/// How many debts may be looked at for each entry, to find Tos, before messages are forgotten: some cost as much as that.
+const LOOKS: u64 = 4;
+
 impl Model for Book {
     ghost use Rattle.sip_machine.specs.Texts.{Texts, IsBook};
     ghost use Rattle.sip_machine.specs.inner.Order.{texts_of, StandInRuns};
@@ -100,6 +106,7 @@ impl Book {
             loose: None,
             tos: Tos::new(alloc),
             spare: Vec::new(alloc),
+            looked: Cell::new(0),
         }
     }
 
@@ -262,6 +269,18 @@ impl Book {
         }
     }
 
+    /// Counts debts that are looked at to find a To.
+    pub(crate) fn count_looks(&self, debts: usize) {
+        self.looked
+            .set(self.looked.get().saturating_add(debts as u64));
+    }
+
+    /// Whether so many debts were looked at to find Tos that it costs less to forget messages now, after so many entries. Nothing is said of
+    /// the answer: it tells when to forget, and never what.
+    pub fn is_slow(&self, entries: u64) -> bool {
+        self.looked.get() / LOOKS > entries
+    }
+
     /// How many messages are kept.
     pub fn len(&self) -> usize
         ensures { result ≡ length self.now }
@@ -282,6 +301,7 @@ impl Book {
         keep_only(&mut self.kept, &mut self.spare, numbers);
         self.loose = loosened(&self.kept, &self.order, is_loose);
         self.tos.retain(numbers);
+        self.looked.set(0);
     }
 }
 

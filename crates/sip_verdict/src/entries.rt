@@ -194,7 +194,7 @@ pub(crate) fn find_next<H: BuildHasher>(
         × AreSurveyed standing.new.book standing.new.tables troubled.new.deaf.items left.new (es ++ e ∷ [])) }
 {
     find(alloc, standing, troubled, histories, entry, found)?;
-    if standing.kept() <= 2 * *left + SPARE {
+    if standing.kept() <= 2 * *left + SPARE && !standing.book.is_slow(entry.number) {
         return Ok(());
     }
     standing.sweep(alloc, entry.moment)?;

@@ -44,7 +44,7 @@ pub(crate) fn judge_next<H: BuildHasher>(
     if let Some(verdict) = standing.judge(alloc, entry)? {
         return Ok(Some(verdict));
     }
-    if standing.kept() <= 2 * *left + SPARE {
+    if standing.kept() <= 2 * *left + SPARE && !standing.book.is_slow(entry.number) {
         return Ok(None);
     }
     standing.sweep(alloc, entry.moment)?;

@@ -77,6 +77,7 @@ fn first_with_to(
             return Ok(found);
         }
         most = most.saturating_mul(8);
+        book.count_looks(most);
     }
 }
 

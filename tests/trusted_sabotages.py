@@ -247,7 +247,7 @@ TABLES = {
 }
 
 LAWS = {
-    "a law that is private": law("sip_states", "pub fn a_run_by_rules_stands()", "fn a_run_by_rules_stands()", "the law a_run_by_rules_stands is not public"),
+    "a law that is private": law("sip_states", "pub fn by_waiting_and_stepping()", "fn by_waiting_and_stepping()", "the law by_waiting_and_stepping is not public"),
     "a law that its crate keeps": (at(VERDICT_LIB, ("a_legal_log_has_runs, ", "")), "the law a_legal_log_has_runs is not public"),
     "laws in a module that is private": (at("crates/sip_message/src/lib.rt", ("pub mod laws;", "mod laws;")), "the law bytes_have_one_reading is not public"),
     "a law that is gone": law(

@@ -49,18 +49,6 @@ pub record RunGives {X : Type 0} (r : MachineRules X) (S : X → Type 0) (e : Ma
   pub among : S before
   pub takes : r.Take before e y
 
--- a run takes just these events, in order, from the first state at moment 0, and stands in y at m
-pub record RuledRun {X : Type 0} (r : MachineRules X) (events : List MachineEvent) (m : ℕ) (y : X) : Type 0 where
-  pub steps : List Step
-  pub stands : Reaches r r.first 0 steps y m
-  pub takes : taken steps ≡ events
-
--- y is the last state of a run over these events and then e, whose last step is that of e
-pub record AfterRun {X : Type 0} (r : MachineRules X) (events : List MachineEvent) (e : MachineEvent) (y : X) : Type 0 where
-  pub steps : List Step
-  pub goes : Goes r r.first 0 (steps ++ Takes e ∷ []) y e.moment
-  pub takes : taken steps ≡ events
-
 -- a wait from S at h can last until exactly the moments that are within the limit
 abbrev pub IsAgenda : {X : Type 0} → MachineRules X → (X → Type 0) → ℕ → Option ℕ → Type 0
 IsAgenda {X} r S h limit = (m : ℕ) → h ≤ m → ((y : X) × Wait r S h m y) ↔ IsWithin m limit

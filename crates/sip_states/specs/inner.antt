@@ -3,3 +3,4 @@ pub mod Ways
 pub mod Marks
 pub mod Advance
 pub mod Touching
+pub mod RuledRuns

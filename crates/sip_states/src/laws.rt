@@ -11,7 +11,7 @@ ghost use Rattle.sip_standard.specs.Kind.{IsFinal};
 ghost use Rattle.sip_standard.specs.Times.{Times};
 ghost use Rattle.sip_standard.specs.KeyMachine.{MachineKind, machine_of, transaction_of};
 ghost use Rattle.sip_states.specs.KeySets.{PhaseOf, key_rules};
-ghost use Rattle.sip_states.specs.Runs.{Wait, RunGives, RuledRun, AfterRun};
+ghost use Rattle.sip_states.specs.Runs.{Wait, RunGives};
 ghost use Rattle.sip_standard.specs.Stands.{Stands, StandsAfter};
 ghost use Rattle.sip_standard.specs.declared.role.Role.TheVariants.{Client, Server};
 ghost use Rattle.sip_standard.specs.declared.action.Action.TheVariants.{Sent, Received};
@@ -20,14 +20,6 @@ ghost use Rattle.sip_standard.specs.declared.rules.Rules.TheVariants.{R6026};
 
 use sip_machine::Machine;
 
-/// A run by the rules of a machine stands where one in the words of the standard stands, and an event leads from both to the same states.
-pub fn a_run_by_rules_stands()
-    ensures stands { (p : Times) (machine : MachineKind) (events : List MachineEvent) (m : ℕ) (y : PhaseOf machine) →
-        RuledRun (key_rules p machine) events m y ↔ Stands (transaction_of machine).figure p events m y }
-    ensures after { (p : Times) (machine : MachineKind) (events : List MachineEvent) (e : MachineEvent) (y : PhaseOf machine) →
-        AfterRun (key_rules p machine) events e y ↔ StandsAfter (transaction_of machine).figure p events e y }
-{}
-
 /// To wait until one moment and then until another leads to the same states as one wait until the latter.
 pub fn in_one_wait_or_two<M: Machine>(_machine: &M)
     ensures { (xs : List M.Seen) (h m n : ℕ) (y : M.Seen) → h ≤ m → m ≤ n →
@@ -35,19 +27,23 @@ pub fn in_one_wait_or_two<M: Machine>(_machine: &M)
         ↔ Wait (M.rules _machine.now) (Contains xs) h n y }
 {}
 
-/// The last states of runs are exactly what waiting and then an event give: from the first state at moment 0, and from the last
-/// states after the event before.
-pub fn by_waiting_and_stepping<M: Machine>(_machine: &M)
-    ensures first { (e : MachineEvent) (y : M.Seen) → AfterRun (M.rules _machine.now) [] e y
-        ↔ RunGives (M.rules _machine.now) (Wait (M.rules _machine.now) (λ x. x ≡ (M.rules _machine.now).first) 0 e.moment) e y }
-    ensures next { (events : List MachineEvent) (e f : MachineEvent) (y : M.Seen) → AfterRun (M.rules _machine.now) (events ++ e ∷ []) f y
-        ↔ RunGives (M.rules _machine.now) (Wait (M.rules _machine.now) (AfterRun (M.rules _machine.now) events e) e.moment f.moment) f y }
+/// A run stands exactly where waiting and stepping lead, by which the contracts of sets speak: over no event where one can wait from the first
+/// state at moment 0, and over some where one can wait from the states to which the last of them leads. An event leads to what it gives
+/// from where runs over the events before it stand at its moment.
+pub fn by_waiting_and_stepping()
+    ensures first { (p : Times) (machine : MachineKind) (m : ℕ) (y : PhaseOf machine) →
+        Stands (transaction_of machine).figure p [] m y ↔ Wait (key_rules p machine) (λ x. x ≡ (key_rules p machine).first) 0 m y }
+    ensures next { (p : Times) (machine : MachineKind) (events : List MachineEvent) (e : MachineEvent) (m : ℕ) (y : PhaseOf machine) →
+        Stands (transaction_of machine).figure p (events ++ e ∷ []) m y ↔ Wait (key_rules p machine) (StandsAfter (transaction_of machine).figure p events e) e.moment m y }
+    ensures after { (p : Times) (machine : MachineKind) (events : List MachineEvent) (e : MachineEvent) (y : PhaseOf machine) →
+        StandsAfter (transaction_of machine).figure p events e y ↔ RunGives (key_rules p machine) (Stands (transaction_of machine).figure p events e.moment) e y }
 {}
 
 /// A run over some events contains a run over the first of them, which stands at any moment between those and the others.
-pub fn a_run_holds_one_over_fewer_events<M: Machine>(_machine: &M)
-    ensures { (events more : List MachineEvent) (m n : ℕ) (y : M.Seen) → All (λ e. e.moment ≤ m) events → All (λ e. m ≤ e.moment) more → m ≤ n →
-        RuledRun (M.rules _machine.now) (events ++ more) n y → (x : M.Seen) × RuledRun (M.rules _machine.now) events m x }
+pub fn a_run_holds_one_over_fewer_events()
+    ensures { (p : Times) (machine : MachineKind) (events more : List MachineEvent) (m n : ℕ) (y : PhaseOf machine) →
+        All (λ e. e.moment ≤ m) events → All (λ e. m ≤ e.moment) more → m ≤ n →
+        Stands (transaction_of machine).figure p (events ++ more) n y → (x : PhaseOf machine) × Stands (transaction_of machine).figure p events m x }
 {}
 
 /// By the rules of RFC 6026 a client that has received a final response to its INVITE sends nothing but ACK and CANCEL

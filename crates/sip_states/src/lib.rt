@@ -17,7 +17,7 @@ pub use any_set::AnySet;
 pub use each_once::keep_ascending;
 pub use keeping::keep_each;
 pub use laws::{
-    a_run_by_rules_stands, a_run_holds_one_over_fewer_events, a_second_restart_changes_nothing,
+    a_run_holds_one_over_fewer_events, a_second_restart_changes_nothing,
     a_server_sends_when_it_was_asked, after_a_final_response_a_client_sends_no_request,
     an_invite_is_sent_again_after_t1, by_waiting_and_stepping, in_one_wait_or_two,
 };

@@ -2,7 +2,8 @@
 use Rattle.std.proofs.Common.{◌≡◌, ◌≤◌, ◌↔◌, ℕ, List, [], ◌∷◌, ◌++◌, map, refl, ap, subst, ◌∙◌}
 use Rattle.sip_standard.specs.MachineEvent.{MachineEvent}
 use Rattle.sip_machine.specs.Rules.{MachineRules}
-use Rattle.sip_states.specs.Runs.{Step, Hides, Takes, moment_of_step, Does, Goes, Reaches, taken, Wait, RunGives, RuledRun, AfterRun}
+use Rattle.sip_states.specs.Runs.{Step, Hides, Takes, moment_of_step, Does, Goes, Reaches, taken, Wait, RunGives}
+use Rattle.sip_states.specs.inner.RuledRuns.{RuledRun, AfterRun}
 
 -- hidden steps take no event
 pub taken-hides : (ends : List ℕ) → taken (map Hides ends) ≡ []
@@ -141,18 +142,4 @@ module _ {X : Type 0} (r : MachineRules X) where
           (record { before = g.before; at = stands.last; goes = stands.goes; low = stands.reached; does = (stands.waits, g.takes) });
       takes = g.among.takes;
     },
-  )
-
-  -- the last states after the first event are what it gives from where one can wait in the first state
-  pub After-first : (e : MachineEvent) (y : X) → AfterRun r [] e y ↔ RunGives r (Wait r (λ x. x ≡ r.first) 0 e.moment) e y
-  After-first e y = (
-    λ after. let g = (After-run [] e y).0 after in record { before = g.before; among = (Run-wait_first e.moment g.before).0 g.among; takes = g.takes },
-    λ g. (After-run [] e y).1 (record { before = g.before; among = (Run-wait_first e.moment g.before).1 g.among; takes = g.takes }),
-  )
-
-  -- the last states after an event are what it gives from where one can wait in the last states after the event before it
-  pub After-next : (events : List MachineEvent) (e f : MachineEvent) (y : X) → AfterRun r (events ++ e ∷ []) f y ↔ RunGives r (Wait r (AfterRun r events e) e.moment f.moment) f y
-  After-next events e f y = (
-    λ after. let g = (After-run (events ++ e ∷ []) f y).0 after in record { before = g.before; among = (Run-wait events e f.moment g.before).0 g.among; takes = g.takes },
-    λ g. (After-run (events ++ e ∷ []) f y).1 (record { before = g.before; among = (Run-wait events e f.moment g.before).1 g.among; takes = g.takes }),
   )

@@ -15,9 +15,11 @@ use Rattle.sip_machine.specs.inner.FigureLaws.{rules_lawful}
 use Rattle.sip_standard.specs.Stands.{Stands, begins, waits, ends, takes, StandsAfter}
 use Rattle.sip_standard.specs.KeyMachine.{MachineKind, transaction_of}
 use Rattle.sip_states.proofs.keyed.KeySetLaws.{coded_holds}
-use Rattle.sip_states.specs.Runs.{Step, Hides, Takes, Goes, taken, RuledRun, AfterRun}
-use Rattle.sip_states.proofs.sets.Waiting.{IsWithin-none, Wait-stay}
-use Rattle.sip_states.proofs.runs.RunLemmas.{taken-append, Goes-push, Run-wait, After-run}
+use Rattle.sip_states.specs.Runs.{Step, Hides, Takes, Goes, taken, Wait, RunGives}
+use Rattle.sip_states.specs.inner.RuledRuns.{RuledRun, AfterRun}
+use Rattle.sip_states.proofs.sets.Waiting.{IsWithin-none, Wait-stay, Wait-iff, Gives-iff}
+use Rattle.sip_states.proofs.runs.RunLemmas.{taken-append, Goes-push, Run-wait, Run-wait_first, After-run}
+use Rattle.sip_states.proofs.runs.FewerLemmas.{Run-fewer}
 
 -- a moment is past no close of a window exactly where it is not past the one close that the window may have
 closes-within : (h : ℕ) (window : Option (ℕ × Option ℕ)) → All (λ m. h ≤ m) (closes_of window) ↔ IfSome window (λ w. IfSome w.1 (λ close. h ≤ close))
@@ -144,6 +146,37 @@ module _ {X : Type 0} (f : Figure X) (is : IsFigure f) (p : Times) where
         let gives = (After-run (rules_of f p) events e y).0 after in
         (gives.before, run-stands events e.moment gives.before gives.among, gives.takes.1),
   )
+
+  -- a run over no event stands where one can wait from the first state
+  pub stands-wait_first : (m : ℕ) (y : Owing X) → Stands f p [] m y ↔ Wait (rules_of f p) (λ x. x ≡ (rules_of f p).first) 0 m y
+  stands-wait_first m y =
+      let runs = stands-runs [] m y in
+      let waiting = Run-wait_first (rules_of f p) m y in
+      (λ s. waiting.0 (runs.0 s), λ w. runs.1 (waiting.1 w))
+
+  -- a run over some events stands where one can wait from the states to which the last of them leads
+  pub stands-wait : (events : List MachineEvent) (e : MachineEvent) (m : ℕ) (y : Owing X) → Stands f p (events ++ e ∷ []) m y ↔ Wait (rules_of f p) (StandsAfter f p events e) e.moment m y
+  stands-wait events e m y =
+      let r = rules_of f p in
+      let runs = stands-runs (events ++ e ∷ []) m y in
+      let waiting = Run-wait r events e m y in
+      let same = Wait-iff r (StandsAfter f p events e) (AfterRun r events e) (stands-after events e) e.moment m y in
+      (λ s. same.1 (waiting.0 (runs.0 s)), λ w. runs.1 (waiting.1 (same.0 w)))
+
+  -- an event leads to what it gives from where runs over the events before it stand at its moment
+  pub stands-gives : (events : List MachineEvent) (e : MachineEvent) (y : Owing X) → StandsAfter f p events e y ↔ RunGives (rules_of f p) (Stands f p events e.moment) e y
+  stands-gives events e y =
+      let r = rules_of f p in
+      let after = stands-after events e y in
+      let gives = After-run r events e y in
+      let same = Gives-iff r (Stands f p events e.moment) (RuledRun r events e.moment) (stands-runs events e.moment) e y in
+      (λ s. same.1 (gives.0 (after.0 s)), λ g. after.1 (gives.1 (same.0 g)))
+
+  -- a run over events and more events contains a run over the former, which stands at any moment between the two
+  pub stands-fewer : (events more : List MachineEvent) (m n : ℕ) (y : Owing X) → All (λ e. e.moment ≤ m) events → All (λ e. m ≤ e.moment) more → m ≤ n → Stands f p (events ++ more) n y → (x : Owing X) × Stands f p events m x
+  stands-fewer events more m n y low high to stands =
+      let fewer = Run-fewer (rules_of f p) events more m n y low high to (stands-run (events ++ more) n y stands) in
+      (fewer.0, run-stands events m fewer.0 fewer.1)
 
 -- what stands at a moment lasts until then, whichever machine it is of
 pub what_stands_lasts : (machine : MachineKind) (p : Times) (events : List MachineEvent) (m : ℕ) (x : Owing (transaction_of machine).Phase)

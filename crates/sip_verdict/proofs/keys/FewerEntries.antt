@@ -4,7 +4,7 @@ use Rattle.std.specs.Prelude.{filter, fold, AllPairs}
 use Rattle.std.proofs.lemmas.List.{map-append}
 use Rattle.std.proofs.lemmas.List.Elements.{All-nil, All-cons, All-head, All-map, All-filter, filter-append}
 use Rattle.sip_standard.specs.MachineEvent.{MachineEvent}
-use Rattle.sip_states.specs.Runs.{RuledRun}
+use Rattle.sip_states.specs.inner.RuledRuns.{RuledRun}
 use Rattle.sip_standard.proofs.Few.{AllPairs-head, AllPairs-tail}
 use Rattle.sip_states.proofs.runs.FewerLemmas.{Run-fewer}
 use Rattle.sip_standard.specs.Key.{KeyParts}

@@ -4,7 +4,8 @@ use Rattle.sip_machine.specs.Texts.{Texts}
 use Rattle.sip_standard.specs.MachineEvent.{MachineEvent}
 use Rattle.sip_machine.specs.Rules.{MachineRules, IsLawful, StandFor}
 use Rattle.sip_verdict.specs.declared.passing.Outcome.TheVariants as all
-use Rattle.sip_states.specs.Runs.{Wait, RunGives, AfterRun, IsWide, widest}
+use Rattle.sip_states.specs.Runs.{Wait, RunGives, IsWide, widest}
+use Rattle.sip_states.specs.inner.RuledRuns.{AfterRun}
 use Rattle.sip_states.specs.Held.{Held}
 use Rattle.sip_verdict.specs.inner.Leads.{Leads}
 use Rattle.sip_verdict.specs.inner.Stepping.{LeadsTo, RunsUntil, IsStepped}

@@ -4,7 +4,8 @@ use Rattle.std.proofs.lemmas.List.Elements.{All-cons, All-nil, All-weaker, Conta
 use Rattle.sip_machine.specs.Texts.{Texts, text_of}
 use Rattle.sip_standard.specs.MachineEvent.{MachineEvent}
 use Rattle.sip_machine.specs.Rules.{MachineRules, Waits, Knows, StandFor}
-use Rattle.sip_states.specs.Runs.{Wait, RunGives, RuledRun, AfterRun}
+use Rattle.sip_states.specs.Runs.{Wait, RunGives}
+use Rattle.sip_states.specs.inner.RuledRuns.{RuledRun, AfterRun}
 use Rattle.sip_machine.proofs.rules.RuleLaws.{AgreeOn, AgreeOn-grow, map-seen}
 use Rattle.sip_verdict.specs.inner.Leads.{Leads}
 use Rattle.sip_states.proofs.lists.Listed.{Contains-single, Contains-none, Contains-map}

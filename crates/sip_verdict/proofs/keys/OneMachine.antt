@@ -4,7 +4,8 @@ use Rattle.std.proofs.lemmas.List.Elements.{All-contains}
 use Rattle.sip_machine.specs.Texts.{Texts}
 use Rattle.sip_standard.specs.MachineEvent.{MachineEvent}
 use Rattle.sip_machine.specs.Rules.{MachineRules, IsLawful, Waits, StandFor}
-use Rattle.sip_states.specs.Runs.{Wait, RunGives, RuledRun, AfterRun, IsWide, widest}
+use Rattle.sip_states.specs.Runs.{Wait, RunGives, IsWide, widest}
+use Rattle.sip_states.specs.inner.RuledRuns.{RuledRun, AfterRun}
 use Rattle.sip_verdict.specs.inner.Leads.{Leads}
 use Rattle.sip_states.proofs.lists.Listed.{Contains-here}
 use Rattle.sip_states.proofs.sets.Taking.{wide_among, wide_some, few_narrow}

@@ -7,7 +7,8 @@ use Rattle.sip_standard.specs.KeyMachine.{MachineKind, transaction_of}
 use Rattle.sip_standard.specs.Stands.{Stands, StandsAfter}
 use Rattle.sip_states.specs.KeySets.{PhaseOf, key_rules}
 use Rattle.sip_states.proofs.keyed.KeySetLaws.{coded_holds}
-use Rattle.sip_states.specs.Runs.{AfterRun, IsWide}
+use Rattle.sip_states.specs.Runs.{IsWide}
+use Rattle.sip_states.specs.inner.RuledRuns.{AfterRun}
 use Rattle.sip_states.proofs.runs.StandsLemmas.{stands-runs, stands-after}
 use Rattle.sip_verdict.specs.inner.Stepping.{RunsUntil}
 

@@ -5,7 +5,7 @@ use Rattle.sip_standard.specs.Times.{Times}
 use Rattle.sip_machine.specs.Texts.{Texts, Keeps, text_of}
 use Rattle.sip_standard.specs.MachineEvent.{MachineEvent}
 use Rattle.sip_machine.specs.Rules.{Knows, StandFor}
-use Rattle.sip_states.specs.Runs.{AfterRun}
+use Rattle.sip_states.specs.inner.RuledRuns.{AfterRun}
 use Rattle.sip_standard.specs.KeyMachine.{MachineKind, transaction_of}
 use Rattle.sip_standard.specs.Stands.{StandsAfter}
 use Rattle.sip_states.proofs.runs.StandsLemmas.{stands-after}

@@ -8,7 +8,8 @@ use Rattle.sip_machine.specs.Texts.{Texts, text_of}
 use Rattle.sip_machine.specs.Owes.{owes_seen, owes_names}
 use Rattle.sip_standard.specs.MachineEvent.{MachineEvent}
 use Rattle.sip_machine.specs.Rules.{MachineRules, IsLawful, StandFor}
-use Rattle.sip_states.specs.Runs.{Wait, RuledRun}
+use Rattle.sip_states.specs.Runs.{Wait}
+use Rattle.sip_states.specs.inner.RuledRuns.{RuledRun}
 use Rattle.sip_standard.specs.KeyMachine.{MachineKind}
 use Rattle.sip_states.specs.KeySets.{coded_of, StateOf}
 use Rattle.sip_states.proofs.keyed.KeySetLaws.{coded_holds}

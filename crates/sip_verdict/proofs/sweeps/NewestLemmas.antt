@@ -14,7 +14,7 @@ use Rattle.sip_machine.specs.Rules.{Knows}
 use Rattle.sip_machine.proofs.rules.RuleLaws.{AgreeOn, StandFor-book}
 use Rattle.sip_machine.proofs.texts.TextLaws.{Keeps-grow, Keeps-grow_cases, text_of-grow}
 use Rattle.sip_states.specs.KeySets.{key_rules, StateOf, set_of}
-use Rattle.sip_states.specs.Runs.{AfterRun}
+use Rattle.sip_states.specs.inner.RuledRuns.{AfterRun}
 use Rattle.sip_states.specs.Held.{Held}
 use Rattle.sip_states.specs.Meaning.{IsKnown}
 use Rattle.sip_states.specs.AnySet.{meaning_of, IsKnownSet}

@@ -10,7 +10,8 @@ use Rattle.sip_machine.specs.Retained.{only}
 use Rattle.sip_standard.specs.MachineEvent.{MachineEvent}
 use Rattle.sip_machine.specs.Rules.{MachineRules, IsLawful, StandFor}
 use Rattle.sip_machine.proofs.texts.RetainLemmas.{length-only}
-use Rattle.sip_states.specs.Runs.{Wait, RuledRun}
+use Rattle.sip_states.specs.Runs.{Wait}
+use Rattle.sip_states.specs.inner.RuledRuns.{RuledRun}
 use Rattle.sip_states.specs.Held.{Held}
 use Rattle.sip_standard.specs.KeyMachine.{MachineKind, machine_of_key, transaction_of}
 use Rattle.sip_states.specs.KeySets.{PhaseOf, StateOf, key_rules}

@@ -6,7 +6,7 @@ use Rattle.sip_machine.specs.Texts.{Texts, Keeps}
 use Rattle.sip_machine.specs.NumberedEvent.{NumberedEvent, event_in, FitsBook}
 use Rattle.sip_standard.specs.MachineEvent.{MachineEvent}
 use Rattle.sip_machine.specs.Rules.{StandFor}
-use Rattle.sip_states.specs.Runs.{AfterRun}
+use Rattle.sip_states.specs.inner.RuledRuns.{AfterRun}
 use Rattle.sip_states.specs.Held.{Held}
 use Rattle.sip_standard.specs.KeyMachine.{MachineKind, machine_of_key}
 use Rattle.sip_states.specs.KeySets.{key_rules, StateOf, set_of}

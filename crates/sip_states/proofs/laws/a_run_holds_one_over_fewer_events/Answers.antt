@@ -1,5 +1,7 @@
-use Rattle.sip_states.proofs.runs.FewerLemmas.{Run-fewer}
+use Rattle.sip_standard.specs.KeyMachine.{transaction_of}
+use Rattle.sip_states.proofs.keyed.KeySetLaws.{coded_holds}
+use Rattle.sip_states.proofs.runs.StandsLemmas.{stands-fewer}
 use Rattle.sip_states.proofs.laws.a_run_holds_one_over_fewer_events.Goals as goal
 
 pub returns : goal.returns
-returns g c = Run-fewer (g.M.Machine.rules c.args._machine.now)
+returns c = λ p machine. stands-fewer (transaction_of machine).figure (coded_holds machine).is_figure p

@@ -1,5 +1,12 @@
-use Rattle.sip_states.proofs.runs.RunLemmas.{After-first, After-next}
+use Rattle.sip_standard.specs.KeyMachine.{transaction_of}
+use Rattle.sip_states.proofs.keyed.KeySetLaws.{coded_holds}
+use Rattle.sip_states.proofs.runs.StandsLemmas.{stands-wait_first, stands-wait, stands-gives}
 use Rattle.sip_states.proofs.laws.by_waiting_and_stepping.Goals as goal
 
 pub returns : goal.returns
-returns g c = let r = g.M.Machine.rules c.args._machine.now in record { first = After-first r; next = After-next r }
+returns c =
+    record {
+      first = λ p machine. stands-wait_first (transaction_of machine).figure (coded_holds machine).is_figure p;
+      next = λ p machine. stands-wait (transaction_of machine).figure (coded_holds machine).is_figure p;
+      after = λ p machine. stands-gives (transaction_of machine).figure (coded_holds machine).is_figure p;
+    }

@@ -2,4 +2,3 @@ pub mod FlagLemmas
 pub mod LeftLemmas
 pub mod LetGoLemmas
 pub mod RisingLemmas
-pub mod SeekLemmas

@@ -1,4 +1,3 @@
 pub mod EachLemmas
-pub mod FrontLemmas
 pub mod IndexLemmas
 pub mod KeepLemmas

@@ -1,5 +1,6 @@
 -- Accounts stay accounts, and owe what they owed, while gains and strikes grow, are let go or are dropped.
-use Rattle.std.proofs.Common.{◌≡◌, ◌≢◌, ℕ, ◌+◌, ◌<◌, ◌≤◌, ◌&&◌, ◌||◌, Bool, true, false, not, List, [], ◌∷◌, ◌++◌, length, take, drop, get_or, set, append-nil, refl, sym, ap, ap₂, ◌∙◌, subst, inl, inr, arith}
+use Rattle.std.proofs.Common.{◌≡◌, ◌≢◌, ℕ, ◌+◌, ◌<◌, ◌≤◌, ◌&&◌, ◌||◌, Bool, true, false, not, List, [], ◌∷◌, ◌++◌, length, take, drop, get_or, set, append-nil, refl, sym, ap, ap₂, ◌∙◌, subst, arith}
+use Rattle.std.proofs.lemmas.Bool.Decides.{nat_tests}
 use Rattle.std.specs.Prelude.{All, nat_le, nat_lt}
 use Rattle.std.proofs.lemmas.Bool.{cases_eq, cases_lt, le-leb, le-ltb, lt-leb, true≢false}
 use Rattle.std.proofs.Math.Bool.{and-false, and-true}
@@ -25,40 +26,21 @@ kept-strikes old new a kept last = ap (drop a.first) (sym (take-take a.last (len
 pub kept-longer : (old new : List Strike) → take (length old) new ≡ old → length old ≤ length new
 kept-longer old new kept = omega (arith, ap length kept, length-take (length old) new)
 
--- strikes that are kept twice, when others are put after them, are kept
-pub kept-twice : (a b c : List Strike) → take (length a) b ≡ a → take (length b) c ≡ b → take (length a) c ≡ a
-kept-twice a b c one two =
-    sym (take-take (length a) (length b) c (kept-longer a b one)) ∙ ap (take (length a)) two ∙ one
-
 -- an account owes the same when strikes are put after the others
 pub kept-owes : (gains : Gains) (old new : List Strike) (a : Account) (k : ℕ) → take (length old) new ≡ old → a.last ≤ length old →
     owes_at gains new a k ≡ owes_at gains old a k
 unfolding owes_at
-kept-owes gains old new a k kept last =
-    ap (λ own. nat_le a.start k && (nat_lt k a.end && not (is_gone gains own k))) (kept-strikes old new a kept last)
+kept-owes gains old new a k kept last = ap (λ own. nat_le a.start k && (nat_lt k a.end && not (is_gone gains own k))) (kept-strikes old new a kept last)
 
 -- the debts of an account stay when strikes are put after the others
 pub kept-debts : (gains : Gains) (old new : List Strike) (a : Account) → take (length old) new ≡ old → a.last ≤ length old →
     account_debts gains new a ≡ account_debts gains old a
 unfolding account_debts
-kept-debts gains old new a kept last =
-    listed-same (owes_at gains new a) (must_at gains a) (owes_at gains old a) (must_at gains a) 0 (entries_of gains)
-    (λ k from below. (kept-owes gains old new a k kept last, refl))
+kept-debts gains old new a kept last = grind (arith, listed-same, kept-owes)
 
 -- an account stays one when strikes are put after the others
 pub kept-account : (gains : Gains) (old new : List Strike) (a : Account) → take (length old) new ≡ old → IsAccount gains old a → IsAccount gains new a
-kept-account gains old new a kept is =
-    let last = is.last in
-    record {
-      order = is.order;
-      end = is.end;
-      soft = is.soft;
-      first = is.first;
-      last = omega (arith, last, kept-longer old new kept);
-      bound = λ m k past. ap (λ own. is_struck own m k) (kept-strikes old new a kept last) ∙ is.bound m k past;
-      begins = λ some. kept-owes gains old new a a.start kept last ∙ is.begins some;
-      print = is.print ∙ ap debts_print (sym (kept-debts gains old new a kept last));
-    }
+kept-account gains old new a kept is = grind (arith, nat_tests, kept-longer, kept-strikes, kept-owes, kept-debts)
 
 -- the account is one over other gains and strikes too, and owes what it owed
 abbrev pub Stays : Gains → Gains → List Strike → List Strike → Account → Type 0
@@ -109,31 +91,20 @@ must-from gains a k high = sym (ap (λ b. holds gains.musts 0 k && b) (le-leb a.
 -- an account owes nothing at its end or after it
 pub past-end : (gains : Gains) (strikes : List Strike) (a : Account) (k : ℕ) → a.end ≤ k → owes_at gains strikes a k ≡ false
 unfolding owes_at
-past-end gains strikes a k past =
-    ap (λ b. nat_le a.start k && (b && not (is_gone gains (strikes_of strikes a) k))) (le-ltb k a.end past)
-    ∙ and-false (nat_le a.start k)
+past-end gains strikes a k past = grind (arith, le-ltb, and-false)
 
 -- what an account owes lies below its end
 pub owed-within : (gains : Gains) (strikes : List Strike) (a : Account) (k : ℕ) → owes_at gains strikes a k ≡ true → k < a.end
-owed-within gains strikes a k is = elim (cases_lt k a.end) [
-  | inl below ↦ below
-  | inr past ↦ absurd (true≢false (sym is ∙ past-end gains strikes a k past))
-]
+owed-within gains strikes a k is = grind (arith, nat_tests, cases_lt, true≢false, past-end)
 
 -- where an account owes something, each gain from its start on is kept
 pub kept-passed : {gains : Gains} {strikes : List Strike} {a : Account} (k : ℕ) → AreGains gains → IsAccount gains strikes a → a.start < a.end → a.start ≤ k →
     k < length (entries_of gains) → IsKept gains k
-kept-passed {gains} {strikes} {a} k are is some low high =
-    let first = left-kept gains a.start are (owed-left gains strikes a a.start (is.begins some)) in
-    let from = first.from in
-    let count = entries-long gains are.long in
-    record { from = omega (arith, from, low); within = omega (arith, high, count) }
+kept-passed {gains} {strikes} {a} k are is some low high = grind (arith, nat_tests, left-kept, owed-left, entries-long)
 
 -- each gain from the start of an account up to its end is kept
 pub kept-from : {gains : Gains} {strikes : List Strike} {a : Account} (k : ℕ) → AreGains gains → IsAccount gains strikes a → a.start ≤ k → k < a.end → IsKept gains k
-kept-from k are is low high =
-    let end = is.end in
-    kept-passed k are is (omega (arith, low, high)) low (omega (arith, high, end))
+kept-from k are is low high = kept-passed k are is (omega (arith, low, high)) low (omega (arith, high, is.end))
 
 -- where an entry is the same among old and new gains, and is left in both or in neither, an account owes it in both or in neither
 owes-over : (old new : Gains) (strikes : List Strike) (a : Account) (k : ℕ) → entry_at (entries_of new) k ≡ entry_at (entries_of old) k → is_left new k ≡ is_left old k →
@@ -177,28 +148,12 @@ over-debts old new strikes a long end alike =
 -- an account that owes alike over old and new gains stays one
 over-account : (old new : Gains) (strikes : List Strike) (a : Account) → length (entries_of old) ≤ length (entries_of new) → OwesAlike old new strikes a → IsAccount old strikes a →
     IsAccount new strikes a
-over-account old new strikes a long alike is =
-    let end = is.end in
-    let soft = is.soft in
-    record {
-      order = is.order;
-      end = omega (arith, end, long);
-      soft = omega (arith, soft, long);
-      first = is.first;
-      last = is.last;
-      bound = λ m k past. is.bound m k (omega (arith, past, long));
-      begins = λ some. alike.owes a.start ∙ is.begins some;
-      print = is.print ∙ ap debts_print (sym (over-debts old new strikes a long end alike));
-    }
+over-account old new strikes a long alike is = grind (arith, nat_tests, over-debts)
 
 -- accounts that owe alike over old and new gains stay accounts, with the same debts
 pub over-all : (old new : Gains) (strikes : List Strike) (rows : List Account) → length (entries_of old) ≤ length (entries_of new) → All (OwesAlike old new strikes) rows →
     All (IsAccount old strikes) rows → All (IsAccount new strikes) rows × (accounts_debts new strikes rows ≡ accounts_debts old strikes rows)
-over-all old new strikes rows long alike each =
-    each-stays old new strikes strikes rows (λ k d below. (
-      over-account old new strikes (get_or rows k d) long (alike k d below) (each k d below),
-      over-debts old new strikes (get_or rows k d) long (each k d below).end (alike k d below),
-    ))
+over-all old new strikes rows long alike each = grind (arith, nat_tests, each-stays, over-account, over-debts)
 
 -- accounts are kept over gains that are the same
 pub same-keeps : (old new : Gains) → AreSameGains old new → KeepsAccounts old new
@@ -215,64 +170,22 @@ same-keeps old new same = record {
 
 -- an account owes alike where a gain is let go that it does not owe
 pub let_go-alike : (old new : Gains) (strikes : List Strike) (a : Account) (place : ℕ) → IsLetGo place old new → owes_at old strikes a place ≡ false → OwesAlike old new strikes a
-let_go-alike old new strikes a place gone unowed =
-    let entry = λ (k : ℕ). ap (λ l. entry_at l k) gone.entries in
-    record {
-      owes = λ k. elim (cases_eq k place) [
-        | inl is ↦
-            ap (owes_at new strikes a) is ∙ unleft-unowed new strikes a place (not-left new place gone.here)
-            ∙ sym (ap (owes_at old strikes a) is ∙ unowed)
-        | inr other ↦ owes-over old new strikes a k (entry k) (left-as old new k (entry k) (λ m. gone.others m k other))
-      ];
-      same = λ k owed. elim (cases_eq k place) [
-        | inl is ↦ absurd (true≢false (sym owed ∙ ap (owes_at old strikes a) is ∙ unowed))
-        | inr other ↦ (entry k, gone.musts k other)
-      ];
-    }
+let_go-alike old new strikes a place gone unowed = grind (arith, nat_tests, cases_eq, unleft-unowed, not-left, owes-over, left-as, true≢false)
 
 -- an account owes alike where gains are dropped of which nothing is left
 pub dropped-alike : (old new : Gains) (strikes : List Strike) (a : Account) (place : ℕ) → IsDropped place old new → ((m k : ℕ) → k < place → holds old.messages m k ≡ false) →
     OwesAlike old new strikes a
-dropped-alike old new strikes a place dropped none =
-    let messages = λ (m k : ℕ). ap (λ l. holds l m k) dropped.messages in
-    record {
-      owes = λ k. elim (cases_lt k place) [
-        | inl early ↦
-            unleft-unowed new strikes a k (not-left new k (λ m. messages m k ∙ none m k early))
-            ∙ sym (unleft-unowed old strikes a k (not-left old k (λ m. none m k early)))
-        | inr above ↦ owes-over old new strikes a k (dropped.entries k above) (left-as old new k (dropped.entries k above) (λ m. messages m k))
-      ];
-      same = λ k owed. elim (cases_lt k place) [
-        | inl early ↦ absurd (true≢false (sym owed ∙ unleft-unowed old strikes a k (not-left old k (λ m. none m k early))))
-        | inr above ↦ (dropped.entries k above, ap (λ l. holds l 0 k) dropped.musts)
-      ];
-    }
+dropped-alike old new strikes a place dropped none = grind (arith, nat_tests, cases_lt, unleft-unowed, not-left, owes-over, left-as, true≢false)
 
 -- an account that ends before a new gain owes alike with it
 pub grown-alike : (old new : Gains) (debt : Debt) (strikes : List Strike) (a : Account) → IsGain debt old new → a.end ≤ length (entries_of old) → OwesAlike old new strikes a
-grown-alike old new debt strikes a gain end = record {
-  owes = λ k. elim (cases_lt k a.end) [
-    | inl below ↦
-        let inside : k < length (entries_of old) = omega (arith, below, end) in
-        let other : k ≢ length (entries_of old) = omega (arith, inside) in
-        owes-over old new strikes a k (entry k inside) (left-as old new k (entry k inside) (λ m. gain.messages m k other))
-    | inr past ↦ past-end new strikes a k past ∙ sym (past-end old strikes a k past)
-  ];
-  same = λ k owed.
-      let inside : k < length (entries_of old) = omega (arith, owed-within old strikes a k owed, end) in
-      let other : k ≢ length (entries_of old) = omega (arith, inside) in
-      (entry k inside, gain.musts k other);
-}
-  where
-    entry : (k : ℕ) → k < length (entries_of old) → entry_at (entries_of new) k ≡ entry_at (entries_of old) k
-    entry k inside = ap (λ l. entry_at l k) gain.entries ∙ get_or_append_left (entries_of old) ((record { message = debt.message; deadline = debt.deadline }) ∷ []) blank k inside
+grown-alike old new debt strikes a gain end = grind (arith, nat_tests, cases_lt, owes-over, left-as, past-end, owed-within, get_or_append_left)
 
 -- the debts in a row of the list are the debts of the account of that row
 pub row-debts : (gains : Gains) (strikes : List Strike) (rows : List Account) (row : ℕ) (a : Account) → row < length rows → a ≡ get_or rows row a →
     get_or (accounts_debts gains strikes rows) row [] ≡ account_debts gains strikes a
 unfolding accounts_debts
-row-debts gains strikes rows row a within is =
-    get_or-map (account_debts gains strikes) rows row a [] within ∙ ap (account_debts gains strikes) (sym is)
+row-debts gains strikes rows row a within is = get_or-map (account_debts gains strikes) rows row a [] within ∙ ap (account_debts gains strikes) (sym is)
 
 -- what stands in a row is an account, where all are
 pub row-account : (gains : Gains) (strikes : List Strike) (rows : List Account) (row : ℕ) (a : Account) → row < length rows → a ≡ get_or rows row a → All (IsAccount gains strikes) rows →
@@ -287,28 +200,12 @@ debts_length gains strikes rows = length-map rows (account_debts gains strikes)
 -- an account that ends where it starts has no debts
 pub empty-debts : (gains : Gains) (strikes : List Strike) (a : Account) → a.end ≤ a.start → account_debts gains strikes a ≡ []
 unfolding account_debts owes_at
-empty-debts gains strikes a none =
-    listed-none (owes_at gains strikes a) (must_at gains a) 0 (entries_of gains) (λ k from below. elim (cases_lt k a.end) [
-      | inl early ↦
-          ap (λ b. b && (nat_lt k a.end && not (is_gone gains (strikes_of strikes a) k))) (lt-leb a.start k (omega (arith, early, none)))
-      | inr past ↦ past-end gains strikes a k past
-    ])
+empty-debts gains strikes a none = grind (arith, nat_tests, listed-none, cases_lt, lt-leb, past-end)
 
 -- the account that owes nothing is one over any gains
 pub empty-account : (gains : Gains) (strikes : List Strike) → IsAccount gains strikes (record { start = 0; end = 0; soft = 0; first = 0; last = 0; print = 0 })
 unfolding is_struck debts_print
-empty-account gains strikes =
-    let a : Account = record { start = 0; end = 0; soft = 0; first = 0; last = 0; print = 0 } in
-    record {
-      order = omega arith;
-      end = omega arith;
-      soft = omega arith;
-      first = omega arith;
-      last = omega arith;
-      bound = λ m k past. refl;
-      begins = λ some. absurd (omega (arith, some));
-      print = sym (ap debts_print (empty-debts gains strikes a (omega arith)));
-    }
+empty-account gains strikes = grind (arith, nat_tests, empty-debts)
 
 -- accounts are accounts still when one more is put after them, and it owes what it owed
 pub pushed : (gains : Gains) (strikes : List Strike) (rows : List Account) (a : Account) → AreAccounts gains strikes rows → IsAccount gains strikes a →

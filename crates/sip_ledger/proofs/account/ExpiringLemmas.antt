@@ -1,5 +1,6 @@
 -- An account drops what is past, place by place.
-use Rattle.std.proofs.Common.{◌≡◌, ◌≢◌, ℕ, ◌+◌, ◌<◌, ◌≤◌, ◌&&◌, ◌||◌, Bool, true, false, List, length, take, get_or, filter, refl, sym, ap, ap₂, ◌∙◌, subst, inl, inr, arith}
+use Rattle.std.proofs.Common.{◌≡◌, ℕ, ◌+◌, ◌<◌, ◌≤◌, ◌&&◌, ◌||◌, Bool, true, false, List, length, take, filter, sym, ap, ◌∙◌, inl, inr, arith}
+use Rattle.std.proofs.lemmas.Bool.Decides.{nat_tests}
 use Rattle.std.specs.Prelude.{nat_le}
 use Rattle.std.proofs.Math.Bool.{and-false, and-true, or-true}
 use Rattle.std.proofs.lemmas.Bool.{cases_eq, cases_lt, le-leb, lt-leb}
@@ -11,7 +12,7 @@ use Rattle.sip_ledger.specs.declared.accounts.strikes.Strike.{Strike}
 use Rattle.sip_ledger.specs.Debts.{counts_at}
 use Rattle.sip_ledger.specs.inner.Accounts.{AreGains, IsAccount, IsExpiredTo, IsKept, IsWithout, account_debts, entries_of, entry_at, must_at, owes_at}
 use Rattle.sip_ledger.proofs.gains.LeftLemmas.{entries-long, rising-kept}
-use Rattle.sip_ledger.proofs.debts.ListedLemmas.{listed-counting, listed-same, no_entry}
+use Rattle.sip_ledger.proofs.debts.ListedLemmas.{listed-counting, listed-same}
 use Rattle.sip_ledger.proofs.account.AccountLemmas.{past-end, soft-must}
 use Rattle.sip_ledger.proofs.account.WithoutLemmas.{before-start}
 
@@ -30,62 +31,28 @@ counted t entries m o o' k same counts = same ∙ sym (ap (λ b. o k && b) count
 -- IsExpiredTo holds at the start of an account: nothing is owed before it
 pub expired-start : (t : ℕ) (gains : Gains) (strikes : List Strike) (m : ℕ → Bool) (a : Account) →
     IsExpiredTo t (entries_of gains) m (owes_at gains strikes a) (owes_at gains strikes a) a.start
-expired-start t gains strikes m a = record {
-  gone = λ k early. unowed t (entries_of gains) m (owes_at gains strikes a) (owes_at gains strikes a) k refl (before-start gains strikes a k early);
-  later = λ k late. refl;
-}
+expired-start t gains strikes m a = grind (arith, nat_tests, before-start)
 
 -- where the gain at the place counts still at t, or is not owed, the account has expired one place further
 stays : (t : ℕ) (entries : List Entry) (m o o' : ℕ → Bool) (place : ℕ) → IsExpiredTo t entries m o o' place → o' place ≡ counting t entries m o place →
     IsExpiredTo t entries m o o' (place + 1)
-stays t entries m o o' place was here = record {
-  gone = λ k early. elim (cases_eq k place) [
-    | inl is ↦ ap o' is ∙ here ∙ sym (ap (counting t entries m o) is)
-    | inr other ↦ was.gone k (omega (arith, early, other))
-  ];
-  later = λ k late. was.later k (omega (arith, late));
-}
-
--- IsExpiredTo goes on over a gain whose deadline is not past
-pub stays-early : (t : ℕ) (entries : List Entry) (m o o' : ℕ → Bool) (place : ℕ) → IsExpiredTo t entries m o o' place → t ≤ (entry_at entries place).deadline →
-    IsExpiredTo t entries m o o' (place + 1)
-stays-early t entries m o o' place was early =
-    stays t entries m o o' place was
-    (counted t entries m o o' place (was.later place (omega arith)) (ap (λ b. m place || b) (le-leb t (entry_at entries place).deadline early) ∙ or-true (m place)))
+stays t entries m o o' place was here = grind (arith, nat_tests, cases_eq)
 
 -- IsExpiredTo goes on over a gain that must be sent
 pub stays-must : (t : ℕ) (entries : List Entry) (m o o' : ℕ → Bool) (place : ℕ) → IsExpiredTo t entries m o o' place → m place ≡ true → IsExpiredTo t entries m o o' (place + 1)
-stays-must t entries m o o' place was must =
-    stays t entries m o o' place was
-    (counted t entries m o o' place (was.later place (omega arith)) (ap (λ b. b || nat_le t (entry_at entries place).deadline) must))
+stays-must t entries m o o' place was must = grind (arith)
 
 -- where the gain at the place is past, may be sent, and is taken out, the account has expired one place further
 pub goes : (t : ℕ) (entries : List Entry) (m o o' o'' : ℕ → Bool) (place : ℕ) → IsExpiredTo t entries m o o' place → (entry_at entries place).deadline < t → m place ≡ false →
     IsWithout place o' o'' → IsExpiredTo t entries m o o'' (place + 1)
-goes t entries m o o' o'' place was late may without = record {
-  gone = λ k early. elim (cases_eq k place) [
-    | inl is ↦
-        ap o'' is ∙ without.gone
-        ∙ sym (and-false (o place))
-        ∙ sym (ap₂ (λ x y. o place && (x || y)) may (lt-leb t (entry_at entries place).deadline late))
-        ∙ sym (ap (counting t entries m o) is)
-    | inr other ↦ without.others k other ∙ was.gone k (omega (arith, early, other))
-  ];
-  later = λ k past. let other : k ≢ place = omega (arith, past) in without.others k other ∙ was.later k (omega (arith, past));
-}
+goes t entries m o o' o'' place was late may without = grind (arith, nat_tests, cases_eq, and-false, lt-leb)
 
 -- an account that owes at each place just what counts still at t has the debts that count at t
 finished : (gains : Gains) (old new : List Strike) (a b : Account) (t : ℕ) → b.soft ≡ a.soft →
     ((k : ℕ) → k < length (entries_of gains) → owes_at gains new b k ≡ counting t (entries_of gains) (must_at gains a) (owes_at gains old a) k) →
     account_debts gains new b ≡ filter (counts_at t) (account_debts gains old a)
 unfolding account_debts
-finished gains old new a b t soft each =
-    listed-same (owes_at gains new b) (must_at gains b) (owes_at gains new b) (must_at gains a) 0 (entries_of gains) (λ k from below. (refl, soft-must gains a b k soft))
-    ∙ listed-counting t (owes_at gains old a) (must_at gains a) (owes_at gains new b) 0 (entries_of gains)
-    (λ j e below.
-    let here : j ≡ 0 + j = omega arith in
-    subst (λ n. owes_at gains new b n ≡ (owes_at gains old a n && (must_at gains a n || nat_le t (get_or (entries_of gains) j e).deadline))) here
-    (each j below ∙ ap (λ (x : Entry). owes_at gains old a j && (must_at gains a j || nat_le t x.deadline)) (get_or_default (entries_of gains) j no_entry e below)))
+finished gains old new a b t soft each = grind (arith, listed-same, soft-must, listed-counting, get_or_default)
 
 -- an account that has expired up to its end has the debts that count at t
 pub expired-end : (gains : Gains) (old new : List Strike) (a b : Account) (t place : ℕ) → b.soft ≡ a.soft → b.end ≤ place →

@@ -1,5 +1,6 @@
 -- The first debt of an account that a send pays.
-use Rattle.std.proofs.Common.{◌≡◌, ◌≢◌, ℕ, ◌+◌, ◌<◌, ◌≤◌, ◌==◌, ◌&&◌, Bool, true, false, not, List, [], ◌∷◌, ◌++◌, get_or, sym, ap, ap₂, ◌∙◌, inl, inr, arith}
+use Rattle.std.proofs.Common.{◌≡◌, ◌≢◌, ℕ, ◌+◌, ◌<◌, ◌≤◌, ◌==◌, ◌&&◌, Bool, true, false, not, List, get_or, sym, ap, ap₂, ◌∙◌, inl, inr, arith}
+use Rattle.std.proofs.lemmas.Bool.Decides.{nat_tests}
 use Rattle.std.specs.Prelude.{All, IsTrue, nat_le, nat_lt}
 use Rattle.std.proofs.Math.Bool.{and-false}
 use Rattle.std.proofs.lemmas.Bool.{and_right, cases_eq, cases_lt, eq-eqb, le-leb, lt-leb, lt-ltb, ne_eqb, true≢false}
@@ -54,21 +55,12 @@ none-pays_to gains strikes a message t from at before others k early owed = elim
 -- NonePays goes on over places at which the message is struck
 pub none-pays_struck : (gains : Gains) (strikes : List Strike) (a : Account) (message t at to : ℕ) → NonePays (entries_of gains) (owes_at gains strikes a) message t at →
     ((k : ℕ) → at ≤ k → k < to → is_struck (strikes_of strikes a) message k ≡ true) → NonePays (entries_of gains) (owes_at gains strikes a) message t to
-none-pays_struck gains strikes a message t at to before struck k early owed = elim (cases_lt k at) [
-  | inl first ↦ before k first owed
-  | inr behind ↦ elim (cases_eq (entry_at (entries_of gains) k).message message) [
-    | inl is ↦ absurd (true≢false (sym owed ∙ struck-unowed gains strikes a k (ap (λ m. is_struck (strikes_of strikes a) m k) is ∙ struck k behind early)))
-    | inr other ↦ unnamed-unpaid (entries_of gains) message t k other
-  ]
-]
+none-pays_struck gains strikes a message t at to before struck k early owed = grind (arith, nat_tests, cases_lt, cases_eq, true≢false, struck-unowed, unnamed-unpaid)
 
 -- NonePays goes on over a gain that is past
 pub none-pays_late : (entries : List Entry) (owes : ℕ → Bool) (message t at : ℕ) → NonePays entries owes message t at → (entry_at entries at).deadline < t →
     NonePays entries owes message t (at + 1)
-none-pays_late entries owes message t at before late k early owed = elim (cases_eq k at) [
-  | inl here ↦ ap (pays_at entries message t) here ∙ late-unpaid entries message t at late
-  | inr other ↦ before k (omega (arith, early, other)) owed
-]
+none-pays_late entries owes message t at before late k early owed = grind (arith, nat_tests, cases_eq, late-unpaid)
 
 -- what is not gone, at a place of the account, is owed
 pub owed-here : (gains : Gains) (strikes : List Strike) (a : Account) (at : ℕ) → a.start ≤ at → at < a.end →
@@ -81,11 +73,7 @@ owed-here gains strikes a at low high free =
 pub first-payable : (gains : Gains) (strikes : List Strike) (a : Account) (message t at : ℕ) → NonePays (entries_of gains) (owes_at gains strikes a) message t at → a.start ≤ at → at < a.end →
     (entry_at (entries_of gains) at).message ≡ message → holds gains.messages message at ≡ true → is_struck (strikes_of strikes a) message at ≡ false → t ≤ (entry_at (entries_of gains) at).deadline →
     IsFirstPayable (entries_of gains) (owes_at gains strikes a) message t at
-first-payable gains strikes a message t at before low high is held free early = record {
-  owed = owed-here gains strikes a at low high (gone-left gains (strikes_of strikes a) at (sym (held-left gains message at is) ∙ held) ∙ ap (λ m. is_struck (strikes_of strikes a) m at) is ∙ free);
-  pays = named-pays (entries_of gains) message t at is early;
-  before = before;
-}
+first-payable gains strikes a message t at before low high is held free early = grind (arith, nat_tests, owed-here, gone-left, held-left, named-pays)
 
 -- where the first debt that a send pays is taken out of an account, the account owes the debts that the payment leaves
 pub paid-account : (gains : Gains) (old new : List Strike) (a b : Account) (message t place : ℕ) → IsAccount gains old a →
@@ -114,5 +102,4 @@ unpaid-account gains strikes a message t none =
 -- from its start on and before its end an account owes what is not gone
 pub owes-inside : (gains : Gains) (strikes : List Strike) (a : Account) (k : ℕ) → a.start ≤ k → k < a.end → owes_at gains strikes a k ≡ not (is_gone gains (strikes_of strikes a) k)
 unfolding owes_at
-owes-inside gains strikes a k low high =
-    ap₂ (λ x y. x && (y && not (is_gone gains (strikes_of strikes a) k))) (le-leb a.start k low) (lt-ltb k a.end high)
+owes-inside gains strikes a k low high = ap₂ (λ x y. x && (y && not (is_gone gains (strikes_of strikes a) k))) (le-leb a.start k low) (lt-ltb k a.end high)

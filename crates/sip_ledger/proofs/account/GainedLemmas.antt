@@ -1,7 +1,7 @@
 -- An account gains one debt.
-use Rattle.std.proofs.Common.{◌≡◌, ◌≢◌, ℕ, ◌+◌, ◌<◌, ◌≤◌, ◌%◌, ◌^◌, ◌==◌, ◌&&◌, ◌||◌, Bool, true, false, not, List, [], ◌∷◌, ◌++◌, length, take, drop, get_or, refl, sym, ap, ap₂, ◌∙◌, subst, inl, inr, arith}
-use Rattle.std.specs.Prelude.{nat_le, nat_lt}
-use Rattle.std.specs.List.{sum_by}
+use Rattle.std.proofs.Common.{◌≡◌, ◌≢◌, ℕ, ◌+◌, ◌<◌, ◌≤◌, ◌%◌, ◌^◌, ◌&&◌, ◌||◌, Bool, true, false, not, List, [], ◌∷◌, ◌++◌, length, take, drop, get_or, sym, ap, ap₂, ◌∙◌, subst, inl, inr, arith}
+use Rattle.std.proofs.lemmas.Bool.Decides.{nat_tests}
+use Rattle.std.specs.Prelude.{nat_le}
 use Rattle.std.proofs.lemmas.Bool.{and_right, cases_lt, le-leb, le-ltb, lt-leb, lt-ltb}
 use Rattle.std.proofs.Math.Bool.{and-false, and-true, or-false, or-true}
 use Rattle.std.proofs.lemmas.List.{get_or_push, length-append}
@@ -24,9 +24,7 @@ use Rattle.sip_ledger.proofs.account.WithoutLemmas.{before-start}
 -- the print of debts with one debt more is their print and the worth of that debt
 pub print-more : (debts : List Debt) (debt : Debt) → debts_print (debts ++ debt ∷ []) ≡ (debts_print debts + worth_of debt.message debt.deadline) % 2 ^ 64
 unfolding debts_print
-print-more debts debt =
-    ap (λ n. n % 2 ^ 64) (sum_by_push (λ debt. worth_of debt.message debt.deadline) debts debt)
-    ∙ sym (mod-add-mod (sum_by (λ debt. worth_of debt.message debt.deadline) debts) (2 ^ 64) (worth_of debt.message debt.deadline))
+print-more debts debt = grind (arith, sum_by_push, mod-add-mod)
 
 -- an account that owes what was gained at one place more, after all that it owes, has that debt more, and is an account
 pub gained-account : (gains : Gains) (old new : List Strike) (a b : Account) (debt : Debt) (place : ℕ) → IsAccount gains old a → IsNextGain gains old a debt place →
@@ -100,31 +98,7 @@ first-gain gains old new a b debt place is next none same print =
 passed-others : (gains : Gains) (old new : List Strike) (a p b : Account) (place k : ℕ) → IsStruck gains a.end place old new a p → a.end ≤ length (entries_of gains) → a.end ≤ place →
     place < length (entries_of gains) → b.start ≡ a.start → b.end ≡ place + 1 → strikes_of new b ≡ strikes_of new p → k ≢ place → owes_at gains new b k ≡ owes_at gains old a k
 unfolding owes_at
-passed-others gains old new a p b place k passed within low inside start end own other =
-    let m = (entry_at (entries_of gains) k).message in
-    let was = is_struck (strikes_of old a) m k in
-    elim (cases_lt k a.start) [
-      | inl early ↦ before-start gains new b k (omega (arith, early, start)) ∙ sym (before-start gains old a k early)
-      | inr from ↦ elim (cases_lt k a.end) [
-        | inl below ↦
-            let gone : is_gone gains (strikes_of new b) k ≡ is_gone gains (strikes_of old a) k =
-            gone-same gains (strikes_of old a) (strikes_of new b) k (λ left.
-            ap (λ l. is_struck l m k) own ∙ passed.struck k from left
-            ∙ ap (λ x. was || (x && nat_lt k place)) (lt-leb a.end k below) ∙ or-false was) in
-            ap₂ (λ x y. x && (y && not (is_gone gains (strikes_of new b) k))) (le-leb b.start k (omega (arith, start, from)) ∙ sym (le-leb a.start k from))
-            (lt-ltb k b.end (omega (arith, below, low, end)) ∙ sym (lt-ltb k a.end below))
-            ∙ ap (λ x. nat_le a.start k && (nat_lt k a.end && not x)) gone
-        | inr past ↦ elim (cases_lt k place) [
-          | inl before ↦
-              let gone : is_gone gains (strikes_of new b) k ≡ true =
-              gone-struck gains (strikes_of new b) k (λ left.
-              ap (λ l. is_struck l m k) own ∙ passed.struck k from left
-              ∙ ap₂ (λ x y. was || (x && y)) (le-leb a.end k past) (lt-ltb k place before) ∙ or-true was) in
-              ap (λ x. nat_le b.start k && (nat_lt k b.end && not x)) gone ∙ and_right (nat_le b.start k) (nat_lt k b.end && false) (and-false (nat_lt k b.end)) ∙ sym (past-end gains old a k past)
-          | inr after ↦ past-end gains new b k (omega (arith, after, other, end)) ∙ sym (past-end gains old a k past)
-        ]
-      ]
-    ]
+passed-others gains old new a p b place k passed within low inside start end own other = grind (arith, nat_tests, cases_lt, before-start, gone-same, lt-leb, or-false, le-leb, lt-ltb, gone-struck, or-true, and_right, and-false, past-end)
 
 -- an account that owes something gains at a place, where the gains between its end and the place are struck
 pub more-gain : (gains : Gains) (old new : List Strike) (a p b : Account) (debt : Debt) (place : ℕ) → IsAccount gains old a → IsNextGain gains old a debt place → a.start ≢ a.end →
@@ -134,7 +108,6 @@ unfolding owes_at
 more-gain gains old new a p b debt place is next some passed same print =
     let entries = (entries_of gains) in
     let order = is.order in
-    let within = is.end in
     let low = next.end in
     let start : b.start ≡ a.start = ap (λ (x : Account). x.start) same ∙ passed.start in
     let end : b.end ≡ place + 1 = ap (λ (x : Account). x.end) same in
@@ -152,7 +125,7 @@ more-gain gains old new a p b debt place is next some passed same print =
     let here : owes_at gains new b place ≡ true =
     ap₂ (λ x y. x && (y && not (is_gone gains (strikes_of new b) place))) (le-leb b.start place (omega (arith, start, order, low))) (lt-ltb place b.end (omega (arith, end)))
     ∙ ap not (gone-left gains (strikes_of new b) place left ∙ free) in
-    let others = λ (k : ℕ) (other : k ≢ place). passed-others gains old new a p b place k passed within low next.gain.within start end own other in
+    let others = λ (k : ℕ) (other : k ≢ place). passed-others gains old new a p b place k passed is.end low next.gain.within start end own other in
     gained-account gains old new a b debt place is next here others
     soft (omega (arith, start, order, low)) end (subst (λ n. n ≤ b.last) (sym first) (subst (λ n. p.first ≤ n) (sym last) passed.first)) (subst (λ n. n ≤ length new) (sym last) passed.last)
     (λ m k past. ap (λ l. is_struck l m k) own ∙ passed.bound m k past (is.bound m k past))
@@ -162,24 +135,7 @@ more-gain gains old new a p b debt place is next some passed same print =
 
 -- an account can gain what was gained last, after all other gains
 pub new-gain : (old new : Gains) (strikes : List Strike) (a : Account) (debt : Debt) → IsGain debt old new → IsAccount old strikes a → IsNextGain new strikes a debt (length (entries_of old))
-new-gain old new strikes a debt gain is =
-    let entries = (entries_of old) in
-    let entry : Entry = record { message = debt.message; deadline = debt.deadline } in
-    let none : Entry = record { message = 0; deadline = 0 } in
-    let longer : length (entries_of new) ≡ length entries + 1 = ap length gain.entries ∙ length-append entries (entry ∷ []) in
-    let here : entry_at (entries_of new) (length entries) ≡ entry = ap (λ l. get_or l (length entries) none) gain.entries ∙ get_or_push entries entry none (length entries) refl in
-    record {
-      gain = record {
-        within = omega (arith, longer);
-        left = gain.message;
-        message = ap (λ (e : Entry). e.message) here;
-        deadline = ap (λ (e : Entry). e.deadline) here;
-        must = gain.must;
-      };
-      end = is.end;
-      soft = is.soft;
-      free = is.bound debt.message (length entries) (omega arith);
-    }
+new-gain old new strikes a debt gain is = grind (arith, nat_tests, length-append, get_or_push)
 
 -- accounts keep what they owe when a gain comes
 pub gain-keeps : (old new : Gains) (debt : Debt) → IsGain debt old new → KeepsAccounts old new

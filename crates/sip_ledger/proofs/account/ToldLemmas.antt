@@ -1,6 +1,7 @@
 -- What an account owes, place by place: its debts, whether another account owes the same, and the least deadline of what it must send.
-use Rattle.std.proofs.Common.{◌≡◌, ◌≢◌, ℕ, ◌+◌, ◌<◌, ◌≤◌, ◌==◌, ◌&&◌, Bool, true, false, cond, not, List, [], ◌∷◌, ◌++◌, length, take, drop, get_or, map, refl, sym, ap, ap₂, ◌∙◌, subst, inl, inr, ◌⊎◌, arith, append-nil}
-use Rattle.std.specs.Prelude.{IsTrue, Option, Some, None, ◌↔◌, nat_le, nat_lt, option_to_list}
+use Rattle.std.proofs.Common.{◌≡◌, ◌≢◌, ℕ, ◌+◌, ◌<◌, ◌≤◌, ◌==◌, ◌&&◌, Bool, true, false, not, List, [], ◌∷◌, ◌++◌, length, take, drop, get_or, map, refl, sym, ap, ap₂, ◌∙◌, subst, inl, inr, ◌⊎◌, arith, append-nil}
+use Rattle.std.proofs.lemmas.Bool.Decides.{nat_tests}
+use Rattle.std.specs.Prelude.{IsTrue, Option, Some, None, ◌↔◌, nat_le, option_to_list}
 use Rattle.std.specs.Bool.{OnTrue}
 use Rattle.std.proofs.lemmas.Bool.{and_left, and_right, cases_eq, cases_lt, eq-eqb, eqb-true, le-leb, true≢false}
 use Rattle.std.proofs.lemmas.List.{append_cancel_left, get_or-drop, get_or_default, length-append, length-drop, length-take-le, map-append, take-append-le, take_all}
@@ -12,7 +13,7 @@ use Rattle.sip_ledger.specs.declared.accounts.gains.Gains.{Gains}
 use Rattle.sip_ledger.specs.declared.accounts.strikes.Strike.{Strike}
 use Rattle.sip_ledger.specs.Debts.{debt_deadlines, earliest}
 use Rattle.sip_ledger.specs.Entries.{debt_of, debts_from, IsGap}
-use Rattle.sip_ledger.specs.inner.Accounts.{AreAlike, AreGains, IsAccount, SharesRest, account_debts, entries_of, entry_at, is_gone, is_struck, must_at, owes_at, strikes_of}
+use Rattle.sip_ledger.specs.inner.Accounts.{AreAlike, AreGains, IsAccount, SharesRest, account_debts, entries_of, entry_at, is_struck, must_at, owes_at, strikes_of}
 use Rattle.sip_ledger.proofs.gains.LeftLemmas.{entries-long, gone-same, left-kept, owed-left, rising-kept}
 use Rattle.sip_ledger.specs.Indexes.{holds}
 use Rattle.sip_ledger.proofs.debts.ListedLemmas.{back, back-none, back-same, back-set, earliest-first, earliest-push, front, front-gap, front-next, listed-All, listed-must, listed-none, listed-same, no_entry, parts}
@@ -21,16 +22,12 @@ use Rattle.sip_ledger.proofs.account.WithoutLemmas.{before-start}
 
 -- What follows is of all debts: what is told up to a place, and the next debt.
 pub front-start : (gains : Gains) (strikes : List Strike) (m : ℕ → Bool) (a : Account) → a.start ≤ length (entries_of gains) → front (owes_at gains strikes a) m (entries_of gains) a.start ≡ []
-front-start gains strikes m a within =
-    listed-none (owes_at gains strikes a) m 0 (take a.start (entries_of gains))
-    (λ k from below. before-start gains strikes a k (omega (arith, below, length-take-le a.start (entries_of gains) within)))
+front-start gains strikes m a within = grind (arith, listed-none, before-start, length-take-le)
 
 -- up to the next place at which something is owed, one debt more is told: that of this place
 pub front-more : (entries : List Entry) (o m : ℕ → Bool) (at next : ℕ) → at < length entries → o at ≡ true → at < next → next ≤ length entries → IsGap o (at + 1) next →
     front o m entries next ≡ front o m entries at ++ debt_of (entry_at entries at) (m at) ∷ []
-front-more entries o m at next inside is after within gap =
-    front-gap o m entries (at + 1) next (omega (arith, after)) within gap
-    ∙ front-next o m entries at at no_entry (omega arith) inside (λ j above below. absurd (omega (arith, above, below))) is
+front-more entries o m at next inside is after within gap = grind (arith, front-gap, front-next)
 
 -- `next` is the next place after `at` at which the account owes something, or its end
 pub record IsAfter (gains : Gains) (strikes : List Strike) (a : Account) (at next : ℕ) : Type 0 where
@@ -48,50 +45,25 @@ pub record IsToldTo (gains : Gains) (strikes : List Strike) (a : Account) (place
 module _ {gains : Gains} {strikes : List Strike} {a : Account} where
   -- an account owes nothing before its start
   pub told-none : {debts : List Debt} → IsAccount gains strikes a → debts ≡ [] → IsToldTo gains strikes a a.start debts
-  told-none is none =
-      let order = is.order in
-      let end = is.end in
-      record {
-        told = none ∙ sym (front-start gains strikes (must_at gains a) a (omega (arith, order, end)));
-        low = omega arith;
-        end = order;
-        owed = is.begins;
-      }
+  told-none is none = grind (arith, nat_tests, front-start)
 
   -- before the next place it owes one debt more: that of this place
   pub told-more : {place next : ℕ} {debt : Debt} {debts more : List Debt} → IsAccount gains strikes a → IsToldTo gains strikes a place debts → place < a.end → IsAfter gains strikes a place next →
       debt ≡ debt_of (entry_at (entries_of gains) place) (must_at gains a place) → more ≡ debts ++ debt ∷ [] → IsToldTo gains strikes a next more
-  told-more {place} {next} is was inside after debt_is more_is =
-      let end = is.end in
-      let start = was.low in
-      let low = after.within.0 in
-      let high = after.within.1 in
-      record {
-        told = more_is ∙ ap₂ (λ l d. l ++ d ∷ []) was.told debt_is
-            ∙ sym (front-more (entries_of gains) (owes_at gains strikes a) (must_at gains a) place next (omega (arith, inside, end)) (was.owed inside) (omega (arith, low)) (omega (arith, high, end))
-            after.before);
-        low = omega (arith, start, low);
-        end = high;
-        owed = after.is;
-      }
+  told-more {place} {next} is was inside after debt_is more_is = grind (arith, nat_tests, front-more)
 
   -- what it owes is what it owes before a place and from there on
   pub told-split : {place : ℕ} {debts : List Debt} → IsAccount gains strikes a → IsToldTo gains strikes a place debts →
       account_debts gains strikes a ≡ debts ++ back (owes_at gains strikes a) (must_at gains a) (entries_of gains) place
   unfolding account_debts
-  told-split {place} is was =
-      let end = is.end in
-      let within = was.end in
-      parts (owes_at gains strikes a) (must_at gains a) (entries_of gains) place (omega (arith, within, end))
-      ∙ ap (λ l. l ++ back (owes_at gains strikes a) (must_at gains a) (entries_of gains) place) (sym was.told)
+  told-split {place} is was = grind (arith, parts)
 
   -- what it owes is what it owes before a place of it, the debt of that place, and what it owes after it
   pub told-here : {place : ℕ} {debts : List Debt} → IsAccount gains strikes a → IsToldTo gains strikes a place debts → place < a.end →
       account_debts gains strikes a
       ≡ debts ++ debt_of (entry_at (entries_of gains) place) (must_at gains a place) ∷ back (owes_at gains strikes a) (must_at gains a) (entries_of gains) (place + 1)
   told-here {place} {debts} is was inside =
-      let end = is.end in
-      told-split is was ∙ ap (λ l. debts ++ l) (back-set (owes_at gains strikes a) (must_at gains a) (entries_of gains) place no_entry (omega (arith, inside, end)) (was.owed inside))
+      told-split is was ∙ ap (λ l. debts ++ l) (back-set (owes_at gains strikes a) (must_at gains a) (entries_of gains) place no_entry (omega (arith, inside, is.end)) (was.owed inside))
 
   -- before its end it owes all of its debts
   pub told-all : {place : ℕ} {debts : List Debt} → IsAccount gains strikes a → IsToldTo gains strikes a place debts → a.end ≤ place → debts ≡ account_debts gains strikes a
@@ -167,8 +139,7 @@ module _ {gains : Gains} {strikes : List Strike} {one other : Account} (is : IsA
     λ same. elim (cases_eq beside other.end) [
       | inl there ↦ eq-eqb beside other.end there
       | inr short ↦
-          let end = are.told_beside.end in
-          absurd (longer is_other is are.told_beside are.told (omega (arith, short, end)) (omega (arith, here)) (sym same))
+          absurd (longer is_other is are.told_beside are.told (omega (arith, short, are.told_beside.end)) (omega (arith, here)) (sym same))
     ],
   )
 
@@ -184,28 +155,14 @@ module _ {gains : Gains} {strikes : List Strike} {one other : Account} (is : IsA
 -- accounts that begin and end alike and have the same strikes owe the same
 pub alike-debts : (gains : Gains) (strikes : List Strike) (one other : Account) → AreAlike strikes one other → account_debts gains strikes one ≡ account_debts gains strikes other
 unfolding account_debts owes_at
-alike-debts gains strikes one other alike =
-    listed-same (owes_at gains strikes one) (must_at gains one) (owes_at gains strikes other) (must_at gains other) 0 (entries_of gains) (λ k from below. (
-      ap₂ (λ s e. nat_le s k && (nat_lt k e && not (is_gone gains (strikes_of strikes one) k))) alike.start alike.end
-          ∙ ap (λ own. nat_le other.start k && (nat_lt k other.end && not (is_gone gains own k))) alike.own,
-      soft-must gains other one k alike.soft,
-    ))
+alike-debts gains strikes one other alike = grind (arith, nat_tests, listed-same, soft-must)
 
 -- accounts that end at one place, and have no strike that goes past this one, owe the same from here on
 pub shares-rest : (strikes : List Strike) (one other : Account) (place : ℕ) → one.end ≡ other.end → one.soft ≡ other.soft → one.start ≤ place → other.start ≤ place →
     ((m k : ℕ) → place ≤ k → is_struck (strikes_of strikes one) m k ≡ false) → ((m k : ℕ) → place ≤ k → is_struck (strikes_of strikes other) m k ≡ false) →
     SharesRest strikes one other place
 unfolding owes_at
-shares-rest strikes one other place end soft start start_other free free_other = record {
-  soft = soft;
-  owes = λ gains k above.
-      let m = (entry_at (entries_of gains) k).message in
-      let gone : is_gone gains (strikes_of strikes one) k ≡ is_gone gains (strikes_of strikes other) k =
-      gone-same gains (strikes_of strikes other) (strikes_of strikes one) k (λ left. free m k above ∙ sym (free_other m k above)) in
-      ap₂ (λ a b. a && (nat_lt k one.end && not b)) (le-leb one.start k (omega (arith, start, above))) gone
-      ∙ ap (λ n. nat_lt k n && not (is_gone gains (strikes_of strikes other) k)) end
-      ∙ sym (ap (λ a. a && (nat_lt k other.end && not (is_gone gains (strikes_of strikes other) k))) (le-leb other.start k (omega (arith, start_other, above))));
-}
+shares-rest strikes one other place end soft start start_other free free_other = grind (arith, nat_tests, gone-same, le-leb)
 
 -- what is said where a test is true may say less
 pub on-true : {P Q : Type 0} (b : Bool) → OnTrue b P → (P → Q) → OnTrue b Q
@@ -219,19 +176,11 @@ due o m k = o k && m k
 -- the debts of a list are as they are where only what is owed is looked at for what must be sent
 owed-due : (o m : ℕ → Bool) (i : ℕ) (xs : List Entry) → debts_from o m i xs ≡ debts_from o (due o m) i xs
 owed-due o m i [] = refl
-owed-due o m i (x ∷ xs) = by (o i) (m i) (debts_from o m (i + 1) xs) (debts_from o (due o m) (i + 1) xs) (owed-due o m (i + 1) xs)
-  where
-    by : (a b : Bool) (ds ds' : List Debt) → ds ≡ ds' → cond a (debt_of x b ∷ ds) ds ≡ cond a (debt_of x (a && b) ∷ ds') ds'
-    by true b ds ds' same = ap (λ l. debt_of x b ∷ l) same
-    by false b ds ds' same = same
+owed-due o m i (x ∷ xs) = grind (arith, owed-due o m (i + 1) xs)
 
 -- what is due is owed
 due-among : (o m : ℕ → Bool) (k : ℕ) → due o m k ≡ true → o k ≡ true
-due-among o m k is = by (o k) (m k) is
-  where
-    by : (a b : Bool) → (a && b) ≡ true → a ≡ true
-    by true b is = refl
-    by false b is = is
+due-among o m k is = grind (arith, nat_tests)
 
 -- the deadlines of what must be sent among the debts are those of what is due
 pub due-deadlines : (entries : List Entry) (o m : ℕ → Bool) → debt_deadlines (debts_from o m 0 entries) ≡ map (λ d. d.deadline) (debts_from (due o m) (due o m) 0 entries)
@@ -311,21 +260,7 @@ not-due-before gains strikes a from k (inr soft) early = and_right (owes_at gain
 -- IsLeastTo holds at the later one of the start and the `soft` of an account, with no deadline
 pub least-first : (gains : Gains) (strikes : List Strike) (a : Account) (from : ℕ) → IsAccount gains strikes a → a.start ≤ from → a.soft ≤ from → from ≤ a.start ⊎ from ≤ a.soft →
     IsLeastTo gains strikes a from None
-least-first gains strikes a from is low soft one =
-    let order = is.order in
-    let end = is.end in
-    let high = is.soft in
-    let within : from ≤ length (entries_of gains) = elim one [
-      | inl start ↦ omega (arith, start, order, end)
-      | inr softs ↦ omega (arith, softs, high)
-    ] in
-    record {
-      is = least-start (entries_of gains) (due (owes_at gains strikes a) (must_at gains a)) from within (λ k early. not-due-before gains strikes a from k one early);
-      low = low;
-      soft = soft;
-      within = within;
-      none = λ _ k early. not-due-before gains strikes a from k one early;
-    }
+least-first gains strikes a from is low soft one = grind (arith, nat_tests, least-start, not-due-before)
 
 -- nothing is due before the next place of a gain that must be sent
 gap-due : (gains : Gains) (strikes : List Strike) (a : Account) (from at : ℕ) → ((k : ℕ) → from ≤ k → k < at → holds gains.musts 0 k ≡ false) →
@@ -335,28 +270,7 @@ gap-due gains strikes a from at none k above below = and_right (owes_at gains st
 -- IsLeastTo goes on over places at which nothing has to be sent, and over one that the account does not owe
 pub least-passed : (gains : Gains) (strikes : List Strike) (a : Account) (from at : ℕ) (least : Option ℕ) → IsLeastTo gains strikes a from least → from ≤ at → at < length (entries_of gains) →
     ((k : ℕ) → from ≤ k → k < at → holds gains.musts 0 k ≡ false) → owes_at gains strikes a at ≡ false → IsLeastTo gains strikes a (at + 1) least
-least-passed gains strikes a from at least was above inside gap unowed =
-    let m = due (owes_at gains strikes a) (must_at gains a) in
-    let low = was.low in
-    let soft = was.soft in
-    let here : m at ≡ false = and_left (owes_at gains strikes a at) (must_at gains a at) unowed in
-    let free = gap-due gains strikes a from at gap in
-    record {
-      is = was.is ∙ sym (least-over (entries_of gains) m from (at + 1) (omega (arith, above)) (omega (arith, inside)) (λ k low_k high_k. elim (cases_lt k at) [
-        | inl early ↦ free k low_k early
-        | inr late ↦ let is : k ≡ at = omega (arith, late, high_k) in ap m is ∙ here
-      ]));
-      low = omega (arith, low, above);
-      soft = omega (arith, soft, above);
-      within = omega (arith, inside);
-      none = λ rises k early. elim (cases_lt k from) [
-        | inl first ↦ was.none rises k first
-        | inr later ↦ elim (cases_lt k at) [
-          | inl between ↦ free k later between
-          | inr late ↦ let is : k ≡ at = omega (arith, late, early) in ap m is ∙ here
-        ]
-      ];
-    }
+least-passed gains strikes a from at least was above inside gap unowed = grind (arith, nat_tests, and_left, gap-due, least-over, cases_lt)
 
 -- what an account owes at `soft` or after it is due if it must be sent as it was gained
 is-due : (gains : Gains) (strikes : List Strike) (a : Account) (at : ℕ) → a.soft ≤ at → holds gains.musts 0 at ≡ true → owes_at gains strikes a at ≡ true →
@@ -367,18 +281,7 @@ is-due gains strikes a at soft held owed = ap₂ (λ x y. x && y) owed (sym (mus
 pub least-found : (gains : Gains) (strikes : List Strike) (a : Account) (from at moment : ℕ) (least : Option ℕ) → IsLeastTo gains strikes a from least → from ≤ at → at < length (entries_of gains) →
     ((k : ℕ) → from ≤ k → k < at → holds gains.musts 0 k ≡ false) → holds gains.musts 0 at ≡ true → owes_at gains strikes a at ≡ true →
     Some moment ≡ earliest ((entry_at (entries_of gains) at).deadline ∷ option_to_list least) → gains.rises ≡ false → IsLeastTo gains strikes a (at + 1) (Some moment)
-least-found gains strikes a from at moment least was above inside gap held owed is falls =
-    let m = due (owes_at gains strikes a) (must_at gains a) in
-    let low = was.low in
-    let soft = was.soft in
-    record {
-      is = is ∙ ap (λ o. earliest ((entry_at (entries_of gains) at).deadline ∷ option_to_list o)) was.is
-          ∙ sym (least-more (entries_of gains) m from at above inside (gap-due gains strikes a from at gap) (is-due gains strikes a at (omega (arith, soft, above)) held owed));
-      low = omega (arith, low, above);
-      soft = omega (arith, soft, above);
-      within = omega (arith, inside);
-      none = λ rises. absurd (true≢false (sym rises ∙ falls));
-    }
+least-found gains strikes a from at moment least was above inside gap held owed is falls = grind (arith, nat_tests, least-more, gap-due, is-due, true≢false)
 
 -- where deadlines rise, the first one that is found is the least of all
 pub least-first_due : (gains : Gains) (strikes : List Strike) (a : Account) (from at moment : ℕ) (least : Option ℕ) → AreGains gains → IsLeastTo gains strikes a from least → from ≤ at →
@@ -386,49 +289,24 @@ pub least-first_due : (gains : Gains) (strikes : List Strike) (a : Account) (fro
     Some moment ≡ earliest ((entry_at (entries_of gains) at).deadline ∷ option_to_list least) → gains.rises ≡ true →
     Some moment ≡ earliest (debt_deadlines (account_debts gains strikes a))
 unfolding account_debts
-least-first_due gains strikes a from at moment least gained was above inside gap held owed is rises =
-    let entries = (entries_of gains) in
-    let o = owes_at gains strikes a in
-    let m = due o (must_at gains a) in
-    let soft = was.soft in
-    let none : least ≡ None = was.is ∙ sym (least-start entries m from was.within (was.none rises)) in
-    is ∙ ap (λ x. earliest ((entry_at entries at).deadline ∷ option_to_list x)) none
-    ∙ least-rising entries m at (λ k above_k below. rising-kept gains at k gained rises (left-kept gains at gained (owed-left gains strikes a at owed)) above_k (omega (arith, below, entries-long gains gained.long)))
-    inside (λ k early. elim (cases_lt k from) [
-      | inl first ↦ was.none rises k first
-      | inr later ↦ gap-due gains strikes a from at gap k later early
-    ]) (is-due gains strikes a at (omega (arith, soft, above)) held owed)
-    ∙ sym (ap earliest (due-deadlines entries o (must_at gains a)))
+least-first_due gains strikes a from at moment least gained was above inside gap held owed is rises = grind (arith, nat_tests, least-start, least-rising, rising-kept, left-kept, owed-left, entries-long, cases_lt, gap-due, is-due, due-deadlines)
 
 -- where nothing is due from a place on, the least deadline so far is that of all
 pub least-last : (gains : Gains) (strikes : List Strike) (a : Account) (from at : ℕ) (least : Option ℕ) → IsLeastTo gains strikes a from least →
     ((k : ℕ) → from ≤ k → k < at → holds gains.musts 0 k ≡ false) → a.end ≤ at → least ≡ earliest (debt_deadlines (account_debts gains strikes a))
 unfolding account_debts
-least-last gains strikes a from at least was gap past =
-    let entries = (entries_of gains) in
-    let o = owes_at gains strikes a in
-    let m = due o (must_at gains a) in
-    was.is
-    ∙ sym (least-end entries m from was.within (λ k later. elim (cases_lt k at) [
-      | inl early ↦ gap-due gains strikes a from at gap k later early
-      | inr late ↦ and_left (o k) (must_at gains a k) (past-end gains strikes a k (omega (arith, late, past)))
-    ]))
-    ∙ sym (ap earliest (due-deadlines entries o (must_at gains a)))
+least-last gains strikes a from at least was gap past = grind (arith, nat_tests, least-end, cases_lt, gap-due, and_left, past-end, due-deadlines)
 
 -- a gain that must be sent was gained so, at `soft` or after it
 must-parts : (gains : Gains) (a : Account) (k : ℕ) → must_at gains a k ≡ true → (holds gains.musts 0 k ≡ true) × (a.soft ≤ k)
-must-parts gains a k is = elim (cases_lt k a.soft) [
-  | inl low ↦ absurd (true≢false (sym is ∙ sym (must-below gains a k low)))
-  | inr high ↦ (must-from gains a k high ∙ is, high)
-]
+must-parts gains a k is = grind (arith, nat_tests, cases_lt, true≢false, must-below, must-from)
 
 -- where deadlines rise and the first debt must be sent, its deadline is the least
 pub leading : (gains : Gains) (strikes : List Strike) (a : Account) (moment : ℕ) → AreGains gains → IsAccount gains strikes a → a.start < a.end → gains.rises ≡ true →
     must_at gains a a.start ≡ true → moment ≡ (entry_at (entries_of gains) a.start).deadline → Some moment ≡ earliest (debt_deadlines (account_debts gains strikes a))
 leading gains strikes a moment are is some rises must here =
     let parts = must-parts gains a a.start must in
-    let end = is.end in
     let deadline = (entry_at (entries_of gains) a.start).deadline in
     ap Some here
-    ∙ least-first_due gains strikes a a.start a.start deadline None are (least-first gains strikes a a.start is (omega arith) parts.1 (inl (omega arith))) (omega arith) (omega (arith, some, end))
+    ∙ least-first_due gains strikes a a.start a.start deadline None are (least-first gains strikes a a.start is (omega arith) parts.1 (inl (omega arith))) (omega arith) (omega (arith, some, is.end))
     (λ k above below. absurd (omega (arith, above, below))) parts.0 (is.begins some) refl rises

@@ -1,5 +1,5 @@
 -- An account loses one of its debts.
-use Rattle.std.proofs.Common.{◌≡◌, ◌≢◌, ℕ, ◌+◌, ◌-◌, ◌<◌, ◌≤◌, ◌%◌, ◌^◌, ◌==◌, ◌&&◌, ◌||◌, Bool, true, false, not, List, [], ◌∷◌, ◌++◌, length, take, drop, refl, sym, ap, ap₂, ◌∙◌, subst, inl, inr, arith, lit<}
+use Rattle.std.proofs.Common.{◌≡◌, ◌≢◌, ℕ, ◌+◌, ◌-◌, ◌<◌, ◌≤◌, ◌%◌, ◌^◌, ◌==◌, ◌&&◌, Bool, true, false, not, List, ◌∷◌, length, refl, sym, ap, ap₂, ◌∙◌, subst, arith, lit<}
 use Rattle.std.specs.Prelude.{nat_le, nat_lt}
 use Rattle.std.specs.List.{sum_by}
 use Rattle.std.proofs.lemmas.Bool.{and_right, cases_lt, eq-eqb, le-leb, lt-leb, lt-ltb, ne_eqb, true≢false}
@@ -46,12 +46,7 @@ print-fits debts = mod_below (worths debts) (2 ^ 64) (lit< tt)
 
 -- a number that was added modulo 2^64 can be taken away again
 taken-print : (q w : ℕ) → q < 2 ^ 64 → w < 2 ^ 64 → ((q + w) % 2 ^ 64 + (2 ^ 64 - w)) % 2 ^ 64 ≡ q
-taken-print q w fits less =
-    let all : q + w + (2 ^ 64 - w) ≡ q + 2 ^ 64 = omega (arith, less) in
-    mod-add-mod (q + w) (2 ^ 64) (2 ^ 64 - w)
-    ∙ ap (λ n. n % 2 ^ 64) all
-    ∙ add-mod_right q (2 ^ 64)
-    ∙ mod-eq_of_lt fits
+taken-print q w fits less = grind (arith, nat_tests, mod-add-mod, add-mod_right, mod-eq_of_lt)
 
 -- whether the account owes what was gained at a place, from its start on
 abbrev rest : Gains → List Strike → Account → ℕ → Bool
@@ -60,43 +55,19 @@ rest gains own a k = nat_lt k a.end && not (is_gone gains own k)
 -- an account owes nothing before its start
 pub before-start : (gains : Gains) (strikes : List Strike) (a : Account) (k : ℕ) → k < a.start → owes_at gains strikes a k ≡ false
 unfolding owes_at
-before-start gains strikes a k early =
-    ap (λ b. b && (nat_lt k a.end && not (is_gone gains (strikes_of strikes a) k))) (lt-leb a.start k early)
+before-start gains strikes a k early = ap (λ b. b && (nat_lt k a.end && not (is_gone gains (strikes_of strikes a) k))) (lt-leb a.start k early)
 
 -- where the account begins later, and owed nothing between, it is without its first gain
 pub later-start : (gains : Gains) (strikes : List Strike) (a b : Account) (place : ℕ) → a.start ≡ place → place < b.start → b.end ≡ a.end → b.first ≡ a.first → b.last ≡ a.last →
     ((k : ℕ) → place < k → k < b.start → owes_at gains strikes a k ≡ false) → IsWithout place (owes_at gains strikes a) (owes_at gains strikes b)
 unfolding owes_at
-later-start gains strikes a b place start later end first last none = record {
-  gone = before-start gains strikes b place later;
-  others = λ k other. elim (cases_lt k b.start) [
-    | inl early ↦ before-start gains strikes b k early ∙ sym (elim (cases_lt k place) [
-      | inl first ↦ before-start gains strikes a k (omega (arith, first, start))
-      | inr behind ↦ none k (omega (arith, behind, other)) early
-    ])
-    | inr late ↦
-        ap (λ c. c && (nat_lt k b.end && not (is_gone gains (strikes_of strikes b) k))) (le-leb b.start k late)
-        ∙ ap (λ e. nat_lt k e && not (is_gone gains (strikes_of strikes b) k)) end
-        ∙ ap₂ (λ f l. nat_lt k a.end && not (is_gone gains (drop f (take l strikes)) k)) first last
-        ∙ sym (ap (λ c. c && rest gains (strikes_of strikes a) a k) (le-leb a.start k (omega (arith, late, later, start))))
-  ];
-}
+later-start gains strikes a b place start later end first last none = grind (arith, nat_tests, before-start, cases_lt, le-leb)
 
 -- where the account ends one place earlier, it is without its last gain
 pub earlier-end : (gains : Gains) (strikes : List Strike) (a b : Account) (place : ℕ) → place + 1 ≡ a.end → b.end ≡ place → b.start ≡ a.start → b.first ≡ a.first → b.last ≡ a.last →
     IsWithout place (owes_at gains strikes a) (owes_at gains strikes b)
 unfolding owes_at
-earlier-end gains strikes a b place end now start first last = record {
-  gone = past-end gains strikes b place (omega (arith, now));
-  others = λ k other. elim (cases_lt k place) [
-    | inl early ↦
-        ap₂ (λ s e. nat_le s k && (nat_lt k e && not (is_gone gains (strikes_of strikes b) k))) start now
-        ∙ ap₂ (λ f l. nat_le a.start k && (nat_lt k place && not (is_gone gains (drop f (take l strikes)) k))) first last
-        ∙ ap (λ c. nat_le a.start k && (c && not (is_gone gains (strikes_of strikes a) k)))
-        (lt-ltb k place early ∙ sym (lt-ltb k a.end (omega (arith, early, end))))
-    | inr late ↦ past-end gains strikes b k (omega (arith, late, now)) ∙ sym (past-end gains strikes a k (omega (arith, late, other, end)))
-  ];
-}
+earlier-end gains strikes a b place end now start first last = grind (arith, nat_tests, past-end, cases_lt, lt-ltb)
 
 -- a place lies from `place` up to the one after it exactly if it is `place`
 one-place : (place k : ℕ) → (nat_le place k && nat_lt k (place + 1)) ≡ (k == place)
@@ -106,26 +77,7 @@ one-place place k = grind (arith, nat_tests)
 pub struck-without : (gains : Gains) (old new : List Strike) (a b c : Account) (place : ℕ) → IsStruck gains place (place + 1) old new a b →
     a.start ≤ place → c.start ≡ b.start → c.end ≡ b.end → c.first ≡ b.first → c.last ≡ b.last → IsWithout place (owes_at gains old a) (owes_at gains new c)
 unfolding owes_at
-struck-without gains old new a b c place s low start end first last = record {
-  gone = is place
-      ∙ ap (λ x. nat_le a.start place && (nat_lt place a.end && not x)) (gone-struck gains (strikes_of new b) place (λ left. s.struck place low left
-      ∙ ap (λ x. is_struck (strikes_of old a) (entry_at (entries_of gains) place).message place || x) (one-place place place ∙ eq-eqb place place refl)
-      ∙ or-true (is_struck (strikes_of old a) (entry_at (entries_of gains) place).message place)))
-      ∙ and_right (nat_le a.start place) (nat_lt place a.end && false) (and-false (nat_lt place a.end));
-  others = λ k other. elim (cases_lt k a.start) [
-    | inl early ↦ before-start gains new c k (omega (arith, early, start, s.start)) ∙ sym (before-start gains old a k early)
-    | inr from ↦
-        is k
-        ∙ ap (λ x. nat_le a.start k && (nat_lt k a.end && not x)) (gone-same gains (strikes_of old a) (strikes_of new b) k (λ left. s.struck k from left
-        ∙ ap (λ x. is_struck (strikes_of old a) (entry_at (entries_of gains) k).message k || x) (one-place place k ∙ ne_eqb k place other)
-        ∙ or-false (is_struck (strikes_of old a) (entry_at (entries_of gains) k).message k)))
-  ];
-}
-  where
-    is : (k : ℕ) → (nat_le c.start k && (nat_lt k c.end && not (is_gone gains (strikes_of new c) k))) ≡ (nat_le a.start k && (nat_lt k a.end && not (is_gone gains (strikes_of new b) k)))
-    is k =
-        ap₂ (λ x y. nat_le x k && (nat_lt k y && not (is_gone gains (strikes_of new c) k))) (start ∙ s.start) (end ∙ s.end)
-        ∙ ap₂ (λ f l. nat_le a.start k && (nat_lt k a.end && not (is_gone gains (drop f (take l new)) k))) first last
+struck-without gains old new a b c place s low start end first last = grind (arith, nat_tests, gone-struck, one-place, eq-eqb, or-true, and_right, and-false, cases_lt, before-start, gone-same, ne_eqb, or-false)
 
 -- an account without one of its gains is an account, and owes the debts without that one
 pub without-account : (gains : Gains) (old new : List Strike) (a b : Account) (place w : ℕ) → IsAccount gains old a → owes_at gains old a place ≡ true →
@@ -161,10 +113,7 @@ without-account gains old new a b place w is owed without soft order end first l
 
 -- what an account owes stands at its start or after it
 pub owed-from : (gains : Gains) (strikes : List Strike) (a : Account) (k : ℕ) → owes_at gains strikes a k ≡ true → a.start ≤ k
-owed-from gains strikes a k is = elim (cases_lt k a.start) [
-  | inl early ↦ absurd (true≢false (sym is ∙ before-start gains strikes a k early))
-  | inr from ↦ from
-]
+owed-from gains strikes a k is = grind (arith, nat_tests, cases_lt, true≢false, before-start)
 
 -- a worth is a number of 64 bits
 pub worth-fits : (m d : ℕ) → worth_of m d < 2 ^ 64
@@ -181,12 +130,10 @@ pub without-first : (gains : Gains) (strikes : List Strike) (a : Account) (place
 without-first gains strikes a place w next print is owed here worth printed order none begins =
     let b : Account = record a { start = next; print = print } in
     let entries = (entries_of gains) in
-    let low = order.0 in
-    let high = order.1 in
     let without : IsWithout place (owes_at gains strikes a) (owes_at gains strikes b) =
-    later-start gains strikes a b place (sym here) (omega (arith, low)) refl refl refl (λ k above below. none k (omega (arith, above)) below) in
-    let other : next ≢ place = omega (arith, low) in (
-      without-account gains strikes strikes a b place w is owed without refl high (omega arith) is.first is.last (λ m k past. is.bound m k past)
+    later-start gains strikes a b place (sym here) (omega (arith, order.0)) refl refl refl (λ k above below. none k (omega (arith, above)) below) in
+    let other : next ≢ place = omega (arith, order.0) in (
+      without-account gains strikes strikes a b place w is owed without refl order.1 (omega arith) is.first is.last (λ m k past. is.bound m k past)
           (λ some. without.others next other ∙ begins some) worth printed (subst (λ n. n < 2 ^ 64) (sym worth) (worth-fits (entry_at entries place).message (entry_at entries place).deadline)),
       without,
     )
@@ -220,13 +167,11 @@ without-middle gains old new a b place w print is owed later struck worth printe
     let entries = (entries_of gains) in
     let from = owed-from gains old a place owed in
     let start = struck.start in
-    let end = struck.end in
-    let order = is.order in
     let without : IsWithout place (owes_at gains old a) (owes_at gains new c) = struck-without gains old new a b c place struck from refl refl refl refl in
     let other : a.start ≢ place = λ same. later (sym same) in (
-      without-account gains old new a c place w is owed without struck.soft (omega (arith, start, end, order)) (omega (arith, end)) struck.first struck.last
+      without-account gains old new a c place w is owed without struck.soft (omega (arith, start, struck.end, is.order)) (omega (arith, struck.end)) struck.first struck.last
           (λ m k past. struck.bound m k past (is.bound m k past))
-          (λ some. ap (owes_at gains new c) start ∙ without.others a.start other ∙ is.begins (omega (arith, some, start, end))) worth printed
+          (λ some. ap (owes_at gains new c) start ∙ without.others a.start other ∙ is.begins (omega (arith, some, start, struck.end))) worth printed
           (subst (λ n. n < 2 ^ 64) (sym worth) (worth-fits (entry_at entries place).message (entry_at entries place).deadline)),
       without,
     )

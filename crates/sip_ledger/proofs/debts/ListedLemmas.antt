@@ -65,11 +65,7 @@ listed-none o m i (x ∷ xs) none =
 -- there are no more debts than entries
 pub listed-few : (o m : ℕ → Bool) (i : ℕ) (xs : List Entry) → length (debts_from o m i xs) ≤ length xs
 listed-few o m i [] = omega arith
-listed-few o m i (x ∷ xs) = by (o i) (debt_of x (m i)) (debts_from o m (i + 1) xs) (listed-few o m (i + 1) xs)
-  where
-    by : (b : Bool) (d : Debt) (ds : List Debt) → length ds ≤ length xs → length (cond b (d ∷ ds) ds) ≤ suc (length xs)
-    by true d ds few = omega (arith, few)
-    by false d ds few = omega (arith, few)
+listed-few o m i (x ∷ xs) = grind (arith, listed-few o m (i + 1) xs)
 
 -- where P holds of the debt of each place that is owed, it holds of all debts
 pub listed-All : (P : Debt → Type 0) (o m : ℕ → Bool) (i : ℕ) (xs : List Entry) →

@@ -1,6 +1,7 @@
 -- Which gains are left, and what changes of that when gains come, are let go or are dropped.
-use Rattle.std.proofs.Common.{◌≡◌, ◌≢◌, ℕ, zero, suc, ◌+◌, ◌-◌, ◌^◌, ◌<◌, ◌≤◌, ◌==◌, ◌&&◌, ◌||◌, Bool, true, false, cond, not, List, [], ◌∷◌, ◌++◌, length, drop, get_or, refl, sym, ap, ap₂, ◌∙◌, subst, inl, inr, arith, lit<}
-use Rattle.std.specs.Prelude.{nat_le, nat_lt, replicate}
+use Rattle.std.proofs.Common.{◌≡◌, ◌≢◌, ℕ, suc, ◌+◌, ◌-◌, ◌^◌, ◌<◌, ◌≤◌, ◌==◌, ◌&&◌, ◌||◌, Bool, true, false, cond, not, List, [], ◌∷◌, ◌++◌, length, drop, get_or, refl, sym, ap, ap₂, ◌∙◌, arith}
+use Rattle.std.proofs.lemmas.Bool.Decides.{nat_tests}
+use Rattle.std.specs.Prelude.{replicate}
 use Rattle.std.proofs.lemmas.Bool.{cases_eq, cases_lt, eq-eqb, false_from_ne_true, ne_eqb, true≢false}
 use Rattle.std.proofs.Math.Bool.{and-false}
 use Rattle.std.proofs.lemmas.List.{append_assoc, get_or-append_right, get_or_append_left, get_or-drop, get_or_default, get_or_past, get_or_push, length-append, length-drop, length-replicate}
@@ -10,7 +11,7 @@ use Rattle.sip_ledger.specs.declared.accounts.account.Account.{Account}
 use Rattle.sip_ledger.specs.declared.accounts.gains.Gains.{Gains}
 use Rattle.sip_ledger.specs.declared.accounts.strikes.Strike.{Strike}
 use Rattle.sip_ledger.specs.Entries.{debt_of, debts_from}
-use Rattle.sip_ledger.specs.inner.Accounts.{AreFlags, AreGains, AreSameGains, IsDropped, IsGain, IsKept, IsLetGo, IsNoted, IsPlaceOf, blank, entries_of, entry_at, is_gone, is_left, is_struck, owes_at, strikes_of}
+use Rattle.sip_ledger.specs.inner.Accounts.{AreFlags, AreGains, AreSameGains, IsDropped, IsGain, IsKept, IsLetGo, IsNoted, IsPlaceOf, blank, entries_of, entry_at, is_gone, is_left, is_struck, owes_at}
 use Rattle.sip_ledger.specs.Indexes.{holds}
 use Rattle.sip_ledger.specs.inner.Deadlines.{AreRising}
 use Rattle.sip_ledger.proofs.gains.FlagLemmas.{flags-none}
@@ -19,28 +20,18 @@ use Rattle.sip_ledger.proofs.debts.ListedLemmas.{no_entry}
 -- there are as many entries as there were gains
 pub entries-long : (gains : Gains) → length gains.entries.items ≤ gains.end → length (entries_of gains) ≡ gains.end
 unfolding entries_of
-entries-long gains long =
-    let all = length-append (replicate (gains.end - length gains.entries.items) blank) gains.entries.items in
-    let blanks = length-replicate (gains.end - length gains.entries.items) blank in
-    omega (arith, all, blanks, long)
+entries-long gains long = grind (arith, nat_tests, length-append, length-replicate)
 
 -- a gain that is kept stands after the blanks, at the index of its place
 pub entry-kept : (gains : Gains) (k : ℕ) → length gains.entries.items ≤ gains.end → IsKept gains k →
     entry_at (entries_of gains) k ≡ get_or gains.entries.items (k - (gains.end - length gains.entries.items)) blank
 unfolding entries_of
-entry-kept gains k long kept =
-    let dropped = gains.end - length gains.entries.items in
-    let from = kept.from in
-    get_or-append_right (replicate dropped blank) gains.entries.items dropped k blank (length-replicate dropped blank) (omega (arith, from, long))
+entry-kept gains k long kept = grind (arith, get_or-append_right, length-replicate)
 
 -- the entry at an index of the kept gains is the one at its place
 pub entry-index : (gains : Gains) (k i : ℕ) (e : Entry) → length gains.entries.items ≤ gains.end → IsKept gains k → i + (gains.end - length gains.entries.items) ≡ k →
     e ≡ get_or gains.entries.items i e → e ≡ entry_at (entries_of gains) k
-entry-index gains k i e long kept here is =
-    let from = kept.from in
-    let within = kept.within in
-    let at : i ≡ k - (gains.end - length gains.entries.items) = omega (arith, here) in
-    is ∙ get_or_default gains.entries.items i e blank (omega (arith, here, within, from, long)) ∙ ap (λ n. get_or gains.entries.items n blank) at ∙ sym (entry-kept gains k long kept)
+entry-index gains k i e long kept here is = grind (arith, get_or_default, entry-kept)
 
 -- a gain that is left stands under its message
 pub left-place : (gains : Gains) (k : ℕ) → AreGains gains → is_left gains k ≡ true → IsPlaceOf gains (entry_at (entries_of gains) k).message k
@@ -58,47 +49,12 @@ held-left gains m k is = sym (ap (λ n. holds gains.messages n k) is)
 
 -- under no message stands a place at which nothing was gained
 pub not-noted : (gains : Gains) (m k : ℕ) → AreGains gains → gains.end ≤ k → holds gains.messages m k ≡ false
-not-noted gains m k are past = false_from_ne_true (holds gains.messages m k) (λ is.
-    let within = (are.messages m k is).kept.within in
-    absurd (omega (arith, within, past)))
-
--- under no message stands a place whose gain was dropped
-pub not-kept : (gains : Gains) (m k : ℕ) → AreGains gains → k + length gains.entries.items < gains.end → holds gains.messages m k ≡ false
-not-kept gains m k are early = false_from_ne_true (holds gains.messages m k) (λ is.
-    let from = (are.messages m k is).kept.from in
-    absurd (omega (arith, from, early)))
-
--- no place from the end on is among those of what must be sent
-pub not-must : (gains : Gains) (k : ℕ) → AreGains gains → gains.end ≤ k → holds gains.musts 0 k ≡ false
-not-must gains k are past = false_from_ne_true (holds gains.musts 0 k) (λ is.
-    let within = are.musts k is in
-    absurd (omega (arith, within, past)))
-
--- under a message stands no place of a gain of another message
-pub not-other : (gains : Gains) (m k : ℕ) → AreGains gains → (entry_at (entries_of gains) k).message ≢ m → holds gains.messages m k ≡ false
-not-other gains m k are other = false_from_ne_true (holds gains.messages m k) (λ is. absurd (other (are.messages m k is).message))
-
--- where the message is left at none of some places, and the next gain is of another message, it is not left there either
-pub others-more : (gains : Gains) (m from at k : ℕ) → AreGains gains → ((j : ℕ) → from ≤ j → j < at → holds gains.messages m j ≡ false) → (entry_at (entries_of gains) at).message ≢ m →
-    from ≤ k → k < at + 1 → holds gains.messages m k ≡ false
-others-more gains m from at k are none other low high = elim (cases_lt k at) [
-  | inl below ↦ none k low below
-  | inr above ↦
-      let here : at ≡ k = omega (arith, above, high) in
-      subst (λ n. holds gains.messages m n ≡ false) here (not-other gains m at are other)
-]
+not-noted gains m k are past = grind (arith, false_from_ne_true)
 
 -- empty lists are right gains
 pub none-gained : (gains : Gains) → gains.entries.items ≡ [] → gains.flags.items ≡ [] → gains.end ≡ 0 → gains.messages ≡ [] → gains.musts ≡ [] → AreGains gains
 unfolding holds
-none-gained gains entries flags end messages musts = record {
-  long = omega (arith, ap length entries);
-  small = subst (λ n. n < 2 ^ 64) (sym end) (lit< tt);
-  messages = λ m k is. absurd (true≢false (sym is ∙ ap (λ l. holds l m k) messages));
-  musts = λ k is. absurd (true≢false (sym is ∙ ap (λ l. holds l 0 k) musts));
-  rises = λ _ i k e order below. absurd (omega (arith, below, ap length entries));
-  flags = flags-none gains entries flags;
-}
+none-gained gains entries flags end messages musts = grind (arith, nat_tests, true≢false, flags-none)
 
 -- where nothing was gained there are no entries
 pub none-entries : (gains : Gains) → gains.entries.items ≡ [] → gains.end ≡ 0 → entries_of gains ≡ []
@@ -108,16 +64,7 @@ none-entries gains entries end = ap₂ (λ (n : ℕ) (l : List Entry). replicate
 -- deadlines rise over what is kept
 pub rising-kept : (gains : Gains) (i k : ℕ) → AreGains gains → gains.rises ≡ true → IsKept gains i → i ≤ k → k < gains.end →
     (entry_at (entries_of gains) i).deadline ≤ (entry_at (entries_of gains) k).deadline
-rising-kept gains i k are rises kept order within =
-    let items = gains.entries.items in
-    let dropped = gains.end - length items in
-    let from = kept.from in
-    let long = are.long in
-    let kept_k : IsKept gains k = record { from = omega (arith, from, order); within = within } in
-    let above = are.rises rises (i - dropped) (k - dropped) blank (omega (arith, order)) (omega (arith, within, from, order, long)) in
-    let one = ap (λ (e : Entry). e.deadline) (entry-kept gains i long kept) in
-    let other = ap (λ (e : Entry). e.deadline) (entry-kept gains k long kept_k) in
-    omega (arith, above, one, other)
+rising-kept gains i k are rises kept order within = grind (arith, nat_tests, entry-kept)
 
 -- a gain that is not left is gone
 pub gone-unleft : (gains : Gains) (own : List Strike) (k : ℕ) → is_left gains k ≡ false → is_gone gains own k ≡ true
@@ -134,41 +81,22 @@ pub gone-same : (gains : Gains) (own own' : List Strike) (k : ℕ) →
     (is_left gains k ≡ true → is_struck own' (entry_at (entries_of gains) k).message k ≡ is_struck own (entry_at (entries_of gains) k).message k) →
     is_gone gains own' k ≡ is_gone gains own k
 unfolding is_gone
-gone-same gains own own' k same = by (is_left gains k) same
-  where
-    by : (b : Bool) → (b ≡ true → is_struck own' (entry_at (entries_of gains) k).message k ≡ is_struck own (entry_at (entries_of gains) k).message k) →
-        (not b || is_struck own' (entry_at (entries_of gains) k).message k) ≡ (not b || is_struck own (entry_at (entries_of gains) k).message k)
-    by true same = same refl
-    by false same = refl
+gone-same gains own own' k same = grind (arith, nat_tests)
 
 -- a gain that is struck if it is left is gone
 pub gone-struck : (gains : Gains) (own : List Strike) (k : ℕ) → (is_left gains k ≡ true → is_struck own (entry_at (entries_of gains) k).message k ≡ true) → is_gone gains own k ≡ true
 unfolding is_gone
-gone-struck gains own k struck = by (is_left gains k) struck
-  where
-    by : (b : Bool) → (b ≡ true → is_struck own (entry_at (entries_of gains) k).message k ≡ true) → (not b || is_struck own (entry_at (entries_of gains) k).message k) ≡ true
-    by true struck = struck refl
-    by false struck = refl
+gone-struck gains own k struck = grind (arith, nat_tests)
 
 -- a gain that is not gone is left
 pub not-gone : (gains : Gains) (own : List Strike) (k : ℕ) → is_gone gains own k ≡ false → is_left gains k ≡ true
 unfolding is_gone
-not-gone gains own k is = by (is_left gains k) is
-  where
-    by : (b : Bool) → (not b || is_struck own (entry_at (entries_of gains) k).message k) ≡ false → b ≡ true
-    by true is = refl
-    by false is = sym is
+not-gone gains own k is = grind (arith, nat_tests)
 
 -- a gain that is owed is left
 pub owed-left : (gains : Gains) (strikes : List Strike) (a : Account) (k : ℕ) → owes_at gains strikes a k ≡ true → is_left gains k ≡ true
 unfolding owes_at
-owed-left gains strikes a k is = not-gone gains (strikes_of strikes a) k (last (nat_le a.start k) (nat_lt k a.end) (is_gone gains (strikes_of strikes a) k) is)
-  where
-    last : (x y z : Bool) → (x && (y && not z)) ≡ true → z ≡ false
-    last true true false is = refl
-    last true true true is = sym is
-    last true false z is = absurd (true≢false (sym is))
-    last false y z is = absurd (true≢false (sym is))
+owed-left gains strikes a k is = grind (arith, nat_tests, not-gone, true≢false)
 
 -- a gain that is not left is not owed
 pub unleft-unowed : (gains : Gains) (strikes : List Strike) (a : Account) (k : ℕ) → is_left gains k ≡ false → owes_at gains strikes a k ≡ false
@@ -178,102 +106,20 @@ unleft-unowed gains strikes a k none = false_from_ne_true (owes_at gains strikes
 pub more-entries : (old new : Gains) (entry : Entry) → length old.entries.items ≤ old.end → new.entries.items ≡ old.entries.items ++ entry ∷ [] → new.end ≡ old.end + 1 →
     entries_of new ≡ entries_of old ++ entry ∷ []
 unfolding entries_of
-more-entries old new entry long entries end =
-    let xs = old.entries.items in
-    let longer = length-append xs (entry ∷ []) in
-    let same : new.end - length new.entries.items ≡ old.end - length xs = omega (arith, ap length entries, longer, end, long) in
-    ap₂ (λ (n : ℕ) (l : List Entry). replicate n blank ++ l) same entries ∙ sym (append_assoc (replicate (old.end - length xs) blank) xs (entry ∷ []))
+more-entries old new entry long entries end = grind (arith, nat_tests, length-append, append_assoc)
 
 -- where a gain comes and stands under its message, the gains are right, and the new one is theirs
 pub gains-more : (old new : Gains) (debt : Debt) → AreGains old → new.entries.items ≡ old.entries.items ++ (record { message = debt.message; deadline = debt.deadline }) ∷ [] →
     new.end ≡ old.end + 1 → new.end < 2 ^ 64 → IsNoted old.end debt old.messages old.musts new.messages new.musts →
     (new.rises ≡ true → AreRising (old.entries.items ++ (record { message = debt.message; deadline = debt.deadline }) ∷ [])) → (IsGain debt old new → AreFlags new) →
     AreGains new × IsGain debt old new
-gains-more old new debt are entries end small noted rises flags =
-    let n = old.end in
-    let e : Entry = record { message = debt.message; deadline = debt.deadline } in
-    let long = are.long in
-    let all : entries_of new ≡ entries_of old ++ e ∷ [] = more-entries old new e long entries end in
-    let count = entries-long old long in
-    let longer = length-append old.entries.items (e ∷ []) in
-    let some : length new.entries.items ≡ length old.entries.items + 1 = ap length entries ∙ longer in
-    let here : entry_at (entries_of new) n ≡ e = ap (λ l. entry_at l n) all ∙ get_or_push (entries_of old) e blank n count in
-    let others : (m k : ℕ) → k ≢ n → holds new.messages m k ≡ holds old.messages m k = λ m k other.
-    noted.messages m k ∙ ap (λ b. cond (m == debt.message && b) true (holds old.messages m k)) (ne_eqb k n other)
-    ∙ ap (λ b. cond b true (holds old.messages m k)) (and-false (m == debt.message)) in
-    let gain : IsGain debt old new = record {
-      entries = all;
-      message = ap (holds new.messages debt.message) count ∙ noted.messages debt.message n ∙ ap₂ (λ a b. cond (a && b) true (holds old.messages debt.message n)) (eq-eqb debt.message debt.message refl) (eq-eqb n n refl);
-      messages = λ m k other. others m k (λ same. other (same ∙ sym count));
-      must = ap (holds new.musts 0) count ∙ noted.must;
-      musts = λ k other. noted.musts k (λ same. other (same ∙ sym count));
-    } in (
-      record {
-        long = omega (arith, some, end, long);
-        small = small;
-        messages = λ m k is. elim (cases_eq k n) [
-          | inl there ↦
-              let same : m ≡ debt.message = named m k there is in
-              record {
-                kept = record { from = omega (arith, there, some, end); within = omega (arith, there, end) };
-                message = ap (λ i. (entry_at (entries_of new) i).message) there ∙ ap (λ (x : Entry). x.message) here ∙ sym same;
-              }
-          | inr other ↦
-              let was = are.messages m k (sym (others m k other) ∙ is) in
-              let from = was.kept.from in
-              let within = was.kept.within in
-              record {
-                kept = record { from = omega (arith, from, some, end); within = omega (arith, within, end) };
-                message = ap (λ (l : List Entry). (entry_at l k).message) all
-                    ∙ ap (λ (x : Entry). x.message) (get_or_append_left (entries_of old) (e ∷ []) blank k (omega (arith, within, count))) ∙ was.message;
-              }
-        ];
-        musts = λ k is. elim (cases_eq k n) [
-          | inl there ↦ omega (arith, there, end)
-          | inr other ↦
-              let within = are.musts k (sym (noted.musts k other) ∙ is) in
-              omega (arith, within, end)
-        ];
-        rises = λ said. subst AreRising (sym entries) (rises said);
-        flags = flags gain;
-      },
-      gain,
-    )
-  where
-    named : (m k : ℕ) → k ≡ old.end → holds new.messages m k ≡ true → m ≡ debt.message
-    named m k there is = elim (cases_eq m debt.message) [
-      | inl same ↦ same
-      | inr other ↦ absurd (true≢false (sym is
-          ∙ noted.messages m k
-          ∙ ap (λ b. cond (b && k == old.end) true (holds old.messages m k)) (ne_eqb m debt.message other)
-          ∙ not-noted old m k are (omega (arith, there))))
-    ]
+gains-more old new debt are entries end small noted rises flags = grind (arith, more-entries, entries-long, length-append, get_or_push, ne_eqb, and-false, eq-eqb, cases_eq, get_or_append_left, true≢false, not-noted)
 
 -- where the entries and the places under the messages stay, the gains are right still, and the same
 pub gains-same : (old new : Gains) → AreGains old → new.entries.items ≡ old.entries.items → new.end ≡ old.end → ((m k : ℕ) → holds new.messages m k ≡ holds old.messages m k) →
     ((k : ℕ) → holds new.musts 0 k ≡ holds old.musts 0 k) → new.rises ≡ old.rises → (AreSameGains old new → AreFlags new) → AreGains new × AreSameGains old new
 unfolding entries_of
-gains-same old new are entries end messages musts rises flags =
-    let all : entries_of new ≡ entries_of old = ap₂ (λ (n : ℕ) (l : List Entry). replicate (n - length l) blank ++ l) end entries in
-    let some = ap length entries in
-    let long = are.long in (
-      record {
-        long = omega (arith, some, end, long);
-        small = subst (λ n. n < 2 ^ 64) (sym end) are.small;
-        messages = λ m k is.
-            let was = are.messages m k (sym (messages m k) ∙ is) in
-            let from = was.kept.from in
-            let within = was.kept.within in
-            record {
-              kept = record { from = omega (arith, from, some, end); within = omega (arith, within, end) };
-              message = ap (λ (l : List Entry). (entry_at l k).message) all ∙ was.message;
-            };
-        musts = λ k is. let within = are.musts k (sym (musts k) ∙ is) in omega (arith, within, end);
-        rises = λ said. subst AreRising (sym entries) (are.rises (sym rises ∙ said));
-        flags = flags (record { entries = all; messages = messages; musts = musts });
-      },
-      record { entries = all; messages = messages; musts = musts },
-    )
+gains-same old new are entries end messages musts rises flags = grind (arith, nat_tests)
 
 -- where a gain is taken from under its message, the gains are right still, and it is let go
 pub gains-let_go : (old new : Gains) (place : ℕ) → AreGains old → new.entries.items ≡ old.entries.items → new.end ≡ old.end → new.rises ≡ old.rises →
@@ -281,104 +127,13 @@ pub gains-let_go : (old new : Gains) (place : ℕ) → AreGains old → new.entr
     ((m k : ℕ) → holds new.musts m k ≡ cond (m == 0 && k == place) false (holds old.musts m k)) → (IsLetGo place old new → AreFlags new) →
     AreGains new × IsLetGo place old new
 unfolding entries_of
-gains-let_go old new place are entries end rises messages musts flags =
-    let all : entries_of new ≡ entries_of old = ap₂ (λ (n : ℕ) (l : List Entry). replicate (n - length l) blank ++ l) end entries in
-    let some = ap length entries in
-    let long = are.long in
-    let m0 = (entry_at (entries_of old) place).message in
-    let gone : IsLetGo place old new = record {
-      entries = all;
-      end = end;
-      long = some;
-      here = λ m. elim (cases_eq m m0) [
-        | inl is ↦ messages m place ∙ ap₂ (λ a b. cond (a && b) false (holds old.messages m place)) (eq-eqb m m0 is) (eq-eqb place place refl)
-        | inr other ↦ messages m place ∙ ap (λ a. cond (a && place == place) false (holds old.messages m place)) (ne_eqb m m0 other)
-            ∙ false_from_ne_true (holds old.messages m place) (λ is. other (sym (are.messages m place is).message))
-      ];
-      others = λ m k other. messages m k ∙ ap (λ b. cond (m == m0 && b) false (holds old.messages m k)) (ne_eqb k place other)
-          ∙ ap (λ b. cond b false (holds old.messages m k)) (and-false (m == m0));
-      musts = λ k other. musts 0 k ∙ ap (λ b. cond (0 == 0 && b) false (holds old.musts 0 k)) (ne_eqb k place other);
-    } in (
-      record {
-        long = omega (arith, some, end, long);
-        small = subst (λ n. n < 2 ^ 64) (sym end) are.small;
-        messages = λ m k is.
-            let was = are.messages m k (fewer (m == m0 && k == place) (holds old.messages m k) (sym (messages m k) ∙ is)) in
-            let from = was.kept.from in
-            let within = was.kept.within in
-            record {
-              kept = record { from = omega (arith, from, some, end); within = omega (arith, within, end) };
-              message = ap (λ (l : List Entry). (entry_at l k).message) all ∙ was.message;
-            };
-        musts = λ k is.
-            let within = are.musts k (fewer (0 == 0 && k == place) (holds old.musts 0 k) (sym (musts 0 k) ∙ is)) in
-            omega (arith, within, end);
-        rises = λ said. subst AreRising (sym entries) (are.rises (sym rises ∙ said));
-        flags = flags gone;
-      },
-      gone,
-    )
-  where
-    fewer : (b was : Bool) → cond b false was ≡ true → was ≡ true
-    fewer true was is = absurd (true≢false (sym is))
-    fewer false was is = is
+gains-let_go old new place are entries end rises messages musts flags = grind (arith, nat_tests, cases_eq, eq-eqb, ne_eqb, false_from_ne_true, and-false, true≢false)
 
 -- where the first gains are dropped, none of which is left, the gains are right still
 pub gains-dropped : (old new : Gains) (place count : ℕ) → AreGains old → count + (old.end - length old.entries.items) ≡ place → place ≤ old.end →
     new.entries.items ≡ drop count old.entries.items → new.end ≡ old.end → new.messages ≡ old.messages → new.musts ≡ old.musts → new.rises ≡ old.rises →
     ((m k : ℕ) → k < place → holds old.messages m k ≡ false) → (IsDropped place old new → AreFlags new) → AreGains new × IsDropped place old new
-gains-dropped old new place count are here within entries end messages musts rises none flags =
-    let xs = old.entries.items in
-    let long = are.long in
-    let fewer = length-drop count xs in
-    let some : length new.entries.items + count ≡ length xs = omega (arith, ap length entries, fewer, here, within, long) in
-    let short : length new.entries.items ≤ new.end = omega (arith, some, end, long) in
-    let same : (k : ℕ) → place ≤ k → entry_at (entries_of new) k ≡ entry_at (entries_of old) k = λ k above. elim (cases_lt k old.end) [
-      | inl inside ↦
-          let kept : IsKept old k = record { from = omega (arith, above, here, long); within = inside } in
-          let kept' : IsKept new k = record { from = omega (arith, above, here, some, end, long); within = omega (arith, inside, end) } in
-          let at : count + (k - (new.end - length new.entries.items)) ≡ k - (old.end - length xs) = omega (arith, above, here, some, end, long) in
-          entry-kept new k short kept'
-          ∙ ap (λ (l : List Entry). get_or l (k - (new.end - length new.entries.items)) blank) entries
-          ∙ get_or-drop count xs (k - (new.end - length new.entries.items)) blank
-          ∙ ap (λ n. get_or xs n blank) at
-          ∙ sym (entry-kept old k long kept)
-      | inr past ↦
-          past-entry new k (omega (arith, past, end, entries-long new short)) ∙ sym (past-entry old k (omega (arith, past, entries-long old long)))
-    ] in
-    let dropped : IsDropped place old new = record {
-      long = entries-long new short ∙ end ∙ sym (entries-long old long);
-      entries = same;
-      messages = messages;
-      musts = musts;
-    } in (
-      record {
-        long = short;
-        small = subst (λ n. n < 2 ^ 64) (sym end) are.small;
-        messages = λ m k is.
-            let held = sym (ap (λ l. holds l m k) messages) ∙ is in
-            let was = are.messages m k held in
-            let inside = was.kept.within in
-            elim (cases_lt k place) [
-              | inl early ↦ absurd (true≢false (sym held ∙ none m k early))
-              | inr above ↦ record {
-                kept = record { from = omega (arith, above, here, some, end, long); within = omega (arith, inside, end) };
-                message = ap (λ (e : Entry). e.message) (same k above) ∙ was.message;
-              }
-            ];
-        musts = λ k is. let inside = are.musts k (sym (ap (λ l. holds l 0 k) musts) ∙ is) in omega (arith, inside, end);
-        rises = λ said i k e order below.
-            let above = are.rises (sym rises ∙ said) (count + i) (count + k) e (omega (arith, order)) (omega (arith, below, some)) in
-            let one = ap (λ (x : Entry). x.deadline) (ap (λ (l : List Entry). get_or l i e) entries ∙ get_or-drop count xs i e) in
-            let other = ap (λ (x : Entry). x.deadline) (ap (λ (l : List Entry). get_or l k e) entries ∙ get_or-drop count xs k e) in
-            omega (arith, above, one, other);
-        flags = flags dropped;
-      },
-      dropped,
-    )
-  where
-    past-entry : (gains : Gains) (k : ℕ) → length (entries_of gains) ≤ k → entry_at (entries_of gains) k ≡ blank
-    past-entry gains k past = get_or_past (entries_of gains) k blank past
+gains-dropped old new place count are here within entries end messages musts rises none flags = grind (arith, nat_tests, length-drop, cases_lt, entry-kept, get_or-drop, entries-long, true≢false, get_or_past)
 
 -- debts that are told over two lists of entries are the same where the entries that are owed are
 pub listed-alike : (o m o' m' : ℕ → Bool) (i : ℕ) (xs ys : List Entry) → length xs ≡ length ys → ((j : ℕ) → j < length xs → o (i + j) ≡ o' (i + j)) →

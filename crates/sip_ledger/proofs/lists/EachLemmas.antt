@@ -1,13 +1,8 @@
 -- Lists of which each element from one on changes, or after which some of them come once more.
 use Prim.Native.Nat.{suc, zero}
-use Rattle.std.proofs.Common.{Result, Ok, Err, OnErr, OnOk, is_err, true≢false, ◌≡◌, ◌<◌, ◌≤◌, ◌⊎◌, inl, inr, ℕ, ◌+◌, Bool, false, List, [], ◌∷◌, ◌++◌, length, drop, take, get_or, set, map, filter, refl, ap, ap₂, sym, ◌∙◌, arith, cond}
+use Rattle.std.proofs.Common.{Result, Ok, Err, OnOk, is_err, true≢false, ◌≡◌, ◌<◌, ◌≤◌, ◌⊎◌, inl, inr, ℕ, ◌+◌, Bool, false, List, [], ◌∷◌, ◌++◌, length, drop, take, get_or, set, map, filter, refl, ap, ap₂, sym, ◌∙◌, arith, cond}
 use Rattle.std.proofs.lemmas.List.Elements.{filter_more}
 use Rattle.sip_ledger.specs.Lists.{from_to}
-
--- what holds always holds where a result is an error
-pub always_err : {T E : Type 0} (r : Result T E) (P : Type 0) → P → OnErr r P
-always_err (Ok x) P p = tt
-always_err (Err e) P p = p
 
 -- what a result that is no error tells holds
 pub on_ok : {T E : Type 0} (r : Result T E) (P : Type 0) → is_err r ≡ false → OnOk r P → P
@@ -26,12 +21,6 @@ module _ {X : Type 0} where
   from_to-none (suc from) zero xs le = refl
   from_to-none (suc from) (suc to) [] le = refl
   from_to-none (suc from) (suc to) (x ∷ xs) le = from_to-none from to xs (omega (arith, le))
-
-  -- a list of which no elements are changed is the list
-  pub changing-none : (f : X → X) (from : ℕ) (xs : List X) → changing f from from xs ≡ xs
-  changing-none f zero xs = refl
-  changing-none f (suc from) [] = refl
-  changing-none f (suc from) (x ∷ xs) = ap (λ ys. x ∷ ys) (changing-none f from xs)
 
   -- where the element at k is changed as well, the elements up to the next index are changed
   changing-next : (f : X → X) (from k : ℕ) (xs : List X) (d : X) → from ≤ k → k < length xs →

@@ -26,11 +26,7 @@ not_gt-from a b c d h = let k = h.keys in let n = h.numbers in grind (arith, nat
 pub range-first : (s : BTreeSet (ℕ × ℕ)) (key number : ℕ) (p : ℕ × ℕ) (rest : List (ℕ × ℕ)) → IsKeyRangeOf pair_cmp (Included (key, number)) Unbounded s (p ∷ rest) →
     IsFirstFrom s.keys key number p
 unfolding holds
-range-first s key number p rest h = record {
-  is = h.1.1;
-  after = from-not_gt key number p.0 p.1 h.1.0.0;
-  first = λ k n held after. from-not_gt p.0 p.1 k n (h.2 (k, n) (not_gt-from key number k n after, tt) held);
-}
+range-first s key number p rest h = grind (arith, nat_tests, from-not_gt, not_gt-from)
 
 -- an empty range from a pair on has no key from there on
 pub range-none : (s : BTreeSet (ℕ × ℕ)) (key number : ℕ) → IsKeyRangeOf pair_cmp (Included (key, number)) Unbounded s [] → NoneFrom s.keys key number

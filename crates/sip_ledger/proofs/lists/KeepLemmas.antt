@@ -1,5 +1,6 @@
 -- Some elements of a list, at rising places, are kept and come to its front.
-use Rattle.std.proofs.Common.{◌≡◌, ◌≢◌, ℕ, zero, suc, ◌+◌, ◌-◌, ◌<◌, ◌≤◌, List, length, take, get_or, set, map, sym, ap, ◌∙◌, inl, inr, arith}
+use Rattle.std.proofs.Common.{◌≡◌, ℕ, zero, suc, ◌+◌, ◌-◌, ◌<◌, ◌≤◌, List, length, take, get_or, set, map, sym, ◌∙◌, arith}
+use Rattle.std.proofs.lemmas.Bool.Decides.{nat_tests}
 use Rattle.std.specs.Prelude.{All}
 use Rattle.std.proofs.lemmas.Bool.{cases_eq, cases_lt}
 use Rattle.std.proofs.lemmas.List.{length-set, get_or-map, get_or_default, length-map, get_or-set_same, get_or-set_other, get_or-take, length-take-le, same_lists}
@@ -19,47 +20,22 @@ pub record IsKeptTo {X : Type 0} (d : X) (places : List ℕ) (to : ℕ) (old new
 
 -- a list that rises, and whose numbers are below n, has at most n numbers
 pub rise-few : (places : List ℕ) (n : ℕ) → Rise places → All (λ place. place < n) places → length places ≤ n
-rise-few places n rise within =
-    elim (cases_lt 0 (length places)) [
-      | inl some ↦
-          let last : length places - 1 < length places = omega (arith, some) in
-          omega (arith, some, rise-above places (length places - 1) rise last, All-get_or (λ place. place < n) places (length places - 1) 0 last within)
-      | inr none ↦ omega (arith, none)
-    ]
+rise-few places n rise within = grind (arith, nat_tests, cases_lt, rise-above, All-get_or)
 
 -- where the element at the next place is moved to the front as well, one element more stands there
 pub kept-more : {X : Type 0} (d : X) (places : List ℕ) (to : ℕ) (old new : List X) → IsKeptTo d places to old new → Rise places → to < length places →
     All (λ place. place < length old) places → IsKeptTo d places (to + 1) old (set new to (get_or new (get_or places to 0) d))
-kept-more d places to old new was rise inside within =
-    let from = get_or places to 0 in
-    let above = rise-above places to rise inside in
-    let there : from < length old = All-get_or (λ place. place < length old) places to 0 inside within in
-    let long = was.long in
-    record {
-      long = length-set new to (get_or new from d) ∙ long;
-      front = λ k below. elim (cases_eq k to) [
-        | inl here ↦
-            ap (λ n. get_or (set new to (get_or new from d)) n d) here
-            ∙ get_or-set_same new to (get_or new from d) d (omega (arith, above, there, long))
-            ∙ was.rest from above
-            ∙ ap (λ n. get_or old (get_or places n 0) d) (sym here)
-        | inr other ↦ get_or-set_other new to k (get_or new from d) d other ∙ was.front k (omega (arith, below, other))
-      ];
-      rest = λ k past.
-          let other : k ≢ to = omega (arith, past) in
-          get_or-set_other new to k (get_or new from d) d other ∙ was.rest k (omega (arith, past));
-    }
+kept-more d places to old new was rise inside within = grind (arith, nat_tests, rise-above, All-get_or, length-set, cases_eq, get_or-set_same, get_or-set_other)
 
 -- where the elements at all places stand at the front, the front of as many is the list of them
 pub kept-all : {X : Type 0} (d : X) (places : List ℕ) (to : ℕ) (old new : List X) → IsKeptTo d places to old new → length places ≤ to → length places ≤ length old →
     take (length places) new ≡ map (λ place. get_or old place d) places
 kept-all d places to old new was done few =
     let n = length places in
-    let long = was.long in
-    let size : length (take n new) ≡ n = length-take-le n new (omega (arith, few, long)) in
+    let size : length (take n new) ≡ n = length-take-le n new (omega (arith, few, was.long)) in
     same_lists (take n new) (map (λ place. get_or old place d) places) (size ∙ sym (length-map places (λ place. get_or old place d))) (λ k e below.
     let inside : k < n = omega (arith, below, size) in
     get_or-take n new k e inside
-    ∙ get_or_default new k e d (omega (arith, inside, few, long))
+    ∙ get_or_default new k e d (omega (arith, inside, few, was.long))
     ∙ was.front k (omega (arith, inside, done))
     ∙ sym (get_or-map (λ place. get_or old place d) places k 0 e inside))

@@ -1,6 +1,6 @@
 -- Many rows gain a debt, and rows of which nothing is past lose nothing.
-use Rattle.std.proofs.Common.{◌≡◌, ◌<◌, ◌≤◌, ℕ, ◌+◌, true, List, [], ◌∷◌, ◌++◌, length, drop, take, get_or, set, map, filter, refl, sym, ap, ◌∙◌, subst, arith}
-use Rattle.std.specs.Prelude.{All, ◌||◌, cond, fold, min, nat_le}
+use Rattle.std.proofs.Common.{◌≡◌, ◌<◌, ◌≤◌, ℕ, ◌+◌, true, List, [], ◌∷◌, ◌++◌, length, drop, take, get_or, set, map, filter, refl, sym, ap, ◌∙◌, arith}
+use Rattle.std.specs.Prelude.{All, cond, fold, min, nat_le}
 use Rattle.std.proofs.lemmas.Bool.{le-leb, or_right}
 use Rattle.std.proofs.lemmas.List.{get_or_default}
 use Rattle.std.proofs.lemmas.List.Elements.{All-filter, All-get_or, All-head, All-map, All-tail, All-weaker}
@@ -12,10 +12,10 @@ use Rattle.sip_ledger.specs.declared.debt.Entry.{Entry}
 use Rattle.sip_ledger.specs.Debts.{counts_at, debt_deadlines, earliest, is_timely, is_within}
 use Rattle.sip_ledger.specs.inner.Accounts.{AreAccounts, AreGains, IsAccount, IsKept, KeepsAccounts, account_debts, accounts_debts, entries_of, entry_at, must_at, owes_at}
 use Rattle.sip_ledger.proofs.debts.ListedLemmas.{listed-All, no_entry}
-use Rattle.sip_ledger.proofs.lists.EachLemmas.{changing, changing-front, changing-length, changing-more, changing-none, unchanged-each}
+use Rattle.sip_ledger.proofs.lists.EachLemmas.{changing, changing-front, changing-length, changing-more, unchanged-each}
 use Rattle.sip_ledger.proofs.account.AccountLemmas.{debts_length}
 use Rattle.sip_ledger.proofs.gains.LeftLemmas.{left-kept, owed-left}
-use Rattle.sip_ledger.proofs.rows.SeenLemmas.{account-at, changed-by, over-to, row-inside, unchanged}
+use Rattle.sip_ledger.proofs.rows.SeenLemmas.{changed-by, over-to, unchanged}
 
 -- what is owed, with one debt more
 abbrev pub with_debt : Debt → List Debt → List Debt
@@ -26,30 +26,14 @@ pub record HaveGained (debt : Debt) (from k : ℕ) (old : List (List Debt)) (gai
   pub accounts : AreAccounts gains strikes rows
   pub debts : accounts_debts gains strikes rows ≡ changing (with_debt debt) from k old
 
--- HaveGained holds before any row has gained the debt
-pub gained-none : (debt : Debt) (from : ℕ) (gains : Gains) (strikes : List Strike) (rows : List Account) → AreAccounts gains strikes rows →
-    HaveGained debt from from (accounts_debts gains strikes rows) gains strikes rows
-gained-none debt from gains strikes rows are = record { accounts = are; debts = sym (changing-none (with_debt debt) from (accounts_debts gains strikes rows)) }
-
 -- there are as many lists of debts as accounts
 pub debts-count : (gains : Gains) (strikes : List Strike) (rows : List Account) (n : ℕ) → n ≡ length rows → n ≡ length (accounts_debts gains strikes rows)
 debts-count gains strikes rows n is = is ∙ sym (debts_length gains strikes rows)
 
 module _ {debt : Debt} {from k : ℕ} {old : List (List Debt)} {gains : Gains} {strikes : List Strike} {rows : List Account} where
-  -- each row of the old ones is one of the rows
-  pub gained-inside : (row : ℕ) → HaveGained debt from k old gains strikes rows → from ≤ k → row < length old → row < length rows
-  gained-inside row are low within = row-inside row are.accounts are.debts (omega (arith, within, changing-length (with_debt debt) from k old low))
-
-  -- what stands in a row is an account
-  pub gained-at : (row : ℕ) (a : Account) → HaveGained debt from k old gains strikes rows → from ≤ k → row < length old → a ≡ get_or rows row a → IsAccount gains strikes a
-  gained-at row a are low within is =
-      (account-at row a are.accounts are.debts (omega (arith, within, changing-length (with_debt debt) from k old low)) is).0
-
   -- HaveGained stays true over more gains
   pub gained-over : (new : Gains) → KeepsAccounts gains new → AreGains new → HaveGained debt from k old gains strikes rows → HaveGained debt from k old new strikes rows
-  gained-over new keeps gained are =
-      let all = over-to new keeps gained are.accounts are.debts in
-      record { accounts = all.0; debts = all.1 }
+  gained-over new keeps gained are = grind (arith, over-to)
 
   -- HaveGained stays true over more strikes
   pub gained-grown : (new : List Strike) → take (length strikes) new ≡ strikes → HaveGained debt from k old gains strikes rows → HaveGained debt from k old gains new rows
@@ -110,9 +94,7 @@ rows-same gains strikes rows t are late =
 -- where no gain that is kept is past, what many rows owe is as it is once what is past is dropped from some
 pub none-past : (gains : Gains) (strikes : List Strike) (rows : List Account) (seen : List (List Debt)) (from t : ℕ) → AreGains gains → accounts_debts gains strikes rows ≡ seen →
     ((k : ℕ) → IsKept gains k → t ≤ (entry_at (entries_of gains) k).deadline) → seen ≡ take from seen ++ map (filter (counts_at t)) (drop from seen)
-none-past gains strikes rows seen from t are view late =
-    let all = subst (All (λ (owes : List Debt). filter (counts_at t) owes ≡ owes)) view (rows-same gains strikes rows t are late) in
-    unchanged-each (filter (counts_at t)) from seen (λ k d below. All-get_or (λ (owes : List Debt). filter (counts_at t) owes ≡ owes) seen k d below all)
+none-past gains strikes rows seen from t are view late = grind (arith, rows-same, unchanged-each, All-get_or)
 
 -- the least of moments that are not before t is not before it
 least-late : (t x : ℕ) (ms : List ℕ) → t ≤ x → All (λ m. t ≤ m) ms → t ≤ fold min x ms

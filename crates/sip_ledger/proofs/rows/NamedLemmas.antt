@@ -1,11 +1,11 @@
 -- Which messages the accounts owe.
-use Rattle.std.proofs.Common.{◌≡◌, ℕ, ◌+◌, ◌-◌, ◌^◌, Option, Some, None, ◌<◌, ◌≤◌, ◌==◌, ◌&&◌, ◌||◌, true, false, List, [], ◌∷◌, ◌++◌, length, take, get_or, map, refl, sym, ap, ap₂, ◌∙◌, subst, inl, inr, arith}
-use Rattle.std.specs.Prelude.{All, Contains, IfSome, IfNone}
+use Rattle.std.proofs.Common.{◌≡◌, ℕ, ◌+◌, ◌-◌, ◌<◌, ◌≤◌, ◌==◌, ◌&&◌, ◌||◌, true, false, List, [], ◌∷◌, ◌++◌, length, get_or, map, refl, sym, ap, ap₂, ◌∙◌, subst, inl, inr, arith}
+use Rattle.std.proofs.lemmas.Bool.Decides.{nat_tests}
+use Rattle.std.specs.Prelude.{All, Contains}
 use Rattle.std.specs.List.{list_any}
 use Rattle.std.proofs.Math.Bool.{and-true}
-use Rattle.std.proofs.Math.Seq.{take-append_seam}
 use Rattle.std.proofs.lemmas.Bool.{cases_eq, cases_lt, eqb-true, false_from_ne_true, le-leb, true≢false}
-use Rattle.std.proofs.lemmas.List.{append-nil, append_assoc, get_or_append_left, get_or_default, get_or_push, length_push}
+use Rattle.std.proofs.lemmas.List.{append_assoc, get_or_append_left, get_or_default, get_or_push, length_push}
 use Rattle.std.proofs.lemmas.List.Elements.{All-map, Contains-append_left, Contains-push, Contains-push_cases}
 use Rattle.std.proofs.lemmas.List.Folds.{list_any_at, list_any_none}
 use Rattle.sip_ledger.specs.declared.debt.Debt.{Debt}
@@ -16,53 +16,11 @@ use Rattle.sip_ledger.specs.declared.accounts.strikes.Strike.{Strike}
 use Rattle.sip_ledger.specs.Accounts.{AppendsOwed, owes_message, some_owes}
 use Rattle.sip_ledger.specs.Debts.{is_payable}
 use Rattle.sip_ledger.specs.Lists.{Rise}
-use Rattle.sip_ledger.specs.inner.Accounts.{AreGains, account_debts, accounts_debts, entries_of, entry_at, must_at, owes_at}
-use Rattle.sip_ledger.specs.Indexes.{IsFirstFrom, IsFrom, NoneFrom, holds}
+use Rattle.sip_ledger.specs.inner.Accounts.{account_debts, accounts_debts, entries_of, entry_at, must_at, owes_at}
+use Rattle.sip_ledger.specs.Indexes.{holds}
 use Rattle.sip_ledger.proofs.debts.ListedLemmas.{listed-All, no_entry}
 use Rattle.sip_ledger.proofs.account.AccountLemmas.{debts_length, row-debts}
 use Rattle.sip_ledger.proofs.gains.LeftLemmas.{held-left, owed-left}
-
--- the first pair from one on is of the first message from there on
-message-before : (pairs : List (ℕ × ℕ)) (key number : ℕ) (found : ℕ × ℕ) → IsFirstFrom pairs key number found → (m k : ℕ) → IsFrom key number m k → m < found.0 → holds pairs m k ≡ false
-message-before pairs key number found is m k after before =
-    false_from_ne_true (holds pairs m k) (λ held.
-    let keys = (is.first m k held after).keys in
-    absurd (omega (arith, keys, before)))
-
--- each pair comes after (0, 0), and each of a later message after all of one
-pub from-first : (m k : ℕ) → 0 ≤ m → IsFrom 0 0 m k
-from-first m k after = record { keys = omega arith; numbers = λ same. omega arith }
-
--- each pair of a later message comes after (last, place)
-pub from-later : (last place m k : ℕ) → last + 1 ≤ m → IsFrom last place m k
-from-later last place m k later = record { keys = omega (arith, later); numbers = λ same. absurd (omega (arith, later, same)) }
-
--- no place is the greatest number, so the first pair from there on is of a later message
-message-after : (gains : Gains) (last message k : ℕ) → AreGains gains → IsFirstFrom gains.messages last (2 ^ 64 - 1) (message, k) → last + 1 ≤ message
-message-after gains last message k are is = elim (cases_eq last message) [
-  | inl same ↦
-      let inside = (are.messages message k is.is).kept.within in
-      let small = are.small in
-      let high = is.after.numbers same in
-      absurd (omega (arith, inside, small, high))
-  | inr other ↦ let keys = is.after.keys in omega (arith, keys, other)
-]
-
--- what is found from a pair on: a later message, and none before it
-pub next-low : (gains : Gains) (last : ℕ) (r : Option ℕ) → AreGains gains → IfSome r (λ found. (k : ℕ) × IsFirstFrom gains.messages last (2 ^ 64 - 1) (found, k)) →
-    IfSome r (λ message. last + 1 ≤ message)
-next-low gains last None are is = tt
-next-low gains last (Some message) are is = message-after gains last message is.0 are is.1
-
-pub next-before : (pairs : List (ℕ × ℕ)) (key number low : ℕ) (r : Option ℕ) → ((m k : ℕ) → low ≤ m → IsFrom key number m k) →
-    IfSome r (λ found. (k : ℕ) × IsFirstFrom pairs key number (found, k)) → IfSome r (λ message. (m k : ℕ) → low ≤ m → m < message → holds pairs m k ≡ false)
-next-before pairs key number low None from is = tt
-next-before pairs key number low (Some message) from is = λ m k after before. message-before pairs key number (message, is.0) is.1 m k (from m k after) before
-
-pub next-none : (pairs : List (ℕ × ℕ)) (key number low : ℕ) (r : Option ℕ) → ((m k : ℕ) → low ≤ m → IsFrom key number m k) →
-    IfNone r (NoneFrom pairs key number) → IfNone r ((m k : ℕ) → low ≤ m → holds pairs m k ≡ false)
-next-none pairs key number low None from none = λ m k after. none m k (from m k after)
-next-none pairs key number low (Some message) from none = tt
 
 -- a send at moment 0 can pay each debt of its message
 pub payable-owes : (message : ℕ) (debts : List Debt) → list_any (is_payable message 0) debts ≡ owes_message message debts
@@ -112,17 +70,6 @@ pub record AreNamedTo (rows : List (List Debt)) (low : ℕ) (old new : List ℕ)
   pub below : (m : ℕ) → Contains names m → m < low
   pub owed : (m : ℕ) → Contains names m → some_owes m rows ≡ true
   pub all : (m : ℕ) → m < low → some_owes m rows ≡ true → Contains names m
-
--- AreNamedTo holds at the start: no message is below 0
-pub named-none : (rows : List (List Debt)) (old : List ℕ) → AreNamedTo rows 0 old old
-named-none rows old = record {
-  names = [];
-  whole = sym (append-nil old);
-  rise = λ i k early late. absurd (omega (arith, late));
-  below = λ m there. let inside = there.1 in absurd (omega (arith, inside));
-  owed = λ m there. let inside = there.1 in absurd (omega (arith, inside));
-  all = λ m early. absurd (omega (arith, early));
-}
 
 -- AreNamedTo goes on over messages that are not owed
 pub named-past : (rows : List (List Debt)) (low message : ℕ) (old new : List ℕ) → AreNamedTo rows low old new → low ≤ message →
@@ -182,21 +129,6 @@ named-more rows low message old new now are order between some is = record {
   ];
 }
 
--- the old numbers stand before those that were appended
-pub named-front : (rows : List (List Debt)) (low : ℕ) (old new : List ℕ) → AreNamedTo rows low old new → take (length old) new ≡ old
-named-front rows low old new are = ap (take (length old)) are.whole ∙ take-append_seam old are.names
-
 -- where no message from `low` on is owed, all that are owed are told
 pub named-all : (rows : List (List Debt)) (low : ℕ) (old new : List ℕ) → AreNamedTo rows low old new → ((m : ℕ) → low ≤ m → some_owes m rows ≡ false) → AppendsOwed rows old new
-named-all rows low old new are none = record {
-  names = are.names;
-  whole = are.whole;
-  rise = are.rise;
-  each = λ m. (
-    are.owed m,
-    λ owed. elim (cases_lt m low) [
-      | inl first ↦ are.all m first owed
-      | inr later ↦ absurd (true≢false (sym owed ∙ none m later))
-    ],
-  );
-}
+named-all rows low old new are none = grind (arith, nat_tests, cases_lt, true≢false)

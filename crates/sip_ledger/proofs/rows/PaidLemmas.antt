@@ -1,8 +1,7 @@
 -- Rows that a send pays are put after the others, without the debt that it pays.
-use Rattle.std.proofs.Common.{◌≡◌, ◌<◌, ◌≤◌, ℕ, ◌+◌, Bool, true, false, cond, List, [], ◌∷◌, ◌++◌, length, take, get_or, map, filter, refl, sym, ap, ap₂, ◌∙◌, subst, arith}
+use Rattle.std.proofs.Common.{◌≡◌, ◌<◌, ◌≤◌, ℕ, ◌+◌, Bool, true, false, cond, List, [], ◌∷◌, ◌++◌, length, take, get_or, map, filter, refl, sym, ap, ◌∙◌, subst, arith}
 use Rattle.std.specs.Prelude.{◌&&◌, Option, Some, None, IfSome, option_to_list}
 use Rattle.std.specs.List.{list_any}
-use Rattle.std.proofs.Math.Bool.{and-false}
 use Rattle.std.proofs.Math.Seq.{take-append_seam}
 use Rattle.std.proofs.lemmas.List.{append-nil, append_assoc, get_or_append_left, length-append, map-append}
 use Rattle.sip_ledger.specs.declared.debt.Debt.{Debt}
@@ -28,11 +27,6 @@ left_by message t owes = filter (counts_at t) (paid_by message t owes)
 unpaid-row : (message t : ℕ) (owes : List Debt) → is_paid message t owes ≡ false → [] ≡ paid_rows message t (owes ∷ [])
 unpaid-row message t owes is = ap (λ b. map (left_by message t) (cond b (owes ∷ []) [])) (sym is)
 
--- a row that must send something that is past is left out
-pub late-row : (message t : ℕ) (owes : List Debt) → is_timely t owes ≡ false → [] ≡ paid_rows message t (owes ∷ [])
-late-row message t owes late =
-    unpaid-row message t owes (ap (λ b. list_any (is_payable message t) owes && b) late ∙ and-false (list_any (is_payable message t) owes))
-
 -- a row with no debt that the send pays is left out
 pub other-row : (message t : ℕ) (owes : List Debt) → list_any (is_payable message t) owes ≡ false → [] ≡ paid_rows message t (owes ∷ [])
 other-row message t owes none = unpaid-row message t owes (ap (λ b. b && is_timely t owes) none)
@@ -40,9 +34,7 @@ other-row message t owes none = unpaid-row message t owes (ap (λ b. b && is_tim
 -- a row that is paid stands there with what is left to it
 pub paid-row : (message t : ℕ) (owes debts : List Debt) → list_any (is_payable message t) owes ≡ true → is_timely t owes ≡ true → debts ≡ left_by message t owes →
     debts ∷ [] ≡ paid_rows message t (owes ∷ [])
-paid-row message t owes debts some timely same =
-    let is : is_paid message t owes ≡ true = ap₂ (λ a b. a && b) some timely in
-    ap (λ l. l ∷ []) same ∙ ap (λ b. map (left_by message t) (cond b (owes ∷ []) [])) (sym is)
+paid-row message t owes debts some timely same = grind (arith)
 
 -- paid rows up to the next row are those up to it, and that row if it is paid
 paid-more : (message t from k : ℕ) (rows : List (List Debt)) → from ≤ k → k < length rows →
@@ -62,14 +54,6 @@ next-left message t from k old owes d debts same low within =
 pub record ArePaidTo (gains : Gains) (message t from k : ℕ) (old : List (List Debt)) (strikes : List Strike) (rows : List Account) : Type 0 where
   pub accounts : AreAccounts gains strikes rows
   pub debts : accounts_debts gains strikes rows ≡ old ++ paid_rows message t (from_to from k old)
-
--- ArePaidTo holds where no row has been looked at
-pub paid-none : (gains : Gains) (message t from : ℕ) (strikes : List Strike) (rows : List Account) → AreAccounts gains strikes rows →
-    from_to from from (accounts_debts gains strikes rows) ≡ [] → ArePaidTo gains message t from from (accounts_debts gains strikes rows) strikes rows
-paid-none gains message t from strikes rows are none = record {
-  accounts = are;
-  debts = sym (ap (λ l. accounts_debts gains strikes rows ++ paid_rows message t l) none ∙ append-nil (accounts_debts gains strikes rows));
-}
 
 module _ {gains : Gains} {message t from k : ℕ} {old : List (List Debt)} {strikes : List Strike} {rows : List Account} where
   -- a row of the old ones is one of the accounts
@@ -111,6 +95,4 @@ module _ {gains : Gains} {message t from k : ℕ} {old : List (List Debt)} {stri
 
   -- the first rows are the old ones still
   pub paid-front : (n : ℕ) → ArePaidTo gains message t from k old strikes rows → n ≡ length old → take n (accounts_debts gains strikes rows) ≡ old
-  paid-front n are is =
-      let more = paid_rows message t (from_to from k old) in
-      ap (take n) are.debts ∙ ap (λ i. take i (old ++ more)) is ∙ take-append_seam old more
+  paid-front n are is = grind (arith, take-append_seam)

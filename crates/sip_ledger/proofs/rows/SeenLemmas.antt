@@ -1,5 +1,6 @@
 -- Accounts as contracts see them: a list of what each row owes.
-use Rattle.std.proofs.Common.{◌≡◌, ◌≢◌, ℕ, ◌+◌, ◌<◌, ◌≤◌, ◌%◌, ◌^◌, ◌==◌, true, false, List, [], ◌∷◌, ◌++◌, length, take, get_or, set, map, refl, sym, ap, ap₂, ◌∙◌, inl, inr, arith}
+use Rattle.std.proofs.Common.{◌≡◌, ◌≢◌, ℕ, ◌+◌, ◌<◌, ◌≤◌, ◌%◌, ◌^◌, ◌==◌, true, false, List, [], ◌∷◌, ◌++◌, length, take, get_or, set, map, refl, sym, ap, ap₂, ◌∙◌, arith}
+use Rattle.std.proofs.lemmas.Bool.Decides.{nat_tests}
 use Rattle.std.specs.Prelude.{IsTrue, Option, Some, None, IfSome, IfNone, Result, Ok, Err, IsErr, OnErr, ◌↔◌, is_err, is_some}
 use Rattle.std.specs.List.{list_any, sum_by}
 use Rattle.std.proofs.lemmas.Bool.{cases_eq, eq-eqb, eqb-true, false_from_ne_true, true≢false}
@@ -53,8 +54,7 @@ module _ {gains : Gains} {strikes : List Strike} {rows : List Account} {seen : L
       let at = account-at row a are view inside (get_or_default rows row none a (row-inside row are view inside)) in
       let few : length (account_debts gains strikes a) ≤ length (entries_of gains) = listed-few (owes_at gains strikes a) (must_at gains a) 0 (entries_of gains) in
       let count = entries-long gains are.gained.long in
-      let small = are.gained.small in
-      omega (arith, ap length at.1, few, count, small)
+      omega (arith, ap length at.1, few, count, are.gained.small)
 
   -- where one of the accounts changes, contracts see its row changed
   pub changed-to : (new : List Strike) (row : ℕ) (a : Account) (debts : List Debt) → take (length strikes) new ≡ strikes →
@@ -82,9 +82,7 @@ module _ {gains : Gains} {strikes : List Strike} {rows : List Account} {seen : L
   -- where the gains may have grown, contracts see the same rows
   pub over-to : (new : Gains) → KeepsAccounts gains new → AreGains new → AreAccounts gains strikes rows → accounts_debts gains strikes rows ≡ seen →
       AreAccounts new strikes rows × (accounts_debts new strikes rows ≡ seen)
-  over-to new keeps gained are view =
-      let all = over gains new strikes rows keeps gained are in
-      (all.0, all.1 ∙ view)
+  over-to new keeps gained are view = grind (arith, over)
 
   -- where an account is put after the others, contracts see one row more
   pub pushed-to : (a : Account) (debts : List Debt) → AreAccounts gains strikes rows →
@@ -131,40 +129,19 @@ soft-debts gains strikes a =
 pub softened-account : (gains : Gains) (strikes : List Strike) (a : Account) → IsAccount gains strikes a →
     IsAccount gains strikes (softened_account (length (entries_of gains)) a) ×
     (account_debts gains strikes (softened_account (length (entries_of gains)) a) ≡ map softened_debt (account_debts gains strikes a))
-softened-account gains strikes a is =
-    let debts = soft-debts gains strikes a in (
-      record {
-        order = is.order;
-        end = is.end;
-        soft = omega arith;
-        first = is.first;
-        last = is.last;
-        bound = is.bound;
-        begins = λ some. soft-owes gains strikes a (length (entries_of gains)) a.start ∙ is.begins some;
-        print = is.print ∙ sym (ap debts_print debts ∙ soft-print (account_debts gains strikes a));
-      },
-      debts,
-    )
+softened-account gains strikes a is = grind (arith, nat_tests, soft-debts, soft-owes, soft-print)
 
 -- an account that does not end where it starts owes something
 nothing-owed : (gains : Gains) (strikes : List Strike) (a : Account) → IsAccount gains strikes a → a.start ≢ a.end → account_debts gains strikes a ≢ []
 unfolding account_debts
 nothing-owed gains strikes a is other none =
-    let order = is.order in
-    let end = is.end in
-    let early : a.start < a.end = omega (arith, order, other) in
-    some-debt (entries_of gains) (owes_at gains strikes a) (must_at gains a) a.start (omega (arith, early, end)) (is.begins early) none
+    let early : a.start < a.end = omega (arith, is.order, other) in
+    some-debt (entries_of gains) (owes_at gains strikes a) (must_at gains a) a.start (omega (arith, early, is.end)) (is.begins early) none
 
 -- an account owes nothing exactly if it ends where it starts
 pub owes-nothing : (gains : Gains) (strikes : List Strike) (a : Account) (debts : List Debt) → IsAccount gains strikes a → account_debts gains strikes a ≡ debts →
     IsTrue (a.start == a.end) ↔ (debts ≡ [])
-owes-nothing gains strikes a debts is owes = (
-  λ same. sym owes ∙ empty-debts gains strikes a (let e = eqb-true a.start a.end same in omega (arith, e)),
-  λ none. elim (cases_eq a.start a.end) [
-    | inl here ↦ eq-eqb a.start a.end here
-    | inr other ↦ absurd (nothing-owed gains strikes a is other (owes ∙ none))
-  ],
-)
+owes-nothing gains strikes a debts is owes = grind (arith, nat_tests, empty-debts, eqb-true, cases_eq, eq-eqb, nothing-owed)
 
 -- a send pays one of the debts of an account exactly if a first one is found
 pub can-pay : (gains : Gains) (strikes : List Strike) (a : Account) (message t : ℕ) (found : Option ℕ) → IsAccount gains strikes a →
@@ -173,9 +150,8 @@ pub can-pay : (gains : Gains) (strikes : List Strike) (a : Account) (message t :
     is_some found ≡ list_any (is_payable message t) (account_debts gains strikes a)
 unfolding account_debts
 can-pay gains strikes a message t (Some place) is some none =
-    let end = is.end in
     sym (listed-any (is_payable message t) (entries_of gains) (owes_at gains strikes a) (must_at gains a) place
-    (omega (arith, owed-within gains strikes a place some.owed, end)) some.owed some.pays)
+    (omega (arith, owed-within gains strikes a place some.owed, is.end)) some.owed some.pays)
 can-pay gains strikes a message t None is some none =
     sym (list_any_none (is_payable message t) (account_debts gains strikes a) (All-weaker (λ debt. ¬ (IsTrue (is_payable message t debt))) (λ debt. is_payable message t debt ≡ false) (λ debt no. false_from_ne_true (is_payable message t debt) no) (account_debts gains strikes a)
     (unpaid-account gains strikes a message t none)))

@@ -1,8 +1,8 @@
 -- Which gains the strikes of an account strike, as strikes are made longer, written and looked for.
-use Rattle.std.proofs.Common.{◌≡◌, ◌≢◌, ℕ, zero, suc, ◌+◌, ◌-◌, ◌<◌, ◌≤◌, ◌==◌, ◌&&◌, ◌||◌, Bool, true, false, cond, List, [], ◌∷◌, ◌++◌, length, take, drop, get_or, set, filter, refl, sym, ap, ap₂, ◌∙◌, subst, arith}
+use Rattle.std.proofs.Common.{◌≡◌, ◌≢◌, ℕ, zero, suc, ◌+◌, ◌-◌, ◌<◌, ◌≤◌, ◌==◌, ◌&&◌, ◌||◌, Bool, true, false, List, [], ◌∷◌, ◌++◌, length, take, drop, get_or, set, filter, refl, sym, ap, ap₂, ◌∙◌, subst, arith}
 use Rattle.std.specs.Prelude.{nat_le, nat_lt}
 use Rattle.std.specs.List.{list_any}
-use Rattle.std.proofs.Math.Bool.{or-false, or_assoc, or_comm}
+use Rattle.std.proofs.Math.Bool.{or-false, or_assoc}
 use Rattle.std.proofs.lemmas.Bool.{true≢false}
 use Rattle.std.proofs.lemmas.Bool.Decides.{nat_tests}
 use Rattle.std.proofs.lemmas.List.Folds.{list_any-append, list_any_at}
@@ -11,62 +11,35 @@ use Rattle.std.proofs.lemmas.List.{drop-append-le, drop-set-add, get_or_default,
 use Rattle.sip_ledger.specs.declared.accounts.account.Account.{Account}
 use Rattle.sip_ledger.specs.declared.accounts.strikes.Strike.{Strike}
 use Rattle.sip_ledger.specs.declared.accounts.gains.Gains.{Gains}
-use Rattle.sip_ledger.specs.inner.Accounts.{IsStruck, IsWritten, Lengthens, Reaches, StrikeToo, entries_of, entry_at, is_left, is_struck, strikes_of, is_out}
+use Rattle.sip_ledger.specs.inner.Accounts.{IsWritten, Lengthens, Reaches, StrikeToo, entries_of, entry_at, is_left, is_struck, strikes_of, is_out}
 use Rattle.sip_ledger.proofs.gains.LeftLemmas.{held-left}
 
 -- the strikes that end after the start
 abbrev pub ending : ℕ → List Strike → List Strike
 ending start strikes = filter (λ s. nat_lt start s.to) strikes
 
--- a strike that ends at the start or before it strikes nothing from there on
-strike-past : (m k start : ℕ) (s : Strike) → start ≤ k → nat_lt start s.to ≡ false → is_out m k s ≡ false
-strike-past m k start s above past = grind (arith, nat_tests)
-
 -- strikes that end at the start or before it may be left out: the others strike the same from there on
 any-ending : (m k start : ℕ) (xs : List Strike) → start ≤ k → list_any (is_out m k) (ending start xs) ≡ list_any (is_out m k) xs
 any-ending m k start [] above = refl
-any-ending m k start (s ∷ xs) above = by (any-ending m k start xs above) (nat_lt start s.to) refl
-  where
-    by : list_any (is_out m k) (ending start xs) ≡ list_any (is_out m k) xs → (b : Bool) → nat_lt start s.to ≡ b →
-        list_any (is_out m k) (cond (nat_lt start s.to) (s ∷ ending start xs) (ending start xs)) ≡ (is_out m k s || list_any (is_out m k) xs)
-    by rest true is = ap (λ b. list_any (is_out m k) (cond b (s ∷ ending start xs) (ending start xs))) is ∙ ap (λ b. is_out m k s || b) rest
-    by rest false is =
-        ap (λ b. list_any (is_out m k) (cond b (s ∷ ending start xs) (ending start xs))) is ∙ rest
-        ∙ sym (ap (λ b. b || list_any (is_out m k) xs) (strike-past m k start s above is))
+any-ending m k start (s ∷ xs) above = grind (arith, nat_tests, any-ending m k start xs above)
 
 -- where no strike passes a test, none of those that end after the start does
 none-ending : (p : Strike → Bool) (start : ℕ) (xs : List Strike) → list_any p xs ≡ false → list_any p (ending start xs) ≡ false
 none-ending p start [] none = refl
-none-ending p start (s ∷ xs) none = by (none-ending p start xs) (p s) refl none (nat_lt start s.to) refl
-  where
-    by : (list_any p xs ≡ false → list_any p (ending start xs) ≡ false) → (b : Bool) → p s ≡ b → (b || list_any p xs) ≡ false → (t : Bool) → nat_lt start s.to ≡ t →
-        list_any p (cond (nat_lt start s.to) (s ∷ ending start xs) (ending start xs)) ≡ false
-    by rest true is none t test = cc
-    by rest false is none true test = ap (λ b. list_any p (cond b (s ∷ ending start xs) (ending start xs))) test ∙ ap (λ b. b || list_any p (ending start xs)) is ∙ rest none
-    by rest false is none false test = ap (λ b. list_any p (cond b (s ∷ ending start xs) (ending start xs))) test ∙ rest none
+none-ending p start (s ∷ xs) none = grind (arith, none-ending p start xs)
 
 -- where the strike at a place is replaced, some strike passes if one did before, or if q holds
 any-set : (p : Strike → Bool) (q : Bool) (xs : List Strike) (at : ℕ) (s : Strike) → at < length xs → p s ≡ (p (get_or xs at s) || q) →
     list_any p (set xs at s) ≡ (list_any p xs || q)
-any-set p q [] at s within same = absurd (omega (arith, within))
-any-set p q (x ∷ xs) zero s within same =
-    ap (λ b. b || list_any p xs) same ∙ or_assoc (p x) q (list_any p xs) ∙ ap (λ b. p x || b) (or_comm q (list_any p xs)) ∙ sym (or_assoc (p x) (list_any p xs) q)
-any-set p q (x ∷ xs) (suc at) s within same =
-    ap (λ b. p x || b) (any-set p q xs at s (omega (arith, within)) same) ∙ sym (or_assoc (p x) (list_any p xs) q)
+any-set p q [] at s within same = grind arith
+any-set p q (x ∷ xs) zero s within same = grind arith
+any-set p q (x ∷ xs) (suc at) s within same = grind (arith, any-set p q xs at s)
 
 -- where no strike passes, none passes after one that does not pass took the place of another
 none-set : (p : Strike → Bool) (xs : List Strike) (at : ℕ) (s : Strike) → p s ≡ false → list_any p xs ≡ false → list_any p (set xs at s) ≡ false
 none-set p [] at s not none = refl
-none-set p (x ∷ xs) zero s not none = by (p x) none
-  where
-    by : (b : Bool) → (b || list_any p xs) ≡ false → (p s || list_any p xs) ≡ false
-    by true none = cc
-    by false none = ap (λ b. b || list_any p xs) not ∙ none
-none-set p (x ∷ xs) (suc at) s not none = by (none-set p xs at s not) (p x) refl none
-  where
-    by : (list_any p xs ≡ false → list_any p (set xs at s) ≡ false) → (b : Bool) → p x ≡ b → (b || list_any p xs) ≡ false → (p x || list_any p (set xs at s)) ≡ false
-    by rest true is none = cc
-    by rest false is none = ap (λ b. b || list_any p (set xs at s)) is ∙ rest none
+none-set p (x ∷ xs) zero s not none = grind arith
+none-set p (x ∷ xs) (suc at) s not none = grind (arith, none-set p xs at s)
 
 -- a strike that is made longer up to a place strikes the gain there too, and nothing else that is left
 longer-out : (m mp sm from to place k : ℕ) → sm ≡ mp → from ≤ place → to ≤ place → (to ≤ k → k < place → m ≢ mp) → (k ≡ place → m ≡ mp) →
@@ -100,9 +73,7 @@ lengthened gains place k old at s within reaches left =
 pub lengthened-bound : (gains : Gains) (place m k : ℕ) (old : List Strike) (at : ℕ) (s : Strike) → place < k → is_struck old m k ≡ false →
     is_struck (set old at (record { message = (get_or old at s).message; from = (get_or old at s).from; to = place + 1 })) m k ≡ false
 unfolding is_struck
-lengthened-bound gains place m k old at s past none =
-    let was = get_or old at s in
-    none-set (is_out m k) old at (record { message = was.message; from = was.from; to = place + 1 }) (past-out m was.message was.from place k past) none
+lengthened-bound gains place m k old at s past none = grind (arith, none-set, past-out)
 
 -- strikes with one more strike what they struck and what the new one strikes
 pub struck-push : (xs : List Strike) (s : Strike) (m k : ℕ) → is_struck (xs ++ s ∷ []) m k ≡ (is_struck xs m k || is_out m k s)
@@ -117,11 +88,7 @@ struck-next xs at m k d within = ap (λ l. is_struck l m k) (take_more xs at d w
 added : (gains : Gains) (place k : ℕ) (old : List Strike) →
     is_struck (old ++ (record { message = (entry_at (entries_of gains) place).message; from = place; to = place + 1 }) ∷ []) (entry_at (entries_of gains) k).message k
     ≡ (is_struck old (entry_at (entries_of gains) k).message k || k == place)
-added gains place k old =
-    let m = (entry_at (entries_of gains) k).message in
-    let mp = (entry_at (entries_of gains) place).message in
-    struck-push old (record { message = mp; from = place; to = place + 1 }) m k
-    ∙ ap (λ b. is_struck old m k || b) (one-out m mp place k (λ is. ap (λ n. (entry_at (entries_of gains) n).message) is))
+added gains place k old = grind (arith, nat_tests, struck-push, one-out)
 
 -- where a strike of one place is put after the others, nothing more is struck after the place
 added-bound : (m mp place k : ℕ) (old : List Strike) → place < k → is_struck old m k ≡ false →
@@ -191,42 +158,12 @@ none-too from to k w order = sym (ap (λ b. w || b) (none-between from to k orde
 
 -- IsWritten holds once the account's strikes are written
 pub written-none : (gains : Gains) (from : ℕ) (old new : List Strike) (a : Account) → new ≡ old ++ ending a.start (strikes_of old a) → IsWritten gains from from old new a
-written-none gains from old new a is =
-    let own = strikes_of old a in
-    let rest : drop (length old) new ≡ ending a.start own = ap (drop (length old)) is ∙ drop-append_seam old (ending a.start own) in
-    record {
-      kept = ap (take (length old)) is ∙ take-append_seam old (ending a.start own);
-      struck = λ k above left.
-          let m = (entry_at (entries_of gains) k).message in
-          ap (λ l. is_struck l m k) rest ∙ struck-ending m k a.start own above ∙ none-too from from k (is_struck own m k) (omega arith);
-      bound = λ m k past none. ap (λ l. is_struck l m k) rest ∙ bound-ending m k a.start own none;
-    }
+written-none gains from old new a is = grind (arith, nat_tests, drop-append_seam, take-append_seam, struck-ending, none-too, bound-ending)
 
 -- IsWritten goes on with the gain at the next place, where it is struck too
 pub written-more : (gains : Gains) (from at : ℕ) (old one new : List Strike) (a : Account) → IsWritten gains from at old one a → StrikeToo gains at (length old) one new → from ≤ at →
     at < length (entries_of gains) → IsWritten gains from (at + 1) old new a
-written-more gains from at old one new a w too low inside = record {
-  kept = too.before ∙ w.kept;
-  struck = λ k above left.
-      let was = is_struck (strikes_of old a) (entry_at (entries_of gains) k).message k in
-      too.struck k left ∙ ap (λ b. b || k == at) (w.struck k above left)
-      ∙ or_assoc was (nat_le from k && nat_lt k at) (k == at) ∙ ap (λ b. was || b) (one-more from at k low);
-  bound = λ m k past none. too.bound m k (omega (arith, past, inside)) (w.bound m k past none);
-}
-
--- where no gain stands between the end of an account and the place, the account as it is has them all struck
-pub struck-none : (gains : Gains) (place : ℕ) (strikes : List Strike) (a : Account) → a.first ≤ a.last → a.last ≤ length strikes → a.end ≡ place →
-    IsStruck gains a.end place strikes strikes a a
-struck-none gains place strikes a first last here = record {
-  start = refl;
-  end = refl;
-  soft = refl;
-  print = refl;
-  first = first;
-  last = last;
-  struck = λ k above left. none-too a.end place k (is_struck (strikes_of strikes a) (entry_at (entries_of gains) k).message k) (omega (arith, here));
-  bound = λ m k past none. none;
-}
+written-more gains from at old one new a w too low inside = grind (arith, nat_tests, or_assoc, one-more)
 
 -- no strikes strike nothing
 pub none-struck : (m k : ℕ) → is_struck [] m k ≡ false
@@ -236,8 +173,7 @@ none-struck m k = refl
 -- where the first i strikes do not strike the place, and the next one does not, the first i + 1 do not
 pub struck-more : (xs : List Strike) (i m k : ℕ) (s : Strike) → i < length xs → is_struck (take i xs) m k ≡ false → is_out m k (get_or xs i s) ≡ false →
     is_struck (take (i + 1) xs) m k ≡ false
-struck-more xs i m k s within none not =
-    struck-next xs i m k s within ∙ ap₂ (λ a b. a || b) none not
+struck-more xs i m k s within none not = struck-next xs i m k s within ∙ ap₂ (λ a b. a || b) none not
 
 -- a strike strikes a place between its own places, under its message
 out-yes : (m from to sm k : ℕ) → sm ≡ m → from ≤ k → k < to → (sm == m && (nat_le from k && nat_lt k to)) ≡ true
@@ -246,9 +182,7 @@ out-yes m from to sm k is low high = grind (arith, nat_tests)
 -- where one of the strikes is of the message and has the place between its own, the place is struck
 pub struck-by : (xs : List Strike) (i m k : ℕ) (s : Strike) → i < length xs → (get_or xs i s).message ≡ m → (get_or xs i s).from ≤ k → k < (get_or xs i s).to → is_struck xs m k ≡ true
 unfolding is_struck
-struck-by xs i m k s within is low high =
-    let was = get_or xs i s in
-    list_any_at (is_out m k) xs i s within (out-yes m was.from was.to was.message k is low high)
+struck-by xs i m k s within is low high = grind (arith, list_any_at, out-yes)
 
 -- what a strike strikes stands at its first place or after it
 pub out-low : (m sm from to k : ℕ) → (sm == m && (nat_le from k && nat_lt k to)) ≡ true → from ≤ k
@@ -265,12 +199,7 @@ out-is m sm from to k is = grind (arith, nat_tests)
 -- where a strike strikes a place, it strikes each place from there up to its end
 pub out-struck : (xs : List Strike) (i m k : ℕ) (s : Strike) → i < length xs → is_out m k (get_or xs i s) ≡ true →
     (k < (get_or xs i s).to) × ((j : ℕ) → k ≤ j → j < (get_or xs i s).to → is_struck xs m j ≡ true)
-out-struck xs i m k s within out =
-    let was = get_or xs i s in
-    let low = out-low m was.message was.from was.to k out in (
-      out-high m was.message was.from was.to k out,
-      λ j above below. struck-by xs i m j s within (out-is m was.message was.from was.to k out) (omega (arith, low, above)) below,
-    )
+out-struck xs i m k s within out = grind (arith, nat_tests, out-low, out-high, struck-by, out-is)
 
 -- a strike strikes nothing at its end or after it
 pub struck-by_end : (m k sm from to : ℕ) → to ≤ k → (sm == m && (nat_le from k && nat_lt k to)) ≡ false

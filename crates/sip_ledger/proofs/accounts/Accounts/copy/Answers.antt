@@ -1,4 +1,3 @@
-use Rattle.std.proofs.Common.{◌<◌, length, set, arith}
 use Rattle.std.proofs.Math.Seq.{take-length}
 use Rattle.sip_ledger.specs.Accounts.{owed_in}
 use Rattle.sip_ledger.proofs.rows.SeenLemmas.{account-at, changed-to}

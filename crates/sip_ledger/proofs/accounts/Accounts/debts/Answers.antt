@@ -1,13 +1,9 @@
-use Rattle.std.proofs.Common.{◌≡◌, length, take, ap, ◌∙◌, arith}
+use Rattle.std.proofs.Common.{take, ap, ◌∙◌, arith}
 use Rattle.std.proofs.lemmas.List.{take_all}
 use Rattle.std.proofs.lemmas.Result.{IfOk-weaker}
 use Rattle.sip_ledger.specs.Accounts.{owed_in}
 use Rattle.sip_ledger.proofs.rows.SeenLemmas.{account-at, row-few}
 use Rattle.sip_ledger.proofs.accounts.Accounts.debts.Goals as goal
-
-pub first_debts-requires-clause-account : goal.first_debts-requires-clause-account
-first_debts-requires-clause-account c =
-    rw c.deref.ensures.value (account-at c.args.row c.index.result.now c.self.invariant c.self.view_is c.requires c.index.ensures).0
 
 pub returns : goal.returns
 returns c =

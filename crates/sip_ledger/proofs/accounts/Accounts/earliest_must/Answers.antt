@@ -1,13 +1,9 @@
-use Rattle.std.proofs.Common.{◌<◌, length, ap, ◌∙◌, arith}
+use Rattle.std.proofs.Common.{ap, ◌∙◌}
 use Rattle.sip_ledger.specs.declared.debt.Debt.{Debt}
 use Rattle.std.proofs.Common.{List}
 use Rattle.sip_ledger.specs.Debts.{debt_deadlines, earliest}
 use Rattle.sip_ledger.proofs.rows.SeenLemmas.{account-at}
 use Rattle.sip_ledger.proofs.accounts.Accounts.earliest_must.Goals as goal
-
-pub earliest_must-requires-clause-account : goal.earliest_must-requires-clause-account
-earliest_must-requires-clause-account c =
-    rw c.deref.ensures.value (account-at c.args.row c.index.result.now c.self.invariant c.self.view_is c.requires c.index.ensures).0
 
 pub returns : goal.returns
 returns c =

@@ -1,15 +1,10 @@
-use Rattle.std.proofs.Common.{◌<◌, length, set, filter, arith}
+use Rattle.std.proofs.Common.{filter}
 use Rattle.sip_ledger.specs.Debts.{counts_at}
-use Rattle.sip_ledger.proofs.rows.SeenLemmas.{account-at, changed-by, on-error, unchanged}
+use Rattle.sip_ledger.proofs.rows.SeenLemmas.{changed-by, on-error, unchanged}
 use Rattle.sip_ledger.proofs.accounts.Accounts.expire.Goals as goal
 
-pub expired-requires-clause-account : goal.expired-requires-clause-account
-expired-requires-clause-account c =
-    (account-at c.args.row c.index.result.now c.self.invariant c.self.view_is c.requires c.index.ensures).0
-
 pub invariant_of-self : goal.invariant_of-self
-invariant_of-self c =
-    (unchanged c.expired.new.strikes.items c.expired.ensures.kept c.self.invariant c.self.view_is).0
+invariant_of-self c = (unchanged c.expired.new.strikes.items c.expired.ensures.kept c.self.invariant c.self.view_is).0
 
 pub returns-in_err-self-inside-clause-err : goal.returns-in_err-self-inside-clause-err
 returns-in_err-self-inside-clause-err c =

@@ -1,4 +1,6 @@
 use Rattle.std.proofs.Common.{List, subst, arith}
+use Rattle.std.proofs.lemmas.Grind.{common_steps}
+use Rattle.std.proofs.lemmas.Bool.Decides.{nat_tests}
 use Rattle.std.specs.Prelude.{All}
 use Rattle.sip_ledger.specs.declared.debt.Debt.{Debt}
 use Rattle.sip_ledger.specs.Debts.{IsWithoutFirst, PaysOne, paid_by}
@@ -8,15 +10,8 @@ use Rattle.sip_ledger.proofs.account.FirstLemmas.{first-account, none-account}
 use Rattle.sip_ledger.proofs.rows.SeenLemmas.{account-at}
 use Rattle.sip_ledger.proofs.accounts.Accounts.first_payable.Goals as goal
 
-pub find_one-requires-clause-account : goal.find_one-requires-clause-account
-find_one-requires-clause-account c =
-    rw c.deref.ensures.value (account-at c.args.row c.index.result.now c.self.invariant c.self.view_is c.requires c.index.ensures).0
-
 pub entry-requires-clause-kept : goal.entry-requires-clause-kept
-entry-requires-clause-kept c =
-    let s = c.self.inside in
-    let found = rw (c.in-Some.is, c.deref.ensures.value) at c.find_one.ensures in
-    left-kept s.gains c.in-Some.place c.self.invariant.gained (owed-left s.gains s.strikes.items c.index.result.now c.in-Some.place found.0)
+entry-requires-clause-kept c = grind (arith, nat_tests, common_steps, left-kept, owed-left)
 
 pub returns-in-Some-clause-some : goal.returns-in-Some-clause-some
 returns-in-Some-clause-some c =

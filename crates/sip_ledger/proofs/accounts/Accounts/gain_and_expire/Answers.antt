@@ -1,16 +1,7 @@
-use Rattle.std.proofs.Common.{◌<◌, length, set, filter, [], ◌∷◌, ◌++◌, arith}
+use Rattle.std.proofs.Common.{filter, [], ◌∷◌, ◌++◌, arith}
 use Rattle.sip_ledger.specs.Debts.{counts_at}
-use Rattle.sip_ledger.proofs.rows.SeenLemmas.{account-at, changed-by, on-error, over-to, unchanged}
+use Rattle.sip_ledger.proofs.rows.SeenLemmas.{changed-by, on-error, over-to, unchanged}
 use Rattle.sip_ledger.proofs.accounts.Accounts.gain_and_expire.Goals as goal
-
-pub place_for-requires-clause-account : goal.place_for-requires-clause-account
-place_for-requires-clause-account c =
-    rw c.deref.ensures.value (account-at c.args.row c.index-account.result.now c.self.invariant c.self.view_is c.requires c.index-account.ensures).0
-
-pub gained_and_expired-requires-clause-account : goal.gained_and_expired-requires-clause-account
-gained_and_expired-requires-clause-account c =
-    let all = over-to c.place_for.new.gains c.place_for.ensures.kept c.place_for.ensures.gained c.self.invariant c.self.view_is in
-    (account-at c.args.row c.index-account.result.now all.0 all.1 c.requires c.index-account.ensures).0
 
 pub invariant_of-self-in_err-self-inside : goal.invariant_of-self-in_err-self-inside
 invariant_of-self-in_err-self-inside c =
@@ -18,9 +9,7 @@ invariant_of-self-in_err-self-inside c =
     (unchanged c.gained_and_expired.new.strikes.items c.gained_and_expired.ensures.kept all.0 all.1).0
 
 pub returns-in_err-self-inside-clause-err : goal.returns-in_err-self-inside-clause-err
-returns-in_err-self-inside-clause-err c =
-    let all = over-to c.place_for.new.gains c.place_for.ensures.kept c.place_for.ensures.gained c.self.invariant c.self.view_is in
-    on-error c.from_residual-in_err-self-inside.result c.from_residual-in_err-self-inside.ensures.0 (unchanged c.gained_and_expired.new.strikes.items c.gained_and_expired.ensures.kept all.0 all.1).1
+returns-in_err-self-inside-clause-err c = grind (arith, over-to, on-error, unchanged)
 
 pub invariant_of-self-2 : goal.invariant_of-self-2
 invariant_of-self-2 c =

@@ -1,12 +1,8 @@
-use Rattle.std.proofs.Common.{List, ap, ◌∙◌, arith}
+use Rattle.std.proofs.Common.{List, ap, ◌∙◌}
 use Rattle.sip_ledger.specs.declared.debt.Debt.{Debt}
 use Rattle.sip_ledger.specs.Debts.{is_timely}
 use Rattle.sip_ledger.proofs.rows.SeenLemmas.{account-at}
 use Rattle.sip_ledger.proofs.accounts.Accounts.is_timely.Goals as goal
-
-pub is_timely-requires-clause-account : goal.is_timely-requires-clause-account
-is_timely-requires-clause-account c =
-    rw c.deref.ensures.value (account-at c.args.row c.index.result.now c.self.invariant c.self.view_is c.requires c.index.ensures).0
 
 pub returns : goal.returns
 returns c =

@@ -1,27 +1,12 @@
 use Rattle.std.proofs.Common.{◌<◌, [], length, ◌∙◌, arith}
+use Rattle.std.proofs.lemmas.Grind.{common_steps}
+use Rattle.std.proofs.lemmas.Bool.Decides.{nat_tests}
 use Rattle.std.proofs.lemmas.List.Elements.{All-get_or}
 use Rattle.sip_ledger.proofs.lists.KeepLemmas.{rise-above, rise-few, kept-more, kept-all}
 use Rattle.sip_ledger.proofs.accounts.Accounts.keep.Goals as goal
 
-pub copy-requires-clause-from : goal.copy-requires-clause-from
-copy-requires-clause-from c =
-    let was = c.loop-to.invariant in
-    let long = was.long in
-    let to = c.loop-to.to in
-    let places = c.args.rows.now in
-    let old = c.args.self.now in
-    let inside : to < length places = omega arith in
-    omega (arith, long, All-get_or (λ place. place < length old) places to 0 inside c.requires.within)
-
 pub copy-requires-clause-to : goal.copy-requires-clause-to
-copy-requires-clause-to c =
-    let was = c.loop-to.invariant in
-    let long = was.long in
-    let to = c.loop-to.to in
-    let places = c.args.rows.now in
-    let old = c.args.self.now in
-    let inside : to < length places = omega arith in
-    omega (arith, long, rise-above places to c.requires.rising inside, All-get_or (λ place. place < length old) places to 0 inside c.requires.within)
+copy-requires-clause-to c = grind (arith, nat_tests, common_steps, rise-above, All-get_or)
 
 pub loop-to-preserved : goal.loop-to-preserved
 loop-to-preserved c =

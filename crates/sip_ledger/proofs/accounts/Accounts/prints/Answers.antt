@@ -2,13 +2,8 @@ use Rattle.std.proofs.Common.{◌≡◌, ◌+◌, ◌-◌, ◌<◌, [], ◌∷�
 use Rattle.std.proofs.lemmas.Bool.{cases_lt}
 use Rattle.std.proofs.lemmas.List.{get_or_append_left, get_or_push, length_push}
 use Rattle.sip_ledger.specs.Accounts.{debts_print, owed_in}
-use Rattle.sip_ledger.proofs.rows.SeenLemmas.{account-at, row-inside}
+use Rattle.sip_ledger.proofs.rows.SeenLemmas.{account-at}
 use Rattle.sip_ledger.proofs.accounts.Accounts.prints.Goals as goal
-
-pub index-requires : goal.index-requires
-index-requires c =
-    let inside : c.loop-row.row < length c.args.self.now = omega arith in
-    omega (arith, row-inside c.loop-row.row c.self.invariant c.self.view_is inside, c.self.inside.rows.ok.0)
 
 pub loop-row-preserved : goal.loop-row-preserved
 loop-row-preserved c =
@@ -21,16 +16,15 @@ loop-row-preserved c =
     let inside : k < length v = omega arith in
     let is = account-at k a c.self.invariant c.self.view_is inside c.index.ensures in
     let items : c.push_reserved.new.self.items ≡ now ++ a.print ∷ [] = c.push_reserved.ensures.items in
-    let order = was.0 in
     let long : length now ≡ k - from = was.2 in (
-      omega (arith, order),
+      omega (arith, was.0),
       inl (omega arith),
-      omega (arith, order, long, ap length items, length_push now a.print),
+      omega (arith, was.0, long, ap length items, length_push now a.print),
       omega (arith, was.3, c.push_reserved.ensures.capacity),
       λ j below. elim (cases_lt (from + j) k) [
         | inl early ↦ ap (λ l. get_or l j 0) items ∙ get_or_append_left now (a.print ∷ []) 0 j (omega (arith, early, long)) ∙ was.4 j early
         | inr late ↦
-            let end : length now ≡ j = omega (arith, late, below, long, order) in
+            let end : length now ≡ j = omega (arith, late, below, long, was.0) in
             let here : k ≡ from + j = omega (arith, late, below) in
             ap (λ l. get_or l j 0) items ∙ get_or_push now a.print 0 j end ∙ is.0.print ∙ ap debts_print is.1 ∙ ap (λ (n : ℕ). debts_print (owed_in v n)) here
       ],

@@ -1,12 +1,6 @@
-use Rattle.std.proofs.Common.{◌<◌, length, ◌++◌, ◌∷◌, [], arith}
 use Rattle.sip_ledger.specs.Accounts.{owed_in}
 use Rattle.sip_ledger.proofs.rows.SeenLemmas.{account-at, pushed-to}
 use Rattle.sip_ledger.proofs.accounts.Accounts.push_copy.Goals as goal
-
-pub invariant_of-self-2 : goal.invariant_of-self-2
-invariant_of-self-2 c =
-    let is = account-at c.args.row c.index.result.now c.self.invariant c.self.view_is c.requires c.index.ensures in
-    rw c.in_ok-push.ensures.items (pushed-to c.index.result.now (owed_in c.args.self.now c.args.row) c.self.invariant c.self.view_is is.0 is.1).0
 
 pub returns-clause-ok : goal.returns-clause-ok
 returns-clause-ok c =

@@ -1,14 +1,6 @@
-use Rattle.std.proofs.Common.{◌<◌, length, sym, ◌∙◌, arith}
+use Rattle.std.proofs.Common.{sym, ◌∙◌}
 use Rattle.sip_ledger.proofs.rows.SeenLemmas.{account-at}
 use Rattle.sip_ledger.proofs.accounts.Accounts.same.Goals as goal
-
-pub same-requires-clause-one : goal.same-requires-clause-one
-same-requires-clause-one c =
-    rw c.deref.ensures.value (account-at c.args.row c.index.result.now c.self.invariant c.self.view_is c.requires.row c.index.ensures).0
-
-pub same-requires-clause-other : goal.same-requires-clause-other
-same-requires-clause-other c =
-    rw c.deref.ensures.value (account-at c.args.other c.index-2.result.now c.self.invariant c.self.view_is c.requires.other c.index-2.ensures).0
 
 pub returns : goal.returns
 returns c =

@@ -1,4 +1,4 @@
-use Rattle.std.proofs.Common.{◌≡◌, ◌<◌, length, map, set, subst, sym, arith}
+use Rattle.std.proofs.Common.{◌≡◌, length, map, set, subst, sym}
 use Rattle.std.proofs.Math.Seq.{take-length}
 use Rattle.sip_ledger.specs.Accounts.{owed_in}
 use Rattle.sip_ledger.specs.Debts.{softened_debt}

@@ -1,26 +1,17 @@
-use Rattle.std.proofs.Common.{◌<◌, ◌≤◌, ◌∙◌, ap, filter, refl, sym, arith}
+use Rattle.std.proofs.Common.{sym, arith}
+use Rattle.std.proofs.lemmas.Grind.{common_steps}
+use Rattle.std.proofs.lemmas.Bool.Decides.{nat_tests}
 use Rattle.std.proofs.Math.Seq.{take-length}
-use Rattle.sip_ledger.specs.inner.Accounts.{must_at, owes_at}
-use Rattle.sip_ledger.specs.Debts.{counts_at}
-use Rattle.sip_ledger.proofs.account.AccountLemmas.{empty-debts, kept-passed, kept-twice}
+use Rattle.sip_ledger.proofs.account.AccountLemmas.{empty-debts, kept-passed}
 use Rattle.sip_ledger.proofs.account.ExpiringLemmas.{expired-end, expired-rising, expired-start}
 use Rattle.sip_ledger.proofs.rows.GainEachLemmas.{none-goes}
 use Rattle.sip_ledger.proofs.accounts.account.expired.Goals as goal
 
 pub loop-place-init : goal.loop-place-init
-loop-place-init c = record {
-  kept = take-length c.args.strikes.now.items;
-  low = omega arith;
-  account = c.requires.account;
-  soft = refl;
-  gone = expired-start c.args.moment c.args.gains.now c.args.strikes.now.items (must_at c.args.gains.now c.args.account) c.args.account;
-}
+loop-place-init c = grind (arith, nat_tests, common_steps, take-length, expired-start)
 
 pub returns-then-account-clause-debts : goal.returns-then-account-clause-debts
-returns-then-account-clause-debts c =
-    let here = c.if-account.true in
-    let none = empty-debts c.args.gains.now c.args.strikes.now.items c.args.account (omega (arith, here)) in
-    none ∙ sym (ap (filter (counts_at c.args.moment)) none)
+returns-then-account-clause-debts c = grind (arith, nat_tests, common_steps, empty-debts)
 
 pub returns-then-all_count-clause-debts : goal.returns-then-all_count-clause-debts
 returns-then-all_count-clause-debts c =
@@ -43,20 +34,5 @@ returns-then-moment-entry-clause-debts c =
     c.if-gains.true (kept-passed c.loop-place.place c.requires.gained c.requires.account (omega (arith, c.requires.account.order, c.if-account.false)) was.low (omega (arith, c.loop-place-test.true, was.account.end)))
     (rw c.entry.ensures at c.if-moment-entry.true) was.gone
 
-pub loop-place-preserved : goal.loop-place-preserved
-loop-place-preserved c =
-    let was = c.loop-place.invariant in
-    let now = c.in_ok-left.ensures in
-    let low = was.low in
-    record {
-      low = omega (arith, low);
-      kept = kept-twice c.args.strikes.now.items c.loop-place.strikes.items c.expired_at.new.strikes.items was.kept c.expired_at.ensures.kept;
-      account = now.account;
-      soft = now.soft ∙ was.soft;
-      gone = now.gone c.args.account (owes_at c.args.gains.now c.args.strikes.now.items c.args.account) was.soft was.gone;
-    }
-
 pub returns-clause-debts : goal.returns-clause-debts
-returns-clause-debts c =
-    let was = c.loop-place.invariant in
-    expired-end c.args.gains.now c.args.strikes.now.items c.loop-place.strikes.items c.args.account c.loop-place.left c.args.moment c.loop-place.place was.soft c.loop-place-test.false was.gone
+returns-clause-debts c = grind (arith, nat_tests, common_steps, expired-end)

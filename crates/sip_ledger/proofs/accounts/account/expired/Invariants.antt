@@ -1,5 +1,5 @@
-use Rattle.std.proofs.Common.{◌≡◌, ◌≤◌, ◌-◌, length, take}
-use Rattle.sip_ledger.specs.inner.Accounts.{IsAccount, entries_of, must_at, owes_at}
+use Rattle.std.proofs.Common.{◌-◌, length}
+use Rattle.sip_ledger.specs.inner.Accounts.{entries_of}
 use Rattle.sip_ledger.proofs.account.ExpiringLemmas.{IsExpiring}
 use Rattle.sip_ledger.proofs.accounts.account.expired.Given as goal
 

@@ -1,4 +1,6 @@
-use Rattle.std.proofs.Common.{◌<◌, ◌≤◌, length, sym, ◌∙◌, true≢false, arith}
+use Rattle.std.proofs.Common.{length, true≢false, arith}
+use Rattle.std.proofs.lemmas.Grind.{common_steps}
+use Rattle.std.proofs.lemmas.Bool.Decides.{nat_tests}
 use Rattle.sip_ledger.specs.inner.Accounts.{entries_of, owes_at}
 use Rattle.sip_ledger.proofs.account.AccountLemmas.{owed-within}
 use Rattle.sip_ledger.proofs.account.FindLemmas.{first-payable, none-pays_late, none-pays_struck, none-pays_to}
@@ -6,11 +8,7 @@ use Rattle.sip_ledger.proofs.account.WithoutLemmas.{before-start}
 use Rattle.sip_ledger.proofs.accounts.account.find.Goals as goal
 
 pub loop-place-init : goal.loop-place-init
-loop-place-init c = (
-  omega arith,
-  λ k early owed. absurd (true≢false (sym owed ∙ before-start c.args.gains.now c.args.strikes.now c.args.account k early)),
-  c.requires.seek,
-)
+loop-place-init c = grind (arith, nat_tests, common_steps, true≢false, before-start)
 
 pub returns-then-account-place-clause-none : goal.returns-then-account-place-clause-none
 returns-then-account-place-clause-none c = λ k owed.
@@ -23,10 +21,8 @@ loop-place-preserved-in-Some-struck_to c =
     let s = c.args.strikes.now in
     let a = c.args.account in
     let some = rw c.own-own.ensures at c.in-Some-struck_to.ensures.some in
-    let past = some.0 in
-    let order = c.in-Some.ensures.next.order in
     let start = c.loop-place.invariant.0 in (
-      omega (arith, past, order, start),
+      omega (arith, some.0, c.in-Some.ensures.next.order, start),
       none-pays_struck g s a c.args.message c.args.moment c.in-Some.place c.in-Some-struck_to.to
           (none-pays_to g s a c.args.message c.args.moment c.loop-place.from c.in-Some.place c.loop-place.invariant.1 c.in-Some.ensures.next.before) some.1,
       c.next.ensures.seek,
@@ -56,9 +52,8 @@ loop-place-preserved c =
     let g = c.args.gains.now in
     let s = c.args.strikes.now in
     let a = c.args.account in
-    let order = c.in-Some.ensures.next.order in
     let start = c.loop-place.invariant.0 in (
-      omega (arith, order, start),
+      omega (arith, c.in-Some.ensures.next.order, start),
       none-pays_late (entries_of g) (owes_at g s a) c.args.message c.args.moment c.in-Some.place
           (none-pays_to g s a c.args.message c.args.moment c.loop-place.from c.in-Some.place c.loop-place.invariant.1 c.in-Some.ensures.next.before) (rw c.entry.ensures at c.if-moment-entry.false),
       c.next.ensures.seek,

@@ -1,14 +1,13 @@
-use Rattle.std.proofs.Common.{◌≤◌, length, sym, take, ap, ◌∙◌, arith}
+use Rattle.std.proofs.Common.{arith}
+use Rattle.std.proofs.lemmas.Grind.{common_steps}
+use Rattle.std.proofs.lemmas.Bool.Decides.{nat_tests}
 use Rattle.std.proofs.lemmas.List.{take_all}
 use Rattle.sip_ledger.proofs.account.AccountLemmas.{kept-from}
 use Rattle.sip_ledger.proofs.account.ToldLemmas.{told-all, told-first, told-more, told-none}
 use Rattle.sip_ledger.proofs.accounts.account.first_debts.Goals as goal
 
 pub loop-place-init : goal.loop-place-init
-loop-place-init c = record {
-  told = told-none c.requires.account c.new-debts.ensures.items;
-  few = (let none = c.new-debts.ensures.items in rw none (omega arith));
-}
+loop-place-init c = grind (arith, nat_tests, common_steps, told-none)
 
 pub debt_for-requires-clause-kept : goal.debt_for-requires-clause-kept
 debt_for-requires-clause-kept c = kept-from c.loop-place.place c.requires.gained c.requires.account c.loop-place.invariant.told.low c.loop-place-test.true
@@ -23,12 +22,7 @@ loop-place-preserved c =
     }
 
 pub returns-then-len-most : goal.returns-then-len-most
-returns-then-len-most c =
-    let many = c.if-len-most.true in
-    told-first c.requires.account c.loop-place.invariant.told (omega (arith, many))
+returns-then-len-most c = told-first c.requires.account c.loop-place.invariant.told (omega (arith, c.if-len-most.true))
 
 pub returns : goal.returns
-returns c =
-    let was = c.loop-place.invariant in
-    let few = was.few in
-    sym (take_all c.args.most c.loop-place.debts.items few) ∙ ap (take c.args.most) (told-all c.requires.account was.told c.loop-place-test.false)
+returns c = grind (arith, take_all, told-all)

@@ -1,4 +1,4 @@
-use Rattle.std.proofs.Common.{◌<◌, ◌≤◌, ◌⊎◌, inl, inr, length, sym, ◌∙◌, arith}
+use Rattle.std.proofs.Common.{◌<◌, inl, inr, length, sym, ◌∙◌, arith}
 use Rattle.std.proofs.lemmas.Bool.{cases_lt}
 use Rattle.sip_ledger.specs.inner.Accounts.{entries_of}
 use Rattle.sip_ledger.proofs.gains.LeftLemmas.{entries-long, left-kept, owed-left}
@@ -9,9 +9,8 @@ use Rattle.sip_ledger.proofs.accounts.account.least_must.Goals as goal
 pub loop-place-init : goal.loop-place-init
 loop-place-init c =
     let start = c.args.account.start in
-    let soft = c.args.account.soft in
     let from = c.max-from.ensures in
-    least-first c.args.gains.now c.args.strikes.now c.args.account c.max-from.result c.requires.account (omega (arith, from)) (omega (arith, from)) (elim (cases_lt start soft) [
+    least-first c.args.gains.now c.args.strikes.now c.args.account c.max-from.result c.requires.account (omega (arith, from)) (omega (arith, from)) (elim (cases_lt start c.args.account.soft) [
       | inl below ↦ inr (omega (arith, from, below))
       | inr above ↦ inl (omega (arith, from, above))
     ])
@@ -21,9 +20,7 @@ returns-then-account-place c =
     least-last c.args.gains.now c.args.strikes.now c.args.account c.loop-place.from c.in-Some.place c.loop-place.least c.loop-place.invariant c.in-Some.ensures.before c.if-account-place.true
 
 pub returns-then-gains : goal.returns-then-gains
-returns-then-gains c =
-    least-first_due c.args.gains.now c.args.strikes.now c.args.account c.loop-place.from c.in-Some.place c.earlier.result c.loop-place.least c.requires.gained c.loop-place.invariant c.in-Some.ensures.within.0 (omega (arith, c.in-Some.ensures.within.1, entries-long c.args.gains.now c.requires.gained.long))
-    c.in-Some.ensures.before c.in-Some.ensures.is (sym c.owes.ensures ∙ c.if-owes.true) (rw c.entry.ensures at c.earlier.ensures) c.if-gains.true
+returns-then-gains c = grind (arith, least-first_due, entries-long)
 
 pub entry-requires-clause-kept : goal.entry-requires-clause-kept
 entry-requires-clause-kept c =
@@ -32,8 +29,7 @@ entry-requires-clause-kept c =
 pub loop-place-preserved : goal.loop-place-preserved
 loop-place-preserved c =
     let found = c.in-Some.ensures in
-    let high = found.within.1 in
-    let inside : c.in-Some.place < length (entries_of c.args.gains.now) = omega (arith, high, entries-long c.args.gains.now c.requires.gained.long) in
+    let inside : c.in-Some.place < length (entries_of c.args.gains.now) = omega (arith, found.within.1, entries-long c.args.gains.now c.requires.gained.long) in
     elim c.if-owes.branch [
       | then-owes+else-gains w ↦
           rw w.least-is (least-found c.args.gains.now c.args.strikes.now c.args.account c.loop-place.from c.in-Some.place w.earlier.result c.loop-place.least c.loop-place.invariant found.within.0 inside
@@ -44,6 +40,4 @@ loop-place-preserved c =
     ]
 
 pub returns : goal.returns
-returns c =
-    let end = c.requires.account.end in
-    least-last c.args.gains.now c.args.strikes.now c.args.account c.loop-place.from (length (entries_of c.args.gains.now)) c.loop-place.least c.loop-place.invariant (λ k above below. c.in_default.ensures.none k above) end
+returns c = grind (arith, least-last)

@@ -1,6 +1,7 @@
-use Rattle.std.proofs.Common.{◌≡◌, ◌∙◌, ap, not, sym}
-use Rattle.std.specs.Prelude.{Bool, false, true}
-use Rattle.sip_ledger.specs.inner.Accounts.{is_gone, owes_at, strikes_of}
+use Rattle.std.proofs.Common.{sym, arith}
+use Rattle.std.proofs.lemmas.Grind.{common_steps}
+use Rattle.std.proofs.lemmas.Bool.Decides.{nat_tests}
+use Rattle.std.specs.Prelude.{false, true}
 use Rattle.sip_ledger.proofs.account.AccountLemmas.{kept-from, past-end}
 use Rattle.sip_ledger.proofs.account.FindLemmas.{owes-inside}
 use Rattle.sip_ledger.proofs.account.WithoutLemmas.{before-start}
@@ -16,6 +17,4 @@ pub is_gone-requires-clause-kept : goal.is_gone-requires-clause-kept
 is_gone-requires-clause-kept c = kept-from c.args.place c.requires.gained c.requires.account c.if-place-account.false c.if-account-place.false
 
 pub returns : goal.returns
-returns c =
-    ap not (rw c.own.ensures at c.is_gone.ensures)
-    ∙ sym (owes-inside c.args.gains.now c.args.strikes.now c.args.account c.args.place c.if-place-account.false c.if-account-place.false)
+returns c = grind (arith, nat_tests, common_steps, owes-inside)

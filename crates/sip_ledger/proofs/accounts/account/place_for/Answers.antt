@@ -1,5 +1,6 @@
-use Rattle.std.proofs.Common.{subst}
-use Rattle.sip_ledger.specs.inner.Accounts.{IsNextGain}
+use Rattle.std.proofs.Common.{arith}
+use Rattle.std.proofs.lemmas.Grind.{common_steps}
+use Rattle.std.proofs.lemmas.Bool.Decides.{nat_tests}
 use Rattle.sip_ledger.proofs.gains.LeftLemmas.{entries-long}
 use Rattle.sip_ledger.proofs.account.AccountLemmas.{same-keeps}
 use Rattle.sip_ledger.proofs.account.GainedLemmas.{gain-keeps, new-gain}
@@ -12,6 +13,4 @@ pub returns-clause-kept : goal.returns-clause-kept
 returns-clause-kept c = gain-keeps c.args.gains.now c.push.new.self c.args.debt c.in_ok-push.ensures.ok
 
 pub returns-clause-next : goal.returns-clause-next
-returns-clause-next c =
-    subst (IsNextGain c.push.new.self c.args.strikes.now c.args.account c.args.debt) (entries-long c.args.gains.now c.requires.gained.long)
-    (new-gain c.args.gains.now c.push.new.self c.args.strikes.now c.args.account c.args.debt c.in_ok-push.ensures.ok c.requires.account)
+returns-clause-next c = grind (arith, nat_tests, common_steps, entries-long, new-gain)

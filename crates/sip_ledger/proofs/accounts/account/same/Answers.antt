@@ -1,4 +1,4 @@
-use Rattle.std.proofs.Common.{refl, rules, ◌≡◌, ◌≢◌, ◌<◌, ◌≤◌, ◌∙◌, sym, arith}
+use Rattle.std.proofs.Common.{refl, rules, ◌≡◌, ◌≢◌, ◌∙◌, sym, arith}
 use Rattle.std.proofs.lemmas.Bool.{false≢true}
 use Rattle.sip_ledger.proofs.account.AccountLemmas.{kept-from}
 use Rattle.sip_ledger.proofs.account.ToldLemmas.{alike-debts, at-apart, at-more, at-start, end-other, end-same, rest-same}
@@ -42,9 +42,8 @@ returns-then-at-one c = end-same c.requires.one c.requires.other c.loop-at.invar
 pub returns-else-at-one : goal.returns-else-at-one
 returns-else-at-one c =
     let was = c.loop-at.invariant in
-    let end = was.told.end in
     let other = c.if-at-one.false in
     elim c.loop-at-test.branch [
       | then-loop-at-test+else-beside-other w ↦ end-other c.requires.one c.requires.other was other w.if-beside-other.false
-      | else-loop-at-test w ↦ let past = w.loop-at-test.false in absurd (omega (arith, end, other, past))
+      | else-loop-at-test w ↦ let past = w.loop-at-test.false in absurd (omega (arith, was.told.end, other, past))
     ]

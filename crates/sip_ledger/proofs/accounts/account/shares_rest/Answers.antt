@@ -1,4 +1,3 @@
-use Rattle.std.proofs.Common.{◌≡◌, ◌≤◌, refl}
 use Rattle.sip_ledger.proofs.account.ToldLemmas.{on-true, shares-rest}
 use Rattle.sip_ledger.proofs.accounts.account.shares_rest.Goals as goal
 

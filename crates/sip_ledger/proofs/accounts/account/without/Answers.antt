@@ -1,7 +1,8 @@
-use Rattle.std.proofs.Common.{◌≡◌, ◌+◌, ◌≤◌, ◌∙◌, sym, subst, ap, refl, arith}
+use Rattle.std.proofs.Common.{◌≡◌, ◌+◌, ◌∙◌, ap, refl, arith}
+use Rattle.std.proofs.lemmas.Grind.{common_steps}
+use Rattle.std.proofs.lemmas.Bool.Decides.{nat_tests}
 use Rattle.sip_ledger.specs.declared.debt.Entry.{Entry}
 use Rattle.sip_ledger.specs.Accounts.{worth_of}
-use Rattle.sip_ledger.specs.inner.Accounts.{IsKept}
 use Rattle.sip_ledger.proofs.gains.LeftLemmas.{entries-long, left-kept, owed-left}
 use Rattle.sip_ledger.proofs.account.AccountLemmas.{owed-within}
 use Rattle.sip_ledger.proofs.account.WithoutLemmas.{without-first, without-last, without-middle}
@@ -43,9 +44,7 @@ returns-then-rest-eq1-clause-owed c =
     (c.worth.ensures ∙ ap (λ (e : Entry). worth_of e.message e.deadline) c.entry-entry.ensures) refl).1
 
 pub put-requires-clause-kept : goal.put-requires-clause-kept
-put-requires-clause-kept c = λ k low high.
-    let here : c.args.place ≡ k = omega (arith, low, high) in
-    subst (IsKept c.args.gains.now) here (left-kept c.args.gains.now c.args.place c.requires.gained (owed-left c.args.gains.now c.args.strikes.now.items c.args.account c.args.place c.requires.owed))
+put-requires-clause-kept c = grind (arith, nat_tests, common_steps, left-kept, owed-left)
 
 pub returns-clause-account : goal.returns-clause-account
 returns-clause-account c =
@@ -58,9 +57,4 @@ returns-clause-owed c =
     c.if-place-account.false c.in_ok-struck.ensures.struck (c.worth.ensures ∙ ap (λ (e : Entry). worth_of e.message e.deadline) c.entry-entry.ensures) refl).1
 
 pub overflow_add-after : goal.overflow_add-after
-overflow_add-after c =
-    let within = owed-within c.args.gains.now c.args.strikes.now.items c.args.account c.args.place c.requires.owed in
-    let end = c.requires.account.end in
-    let count = entries-long c.args.gains.now c.requires.gained.long in
-    let small = c.requires.gained.small in
-    omega (arith, within, end, count, small)
+overflow_add-after c = grind (arith, nat_tests, common_steps, owed-within, entries-long)

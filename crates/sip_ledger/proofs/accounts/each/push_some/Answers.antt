@@ -1,44 +1,26 @@
-use Rattle.std.proofs.Common.{◌≡◌, ◌<◌, ◌≤◌, ◌+◌, ◌++◌, length, inl, inr, ap, sym, subst, ◌∙◌, refl, arith}
-use Rattle.sip_ledger.specs.Accounts.{paid_rows}
+use Rattle.std.proofs.Common.{◌+◌, inl, sym, subst, arith}
+use Rattle.std.proofs.lemmas.Grind.{common_steps}
+use Rattle.std.proofs.lemmas.Bool.Decides.{nat_tests}
 use Rattle.sip_ledger.specs.inner.Accounts.{AreAccounts, account_debts, accounts_debts}
-use Rattle.sip_ledger.proofs.lists.EachLemmas.{from_to-end, from_to-none}
+use Rattle.sip_ledger.proofs.lists.EachLemmas.{from_to-end}
 use Rattle.sip_ledger.proofs.account.AccountLemmas.{debts_length}
-use Rattle.sip_ledger.proofs.rows.PaidLemmas.{ArePaidTo, account-there, paid-front, paid-grown, paid-next, paid-none, row-there}
+use Rattle.sip_ledger.proofs.rows.PaidLemmas.{ArePaidTo, account-there, paid-front, paid-grown, paid-next, row-there}
 use Rattle.sip_ledger.proofs.rows.SeenLemmas.{on-error}
 use Rattle.sip_ledger.proofs.accounts.each.push_some.Goals as goal
 
-pub loop-row-init : goal.loop-row-init
-loop-row-init c =
-    let g = c.args.gains.now in
-    let seen = accounts_debts g c.args.strikes.now.items c.args.rows.now.items in (
-      omega arith,
-      inr (omega arith),
-      c.new-seek.ensures,
-      paid-none g c.args.message c.args.moment c.args.from c.args.strikes.now.items c.args.rows.now.items c.requires.accounts (from_to-none c.args.from c.args.from seen (omega arith)),
-    )
-
 pub index-requires : goal.index-requires
-index-requires c =
-    let long = debts_length c.args.gains.now c.args.strikes.now.items c.args.rows.now.items in
-    let to = c.requires.to in
-    let there = row-there c.loop-row.row c.loop-row.invariant.3 (omega (arith, long, to)) in
-    omega (arith, there, c.loop-row.rows.ok.0)
+index-requires c = grind (arith, nat_tests, common_steps, debts_length, row-there)
 
 pub paid-requires-clause-account : goal.paid-requires-clause-account
 paid-requires-clause-account c =
     let long = debts_length c.args.gains.now c.args.strikes.now.items c.args.rows.now.items in
-    let to = c.requires.to in
-    (account-there c.loop-row.row c.index.result.now c.loop-row.invariant.3 (omega (arith, long, to)) c.index.ensures).0
+    (account-there c.loop-row.row c.index.result.now c.loop-row.invariant.3 (omega (arith, long, c.requires.to)) c.index.ensures).0
 
 pub returns-in_err-left-clause-accounts : goal.returns-in_err-left-clause-accounts
-returns-in_err-left-clause-accounts c =
-    (paid-grown c.paid.new.strikes.items c.paid.ensures.kept c.loop-row.invariant.3).accounts
+returns-in_err-left-clause-accounts c = (paid-grown c.paid.new.strikes.items c.paid.ensures.kept c.loop-row.invariant.3).accounts
 
 pub returns-in_err-left-clause-err : goal.returns-in_err-left-clause-err
-returns-in_err-left-clause-err c =
-    let grown = paid-grown c.paid.new.strikes.items c.paid.ensures.kept c.loop-row.invariant.3 in
-    on-error c.from_residual.result c.from_residual.ensures.0
-    (paid-front (length c.args.rows.now.items) grown (sym (debts_length c.args.gains.now c.args.strikes.now.items c.args.rows.now.items)))
+returns-in_err-left-clause-err c = grind (arith, nat_tests, common_steps, paid-grown, on-error, paid-front, debts_length)
 
 pub returns-in_err-push_left-clause-accounts : goal.returns-in_err-push_left-clause-accounts
 returns-in_err-push_left-clause-accounts c =
@@ -46,38 +28,25 @@ returns-in_err-push_left-clause-accounts c =
     subst (AreAccounts c.args.gains.now c.paid.new.strikes.items) (sym c.in_err-push_left.ensures.err) grown.accounts
 
 pub returns-in_err-push_left-clause-err : goal.returns-in_err-push_left-clause-err
-returns-in_err-push_left-clause-err c =
-    let g = c.args.gains.now in
-    let seen = accounts_debts g c.args.strikes.now.items c.args.rows.now.items in
-    let grown = paid-grown c.paid.new.strikes.items c.paid.ensures.kept c.loop-row.invariant.3 in
-    let same = subst (λ r. ArePaidTo g c.args.message c.args.moment c.args.from c.loop-row.row seen c.paid.new.strikes.items r) (sym c.in_err-push_left.ensures.err) grown in
-    on-error c.from_residual-in_err-push_left.result c.from_residual-in_err-push_left.ensures.0
-    (paid-front (length c.args.rows.now.items) same (sym (debts_length g c.args.strikes.now.items c.args.rows.now.items)))
+returns-in_err-push_left-clause-err c = grind (arith, nat_tests, common_steps, paid-grown, ArePaidTo, on-error, paid-front, debts_length)
 
 pub loop-row-preserved : goal.loop-row-preserved
 loop-row-preserved c =
     let g = c.args.gains.now in
     let seen = accounts_debts g c.args.strikes.now.items c.args.rows.now.items in
     let long = debts_length g c.args.strikes.now.items c.args.rows.now.items in
-    let to = c.requires.to in
     let low = c.loop-row.invariant.0 in
     let k = c.loop-row.row in
     let one = c.loop-row.strikes.items in
     let new = c.paid.new.strikes.items in
-    let at = account-there k c.index.result.now c.loop-row.invariant.3 (omega (arith, long, to)) c.index.ensures in
+    let at = account-there k c.index.result.now c.loop-row.invariant.3 (omega (arith, long, c.requires.to)) c.index.ensures in
     let grown = paid-grown new c.paid.ensures.kept c.loop-row.invariant.3 in
-    let next = paid-next (account_debts g one c.index.result.now) c.in_ok-left.left grown c.in_ok-left.ensures.account c.in_ok-left.ensures.debts at.1 low (omega (arith, long, to)) in (
+    let next = paid-next (account_debts g one c.index.result.now) c.in_ok-left.left grown c.in_ok-left.ensures.account c.in_ok-left.ensures.debts at.1 low (omega (arith, long, c.requires.to)) in (
       omega (arith, low),
       inl (omega arith),
       c.paid.ensures.seek,
       subst (λ r. ArePaidTo g c.args.message c.args.moment c.args.from (k + 1) seen new r) (sym c.in_ok-push_left.ensures.ok) next,
     )
 
-pub returns-clause-accounts : goal.returns-clause-accounts
-returns-clause-accounts c = c.loop-row.invariant.3.accounts
-
 pub returns-clause-ok : goal.returns-clause-ok
-returns-clause-ok c =
-    let seen = accounts_debts c.args.gains.now c.args.strikes.now.items c.args.rows.now.items in
-    c.loop-row.invariant.3.debts
-    ∙ ap (λ l. seen ++ paid_rows c.args.message c.args.moment l) (from_to-end c.args.from c.args.to c.loop-row.row seen c.loop-row.invariant.0 (omega arith) c.loop-row.invariant.1)
+returns-clause-ok c = grind (arith, from_to-end)

@@ -1,9 +1,5 @@
-use Rattle.std.proofs.Common.{◌≡◌, ◌≤◌, ◌+◌, length, arith}
-use Rattle.sip_ledger.proofs.gains.LetGoLemmas.{cleared-dropped, kept-start}
+use Rattle.sip_ledger.proofs.gains.LetGoLemmas.{cleared-dropped}
 use Rattle.sip_ledger.proofs.accounts.left.drop_front.Goals as goal
-
-pub returns-then-start-first : goal.returns-then-start-first
-returns-then-start-first c = kept-start c.args.gains.now c.args.strikes.now c.args.rows.now c.requires
 
 pub returns : goal.returns
 returns c =

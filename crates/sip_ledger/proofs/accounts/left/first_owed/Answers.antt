@@ -1,4 +1,4 @@
-use Rattle.std.proofs.Common.{◌≡◌, ◌<◌, ◌≤◌, ◌∙◌, length, take, get_or, ap, subst, arith}
+use Rattle.std.proofs.Common.{◌≡◌, ◌<◌, ◌∙◌, length, take, ap, subst, arith}
 use Rattle.std.proofs.Math.Seq.{take-length}
 use Rattle.sip_ledger.specs.declared.accounts.account.Account.{Account}
 use Rattle.sip_ledger.specs.inner.Accounts.{StartFrom}
@@ -23,6 +23,5 @@ loop-at-preserved c =
           let least = w.min-first.ensures in
           rw w.first-is (omega (arith, least, within), start-more rows c.loop-at.first w.min-first.result at none inside c.loop-at.invariant.1 (omega (arith, least)) (λ some. omega (arith, least)))
       | else-row w ↦
-          let none_owed = w.if-row.false in
-          rw w.first-is (within, start-more rows c.loop-at.first c.loop-at.first at none inside c.loop-at.invariant.1 (omega arith) (λ some. absurd (omega (arith, some, none_owed))))
+          rw w.first-is (within, start-more rows c.loop-at.first c.loop-at.first at none inside c.loop-at.invariant.1 (omega arith) (λ some. absurd (omega (arith, some, w.if-row.false))))
     ]

@@ -2,16 +2,10 @@ use Rattle.std.proofs.Common.{◌≡◌, ◌<◌, ◌∙◌, false, length, take
 use Rattle.std.specs.Prelude.{All}
 use Rattle.std.proofs.Math.Seq.{take-length}
 use Rattle.std.proofs.lemmas.List.{take_more}
-use Rattle.std.proofs.lemmas.List.Elements.{All-get_or, All-nil, All-push}
+use Rattle.std.proofs.lemmas.List.Elements.{All-push}
 use Rattle.sip_ledger.specs.declared.accounts.account.Account.{Account}
-use Rattle.sip_ledger.specs.inner.Accounts.{IsAccount, owes_at}
+use Rattle.sip_ledger.specs.inner.Accounts.{owes_at}
 use Rattle.sip_ledger.proofs.accounts.left.is_owed.Goals as goal
-
-pub loop-at-init : goal.loop-at-init
-loop-at-init c = All-nil (λ a. owes_at c.args.gains.now c.args.strikes.now a c.args.place ≡ false)
-
-pub owes-requires-clause-account : goal.owes-requires-clause-account
-owes-requires-clause-account c = All-get_or (IsAccount c.args.gains.now c.args.strikes.now) c.args.rows.now c.loop-at.at _ (omega arith) c.requires.each
 
 pub loop-at-preserved : goal.loop-at-preserved
 loop-at-preserved c =

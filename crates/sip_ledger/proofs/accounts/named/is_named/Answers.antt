@@ -1,25 +1,18 @@
 use Rattle.std.proofs.Common.{◌≡◌, ◌<◌, ◌∙◌, false, length, take, get_or, ap, subst, sym, arith}
+use Rattle.std.proofs.lemmas.Grind.{common_steps}
+use Rattle.std.proofs.lemmas.Bool.Decides.{nat_tests}
 use Rattle.std.specs.Prelude.{All}
 use Rattle.std.proofs.Math.Seq.{take-length}
 use Rattle.std.proofs.lemmas.List.{take_more}
-use Rattle.std.proofs.lemmas.List.Elements.{All-get_or, All-nil, All-push}
+use Rattle.std.proofs.lemmas.List.Elements.{All-push}
 use Rattle.sip_ledger.specs.declared.accounts.account.Account.{Account}
 use Rattle.sip_ledger.specs.Accounts.{owes_message}
-use Rattle.sip_ledger.specs.inner.Accounts.{IsAccount, account_debts}
+use Rattle.sip_ledger.specs.inner.Accounts.{account_debts}
 use Rattle.sip_ledger.proofs.rows.NamedLemmas.{named-here, named-nowhere}
 use Rattle.sip_ledger.proofs.accounts.named.is_named.Goals as goal
 
-pub loop-at-init : goal.loop-at-init
-loop-at-init c = (c.new-seek.ensures, All-nil (λ a. owes_message c.args.message (account_debts c.args.gains.now c.args.strikes.now a) ≡ false))
-
-pub names-requires-clause-account : goal.names-requires-clause-account
-names-requires-clause-account c = All-get_or (IsAccount c.args.gains.now c.args.strikes.now) c.args.rows.now c.loop-at.at _ (omega arith) c.requires.each
-
 pub returns-then-names : goal.returns-then-names
-returns-then-names c =
-    let none : Account = record { start = 0; end = 0; soft = 0; first = 0; last = 0; print = 0 } in
-    let inside : c.loop-at.at < length c.args.rows.now = omega arith in
-    sym (named-here c.args.gains.now c.args.strikes.now c.args.rows.now c.args.message c.loop-at.at none inside (sym c.names.ensures.is ∙ c.if-names.true))
+returns-then-names c = grind (arith, nat_tests, common_steps, named-here)
 
 pub loop-at-preserved : goal.loop-at-preserved
 loop-at-preserved c =

@@ -1,4 +1,4 @@
-use Rattle.std.proofs.Common.{◌≡◌, ◌≤◌, ℕ, length, take, ap, sym, ◌∙◌, arith}
+use Rattle.std.proofs.Common.{arith}
 use Rattle.sip_ledger.specs.declared.accounts.strikes.Strike.{Strike}
 use Rattle.sip_ledger.proofs.strikes.StrikeLemmas.{none-struck, struck-by_end, struck-more}
 use Rattle.sip_ledger.proofs.accounts.strikes.end_by.Goals as goal
@@ -9,5 +9,4 @@ loop-strike-init c = λ m k _. none-struck m k
 pub loop-strike-preserved : goal.loop-strike-preserved
 loop-strike-preserved c = λ m k past.
     let s : Strike = record { message = 0; from = 0; to = 0 } in
-    let end = c.if-place-strike.false in
-    struck-more c.args.strikes.now c.loop-strike.strike-index m k s (omega arith) (c.loop-strike.invariant m k past) (struck-by_end m k _ _ _ (omega (arith, past, end)))
+    struck-more c.args.strikes.now c.loop-strike.strike-index m k s (omega arith) (c.loop-strike.invariant m k past) (struck-by_end m k _ _ _ (omega (arith, past, c.if-place-strike.false)))

@@ -1,4 +1,6 @@
-use Rattle.std.proofs.Common.{◌≡◌, ◌≤◌, ◌∙◌, length, arith}
+use Rattle.std.proofs.Common.{◌∙◌, arith}
+use Rattle.std.proofs.lemmas.Grind.{common_steps}
+use Rattle.std.proofs.lemmas.Bool.Decides.{nat_tests}
 use Rattle.std.proofs.lemmas.List.{with_items_is}
 use Rattle.sip_ledger.proofs.strikes.StrikeLemmas.{longer-too, more-too}
 use Rattle.sip_ledger.proofs.accounts.strikes.strike_too.Goals as goal
@@ -12,8 +14,4 @@ returns-in_ok-push-clause-ok c =
     more-too c.args.gains.now c.args.place c.args.first v.items c.push.new.self.items c.requires.first more
 
 pub returns-else-not-lengthen-clause-ok : goal.returns-else-not-lengthen-clause-ok
-returns-else-not-lengthen-clause-ok c =
-    let v = c.args.strikes.now in
-    let whole = with_items_is v c.lengthen.new.strikes (c.lengthen.auto.strikes ∙ c.deref_mut.ensures.len) in
-    let found = rw c.deref_mut.ensures.value at c.if-not-lengthen.ensures.found in
-    rw whole (longer-too c.args.gains.now c.args.place c.args.first v.items c.lengthen.new.strikes found)
+returns-else-not-lengthen-clause-ok c = grind (arith, nat_tests, common_steps, with_items_is, longer-too)

@@ -1,5 +1,6 @@
-use Rattle.std.proofs.Common.{◌≡◌, ◌<◌, ◌∙◌, length, get_or, sym, arith}
-use Rattle.sip_ledger.specs.declared.accounts.strikes.Strike.{Strike}
+use Rattle.std.proofs.Common.{arith}
+use Rattle.std.proofs.lemmas.Grind.{common_steps}
+use Rattle.std.proofs.lemmas.Bool.Decides.{nat_tests}
 use Rattle.sip_ledger.proofs.strikes.StrikeLemmas.{none-struck, out-struck, struck-more}
 use Rattle.sip_ledger.proofs.accounts.strikes.struck_to.Goals as goal
 
@@ -7,11 +8,7 @@ pub loop-strike-init : goal.loop-strike-init
 loop-strike-init c = none-struck c.args.message c.args.place
 
 pub returns-then-strikes_out-clause-some : goal.returns-then-strikes_out-clause-some
-returns-then-strikes_out-clause-some c =
-    let s : Strike = record { message = 0; from = 0; to = 0 } in
-    out-struck c.args.strikes.now c.loop-strike.strike-index c.args.message c.args.place s (omega arith) (sym c.strikes_out.ensures ∙ c.if-strikes_out.true)
+returns-then-strikes_out-clause-some c = grind (arith, nat_tests, common_steps, out-struck)
 
 pub loop-strike-preserved : goal.loop-strike-preserved
-loop-strike-preserved c =
-    let s : Strike = record { message = 0; from = 0; to = 0 } in
-    struck-more c.args.strikes.now c.loop-strike.strike-index c.args.message c.args.place s (omega arith) c.loop-strike.invariant (sym c.strikes_out.ensures ∙ c.if-strikes_out.false)
+loop-strike-preserved c = grind (arith, nat_tests, common_steps, struck-more)

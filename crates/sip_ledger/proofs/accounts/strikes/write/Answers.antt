@@ -1,8 +1,6 @@
-use Rattle.std.proofs.Common.{◌≡◌, ◌<◌, ◌≤◌, ◌∙◌, length, take, ap, subst, arith}
-use Rattle.sip_ledger.specs.inner.Accounts.{IsWritten, StrikeToo, entries_of}
+use Rattle.std.proofs.Common.{◌≡◌, ◌∙◌, length, subst, arith}
+use Rattle.sip_ledger.specs.inner.Accounts.{StrikeToo}
 use Rattle.sip_ledger.proofs.gains.LeftLemmas.{entries-long}
-use Rattle.sip_ledger.proofs.account.AccountLemmas.{kept-longer}
-use Rattle.sip_ledger.proofs.rows.SeenLemmas.{on-error}
 use Rattle.sip_ledger.proofs.strikes.StrikeLemmas.{written-more, written-none}
 use Rattle.sip_ledger.proofs.accounts.strikes.write.Goals as goal
 
@@ -12,11 +10,6 @@ loop-place-init c = written-none c.args.gains.now c.args.from c.args.strikes.now
 pub strike_too-requires-clause-kept : goal.strike_too-requires-clause-kept
 strike_too-requires-clause-kept c = c.requires.kept c.loop-place.place c.loop-place.auto.place (omega arith)
 
-pub strike_too-requires-clause-first : goal.strike_too-requires-clause-first
-strike_too-requires-clause-first c =
-    let first : c.len-first.result ≡ length c.args.strikes.now.items = c.len-first.ensures ∙ c.args.strikes.now.ok.0 in
-    omega (arith, first, kept-longer c.args.strikes.now.items c.loop-place.strikes.items c.loop-place.invariant.kept)
-
 pub loop-place-preserved : goal.loop-place-preserved
 loop-place-preserved c =
     let g = c.args.gains.now in
@@ -25,17 +18,6 @@ loop-place-preserved c =
     let new = c.strike_too.new.strikes.items in
     let first : c.len-first.result ≡ length old = c.len-first.ensures ∙ c.args.strikes.now.ok.0 in
     let kept = c.requires.kept c.loop-place.place c.loop-place.auto.place (omega arith) in
-    let within = kept.within in
     let count = entries-long g c.requires.gained.long in
     let more : StrikeToo g c.loop-place.place (length old) one new = subst (λ n. StrikeToo g c.loop-place.place n one new) first c.in_ok-strike_too.ensures.ok in
-    written-more g c.args.from c.loop-place.place old one new c.args.account c.loop-place.invariant more c.loop-place.auto.place (omega (arith, within, count))
-
-pub returns-in_err-strike_too-clause-err : goal.returns-in_err-strike_too-clause-err
-returns-in_err-strike_too-clause-err c =
-    let old = c.args.strikes.now.items in
-    on-error c.from_residual-in_err-strike_too.result c.from_residual-in_err-strike_too.ensures.0 (ap (take (length old)) c.in_err-strike_too.ensures.err ∙ c.loop-place.invariant.kept)
-
-pub returns-clause-ok : goal.returns-clause-ok
-returns-clause-ok c =
-    let is : c.loop-place.place ≡ c.args.to = omega arith in
-    subst (λ n. IsWritten c.args.gains.now c.args.from n c.args.strikes.now.items c.loop-place.strikes.items c.args.account) is c.loop-place.invariant
+    written-more g c.args.from c.loop-place.place old one new c.args.account c.loop-place.invariant more c.loop-place.auto.place (omega (arith, kept.within, count))

@@ -1,4 +1,4 @@
-use Rattle.std.proofs.Common.{◌≡◌, ◌<◌, ◌≤◌, ◌-◌, ◌+◌, ◌==◌, ◌&&◌, ℕ, false, cond, length, set, refl, ap, ◌∙◌, arith}
+use Rattle.std.proofs.Common.{◌≡◌, ◌-◌, ◌==◌, ◌&&◌, ℕ, false, cond, length, set, refl, ap, ◌∙◌}
 use Rattle.std.proofs.lemmas.Bool.{eq-eqb}
 use Rattle.sip_ledger.specs.inner.Accounts.{no_flags}
 use Rattle.sip_ledger.specs.Indexes.{holds}
@@ -6,34 +6,14 @@ use Rattle.sip_ledger.proofs.gains.FlagLemmas.{flags-let_go}
 use Rattle.sip_ledger.proofs.gains.LeftLemmas.{gains-let_go}
 use Rattle.sip_ledger.proofs.accounts.gains.Gains.let_go.Goals as goal
 
-pub index_mut-requires : goal.index_mut-requires
-index_mut-requires c =
-    let g = c.args.self.now in
-    let len : c.len.result ≡ length g.entries.items = c.len.ensures ∙ g.entries.ok.0 in
-    let long = c.requires.gained.long in
-    let from = c.requires.kept.from in
-    let within = c.requires.kept.within in
-    let many = c.requires.gained.flags.many in
-    omega (arith, len, long, from, within, many, g.flags.ok.0)
-
-pub returns-clause-gained : goal.returns-clause-gained
-returns-clause-gained c =
+pub returns : goal.returns
+returns c =
     let g = c.args.self.now in
     let place = c.args.place in
     let len : c.len.result ≡ length g.entries.items = c.len.ensures ∙ g.entries.ok.0 in
     let messages = rw c.entry-message.ensures at c.take.ensures in
     let must : holds c.take-2.new.self 0 place ≡ false =
     c.take-2.ensures 0 place ∙ ap (λ b. cond (0 == 0 && b) false (holds g.musts 0 place)) (eq-eqb place place refl) in
-    (gains-let_go g _ place c.requires.gained refl refl refl messages c.take-2.ensures
-    (flags-let_go g _ place c.requires.gained.flags c.requires.gained.long c.requires.kept refl (ap (λ (n : ℕ). set g.flags.items (place - (g.end - n)) no_flags) len) must)).0
-
-pub returns-clause-gone : goal.returns-clause-gone
-returns-clause-gone c =
-    let g = c.args.self.now in
-    let place = c.args.place in
-    let len : c.len.result ≡ length g.entries.items = c.len.ensures ∙ g.entries.ok.0 in
-    let messages = rw c.entry-message.ensures at c.take.ensures in
-    let must : holds c.take-2.new.self 0 place ≡ false =
-    c.take-2.ensures 0 place ∙ ap (λ b. cond (0 == 0 && b) false (holds g.musts 0 place)) (eq-eqb place place refl) in
-    (gains-let_go g _ place c.requires.gained refl refl refl messages c.take-2.ensures
-    (flags-let_go g _ place c.requires.gained.flags c.requires.gained.long c.requires.kept refl (ap (λ (n : ℕ). set g.flags.items (place - (g.end - n)) no_flags) len) must)).1
+    let all = gains-let_go g _ place c.requires.gained refl refl refl messages c.take-2.ensures
+    (flags-let_go g _ place c.requires.gained.flags c.requires.gained.long c.requires.kept refl (ap (λ (n : ℕ). set g.flags.items (place - (g.end - n)) no_flags) len) must) in
+    record { gained = all.0; gone = all.1 }

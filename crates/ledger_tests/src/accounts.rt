@@ -1,6 +1,6 @@
 //! Steps by chance, on accounts and on plain lists of debts beside them.
 use crate::chance::{Chance, evens};
-use sip_ledger::{Accounts, Debt};
+use sip_ledger::{Accounts, Debt, Index};
 use std::process::Abort;
 use std::test::Fail;
 
@@ -235,7 +235,7 @@ impl Played {
         let least = earliest_must(list);
         assert!(rt; self.accounts.earliest_must(row) == least, "{row}");
         let moment = least.unwrap_or(0);
-        self.pays_one_first(rt, row, list, moment);
+        self.pays_one_first(rt, row, list, moment)?;
         assert!(rt; self.accounts.is_timely(row, moment), "{row}");
         let late = moment.saturating_add(1);
         assert!(rt;
@@ -267,20 +267,39 @@ impl Played {
         Ok(())
     }
 
-    /// The first debt that a send of one of some messages pays is the first such debt of this list.
-    fn pays_one_first(&self, rt: &impl Abort, row: usize, list: &[Debt], moment: u64) {
+    /// The first debt that a send of a message pays that stands under a key is the first such debt of this list. It is found in three steps,
+    /// perhaps in fewer, and not in none.
+    fn pays_one_first(
+        &self,
+        rt: &(impl Abort + AllocGlobal),
+        row: usize,
+        list: &[Debt],
+        moment: u64,
+    ) -> Result<(), Fail> {
         for messages in [[3, 1], [0, 2]] {
             let [one, other] = messages;
+            let mut index = Index::new(rt.alloc());
+            index.put(7, one)?;
+            index.put(7, other)?;
+            index.put(6, 0)?;
+            index.put(8, 3)?;
             let wants = list
                 .iter()
                 .find(|debt| {
                     (debt.message == one || debt.message == other) && moment <= debt.deadline
                 })
                 .map(|debt| debt.message);
-            assert!(rt; row < self.accounts.len());
-            let first = self.accounts.first_payable(row, &messages, moment);
-            assert!(rt; first == wants, "{row}");
+            for most in 0..4 {
+                assert!(rt; row < self.accounts.len());
+                let first = self.accounts.first_payable(row, &index, 7, moment, most);
+                let told = match first {
+                    Some(first) => first == wants && most > 0,
+                    None => most < 3,
+                };
+                assert!(rt; told, "{row} in {most}");
+            }
         }
+        Ok(())
     }
 
     /// Rows are told to owe the same where their lists are the same.

@@ -1,4 +1,4 @@
-use Rattle.std.specs.Prelude.{if◌then◌else◌, ◌≡◌, ◌==◌, ◌&&◌, ◌||◌, ℕ, Bool, false, true, Option, None, Some, List, [], ◌∷◌, ◌++◌, ◌≤◌, All, Contains, filter, map, min, nat_le}
+use Rattle.std.specs.Prelude.{if◌then◌else◌, ◌≡◌, ◌==◌, ◌&&◌, ◌||◌, ℕ, Bool, false, true, Option, None, Some, List, [], ◌∷◌, ◌++◌, ◌≤◌, All, filter, map, min, nat_le}
 use Rattle.std.specs.List.{reduce}
 use Rattle.sip_ledger.specs.declared.debt.Debt.{Debt}
 
@@ -26,14 +26,19 @@ softened_debt debt = record { message = debt.message; deadline = debt.deadline; 
 abbrev pub is_payable : ℕ → ℕ → Debt → Bool
 is_payable message t debt = debt.message == message && nat_le t debt.deadline
 
--- a send of one of the messages at t can pay the debt
-abbrev pub PaysOne : List ℕ → ℕ → Debt → Type 0
-PaysOne messages t debt = Contains messages debt.message × (t ≤ debt.deadline)
+-- a send at t of a message that passes the test can pay the debt
+abbrev pub PaysSome : (ℕ → Bool) → ℕ → Debt → Type 0
+PaysSome test t debt = (test debt.message ≡ true) × (t ≤ debt.deadline)
 
 -- what is owed after a send of this message at t, which pays the first debt that it can pay
 abbrev pub paid_by : ℕ → ℕ → List Debt → List Debt
 paid_by message t [] = []
 paid_by message t (debt ∷ debts) = if is_payable message t debt then debts else debt ∷ paid_by message t debts
+
+-- the message is that of the first debt of which P holds, and a send of it at t pays that debt; where no message is found, P holds of none
+abbrev pub IsFirstPaid : (Debt → Type 0) → ℕ → List Debt → Option ℕ → Type 0
+IsFirstPaid P t debts None = All (λ debt. ¬ (P debt)) debts
+IsFirstPaid P t debts (Some message) = (one : IsWithoutFirst P debts (paid_by message t debts)) × (one.first.message ≡ message)
 
 -- the deadlines of those debts that must be sent
 abbrev pub debt_deadlines : List Debt → List ℕ

@@ -1,8 +1,9 @@
 //! What many rows owe: one list of what they gained, and for each row an account of what it owes of that list.
-ghost use Rattle.std.specs.Prelude.{◌≡◌, ◌↔◌, ◌<◌, ◌++◌, ◌∷◌, [], ℕ, List, IsTrue, OnOk, OnErr, IfOk, IfSome, IfNone, All, length, set, map, filter, take, drop, get_or};
+ghost use Rattle.std.specs.Prelude.{◌≡◌, ◌↔◌, ◌<◌, ◌++◌, ◌∷◌, [], ℕ, List, IsTrue, OnOk, OnErr, IfOk, IfSome, All, length, set, map, filter, take, drop, get_or};
 ghost use Rattle.std.specs.List.{list_any};
 ghost use Rattle.sip_ledger.specs.Accounts.{owed_in, AppendsOwed};
-ghost use Rattle.sip_ledger.specs.Debts.{IsWithoutFirst, PaysOne, counts_at, softened_debt, is_payable, debt_deadlines, earliest, paid_by};
+ghost use Rattle.sip_ledger.specs.Debts.{IsFirstPaid, PaysSome, counts_at, softened_debt, is_payable, debt_deadlines, earliest, paid_by};
+ghost use Rattle.sip_ledger.specs.Indexes.{holds};
 ghost use Rattle.sip_ledger.specs.Lists.{Rise};
 ghost use Rattle.sip_ledger.specs.Runs.{AreRuns};
 
@@ -16,7 +17,7 @@ mod seek;
 mod strikes;
 
 use crate::accounts::account::{
-    Account, EMPTY, earliest_must, expired, find, find_one, first_debts, gained_and_expired,
+    Account, EMPTY, earliest_must, expired, find, find_under, first_debts, gained_and_expired,
     paid_and_expired, place_for, same,
 };
 use crate::accounts::gains::Gains;
@@ -27,6 +28,7 @@ use crate::accounts::seek::Seek;
 use crate::accounts::strikes::Strike;
 use crate::debt::Debt;
 use crate::front;
+use crate::index::Index;
 use crate::run::{Run, runs_of};
 use std::alloc::{AllocError, Global};
 use std::marker::Model;
@@ -147,15 +149,32 @@ impl Accounts {
         .is_some()
     }
 
-    /// The message of the row's first debt that a send of one of these messages at the moment pays, if there is one.
-    pub fn first_payable(&self, row: usize, messages: &[u64], moment: u64) -> Option<u64>
+    /// The message of the row's first debt that a send of a message at the moment pays that stands under the key, if there is one. Where it is
+    /// not found in `most` steps, the answer is None.
+    pub fn first_payable(
+        &self,
+        row: usize,
+        index: &Index,
+        key: u64,
+        moment: u64,
+        most: usize,
+    ) -> Option<Option<u64>>
         requires { row < length self.now }
-        ensures some { IfSome result (λ message. IsWithoutFirst (PaysOne messages.now moment) (owed_in self.now row) (paid_by message moment (owed_in self.now row))) }
-        ensures none { IfNone result (All (λ debt. ¬ (PaysOne messages.now moment debt)) (owed_in self.now row)) }
+        ensures { IfSome result (IsFirstPaid (PaysSome (holds index.now key) moment) moment (owed_in self.now row)) }
     {
-        match find_one(&self.gains, &self.strikes, self.rows[row], messages, moment) {
-            Some(place) => Some(self.gains.entry(place).message),
-            None => None,
+        let account = self.rows[row];
+        let found = find_under(
+            &self.gains,
+            &self.strikes,
+            account,
+            index,
+            key,
+            moment,
+            most,
+        )?;
+        match found {
+            Some(place) => Some(Some(self.gains.entry(place).message)),
+            None => Some(None),
         }
     }
 

@@ -6,7 +6,7 @@ ghost use Rattle.sip_machine.specs.Texts.{Texts, IsBook, Keeps, text_of};
 ghost use Rattle.sip_machine.specs.Retained.{only};
 ghost use Rattle.sip_message.specs.Reads.{Reads};
 ghost use Rattle.sip_machine.specs.inner.ReadAs.{IsReadAs};
-ghost use Rattle.sip_machine.specs.inner.Tos.{AreTos, IsToOf, HoldBetween, count_between};
+ghost use Rattle.sip_machine.specs.inner.Tos.{AreTos, IsToOf, StandUnder, count_between};
 ghost use Rattle.sip_machine.specs.inner.Order.{texts_of, placed, bytes_at, key_of, compare, begins_by, places_of, index_of, most_places, IsLed, IsInRuns, StandInRuns, IsInside, IsGap};
 
 mod retain;
@@ -16,6 +16,7 @@ use crate::event::is_unsuccessful;
 use crate::hashed::{Hashed, hash};
 use crate::tos::Tos;
 use sip_key::solid_of;
+use sip_ledger::Index;
 use sip_message::{Message, ReadError, StartLine};
 use std::alloc::{AllocError, Global};
 use std::cmp::Ordering;
@@ -182,23 +183,15 @@ impl Book {
         self.tos.get(number, near)
     }
 
-    /// The numbers of the messages from `low` up to `high` that have this To, from which the blanks were taken. They are told without a
-    /// look at each of these messages, where each has its To beside it and fewer than `most` have a To of this hash; else the answer is
-    /// None. An error comes where there is no memory for the numbers.
-    pub(crate) fn holders(
-        &self,
-        alloc: Global,
-        to: &Hashed,
-        low: u64,
-        high: u64,
-        most: usize,
-    ) -> Result<Option<Vec<u64>>, AllocError>
-        ensures { IfOk result (λ numbers. IfSome numbers (λ ns. HoldBetween self.now to.now low high ns.items)) }
+    /// The numbers of messages under the hashes of their Tos, from which the blanks were taken. Each message from `low` up to `high` stands
+    /// there; where one of them has not its To beside it, or hashes are not kept, the answer is None.
+    pub(crate) fn hashes(&self, low: u64, high: u64) -> Option<&Index>
+        ensures { IfSome result (λ hashes. StandUnder self.now low high hashes.now) }
     {
         if kept_between(&self.kept, low, high) != self.tos.between(low, high) {
-            return Ok(None);
+            return None;
         }
-        self.tos.holders(alloc, to, most)
+        self.tos.hashes()
     }
 
     /// Puts the To of a message beside it where an ACK is owed for the message, so that no ACK reads it anew. Where many messages

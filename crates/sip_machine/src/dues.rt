@@ -1,7 +1,8 @@
 //! What each of many states owes: accounts of all of them, if any owes something.
-ghost use Rattle.std.specs.Prelude.{◌≡◌, ◌↔◌, ◌<◌, ◌≤◌, ◌++◌, ◌∷◌, [], List, IsTrue, IfOk, IfSome, IfNone, OnOk, OnErr, None, All, flat_map, length, set, map, filter, take, drop};
+ghost use Rattle.std.specs.Prelude.{◌≡◌, ◌↔◌, ◌<◌, ◌≤◌, ◌++◌, ◌∷◌, [], List, IsTrue, IfOk, IfSome, OnOk, OnErr, None, All, flat_map, length, set, map, filter, take, drop};
 ghost use Rattle.std.specs.List.{list_any};
-ghost use Rattle.sip_ledger.specs.Debts.{IsWithoutFirst, PaysOne, counts_at, softened_debt, is_payable, debt_deadlines, paid_by};
+ghost use Rattle.sip_ledger.specs.Debts.{IsFirstPaid, PaysSome, counts_at, softened_debt, is_payable, debt_deadlines, paid_by};
+ghost use Rattle.sip_ledger.specs.Indexes.{holds};
 ghost use Rattle.sip_ledger.specs.Runs.{AreRuns};
 ghost use Rattle.sip_machine.specs.Deadlines.{earliest};
 ghost use Rattle.sip_machine.specs.Naming.{AppendsAll};
@@ -11,7 +12,7 @@ ghost use Rattle.sip_machine.specs.inner.Dues.{AreBetween, rows_in};
 
 mod each;
 
-use sip_ledger::{Accounts, Debt, Run};
+use sip_ledger::{Accounts, Debt, Index, Run};
 use std::alloc::{AllocError, Global};
 use std::marker::Model;
 
@@ -302,15 +303,22 @@ impl Dues {
         }
     }
 
-    /// The message of the first debt of the row that is of one of these messages and whose deadline is not before the moment.
-    pub(crate) fn first_payable(&self, row: usize, messages: &[u64], moment: u64) -> Option<u64>
+    /// The message of the first debt of the row whose message stands under the key and whose deadline is not before the moment, if there is
+    /// one. Where it is not found in `most` steps, the answer is None.
+    pub(crate) fn first_payable(
+        &self,
+        row: usize,
+        index: &Index,
+        key: u64,
+        moment: u64,
+        most: usize,
+    ) -> Option<Option<u64>>
         requires { row < length self.now }
-        ensures some { IfSome result (λ message. IsWithoutFirst (PaysOne messages.now moment) (owed_in self.now row) (paid_by message moment (owed_in self.now row))) }
-        ensures none { IfNone result (All (λ debt. ¬ (PaysOne messages.now moment debt)) (owed_in self.now row)) }
+        ensures { IfSome result (IsFirstPaid (PaysSome (holds index.now key) moment) moment (owed_in self.now row)) }
     {
         match &self.accounts {
-            Some(accounts) => accounts.first_payable(row, messages, moment),
-            None => None,
+            Some(accounts) => accounts.first_payable(row, index, key, moment, most),
+            None => Some(None),
         }
     }
 

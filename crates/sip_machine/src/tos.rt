@@ -1,9 +1,9 @@
 //! The Tos of messages for which an ACK may come. They are found by the numbers of the messages, and by themselves.
-ghost use Rattle.std.specs.Prelude.{◌≡◌, ◌<◌, ◌++◌, ◌∷◌, [], true, false, IfOk, IfSome, OnOk, OnErr, IsTrue, All, AllPairs, Contains, length, map};
+ghost use Rattle.std.specs.Prelude.{◌≡◌, ◌<◌, ◌++◌, ◌∷◌, [], Some, true, false, IfSome, OnOk, OnErr, IsTrue, All, AllPairs, Contains, length, map};
 ghost use Rattle.std.specs.List.{HoldsAt};
 ghost use Rattle.sip_machine.specs.declared.tos.To.{To};
 ghost use Rattle.sip_machine.specs.inner.Order.{hash_of};
-ghost use Rattle.sip_machine.specs.inner.Tos.{AreHolders, AreUnder, IsChanged, count_between};
+ghost use Rattle.sip_machine.specs.inner.Tos.{AreUnder, IsChanged, count_between};
 
 use crate::hashed::{Hashed, hash};
 use sip_ledger::Index;
@@ -140,34 +140,14 @@ impl Tos {
         self.hashes = hashes_of(*self.list.allocator(), &self.list);
     }
 
-    /// The numbers of the messages of the list that have this To, where fewer than `most` have one of its hash; else None, as where no hashes
-    /// are kept. An error comes where there is no memory for the numbers.
-    pub(crate) fn holders(
-        &self,
-        alloc: Global,
-        text: &Hashed,
-        most: usize,
-    ) -> Result<Option<Vec<u64>>, AllocError>
-        ensures { IfOk result (λ numbers. IfSome numbers (λ ns. AreHolders self.now text.now ns.items)) }
+    /// The numbers of the messages of the list, under the hashes of their Tos, where hashes are kept.
+    pub(crate) fn hashes(&self) -> Option<&Index>
+        ensures { IfSome result (λ hashes. AreUnder (Some hashes.now) self.now) }
     {
-        let Some(hashes) = &self.hashes else {
-            return Ok(None);
-        };
-        let mut numbers = Vec::new(alloc);
-        let mut from = 0;
-        for _ in 0..most {
-            let Some(number) = hashes.next(text.hash(), from) else {
-                return Ok(Some(numbers));
-            };
-            let Some(at) = place_of(&self.list, number, self.list.len()) else {
-                return Ok(None);
-            };
-            if self.list[at].text.is(text) {
-                numbers.push(number)?;
-            }
-            from = number.saturating_add(1);
+        match &self.hashes {
+            Some(hashes) => Some(hashes),
+            None => None,
         }
-        Ok(None)
     }
 
     /// How many Tos of the list are of messages with numbers from `low` up to `high`.

@@ -1,21 +1,22 @@
--- The first debt of an account that a send of one of some messages pays.
-use Rattle.std.proofs.Common.{◌≡◌, ◌≢◌, ℕ, ◌<◌, ◌≤◌, ◌==◌, ◌&&◌, Bool, true, false, not, List, [], ◌∷◌, ◌++◌, length, get_or, ◌+◌, refl, sym, ap, ◌∙◌, subst, inl, inr, arith}
-use Rattle.std.specs.Prelude.{All, Contains, IfNone, IfSome, IsTrue, Option, None, Some, min, nat_le}
+-- The first debt of an account that a send of a message pays that stands under a key.
+use Rattle.std.proofs.Common.{◌≡◌, ◌≢◌, ℕ, ◌<◌, ◌≤◌, ◌==◌, ◌&&◌, Bool, true, false, not, List, length, get_or, ◌+◌, refl, sym, ap, ◌∙◌, subst, inl, inr, arith}
+use Rattle.std.specs.Prelude.{◌⊎◌, All, IfNone, IfSome, IsTrue, MatchOption, Option, None, Some, min, nat_le, nat_lt}
 use Rattle.std.proofs.Math.Bool.{and-false, and-true}
-use Rattle.std.proofs.lemmas.Bool.{cases_lt, eq-eqb, ne_eqb, true≢false}
+use Rattle.std.proofs.lemmas.Bool.{cases_lt, eq-eqb, lt-ltb, ltb-true, ne_eqb, true≢false}
 use Rattle.std.proofs.lemmas.Bool.Decides.{nat_tests}
 use Rattle.std.proofs.lemmas.List.{get_or_default}
-use Rattle.std.proofs.lemmas.List.Elements.{Contains-append_left, Contains-push, Contains-push_cases}
 use Rattle.sip_ledger.specs.declared.debt.Entry.{Entry}
 use Rattle.sip_ledger.specs.declared.accounts.account.Account.{Account}
 use Rattle.sip_ledger.specs.declared.accounts.gains.Gains.{Gains}
 use Rattle.sip_ledger.specs.declared.accounts.strikes.Strike.{Strike}
-use Rattle.sip_ledger.specs.Debts.{IsWithoutFirst, PaysOne, is_payable, paid_by}
+use Rattle.sip_ledger.specs.Debts.{IsFirstPaid, PaysSome, is_payable}
 use Rattle.sip_ledger.specs.Entries.{debts_from}
-use Rattle.sip_ledger.specs.inner.Accounts.{IsAccount, IsFirstOf, IsFirstPayable, IsWithout, PaysOneAt, account_debts, entries_of, entry_at, must_at, owes_at, pays_at, sooner}
+use Rattle.sip_ledger.specs.inner.Accounts.{AreGains, IsAccount, IsFirstOf, IsFirstPayable, IsKept, IsWithout, PaysSomeAt, account_debts, entries_of, entry_at, must_at, owes_at, pays_at, sooner}
+use Rattle.sip_ledger.specs.Indexes.{IsFirstFrom, IsNextUnder, NoneFrom, holds}
 use Rattle.sip_ledger.proofs.debts.ListedLemmas.{no_entry, listed-All}
 use Rattle.sip_ledger.proofs.debts.OwedLemmas.{removed}
 use Rattle.sip_ledger.proofs.debts.PayLemmas.{paid-is}
+use Rattle.sip_ledger.proofs.gains.LeftLemmas.{held-left, left-kept, owed-left}
 use Rattle.sip_ledger.proofs.account.AccountLemmas.{owed-within}
 use Rattle.sip_ledger.proofs.account.FindLemmas.{named-pays}
 
@@ -23,47 +24,166 @@ use Rattle.sip_ledger.proofs.account.FindLemmas.{named-pays}
 pays-parts : (message t : ℕ) (entry : Entry) → (entry.message == message && nat_le t entry.deadline) ≡ true → (entry.message ≡ message) × (t ≤ entry.deadline)
 pays-parts message t entry pays = (grind (arith, nat_tests), grind (arith, nat_tests))
 
-module _ (entries : List Entry) (owes : ℕ → Bool) (messages : List ℕ) (message t : ℕ) where
-  -- what a send of one of the messages pays, a send of one of more messages pays
-  of-more : (k : ℕ) → PaysOneAt entries messages t k → PaysOneAt entries (messages ++ message ∷ []) t k
-  of-more k (has, early) = (Contains-append_left messages (message ∷ []) (entry_at entries k).message has, early)
+module _ (entries : List Entry) (owes few more : ℕ → Bool) (t : ℕ) (wider : (m : ℕ) → few m ≡ true → more m ≡ true) where
+  -- what a message pays that passes one test, a message pays that passes a wider one
+  of-more : (k : ℕ) → PaysSomeAt entries few t k → PaysSomeAt entries more t k
+  of-more k (passes, early) = (wider (entry_at entries k).message passes, early)
 
-  of-last : (k : ℕ) → pays_at entries message t k ≡ true → PaysOneAt entries (messages ++ message ∷ []) t k
-  of-last k pays =
-      let parts = pays-parts message t (entry_at entries k) pays in
-      (subst (Contains (messages ++ message ∷ [])) (sym parts.0) (Contains-push messages message), parts.1)
+  -- where the wider test passes nothing more that is owed before the first place, the first place stays
+  pub first-same : (first : Option ℕ) → ((k : ℕ) → IfSome first (λ at. k < at) → owes k ≡ true → more (entry_at entries k).message ≡ true → few (entry_at entries k).message ≡ true) →
+      IsFirstOf entries owes few t first → IsFirstOf entries owes more t first
+  first-same None back none = λ k owed (passes, early). none k owed (back k tt owed passes, early)
+  first-same (Some p) back is = (is.0, of-more p is.1, λ k low owed (passes, early). is.2 k low owed (back k low owed passes, early))
 
-  -- where neither a send of one of the messages nor one of the last message pays a gain, none of all does
-  of-none : (k : ℕ) → ¬ (PaysOneAt entries messages t k) → pays_at entries message t k ≡ false → ¬ (PaysOneAt entries (messages ++ message ∷ []) t k)
-  of-none k none other (has, early) = elim (Contains-push_cases messages message (entry_at entries k).message has) [
-    | inl before ↦ none (before, early)
-    | inr last ↦ true≢false (sym (named-pays entries message t k (sym last) early) ∙ other)
-  ]
+  module _ (message : ℕ) (passes : more message ≡ true) (only : (m : ℕ) → more m ≡ true → (few m ≡ true) ⊎ (m ≡ message)) where
+    of-last : (k : ℕ) → pays_at entries message t k ≡ true → PaysSomeAt entries more t k
+    of-last k pays =
+        let parts = pays-parts message t (entry_at entries k) pays in
+        (subst (λ m. more m ≡ true) (sym parts.0) passes, parts.1)
 
-  -- the first place of some messages and of one more is the lesser of the two
-  pub first-more : (first place : Option ℕ) → IsFirstOf entries owes messages t first → IfSome place (IsFirstPayable entries owes message t) →
-      IfNone place ((k : ℕ) → owes k ≡ true → pays_at entries message t k ≡ false) → IsFirstOf entries owes (messages ++ message ∷ []) t (sooner first place)
-  first-more None None none found other = λ k owed. of-none k (none k owed) (other k owed)
-  first-more None (Some q) none found other = (found.owed, of-last q found.pays, λ k early owed. of-none k (none k owed) (found.before k early owed))
-  first-more (Some p) None is found other = (is.0, of-more p is.1, λ k early owed. of-none k (is.2 k early owed) (other k owed))
-  first-more (Some p) (Some q) is found other = elim (cases_lt q p) [
-    | inl before ↦
-        let same : min p q ≡ q = omega (arith, before) in
-        subst (λ n. IsFirstOf entries owes (messages ++ message ∷ []) t (Some n)) (sym same)
-        (found.owed, of-last q found.pays, λ k early owed. of-none k (is.2 k (omega (arith, early, before)) owed) (found.before k early owed))
-    | inr after ↦
-        let same : min p q ≡ p = omega (arith, after) in
-        subst (λ n. IsFirstOf entries owes (messages ++ message ∷ []) t (Some n)) (sym same)
-        (is.0, of-more p is.1, λ k early owed. of-none k (is.2 k early owed) (found.before k (omega (arith, early, after)) owed))
-  ]
+    -- where neither a message of the narrower test nor the message pays a gain, none of the wider test does
+    of-none : (k : ℕ) → ¬ (PaysSomeAt entries few t k) → pays_at entries message t k ≡ false → ¬ (PaysSomeAt entries more t k)
+    of-none k none other (has, early) = elim (only (entry_at entries k).message has) [
+      | inl before ↦ none (before, early)
+      | inr last ↦ true≢false (sym (named-pays entries message t k last early) ∙ other)
+    ]
 
-module _ (gains : Gains) (strikes : List Strike) (a : Account) (messages : List ℕ) (t : ℕ) where
+    -- where the wider test passes one message more, the first place is the lesser of that before and the first one of the message
+    pub first-more : (first place : Option ℕ) → IsFirstOf entries owes few t first → IfSome place (IsFirstPayable entries owes message t) →
+        IfNone place ((k : ℕ) → owes k ≡ true → pays_at entries message t k ≡ false) → IsFirstOf entries owes more t (sooner first place)
+    first-more None None none found other = λ k owed. of-none k (none k owed) (other k owed)
+    first-more None (Some q) none found other = (found.owed, of-last q found.pays, λ k early owed. of-none k (none k owed) (found.before k early owed))
+    first-more (Some p) None is found other = (is.0, of-more p is.1, λ k early owed. of-none k (is.2 k early owed) (other k owed))
+    first-more (Some p) (Some q) is found other = elim (cases_lt q p) [
+      | inl before ↦
+          let same : min p q ≡ q = omega (arith, before) in
+          subst (λ n. IsFirstOf entries owes more t (Some n)) (sym same)
+          (found.owed, of-last q found.pays, λ k early owed. of-none k (is.2 k (omega (arith, early, before)) owed) (found.before k early owed))
+      | inr after ↦
+          let same : min p q ≡ p = omega (arith, after) in
+          subst (λ n. IsFirstOf entries owes more t (Some n)) (sym same)
+          (is.0, of-more p is.1, λ k early owed. of-none k (is.2 k early owed) (found.before k (omega (arith, early, after)) owed))
+    ]
+
+-- whether the number stands under the key, and is below another one
+abbrev pub below : List (ℕ × ℕ) → ℕ → ℕ → ℕ → Bool
+below pairs key from m = holds pairs key m && nat_lt m from
+
+pub below-parts : (held : Bool) (m from : ℕ) → (held && nat_lt m from) ≡ true → (held ≡ true) × (m < from)
+below-parts true m from is = (refl, ltb-true m from is)
+below-parts false m from is = absurd (true≢false (sym is))
+
+below-is : (held : Bool) (m from : ℕ) → held ≡ true → m < from → (held && nat_lt m from) ≡ true
+below-is held m from is low = ap (λ b. b && nat_lt m from) is ∙ lt-ltb m from low
+
+module _ (gains : Gains) (strikes : List Strike) (a : Account) (pairs : List (ℕ × ℕ)) (key t : ℕ) where
+  abbrev IsFirst : (ℕ → Bool) → Option ℕ → Type 0
+  IsFirst test first = IsFirstOf (entries_of gains) (owes_at gains strikes a) test t first
+
+  -- the first place stays from one number up to where each number that is owed and stands under the key is below it
+  goes-to : (from : ℕ) (more : ℕ → Bool) (first : Option ℕ) → ((m : ℕ) → below pairs key from m ≡ true → more m ≡ true) → ((m : ℕ) → more m ≡ true → holds pairs key m ≡ true) →
+      ((m k : ℕ) → more m ≡ true → holds pairs key m ≡ true → holds gains.messages m k ≡ true → m < from) → IsFirst (below pairs key from) first → IsFirst more first
+  goes-to from more first wider under low is =
+      first-same (entries_of gains) (owes_at gains strikes a) (below pairs key from) more t wider first
+      (λ k early owed passes.
+      let m = (entry_at (entries_of gains) k).message in
+      below-is (holds pairs key m) m from (under m passes) (low m k passes (under m passes) (held-left gains m k refl ∙ owed-left gains strikes a k owed)))
+      is
+
+  module _ (from : ℕ) (first : Option ℕ) (is : IsFirst (below pairs key from) first) where
+    -- nothing stands under the key from here on
+    pub none-under : ((n : ℕ) → from ≤ n → holds pairs key n ≡ false) → IsFirst (holds pairs key) first
+    none-under none = goes-to from (holds pairs key) first (λ m passes. (below-parts (holds pairs key m) m from passes).0) (λ m held. held)
+        (λ m k passes held left. elim (cases_lt m from) [
+          | inl low ↦ low
+          | inr high ↦ absurd (true≢false (sym held ∙ none m high))
+        ]) is
+
+    module _ (message : ℕ) (next : IsNextUnder pairs key from message) where
+      -- what stands under the key is below `from`, or not below the next message
+      next-under : (m : ℕ) → holds pairs key m ≡ true → m < message → m < from
+      next-under m held low = elim (cases_lt m from) [
+        | inl early ↦ early
+        | inr late ↦ absurd (true≢false (sym held ∙ next.none_before m late low))
+      ]
+
+      -- nothing is left from the next message on
+      pub none-left : NoneFrom gains.messages message 0 → IsFirst (holds pairs key) first
+      none-left none = goes-to from (holds pairs key) first (λ m passes. (below-parts (holds pairs key m) m from passes).0) (λ m held. held)
+          (λ m k passes held left. elim (cases_lt m message) [
+            | inl low ↦ next-under m held low
+            | inr high ↦ absurd (true≢false (sym left ∙ none m k (record { keys = high; numbers = λ same. omega arith })))
+          ]) is
+
+      -- nothing is left from the next message up to another one
+      pub left-next : (found place : ℕ) → IsFirstFrom gains.messages message 0 (found, place) → IsFirst (below pairs key found) first
+      left-next found place at =
+          let after = at.after.keys in
+          goes-to from (below pairs key found) first
+          (λ m passes.
+          let parts = below-parts (holds pairs key m) m from passes in
+          let order = next.after in
+          below-is (holds pairs key m) m found parts.0 (omega (arith, parts.1, order, after)))
+          (λ m passes. (below-parts (holds pairs key m) m found passes).0)
+          (λ m k passes held left. elim (cases_lt m message) [
+            | inl low ↦ next-under m held low
+            | inr high ↦
+                let least = (at.first m k left (record { keys = high; numbers = λ same. omega arith })).keys in
+                let low = (below-parts (holds pairs key m) m found passes).1 in
+                absurd (omega (arith, least, low))
+          ]) is
+
+  module _ (message : ℕ) (first place : Option ℕ) (held : holds pairs key message ≡ true) (is : IsFirst (below pairs key message) first)
+      (found : IfSome place (IsFirstPayable (entries_of gains) (owes_at gains strikes a) message t))
+      (none : IfNone place ((k : ℕ) → owes_at gains strikes a k ≡ true → pays_at (entries_of gains) message t k ≡ false)) where
+    -- the message itself is gone through too
+    pub one-more : IsFirst (below pairs key (message + 1)) (sooner first place)
+    one-more = first-more (entries_of gains) (owes_at gains strikes a) (below pairs key message) (below pairs key (message + 1)) t
+        (λ m passes.
+        let parts = below-parts (holds pairs key m) m message passes in
+        below-is (holds pairs key m) m (message + 1) parts.0 (omega (arith, parts.1)))
+        message (below-is (holds pairs key message) message (message + 1) held (omega arith))
+        (λ m passes.
+        let parts = below-parts (holds pairs key m) m (message + 1) passes in
+        elim (cases_lt m message) [
+          | inl low ↦ inl (below-is (holds pairs key m) m message parts.0 low)
+          | inr high ↦ inr (omega (arith, high, parts.1))
+        ])
+        first place is found none
+
+-- the first place of two is not after the second one
+sooner-low : (first : Option ℕ) (p k : ℕ) → IfSome (sooner first (Some p)) (λ at. k < at) → k < p
+sooner-low None p k low = low
+sooner-low (Some q) p k low = omega (arith, low)
+
+module _ (gains : Gains) (strikes : List Strike) (a : Account) (pairs : List (ℕ × ℕ)) (key t message : ℕ) (gained : AreGains gains) where
+  -- the place of a debt that is found is kept
+  pub found-kept : (place : Option ℕ) → IfSome place (IsFirstPayable (entries_of gains) (owes_at gains strikes a) message t) → IfSome place (IsKept gains)
+  found-kept None found = tt
+  found-kept (Some p) found = left-kept gains p gained (owed-left gains strikes a p found.owed)
+
+  -- where no gain before the place of the message has a greater one, nothing greater comes before what is found
+  pub newest-first : (first place : Option ℕ) → IfSome place (IsFirstPayable (entries_of gains) (owes_at gains strikes a) message t) →
+      MatchOption place ⊥ (λ p. (k : ℕ) → k ≤ p → IsKept gains k → (entry_at (entries_of gains) k).message ≤ (entry_at (entries_of gains) p).message) →
+      IsFirstOf (entries_of gains) (owes_at gains strikes a) (below pairs key (message + 1)) t (sooner first place) →
+      IsFirstOf (entries_of gains) (owes_at gains strikes a) (holds pairs key) t (sooner first place)
+  newest-first first None found newest is = absurd newest
+  newest-first first (Some p) found newest is =
+      let same = (pays-parts message t (entry_at (entries_of gains) p) found.pays).0 in
+      first-same (entries_of gains) (owes_at gains strikes a) (below pairs key (message + 1)) (holds pairs key) t (λ m passes. (below-parts (holds pairs key m) m (message + 1) passes).0)
+      (sooner first (Some p))
+      (λ k early owed passes.
+      let low = newest k (let before = sooner-low first p k early in omega (arith, before)) (left-kept gains k gained (owed-left gains strikes a k owed)) in
+      below-is (holds pairs key (entry_at (entries_of gains) k).message) (entry_at (entries_of gains) k).message (message + 1) passes (omega (arith, low, same)))
+      is
+
+module _ (gains : Gains) (strikes : List Strike) (a : Account) (test : ℕ → Bool) (t : ℕ) where
   abbrev owed : ℕ → Bool
   owed = owes_at gains strikes a
 
-  -- a send of the message at the first place that one of the messages pays takes out the first debt that one of them pays
-  pub first-account : (place : ℕ) → IsAccount gains strikes a → IsFirstOf (entries_of gains) owed messages t (Some place) →
-      IsWithoutFirst (PaysOne messages t) (account_debts gains strikes a) (paid_by (entry_at (entries_of gains) place).message t (account_debts gains strikes a))
+  -- a send of the message at the first place takes out the first debt that a message that passes the test pays
+  pub first-account : (place : ℕ) → IsAccount gains strikes a → IsFirstOf (entries_of gains) owed test t (Some place) →
+      IsFirstPaid (PaysSome test t) t (account_debts gains strikes a) (Some (entry_at (entries_of gains) place).message)
   unfolding account_debts
   first-account place is found =
       let entries = entries_of gains in
@@ -77,20 +197,30 @@ module _ (gains : Gains) (strikes : List Strike) (a : Account) (messages : List 
         gone = ap (λ b. owed place && not b) (eq-eqb place place refl) ∙ and-false (owed place);
         others = λ k other. ap (λ b. owed k && not b) (ne_eqb k place other) ∙ and-true (owed k);
       } in
-      let one = removed (PaysOne messages t) entries owed must less must place inside found.0 without (λ k. refl) found.1 found.2 in
+      let one = removed (PaysSome test t) entries owed must less must place inside found.0 without (λ k. refl) found.1 found.2 in
       let only = removed (λ debt. IsTrue (is_payable message t debt)) entries owed must less must place inside found.0 without (λ k. refl)
       (named-pays entries message t place refl found.1.1)
       (λ k early here pays.
       let parts = pays-parts message t (entry_at entries k) pays in
-      found.2 k early here (subst (Contains messages) (sym parts.0) found.1.0, parts.1)) in
-      subst (IsWithoutFirst (PaysOne messages t) debts) (paid-is message t debts left only) one
+      found.2 k early here (subst (λ m. test m ≡ true) (sym parts.0) found.1.0, parts.1)) in (
+        record {
+          before = one.before;
+          first = one.first;
+          after = one.after;
+          whole = one.whole;
+          holds = one.holds;
+          none_before = one.none_before;
+          rest = sym (paid-is message t debts left only) ∙ one.rest;
+        },
+        refl,
+      )
 
-  -- where a send of one of the messages pays no gain that is owed, it pays none of the debts
-  pub none-account : IsFirstOf (entries_of gains) owed messages t None → All (λ debt. ¬ (PaysOne messages t debt)) (account_debts gains strikes a)
+  -- where no message that passes the test pays a gain that is owed, none pays a debt
+  pub none-account : IsFirstOf (entries_of gains) owed test t None → All (λ debt. ¬ (PaysSome test t debt)) (account_debts gains strikes a)
   unfolding account_debts
   none-account none =
-      listed-All (λ debt. ¬ (PaysOne messages t debt)) owed (must_at gains a) 0 (entries_of gains)
+      listed-All (λ debt. ¬ (PaysSome test t debt)) owed (must_at gains a) 0 (entries_of gains)
       (λ j e below here pays.
       let at : 0 + j ≡ j = omega arith in
       let same : get_or (entries_of gains) j e ≡ entry_at (entries_of gains) j = get_or_default (entries_of gains) j e no_entry below in
-      none j (ap owed (sym at) ∙ here) (subst (λ (x : Entry). Contains messages x.message × (t ≤ x.deadline)) same pays))
+      none j (ap owed (sym at) ∙ here) (subst (λ (x : Entry). (test x.message ≡ true) × (t ≤ x.deadline)) same pays))

@@ -31,7 +31,7 @@ cut-at entries o m o' m' at within is without must =
     }
 
 -- where its debt is the first of which P holds, what is left is without the first of which P holds
-pub removed : (P : Debt → Type 0) (entries : List Entry) (o m o' m' : ℕ → Bool) (at : ℕ) → at < length entries → o at ≡ true → IsWithout at o o' → ((k : ℕ) → m' k ≡ m k) →
+abbrev pub removed : (P : Debt → Type 0) (entries : List Entry) (o m o' m' : ℕ → Bool) (at : ℕ) → at < length entries → o at ≡ true → IsWithout at o o' → ((k : ℕ) → m' k ≡ m k) →
     P (debt_of (get_or entries at no_entry) (m at)) → ((k : ℕ) → k < at → o k ≡ true → ¬ (P (debt_of (get_or entries k no_entry) (m k)))) →
     IsWithoutFirst P (debts_from o m 0 entries) (debts_from o' m' 0 entries)
 removed P entries o m o' m' at within is without must holds none =

@@ -1,5 +1,5 @@
 -- What is known beside each gain by its flags, so that the index is not asked.
-use Rattle.std.proofs.Common.{◌≡◌, ℕ, ◌+◌, ◌-◌, ◌≤◌, true, false, [], ◌∷◌, ◌++◌, length, drop, set, ap, ◌∙◌, arith}
+use Rattle.std.proofs.Common.{◌≡◌, ℕ, Bool, ◌+◌, ◌-◌, ◌≤◌, true, false, [], ◌∷◌, ◌++◌, length, drop, set, ap, ◌∙◌, arith}
 use Rattle.std.proofs.lemmas.Bool.Decides.{nat_tests}
 use Rattle.std.proofs.lemmas.Bool.{cases_eq}
 use Rattle.std.proofs.lemmas.List.{get_or-drop, get_or-set_other, get_or-set_same, get_or_append_left, get_or_push, length-append, length-drop, length-set}
@@ -23,11 +23,12 @@ pub flags-same : (old new : Gains) → AreFlags old → new.entries.items ≡ ol
 flags-same old new are entries flags end same = grind (arith, nat_tests, left-as)
 
 -- where a gain is put after the others, with flags of its own, the flags are right still
-pub flags-more : (old new : Gains) (debt : Debt) → AreFlags old → length old.entries.items ≤ old.end → length (entries_of old) ≡ old.end →
+pub flags-more : (old new : Gains) (debt : Debt) (newest : Bool) → AreFlags old → (newest ≡ true → (k : ℕ) → IsKept old k → (entry_at (entries_of old) k).message ≤ debt.message) →
+    length old.entries.items ≤ old.end → length (entries_of old) ≡ old.end →
     new.entries.items ≡ old.entries.items ++ (record { message = debt.message; deadline = debt.deadline }) ∷ [] →
-    new.flags.items ≡ old.flags.items ++ (record { must = debt.must; left = true }) ∷ [] → new.end ≡ old.end + 1 → IsGain debt old new → AreFlags new
+    new.flags.items ≡ old.flags.items ++ (record { must = debt.must; left = true; newest = newest }) ∷ [] → new.end ≡ old.end + 1 → IsGain debt old new → AreFlags new
 unfolding is_left
-flags-more old new debt are long count entries flags end gain = grind (arith, nat_tests, length-append, get_or_push, get_or_append_left, cases_eq, left-as)
+flags-more old new debt newest are above long count entries flags end gain = grind (arith, nat_tests, length-append, get_or_push, get_or_append_left, cases_eq, left-as)
 
 -- where a gain is let go, and its flags are blank then, the flags are right still
 pub flags-let_go : (old new : Gains) (place : ℕ) → AreFlags old → length old.entries.items ≤ old.end → IsKept old place → new.entries.items ≡ old.entries.items →

@@ -1,5 +1,5 @@
 -- Which gains are left, and what changes of that when gains come, are let go or are dropped.
-use Rattle.std.proofs.Common.{◌≡◌, ◌≢◌, ℕ, suc, ◌+◌, ◌-◌, ◌^◌, ◌<◌, ◌≤◌, ◌==◌, ◌&&◌, ◌||◌, Bool, true, false, cond, not, List, [], ◌∷◌, ◌++◌, length, drop, get_or, refl, sym, ap, ap₂, ◌∙◌, arith}
+use Rattle.std.proofs.Common.{◌≡◌, ◌≢◌, ℕ, suc, ◌+◌, ◌-◌, ◌^◌, ◌<◌, ◌≤◌, ◌==◌, ◌&&◌, ◌||◌, Bool, true, false, cond, not, List, [], ◌∷◌, ◌++◌, length, drop, get_or, refl, sym, ap, ap₂, ◌∙◌, subst, inl, inr, arith}
 use Rattle.std.proofs.lemmas.Bool.Decides.{nat_tests}
 use Rattle.std.specs.Prelude.{replicate}
 use Rattle.std.proofs.lemmas.Bool.{cases_eq, cases_lt, eq-eqb, false_from_ne_true, ne_eqb, true≢false}
@@ -111,29 +111,100 @@ more-entries old new entry long entries end = grind (arith, nat_tests, length-ap
 -- where a gain comes and stands under its message, the gains are right, and the new one is theirs
 pub gains-more : (old new : Gains) (debt : Debt) → AreGains old → new.entries.items ≡ old.entries.items ++ (record { message = debt.message; deadline = debt.deadline }) ∷ [] →
     new.end ≡ old.end + 1 → new.end < 2 ^ 64 → IsNoted old.end debt old.messages old.musts new.messages new.musts →
-    (new.rises ≡ true → AreRising (old.entries.items ++ (record { message = debt.message; deadline = debt.deadline }) ∷ [])) → (IsGain debt old new → AreFlags new) →
-    AreGains new × IsGain debt old new
-gains-more old new debt are entries end small noted rises flags = grind (arith, more-entries, entries-long, length-append, get_or_push, ne_eqb, and-false, eq-eqb, cases_eq, get_or_append_left, true≢false, not-noted)
+    (new.rises ≡ true → AreRising (old.entries.items ++ (record { message = debt.message; deadline = debt.deadline }) ∷ [])) → old.highest ≤ new.highest → debt.message ≤ new.highest →
+    (IsGain debt old new → AreFlags new) → AreGains new × IsGain debt old new
+gains-more old new debt are entries end small noted rises higher own flags =
+    let n = old.end in
+    let e : Entry = record { message = debt.message; deadline = debt.deadline } in
+    let long = are.long in
+    let all : entries_of new ≡ entries_of old ++ e ∷ [] = more-entries old new e long entries end in
+    let count = entries-long old long in
+    let longer = length-append old.entries.items (e ∷ []) in
+    let some : length new.entries.items ≡ length old.entries.items + 1 = ap length entries ∙ longer in
+    let here : entry_at (entries_of new) n ≡ e = ap (λ l. entry_at l n) all ∙ get_or_push (entries_of old) e blank n count in
+    let others : (m k : ℕ) → k ≢ n → holds new.messages m k ≡ holds old.messages m k = λ m k other.
+    noted.messages m k ∙ ap (λ b. cond (m == debt.message && b) true (holds old.messages m k)) (ne_eqb k n other)
+    ∙ ap (λ b. cond b true (holds old.messages m k)) (and-false (m == debt.message)) in
+    let gain : IsGain debt old new = record {
+      entries = all;
+      message = ap (holds new.messages debt.message) count ∙ noted.messages debt.message n ∙ ap₂ (λ a b. cond (a && b) true (holds old.messages debt.message n)) (eq-eqb debt.message debt.message refl) (eq-eqb n n refl);
+      messages = λ m k other. others m k (λ same. other (same ∙ sym count));
+      must = ap (holds new.musts 0) count ∙ noted.must;
+      musts = λ k other. noted.musts k (λ same. other (same ∙ sym count));
+    } in (
+      record {
+        long = omega (arith, some, end, long);
+        small = small;
+        messages = λ m k is. elim (cases_eq k n) [
+          | inl there ↦
+              let same : m ≡ debt.message = named m k there is in
+              record {
+                kept = record { from = omega (arith, there, some, end); within = omega (arith, there, end) };
+                message = ap (λ i. (entry_at (entries_of new) i).message) there ∙ ap (λ (x : Entry). x.message) here ∙ sym same;
+              }
+          | inr other ↦
+              let was = are.messages m k (sym (others m k other) ∙ is) in
+              let from = was.kept.from in
+              let within = was.kept.within in
+              record {
+                kept = record { from = omega (arith, from, some, end); within = omega (arith, within, end) };
+                message = ap (λ (l : List Entry). (entry_at l k).message) all
+                    ∙ ap (λ (x : Entry). x.message) (get_or_append_left (entries_of old) (e ∷ []) blank k (omega (arith, within, count))) ∙ was.message;
+              }
+        ];
+        musts = λ k is. elim (cases_eq k n) [
+          | inl there ↦ omega (arith, there, end)
+          | inr other ↦
+              let within = are.musts k (sym (noted.musts k other) ∙ is) in
+              omega (arith, within, end)
+        ];
+        rises = λ said. subst AreRising (sym entries) (rises said);
+        highest = λ k is. grind (arith, more-entries, entries-long, length-append, get_or_push, cases_eq, get_or_append_left);
+        flags = flags gain;
+      },
+      gain,
+    )
+  where
+    named : (m k : ℕ) → k ≡ old.end → holds new.messages m k ≡ true → m ≡ debt.message
+    named m k there is = elim (cases_eq m debt.message) [
+      | inl same ↦ same
+      | inr other ↦ absurd (true≢false (sym is
+          ∙ noted.messages m k
+          ∙ ap (λ b. cond (b && k == old.end) true (holds old.messages m k)) (ne_eqb m debt.message other)
+          ∙ not-noted old m k are (omega (arith, there))))
+    ]
 
 -- where the entries and the places under the messages stay, the gains are right still, and the same
 pub gains-same : (old new : Gains) → AreGains old → new.entries.items ≡ old.entries.items → new.end ≡ old.end → ((m k : ℕ) → holds new.messages m k ≡ holds old.messages m k) →
-    ((k : ℕ) → holds new.musts 0 k ≡ holds old.musts 0 k) → new.rises ≡ old.rises → (AreSameGains old new → AreFlags new) → AreGains new × AreSameGains old new
+    ((k : ℕ) → holds new.musts 0 k ≡ holds old.musts 0 k) → new.rises ≡ old.rises → new.highest ≡ old.highest → (AreSameGains old new → AreFlags new) → AreGains new × AreSameGains old new
 unfolding entries_of
-gains-same old new are entries end messages musts rises flags = grind (arith, nat_tests)
+gains-same old new are entries end messages musts rises highest flags = grind (arith, nat_tests)
 
 -- where a gain is taken from under its message, the gains are right still, and it is let go
-pub gains-let_go : (old new : Gains) (place : ℕ) → AreGains old → new.entries.items ≡ old.entries.items → new.end ≡ old.end → new.rises ≡ old.rises →
+pub gains-let_go : (old new : Gains) (place : ℕ) → AreGains old → new.entries.items ≡ old.entries.items → new.end ≡ old.end → new.rises ≡ old.rises → new.highest ≡ old.highest →
     ((m k : ℕ) → holds new.messages m k ≡ cond (m == (entry_at (entries_of old) place).message && k == place) false (holds old.messages m k)) →
     ((m k : ℕ) → holds new.musts m k ≡ cond (m == 0 && k == place) false (holds old.musts m k)) → (IsLetGo place old new → AreFlags new) →
     AreGains new × IsLetGo place old new
 unfolding entries_of
-gains-let_go old new place are entries end rises messages musts flags = grind (arith, nat_tests, cases_eq, eq-eqb, ne_eqb, false_from_ne_true, and-false, true≢false)
+gains-let_go old new place are entries end rises highest messages musts flags = grind (arith, nat_tests, cases_eq, eq-eqb, ne_eqb, false_from_ne_true, and-false, true≢false)
 
 -- where the first gains are dropped, none of which is left, the gains are right still
 pub gains-dropped : (old new : Gains) (place count : ℕ) → AreGains old → count + (old.end - length old.entries.items) ≡ place → place ≤ old.end →
-    new.entries.items ≡ drop count old.entries.items → new.end ≡ old.end → new.messages ≡ old.messages → new.musts ≡ old.musts → new.rises ≡ old.rises →
+    new.entries.items ≡ drop count old.entries.items → new.end ≡ old.end → new.messages ≡ old.messages → new.musts ≡ old.musts → new.rises ≡ old.rises → new.highest ≡ old.highest →
     ((m k : ℕ) → k < place → holds old.messages m k ≡ false) → (IsDropped place old new → AreFlags new) → AreGains new × IsDropped place old new
-gains-dropped old new place count are here within entries end messages musts rises none flags = grind (arith, nat_tests, length-drop, cases_lt, entry-kept, get_or-drop, entries-long, true≢false, get_or_past)
+gains-dropped old new place count are here within entries end messages musts rises highest none flags =
+    let dropped : IsDropped place old new = grind (arith, nat_tests, length-drop, cases_lt, entry-kept, get_or-drop, entries-long, true≢false, get_or_past) in (
+      record {
+        long = grind (arith, length-drop);
+        small = grind (arith);
+        messages = grind (arith, nat_tests, length-drop, cases_lt, entry-kept, get_or-drop, entries-long, true≢false, get_or_past);
+        musts = grind (arith, nat_tests, length-drop, cases_lt, entry-kept, get_or-drop, entries-long, true≢false, get_or_past);
+        rises = grind (arith, length-drop, get_or-drop);
+        highest = λ k is. grind (arith, length-drop, entry-kept, get_or-drop, entries-long);
+        flags = flags dropped;
+      },
+      dropped,
+    )
 
 -- debts that are told over two lists of entries are the same where the entries that are owed are
 pub listed-alike : (o m o' m' : ℕ → Bool) (i : ℕ) (xs ys : List Entry) → length xs ≡ length ys → ((j : ℕ) → j < length xs → o (i + j) ≡ o' (i + j)) →

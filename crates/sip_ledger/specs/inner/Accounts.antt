@@ -1,4 +1,4 @@
-use Rattle.std.specs.Prelude.{◌≡◌, ◌≢◌, ◌==◌, ◌&&◌, ◌||◌, ◌<◌, ◌≤◌, ◌+◌, ◌-◌, ◌^◌, ℕ, Bool, true, false, not, cond, Option, Some, None, IfSome, IfNone, List, [], ◌∷◌, ◌++◌, All, Contains, drop, get_or, length, map, min, nat_le, nat_lt, replicate, set, take}
+use Rattle.std.specs.Prelude.{◌≡◌, ◌≢◌, ◌==◌, ◌&&◌, ◌||◌, ◌<◌, ◌≤◌, ◌+◌, ◌-◌, ◌^◌, ℕ, Bool, true, false, not, cond, Option, Some, None, IfSome, IfNone, List, [], ◌∷◌, ◌++◌, All, drop, get_or, length, map, min, nat_le, nat_lt, replicate, set, take}
 use Rattle.std.specs.List.{list_any}
 use Rattle.sip_ledger.specs.declared.debt.Debt.{Debt}
 use Rattle.sip_ledger.specs.declared.debt.Entry.{Entry}
@@ -48,7 +48,7 @@ pub record IsPlaceOf (gains : Gains) (m k : ℕ) : Type 0 where
 
 -- what is kept beside a gain: whether it must be sent, and whether it is left
 abbrev pub no_flags : Flags
-no_flags = record { must = false; left = false }
+no_flags = record { must = false; left = false; newest = false }
 
 abbrev pub flags_at : Gains → ℕ → Flags
 flags_at gains k = get_or gains.flags.items (k - (gains.end - length gains.entries.items)) no_flags
@@ -58,6 +58,7 @@ pub record AreFlags (gains : Gains) : Type 0 where
   pub many : length gains.flags.items ≡ length gains.entries.items
   pub left : (k : ℕ) → IsKept gains k → (flags_at gains k).left ≡ is_left gains k
   pub must : (k : ℕ) → IsKept gains k → (flags_at gains k).must ≡ holds gains.musts 0 k
+  pub newest : (j k : ℕ) → j ≤ k → IsKept gains j → IsKept gains k → (flags_at gains k).newest ≡ true → (entry_at (entries_of gains) j).message ≤ (entry_at (entries_of gains) k).message
 
 -- what stands under a message are gains of it, what must be sent was gained, and deadlines rise where they are said to
 pub record AreGains (gains : Gains) : Type 0 where
@@ -66,6 +67,7 @@ pub record AreGains (gains : Gains) : Type 0 where
   pub messages : (m k : ℕ) → holds gains.messages m k ≡ true → IsPlaceOf gains m k
   pub musts : (k : ℕ) → holds gains.musts 0 k ≡ true → k < gains.end
   pub rises : gains.rises ≡ true → AreRising gains.entries.items
+  pub highest : (k : ℕ) → IsKept gains k → (entry_at (entries_of gains) k).message ≤ gains.highest
   pub flags : AreFlags gains
 
 -- the place stands under the debt's message, and among those of what must be sent if it must; no other place moves
@@ -198,15 +200,15 @@ pub record IsFirstPayable (entries : List Entry) (owes : ℕ → Bool) (message 
   pub pays : pays_at entries message t place ≡ true
   pub before : (k : ℕ) → k < place → owes k ≡ true → pays_at entries message t k ≡ false
 
--- a send of one of the messages at t pays the gain at a place
-abbrev pub PaysOneAt : List Entry → List ℕ → ℕ → ℕ → Type 0
-PaysOneAt entries messages t k = Contains messages (entry_at entries k).message × (t ≤ (entry_at entries k).deadline)
+-- a send at t of a message that passes the test pays the gain at a place
+abbrev pub PaysSomeAt : List Entry → (ℕ → Bool) → ℕ → ℕ → Type 0
+PaysSomeAt entries test t k = (test (entry_at entries k).message ≡ true) × (t ≤ (entry_at entries k).deadline)
 
--- the first place that is owed and whose gain a send of one of the messages at t pays, if there is one
-abbrev pub IsFirstOf : List Entry → (ℕ → Bool) → List ℕ → ℕ → Option ℕ → Type 0
-IsFirstOf entries owes messages t None = (k : ℕ) → owes k ≡ true → ¬ (PaysOneAt entries messages t k)
-IsFirstOf entries owes messages t (Some place) =
-    (owes place ≡ true) × PaysOneAt entries messages t place × ((k : ℕ) → k < place → owes k ≡ true → ¬ (PaysOneAt entries messages t k))
+-- the first place that is owed and whose gain a send at t of a message that passes the test pays, if there is one
+abbrev pub IsFirstOf : List Entry → (ℕ → Bool) → (ℕ → Bool) → ℕ → Option ℕ → Type 0
+IsFirstOf entries owes test t None = (k : ℕ) → owes k ≡ true → ¬ (PaysSomeAt entries test t k)
+IsFirstOf entries owes test t (Some place) =
+    (owes place ≡ true) × PaysSomeAt entries test t place × ((k : ℕ) → k < place → owes k ≡ true → ¬ (PaysSomeAt entries test t k))
 
 -- the lesser of two places, where there are some
 abbrev pub sooner : Option ℕ → Option ℕ → Option ℕ

@@ -12,6 +12,7 @@ use crate::accounts::gains::Gains;
 use crate::accounts::seek::Seek;
 use crate::accounts::strikes::{Strike, are_same, end_by, put, struck_to};
 use crate::debt::Debt;
+use crate::index::Index;
 use std::alloc::{AllocError, Global};
 
 /// What a row owes: what was gained at the places from `start` up to `end`, but for what its strikes say. What was gained below
@@ -185,26 +186,43 @@ pub(crate) fn find(
     None
 }
 
-/// The first place whose debt a send of one of these messages at the moment pays.
-pub(crate) fn find_one(
+/// The first place whose debt a send of a message at the moment pays that stands under the key. The messages that stand there and are left
+/// are gone through from the least on, until what is found stands before all greater ones. Where that takes more than `most` steps, the
+/// answer is None.
+pub(crate) fn find_under(
     gains: &Gains,
     strikes: &[Strike],
     account: Account,
-    messages: &[u64],
+    index: &Index,
+    key: u64,
     moment: u64,
-) -> Option<usize>
+    most: usize,
+) -> Option<Option<usize>>
     requires gained { AreGains gains.now }
     requires account { IsAccount gains.now strikes.now account }
-    ensures { IsFirstOf (entries_of gains.now) (owes_at gains.now strikes.now account) messages.now moment result }
+    ensures { IfSome result (IsFirstOf (entries_of gains.now) (owes_at gains.now strikes.now account) (holds index.now key) moment) }
 {
     let mut first = None;
-    for at in 0..messages.len() {
-        let message = messages[at];
-        let mut seek = Seek::new(gains, message, account.start);
-        let place = find(gains, strikes, account, &mut seek, message, moment);
-        first = sooner(first, place);
+    let mut from = 0;
+    for _ in 0..most {
+        let Some(message) = index.next(key, from) else {
+            return Some(first);
+        };
+        let Some(left) = gains.message_from(message, 0) else {
+            return Some(first);
+        };
+        from = left;
+        if left == message {
+            let mut seek = Seek::new(gains, message, account.start);
+            let place = find(gains, strikes, account, &mut seek, message, moment);
+            first = sooner(first, place);
+            if gains.is_newest(place) {
+                return Some(first);
+            }
+            from = message.checked_add(1)?;
+        }
     }
-    first
+    None
 }
 
 /// The lesser of two places, where there are some.

@@ -1,5 +1,5 @@
 //! What the rows gained: one list for all.
-ghost use Rattle.std.specs.Prelude.{◌≡◌, ◌<◌, ◌≤◌, ◌+◌, ◌==◌, ◌&&◌, ◌++◌, ◌∷◌, ℕ, [], IfSome, IfNone, OnOk, OnErr, cond, length, true, false};
+ghost use Rattle.std.specs.Prelude.{◌≡◌, ◌<◌, ◌≤◌, ◌+◌, ◌==◌, ◌&&◌, ◌++◌, ◌∷◌, ℕ, [], IfSome, IfNone, MatchOption, OnOk, OnErr, cond, length, true, false};
 ghost use Rattle.std.specs.Bool.{OnTrue};
 ghost use Rattle.sip_ledger.specs.inner.Accounts.{AreGains, AreSameGains, IsDropped, IsGain, IsKept, IsLetGo, IsNoted, IsPlaceOf, entries_of, entry_at, first_after, flags_at, is_left};
 ghost use Rattle.sip_ledger.specs.Indexes.{holds, IsFirstFrom, NoneFrom};
@@ -17,6 +17,8 @@ pub(crate) struct Flags {
     pub must: bool,
     /// Whether it is left.
     pub left: bool,
+    /// Whether no gain that is kept before it has a greater message.
+    pub newest: bool,
 }
 
 /// What was gained, in order. A place is the number of a gain: it stays when gains before it are dropped.
@@ -34,6 +36,8 @@ pub(crate) struct Gains {
     pub musts: Index,
     /// Whether no deadline is below the one before it, as far as gains are kept.
     pub rises: bool,
+    /// No gain that is kept has a greater message.
+    pub highest: u64,
 }
 
 impl Gains {
@@ -49,6 +53,7 @@ impl Gains {
             messages: Index::new(alloc),
             musts: Index::new(alloc),
             rises: true,
+            highest: 0,
         }
     }
 
@@ -134,6 +139,7 @@ impl Gains {
         };
         let place = self.end as u64;
         let rises = rise(&self.entries, self.rises, entry);
+        let newest = self.highest <= debt.message;
         self.entries.reserve(1)?;
         self.flags.reserve(1)?;
         note(&mut self.messages, &mut self.musts, place, debt)?;
@@ -142,7 +148,9 @@ impl Gains {
         self.flags.push_reserved(Flags {
             must: debt.must,
             left: true,
+            newest,
         });
+        self.highest = self.highest.max(debt.message);
         self.end += 1;
         Ok(())
     }
@@ -176,13 +184,25 @@ impl Gains {
     }
 
     /// The message of the first pair from this one on, in the order of messages and then of places.
-    fn message_from(&self, message: u64, place: u64) -> Option<u64>
+    pub(crate) fn message_from(&self, message: u64, place: u64) -> Option<u64>
         ensures found { IfSome result (λ found. (k : ℕ) × IsFirstFrom self.now.messages message place (found, k)) }
         ensures none { IfNone result (NoneFrom self.now.messages message place) }
     {
         match self.messages.first_from(message, place) {
             Some(found) => Some(found.0),
             None => None,
+        }
+    }
+
+    /// Whether there is a place, and no gain that is kept up to it has a greater message than the one there.
+    pub(crate) fn is_newest(&self, place: Option<usize>) -> bool
+        requires gained { AreGains self.now }
+        requires kept { IfSome place (IsKept self.now) }
+        ensures { OnTrue result (MatchOption place ⊥ (λ at. (k : ℕ) → k ≤ at → IsKept self.now k → (entry_at (entries_of self.now) k).message ≤ (entry_at (entries_of self.now) at).message)) }
+    {
+        match place {
+            Some(place) => self.flags(place).newest,
+            None => false,
         }
     }
 
@@ -234,6 +254,7 @@ impl Gains {
         self.flags[at] = Flags {
             must: false,
             left: false,
+            newest: false,
         };
     }
 

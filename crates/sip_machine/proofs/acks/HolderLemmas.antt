@@ -1,48 +1,59 @@
--- Which debt is the first one whose message has a given To.
-use Rattle.std.specs.Prelude.{◌<◌, ◌↔◌, ℕ, IfNone, IfSome, Option, None, Some, List, [], All, get_or, length}
-use Rattle.std.proofs.lemmas.List.Elements.{All-get_or}
+-- Which debt is the first one whose message has a given To, where messages stand under the hashes of their Tos.
+use Rattle.std.specs.Prelude.{◌<◌, ◌∷◌, ℕ, None, Some, List, [], All, get_or, length}
+use Rattle.std.proofs.Common.{sym, subst}
+use Rattle.std.proofs.lemmas.List.Elements.{All-get_or, All-head}
 use Rattle.sip_ledger.specs.declared.debt.Debt.{Debt}
+use Rattle.sip_ledger.specs.Debts.{IsFirstPaid, PaysSome}
+use Rattle.sip_ledger.specs.Indexes.{holds}
 use Rattle.sip_machine.specs.Owes.{owed_in, owes_names}
-use Rattle.sip_machine.specs.Texts.{Texts, Keeps}
+use Rattle.sip_machine.specs.Texts.{Texts, Keeps, text_of}
 use Rattle.sip_machine.specs.inner.Acks.{HasTo}
-use Rattle.sip_machine.specs.inner.DebtLaws.{IsWithoutFirst-alike}
-use Rattle.sip_ledger.specs.Debts.{IsWithoutFirst as WithoutFirst, PaysOne, paid_by}
+use Rattle.sip_machine.specs.inner.DebtLaws.{All-back, All-front}
 use Rattle.sip_machine.specs.inner.OwesLaws.{All-names}
+use Rattle.sip_machine.specs.inner.Order.{hash_of}
 use Rattle.sip_machine.specs.inner.Paying.{FindsFirst}
 use Rattle.sip_machine.specs.inner.Dues.{AreBetween}
-use Rattle.sip_machine.specs.inner.Tos.{HoldBetween}
-
--- where P and Q hold of the same debts, the first debt of which P holds is the first of which Q holds
-pub FindsFirst-same : (P Q : Debt → Type 0) (t : ℕ) (debts : List Debt) (message : Option ℕ) → All (λ d. P d ↔ Q d) debts → FindsFirst P t debts message → FindsFirst Q t debts message
-FindsFirst-same P Q t debts None same none = λ k d low holds. none k d low ((same k d low).1 holds)
-FindsFirst-same P Q t debts (Some message) same first = IsWithoutFirst-alike P Q debts (paid_by message t debts) same first
-
--- what the accounts say of the first debt that one of some messages pays is what is found
-found-one : (messages : List ℕ) (t : ℕ) (debts : List Debt) (message : Option ℕ) → IfSome message (λ m. WithoutFirst (PaysOne messages t) debts (paid_by m t debts)) →
-    IfNone message (All (λ debt. ¬ (PaysOne messages t debt)) debts) → FindsFirst (PaysOne messages t) t debts message
-found-one messages t debts None some none = none
-found-one messages t debts (Some message) some none =
-    record { before = some.before; first = some.first; after = some.after; whole = some.whole; holds = some.holds; none_before = some.none_before; rest = some.rest }
+use Rattle.sip_machine.specs.inner.Tos.{IsToOf, StandUnder}
 
 module _ (texts : Texts) (to : List ℕ) (low high t : ℕ) (rows : List (List Debt)) (row : ℕ) (inside : row < length rows)
-    (spans : All (AreBetween low high) rows) (kept : All (Keeps texts) (owes_names (owed_in rows row))) where
+    (spans : All (AreBetween low high) rows) (kept : All (Keeps texts) (owes_names (owed_in rows row))) (pairs : List (ℕ × ℕ)) (stand : StandUnder texts low high pairs) where
   -- what the row owes
   abbrev debts : List Debt
   debts = owed_in rows row
 
-  between : AreBetween low high debts
-  between = All-get_or (AreBetween low high) rows row [] inside spans
+  -- the message of the debt stands under the hash of the To, and its deadline is not before t
+  abbrev Under : Debt → Type 0
+  Under = PaysSome (holds pairs (hash_of to)) t
 
-  -- a send of one of the messages with a To pays the debts that have it
-  pays-held : (numbers : List ℕ) → HoldBetween texts to low high numbers → All (λ d. PaysOne numbers t d ↔ HasTo texts to t d) debts
-  pays-held numbers hold = λ k d within.
-      let debt = get_or debts k d in
-      let held = hold debt.message (All-names (Keeps texts) debts kept k d within) (between k d within).0 (between k d within).1 in
-      (λ pays. (held.1 pays.0, pays.1), λ has. (held.0 has.0, has.1))
+  known : All (λ d. Keeps texts d.message) debts
+  known = All-names (Keeps texts) debts kept
 
-  -- the first debt that one of the messages with a To pays is the first that has it
-  pub finds-held : (numbers : List ℕ) → HoldBetween texts to low high numbers → (message : Option ℕ) →
-      IfSome message (λ m. WithoutFirst (PaysOne numbers t) debts (paid_by m t debts)) → IfNone message (All (λ debt. ¬ (PaysOne numbers t debt)) debts) →
-      FindsFirst (HasTo texts to t) t debts message
-  finds-held numbers hold message some none =
-      FindsFirst-same (PaysOne numbers t) (HasTo texts to t) t debts message (pays-held numbers hold) (found-one numbers t debts message some none)
+  -- where the message of a debt has the To, it stands under its hash
+  under : All (λ d. HasTo texts to t d → Under d) debts
+  under = λ k d within has.
+      let between = All-get_or (AreBetween low high) rows row [] inside spans k d within in
+      (stand (get_or debts k d).message to (known k d within) between.0 between.1 has.0, has.1)
+
+  -- where none that is owed stands under the hash, none has the To
+  pub none-under : IsFirstPaid Under t debts None → FindsFirst (HasTo texts to t) t debts None
+  none-under none = λ k d within has. none k d within (under k d within has)
+
+  -- the message that is found first under the hash is kept
+  pub first-kept : (message : ℕ) → IsFirstPaid Under t debts (Some message) → Keeps texts message
+  first-kept message (one, same) =
+      let K : Debt → Type 0 = λ d. Keeps texts d.message in
+      subst (Keeps texts) same (All-head K one.first one.after (All-back K one.before (one.first ∷ one.after) (subst (All K) one.whole known)))
+
+  -- where it has the To, it is the first that does
+  pub first-under : (message : ℕ) → IsFirstPaid Under t debts (Some message) → IsToOf (text_of texts message) to → FindsFirst (HasTo texts to t) t debts (Some message)
+  first-under message (one, same) its =
+      let W : Debt → Type 0 = λ d. HasTo texts to t d → Under d in
+      record {
+        before = one.before;
+        first = one.first;
+        after = one.after;
+        whole = one.whole;
+        holds = (subst (λ n. IsToOf (text_of texts n) to) (sym same) its, one.holds.1);
+        none_before = λ k d within has. one.none_before k d within (All-front W one.before (one.first ∷ one.after) (subst (All W) one.whole under) k d within has);
+        rest = one.rest;
+      }

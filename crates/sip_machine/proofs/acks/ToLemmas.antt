@@ -1,6 +1,6 @@
 -- The To that stands beside a kept message stays what it is, and tells which of the messages has a To.
 use Prim.Native.Nat.{suc}
-use Rattle.std.specs.Prelude.{◌≡◌, ◌≢◌, ◌<◌, ◌≤◌, ◌↔◌, ◌-◌, ◌+◌, ◌⊎◌, ◌==◌, ◌&&◌, ℕ, Bool, true, false, cond, IfOk, IfSome, IsTrue, Option, Some, None, bytes_eq, List, [], ◌∷◌, ◌++◌, All, AllPairs, Contains, is_some, length, map, slice_get, take}
+use Rattle.std.specs.Prelude.{◌≡◌, ◌≢◌, ◌<◌, ◌≤◌, ◌↔◌, ◌-◌, ◌+◌, ◌==◌, ◌&&◌, ℕ, Bool, true, false, cond, IfSome, IsTrue, Option, Some, None, bytes_eq, List, [], ◌∷◌, ◌++◌, All, AllPairs, Contains, is_some, length, map, slice_get, take}
 use Rattle.std.specs.List.{items_where_true}
 use Rattle.std.specs.Cmp.Lexicographic.{bytes_decides}
 use Rattle.std.proofs.Common.{Result, Ok, Err, OnOk, is_err, true≢false, inl, inr, refl, sym, ◌∙◌, ap, ap₂, subst, arith, get_or}
@@ -9,16 +9,16 @@ use Rattle.std.proofs.lemmas.Bool.{cases_lt, eq-eqb, ne_eqb}
 use Rattle.std.proofs.lemmas.Grind.{get_or_picked}
 use Rattle.std.proofs.lemmas.Option.{slice_get-get_or, get_or_from_slice_get}
 use Rattle.std.proofs.lemmas.List.{get_or-map, get_or-take, get_or_default, length-map, length-take-le, take_all}
-use Rattle.std.proofs.lemmas.List.Elements.{All-contains, All-get_or, All-push, All-weaker, Contains-append_left, Contains-get_or, Contains-push, Contains-push_cases}
+use Rattle.std.proofs.lemmas.List.Elements.{All-contains, All-get_or, All-push, All-weaker, Contains-get_or}
 use Rattle.std.proofs.lemmas.List.Kept.{AllPairs-cons}
-use Rattle.sip_ledger.specs.Indexes.{IsNextUnder, holds}
+use Rattle.sip_ledger.specs.Indexes.{holds}
 use Rattle.sip_message.proofs.lemmas.message.Views.{same_reading}
 use Rattle.sip_standard.specs.Solid.{solid}
 use Rattle.sip_machine.specs.Texts.{Texts, IsBook, Keeps, text_of}
 use Rattle.sip_machine.specs.Retained.{only}
 use Rattle.sip_machine.specs.declared.tos.To.{To}
 use Rattle.sip_machine.specs.inner.Order.{hash_of}
-use Rattle.sip_machine.specs.inner.Tos.{IsToOf, IsTo, AreTos, AreHolders, AreUnder, HoldBetween, IsChanged, IsUnder, count_between}
+use Rattle.sip_machine.specs.inner.Tos.{IsToOf, IsTo, AreTos, AreUnder, StandUnder, IsChanged, IsUnder, count_between}
 use Rattle.sip_machine.proofs.texts.BesideLemmas.{among-all, count_between-is, many}
 use Rattle.sip_machine.proofs.texts.TextLaws.{Keeps-grow, text_of-grow}
 use Rattle.sip_machine.proofs.texts.RetainLemmas.{only-Keeps, text_of-only}
@@ -207,63 +207,6 @@ pub none-under : (hashes : Option (List (ℕ × ℕ))) (tos : List To) → is_so
 none-under None tos none = λ k d low. tt
 none-under (Some pairs) tos none = absurd (true≢false none)
 
--- the numbers are of messages with this To, and those of all such messages that are below `from`
-pub record AreHoldersTo (tos : List To) (text : List ℕ) (from : ℕ) (numbers : List ℕ) : Type 0 where
-  pub each : (n : ℕ) → Contains numbers n → Contains tos (record { number = n; text = text })
-  pub below : (n : ℕ) → n < from → Contains tos (record { number = n; text = text }) → Contains numbers n
-
-module _ (tos : List To) (pairs : List (ℕ × ℕ)) (text : List ℕ) (up : AllPairs (λ a b. a.number < b.number) tos) (under : AreUnder (Some pairs) tos) where
-  abbrev Has : ℕ → Type 0
-  Has n = Contains tos (record { number = n; text = text })
-
-  -- a message with this To stands under the hash of the To
-  stands : (n : ℕ) → Has n → holds pairs (hash_of text) n ≡ true
-  stands n has = All-contains (λ to. IsUnder (Some pairs) (hash_of to.text) to.number) tos (record { number = n; text = text }) under has
-
-  -- where no number from `from` on stands under the hash, the numbers are those of all messages with the To
-  pub all_told : (from : ℕ) (numbers : List ℕ) → AreHoldersTo tos text from numbers → ((n : ℕ) → from ≤ n → holds pairs (hash_of text) n ≡ false) → AreHolders tos text numbers
-  all_told from numbers are none = λ n. (
-    λ has. elim (cases_lt n from) [
-      | inl low ↦ are.below n low has
-      | inr high ↦ absurd (true≢false (sym (stands n has) ∙ none n high))
-    ],
-    are.each n,
-  )
-
-  module _ (from : ℕ) (numbers : List ℕ) (number next : ℕ) (are : AreHoldersTo tos text from numbers) (at : IsNextUnder pairs (hash_of text) from number) (step : next ≤ number + 1) where
-    -- a message with the To that is below the next number is one of those told, or the next
-    told-or_next : (n : ℕ) → n < next → Has n → Contains numbers n ⊎ (n ≡ number)
-    told-or_next n low has = elim (cases_lt n from) [
-      | inl first ↦ inl (are.below n first has)
-      | inr after ↦ elim (cases_lt n number) [
-        | inl between ↦ absurd (true≢false (sym (stands n has) ∙ at.none_before n after between))
-        | inr last ↦ inr (omega (arith, low, step, last))
-      ]
-    ]
-
-    -- where the message has the To, it is told too
-    pub told-more : Has number → AreHoldersTo tos text next (numbers ++ number ∷ [])
-    told-more has = record {
-      each = λ n among. elim (Contains-push_cases numbers number n among) [
-        | inl before ↦ are.each n before
-        | inr same ↦ subst Has same has
-      ];
-      below = λ n low its. elim (told-or_next n low its) [
-        | inl before ↦ Contains-append_left numbers (number ∷ []) n before
-        | inr same ↦ subst (Contains (numbers ++ number ∷ [])) (sym same) (Contains-push numbers number)
-      ];
-    }
-
-    -- where the message has another To, it is passed
-    pub told-same : (its : List ℕ) → Contains tos (record { number = number; text = its }) → its ≢ text → AreHoldersTo tos text next numbers
-    told-same its has other = record {
-      each = are.each;
-      below = λ n low holds_it. elim (told-or_next n low holds_it) [
-        | inl before ↦ before
-        | inr same ↦ absurd (other (one_number tos (record { number = number; text = its }) (record { number = n; text = text }) up has holds_it (sym same)))
-      ];
-    }
-
 -- What follows is of which kept message has a To.
 
 -- where the values that f gives rise along a list, the list of these values rises
@@ -280,7 +223,7 @@ numbers_kept texts tos are n (i, within, at) =
     let its = All-get_or (IsTo texts) tos i nobody low are.each in
     subst (Keeps texts) (sym (get_or-map (λ to. to.number) tos i nobody n low) ∙ at) its.kept
 
-module _ (texts : Texts) (tos : List To) (text : List ℕ) (low high : ℕ) (book : IsBook texts) (are : AreTos texts tos) (up : AllPairs (λ a b. a.number < b.number) tos)
+module _ (texts : Texts) (tos : List To) (low high : ℕ) (book : IsBook texts) (are : AreTos texts tos) (up : AllPairs (λ a b. a.number < b.number) tos)
     (as_many : count_between low high (map (λ k. k.0) texts) ≡ count_between low high (map (λ to. to.number) tos)) where
   -- each kept message with a number from low up to high has its To in the list
   beside : (number : ℕ) → Keeps texts number → low ≤ number → number ≤ high → (i : ℕ) × (i < length tos) × ((get_or tos i nobody).number ≡ number)
@@ -293,28 +236,23 @@ module _ (texts : Texts) (tos : List To) (text : List ℕ) (low high : ℕ) (boo
       (i, rw length-map at within, sym (get_or-map (λ to. to.number) tos i nobody number (rw length-map at within)) ∙ at)
 
   -- a kept message with this To, whose number is from low up to high, has it in the list
-  owner : (number : ℕ) → Keeps texts number → low ≤ number → number ≤ high → IsToOf (text_of texts number) text →
+  owner : (number : ℕ) (text : List ℕ) → Keeps texts number → low ≤ number → number ≤ high → IsToOf (text_of texts number) text →
       (i : ℕ) × (i < length tos) × ((get_or tos i nobody).number ≡ number) × ((get_or tos i nobody).text ≡ text)
-  owner number kept from to is =
+  owner number text kept from to is =
       let (i, within, at) = beside number kept from to in
       let its = All-get_or (IsTo texts) tos i nobody within are.each in
       let same = IsToOf-one (text_of texts number) text (get_or tos i nobody).text (subst (λ n. IsToOf (text_of texts n) (get_or tos i nobody).text) at its.text) is in
       (i, within, at, same)
 
-  -- the messages of the list with the To are those of the kept messages with numbers from low up to high
-  hold_between : (numbers : List ℕ) → AreHolders tos text numbers → HoldBetween texts text low high numbers
-  hold_between numbers held = λ number kept from to. (
-    λ its.
-        let (i, within, at, same) = owner number kept from to its in
-        let its_to = get_or tos i nobody in
-        let has = has_to tos i its_to number within (sym (get_or_default tos i its_to nobody within)) at in
-        (held number).0 (subst (λ words. Contains tos (record { number = number; text = words })) same has),
-    λ among. to_of texts tos number text are ((held number).1 among),
-  )
+  -- where each To of the list stands under its hash, that of each kept message does
+  stand_under : (pairs : List (ℕ × ℕ)) → AreUnder (Some pairs) tos → StandUnder texts low high pairs
+  stand_under pairs under = λ number text kept from to is.
+      let (i, within, at, same) = owner number text kept from to is in
+      let stands = All-get_or (λ to. IsUnder (Some pairs) (hash_of to.text) to.number) tos i nobody within under in
+      subst (λ words. holds pairs (hash_of words) number ≡ true) same (subst (λ n. holds pairs (hash_of (get_or tos i nobody).text) n ≡ true) at stands)
 
   -- what is told of the messages of the list is told of the kept messages
-  pub holds_told : {V E : Type 0} (items : V → List ℕ) (r : Result (Option V) E) → IfOk r (λ numbers. IfSome numbers (λ ns. AreHolders tos text (items ns))) →
-      IfOk r (λ numbers. IfSome numbers (λ ns. HoldBetween texts text low high (items ns)))
-  holds_told items (Ok (Some ns)) told = hold_between (items ns) told
-  holds_told items (Ok None) told = tt
-  holds_told items (Err e) told = tt
+  pub stand_told : {V : Type 0} (pairs : V → List (ℕ × ℕ)) (r : Option V) → IfSome r (λ hashes. AreUnder (Some (pairs hashes)) tos) →
+      IfSome r (λ hashes. StandUnder texts low high (pairs hashes))
+  stand_told pairs (Some hashes) told = stand_under (pairs hashes) told
+  stand_told pairs None told = tt

@@ -1,4 +1,4 @@
-use Rattle.std.specs.Prelude.{◌≡◌, ◌≤◌, ◌↔◌, ◌-◌, ◌==◌, ◌&&◌, ℕ, Bool, true, cond, Option, Some, None, List, All, Contains, nat_le, nat_lt, ⊤}
+use Rattle.std.specs.Prelude.{◌≡◌, ◌≤◌, ◌-◌, ◌==◌, ◌&&◌, ℕ, Bool, true, cond, Option, Some, None, List, All, nat_le, nat_lt, ⊤}
 use Rattle.std.specs.List.{count_by}
 use Rattle.sip_ledger.specs.Indexes.{holds}
 use Rattle.sip_message.specs.Reading.{Reading}
@@ -47,10 +47,7 @@ IsChanged hash number stands (Some old) (Some new) = (h n : ℕ) → holds new h
 IsChanged hash number stands None (Some new) = ⊥
 IsChanged hash number stands (Some old) None = ⊥
 
--- the numbers are those of the messages of the list that have this To
-abbrev pub AreHolders : List To → List ℕ → List ℕ → Type 0
-AreHolders tos text numbers = (number : ℕ) → Contains tos (record { number = number; text = text }) ↔ Contains numbers number
-
--- of the kept messages with numbers from low up to high, those with these numbers have this To, and no others
-abbrev pub HoldBetween : Texts → List ℕ → ℕ → ℕ → List ℕ → Type 0
-HoldBetween texts text low high numbers = (number : ℕ) → Keeps texts number → low ≤ number → number ≤ high → IsToOf (text_of texts number) text ↔ Contains numbers number
+-- of the kept messages with numbers from low up to high, those that have a To stand under its hash
+abbrev pub StandUnder : Texts → ℕ → ℕ → List (ℕ × ℕ) → Type 0
+StandUnder texts low high pairs =
+    (number : ℕ) (text : List ℕ) → Keeps texts number → low ≤ number → number ≤ high → IsToOf (text_of texts number) text → holds pairs (hash_of text) number ≡ true

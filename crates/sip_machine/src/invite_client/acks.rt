@@ -1,6 +1,6 @@
 //! The response to which an ACK belongs: the INVITE and the ACK are read anew, and tell all but the response, which is told by
 //! its To alone.
-ghost use Rattle.std.specs.Prelude.{◌≡◌, ◌<◌, IfOk, All, length};
+ghost use Rattle.std.specs.Prelude.{◌≡◌, ◌<◌, IfOk, IfSome, All, length};
 ghost use Rattle.sip_machine.specs.Owes.{owed_in, owes_names};
 ghost use Rattle.sip_machine.specs.Texts.{Keeps, text_of};
 ghost use Rattle.sip_machine.specs.inner.Acks.{HasTo, PaysDebt};
@@ -49,9 +49,8 @@ pub(crate) fn first_acked(
 }
 
 /// The message of the first debt of the row whose message has this To, from which the blanks were taken, and whose deadline has
-/// not passed. First the 8 oldest debts are looked at. Where none of their messages has the To, the book tells those that have it, if they are
-/// fewer than half as many; else eight times as many debts are looked at. So what is looked at grows with the place of the debt, or with how
-/// many messages have the To, whichever is less.
+/// not passed. First the 8 oldest debts are looked at. Where none of their messages has the To, it is looked for among the messages that the
+/// book keeps under the hash of the To, in half as many steps; where that is not enough, eight times as many debts are looked at.
 fn first_with_to(
     alloc: Global,
     book: &Book,
@@ -64,7 +63,6 @@ fn first_with_to(
     requires owed { All (Keeps book.now) (owes_names (owed_in dues.now row)) }
     ensures { IfOk result (FindsFirst (HasTo book.now to.now moment) moment (owed_in dues.now row)) }
 {
-    let (low, high) = dues.span();
     let mut most = 8;
     loop {
         let debts = dues.first_debts(alloc, row, most)?;
@@ -75,11 +73,42 @@ fn first_with_to(
         if debts.len() < most {
             return Ok(None);
         }
-        if let Some(numbers) = book.holders(alloc, to, low, high, most / 2)? {
-            return Ok(dues.first_payable(row, &numbers, moment));
+        if let Some(found) = first_under(alloc, book, to, moment, dues, row, most / 2)? {
+            return Ok(found);
         }
         most = most.saturating_mul(8);
     }
+}
+
+/// What `first_with_to` finds, where the hash of the To tells it in `most` steps: where all messages that are owed stand under the hashes of
+/// their Tos, and the first of them that stands under this hash has this To.
+fn first_under(
+    alloc: Global,
+    book: &Book,
+    to: &Hashed,
+    moment: u64,
+    dues: &Dues,
+    row: usize,
+    most: usize,
+) -> Result<Option<Option<u64>>, AllocError>
+    requires row { row < length dues.now }
+    requires owed { All (Keeps book.now) (owes_names (owed_in dues.now row)) }
+    ensures { IfOk result (λ found. IfSome found (FindsFirst (HasTo book.now to.now moment) moment (owed_in dues.now row))) }
+{
+    let (low, high) = dues.span();
+    let Some(hashes) = book.hashes(low, high) else {
+        return Ok(None);
+    };
+    let Some(first) = dues.first_payable(row, hashes, to.hash(), moment, most) else {
+        return Ok(None);
+    };
+    let Some(message) = first else {
+        return Ok(Some(None));
+    };
+    if !book.has_to(alloc, message, to, &mut 0)? {
+        return Ok(None);
+    }
+    Ok(Some(Some(message)))
 }
 
 /// The message of the first of these debts whose message has this To and whose deadline has not passed, found by a look at each in

@@ -8,7 +8,6 @@ use Rattle.sip_machine.specs.inner.Acks.{HasTo}
 use Rattle.sip_machine.specs.inner.OwesLaws.{All-names}
 use Rattle.sip_machine.specs.inner.Paying.{FindsFirst}
 use Rattle.sip_machine.proofs.debts.LookLemmas.{found-front, none-of-all}
-use Rattle.sip_machine.proofs.acks.HolderLemmas.{finds-held}
 use Rattle.sip_machine.proofs.invite_client.acks.first_with_to.Goals as goal
 
 pub first_of-requires : goal.first_of-requires
@@ -32,8 +31,3 @@ returns-then-len-most c =
     let few = c.if-len-most.true in
     none-of-all P c.args.moment c.loop-debts.most owes c.in_ok-found.found (sym c.is_some.ensures ∙ c.if-is_some.false) (omega (arith, long, few))
     (subst (λ ds. FindsFirst P c.args.moment ds c.in_ok-found.found) (c.deref.ensures.value ∙ c.in_ok-debts.ensures) c.in_ok-found.ensures)
-
-pub returns-in-Some : goal.returns-in-Some
-returns-in-Some c =
-    finds-held c.args.book.now c.args.to.now c.span-low.result.0 c.span-low.result.1 c.args.moment c.args.dues.now c.args.row c.requires.row c.span-low.ensures c.requires.owed
-    c.in-Some.numbers.items (rw c.in-Some.is at c.in_ok-numbers.ensures) c.first_payable.result (rw c.deref-in-Some.ensures.value at c.first_payable.ensures.some) (rw c.deref-in-Some.ensures.value at c.first_payable.ensures.none)

@@ -14,6 +14,6 @@ returns c =
     let messages = rw c.entry-message.ensures at c.take.ensures in
     let must : holds c.take-2.new.self 0 place ≡ false =
     c.take-2.ensures 0 place ∙ ap (λ b. cond (0 == 0 && b) false (holds g.musts 0 place)) (eq-eqb place place refl) in
-    let all = gains-let_go g _ place c.requires.gained refl refl refl messages c.take-2.ensures
+    let all = gains-let_go g _ place c.requires.gained refl refl refl refl messages c.take-2.ensures
     (flags-let_go g _ place c.requires.gained.flags c.requires.gained.long c.requires.kept refl (ap (λ (n : ℕ). set g.flags.items (place - (g.end - n)) no_flags) len) must) in
     record { gained = all.0; gone = all.1 }

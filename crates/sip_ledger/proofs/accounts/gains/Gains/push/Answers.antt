@@ -1,3 +1,5 @@
+use Rattle.std.specs.Prelude.{nat_le}
+use Rattle.std.proofs.lemmas.Bool.{leb-true}
 use Rattle.std.proofs.Common.{◌≡◌, ◌+◌, ◌++◌, ◌∷◌, [], ap, refl, rules, true, ◌∙◌, arith}
 use Rattle.std.proofs.lemmas.Grind.{common_steps}
 use Rattle.sip_ledger.specs.declared.accounts.gains.Flags.{Flags}
@@ -12,23 +14,23 @@ use Rattle.sip_ledger.proofs.accounts.gains.Gains.push.Goals as goal
 pub returns-in_err-reserve : goal.returns-in_err-reserve
 returns-in_err-reserve c =
     let g = c.args.self.now in
-    let new : Gains = record { entries = c.reserve.new.self; flags = g.flags; end = g.end; messages = g.messages; musts = g.musts; rises = g.rises } in
-    let all = gains-same g new c.requires c.reserve.ensures.items refl (λ m k. refl) (λ k. refl) refl (flags-same g new c.requires.flags c.reserve.ensures.items refl refl) in
+    let new : Gains = record { entries = c.reserve.new.self; flags = g.flags; end = g.end; messages = g.messages; musts = g.musts; rises = g.rises; highest = g.highest } in
+    let all = gains-same g new c.requires c.reserve.ensures.items refl (λ m k. refl) (λ k. refl) refl refl (flags-same g new c.requires.flags c.reserve.ensures.items refl refl) in
     record { gained = all.0; ok = first_of (search rules, grind (arith, common_steps)); err = on-error c.from_residual.result c.from_residual.ensures.0 all.1 }
 
 pub returns-in_err-reserve-2 : goal.returns-in_err-reserve-2
 returns-in_err-reserve-2 c =
     let g = c.args.self.now in
-    let new : Gains = record { entries = c.reserve.new.self; flags = c.reserve-2.new.self; end = g.end; messages = g.messages; musts = g.musts; rises = g.rises } in
-    let all = gains-same g new c.requires c.reserve.ensures.items refl (λ m k. refl) (λ k. refl) refl
+    let new : Gains = record { entries = c.reserve.new.self; flags = c.reserve-2.new.self; end = g.end; messages = g.messages; musts = g.musts; rises = g.rises; highest = g.highest } in
+    let all = gains-same g new c.requires c.reserve.ensures.items refl (λ m k. refl) (λ k. refl) refl refl
     (flags-same g new c.requires.flags c.reserve.ensures.items c.reserve-2.ensures.items refl) in
     record { gained = all.0; ok = first_of (search rules, grind (arith, common_steps)); err = on-error c.from_residual-in_err-reserve-2.result c.from_residual-in_err-reserve-2.ensures.0 all.1 }
 
 pub returns-in_err-note : goal.returns-in_err-note
 returns-in_err-note c =
     let g = c.args.self.now in
-    let new : Gains = record { entries = c.reserve.new.self; flags = c.reserve-2.new.self; end = g.end; messages = c.note.new.messages; musts = c.note.new.musts; rises = g.rises } in
-    let all = gains-same g new c.requires c.reserve.ensures.items refl c.in_err-note.ensures.err.0 (λ k. ap (λ l. holds l 0 k) c.in_err-note.ensures.err.1) refl
+    let new : Gains = record { entries = c.reserve.new.self; flags = c.reserve-2.new.self; end = g.end; messages = c.note.new.messages; musts = c.note.new.musts; rises = g.rises; highest = g.highest } in
+    let all = gains-same g new c.requires c.reserve.ensures.items refl c.in_err-note.ensures.err.0 (λ k. ap (λ l. holds l 0 k) c.in_err-note.ensures.err.1) refl refl
     (flags-same g new c.requires.flags c.reserve.ensures.items c.reserve-2.ensures.items refl) in
     record { gained = all.0; ok = first_of (search rules, grind (arith, common_steps)); err = on-error c.from_residual-in_err-note.result c.from_residual-in_err-note.ensures.0 all.1 }
 
@@ -36,10 +38,14 @@ pub returns : goal.returns
 returns c =
     let g = c.args.self.now in
     let e : Entry = record { message = c.args.debt.message; deadline = c.args.debt.deadline } in
-    let f : Flags = record { must = c.args.debt.must; left = true } in
-    let new : Gains = record { entries = c.push_reserved.new.self; flags = c.push_reserved-2.new.self; end = g.end + 1; messages = c.note.new.messages; musts = c.note.new.musts; rises = c.rise-rises.result } in
+    let f : Flags = record { must = c.args.debt.must; left = true; newest = nat_le g.highest c.args.debt.message } in
+    let new : Gains = record { entries = c.push_reserved.new.self; flags = c.push_reserved-2.new.self; end = g.end + 1; messages = c.note.new.messages; musts = c.note.new.musts; rises = c.rise-rises.result; highest = c.max-self.result } in
+    let end = c.if-self.false in
+    let small = c.requires.small in
     let entries : new.entries.items ≡ g.entries.items ++ e ∷ [] = c.push_reserved.ensures.items ∙ ap (λ l. l ++ e ∷ []) c.reserve.ensures.items in
     let flags : new.flags.items ≡ g.flags.items ++ f ∷ [] = c.push_reserved-2.ensures.items ∙ ap (λ l. l ++ f ∷ []) c.reserve-2.ensures.items in
-    let all = gains-more g new c.args.debt c.requires entries refl (omega (arith, c.if-self.false, c.requires.small)) c.in_ok-note.ensures.ok (rw c.deref.ensures.value at c.rise-rises.ensures)
-    (flags-more g new c.args.debt c.requires.flags c.requires.long (entries-long g c.requires.long) entries flags refl) in
+    let all = gains-more g new c.args.debt c.requires entries refl (omega (arith, end, small)) c.in_ok-note.ensures.ok (rw c.deref.ensures.value at c.rise-rises.ensures)
+    (omega (arith, c.max-self.ensures)) (omega (arith, c.max-self.ensures))
+    (flags-more g new c.args.debt (nat_le g.highest c.args.debt.message) c.requires.flags
+    (λ newest k kept. let low = c.requires.highest k kept in omega (arith, low, leb-true g.highest c.args.debt.message newest)) c.requires.long (entries-long g c.requires.long) entries flags refl) in
     record { gained = all.0; ok = all.1; err = tt }

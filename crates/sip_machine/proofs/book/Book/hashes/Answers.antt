@@ -1,0 +1,10 @@
+use Rattle.std.proofs.Common.{sym, ◌∙◌}
+use Rattle.sip_machine.specs.inner.Order.{texts_of}
+use Rattle.sip_machine.proofs.acks.ToLemmas.{stand_told}
+use Rattle.sip_machine.proofs.book.Book.hashes.Goals as goal
+
+pub returns : goal.returns
+returns c =
+    let texts = texts_of c.self.inside.kept.items in
+    rw (← c.self.view_is) (stand_told texts c.self.inside.tos c.args.low c.args.high c.self.invariant.0 c.self.invariant.2 c.between.ensures.rising
+    (sym (rw c.deref.ensures.value at c.kept_between.ensures) ∙ c.if-kept_between-between.false ∙ c.between.ensures.count) (λ hashes. hashes.now) c.hashes.result c.hashes.ensures)

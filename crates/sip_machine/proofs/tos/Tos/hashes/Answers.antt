@@ -1,0 +1,4 @@
+use Rattle.sip_machine.proofs.tos.Tos.hashes.Goals as goal
+
+pub returns-in-Some : goal.returns-in-Some
+returns-in-Some c = rw (← c.self.view_is) (rw c.in-Some.is at c.self.invariant.1)

@@ -1,54 +1,32 @@
 -- The text of a key: its head, and then its branch, its sent-by and its method, one after another.
-use Rattle.std.proofs.Common.{◌≡◌, ◌+◌, ◌-◌, ◌/◌, ◌%◌, ◌≤◌, ◌++◌, ◌∷◌, [], ℕ, zero, suc, List, length, map, take, drop, replicate, refl, sym, ap, ap₂, ◌∙◌, append_assoc, arith}
+use Rattle.std.proofs.Common.{◌≡◌, ◌==◌, ◌+◌, ◌-◌, ◌*◌, ◌/◌, ◌%◌, ◌<◌, ◌≤◌, ◌++◌, ◌∷◌, [], ℕ, zero, suc, false, cond, List, length, map, take, drop, replicate, refl, sym, ap, ap₂, subst, ◌∙◌, append_assoc, arith}
 use Rattle.std.specs.Prelude.{slice_range}
 use Rattle.std.specs.Char.{to_ascii_lowercase}
+use Rattle.std.proofs.Math.Seq.{take-length}
 use Rattle.std.proofs.lemmas.List.{take_at, drop_at, length-append, length-map, length-replicate, map-append}
+use Rattle.std.proofs.lemmas.Bool.Decides.{nat_tests}
 use Rattle.std.proofs.lemmas.Str.Ascii.{lowercase_is}
 use Rattle.sip_standard.specs.Case.{folded}
 use Rattle.sip_standard.specs.declared.role.Role.{Role}
 use Rattle.sip_standard.specs.declared.role.Role.TheVariants.{Client, Server}
-use Rattle.sip_key.specs.inner.KeyText.{parts_at, length_bytes, role_byte, key_head, key_text}
+use Rattle.sip_standard.specs.Key.{KeyParts}
+use Rattle.sip_key.specs.inner.KeyText.{after_length, length_bytes, length_in, role_byte, role_in, key_head, key_text, parts_in, parts_of}
 
 -- the bytes from the end of a front, as many as a text has that stands there, are that text
 between : (front text rest : List ℕ) (from to : ℕ) → from ≡ length front → to ≡ from + length text → slice_range (front ++ (text ++ rest)) from to ≡ text
 between front text rest from to begins ends =
     ap (take (to - from)) (drop_at front (text ++ rest) from (sym begins)) ∙ take_at text rest (to - from) (omega arith)
 
--- where a text is a head, a branch, a sent-by and a method, the places where these end give the parts of a key
-parts-are : (role : Role) (head branch sent_by method text : List ℕ) (branch_start branch_end sent_by_end : ℕ) → text ≡ head ++ ((branch ++ sent_by) ++ method)
-    → branch_start ≡ length head → branch_end ≡ branch_start + length branch → sent_by_end ≡ branch_end + length sent_by
-    → parts_at role text branch_start branch_end sent_by_end ≡ record { role = role; branch = branch; sent_by = sent_by; method = method }
-parts-are role head branch sent_by method text branch_start branch_end sent_by_end whole start first second =
-    let from_branch : text ≡ head ++ (branch ++ (sent_by ++ method)) = whole ∙ simp append_assoc in
-    let from_sent_by : text ≡ (head ++ branch) ++ (sent_by ++ method) = whole ∙ simp append_assoc in
-    let from_method : text ≡ ((head ++ branch) ++ sent_by) ++ method = whole ∙ simp append_assoc in
-    let two = length-append head branch in
-    let three = length-append (head ++ branch) sent_by in
-    let branch_is : slice_range text branch_start branch_end ≡ branch =
-    ap (λ t. slice_range t branch_start branch_end) from_branch ∙ between head branch (sent_by ++ method) _ _ start first in
-    let sent_by_is : slice_range text branch_end sent_by_end ≡ sent_by =
-    ap (λ t. slice_range t branch_end sent_by_end) from_sent_by ∙ between (head ++ branch) sent_by method _ _ (omega (arith, two)) second in
-    let method_is : drop sent_by_end text ≡ method =
-    ap (drop sent_by_end) from_method ∙ drop_at ((head ++ branch) ++ sent_by) method _ (omega (arith, two, three)) in
-    λ i. record { role = role; branch = branch_is i; sent_by = sent_by_is i; method = method_is i }
-
--- the places in the text give a key of these parts, they are in order, and the text is that of the key
-pub record LaidOut (role : Role) (branch sent_by method text : List ℕ) (branch_start branch_end sent_by_end : ℕ) : Type 0 where
-  pub parts : parts_at role text branch_start branch_end sent_by_end ≡ record { role = role; branch = branch; sent_by = sent_by; method = method }
-  pub sound : (branch_start ≤ branch_end) × (branch_end ≤ sent_by_end) × (sent_by_end ≤ length text) × (text ≡ key_text (parts_at role text branch_start branch_end sent_by_end))
-
--- where the text is that of a key, and each place is where a part of it ends, the key is laid out in it
-laid-out : (role : Role) (branch sent_by method text : List ℕ) (branch_start branch_end sent_by_end : ℕ)
-    → text ≡ key_text (record { role = role; branch = branch; sent_by = sent_by; method = method })
-    → branch_start ≡ length (key_head role (length branch) (length method)) → branch_end ≡ branch_start + length branch → sent_by_end ≡ branch_end + length sent_by
-    → LaidOut role branch sent_by method text branch_start branch_end sent_by_end
-laid-out role branch sent_by method text branch_start branch_end sent_by_end whole start first second =
-    let head = key_head role (length branch) (length method) in
-    let parts = parts-are role head branch sent_by method text branch_start branch_end sent_by_end whole start first second in
-    let all = length-append head ((branch ++ sent_by) ++ method) in
-    let texts = length-append (branch ++ sent_by) method in
-    let both = length-append branch sent_by in
-    record { parts = parts; sound = (omega arith, omega arith, omega (arith, ap length whole, all, texts, both), whole ∙ ap key_text (sym parts)) }
+-- where texts are a branch, a sent-by and a method in a row, the places between them give these
+pub parts-are : (branch sent_by method texts : List ℕ) (from to : ℕ) → texts ≡ (branch ++ sent_by) ++ method → from ≡ length branch → to ≡ from + length sent_by
+    → (take from texts ≡ branch) × (slice_range texts from to ≡ sent_by) × (drop to texts ≡ method)
+parts-are branch sent_by method texts from to whole first second =
+    let apart : texts ≡ branch ++ (sent_by ++ method) = whole ∙ append_assoc branch sent_by method in
+    let both = length-append branch sent_by in (
+      ap (take from) apart ∙ take_at branch (sent_by ++ method) from (sym first),
+      ap (λ t. slice_range t from to) apart ∙ between branch sent_by method from to first second,
+      ap (drop to) whole ∙ drop_at (branch ++ sent_by) method to (omega (arith, both, first, second)),
+    )
 
 -- the bytes of a length are one for each 64 in it, and one more
 length-bytes_of : (count : ℕ) → length (length_bytes count) ≡ count / 64 + 1
@@ -93,26 +71,116 @@ begun_folded role b m branch host =
 folded-apart : (branch host port : List ℕ) → map to_ascii_lowercase (branch ++ host) ++ port ≡ folded branch ++ (folded host ++ port)
 folded-apart branch host port = ap (λ text. text ++ port) (map-append to_ascii_lowercase branch host) ∙ append_assoc (folded branch) (folded host) port
 
--- where a text is the beginning of a key, the bytes of a port and a method, the key of the folded branch, the folded host with the port, and the
--- method is laid out in it
-pub built : (role : Role) (branch host port method begun text : List ℕ) (branch_start branch_end sent_by_end : ℕ)
+-- where a text is the beginning of a key, the bytes of a port and a method, it is the text of the key of the folded branch, the folded host with the
+-- port, and the method
+pub built : (role : Role) (branch host port method begun text : List ℕ)
     → begun ≡ key_head role (length branch) (length method) ++ folded (branch ++ host)
     → text ≡ (begun ++ port) ++ method
-    → branch_start ≡ branch_end - length branch → branch_end ≡ length begun - length host → sent_by_end ≡ length begun + length port
-    → LaidOut role (folded branch) (folded host ++ port) method text branch_start branch_end sent_by_end
-built role branch host port method begun text branch_start branch_end sent_by_end begun_is whole start first second =
+    → text ≡ key_text (record { role = role; branch = folded branch; sent_by = folded host ++ port; method = method })
+built role branch host port method begun text begun_is whole =
     let head = key_head role (length branch) (length method) in
     let texts = folded branch ++ (folded host ++ port) in
-    let branch_length = length-map branch to_ascii_lowercase in
-    let host_length = length-map host to_ascii_lowercase in
-    let both_length = length-map (branch ++ host) to_ascii_lowercase in
-    let head_is : head ≡ key_head role (length (folded branch)) (length method) = ap (λ n. key_head role n (length method)) (sym branch_length) in
+    let head_is : head ≡ key_head role (length (folded branch)) (length method) = ap (λ n. key_head role n (length method)) (sym (length-map branch to_ascii_lowercase)) in
     let ported : begun ++ port ≡ head ++ texts =
     ap (λ t. t ++ port) begun_is ∙ append_assoc head (folded (branch ++ host)) port ∙ ap (λ t. head ++ t) (folded-apart branch host port) in
-    let begun_length : length begun ≡ length head + (length branch + length host) =
-    omega (arith, ap length begun_is, length-append head (folded (branch ++ host)), both_length, length-append branch host) in
-    laid-out role (folded branch) (folded host ++ port) method text branch_start branch_end sent_by_end
-    (whole ∙ ap (λ t. t ++ method) ported ∙ append_assoc head texts method ∙ ap (λ h. h ++ (texts ++ method)) head_is)
-    (omega (arith, start, first, begun_length, ap length head_is))
-    (omega (arith, start, first, begun_length, branch_length))
-    (omega (arith, first, second, begun_length, host_length, length-append (folded host) port))
+    whole ∙ ap (λ t. t ++ method) ported ∙ append_assoc head texts method ∙ ap (λ h. h ++ (texts ++ method)) head_is
+
+-- What follows is of what a text tells of its key.
+
+-- a length is read back, and so is what stands after it
+bytes-read : (q r : ℕ) (rest : List ℕ) → r < 64 →
+    (length_in ((replicate q 64 ++ r ∷ []) ++ rest) ≡ 64 * q + r) × (after_length ((replicate q 64 ++ r ∷ []) ++ rest) ≡ rest)
+bytes-read zero r rest small =
+    let last : (r == 64) ≡ false = grind (arith, nat_tests, small) in
+    (ap (λ b. cond b (64 + length_in rest) r) last ∙ omega arith, ap (λ b. cond b (after_length rest) rest) last)
+bytes-read (suc q) r rest small =
+    let more = bytes-read q r rest small in
+    (ap (λ n. 64 + n) more.0 ∙ omega arith, more.1)
+
+length-read : (count : ℕ) (rest : List ℕ) → (length_in (length_bytes count ++ rest) ≡ count) × (after_length (length_bytes count ++ rest) ≡ rest)
+unfolding length_bytes
+length-read count rest =
+    let read = bytes-read (count / 64) (count % 64) rest (omega arith) in
+    (read.0 ∙ omega arith, read.1)
+
+-- the byte of a role tells the role
+role-read : (role : Role) (rest : List ℕ) → role_in (role_byte role ∷ rest) ≡ role
+role-read Client rest = refl
+role-read Server rest = refl
+
+-- the text tells the parts of this key
+pub record Tells (k : KeyParts) (text : List ℕ) : Type 0 where
+  pub some : 0 < length text
+  pub role : role_in text ≡ k.role
+  pub branch : length_in (drop 1 text) ≡ length k.branch
+  pub method : length_in (after_length (drop 1 text)) ≡ length k.method
+  pub texts : after_length (after_length (drop 1 text)) ≡ (k.branch ++ k.sent_by) ++ k.method
+  pub branch_short : length k.branch ≤ length (drop 1 text)
+  pub method_short : length k.method ≤ length (after_length (drop 1 text))
+
+-- the text of a key tells its parts
+pub tells : (k : KeyParts) (text : List ℕ) → text ≡ key_text k → Tells k text
+tells k text is =
+    let texts = (k.branch ++ k.sent_by) ++ k.method in
+    let lengths = length_bytes (length k.branch) in
+    let methods = length_bytes (length k.method) in
+    let rest : drop 1 text ≡ lengths ++ (methods ++ texts) = ap (drop 1) is ∙ append_assoc lengths methods texts in
+    let first = length-read (length k.branch) (methods ++ texts) in
+    let second = length-read (length k.method) texts in
+    let after : after_length (drop 1 text) ≡ methods ++ texts = ap after_length rest ∙ first.1 in
+    let all = length-append (k.branch ++ k.sent_by) k.method in
+    let both = length-append k.branch k.sent_by in
+    let end = length-append methods texts in
+    let whole = length-append lengths (methods ++ texts) in
+    record {
+      some = omega (arith, ap length is);
+      role = ap role_in is ∙ role-read k.role ((lengths ++ methods) ++ texts);
+      branch = ap length_in rest ∙ first.0;
+      method = ap length_in after ∙ second.0;
+      texts = ap after_length after ∙ second.1;
+      branch_short = omega (arith, ap length rest, whole, end, all, both);
+      method_short = omega (arith, ap length after, end, all);
+    }
+
+-- the text of a key gives its parts
+pub parts-told : (k : KeyParts) (text : List ℕ) → text ≡ key_text k → parts_of text ≡ k
+parts-told k text is =
+    let t = tells k text is in
+    let texts = (k.branch ++ k.sent_by) ++ k.method in
+    let all = length-append (k.branch ++ k.sent_by) k.method in
+    let both = length-append k.branch k.sent_by in
+    let parts = parts-are k.branch k.sent_by k.method texts (length k.branch) (length texts - length k.method) refl refl (omega (arith, all, both)) in
+    let read : parts_of text ≡ parts_in k.role (length k.branch) (length k.method) texts = λ i. parts_in (t.role i) (t.branch i) (t.method i) (t.texts i) in
+    let told : parts_in k.role (length k.branch) (length k.method) texts ≡ k = λ i. record { role = k.role; branch = parts.0 i; sent_by = parts.1 i; method = parts.2 i } in
+    read ∙ told
+
+-- the key of a text that is one's is that key, and the text is its text
+pub keyed : (k : KeyParts) (text : List ℕ) → text ≡ key_text k → (parts_of text ≡ k) × (text ≡ key_text (parts_of text))
+keyed k text is = let parts = parts-told k text is in (parts, is ∙ ap key_text (sym parts))
+
+-- what stands after the first byte is all that stands from there to the end
+pub past-first : (text : List ℕ) → take (length text - 1) (drop 1 text) ≡ drop 1 text
+past-first [] = refl
+past-first (byte ∷ text) = let e : suc (length text) - 1 ≡ length text = omega arith in ap (λ n. take n text) e ∙ take-length text
+
+-- where the front of a key's text was read, it tells the parts of the key
+pub tells-read : (k : KeyParts) (text read rest : List ℕ) (branch : ℕ) → text ≡ key_text k → read ≡ text → branch ≡ length_in (take (length read - 1) (drop 1 read)) →
+    rest ≡ after_length (take (length read - 1) (drop 1 read)) →
+    (branch ≡ length k.branch) × (length_in rest ≡ length k.method) × (after_length rest ≡ (k.branch ++ k.sent_by) ++ k.method) × (length k.method ≤ length rest)
+tells-read k text read rest branch is same branch_is rest_is =
+    let t = tells k text is in
+    let front : take (length read - 1) (drop 1 read) ≡ drop 1 text = past-first read ∙ ap (drop 1) same in
+    let left : rest ≡ after_length (drop 1 text) = rest_is ∙ ap after_length front in (
+      branch_is ∙ ap length_in front ∙ t.branch,
+      ap length_in left ∙ t.method,
+      ap after_length left ∙ t.texts,
+      subst (λ r. length k.method ≤ length r) (sym left) t.method_short,
+    )
+
+-- the length of the branch that stands at the front is no longer than what stands there
+pub front-short : (k : KeyParts) (text read : List ℕ) → text ≡ key_text k → read ≡ text →
+    length_in (take (length read - 1) (drop 1 read)) ≤ length (take (length read - 1) (drop 1 read))
+front-short k text read is same =
+    let t = tells k text is in
+    let front : take (length read - 1) (drop 1 read) ≡ drop 1 text = past-first read ∙ ap (drop 1) same in
+    subst (λ r. length_in r ≤ length r) (sym front) (subst (λ n. n ≤ length (drop 1 text)) (sym t.branch) t.branch_short)

@@ -21,7 +21,7 @@ use thiserror::Error;
 /// Why the key of a message is not answered.
 #[derive(Clone, Copy, Debug, PartialEq, Eq, Error)]
 pub enum KeyError {
-    /// A growth was refused, or the texts of a key would take 4 GiB or more.
+    /// A growth was refused.
     #[error("out of memory")]
     Memory,
     /// A request is sent, and its top branch lacks the cookie.

@@ -5,7 +5,7 @@ ghost use Rattle.std.specs.Hash as fed;
 ghost use Rattle.sip_standard.specs.Case.{folded};
 ghost use Rattle.sip_standard.specs.Profile.{Port};
 ghost use Rattle.sip_standard.specs.Key.{same_key};
-ghost use Rattle.sip_key.specs.inner.KeyText.{key_text, key_head, length_bytes, parts_at, role_byte};
+ghost use Rattle.sip_key.specs.inner.KeyText.{after_length, key_text, key_head, length_bytes, length_in, role_byte};
 ghost use Rattle.sip_standard.specs.SentBy.{sent_by};
 ghost use Rattle.sip_standard.specs.declared.role.Role.{Role};
 ghost use Rattle.sip_standard.specs.declared.role.Role.TheVariants.{Client, Server};
@@ -23,28 +23,19 @@ use std::marker::Model;
 pub struct Key {
     /// What a hasher is fed: the role, how long the branch and the method are, and then the branch, the sent-by and the method.
     text: Vec<u8>,
-    branch_start: u32,
-    branch_end: u32,
-    sent_by_end: u32,
-    /// It stands last, since fields lie in memory as they are written: a key takes 40 bytes.
-    role: Role,
 }
 
 impl Model for Key {
-    ghost use Rattle.std.specs.Prelude.{◌≡◌, ◌≤◌, length};
+    ghost use Rattle.std.specs.Prelude.{◌≡◌};
     ghost use Rattle.sip_standard.specs.Key.{KeyParts};
-    ghost use Rattle.sip_key.specs.inner.KeyText.{key_text, parts_at};
+    ghost use Rattle.sip_key.specs.inner.KeyText.{key_text, parts_of};
 
     ghost Value = { KeyParts };
 
-    ghost view = { λ k. parts_at k.role k.text.items k.branch_start k.branch_end k.sent_by_end };
+    ghost view = { λ k. parts_of k.text.items };
 
-    ghost invariant = { λ k. (k.branch_start ≤ k.branch_end) × (k.branch_end ≤ k.sent_by_end) × (k.sent_by_end ≤ length k.text.items)
-        × (k.text.items ≡ key_text (parts_at k.role k.text.items k.branch_start k.branch_end k.sent_by_end)) };
+    ghost invariant = { λ k. k.text.items ≡ key_text (parts_of k.text.items) };
 }
-
-/// The most bytes of a key's text, so that each place in it fits a `u32`.
-const LONGEST: usize = u32::MAX as usize;
 
 /// The byte of a length that says that the length goes on, and how much of the length it stands for. It is no letter, so that lower case leaves it.
 const GOES_ON: usize = 64;
@@ -66,6 +57,25 @@ fn push_length(text: &mut Vec<u8>, count: usize) -> Result<(), AllocError>
     }
     text.push((count % GOES_ON) as u8)?;
     Ok(())
+}
+
+/// The length with which the text begins, and what stands after it.
+fn split_length(text: &[u8]) -> (usize, &[u8])
+    requires { length_in text.now ≤ length text.now }
+    ensures count { result.0 ≡ length_in text.now }
+    ensures rest { result.1.now ≡ after_length text.now }
+{
+    let mut left = text;
+    let mut count = 0;
+    while let Some((first, rest)) = left.split_first() {
+        let byte = usize::from(*first);
+        count += byte;
+        if byte != GOES_ON {
+            return (count, rest);
+        }
+        left = rest;
+    }
+    (count, left)
 }
 
 /// The role as a byte.
@@ -106,31 +116,6 @@ fn fold(text: &mut Vec<u8>)
 }
 
 impl Key {
-    /// The key whose branch, sent-by and method stand in the text between these places. A text of 4 GiB or more is refused, as memory is.
-    #[inline(always)]
-    fn placed(
-        role: Role,
-        text: Vec<u8>,
-        branch_start: usize,
-        branch_end: usize,
-        sent_by_end: usize,
-    ) -> Result<Key, AllocError>
-        requires order { (branch_start ≤ branch_end) × (branch_end ≤ sent_by_end) × (sent_by_end ≤ length text.items) }
-        requires text { text.items ≡ key_text (parts_at role text.items branch_start branch_end sent_by_end) }
-        ensures { IfOk result (λ key. key ≡ parts_at role text.items branch_start branch_end sent_by_end) }
-    {
-        if text.len() > LONGEST {
-            return Err(AllocError);
-        }
-        Ok(Key {
-            role,
-            text,
-            branch_start: branch_start as u32,
-            branch_end: branch_end as u32,
-            sent_by_end: sent_by_end as u32,
-        })
-    }
-
     /// The key of a client transaction with this branch and method.
     #[inline(always)]
     pub(crate) fn client(alloc: Global, branch: &[u8], method: &[u8]) -> Result<Key, AllocError>
@@ -141,11 +126,8 @@ impl Key {
             .saturating_add(method.len());
         let mut text = begun(alloc, room, Role::Client, branch, method)?;
         fold(&mut text);
-        let branch_end = text.len();
         text.extend_from_slice(method)?;
-        let branch_start = branch_end - branch.len();
-        let key = Key::placed(Role::Client, text, branch_start, branch_end, branch_end)?;
-        Ok(key)
+        Ok(Key { text })
     }
 
     /// The key of a server transaction with this branch, host and port of sent-by, and method.
@@ -167,41 +149,54 @@ impl Key {
         let mut text = begun(alloc, room, Role::Server, branch, method)?;
         text.extend_from_slice(host)?;
         fold(&mut text);
-        let branch_end = text.len() - host.len();
         push_port(&mut text, port)?;
-        let sent_by_end = text.len();
         text.extend_from_slice(method)?;
-        let branch_start = branch_end - branch.len();
-        let key = Key::placed(Role::Server, text, branch_start, branch_end, sent_by_end)?;
-        Ok(key)
+        Ok(Key { text })
     }
 
     /// The role in the transaction: client or server.
     pub fn role(&self) -> Role
         ensures { result ≡ self.now.role }
     {
-        self.role
+        match self.text[0] {
+            0 => Role::Client,
+            _ => Role::Server,
+        }
+    }
+
+    /// How long the branch and the method are, and the branch, the sent-by and the method in a row.
+    fn split(&self) -> (usize, usize, &[u8])
+        ensures branch { result.0 ≡ length self.now.branch }
+        ensures method { result.1 ≡ length self.now.method }
+        ensures texts { result.2.now ≡ (self.now.branch ++ self.now.sent_by) ++ self.now.method }
+    {
+        let (branch, rest) = split_length(&self.text[1..]);
+        let (method, texts) = split_length(rest);
+        (branch, method, texts)
     }
 
     /// The top Via's branch, in lower case.
     pub fn branch(&self) -> &[u8]
         ensures { result.now ≡ self.now.branch }
     {
-        &self.text[self.branch_start as usize..self.branch_end as usize]
+        let (branch, _, texts) = self.split();
+        &texts[..branch]
     }
 
     /// The top Via's sent-by in the key of a server: the host in lower case, `:` and the number of the port. It is empty in a client's key.
     pub fn sent_by(&self) -> &[u8]
         ensures { result.now ≡ self.now.sent_by }
     {
-        &self.text[self.branch_end as usize..self.sent_by_end as usize]
+        let (branch, method, texts) = self.split();
+        &texts[branch..texts.len() - method]
     }
 
     /// The method of the request that made the transaction.
     pub fn method(&self) -> &[u8]
         ensures { result.now ≡ self.now.method }
     {
-        &self.text[self.sent_by_end as usize..]
+        let (_, method, texts) = self.split();
+        &texts[texts.len() - method..]
     }
 }
 

@@ -1,5 +1,5 @@
 //! What many rows owe: one list of what they gained, and for each row an account of what it owes of that list.
-ghost use Rattle.std.specs.Prelude.{◌≡◌, ◌↔◌, ◌<◌, ◌++◌, ◌∷◌, [], ℕ, List, IsTrue, OnOk, OnErr, IfOk, IfSome, All, length, set, map, filter, take, drop, get_or};
+ghost use Rattle.std.specs.Prelude.{◌≡◌, ◌↔◌, ◌<◌, ◌≤◌, ◌++◌, ◌∷◌, [], ℕ, List, IsTrue, OnOk, OnErr, IfOk, IfSome, IfNone, All, length, set, map, filter, take, drop, get_or};
 ghost use Rattle.std.specs.List.{list_any};
 ghost use Rattle.sip_ledger.specs.Accounts.{owed_in, AppendsOwed};
 ghost use Rattle.sip_ledger.specs.Debts.{IsFirstPaid, PaysSome, counts_at, softened_debt, is_payable, debt_deadlines, earliest, paid_by};
@@ -301,6 +301,13 @@ impl Accounts {
             return Err(AllocError);
         }
         Ok(())
+    }
+
+    /// Two numbers between which the numbers of all messages are that rows owe.
+    pub fn span(&self) -> (u64, u64)
+        ensures { All (All (λ debt. (result.0 ≤ debt.message) × (debt.message ≤ result.1))) self.now }
+    {
+        self.gains.messages.span()
     }
 
     /// What the row owes, with equal neighbours in one.

@@ -67,4 +67,16 @@ impl Index {
             _ => None,
         }
     }
+    /// Two keys between which all keys are under which numbers stand.
+    pub(crate) fn span(&self) -> (u64, u64)
+        ensures { (k n : ℕ) → holds self.now k n ≡ true → (result.0 ≤ k) × (k ≤ result.1) }
+    {
+        let Some(first) = self.pairs.first() else {
+            return (0, 0);
+        };
+        let Some(last) = self.pairs.last() else {
+            return (0, 0);
+        };
+        (first.0, last.0)
+    }
 }

@@ -17,26 +17,24 @@ use std::alloc::{AllocError, Global};
 use std::marker::Model;
 
 /// What each of many states owes, oldest cause first, in a row of its own. Where none owes anything, nothing is allocated.
-/// Contracts see the rows. Beside them stand two numbers, and the numbers of all messages that are owed are between these.
+/// Contracts see the rows.
 #[derive(Debug, Drop)]
 pub struct Dues {
     rows: usize,
     accounts: Option<Box<Accounts>>,
-    lowest: u64,
-    highest: u64,
 }
 
 impl Model for Dues {
-    ghost use Rattle.std.specs.Prelude.{List};
+    ghost use Rattle.std.specs.Prelude.{◌≡◌, List, length};
     ghost use Rattle.std.specs.Option.{option_map};
     ghost use Rattle.sip_ledger.specs.declared.debt.Debt.{Debt};
-    ghost use Rattle.sip_machine.specs.inner.Dues.{AreDues, rows_in};
+    ghost use Rattle.sip_machine.specs.inner.Dues.{rows_in};
 
     ghost Value = { List (List Debt) };
 
     ghost view = { λ d. rows_in d.rows (option_map (λ boxed. boxed.value) d.accounts) };
 
-    ghost invariant = { λ d. AreDues (rows_in d.rows (option_map (λ boxed. boxed.value) d.accounts)) d.rows d.lowest d.highest };
+    ghost invariant = { λ d. length (rows_in d.rows (option_map (λ boxed. boxed.value) d.accounts)) ≡ d.rows };
 }
 
 impl Dues {
@@ -47,8 +45,6 @@ impl Dues {
         Dues {
             rows: 0,
             accounts: None,
-            lowest: u64::MAX,
-            highest: 0,
         }
     }
 
@@ -128,8 +124,6 @@ impl Dues {
             Some(accounts) => accounts.gain_and_expire(row, debt, moment)?,
             None => self.accounts = Some(opened(alloc, self.rows, row, debt, moment)?),
         }
-        self.lowest = self.lowest.min(debt.message);
-        self.highest = self.highest.max(debt.message);
         Ok(())
     }
 
@@ -326,7 +320,10 @@ impl Dues {
     pub(crate) fn span(&self) -> (u64, u64)
         ensures { All (AreBetween result.0 result.1) self.now }
     {
-        (self.lowest, self.highest)
+        match &self.accounts {
+            Some(accounts) => accounts.span(),
+            None => (0, 0),
+        }
     }
 
     /// Gives memory back that no row needs.
@@ -338,8 +335,6 @@ impl Dues {
         };
         if is_blank(accounts) {
             self.accounts = None;
-            self.lowest = u64::MAX;
-            self.highest = 0;
         } else {
             accounts.tidy();
         }

@@ -5,6 +5,7 @@ ghost use Rattle.sip_states.specs.Agenda.{Records, is_overdue};
 ghost use Rattle.sip_states.specs.Kept.{kept_of};
 ghost use Rattle.sip_states.specs.inner.Lines.{Enters, Leaves};
 
+use crate::recorded::Recorded;
 use std::alloc::{AllocError, Global};
 use std::collections::BTreeSet;
 use std::marker::Model;
@@ -12,7 +13,7 @@ use std::marker::Model;
 /// For each index its last moment on record, once it was settled, and the last moments in their order.
 #[derive(Debug, Drop)]
 pub(crate) struct Agenda {
-    records: Vec<Option<Option<u64>>>,
+    records: Vec<Recorded>,
     order: BTreeSet<(u64, usize)>,
 }
 
@@ -76,7 +77,7 @@ impl Agenda {
         ensures ok { OnOk result (self.new ≡ self.old ++ None ∷ []) }
         ensures err { OnErr result (self.new ≡ self.old) }
     {
-        self.records.push(None)?;
+        self.records.push(Recorded::unsettled())?;
         Ok(())
     }
 
@@ -109,7 +110,7 @@ impl Agenda {
         let mut agenda = Agenda::new(alloc);
         for at in 0..flags.len() {
             if flags[at] {
-                agenda.push_record(self.records[at])?;
+                agenda.push_record(self.records[at].limit())?;
             }
         }
         Ok(agenda)
@@ -128,13 +129,14 @@ impl Agenda {
         ensures ok { OnOk result (self.new ≡ slice_set self.old index (Some limit)) }
         ensures err { OnErr result (self.new ≡ self.old) }
     {
-        let older = self.records[index];
+        let older = self.records[index].limit();
         if older == Some(limit) {
             return Ok(());
         }
+        let record = Recorded::settled(limit)?;
         enter(&mut self.order, index, limit)?;
         leave(&mut self.order, index, older.flatten());
-        self.records[index] = Some(limit);
+        self.records[index] = record;
         Ok(())
     }
 
@@ -149,7 +151,7 @@ impl Agenda {
         }
         self.records
             .iter()
-            .position(|kept| is_overdue(*kept, moment))
+            .position(|record| is_overdue(record.limit(), moment))
     }
 
     /// An index with the earliest last moment, if that is below the moment. It looks no further than that one.

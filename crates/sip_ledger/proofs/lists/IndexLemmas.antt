@@ -1,7 +1,7 @@
 -- Indexes as pairs of a key and a number, and the order of the pairs.
-use Rattle.std.proofs.Common.{◌≡◌, ◌==◌, ◌&&◌, ℕ, Bool, false, List, [], ◌∷◌, cond, refl, ap, arith}
-use Rattle.std.specs.Ordering.{is_eq, is_gt}
-use Rattle.std.specs.BTreeSet.{BTreeSet, IsKeyRangeOf}
+use Rattle.std.proofs.Common.{◌≡◌, ◌==◌, ◌&&◌, ◌<◌, ◌≤◌, ℕ, Bool, true, false, List, [], ◌∷◌, cond, length, refl, sym, ap, arith, true≢false}
+use Rattle.std.specs.Ordering.{is_eq, is_gt, is_lt}
+use Rattle.std.specs.BTreeSet.{BTreeSet, IsKeyRangeOf, IsLowerBound, IsUpperBound}
 use Rattle.std.specs.declared.ops.Bound.TheVariants.{Included, Unbounded}
 use Rattle.std.proofs.lemmas.Bool.Decides.{nat_tests}
 use Rattle.sip_ledger.specs.Indexes.{pair_cmp, holds, IsFrom, IsFirstFrom, NoneFrom}
@@ -32,3 +32,20 @@ range-first s key number p rest h = grind (arith, nat_tests, from-not_gt, not_gt
 pub range-none : (s : BTreeSet (ℕ × ℕ)) (key number : ℕ) → IsKeyRangeOf pair_cmp (Included (key, number)) Unbounded s [] → NoneFrom s.keys key number
 unfolding holds
 range-none s key number h k n after = h.5 refl (k, n) (not_gt-from key number k n after, tt)
+
+-- a pair that does not compare as less has no lesser key
+key-not_lt : (a b c d : ℕ) → is_lt (pair_cmp (a, b) (c, d)) ≡ false → c ≤ a
+key-not_lt a b c d h = grind (arith, nat_tests)
+
+-- all keys lie between that of the first pair and that of the last one
+pub span-held : (s : BTreeSet (ℕ × ℕ)) (first last : ℕ × ℕ) → IsLowerBound pair_cmp s first → IsUpperBound pair_cmp s last →
+    (k n : ℕ) → holds s.keys k n ≡ true → (first.0 ≤ k) × (k ≤ last.0)
+unfolding holds
+span-held s first last least greatest k n held =
+    ((from-not_gt first.0 first.1 k n (least (k, n) held)).keys, key-not_lt last.0 last.1 k n (greatest (k, n) held))
+
+-- where there are no pairs, nothing stands under a key
+pub none-held : (pairs : List (ℕ × ℕ)) → ¬ (0 < length pairs) → (k n : ℕ) → ¬ (holds pairs k n ≡ true)
+unfolding holds
+none-held [] none k n held = true≢false (sym held)
+none-held (pair ∷ pairs) none k n held = none (omega arith)

@@ -132,3 +132,25 @@ named-more rows low message old new now are order between some is = record {
 -- where no message from `low` on is owed, all that are owed are told
 pub named-all : (rows : List (List Debt)) (low : ℕ) (old new : List ℕ) → AreNamedTo rows low old new → ((m : ℕ) → low ≤ m → some_owes m rows ≡ false) → AppendsOwed rows old new
 named-all rows low old new are none = grind (arith, nat_tests, cases_lt, true≢false)
+
+-- where what is left of messages lies between two numbers, the messages of what an account owes do
+spanned-account : (gains : Gains) (strikes : List Strike) (a : Account) (low high : ℕ) → ((m k : ℕ) → holds gains.messages m k ≡ true → (low ≤ m) × (m ≤ high)) →
+    All (λ (debt : Debt). (low ≤ debt.message) × (debt.message ≤ high)) (account_debts gains strikes a)
+unfolding account_debts
+spanned-account gains strikes a low high within =
+    listed-All (λ (debt : Debt). (low ≤ debt.message) × (debt.message ≤ high)) (owes_at gains strikes a) (must_at gains a) 0 (entries_of gains)
+    (λ j e below owed.
+    let here : 0 + j ≡ j = omega arith in
+    let m = (get_or (entries_of gains) j e).message in
+    let same : get_or (entries_of gains) j e ≡ entry_at (entries_of gains) j = get_or_default (entries_of gains) j e no_entry below in
+    let named : (entry_at (entries_of gains) j).message ≡ m = ap (λ (x : Entry). x.message) (sym same) in
+    let left = owed-left gains strikes a j (ap (owes_at gains strikes a) (sym here) ∙ owed) in
+    within m j (held-left gains m j named ∙ left))
+
+-- where what is left of messages lies between two numbers, the messages of all that rows owe do
+pub spanned : (gains : Gains) (strikes : List Strike) (rows : List Account) (low high : ℕ) → ((m k : ℕ) → holds gains.messages m k ≡ true → (low ≤ m) × (m ≤ high)) →
+    All (All (λ (debt : Debt). (low ≤ debt.message) × (debt.message ≤ high))) (accounts_debts gains strikes rows)
+unfolding accounts_debts
+spanned gains strikes rows low high within =
+    All-map (All (λ (debt : Debt). (low ≤ debt.message) × (debt.message ≤ high))) (account_debts gains strikes) rows
+    (λ k d below. spanned-account gains strikes (get_or rows k d) low high within)

@@ -1,16 +1,16 @@
 -- What many states owe: what a send takes out of the debts of one state, and states that owe nothing.
 use Prim.Native.Nat.{suc, zero}
-use Rattle.std.specs.Prelude.{◌≡◌, ◌<◌, ◌≤◌, ◌-◌, ◌||◌, ℕ, Bool, true, false, IsTrue, None, List, [], ◌∷◌, ◌++◌, All, drop, filter, length, max, min, set, take}
+use Rattle.std.specs.Prelude.{◌≡◌, ◌<◌, ◌≤◌, ◌-◌, ◌||◌, ℕ, Bool, true, false, IsTrue, None, List, [], ◌∷◌, ◌++◌, All, drop, filter, length, min, set, take}
 use Rattle.std.specs.List.{list_any}
-use Rattle.std.proofs.Common.{refl, sym, ◌∙◌, ap, ap₂, subst, arith, cond, true≢false, length-set}
-use Rattle.std.proofs.lemmas.List.Elements.{All-nil, All-cons, All-head, All-tail, All-push, All-set, All-get_or, All-weaker, All-filter, filter-append}
+use Rattle.std.proofs.Common.{refl, sym, ◌∙◌, ap, ap₂, subst, arith, cond, true≢false}
+use Rattle.std.proofs.lemmas.List.Elements.{All-nil, All-cons, filter-append}
 use Rattle.std.proofs.lemmas.Bool.Decides.{nat_tests}
 use Rattle.std.proofs.lemmas.List.{get_or-set_same, set-get_or}
 use Rattle.sip_ledger.specs.declared.debt.Debt.{Debt}
 use Rattle.sip_ledger.specs.Debts.{counts_at, is_payable, paid_by}
 use Rattle.sip_standard.specs.Debts.{IsWithoutFirst}
 use Rattle.sip_machine.specs.Owes.{owed_in}
-use Rattle.sip_machine.specs.inner.Dues.{rows_in, AreBetween, AreDues}
+use Rattle.sip_machine.specs.inner.Dues.{rows_in}
 
 -- what is not true is false
 is_false : (b : Bool) → ¬ (b ≡ true) → b ≡ false
@@ -85,28 +85,6 @@ pub set-none : (count row : ℕ) (debts : List Debt) → debts ≡ [] → rows_i
 set-none count row debts is =
     sym (set-get_or (rows_in count None) row []) ∙ ap (set (rows_in count None) row) (owed-none count row ∙ sym is)
 
--- where a row comes to owe debts whose messages lie between the two numbers, the messages of all rows still do
-pub AreDues-set : (rows : List (List Debt)) (count low high row : ℕ) (debts : List Debt) → AreDues rows count low high → AreBetween low high debts → AreDues (set rows row debts) count low high
-AreDues-set rows count low high row debts dues here =
-    record { long = length-set rows row debts ∙ dues.long; between = All-set (AreBetween low high) rows row debts here dues.between }
-
--- the messages that a row owes lie between the numbers of all rows
-pub between-row : (rows : List (List Debt)) (count low high row : ℕ) → row < length rows → AreDues rows count low high → AreBetween low high (owed_in rows row)
-between-row rows count low high row low_row dues = All-get_or (AreBetween low high) rows row [] low_row dues.between
-
--- the messages of what is left of a debt and others lie between the numbers between which theirs do
-paid-step : (low high : ℕ) (debt : Debt) (debts left : List Debt) (b : Bool) → AreBetween low high (debt ∷ debts) → AreBetween low high left → AreBetween low high (cond b debts (debt ∷ left))
-paid-step low high debt debts left true all more = All-tail (λ d. (low ≤ d.message) × (d.message ≤ high)) debt debts all
-paid-step low high debt debts left false all more =
-    All-cons (λ d. (low ≤ d.message) × (d.message ≤ high)) debt left (All-head (λ d. (low ≤ d.message) × (d.message ≤ high)) debt debts all) more
-
--- the messages of what is left after a payment lie between the numbers between which those before it do
-pub between-paid : (message t low high : ℕ) (debts : List Debt) → AreBetween low high debts → AreBetween low high (paid_by message t debts)
-between-paid message t low high [] all = all
-between-paid message t low high (debt ∷ debts) all =
-    paid-step low high debt debts (paid_by message t debts) (is_payable message t debt) all
-    (between-paid message t low high debts (All-tail (λ d. (low ≤ d.message) × (d.message ≤ high)) debt debts all))
-
 -- without accounts, the first n rows owe nothing
 pub take-none : (count n : ℕ) → rows_in (min count n) None ≡ take n (rows_in count None)
 take-none zero zero = let e : min 0 0 ≡ 0 = omega arith in ap (λ k. rows_in k None) e
@@ -120,24 +98,6 @@ pub drop-none : (count n : ℕ) → n ≤ count → rows_in (count - n) None ≡
 drop-none count zero le = let e : count - 0 ≡ count = omega arith in ap (λ k. rows_in k None) e
 drop-none zero (suc n) le = absurd (omega (arith, le))
 drop-none (suc count) (suc n) le = let e : suc count - suc n ≡ count - n = omega arith in ap (λ k. rows_in k None) e ∙ drop-none count n (omega (arith, le))
-
--- messages that lie between two numbers lie between wider ones
-pub between-wider : (low high message : ℕ) (rows : List (List Debt)) → All (AreBetween low high) rows → All (AreBetween (min low message) (max high message)) rows
-between-wider low high message rows all =
-    All-weaker (AreBetween low high) (AreBetween (min low message) (max high message))
-    (λ debts between. All-weaker (λ (d : Debt). (low ≤ d.message) × (d.message ≤ high)) (λ (d : Debt). (min low message ≤ d.message) × (d.message ≤ max high message))
-    (λ d is. let a = is.0 in let b = is.1 in (omega (arith, a), omega (arith, b))) debts between) rows all
-
--- where a row gains a debt, and keeps what passes a test, the messages of all rows lie between the numbers widened by that of the debt
-pub AreDues-gain : (p : Debt → Bool) (rows : List (List Debt)) (count low high row : ℕ) (debt : Debt) → row < length rows → AreDues rows count low high →
-    AreDues (set rows row (filter p (owed_in rows row ++ debt ∷ []))) count (min low debt.message) (max high debt.message)
-AreDues-gain p rows count low high row debt low_row dues =
-    let wider = between-wider low high debt.message rows dues.between in
-    let m = debt.message in
-    let P = λ (d : Debt). (min low m ≤ d.message) × (d.message ≤ max high m) in
-    AreDues-set rows count (min low m) (max high m) row (filter p (owed_in rows row ++ debt ∷ [])) (record { long = dues.long; between = wider })
-    (All-filter p P (owed_in rows row ++ debt ∷ [])
-    (All-push P (owed_in rows row) debt (All-get_or (AreBetween (min low m) (max high m)) rows row [] low_row wider) (omega arith, omega arith)))
 
 -- a row that is changed and then changed again is as if it was changed once, to what the second change makes of the first
 pub set-again : (rows : List (List Debt)) (row : ℕ) (debts : List Debt) (f : List Debt → List Debt) → row < length rows →

@@ -1,4 +1,4 @@
-use Rattle.std.specs.Prelude.{◌≡◌, ◌≤◌, ℕ, Option, None, Some, List, [], All, length, replicate}
+use Rattle.std.specs.Prelude.{◌≤◌, ℕ, Option, None, Some, List, [], All, replicate}
 use Rattle.sip_ledger.specs.declared.debt.Debt.{Debt}
 
 -- What many states owe, with accounts or without.
@@ -11,8 +11,3 @@ rows_in count (Some rows) = rows
 -- the numbers of the messages of these debts are from low up to high
 abbrev pub AreBetween : ℕ → ℕ → List Debt → Type 0
 AreBetween low high debts = All (λ debt. (low ≤ debt.message) × (debt.message ≤ high)) debts
-
--- there are `count` rows, and the numbers of all messages that are owed are from low up to high
-pub record AreDues (rows : List (List Debt)) (count low high : ℕ) : Type 0 where
-  pub long : length rows ≡ count
-  pub between : All (AreBetween low high) rows

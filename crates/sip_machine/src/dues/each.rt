@@ -95,8 +95,6 @@ impl Dues {
             }
             None => self.accounts = Some(opened_from(alloc, self.rows, from, debt)?),
         }
-        self.lowest = self.lowest.min(debt.message);
-        self.highest = self.highest.max(debt.message);
         Ok(())
     }
 

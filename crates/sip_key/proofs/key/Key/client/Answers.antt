@@ -1,27 +1,25 @@
-use Rattle.std.proofs.Common.{◌≡◌, ◌++◌, ◌-◌, [], length, refl, append-nil, ap, sym, ◌∙◌, arith}
+use Rattle.std.proofs.Common.{◌≡◌, ◌++◌, [], length, append-nil, ap, sym, ◌∙◌}
 use Rattle.sip_standard.specs.Case.{folded}
 use Rattle.sip_standard.specs.declared.role.Role.TheVariants.{Client}
-use Rattle.sip_key.specs.inner.KeyText.{key_head}
-use Rattle.sip_key.proofs.KeyLemmas.{LaidOut, begun_folded, built}
+use Rattle.sip_key.specs.inner.KeyText.{key_head, key_text, parts_of}
+use Rattle.sip_key.proofs.KeyLemmas.{begun_folded, built, keyed}
 use Rattle.sip_key.proofs.key.Key.client.Goals as goal
 use Rattle.sip_key.proofs.key.Key.client.Goals.{In_ok-extend_from_slice}
 
-laid : (c : In_ok-extend_from_slice)
-    → LaidOut Client (folded c.args.branch.now) [] c.args.method.now c.extend_from_slice.new.self.items (c.len-branch_end.result - length c.args.branch.now) c.len-branch_end.result c.len-branch_end.result
-laid c =
+made : (c : In_ok-extend_from_slice) → let text = c.extend_from_slice.new.self.items in
+    (parts_of text ≡ record { role = Client; branch = folded c.args.branch.now; sent_by = []; method = c.args.method.now }) × (text ≡ key_text (parts_of text))
+made c =
     let branch = c.args.branch.now in
     let head = key_head Client (length branch) (length c.args.method.now) in
     let begun = c.fold.new.text.items in
     let begun_is : begun ≡ head ++ folded (branch ++ []) =
     c.fold.ensures ∙ ap folded (c.in_ok-text.ensures ∙ sym (append-nil (head ++ branch))) ∙ begun_folded Client (length branch) (length c.args.method.now) branch [] in
-    built Client branch [] [] c.args.method.now begun _ _ _ _ begun_is
-    (c.in_ok-extend_from_slice.ensures.items ∙ ap (λ text. text ++ c.args.method.now) (sym (append-nil begun)))
-    refl (omega (arith, c.len-branch_end.ensures, c.fold.new.text.ok.0)) (omega (arith, c.len-branch_end.ensures, c.fold.new.text.ok.0))
+    keyed (record { role = Client; branch = folded branch; sent_by = []; method = c.args.method.now }) c.extend_from_slice.new.self.items
+    (built Client branch [] [] c.args.method.now begun c.extend_from_slice.new.self.items begun_is
+    (c.in_ok-extend_from_slice.ensures.items ∙ ap (λ text. text ++ c.args.method.now) (sym (append-nil begun))))
 
-pub placed-requires : goal.placed-requires
-placed-requires c =
-    let sound = (laid (goal.at.placed-requires c).In_ok-extend_from_slice).sound in
-    record { order = (sound.0, sound.1, sound.2); text = sound.3 }
+pub invariant_of-result : goal.invariant_of-result
+invariant_of-result c = (made (goal.at.invariant_of-result c).In_ok-extend_from_slice).1
 
 pub returns : goal.returns
-returns c = c.in_ok-key.ensures ∙ (laid (goal.at.returns c).In_ok-extend_from_slice).parts
+returns c = (made (goal.at.returns c).In_ok-extend_from_slice).0

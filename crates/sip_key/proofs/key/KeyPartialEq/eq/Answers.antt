@@ -6,5 +6,5 @@ use Rattle.sip_key.proofs.key.KeyPartialEq.eq.Goals as goal
 pub returns : goal.returns
 returns c =
     c.eq.ensures ∙ same_key-by_text c.args.self.now c.args.other.now c.self.inside.text.items c.other.inside.text.items
-    (c.self.invariant.3 ∙ ap key_text c.self.view_is)
-    (c.other.invariant.3 ∙ ap key_text c.other.view_is)
+    (c.self.invariant ∙ ap key_text c.self.view_is)
+    (c.other.invariant ∙ ap key_text c.other.view_is)

@@ -13,7 +13,7 @@ returns c =
           rw w.self-inside-is (rw (w.deref_mut.ensures.value, is) at w.drop_first.ensures)
       | in_default w ↦
           let is : rows_in c.self.inside.rows None ≡ c.args.self.now = rw w.in_default.is at c.self.view_is in
-          let long = c.self.invariant.long in
+          let long = c.self.invariant in
           let same = ap length c.self.view_is in
           let low = c.requires in
           let inside : c.args.rows ≤ c.self.inside.rows = omega (arith, long, same, low) in

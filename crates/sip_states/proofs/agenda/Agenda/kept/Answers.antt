@@ -14,6 +14,6 @@ loop-at-preserved c =
       | then-flags-at+in_ok-push_record w ↦
           let x = w.index.result.now in
           let is : x ≡ get_or xs i x = w.index.ensures ∙ ap (λ l. get_or l i x) c.self.view_is in
-          rw (w.agenda-is, w.in_ok-push_record.ensures) (appends_more flags xs ys i x (omega arith) (omega (arith, c.requires)) (search rules) is c.loop-at.invariant)
+          rw (w.agenda-is, w.in_ok-push_record.ensures, w.limit.ensures) (appends_more flags xs ys i x (omega arith) (omega (arith, c.requires)) (search rules) is c.loop-at.invariant)
       | else-flags-at w ↦ rw w.agenda-is (appends_not flags xs ys i y (omega arith) (omega (arith, c.requires)) (search rules) there c.loop-at.invariant)
     ]

@@ -1,0 +1,12 @@
+use Rattle.std.proofs.Common.{◌≤◌, subst}
+use Rattle.std.specs.Prelude.{All}
+use Rattle.sip_ledger.specs.declared.debt.Debt.{Debt}
+use Rattle.sip_ledger.proofs.rows.NamedLemmas.{spanned}
+use Rattle.sip_ledger.proofs.accounts.Accounts.span.Goals as goal
+
+pub returns : goal.returns
+returns c =
+    let s = c.self.inside in
+    let span = c.span.result in
+    subst (All (All (λ (debt : Debt). (span.0 ≤ debt.message) × (debt.message ≤ span.1)))) c.self.view_is
+    (spanned s.gains s.strikes.items s.rows.items span.0 span.1 c.span.ensures)

@@ -1,0 +1,16 @@
+use Rattle.std.proofs.Common.{◌≡◌, ◌≤◌, ℕ, true, subst, sym, true≢false}
+use Rattle.sip_ledger.specs.Indexes.{holds}
+use Rattle.sip_ledger.proofs.lists.IndexLemmas.{none-held, span-held}
+use Rattle.sip_ledger.proofs.index.Index.span.Goals as goal
+
+pub returns-in_default : goal.returns-in_default
+returns-in_default c =
+    subst (λ v. (k n : ℕ) → holds v k n ≡ true → (0 ≤ k) × (k ≤ 0)) c.self.view_is
+    (λ k n held. absurd (none-held c.self.inside.pairs.keys (λ some. true≢false (sym (c.in_default.ensures.variant.1 some))) k n held))
+
+pub returns : goal.returns
+returns c =
+    let first = c.in-Some.first.now in
+    let last = c.in-Some-last.last.now in
+    subst (λ v. (k n : ℕ) → holds v k n ≡ true → (first.0 ≤ k) × (k ≤ last.0)) c.self.view_is
+    (span-held c.self.inside.pairs first last c.in-Some.ensures.least c.in-Some-last.ensures.greatest)

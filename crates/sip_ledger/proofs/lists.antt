@@ -1,3 +1,4 @@
 pub mod EachLemmas
+pub mod FrontLemmas
 pub mod IndexLemmas
 pub mod KeepLemmas

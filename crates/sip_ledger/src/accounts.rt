@@ -55,9 +55,10 @@ impl Model for Accounts {
     ghost invariant = { λ a. AreAccounts a.gains a.strikes.items a.rows.items };
 }
 
-#[tactic(auto, using(crate::proofs::account::AccountLemmas::debts_length))]
+#[tactic(auto, using(crate::proofs::rows::SeenLemmas::of_rows))]
 impl Accounts {
     /// There are no rows.
+    #[tactic(auto, unfolding(crate::specs::inner::Accounts::accounts_debts))]
     pub fn new(alloc: Global) -> Self
         ensures { result ≡ [] }
     {

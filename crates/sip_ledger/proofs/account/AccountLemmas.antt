@@ -12,11 +12,11 @@ use Rattle.sip_ledger.specs.declared.accounts.account.Account.{Account}
 use Rattle.sip_ledger.specs.declared.accounts.gains.Gains.{Gains}
 use Rattle.sip_ledger.specs.declared.accounts.strikes.Strike.{Strike}
 use Rattle.sip_ledger.specs.Accounts.{debts_print}
-use Rattle.sip_ledger.specs.inner.Accounts.{AreAccounts, AreGains, AreSameGains, IsAccount, IsDropped, IsGain, IsKept, IsLetGo, KeepsAccounts, account_debts, accounts_debts, blank, entries_of, entry_at, is_gone, is_left, is_struck, must_at, owes_at, strikes_of}
+use Rattle.sip_ledger.specs.inner.Accounts.{AreAccounts, AreGains, AreSameGains, IsAccount, IsDropped, IsGain, IsKept, IsLetGo, KeepsAccounts, account_debts, accounts_debts, entries_of, entry_at, is_gone, is_left, is_struck, must_at, owes_at, strikes_of}
 use Rattle.sip_ledger.specs.Indexes.{holds}
 use Rattle.sip_ledger.proofs.debts.ListedLemmas.{back-none, front, listed-same, listed-none, parts}
 use Rattle.sip_ledger.proofs.gains.FlagLemmas.{left-as}
-use Rattle.sip_ledger.proofs.gains.LeftLemmas.{entries-long, left-kept, listed-alike, owed-left, unleft-unowed}
+use Rattle.sip_ledger.proofs.gains.LeftLemmas.{entries_long, left-kept, listed-alike, owed-left, unleft-unowed}
 
 -- an account keeps its strikes when others are put after them
 pub kept-strikes : (old new : List Strike) (a : Account) → take (length old) new ≡ old → a.last ≤ length old → strikes_of new a ≡ strikes_of old a
@@ -100,7 +100,7 @@ owed-within gains strikes a k is = grind (arith, nat_tests, cases_lt, true≢fal
 -- where an account owes something, each gain from its start on is kept
 pub kept-passed : {gains : Gains} {strikes : List Strike} {a : Account} (k : ℕ) → AreGains gains → IsAccount gains strikes a → a.start < a.end → a.start ≤ k →
     k < length (entries_of gains) → IsKept gains k
-kept-passed {gains} {strikes} {a} k are is some low high = grind (arith, nat_tests, left-kept, owed-left, entries-long)
+kept-passed {gains} {strikes} {a} k are is some low high = grind (arith, nat_tests, left-kept, owed-left, entries_long)
 
 -- each gain from the start of an account up to its end is kept
 pub kept-from : {gains : Gains} {strikes : List Strike} {a : Account} (k : ℕ) → AreGains gains → IsAccount gains strikes a → a.start ≤ k → k < a.end → IsKept gains k
@@ -135,15 +135,7 @@ over-debts old new strikes a long end alike =
     (back-none (owes_at new strikes a) (must_at new a) (entries_of new) n (λ k past. past-end new strikes a k (omega (arith, past, end))))
     ∙ append-nil (front (owes_at new strikes a) (must_at new a) (entries_of new) n)
     ∙ listed-alike (owes_at new strikes a) (must_at new a) (owes_at old strikes a) (must_at old a) 0 (take n (entries_of new)) (entries_of old) short
-    (λ j below.
-    let here : 0 + j ≡ j = omega arith in
-    ap (owes_at new strikes a) here ∙ alike.owes j ∙ ap (owes_at old strikes a) (sym here))
-    (λ j below is.
-    let here : 0 + j ≡ j = omega arith in
-    let both = alike.same j (sym (alike.owes j) ∙ ap (owes_at new strikes a) (sym here) ∙ is) in (
-      get_or-take n (entries_of new) j blank (omega (arith, below, short)) ∙ both.0,
-      ap (λ n. holds new.musts 0 n && nat_le a.soft n) here ∙ ap (λ b. b && nat_le a.soft j) both.1 ∙ ap (λ n. holds old.musts 0 n && nat_le a.soft n) (sym here),
-    ))
+    (λ j below. grind arith) (λ j below is. grind (arith, get_or-take))
 
 -- an account that owes alike over old and new gains stays one
 over-account : (old new : Gains) (strikes : List Strike) (a : Account) → length (entries_of old) ≤ length (entries_of new) → OwesAlike old new strikes a → IsAccount old strikes a →
@@ -158,14 +150,7 @@ over-all old new strikes rows long alike each = grind (arith, nat_tests, each-st
 -- accounts are kept over gains that are the same
 pub same-keeps : (old new : Gains) → AreSameGains old new → KeepsAccounts old new
 same-keeps old new same = record {
-  each = λ strikes accounts are.
-      over-all old new strikes accounts (omega (arith, ap length same.entries)) (λ k d below.
-      let entry = λ (k : ℕ). ap (λ l. entry_at l k) same.entries in
-      let a = get_or accounts k d in
-      record {
-        owes = λ k. owes-over old new strikes a k (entry k) (left-as old new k (entry k) (λ m. same.messages m k));
-        same = λ k owed. (entry k, same.musts k);
-      }) are;
+  each = λ strikes accounts are. over-all old new strikes accounts (omega (arith, ap length same.entries)) (λ k d below. grind (arith, owes-over, left-as)) are;
 }
 
 -- an account owes alike where a gain is let go that it does not owe
@@ -238,3 +223,6 @@ without-first_rows gains strikes rows n are = (
 pub over : (old new : Gains) (strikes : List Strike) (rows : List Account) → KeepsAccounts old new → AreGains new → AreAccounts old strikes rows →
     AreAccounts new strikes rows × (accounts_debts new strikes rows ≡ accounts_debts old strikes rows)
 over old new strikes rows keeps gained are = let all = keeps.each strikes rows are.each in (record { gained = gained; each = all.0 }, all.1)
+
+-- what must be sent, by the place
+pub ruleset must_by_place = (must-below, must-from)

@@ -11,7 +11,7 @@ use Rattle.sip_ledger.specs.declared.accounts.gains.Gains.{Gains}
 use Rattle.sip_ledger.specs.declared.accounts.strikes.Strike.{Strike}
 use Rattle.sip_ledger.specs.Debts.{counts_at}
 use Rattle.sip_ledger.specs.inner.Accounts.{AreGains, IsAccount, IsExpiredTo, IsKept, IsWithout, account_debts, entries_of, entry_at, must_at, owes_at}
-use Rattle.sip_ledger.proofs.gains.LeftLemmas.{entries-long, rising-kept}
+use Rattle.sip_ledger.proofs.gains.LeftLemmas.{entries_long, rising_kept}
 use Rattle.sip_ledger.proofs.debts.ListedLemmas.{listed-counting, listed-same}
 use Rattle.sip_ledger.proofs.account.AccountLemmas.{past-end, soft-must}
 use Rattle.sip_ledger.proofs.account.WithoutLemmas.{before-start}
@@ -74,8 +74,8 @@ expired-rising gains old new a b t place soft gained rises kept early is =
     finished gains old new a b t soft (λ k within. elim (cases_lt k place) [
       | inl first ↦ is.gone k first
       | inr late ↦
-          let count = entries-long gains gained.long in
-          let above = rising-kept gains place k gained rises kept late (omega (arith, within, count)) in
+          let count = entries_long gains gained.long in
+          let above = rising_kept gains place k gained rises kept late (omega (arith, within, count)) in
           let counts : (must_at gains a k || nat_le t (entry_at (entries_of gains) k).deadline) ≡ true =
           ap (λ b. must_at gains a k || b) (le-leb t (entry_at (entries_of gains) k).deadline (omega (arith, early, above))) ∙ or-true (must_at gains a k) in
           counted t (entries_of gains) (must_at gains a) (owes_at gains old a) (owes_at gains new b) k (is.later k late) counts

@@ -12,7 +12,7 @@ use Rattle.sip_ledger.specs.declared.accounts.strikes.Strike.{Strike}
 use Rattle.sip_ledger.specs.Debts.{is_payable, paid_by}
 use Rattle.sip_ledger.specs.inner.Accounts.{IsAccount, IsFirstPayable, IsWithout, account_debts, entries_of, entry_at, is_gone, is_struck, must_at, owes_at, pays_at, strikes_of}
 use Rattle.sip_ledger.specs.Indexes.{holds}
-use Rattle.sip_ledger.proofs.gains.LeftLemmas.{gone-left, gone-struck, held-left, owed-left}
+use Rattle.sip_ledger.proofs.gains.LeftLemmas.{gone-left, gone-struck, held_left, owed-left}
 use Rattle.sip_ledger.proofs.debts.ListedLemmas.{no_entry, listed-All}
 use Rattle.sip_ledger.proofs.debts.OwedLemmas.{removed}
 use Rattle.sip_ledger.proofs.debts.PayLemmas.{paid-is}
@@ -47,7 +47,7 @@ pub none-pays_to : (gains : Gains) (strikes : List Strike) (a : Account) (messag
 none-pays_to gains strikes a message t from at before others k early owed = elim (cases_lt k from) [
   | inl first ↦ before k first owed
   | inr behind ↦ elim (cases_eq (entry_at (entries_of gains) k).message message) [
-    | inl is ↦ absurd (true≢false (sym (held-left gains message k is ∙ owed-left gains strikes a k owed) ∙ others k behind early))
+    | inl is ↦ absurd (true≢false (sym (held_left gains message k is ∙ owed-left gains strikes a k owed) ∙ others k behind early))
     | inr other ↦ unnamed-unpaid (entries_of gains) message t k other
   ]
 ]
@@ -73,7 +73,7 @@ owed-here gains strikes a at low high free =
 pub first-payable : (gains : Gains) (strikes : List Strike) (a : Account) (message t at : ℕ) → NonePays (entries_of gains) (owes_at gains strikes a) message t at → a.start ≤ at → at < a.end →
     (entry_at (entries_of gains) at).message ≡ message → holds gains.messages message at ≡ true → is_struck (strikes_of strikes a) message at ≡ false → t ≤ (entry_at (entries_of gains) at).deadline →
     IsFirstPayable (entries_of gains) (owes_at gains strikes a) message t at
-first-payable gains strikes a message t at before low high is held free early = grind (arith, nat_tests, owed-here, gone-left, held-left, named-pays)
+first-payable gains strikes a message t at before low high is held free early = grind (arith, nat_tests, owed-here, gone-left, held_left, named-pays)
 
 -- where the first debt that a send pays is taken out of an account, the account owes the debts that the payment leaves
 pub paid-account : (gains : Gains) (old new : List Strike) (a b : Account) (message t place : ℕ) → IsAccount gains old a →

@@ -16,7 +16,7 @@ use Rattle.sip_ledger.specs.Indexes.{IsFirstFrom, IsNextUnder, NoneFrom, holds}
 use Rattle.sip_ledger.proofs.debts.ListedLemmas.{no_entry, listed-All}
 use Rattle.sip_ledger.proofs.debts.OwedLemmas.{removed}
 use Rattle.sip_ledger.proofs.debts.PayLemmas.{paid-is}
-use Rattle.sip_ledger.proofs.gains.LeftLemmas.{held-left, left-kept, owed-left}
+use Rattle.sip_ledger.proofs.gains.LeftLemmas.{held_left, left-kept, owed-left}
 use Rattle.sip_ledger.proofs.account.AccountLemmas.{owed-within}
 use Rattle.sip_ledger.proofs.account.FindLemmas.{named-pays}
 
@@ -87,7 +87,7 @@ module _ (gains : Gains) (strikes : List Strike) (a : Account) (pairs : List (�
       first-same (entries_of gains) (owes_at gains strikes a) (below pairs key from) more t wider first
       (λ k early owed passes.
       let m = (entry_at (entries_of gains) k).message in
-      below-is (holds pairs key m) m from (under m passes) (low m k passes (under m passes) (held-left gains m k refl ∙ owed-left gains strikes a k owed)))
+      below-is (holds pairs key m) m from (under m passes) (low m k passes (under m passes) (held_left gains m k refl ∙ owed-left gains strikes a k owed)))
       is
 
   module _ (from : ℕ) (first : Option ℕ) (is : IsFirst (below pairs key from) first) where
@@ -189,7 +189,6 @@ module _ (gains : Gains) (strikes : List Strike) (a : Account) (test : ℕ → B
       let entries = entries_of gains in
       let must = must_at gains a in
       let message = (entry_at entries place).message in
-      let debts = debts_from owed must 0 entries in
       let less : ℕ → Bool = λ k. owed k && not (k == place) in
       let left = debts_from less must 0 entries in
       let inside : place < length entries = omega (arith, owed-within gains strikes a place found.0, is.end) in
@@ -210,7 +209,7 @@ module _ (gains : Gains) (strikes : List Strike) (a : Account) (test : ℕ → B
           whole = one.whole;
           holds = one.holds;
           none_before = one.none_before;
-          rest = sym (paid-is message t debts left only) ∙ one.rest;
+          rest = sym (paid-is message t (debts_from owed must 0 entries) left only) ∙ one.rest;
         },
         refl,
       )

@@ -1,23 +1,22 @@
 -- An account gains one debt.
-use Rattle.std.proofs.Common.{◌≡◌, ◌≢◌, ℕ, ◌+◌, ◌<◌, ◌≤◌, ◌%◌, ◌^◌, ◌&&◌, ◌||◌, Bool, true, false, not, List, [], ◌∷◌, ◌++◌, length, take, drop, get_or, sym, ap, ap₂, ◌∙◌, subst, inl, inr, arith}
+use Rattle.std.proofs.Common.{◌≡◌, ◌≢◌, ℕ, ◌+◌, ◌<◌, ◌≤◌, ◌%◌, ◌^◌, ◌&&◌, true, false, List, [], ◌∷◌, ◌++◌, length, get_or, sym, ap, ◌∙◌, arith}
 use Rattle.std.proofs.lemmas.Bool.Decides.{nat_tests}
 use Rattle.std.specs.Prelude.{nat_le}
-use Rattle.std.proofs.lemmas.Bool.{and_right, cases_lt, le-leb, le-ltb, lt-leb, lt-ltb}
-use Rattle.std.proofs.Math.Bool.{and-false, and-true, or-false, or-true}
+use Rattle.std.proofs.lemmas.Bool.{and_right, cases_lt, le-leb, lt-leb, lt-ltb}
+use Rattle.std.proofs.Math.Bool.{and-false, or-false, or-true}
 use Rattle.std.proofs.lemmas.List.{get_or_push, length-append}
 use Rattle.std.proofs.lemmas.List.Sums.{sum_by_push}
 use Rattle.std.proofs.Math.Nat.{mod-add-mod}
 use Rattle.sip_ledger.specs.declared.debt.Debt.{Debt}
-use Rattle.sip_ledger.specs.declared.debt.Entry.{Entry}
 use Rattle.sip_ledger.specs.declared.accounts.account.Account.{Account}
 use Rattle.sip_ledger.specs.declared.accounts.gains.Gains.{Gains}
 use Rattle.sip_ledger.specs.declared.accounts.strikes.Strike.{Strike}
 use Rattle.sip_ledger.specs.Accounts.{debts_print, worth_of}
 use Rattle.sip_ledger.specs.Entries.{debt_of}
-use Rattle.sip_ledger.specs.inner.Accounts.{IsAccount, IsGain, IsNextGain, IsStruck, KeepsAccounts, account_debts, entries_of, entry_at, is_gone, is_left, is_struck, must_at, owes_at, strikes_of}
+use Rattle.sip_ledger.specs.inner.Accounts.{IsAccount, IsGain, IsNextGain, IsStruck, KeepsAccounts, account_debts, entries_of, entry_at, is_left, is_struck, must_at, owes_at, strikes_of}
 use Rattle.sip_ledger.specs.Indexes.{holds}
 use Rattle.sip_ledger.proofs.debts.OwedLemmas.{gained-debts}
-use Rattle.sip_ledger.proofs.gains.LeftLemmas.{gone-left, gone-same, gone-struck, held-left}
+use Rattle.sip_ledger.proofs.gains.LeftLemmas.{gone-left, gone-same, gone-struck, held_left}
 use Rattle.sip_ledger.proofs.account.AccountLemmas.{grown-alike, over-all, past-end}
 use Rattle.sip_ledger.proofs.account.WithoutLemmas.{before-start}
 
@@ -36,32 +35,15 @@ pub gained-account : (gains : Gains) (old new : List Strike) (a b : Account) (de
 unfolding account_debts must_at
 gained-account gains old new a b debt place is next here others soft low end first last bound begins print =
     let entries = (entries_of gains) in
-    let inside = next.gain.within in
-    let entry = entry_at entries place in
-    let due : must_at gains b place ≡ debt.must = ap₂ (λ x y. x && y) next.gain.must (le-leb b.soft place (omega (arith, soft, next.soft))) ∙ and-true debt.must in
-    let same : debt_of entry (must_at gains b place) ≡ debt = debt-is entry debt (must_at gains b place) next.gain.message next.gain.deadline due in
+    let due : must_at gains b place ≡ debt.must = grind (arith, nat_tests) in
+    let same : debt_of (entry_at entries place) (must_at gains b place) ≡ debt = grind arith in
     let debts : account_debts gains new b ≡ account_debts gains old a ++ debt ∷ [] =
-    gained-debts entries (owes_at gains old a) (must_at gains a) (owes_at gains new b) (must_at gains b) place inside
+    gained-debts entries (owes_at gains old a) (must_at gains a) (owes_at gains new b) (must_at gains b) place next.gain.within
     (λ k past. past-end gains old a k (omega (arith, past, next.end))) here others
     (λ k other. ap (λ s. holds gains.musts 0 k && nat_le s k) soft)
-    ∙ ap (λ d. account_debts gains old a ++ d ∷ []) same in (
-      record {
-        order = omega (arith, low, end);
-        end = omega (arith, end, inside);
-        soft = subst (λ n. n ≤ length entries) (sym soft) is.soft;
-        first = first;
-        last = last;
-        bound = bound;
-        begins = begins;
-        print = print ∙ ap (λ n. (n + worth_of debt.message debt.deadline) % 2 ^ 64) is.print ∙ sym (print-more (account_debts gains old a) debt) ∙ ap debts_print (sym debts);
-      },
-      debts,
-    )
-  where
-    debt-is : (e : Entry) (d : Debt) (must : Bool) → e.message ≡ d.message → e.deadline ≡ d.deadline → must ≡ d.must → debt_of e must ≡ d
-    debt-is e d must message deadline due =
-        ap₂ (λ (m t : ℕ). let x : Debt = record { message = m; deadline = t; must = must } in x) message deadline
-        ∙ ap (λ (b : Bool). let x : Debt = record { message = d.message; deadline = d.deadline; must = b } in x) due
+    ∙ ap (λ d. account_debts gains old a ++ d ∷ []) same in
+    let account : IsAccount gains new b = grind (arith, print-more) in
+    (account, debts)
 
 -- an account that owes nothing, and gains at a place, owes that gain alone
 pub first-gain : (gains : Gains) (old new : List Strike) (a b : Account) (debt : Debt) (place : ℕ) → IsAccount gains old a → IsNextGain gains old a debt place → a.start ≡ a.end →
@@ -69,30 +51,11 @@ pub first-gain : (gains : Gains) (old new : List Strike) (a b : Account) (debt :
     IsAccount gains new b × (account_debts gains new b ≡ account_debts gains old a ++ debt ∷ [])
 unfolding owes_at is_struck
 first-gain gains old new a b debt place is next none same print =
-    let start : b.start ≡ place = ap (λ (x : Account). x.start) same in
-    let end : b.end ≡ place + 1 = ap (λ (x : Account). x.end) same in
-    let soft : b.soft ≡ a.soft = ap (λ (x : Account). x.soft) same in
-    let first : b.first ≡ 0 = ap (λ (x : Account). x.first) same in
-    let last : b.last ≡ 0 = ap (λ (x : Account). x.last) same in
-    let entries = (entries_of gains) in
-    let own : strikes_of new b ≡ [] = ap₂ (λ f l. drop f (take l new)) first last in
-    let left : is_left gains place ≡ true = sym (held-left gains debt.message place next.gain.message) ∙ next.gain.left in
-    let here : owes_at gains new b place ≡ true =
-    ap₂ (λ x y. x && (y && not (is_gone gains (strikes_of new b) place))) (le-leb b.start place (omega (arith, start))) (lt-ltb place b.end (omega (arith, end)))
-    ∙ ap (λ l. not (is_gone gains l place)) own ∙ ap not (gone-left gains [] place left) in
-    gained-account gains old new a b debt place is next here
-    (λ k other. elim (cases_lt k place) [
-      | inl early ↦
-          before-start gains new b k (omega (arith, early, start)) ∙ sym (elim (cases_lt k a.start) [
-            | inl low ↦ before-start gains old a k low
-            | inr high ↦ past-end gains old a k (omega (arith, high, none))
-          ])
-      | inr late ↦ past-end gains new b k (omega (arith, late, other, end)) ∙ sym (past-end gains old a k (omega (arith, late, next.end)))
-    ])
-    soft (omega (arith, start)) end (omega (arith, first, last)) (omega (arith, last))
-    (λ m k past. ap (λ l. is_struck l m k) own)
-    (λ some. ap (owes_at gains new b) start ∙ here)
-    print
+    let own : strikes_of new b ≡ [] = grind arith in
+    let left : is_left gains place ≡ true = sym (held_left gains debt.message place next.gain.message) ∙ next.gain.left in
+    let here : owes_at gains new b place ≡ true = grind (arith, nat_tests, gone-left) in
+    let others : (k : ℕ) → k ≢ place → owes_at gains new b k ≡ owes_at gains old a k = grind (arith, before-start, past-end) in
+    gained-account gains old new a b debt place is next here others (grind arith) (grind arith) (grind arith) (grind arith) (grind arith) (grind arith) (grind arith) print
 
 -- at other places an account that gains at a place owes what it owed, where the gains between its end and the place are struck
 passed-others : (gains : Gains) (old new : List Strike) (a p b : Account) (place k : ℕ) → IsStruck gains a.end place old new a p → a.end ≤ length (entries_of gains) → a.end ≤ place →
@@ -106,30 +69,16 @@ pub more-gain : (gains : Gains) (old new : List Strike) (a p b : Account) (debt 
     IsAccount gains new b × (account_debts gains new b ≡ account_debts gains old a ++ debt ∷ [])
 unfolding owes_at
 more-gain gains old new a p b debt place is next some passed same print =
-    let entries = (entries_of gains) in
     let order = is.order in
-    let low = next.end in
     let start : b.start ≡ a.start = ap (λ (x : Account). x.start) same ∙ passed.start in
     let end : b.end ≡ place + 1 = ap (λ (x : Account). x.end) same in
-    let soft : b.soft ≡ a.soft = ap (λ (x : Account). x.soft) same ∙ passed.soft in
-    let first : b.first ≡ p.first = ap (λ (x : Account). x.first) same in
-    let last : b.last ≡ p.last = ap (λ (x : Account). x.last) same in
-    let own : strikes_of new b ≡ strikes_of new p = ap₂ (λ f l. drop f (take l new)) first last in
-    let m = λ (k : ℕ). (entry_at entries k).message in
-    let left : is_left gains place ≡ true = sym (held-left gains debt.message place next.gain.message) ∙ next.gain.left in
-    let struck = λ (k : ℕ) (from : a.start ≤ k) (left : is_left gains k ≡ true). ap (λ l. is_struck l (m k) k) own ∙ passed.struck k from left in
-    let free : is_struck (strikes_of new b) (m place) place ≡ false =
-    struck place (omega (arith, order, low)) left
-    ∙ ap₂ (λ x y. x || (nat_le a.end place && y)) (ap (λ n. is_struck (strikes_of old a) n place) next.gain.message ∙ next.free) (le-ltb place place (omega arith))
-    ∙ and-false (nat_le a.end place) in
-    let here : owes_at gains new b place ≡ true =
-    ap₂ (λ x y. x && (y && not (is_gone gains (strikes_of new b) place))) (le-leb b.start place (omega (arith, start, order, low))) (lt-ltb place b.end (omega (arith, end)))
-    ∙ ap not (gone-left gains (strikes_of new b) place left ∙ free) in
-    let others = λ (k : ℕ) (other : k ≢ place). passed-others gains old new a p b place k passed is.end low next.gain.within start end own other in
-    gained-account gains old new a b debt place is next here others
-    soft (omega (arith, start, order, low)) end (subst (λ n. n ≤ b.last) (sym first) (subst (λ n. p.first ≤ n) (sym last) passed.first)) (subst (λ n. n ≤ length new) (sym last) passed.last)
-    (λ m k past. ap (λ l. is_struck l m k) own ∙ passed.bound m k past (is.bound m k past))
-    (λ _. let other : a.start ≢ place = omega (arith, order, low, some) in
+    let own : strikes_of new b ≡ strikes_of new p = grind arith in
+    let left : is_left gains place ≡ true = sym (held_left gains debt.message place next.gain.message) ∙ next.gain.left in
+    let free : is_struck (strikes_of new b) (entry_at (entries_of gains) place).message place ≡ false = grind (arith, nat_tests) in
+    let here : owes_at gains new b place ≡ true = grind (arith, nat_tests, gone-left) in
+    let others = λ (k : ℕ) (other : k ≢ place). passed-others gains old new a p b place k passed is.end next.end next.gain.within start end own other in
+    gained-account gains old new a b debt place is next here others (grind arith) (grind arith) end (grind arith) (grind arith) (grind arith)
+    (λ _. let other : a.start ≢ place = omega (arith, order, next.end, some) in
     ap (owes_at gains new b) start ∙ others a.start other ∙ is.begins (omega (arith, order, some)))
     print
 

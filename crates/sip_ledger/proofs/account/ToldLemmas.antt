@@ -1,5 +1,5 @@
 -- What an account owes, place by place: its debts, whether another account owes the same, and the least deadline of what it must send.
-use Rattle.std.proofs.Common.{◌≡◌, ◌≢◌, ℕ, ◌+◌, ◌<◌, ◌≤◌, ◌==◌, ◌&&◌, Bool, true, false, not, List, [], ◌∷◌, ◌++◌, length, take, drop, get_or, map, refl, sym, ap, ap₂, ◌∙◌, subst, inl, inr, ◌⊎◌, arith, append-nil}
+use Rattle.std.proofs.Common.{◌≡◌, ◌≢◌, ℕ, ◌+◌, ◌<◌, ◌≤◌, ◌==◌, ◌&&◌, Bool, true, false, not, List, [], ◌∷◌, ◌++◌, length, take, drop, map, refl, sym, ap, ap₂, ◌∙◌, inl, inr, ◌⊎◌, arith, append-nil}
 use Rattle.std.proofs.lemmas.Bool.Decides.{nat_tests}
 use Rattle.std.specs.Prelude.{IsTrue, Option, Some, None, ◌↔◌, nat_le, option_to_list}
 use Rattle.std.specs.Bool.{OnTrue}
@@ -14,7 +14,7 @@ use Rattle.sip_ledger.specs.declared.accounts.strikes.Strike.{Strike}
 use Rattle.sip_ledger.specs.Debts.{debt_deadlines, earliest}
 use Rattle.sip_ledger.specs.Entries.{debt_of, debts_from, IsGap}
 use Rattle.sip_ledger.specs.inner.Accounts.{AreAlike, AreGains, IsAccount, SharesRest, account_debts, entries_of, entry_at, is_struck, must_at, owes_at, strikes_of}
-use Rattle.sip_ledger.proofs.gains.LeftLemmas.{entries-long, gone-same, left-kept, owed-left, rising-kept}
+use Rattle.sip_ledger.proofs.gains.LeftLemmas.{entries_long, gone-same, left-kept, owed-left, rising_kept}
 use Rattle.sip_ledger.specs.Indexes.{holds}
 use Rattle.sip_ledger.proofs.debts.ListedLemmas.{back, back-none, back-same, back-set, earliest-first, earliest-push, front, front-gap, front-next, listed-All, listed-must, listed-none, listed-same, no_entry, parts}
 use Rattle.sip_ledger.proofs.account.AccountLemmas.{must-below, must-from, past-end, soft-must}
@@ -226,17 +226,8 @@ least-rising entries m at rising inside none is =
     earliest-first (entry_at entries at).deadline (map (λ (x : Debt). x.deadline) later)
     (All-map (λ y. (entry_at entries at).deadline ≤ y) (λ (x : Debt). x.deadline) later
     (listed-All (λ x. (entry_at entries at).deadline ≤ x.deadline) m m (at + 1) (drop (at + 1) entries)
-    (λ j e below due. above j e below)))
+    (λ j e below due. grind (arith, length-drop, get_or-drop, get_or_default))))
     ∙ sym (ap (λ l. earliest (map (λ (x : Debt). x.deadline) l)) whole)
-  where
-    above : (j : ℕ) (e : Entry) → j < length (drop (at + 1) entries) → (entry_at entries at).deadline ≤ (get_or (drop (at + 1) entries) j e).deadline
-    above j e below =
-        let long = length-drop (at + 1) entries in
-        let there : at + 1 + j < length entries = omega (arith, below, long, inside) in
-        let first = rising (at + 1 + j) (omega arith) there in
-        let same : get_or (drop (at + 1) entries) j e ≡ get_or entries (at + 1 + j) e = get_or-drop (at + 1) entries j e in
-        let here : get_or entries (at + 1 + j) e ≡ entry_at entries (at + 1 + j) = get_or_default entries (at + 1 + j) e no_entry there in
-        subst (λ (x : Entry). (entry_at entries at).deadline ≤ x.deadline) (sym (same ∙ here)) first
 
 -- `least` is the least deadline of what the account must send before the place; where deadlines rise there is none yet
 pub record IsLeastTo (gains : Gains) (strikes : List Strike) (a : Account) (from : ℕ) (least : Option ℕ) : Type 0 where
@@ -289,7 +280,7 @@ pub least-first_due : (gains : Gains) (strikes : List Strike) (a : Account) (fro
     Some moment ≡ earliest ((entry_at (entries_of gains) at).deadline ∷ option_to_list least) → gains.rises ≡ true →
     Some moment ≡ earliest (debt_deadlines (account_debts gains strikes a))
 unfolding account_debts
-least-first_due gains strikes a from at moment least gained was above inside gap held owed is rises = grind (arith, nat_tests, least-start, least-rising, rising-kept, left-kept, owed-left, entries-long, cases_lt, gap-due, is-due, due-deadlines)
+least-first_due gains strikes a from at moment least gained was above inside gap held owed is rises = grind (arith, nat_tests, least-start, least-rising, rising_kept, left-kept, owed-left, entries_long, cases_lt, gap-due, is-due, due-deadlines)
 
 -- where nothing is due from a place on, the least deadline so far is that of all
 pub least-last : (gains : Gains) (strikes : List Strike) (a : Account) (from at : ℕ) (least : Option ℕ) → IsLeastTo gains strikes a from least →

@@ -1,5 +1,5 @@
 -- An account loses one of its debts.
-use Rattle.std.proofs.Common.{◌≡◌, ◌≢◌, ℕ, ◌+◌, ◌-◌, ◌<◌, ◌≤◌, ◌%◌, ◌^◌, ◌==◌, ◌&&◌, Bool, true, false, not, List, ◌∷◌, length, refl, sym, ap, ap₂, ◌∙◌, subst, arith, lit<}
+use Rattle.std.proofs.Common.{◌≡◌, ◌≢◌, ℕ, ◌+◌, ◌-◌, ◌<◌, ◌≤◌, ◌%◌, ◌^◌, ◌==◌, ◌&&◌, Bool, true, false, not, List, ◌∷◌, length, refl, sym, ap, ◌∙◌, subst, arith, lit<}
 use Rattle.std.specs.Prelude.{nat_le, nat_lt}
 use Rattle.std.specs.List.{sum_by}
 use Rattle.std.proofs.lemmas.Bool.{and_right, cases_lt, eq-eqb, le-leb, lt-leb, lt-ltb, ne_eqb, true≢false}
@@ -15,7 +15,6 @@ use Rattle.sip_ledger.specs.declared.accounts.strikes.Strike.{Strike}
 use Rattle.sip_ledger.specs.Accounts.{debts_print, worth_of}
 use Rattle.sip_ledger.specs.Entries.{debt_of}
 use Rattle.sip_ledger.specs.inner.Accounts.{IsAccount, IsStruck, IsWithout, account_debts, entries_of, entry_at, is_gone, is_struck, must_at, owes_at, strikes_of}
-use Rattle.sip_ledger.proofs.debts.ListedLemmas.{back, front}
 use Rattle.sip_ledger.proofs.debts.OwedLemmas.{IsCut, cut-at}
 use Rattle.sip_ledger.proofs.gains.LeftLemmas.{gone-same, gone-struck}
 use Rattle.sip_ledger.proofs.account.AccountLemmas.{owed-within, past-end, soft-must}
@@ -30,14 +29,8 @@ pub cut-print : {before after : List Debt} (debt : Debt) (old new : List Debt) �
 unfolding debts_print
 cut-print {before} {after} debt old new cut w is =
     mod-add-mod (worths new) (2 ^ 64) w
-    ∙ ap (λ n. n % 2 ^ 64)
-    (ap₂ (λ a b. a + b) (ap worths cut.rest ∙ sum_by-append (λ debt. worth_of debt.message debt.deadline) before after) is
-    ∙ turned (worths before) (worths after) (worth_of debt.message debt.deadline)
-    ∙ sym (ap worths cut.whole ∙ sum_by-append (λ debt. worth_of debt.message debt.deadline) before (debt ∷ after)
-    ∙ ap (λ n. worths before + n) (sum_by-cons (λ debt. worth_of debt.message debt.deadline) debt after)))
-  where
-    turned : (a b c : ℕ) → a + b + c ≡ a + (c + b)
-    turned a b c = omega arith
+    ∙ ap (λ n. n % 2 ^ 64) (let whole = sum_by-append (λ debt. worth_of debt.message debt.deadline) before (debt ∷ after) in let rest = sum_by-append (λ debt. worth_of debt.message debt.deadline) before after in
+    let one = sum_by-cons (λ debt. worth_of debt.message debt.deadline) debt after in omega (arith, ap worths cut.rest, ap worths cut.whole, whole, rest, one, is))
 
 -- a print is a number of 64 bits
 pub print-fits : (debts : List Debt) → debts_print debts < 2 ^ 64
@@ -86,30 +79,12 @@ pub without-account : (gains : Gains) (old new : List Strike) (a b : Account) (p
     w ≡ worth_of (entry_at (entries_of gains) place).message (entry_at (entries_of gains) place).deadline → b.print ≡ (a.print + (2 ^ 64 - w)) % 2 ^ 64 →
     w < 2 ^ 64 → IsAccount gains new b
 unfolding account_debts
-without-account gains old new a b place w is owed without soft order end first last bound begins worth print less = record {
-  order = order;
-  end = omega (arith, end, is.end);
-  soft = subst (λ n. n ≤ length (entries_of gains)) (sym soft) is.soft;
-  first = first;
-  last = last;
-  bound = bound;
-  begins = begins;
-  print = print ∙ ap (λ n. (n + (2 ^ 64 - w)) % 2 ^ 64) (is.print ∙ sym (cut-print debt (account_debts gains old a) (account_debts gains new b) cut w worth))
-      ∙ taken-print (debts_print (account_debts gains new b)) w (print-fits (account_debts gains new b)) less;
-}
-  where
-    debt : Debt
-    debt = debt_of (entry_at (entries_of gains) place) (must_at gains a place)
-
-    inside : place < length (entries_of gains)
-    inside = omega (arith, owed-within gains old a place owed, is.end)
-
-    must : (k : ℕ) → must_at gains b k ≡ must_at gains a k
-    must k = soft-must gains a b k soft
-
-    cut : IsCut (front (owes_at gains old a) (must_at gains a) (entries_of gains) place) debt (back (owes_at gains old a) (must_at gains a) (entries_of gains) (place + 1))
-        (account_debts gains old a) (account_debts gains new b)
-    cut = cut-at (entries_of gains) (owes_at gains old a) (must_at gains a) (owes_at gains new b) (must_at gains b) place inside owed without must
+without-account gains old new a b place w is owed without soft order end first last bound begins worth print less =
+    let cut = cut-at (entries_of gains) (owes_at gains old a) (must_at gains a) (owes_at gains new b) (must_at gains b) place (omega (arith, owed-within gains old a place owed, is.end)) owed without
+    (λ k. soft-must gains a b k soft) in
+    let printed = print ∙ ap (λ n. (n + (2 ^ 64 - w)) % 2 ^ 64) (is.print ∙ sym (cut-print (debt_of (entry_at (entries_of gains) place) (must_at gains a place)) (account_debts gains old a) (account_debts gains new b) cut w worth))
+    ∙ taken-print (debts_print (account_debts gains new b)) w (print-fits (account_debts gains new b)) less in
+    grind (arith, printed)
 
 -- what an account owes stands at its start or after it
 pub owed-from : (gains : Gains) (strikes : List Strike) (a : Account) (k : ℕ) → owes_at gains strikes a k ≡ true → a.start ≤ k

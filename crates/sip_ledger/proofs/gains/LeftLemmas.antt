@@ -10,7 +10,7 @@ use Rattle.sip_ledger.specs.declared.debt.Entry.{Entry}
 use Rattle.sip_ledger.specs.declared.accounts.account.Account.{Account}
 use Rattle.sip_ledger.specs.declared.accounts.gains.Gains.{Gains}
 use Rattle.sip_ledger.specs.declared.accounts.strikes.Strike.{Strike}
-use Rattle.sip_ledger.specs.Entries.{debt_of, debts_from}
+use Rattle.sip_ledger.specs.Entries.{debts_from}
 use Rattle.sip_ledger.specs.inner.Accounts.{AreFlags, AreGains, AreSameGains, IsDropped, IsGain, IsKept, IsLetGo, IsNoted, IsPlaceOf, blank, entries_of, entry_at, is_gone, is_left, is_struck, owes_at}
 use Rattle.sip_ledger.specs.Indexes.{holds}
 use Rattle.sip_ledger.specs.inner.Deadlines.{AreRising}
@@ -18,9 +18,9 @@ use Rattle.sip_ledger.proofs.gains.FlagLemmas.{flags-none}
 use Rattle.sip_ledger.proofs.debts.ListedLemmas.{no_entry}
 
 -- there are as many entries as there were gains
-pub entries-long : (gains : Gains) → length gains.entries.items ≤ gains.end → length (entries_of gains) ≡ gains.end
+pub entries_long : (gains : Gains) → length gains.entries.items ≤ gains.end → length (entries_of gains) ≡ gains.end
 unfolding entries_of
-entries-long gains long = grind (arith, nat_tests, length-append, length-replicate)
+entries_long gains long = grind (arith, nat_tests, length-append, length-replicate)
 
 -- a gain that is kept stands after the blanks, at the index of its place
 pub entry-kept : (gains : Gains) (k : ℕ) → length gains.entries.items ≤ gains.end → IsKept gains k →
@@ -29,9 +29,9 @@ unfolding entries_of
 entry-kept gains k long kept = grind (arith, get_or-append_right, length-replicate)
 
 -- the entry at an index of the kept gains is the one at its place
-pub entry-index : (gains : Gains) (k i : ℕ) (e : Entry) → length gains.entries.items ≤ gains.end → IsKept gains k → i + (gains.end - length gains.entries.items) ≡ k →
+pub entry_index : (gains : Gains) (k i : ℕ) (e : Entry) → length gains.entries.items ≤ gains.end → IsKept gains k → i + (gains.end - length gains.entries.items) ≡ k →
     e ≡ get_or gains.entries.items i e → e ≡ entry_at (entries_of gains) k
-entry-index gains k i e long kept here is = grind (arith, get_or_default, entry-kept)
+entry_index gains k i e long kept here is = grind (arith, get_or_default, entry-kept)
 
 -- a gain that is left stands under its message
 pub left-place : (gains : Gains) (k : ℕ) → AreGains gains → is_left gains k ≡ true → IsPlaceOf gains (entry_at (entries_of gains) k).message k
@@ -43,9 +43,9 @@ pub left-kept : (gains : Gains) (k : ℕ) → AreGains gains → is_left gains k
 left-kept gains k are left = (left-place gains k are left).kept
 
 -- a gain stands under its message exactly if it is left
-pub held-left : (gains : Gains) (m k : ℕ) → (entry_at (entries_of gains) k).message ≡ m → holds gains.messages m k ≡ is_left gains k
+pub held_left : (gains : Gains) (m k : ℕ) → (entry_at (entries_of gains) k).message ≡ m → holds gains.messages m k ≡ is_left gains k
 unfolding is_left
-held-left gains m k is = sym (ap (λ n. holds gains.messages n k) is)
+held_left gains m k is = sym (ap (λ n. holds gains.messages n k) is)
 
 -- under no message stands a place at which nothing was gained
 pub not-noted : (gains : Gains) (m k : ℕ) → AreGains gains → gains.end ≤ k → holds gains.messages m k ≡ false
@@ -62,9 +62,9 @@ unfolding entries_of
 none-entries gains entries end = ap₂ (λ (n : ℕ) (l : List Entry). replicate (n - length l) blank ++ l) end entries
 
 -- deadlines rise over what is kept
-pub rising-kept : (gains : Gains) (i k : ℕ) → AreGains gains → gains.rises ≡ true → IsKept gains i → i ≤ k → k < gains.end →
+pub rising_kept : (gains : Gains) (i k : ℕ) → AreGains gains → gains.rises ≡ true → IsKept gains i → i ≤ k → k < gains.end →
     (entry_at (entries_of gains) i).deadline ≤ (entry_at (entries_of gains) k).deadline
-rising-kept gains i k are rises kept order within = grind (arith, nat_tests, entry-kept)
+rising_kept gains i k are rises kept order within = grind (arith, nat_tests, entry-kept)
 
 -- a gain that is not left is gone
 pub gone-unleft : (gains : Gains) (own : List Strike) (k : ℕ) → is_left gains k ≡ false → is_gone gains own k ≡ true
@@ -118,7 +118,7 @@ gains-more old new debt are entries end small noted rises higher own flags =
     let e : Entry = record { message = debt.message; deadline = debt.deadline } in
     let long = are.long in
     let all : entries_of new ≡ entries_of old ++ e ∷ [] = more-entries old new e long entries end in
-    let count = entries-long old long in
+    let count = entries_long old long in
     let longer = length-append old.entries.items (e ∷ []) in
     let some : length new.entries.items ≡ length old.entries.items + 1 = ap length entries ∙ longer in
     let here : entry_at (entries_of new) n ≡ e = ap (λ l. entry_at l n) all ∙ get_or_push (entries_of old) e blank n count in
@@ -159,7 +159,7 @@ gains-more old new debt are entries end small noted rises higher own flags =
               omega (arith, within, end)
         ];
         rises = λ said. subst AreRising (sym entries) (rises said);
-        highest = λ k is. grind (arith, more-entries, entries-long, length-append, get_or_push, cases_eq, get_or_append_left);
+        highest = λ k is. grind (arith, more-entries, entries_long, length-append, get_or_push, cases_eq, get_or_append_left);
         flags = flags gain;
       },
       gain,
@@ -193,14 +193,14 @@ pub gains-dropped : (old new : Gains) (place count : ℕ) → AreGains old → c
     new.entries.items ≡ drop count old.entries.items → new.end ≡ old.end → new.messages ≡ old.messages → new.musts ≡ old.musts → new.rises ≡ old.rises → new.highest ≡ old.highest →
     ((m k : ℕ) → k < place → holds old.messages m k ≡ false) → (IsDropped place old new → AreFlags new) → AreGains new × IsDropped place old new
 gains-dropped old new place count are here within entries end messages musts rises highest none flags =
-    let dropped : IsDropped place old new = grind (arith, nat_tests, length-drop, cases_lt, entry-kept, get_or-drop, entries-long, true≢false, get_or_past) in (
+    let dropped : IsDropped place old new = grind (arith, nat_tests, length-drop, cases_lt, entry-kept, get_or-drop, entries_long, true≢false, get_or_past) in (
       record {
         long = grind (arith, length-drop);
         small = grind (arith);
-        messages = grind (arith, nat_tests, length-drop, cases_lt, entry-kept, get_or-drop, entries-long, true≢false, get_or_past);
-        musts = grind (arith, nat_tests, length-drop, cases_lt, entry-kept, get_or-drop, entries-long, true≢false, get_or_past);
+        messages = grind (arith, nat_tests, length-drop, cases_lt, entry-kept, get_or-drop, entries_long, true≢false, get_or_past);
+        musts = grind (arith, nat_tests, length-drop, cases_lt, entry-kept, get_or-drop, entries_long, true≢false, get_or_past);
         rises = grind (arith, length-drop, get_or-drop);
-        highest = λ k is. grind (arith, length-drop, entry-kept, get_or-drop, entries-long);
+        highest = λ k is. grind (arith, length-drop, entry-kept, get_or-drop, entries_long);
         flags = flags dropped;
       },
       dropped,
@@ -214,21 +214,8 @@ listed-alike o m o' m' i [] [] long same alike = refl
 listed-alike o m o' m' i [] (y ∷ ys) long same alike = absurd (omega (arith, long))
 listed-alike o m o' m' i (x ∷ xs) [] long same alike = absurd (omega (arith, long))
 listed-alike o m o' m' i (x ∷ xs) (y ∷ ys) long same alike =
-    let none : i + 0 ≡ i = omega arith in
-    let rest = listed-alike o m o' m' (i + 1) xs ys (omega (arith, long))
-    (λ j below. let next : i + 1 + j ≡ i + suc j = omega arith in ap o next ∙ same (suc j) (omega (arith, below)) ∙ ap o' (sym next))
-    (λ j below is.
-    let next : i + 1 + j ≡ i + suc j = omega arith in
-    let both = alike (suc j) (omega (arith, below)) (ap o (sym next) ∙ is) in
-    (both.0, ap m next ∙ both.1 ∙ ap m' (sym next))) in
-    by (o i) (o' i) (ap o (sym none) ∙ same 0 (omega arith) ∙ ap o' none)
-    (λ is. let both = alike 0 (omega arith) (ap o none ∙ is) in (both.0, ap m (sym none) ∙ both.1 ∙ ap m' none))
-    (debts_from o m (i + 1) xs) (debts_from o' m' (i + 1) ys) rest
-  where
-    by : (b b' : Bool) → b ≡ b' → (b ≡ true → (x ≡ y) × (m i ≡ m' i)) → (ds ds' : List Debt) → ds ≡ ds' → cond b (debt_of x (m i) ∷ ds) ds ≡ cond b' (debt_of y (m' i) ∷ ds') ds'
-    by true true here both ds ds' rest =
-        let two = both refl in
-        ap₂ (λ (e : Entry) (b : Bool). debt_of e b ∷ ds) two.0 two.1 ∙ ap (λ l. debt_of y (m' i) ∷ l) rest
-    by false false here both ds ds' rest = rest
-    by true false here both ds ds' rest = absurd (true≢false here)
-    by false true here both ds ds' rest = absurd (true≢false (sym here))
+    let rest : debts_from o m (i + 1) xs ≡ debts_from o' m' (i + 1) ys = listed-alike o m o' m' (i + 1) xs ys (omega (arith, long)) (λ j below. grind (arith, same (suc j))) (λ j below is. grind (arith, alike (suc j))) in
+    grind (arith, same 0, alike 0)
+
+-- what is gone, by what is left
+pub ruleset gone_of_left = (gone-left, gone-struck, gone-unleft)

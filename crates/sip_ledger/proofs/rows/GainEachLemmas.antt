@@ -107,9 +107,9 @@ within-all t [] all = refl
 within-all t (m ∷ ms) all = le-leb t (fold min m ms) (least-late t m ms (All-head (λ n. t ≤ n) m ms all) (All-tail (λ n. t ≤ n) m ms all))
 
 -- where no gain is past, a row is timely
-pub none-late : (gains : Gains) (strikes : List Strike) (a : Account) (t : ℕ) → AreGains gains → ((k : ℕ) → IsKept gains k → t ≤ (entry_at (entries_of gains) k).deadline) →
+pub none_late : (gains : Gains) (strikes : List Strike) (a : Account) (t : ℕ) → AreGains gains → ((k : ℕ) → IsKept gains k → t ≤ (entry_at (entries_of gains) k).deadline) →
     is_timely t (account_debts gains strikes a) ≡ true
-none-late gains strikes a t are late =
+none_late gains strikes a t are late =
     let must = filter (λ (d : Debt). d.must) (account_debts gains strikes a) in
     within-all t (debt_deadlines (account_debts gains strikes a))
     (All-map (λ m. t ≤ m) (λ (d : Debt). d.deadline) must (All-filter (λ (d : Debt). d.must) (λ (d : Debt). t ≤ d.deadline) (account_debts gains strikes a) (debts-late gains strikes a t are late)))

@@ -20,7 +20,7 @@ use Rattle.sip_ledger.specs.inner.Accounts.{account_debts, accounts_debts, entri
 use Rattle.sip_ledger.specs.Indexes.{holds}
 use Rattle.sip_ledger.proofs.debts.ListedLemmas.{listed-All, no_entry}
 use Rattle.sip_ledger.proofs.account.AccountLemmas.{debts_length, row-debts}
-use Rattle.sip_ledger.proofs.gains.LeftLemmas.{held-left, owed-left}
+use Rattle.sip_ledger.proofs.gains.LeftLemmas.{held_left, owed-left}
 
 -- a send at moment 0 can pay each debt of its message
 pub payable-owes : (message : ℕ) (debts : List Debt) → list_any (is_payable message 0) debts ≡ owes_message message debts
@@ -55,7 +55,7 @@ unleft-account gains strikes a message none =
     let same : get_or (entries_of gains) j e ≡ entry_at (entries_of gains) j = get_or_default (entries_of gains) j e no_entry below in
     let named : (entry_at (entries_of gains) j).message ≡ message = ap (λ (x : Entry). x.message) (sym same) ∙ eqb-true (get_or (entries_of gains) j e).message message is in
     let left = owed-left gains strikes a j (ap (owes_at gains strikes a) (sym here) ∙ owed) in
-    absurd (true≢false (sym (held-left gains message j named ∙ left) ∙ none j)))))
+    absurd (true≢false (sym (held_left gains message j named ∙ left) ∙ none j)))))
 
 -- a message of which nothing is left is owed by none of the accounts
 pub unleft-unnamed : (gains : Gains) (strikes : List Strike) (rows : List Account) (message : ℕ) → ((k : ℕ) → holds gains.messages message k ≡ false) →
@@ -145,7 +145,7 @@ spanned-account gains strikes a low high within =
     let same : get_or (entries_of gains) j e ≡ entry_at (entries_of gains) j = get_or_default (entries_of gains) j e no_entry below in
     let named : (entry_at (entries_of gains) j).message ≡ m = ap (λ (x : Entry). x.message) (sym same) in
     let left = owed-left gains strikes a j (ap (owes_at gains strikes a) (sym here) ∙ owed) in
-    within m j (held-left gains m j named ∙ left))
+    within m j (held_left gains m j named ∙ left))
 
 -- where what is left of messages lies between two numbers, the messages of all that rows owe do
 pub spanned : (gains : Gains) (strikes : List Strike) (rows : List Account) (low high : ℕ) → ((m k : ℕ) → holds gains.messages m k ≡ true → (low ≤ m) × (m ≤ high)) →
@@ -154,3 +154,6 @@ unfolding accounts_debts
 spanned gains strikes rows low high within =
     All-map (All (λ (debt : Debt). (low ≤ debt.message) × (debt.message ≤ high))) (account_debts gains strikes) rows
     (λ k d below. spanned-account gains strikes (get_or rows k d) low high within)
+
+-- what is named, message by message
+pub ruleset named_by_message = (named-all, named-more, named-past, unleft-unnamed)

@@ -4,7 +4,7 @@ use Rattle.std.proofs.lemmas.Bool.Decides.{nat_tests}
 use Rattle.std.specs.Prelude.{IsTrue, Option, Some, None, IfSome, IfNone, Result, Ok, Err, IsErr, OnErr, ◌↔◌, is_err, is_some}
 use Rattle.std.specs.List.{list_any, sum_by}
 use Rattle.std.proofs.lemmas.Bool.{cases_eq, eq-eqb, eqb-true, false_from_ne_true, true≢false}
-use Rattle.std.proofs.lemmas.List.{get_or_default}
+use Rattle.std.proofs.lemmas.List.{drop_min, get_or_default}
 use Rattle.std.proofs.lemmas.List.Elements.{All-weaker}
 use Rattle.std.proofs.lemmas.List.Folds.{list_any_none}
 use Rattle.std.proofs.lemmas.List.Sums.{sum_by-cons}
@@ -17,8 +17,8 @@ use Rattle.sip_ledger.specs.Debts.{is_payable, softened_debt}
 use Rattle.sip_ledger.specs.inner.Accounts.{AreAccounts, AreGains, IsAccount, IsFirstPayable, KeepsAccounts, account_debts, accounts_debts, entries_of, must_at, owes_at, pays_at}
 use Rattle.sip_ledger.proofs.debts.ListedLemmas.{listed-few, listed-same, listed-softened}
 use Rattle.sip_ledger.proofs.debts.OwedLemmas.{listed-any, some-debt}
-use Rattle.sip_ledger.proofs.gains.LeftLemmas.{entries-long}
-use Rattle.sip_ledger.proofs.account.AccountLemmas.{changed, debts_length, empty-debts, kept-all, must-below, over, owed-within, pushed, row-account, row-debts}
+use Rattle.sip_ledger.proofs.gains.LeftLemmas.{entries_long}
+use Rattle.sip_ledger.proofs.account.AccountLemmas.{changed, debts_length, empty-debts, kept-all, must-below, over, owed-within, pushed, row-account, row-debts, truncated, without-first_rows}
 use Rattle.sip_ledger.proofs.account.FindLemmas.{unpaid-account}
 
 -- what holds is said of an answer that is an error
@@ -53,7 +53,7 @@ module _ {gains : Gains} {strikes : List Strike} {rows : List Account} {seen : L
       let a = get_or rows row none in
       let at = account-at row a are view inside (get_or_default rows row none a (row-inside row are view inside)) in
       let few : length (account_debts gains strikes a) ≤ length (entries_of gains) = listed-few (owes_at gains strikes a) (must_at gains a) 0 (entries_of gains) in
-      let count = entries-long gains are.gained.long in
+      let count = entries_long gains are.gained.long in
       omega (arith, ap length at.1, few, count, are.gained.small)
 
   -- where one of the accounts changes, contracts see its row changed
@@ -155,3 +155,6 @@ can-pay gains strikes a message t (Some place) is some none =
 can-pay gains strikes a message t None is some none =
     sym (list_any_none (is_payable message t) (account_debts gains strikes a) (All-weaker (λ debt. ¬ (IsTrue (is_payable message t debt))) (λ debt. is_payable message t debt ≡ false) (λ debt no. false_from_ne_true (is_payable message t debt) no) (account_debts gains strikes a)
     (unpaid-account gains strikes a message t none)))
+
+-- what contracts see of rows, by their accounts
+pub ruleset of_rows = (debts_length, account-at, can-pay, truncated, on-err, without-first_rows, drop_min)

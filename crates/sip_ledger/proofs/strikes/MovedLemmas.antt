@@ -12,7 +12,7 @@ use Rattle.sip_ledger.specs.declared.accounts.gains.Gains.{Gains}
 use Rattle.sip_ledger.specs.declared.accounts.strikes.Strike.{Strike}
 use Rattle.sip_ledger.specs.inner.Accounts.{AreAppended, AreMoved, IsAccount, IsMoved, StrikesNoneFrom, account_debts, accounts_debts, entries_of, entry_at, is_out, is_struck, owes_at}
 use Rattle.sip_ledger.specs.Indexes.{holds}
-use Rattle.sip_ledger.proofs.gains.LeftLemmas.{gone-same, held-left}
+use Rattle.sip_ledger.proofs.gains.LeftLemmas.{gone-same, held_left}
 use Rattle.sip_ledger.proofs.debts.ListedLemmas.{listed-same}
 use Rattle.sip_ledger.proofs.account.AccountLemmas.{kept-all, soft-must}
 use Rattle.sip_ledger.proofs.account.WithoutLemmas.{before-start}
@@ -60,7 +60,7 @@ strikes-none gains place low s within none k above left =
     false_from_ne_true (is_out m k s) (λ out.
     let from = out-low m s.message s.from s.to k out in
     let same : m ≡ s.message = sym (out-is m s.message s.from s.to k out) in
-    true≢false (sym (held-left gains s.message k same ∙ left) ∙ none k (omega (arith, from, above, within)) (out-high m s.message s.from s.to k out)))
+    true≢false (sym (held_left gains s.message k same ∙ left) ∙ none k (omega (arith, from, above, within)) (out-high m s.message s.from s.to k out)))
 
 -- a moved account owes the same at each place
 moved-owes : (gains : Gains) (strikes old new : List Strike) (a b : Account) (k : ℕ) → IsMoved gains strikes old new a b → owes_at gains new b k ≡ owes_at gains strikes a k

@@ -12,7 +12,7 @@ use Rattle.sip_ledger.specs.declared.accounts.account.Account.{Account}
 use Rattle.sip_ledger.specs.declared.accounts.strikes.Strike.{Strike}
 use Rattle.sip_ledger.specs.declared.accounts.gains.Gains.{Gains}
 use Rattle.sip_ledger.specs.inner.Accounts.{IsWritten, Lengthens, Reaches, StrikeToo, entries_of, entry_at, is_left, is_struck, strikes_of, is_out}
-use Rattle.sip_ledger.proofs.gains.LeftLemmas.{held-left}
+use Rattle.sip_ledger.proofs.gains.LeftLemmas.{held_left}
 
 -- the strikes that end after the start
 abbrev pub ending : ℕ → List Strike → List Strike
@@ -65,7 +65,7 @@ lengthened gains place k old at s within reaches left =
     let was = get_or old at s in
     let longer : Strike = record { message = was.message; from = was.from; to = place + 1 } in
     any-set (is_out m k) (k == place) old at longer within
-    (longer-out m mp was.message was.from was.to place k reaches.message reaches.from reaches.to (λ above below same. true≢false (sym (held-left gains mp k same ∙ left) ∙ reaches.between k above below))
+    (longer-out m mp was.message was.from was.to place k reaches.message reaches.from reaches.to (λ above below same. true≢false (sym (held_left gains mp k same ∙ left) ∙ reaches.between k above below))
     (λ is. ap (λ n. (entry_at (entries_of gains) n).message) is)
     ∙ ap (λ w. is_out m k w || k == place) (get_or_default old at s longer within))
 
@@ -112,22 +112,16 @@ longer-too gains place first old new l =
     let s : Strike = record { message = 0; from = 0; to = 0 } in
     let own = drop first old in
     let i = l.at - first in
-    let after = l.after in
-    let inside = l.within in
-    let here : l.at ≡ first + i = omega (arith, after) in
     let was = get_or own i s in
     let longer : Strike = record { message = was.message; from = was.from; to = place + 1 } in
+    let here : l.at ≡ first + i = omega arith in
     let same : get_or old l.at s ≡ was = ap (λ n. get_or old n s) here ∙ sym (get_or-drop first old i s) in
-    let reaches : Reaches gains place was = subst (λ w. Reaches gains place w) same (l.reaches s) in
-    let low : i < length own = omega (arith, inside, length-drop first old, here) in
-    let whole : new ≡ set old (first + i) longer =
-    l.longer s
-    ∙ ap (λ (w : Strike). let x : Strike = record { message = w.message; from = w.from; to = place + 1 } in set old l.at x) same
-    ∙ ap (λ n. set old n longer) here in
+    let low : i < length own = omega (arith, length-drop first old) in
+    let whole : new ≡ set old (first + i) longer = grind (arith, l.longer s) in
     let rest : drop first new ≡ set own i longer = ap (drop first) whole ∙ drop-set-add first old i longer in
     record {
       before = ap (take first) whole ∙ take-set-le first old (first + i) longer (omega arith);
-      struck = λ k left. ap (λ x. is_struck x (entry_at (entries_of gains) k).message k) rest ∙ lengthened gains place k own i s low reaches left;
+      struck = λ k left. ap (λ x. is_struck x (entry_at (entries_of gains) k).message k) rest ∙ lengthened gains place k own i s low (subst (Reaches gains place) same (l.reaches s)) left;
       bound = λ m k past none. ap (λ x. is_struck x m k) rest ∙ lengthened-bound gains place m k own i s past none;
     }
 
@@ -204,3 +198,6 @@ out-struck xs i m k s within out = grind (arith, nat_tests, out-low, out-high, s
 -- a strike strikes nothing at its end or after it
 pub struck-by_end : (m k sm from to : ℕ) → to ≤ k → (sm == m && (nat_le from k && nat_lt k to)) ≡ false
 struck-by_end m k sm from to past = grind (arith, nat_tests)
+
+-- what some of the strikes strike
+pub ruleset struck_by_some = (none-struck, out-struck, struck-more)

@@ -64,6 +64,7 @@ pub(crate) fn owes(gains: &Gains, strikes: &[Strike], account: Account, place: u
 }
 
 /// Whether what was gained at the place is not left, or is struck.
+#[tactic(auto, using(crate::proofs::gains::LeftLemmas::gone_of_left))]
 fn is_gone(gains: &Gains, strikes: &[Strike], place: usize) -> bool
     requires gained { AreGains gains.now }
     requires kept { IsKept gains.now place }
@@ -95,6 +96,7 @@ fn next(gains: &Gains, strikes: &[Strike], account: Account, from: usize) -> usi
 }
 
 /// A number for a message and a deadline, which tells most apart at once.
+#[tactic(auto, unfolding(crate::specs::Accounts::worth_of))]
 fn worth(message: u64, deadline: u64) -> u64
     ensures { result ≡ worth_of message deadline }
 {
@@ -237,6 +239,7 @@ fn sooner(one: Option<usize>, other: Option<usize>) -> Option<usize>
 }
 
 /// Whether what was gained at the place must be sent.
+#[tactic(auto, using(crate::proofs::account::AccountLemmas::must_by_place))]
 fn must(gains: &Gains, account: Account, place: usize) -> bool
     requires gained { AreGains gains.now }
     requires kept { IsKept gains.now place }
@@ -419,6 +422,7 @@ fn fits(strikes: &[Strike], account: Account, message: u64, place: usize) -> boo
 }
 
 /// The first place from the account's end on at which the debt was gained already, if the account can gain it there.
+#[tactic(auto, using(crate::proofs::gains::LeftLemmas::entries_long))]
 fn shared_place(gains: &Gains, strikes: &[Strike], account: Account, debt: Debt) -> Option<usize>
     requires gained { AreGains gains.now }
     requires account { IsAccount gains.now strikes.now account }
@@ -435,6 +439,7 @@ fn shared_place(gains: &Gains, strikes: &[Strike], account: Account, debt: Debt)
 }
 
 /// Whether the account, which ends before the place, can gain the debt there, where its message was gained.
+#[tactic(auto, using(crate::proofs::gains::LeftLemmas::entries_long))]
 fn takes(gains: &Gains, strikes: &[Strike], account: Account, debt: Debt, place: usize) -> bool
     requires gained { AreGains gains.now }
     requires account { IsAccount gains.now strikes.now account }
@@ -593,6 +598,7 @@ fn least_must(gains: &Gains, strikes: &[Strike], account: Account) -> Option<u64
 }
 
 /// Whether nothing that the account must send is past at the moment. It is asked first whether anything is past of what was gained.
+#[tactic(auto, using(crate::proofs::rows::GainEachLemmas::none_late))]
 pub(crate) fn is_timely(gains: &Gains, strikes: &[Strike], account: Account, moment: u64) -> bool
     requires gained { AreGains gains.now }
     requires account { IsAccount gains.now strikes.now account }

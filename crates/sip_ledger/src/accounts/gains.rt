@@ -66,6 +66,7 @@ impl Gains {
     }
 
     /// The gain at the place.
+    #[tactic(auto, using(crate::proofs::gains::LeftLemmas::entry_index))]
     pub(crate) fn entry(&self, place: usize) -> Entry
         requires gained { AreGains self.now }
         requires kept { IsKept self.now place }
@@ -93,6 +94,7 @@ impl Gains {
     }
 
     /// Whether a gain of the message is left at the place.
+    #[tactic(auto, using(crate::proofs::gains::LeftLemmas::held_left))]
     pub(crate) fn has(&self, message: u64, place: usize) -> bool
         requires { AreGains self.now }
         ensures { result ≡ holds self.now.messages message place }
@@ -110,6 +112,7 @@ impl Gains {
     }
 
     /// Whether it is known that no deadline of what is kept is below the moment.
+    #[tactic(auto, using(crate::proofs::gains::LeftLemmas::rising_kept))]
     pub(crate) fn all_count(&self, moment: u64) -> bool
         requires { AreGains self.now }
         ensures { OnTrue result ((k : ℕ) → IsKept self.now k → moment ≤ (entry_at (entries_of self.now) k).deadline) }

@@ -11,6 +11,7 @@ use std::alloc::AllocError;
 
 /// Puts the numbers of the messages that accounts owe after the others, from the least on, each once. On an error some of them are
 /// there.
+#[tactic(auto, using(crate::proofs::rows::NamedLemmas::named_by_message))]
 pub(crate) fn name_all(
     gains: &Gains,
     strikes: &[Strike],

@@ -20,6 +20,7 @@ pub(crate) struct Strike {
 }
 
 /// A place up to which the message is struck from this one on, if it is struck here.
+#[tactic(auto, using(crate::proofs::strikes::StrikeLemmas::struck_by_some))]
 pub(crate) fn struck_to(strikes: &[Strike], message: u64, place: usize) -> Option<usize>
     ensures some { IfSome result (λ to. (place < to) × ((k : ℕ) → place ≤ k → k < to → is_struck strikes.now message k ≡ true)) }
     ensures none { IfNone result (is_struck strikes.now message place ≡ false) }

@@ -1,6 +1,5 @@
-use Rattle.std.proofs.Common.{ap, ◌∙◌}
+use Rattle.std.proofs.Common.{ap, ◌∙◌, List}
 use Rattle.sip_ledger.specs.declared.debt.Debt.{Debt}
-use Rattle.std.proofs.Common.{List}
 use Rattle.sip_ledger.specs.Debts.{debt_deadlines, earliest}
 use Rattle.sip_ledger.proofs.rows.SeenLemmas.{account-at}
 use Rattle.sip_ledger.proofs.accounts.Accounts.earliest_must.Goals as goal

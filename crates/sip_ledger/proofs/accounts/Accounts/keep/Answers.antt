@@ -1,12 +1,9 @@
 use Rattle.std.proofs.Common.{◌<◌, [], length, ◌∙◌, arith}
-use Rattle.std.proofs.lemmas.Grind.{common_steps}
-use Rattle.std.proofs.lemmas.Bool.Decides.{nat_tests}
-use Rattle.std.proofs.lemmas.List.Elements.{All-get_or}
 use Rattle.sip_ledger.proofs.lists.KeepLemmas.{rise-above, rise-few, kept-more, kept-all}
 use Rattle.sip_ledger.proofs.accounts.Accounts.keep.Goals as goal
 
 pub copy-requires-clause-to : goal.copy-requires-clause-to
-copy-requires-clause-to c = grind (arith, nat_tests, common_steps, rise-above, All-get_or)
+copy-requires-clause-to c = grind (arith, [], rise-above, rise-few, kept-more, kept-all)
 
 pub loop-to-preserved : goal.loop-to-preserved
 loop-to-preserved c =

@@ -1,6 +1,4 @@
 use Rattle.std.proofs.Common.{[], arith}
-use Rattle.std.proofs.lemmas.Grind.{common_steps}
-use Rattle.std.proofs.lemmas.Bool.Decides.{nat_tests}
 use Rattle.sip_ledger.proofs.account.AccountLemmas.{empty-account, empty-debts}
 use Rattle.sip_ledger.proofs.rows.SeenLemmas.{pushed-to}
 use Rattle.sip_ledger.proofs.accounts.Accounts.push.Goals as goal
@@ -12,4 +10,4 @@ invariant_of-self-2 c =
     rw c.in_ok-push.ensures.items (pushed-to _ [] c.self.invariant c.self.view_is none (empty-debts s.gains s.strikes.items _ (omega arith))).0
 
 pub returns-clause-ok : goal.returns-clause-ok
-returns-clause-ok c = grind (arith, nat_tests, common_steps, empty-account, pushed-to, empty-debts)
+returns-clause-ok c = grind (arith, [], empty-account, empty-debts, pushed-to)

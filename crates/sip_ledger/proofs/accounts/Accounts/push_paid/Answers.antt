@@ -1,9 +1,7 @@
 use Rattle.std.proofs.Common.{arith}
-use Rattle.std.proofs.lemmas.Grind.{common_steps}
-use Rattle.std.proofs.lemmas.Bool.Decides.{nat_tests}
 use Rattle.sip_ledger.proofs.account.AccountLemmas.{truncated}
 use Rattle.sip_ledger.proofs.rows.SeenLemmas.{on-err}
 use Rattle.sip_ledger.proofs.accounts.Accounts.push_paid.Goals as goal
 
 pub returns-then-is_err-clause-err : goal.returns-then-is_err-clause-err
-returns-then-is_err-clause-err c = grind (arith, nat_tests, common_steps, on-err, truncated)
+returns-then-is_err-clause-err c = grind (arith, on-err, truncated)

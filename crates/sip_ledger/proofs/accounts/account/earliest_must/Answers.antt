@@ -1,6 +1,4 @@
 use Rattle.std.proofs.Common.{arith}
-use Rattle.std.proofs.lemmas.Grind.{common_steps}
-use Rattle.std.proofs.lemmas.Bool.Decides.{nat_tests}
 use Rattle.sip_ledger.proofs.account.AccountLemmas.{kept-from}
 use Rattle.sip_ledger.proofs.account.ToldLemmas.{leading}
 use Rattle.sip_ledger.proofs.accounts.account.earliest_must.Goals as goal
@@ -10,4 +8,4 @@ first_must-requires-clause-kept c = λ some.
     kept-from c.args.account.start c.requires.gained c.requires.account (omega arith) some
 
 pub returns-in-Some : goal.returns-in-Some
-returns-in-Some c = grind (arith, nat_tests, common_steps, leading)
+returns-in-Some c = grind (arith, kept-from, leading)

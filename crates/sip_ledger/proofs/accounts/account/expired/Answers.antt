@@ -1,6 +1,4 @@
 use Rattle.std.proofs.Common.{sym, arith}
-use Rattle.std.proofs.lemmas.Grind.{common_steps}
-use Rattle.std.proofs.lemmas.Bool.Decides.{nat_tests}
 use Rattle.std.proofs.Math.Seq.{take-length}
 use Rattle.sip_ledger.proofs.account.AccountLemmas.{empty-debts, kept-passed}
 use Rattle.sip_ledger.proofs.account.ExpiringLemmas.{expired-end, expired-rising, expired-start}
@@ -8,10 +6,10 @@ use Rattle.sip_ledger.proofs.rows.GainEachLemmas.{none-goes}
 use Rattle.sip_ledger.proofs.accounts.account.expired.Goals as goal
 
 pub loop-place-init : goal.loop-place-init
-loop-place-init c = grind (arith, nat_tests, common_steps, take-length, expired-start)
+loop-place-init c = grind (arith, take-length, empty-debts, kept-passed, expired-end, expired-rising, expired-start, none-goes)
 
 pub returns-then-account-clause-debts : goal.returns-then-account-clause-debts
-returns-then-account-clause-debts c = grind (arith, nat_tests, common_steps, empty-debts)
+returns-then-account-clause-debts c = grind (arith, take-length, empty-debts, kept-passed, expired-end, expired-rising, expired-start, none-goes)
 
 pub returns-then-all_count-clause-debts : goal.returns-then-all_count-clause-debts
 returns-then-all_count-clause-debts c =
@@ -35,4 +33,4 @@ returns-then-moment-entry-clause-debts c =
     (rw c.entry.ensures at c.if-moment-entry.true) was.gone
 
 pub returns-clause-debts : goal.returns-clause-debts
-returns-clause-debts c = grind (arith, nat_tests, common_steps, expired-end)
+returns-clause-debts c = grind (arith, take-length, empty-debts, kept-passed, expired-end, expired-rising, expired-start, none-goes)

@@ -1,6 +1,4 @@
-use Rattle.std.proofs.Common.{length, true≢false, arith}
-use Rattle.std.proofs.lemmas.Grind.{common_steps}
-use Rattle.std.proofs.lemmas.Bool.Decides.{nat_tests}
+use Rattle.std.proofs.Common.{length, arith}
 use Rattle.sip_ledger.specs.inner.Accounts.{entries_of, owes_at}
 use Rattle.sip_ledger.proofs.account.AccountLemmas.{owed-within}
 use Rattle.sip_ledger.proofs.account.FindLemmas.{first-payable, none-pays_late, none-pays_struck, none-pays_to}
@@ -8,7 +6,7 @@ use Rattle.sip_ledger.proofs.account.WithoutLemmas.{before-start}
 use Rattle.sip_ledger.proofs.accounts.account.find.Goals as goal
 
 pub loop-place-init : goal.loop-place-init
-loop-place-init c = grind (arith, nat_tests, common_steps, true≢false, before-start)
+loop-place-init c = grind (arith, owed-within, first-payable, none-pays_late, none-pays_struck, none-pays_to, before-start)
 
 pub returns-then-account-place-clause-none : goal.returns-then-account-place-clause-none
 returns-then-account-place-clause-none c = λ k owed.

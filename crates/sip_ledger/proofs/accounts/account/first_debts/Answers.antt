@@ -1,13 +1,11 @@
 use Rattle.std.proofs.Common.{arith}
-use Rattle.std.proofs.lemmas.Grind.{common_steps}
-use Rattle.std.proofs.lemmas.Bool.Decides.{nat_tests}
 use Rattle.std.proofs.lemmas.List.{take_all}
 use Rattle.sip_ledger.proofs.account.AccountLemmas.{kept-from}
 use Rattle.sip_ledger.proofs.account.ToldLemmas.{told-all, told-first, told-more, told-none}
 use Rattle.sip_ledger.proofs.accounts.account.first_debts.Goals as goal
 
 pub loop-place-init : goal.loop-place-init
-loop-place-init c = grind (arith, nat_tests, common_steps, told-none)
+loop-place-init c = grind (arith, take_all, kept-from, told-all, told-first, told-more, told-none)
 
 pub debt_for-requires-clause-kept : goal.debt_for-requires-clause-kept
 debt_for-requires-clause-kept c = kept-from c.loop-place.place c.requires.gained c.requires.account c.loop-place.invariant.told.low c.loop-place-test.true

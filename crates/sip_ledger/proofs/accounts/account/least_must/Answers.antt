@@ -1,7 +1,7 @@
 use Rattle.std.proofs.Common.{◌<◌, inl, inr, length, sym, ◌∙◌, arith}
 use Rattle.std.proofs.lemmas.Bool.{cases_lt}
 use Rattle.sip_ledger.specs.inner.Accounts.{entries_of}
-use Rattle.sip_ledger.proofs.gains.LeftLemmas.{entries-long, left-kept, owed-left}
+use Rattle.sip_ledger.proofs.gains.LeftLemmas.{entries_long, left-kept, owed-left}
 use Rattle.sip_ledger.proofs.account.ToldLemmas.{least-first, least-first_due, least-found, least-last, least-passed}
 use Rattle.sip_ledger.proofs.accounts.account.least_must.Goals.{then-owes+else-gains, else-owes}
 use Rattle.sip_ledger.proofs.accounts.account.least_must.Goals as goal
@@ -20,7 +20,7 @@ returns-then-account-place c =
     least-last c.args.gains.now c.args.strikes.now c.args.account c.loop-place.from c.in-Some.place c.loop-place.least c.loop-place.invariant c.in-Some.ensures.before c.if-account-place.true
 
 pub returns-then-gains : goal.returns-then-gains
-returns-then-gains c = grind (arith, least-first_due, entries-long)
+returns-then-gains c = grind (arith, least-first_due, entries_long)
 
 pub entry-requires-clause-kept : goal.entry-requires-clause-kept
 entry-requires-clause-kept c =
@@ -29,7 +29,7 @@ entry-requires-clause-kept c =
 pub loop-place-preserved : goal.loop-place-preserved
 loop-place-preserved c =
     let found = c.in-Some.ensures in
-    let inside : c.in-Some.place < length (entries_of c.args.gains.now) = omega (arith, found.within.1, entries-long c.args.gains.now c.requires.gained.long) in
+    let inside : c.in-Some.place < length (entries_of c.args.gains.now) = omega (arith, found.within.1, entries_long c.args.gains.now c.requires.gained.long) in
     elim c.if-owes.branch [
       | then-owes+else-gains w ↦
           rw w.least-is (least-found c.args.gains.now c.args.strikes.now c.args.account c.loop-place.from c.in-Some.place w.earlier.result c.loop-place.least c.loop-place.invariant found.within.0 inside

@@ -1,6 +1,4 @@
 use Rattle.std.proofs.Common.{sym, arith}
-use Rattle.std.proofs.lemmas.Grind.{common_steps}
-use Rattle.std.proofs.lemmas.Bool.Decides.{nat_tests}
 use Rattle.std.specs.Prelude.{false, true}
 use Rattle.sip_ledger.proofs.account.AccountLemmas.{kept-from, past-end}
 use Rattle.sip_ledger.proofs.account.FindLemmas.{owes-inside}
@@ -17,4 +15,4 @@ pub is_gone-requires-clause-kept : goal.is_gone-requires-clause-kept
 is_gone-requires-clause-kept c = kept-from c.args.place c.requires.gained c.requires.account c.if-place-account.false c.if-account-place.false
 
 pub returns : goal.returns
-returns c = grind (arith, nat_tests, common_steps, owes-inside)
+returns c = grind (arith, kept-from, past-end, owes-inside, before-start)

@@ -1,7 +1,7 @@
 use Rattle.std.proofs.Common.{arith}
 use Rattle.std.proofs.lemmas.Grind.{common_steps}
 use Rattle.std.proofs.lemmas.Bool.Decides.{nat_tests}
-use Rattle.sip_ledger.proofs.gains.LeftLemmas.{entries-long}
+use Rattle.sip_ledger.proofs.gains.LeftLemmas.{entries_long}
 use Rattle.sip_ledger.proofs.account.AccountLemmas.{same-keeps}
 use Rattle.sip_ledger.proofs.account.GainedLemmas.{gain-keeps, new-gain}
 use Rattle.sip_ledger.proofs.accounts.account.place_for.Goals as goal
@@ -13,4 +13,4 @@ pub returns-clause-kept : goal.returns-clause-kept
 returns-clause-kept c = gain-keeps c.args.gains.now c.push.new.self c.args.debt c.in_ok-push.ensures.ok
 
 pub returns-clause-next : goal.returns-clause-next
-returns-clause-next c = grind (arith, nat_tests, common_steps, entries-long, new-gain)
+returns-clause-next c = grind (arith, nat_tests, common_steps, entries_long, new-gain)

@@ -1,12 +1,10 @@
 use Rattle.std.proofs.Common.{arith}
-use Rattle.std.proofs.lemmas.Grind.{common_steps}
-use Rattle.std.proofs.lemmas.Bool.Decides.{nat_tests}
 use Rattle.sip_ledger.proofs.debts.PayLemmas.{unpaid-is}
 use Rattle.sip_ledger.proofs.account.FindLemmas.{paid-account, unpaid-account}
 use Rattle.sip_ledger.proofs.accounts.account.without_paid.Goals as goal
 
 pub returns-in_ok-rest-in-Some-clause-debts : goal.returns-in_ok-rest-in-Some-clause-debts
-returns-in_ok-rest-in-Some-clause-debts c = grind (arith, nat_tests, common_steps, paid-account)
+returns-in_ok-rest-in-Some-clause-debts c = grind (arith, unpaid-is, paid-account, unpaid-account)
 
 pub returns-in-None-clause-debts : goal.returns-in-None-clause-debts
-returns-in-None-clause-debts c = grind (arith, nat_tests, common_steps, unpaid-is, unpaid-account)
+returns-in-None-clause-debts c = grind (arith, unpaid-is, paid-account, unpaid-account)

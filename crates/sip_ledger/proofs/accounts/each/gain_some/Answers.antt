@@ -1,6 +1,4 @@
 use Rattle.std.proofs.Common.{◌∙◌, arith}
-use Rattle.std.proofs.lemmas.Grind.{common_steps}
-use Rattle.std.proofs.lemmas.Bool.Decides.{nat_tests}
 use Rattle.sip_ledger.proofs.lists.EachLemmas.{changing-all}
 use Rattle.sip_ledger.proofs.rows.GainEachLemmas.{debts-count, gained-front, gained-grown, gained-more, gained-over, with_debt}
 use Rattle.sip_ledger.proofs.rows.SeenLemmas.{on-error}
@@ -11,14 +9,14 @@ returns-in_err-place-clause-accounts c =
     (gained-over c.place_near.new.gains c.place_near.ensures.kept c.place_near.ensures.gained c.loop-row.invariant.gained).accounts
 
 pub returns-in_err-place-clause-err : goal.returns-in_err-place-clause-err
-returns-in_err-place-clause-err c = grind (arith, nat_tests, common_steps, on-error, gained-front, gained-over)
+returns-in_err-place-clause-err c = grind (arith, changing-all, debts-count, gained-front, gained-grown, gained-more, gained-over, with_debt, on-error)
 
 pub returns-in_err-grown-clause-accounts : goal.returns-in_err-grown-clause-accounts
 returns-in_err-grown-clause-accounts c =
     (gained-grown c.gained.new.strikes.items c.gained.ensures.kept (gained-over c.place_near.new.gains c.place_near.ensures.kept c.place_near.ensures.gained c.loop-row.invariant.gained)).accounts
 
 pub returns-in_err-grown-clause-err : goal.returns-in_err-grown-clause-err
-returns-in_err-grown-clause-err c = grind (arith, nat_tests, common_steps, gained-grown, gained-over, on-error, gained-front)
+returns-in_err-grown-clause-err c = grind (arith, changing-all, debts-count, gained-front, gained-grown, gained-more, gained-over, with_debt, on-error)
 
 pub loop-row-preserved : goal.loop-row-preserved
 loop-row-preserved c =
@@ -33,4 +31,4 @@ loop-row-preserved c =
     }
 
 pub returns-clause-ok : goal.returns-clause-ok
-returns-clause-ok c = grind (arith, nat_tests, common_steps, debts-count, changing-all, with_debt)
+returns-clause-ok c = grind (arith, changing-all, debts-count, gained-front, gained-grown, gained-more, gained-over, with_debt, on-error)

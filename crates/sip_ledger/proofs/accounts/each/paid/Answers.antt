@@ -1,13 +1,11 @@
 use Rattle.std.proofs.Common.{arith}
-use Rattle.std.proofs.lemmas.Grind.{common_steps}
-use Rattle.std.proofs.lemmas.Bool.Decides.{nat_tests}
 use Rattle.sip_ledger.proofs.account.FindLemmas.{paid-account}
 use Rattle.sip_ledger.proofs.rows.PaidLemmas.{other-row, paid-row}
 use Rattle.sip_ledger.proofs.rows.SeenLemmas.{can-pay}
 use Rattle.sip_ledger.proofs.accounts.each.paid.Goals as goal
 
 pub returns-in-None-clause-debts : goal.returns-in-None-clause-debts
-returns-in-None-clause-debts c = grind (arith, nat_tests, common_steps, other-row, can-pay)
+returns-in-None-clause-debts c = grind (arith, paid-account, other-row, paid-row, can-pay)
 
 pub returns-in_ok-left-in-Some-clause-debts : goal.returns-in_ok-left-in-Some-clause-debts
-returns-in_ok-left-in-Some-clause-debts c = grind (arith, nat_tests, common_steps, paid-account, paid-row, can-pay)
+returns-in_ok-left-in-Some-clause-debts c = grind (arith, paid-account, other-row, paid-row, can-pay)

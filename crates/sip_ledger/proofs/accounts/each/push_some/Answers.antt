@@ -1,6 +1,4 @@
 use Rattle.std.proofs.Common.{◌+◌, inl, sym, subst, arith}
-use Rattle.std.proofs.lemmas.Grind.{common_steps}
-use Rattle.std.proofs.lemmas.Bool.Decides.{nat_tests}
 use Rattle.sip_ledger.specs.inner.Accounts.{AreAccounts, account_debts, accounts_debts}
 use Rattle.sip_ledger.proofs.lists.EachLemmas.{from_to-end}
 use Rattle.sip_ledger.proofs.account.AccountLemmas.{debts_length}
@@ -9,7 +7,7 @@ use Rattle.sip_ledger.proofs.rows.SeenLemmas.{on-error}
 use Rattle.sip_ledger.proofs.accounts.each.push_some.Goals as goal
 
 pub index-requires : goal.index-requires
-index-requires c = grind (arith, nat_tests, common_steps, debts_length, row-there)
+index-requires c = grind (arith, from_to-end, debts_length, account-there, paid-front, paid-grown, paid-next, row-there, on-error)
 
 pub paid-requires-clause-account : goal.paid-requires-clause-account
 paid-requires-clause-account c =
@@ -20,7 +18,7 @@ pub returns-in_err-left-clause-accounts : goal.returns-in_err-left-clause-accoun
 returns-in_err-left-clause-accounts c = (paid-grown c.paid.new.strikes.items c.paid.ensures.kept c.loop-row.invariant.3).accounts
 
 pub returns-in_err-left-clause-err : goal.returns-in_err-left-clause-err
-returns-in_err-left-clause-err c = grind (arith, nat_tests, common_steps, paid-grown, on-error, paid-front, debts_length)
+returns-in_err-left-clause-err c = grind (arith, from_to-end, debts_length, account-there, paid-front, paid-grown, paid-next, row-there, on-error)
 
 pub returns-in_err-push_left-clause-accounts : goal.returns-in_err-push_left-clause-accounts
 returns-in_err-push_left-clause-accounts c =
@@ -28,7 +26,7 @@ returns-in_err-push_left-clause-accounts c =
     subst (AreAccounts c.args.gains.now c.paid.new.strikes.items) (sym c.in_err-push_left.ensures.err) grown.accounts
 
 pub returns-in_err-push_left-clause-err : goal.returns-in_err-push_left-clause-err
-returns-in_err-push_left-clause-err c = grind (arith, nat_tests, common_steps, paid-grown, ArePaidTo, on-error, paid-front, debts_length)
+returns-in_err-push_left-clause-err c = grind (arith, from_to-end, debts_length, account-there, paid-front, paid-grown, paid-next, row-there, on-error)
 
 pub loop-row-preserved : goal.loop-row-preserved
 loop-row-preserved c =

@@ -1,6 +1,4 @@
 use Rattle.std.proofs.Common.{◌≡◌, ◌<◌, ◌∙◌, false, length, take, get_or, ap, subst, sym, arith}
-use Rattle.std.proofs.lemmas.Grind.{common_steps}
-use Rattle.std.proofs.lemmas.Bool.Decides.{nat_tests}
 use Rattle.std.specs.Prelude.{All}
 use Rattle.std.proofs.Math.Seq.{take-length}
 use Rattle.std.proofs.lemmas.List.{take_more}
@@ -12,7 +10,7 @@ use Rattle.sip_ledger.proofs.rows.NamedLemmas.{named-here, named-nowhere}
 use Rattle.sip_ledger.proofs.accounts.named.is_named.Goals as goal
 
 pub returns-then-names : goal.returns-then-names
-returns-then-names c = grind (arith, nat_tests, common_steps, named-here)
+returns-then-names c = grind (arith, take-length, take_more, named-here, named-nowhere)
 
 pub loop-at-preserved : goal.loop-at-preserved
 loop-at-preserved c =

@@ -1,9 +1,7 @@
 use Rattle.std.proofs.Common.{arith}
-use Rattle.std.proofs.lemmas.Grind.{common_steps}
-use Rattle.std.proofs.lemmas.Bool.Decides.{nat_tests}
 use Rattle.sip_ledger.proofs.rows.NamedLemmas.{payable-owes}
 use Rattle.sip_ledger.proofs.rows.SeenLemmas.{can-pay}
 use Rattle.sip_ledger.proofs.accounts.named.names.Goals as goal
 
 pub returns-clause-is : goal.returns-clause-is
-returns-clause-is c = grind (arith, nat_tests, common_steps, can-pay, payable-owes)
+returns-clause-is c = grind (arith, payable-owes, can-pay)

@@ -1,6 +1,4 @@
 use Rattle.std.proofs.Common.{◌∙◌, arith}
-use Rattle.std.proofs.lemmas.Grind.{common_steps}
-use Rattle.std.proofs.lemmas.Bool.Decides.{nat_tests}
 use Rattle.std.proofs.lemmas.List.{with_items_is}
 use Rattle.sip_ledger.proofs.strikes.StrikeLemmas.{longer-too, more-too}
 use Rattle.sip_ledger.proofs.accounts.strikes.strike_too.Goals as goal
@@ -14,4 +12,4 @@ returns-in_ok-push-clause-ok c =
     more-too c.args.gains.now c.args.place c.args.first v.items c.push.new.self.items c.requires.first more
 
 pub returns-else-not-lengthen-clause-ok : goal.returns-else-not-lengthen-clause-ok
-returns-else-not-lengthen-clause-ok c = grind (arith, nat_tests, common_steps, with_items_is, longer-too)
+returns-else-not-lengthen-clause-ok c = grind (arith, with_items_is, longer-too, more-too)

@@ -1,6 +1,6 @@
 use Rattle.std.proofs.Common.{◌≡◌, ◌∙◌, length, subst, arith}
 use Rattle.sip_ledger.specs.inner.Accounts.{StrikeToo}
-use Rattle.sip_ledger.proofs.gains.LeftLemmas.{entries-long}
+use Rattle.sip_ledger.proofs.gains.LeftLemmas.{entries_long}
 use Rattle.sip_ledger.proofs.strikes.StrikeLemmas.{written-more, written-none}
 use Rattle.sip_ledger.proofs.accounts.strikes.write.Goals as goal
 
@@ -18,6 +18,6 @@ loop-place-preserved c =
     let new = c.strike_too.new.strikes.items in
     let first : c.len-first.result ≡ length old = c.len-first.ensures ∙ c.args.strikes.now.ok.0 in
     let kept = c.requires.kept c.loop-place.place c.loop-place.auto.place (omega arith) in
-    let count = entries-long g c.requires.gained.long in
+    let count = entries_long g c.requires.gained.long in
     let more : StrikeToo g c.loop-place.place (length old) one new = subst (λ n. StrikeToo g c.loop-place.place n one new) first c.in_ok-strike_too.ensures.ok in
     written-more g c.args.from c.loop-place.place old one new c.args.account c.loop-place.invariant more c.loop-place.auto.place (omega (arith, kept.within, count))

@@ -7,7 +7,7 @@ use Rattle.sip_ledger.specs.declared.accounts.gains.Gains.{Gains}
 use Rattle.sip_ledger.specs.declared.debt.Entry.{Entry}
 use Rattle.sip_ledger.specs.Indexes.{holds}
 use Rattle.sip_ledger.proofs.gains.FlagLemmas.{flags-more, flags-same}
-use Rattle.sip_ledger.proofs.gains.LeftLemmas.{entries-long, gains-more, gains-same}
+use Rattle.sip_ledger.proofs.gains.LeftLemmas.{entries_long, gains-more, gains-same}
 use Rattle.sip_ledger.proofs.rows.SeenLemmas.{on-error}
 use Rattle.sip_ledger.proofs.accounts.gains.Gains.push.Goals as goal
 
@@ -47,5 +47,5 @@ returns c =
     let all = gains-more g new c.args.debt c.requires entries refl (omega (arith, end, small)) c.in_ok-note.ensures.ok (rw c.deref.ensures.value at c.rise-rises.ensures)
     (omega (arith, c.max-self.ensures)) (omega (arith, c.max-self.ensures))
     (flags-more g new c.args.debt (nat_le g.highest c.args.debt.message) c.requires.flags
-    (λ newest k kept. let low = c.requires.highest k kept in omega (arith, low, leb-true g.highest c.args.debt.message newest)) c.requires.long (entries-long g c.requires.long) entries flags refl) in
+    (λ newest k kept. let low = c.requires.highest k kept in omega (arith, low, leb-true g.highest c.args.debt.message newest)) c.requires.long (entries_long g c.requires.long) entries flags refl) in
     record { gained = all.0; ok = all.1; err = tt }

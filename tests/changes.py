@@ -2,9 +2,15 @@
 
 A crate above sees the public items of the sources, with their types and contracts, the methods of traits, what is outside of all functions, and of specs/
 and proofs/ each file that one of these names, or the crate above, or another such file. It sees no comment, no body, but that of a const fn and of a
-trait's own function, no function that is private to the crate, and no proof of a function."""
+trait's own function, no function that is private to the crate, and no proof of a function.
+
+A check of a function reads of its own crate what stands outside of all functions in the sources, each contract, the function with its own proofs, and of
+specs/ and proofs/ each file that one of these names, or another such file, and each that nothing names. It reads no other function's body or own proof, but
+one that such a file names by more than its theorem, or whose head has a `dyn`, a result of an `impl` type or a cycle of calls. Of the crates below it reads
+what is seen of them by all of that."""
 
 import contextlib
+import functools
 import io
 import os
 import re
@@ -13,19 +19,26 @@ import tarfile
 
 from wrong_bodies import PARTS, TOP, blank, close_of, found_in, read
 
-# A comment, or else a text that stays as it is, or blanks.
-IN_SOURCE = re.compile(r'(//[^\n]*|/\*.*?\*/)|(b?"(?:\\.|[^"\\])*"|b?\'(?:\\[^\']+|[^\\\'\n])\')|\s+', re.S)
+# A text that stays as it is, or else blanks and comments.
+IN_SOURCE = re.compile(r'(b?"(?:\\.|[^"\\])*"|b?\'(?:\\[^\']+|[^\\\'\n])\')|(?:\s|//[^\n]*|/\*.*?\*/)+', re.S)
+# A comment that is a line of its own.
+IN_PROOF = re.compile(r"(?m)^[ \t]*--(?!.*-\}).*")
 IMPORT = re.compile(r"(?m)^[ \t]*(?:ghost )?use ([^;]*);")
 MODULE = re.compile(r"(?m)^[ \t]*mod \w+;")
-OF_TRAIT = re.compile(r"(?m)^[ \t]*(?:unsafe )?(?:pub(?:\([a-z]+\))? )?(impl(?=\b[^{;]*\bfor\b)|trait)\b[^{;]*\{")
-NAMED = re.compile(r"\bRattle\.(\w+)\.((?:specs|proofs)\.[\w.+'-]*\w)(?:\.\{([^{}]*)\})?")
+OF_TRAIT = re.compile(r"(?m)^[ \t]*(?:unsafe )?(?:pub(?:\([a-z]+\))? )?(impl(?=\b[^{;]*\bfor\b)|trait|macro_rules)\b[^{;]*\{")
+# A function with such a head may show its body: what it answers, what a `dyn` may be, or one proof with others.
+IS_OPEN = re.compile(r"\bdyn\b|->[^{]*\bimpl\b|#\[cycle\b")
+# A module of a crate, or names in it, in a proof or in an attribute.
+NAMED = re.compile(r"(?:\bRattle\.(\w+)|\b(\w+)(?=\.(?:specs|proofs)\b))((?:\.[\w+'-]+)*)\.?(?:\{([^{}]*)\})?")
 
 
-def code(path, text, line=" "):
-    """Returns the text without its comments, with one blank in the place of many, or with this in the place of those with the end of a line."""
+def code(path, text):
+    """Returns the text without its empty lines, and without its comments, but for those of specs/ and proofs/ that end a line. How far a line is indented
+    counts there, and in a contract."""
     if path.endswith(".rt"):
-        return IN_SOURCE.sub(lambda it: it[2] or (line if "\n" in it[0] else " "), text).strip()
-    return " ".join(re.sub(r"--.*", "", text).split())
+        text = IN_SOURCE.sub(lambda it: it[1] or ("\n" + it[0].rpartition("\n")[2] if "\n" in it[0] else " "), text)
+        return text.strip()
+    return "\n".join(it.rstrip() for it in IN_PROOF.sub("", text).split("\n") if it.strip())
 
 
 def head_of(plain, function):
@@ -44,30 +57,32 @@ def without(text, cuts):
 
 
 class Source:
-    """A file of src/: its functions by their names, what of it a crate above sees, and what stands outside of its functions."""
+    """A file of src/: its functions and their contracts by their names, what of it a crate above sees, and what stands outside of its functions."""
 
     def __init__(self, path, text, found):
         plain = blank(text)
         blocks = [(it.start(), close_of(plain, it.end() - 1), it[1]) for it in OF_TRAIT.finditer(plain)]
         whole, hidden = [], []
-        self.functions = {}
+        self.functions, self.heads = {}, {}
         for it in found:
             head = head_of(plain, it)
             self.functions[it.named] = self.functions.get(it.named, "") + code(path, text[head : it.end])
+            self.heads[it.named] = self.heads.get(it.named, "") + code(path, text[head : it.body])
             block = next((word for start, end, word in blocks if start <= it.start < end), None)
-            if not it.is_const and block != "trait":
+            if not it.is_const and block not in ("trait", "macro_rules") and not IS_OPEN.search(plain[head : it.body]):
                 is_public = block or re.search(r"\bpub\b(?!\s*\()", plain[head : it.start])
                 hidden.append((it.body if is_public else head, it.end))
                 whole.append((head, it.end))
         self.outside = code(path, without(text, whole))
-        self.seen, self.imports = shown_of(code(path, without(text, hidden), "\n"))
+        self.seen = shown_of(code(path, without(text, hidden)))
 
 
 def shown_of(text):
     """Returns the text without private modules and imports, and of these imports those alone that bring what the rest names."""
-    rest = IMPORT.sub("", MODULE.sub("", text))
+    rest = re.sub(r"\n\s*\n", "\n", IMPORT.sub("", MODULE.sub("", text))).strip()
     brought = [(it[1].partition("{")[0], name) for it in IMPORT.finditer(text) for name in names_of(it[1])]
-    return " ".join(rest.split()), sorted(f"{head}{{{name}}}" for head, name in brought if has(rest, name.split(" as ")[-1]))
+    imports = sorted(f"{head}{{{name}}}" for head, name in brought if name == "*" or has(rest, name.split(" as ")[-1]))
+    return "\n".join([rest, *imports] if rest else [])
 
 
 def names_of(imported):
@@ -82,46 +97,72 @@ def has(text, name):
     return all(re.search(rf"(?<!\w){it}(?!\w)", text) if re.fullmatch(r"\w+", it) else it in text for it in parts)
 
 
-class State:
-    """A crate as its files of src/, specs/ and proofs/ are: each function with its own proof, what stands outside of them, and what is seen, all by their
-    names or paths."""
+@functools.cache
+def modules_in(text):
+    """Returns the modules that the text names, or names in them, each after its crate."""
+    found = NAMED.findall(text.replace("::", "."))
+    return {(crate or word, f"{module}.{it.partition(' as ')[0].strip()}") for crate, word, module, names in found for it in names.split(",")}
 
-    def __init__(self, name, texts, above):
+
+class State:
+    """A crate as its files of src/, specs/ and proofs/ are: each function with its own proof, each contract, what stands outside of functions, and what is
+    seen by a crate above that has these texts, all by their names or paths."""
+
+    def __init__(self, name, texts, above=()):
         sources = {path: it for path, it in texts.items() if path.endswith(".rt")}
         found = found_in(sources)
         sources = {path: Source(path, text, [it for it in found if it.path == path]) for path, text in sources.items()}
-        self.name, self.texts, self.functions = name, texts, {}
+        self.name, self.functions, self.heads = name, {}, {}
         for source in sources.values():
             for named, it in source.functions.items():
                 self.functions[named] = self.functions.get(named, "") + it
+                self.heads[f"fn {named}"] = self.heads.get(f"fn {named}", "") + source.heads[named]
         self.outside = {path: sources[path].outside if path in sources else code(path, text) for path, text in texts.items()}
         for path in sorted(texts):
             own = path.removeprefix("proofs/").rpartition("/")[0].replace("/", "::")
             if path.startswith("proofs/") and own in self.functions:
                 self.functions[own] += f"\n{path} {self.outside.pop(path)}"
-        self.seen = {path: [it.seen, *it.imports] for path, it in sources.items() if it.seen}
-        shown = [text for it in self.seen.values() for text in it]
-        self.seen.update({path: self.outside[path] for path in self.reached([*above, *shown]) if path in self.outside})
+        self.parts, self.named_by = {**self.outside, **self.functions}, functools.cache(self.named_by)
+        named = self.named_in([*self.parts.values(), *self.heads.values()])
+        self.read_by_all = {**self.heads, **{path: it for path, it in self.outside.items() if path in sources or path not in named}}
+        self.shown = {path: it.seen for path, it in sources.items() if it.seen}
+        self.seen = self.seen_by(above)
+
+    def seen_by(self, above):
+        """Returns what a crate above sees that has these texts."""
+        return {**self.shown, **self.reached([*above, *self.shown.values()])}
+
+    def read_by(self, functions):
+        """Returns what a check of these functions reads of their crate."""
+        texts = {**self.read_by_all, **{it: self.functions[it] for it in functions}}
+        return {**texts, **self.reached(texts.values())}
 
     def reached(self, texts):
-        """Lists the files of specs/ and proofs/ that these texts name, or that a file names that is named."""
-        found = set()
-        while texts:
-            more = self.named(texts.pop()) - found
+        """Returns the parts that these texts name, or that a part names that is named."""
+        found, more = set(), self.named_in(texts)
+        while more:
             found |= more
-            texts += [self.texts[it] for it in more]
-        return found
+            more = self.named_in(self.parts[it] for it in more) - found
+        return {it: self.parts[it] for it in found}
 
-    def named(self, text):
-        modules = [(module, names) for crate, module, names in NAMED.findall(text) if crate == self.name]
-        files = {self.file(it) for module, names in modules for it in (module, *(f"{module}.{name.strip()}" for name in names.split(",")))}
-        return files - {None}
+    def named_in(self, texts):
+        return {it for text in texts for it in self.named_by(text)}
 
-    def file(self, module):
-        """Returns the file that has this module, or a name in it."""
-        parts = module.split(".")
-        paths = ("/".join(parts[:count]) + ".antt" for count in range(len(parts), 1, -1))
-        return next((it for it in paths if it in self.texts), None)
+    def named_by(self, text):
+        return {it for crate, module in modules_in(text) if crate in (self.name, "crate") for it in self.named(module)}
+
+    def named(self, module):
+        """Returns the file that has this module, or a name in it, or the function whose module it is, but for its theorem; or all, where it is a library."""
+        names = [it for it in module.split(".") if it]
+        if len(names) < 2:
+            return {*self.parts}
+        for count in range(len(names), 1, -1):
+            path, function = "/".join(names[:count]) + ".antt", "::".join(names[1:count])
+            if path in self.outside:
+                return {path}
+            if names[0] == "proofs" and function in self.functions:
+                return {function} if names[count : count + 1] not in (["Met"], ["Statement"]) else set()
+        return set()
 
 
 class Change:
@@ -163,6 +204,19 @@ def texts_at(base, name):
     paths = [it for it in listed if re.match(rf"crates/{name}/({'|'.join(PARTS)})/.*\.(rt|antt)$", it)]
     with tarfile.open(fileobj=io.BytesIO(git("archive", base, "--", *paths))) if paths else contextlib.nullcontext() as archive:
         return {it.removeprefix(f"crates/{name}/"): archive.extractfile(it).read().decode() for it in paths}
+
+
+def states_of(crates):
+    """Returns the states of these crates as they are, by their names."""
+    return {it.name: State(it.name, texts_in(it.folder)) for it in crates}
+
+
+def read_by(crate, functions, states):
+    """Returns what a check of these functions of a crate reads, by crate: of its own, and what is seen of those below it, of which the highest come last."""
+    read_of = {crate.name: states[crate.name].read_by(functions)}
+    for low in reversed(crate.below):
+        read_of[low] = states[low].seen_by([text for it in read_of.values() for text in it.values()])
+    return read_of
 
 
 def changes_since(base, crates):

@@ -1,6 +1,8 @@
 //! Steps by chance, on accounts and on plain lists of debts beside them.
 use crate::chance::{Chance, evens};
+use crate::wants::{holds, holds_of};
 use sip_ledger::{Accounts, Debt, Index};
+use std::alloc::{AllocError, Global};
 use std::process::Abort;
 use std::test::Fail;
 
@@ -24,7 +26,7 @@ impl Played {
     /// The number of a row.
     fn row(&self, rt: &impl Abort, chance: &mut Chance) -> usize {
         let row = chance.below(self.lists.len() as u64) as usize;
-        assert!(rt; row < self.lists.len());
+        holds(rt, row < self.lists.len(), "a row of the lists");
         row
     }
 
@@ -35,8 +37,8 @@ impl Played {
     }
 
     fn push_copy(&mut self, rt: &impl Abort, row: usize) -> Result<(), Fail> {
-        assert!(rt; row < self.accounts.len());
-        assert!(rt; row < self.lists.len());
+        holds(rt, row < self.accounts.len(), "a row of the accounts");
+        holds(rt, row < self.lists.len(), "a row of the lists");
         self.accounts.push_copy(row)?;
         let copy = self.lists[row].clone()?;
         self.lists.push(copy)?;
@@ -44,10 +46,10 @@ impl Played {
     }
 
     fn copy(&mut self, rt: &impl Abort, from: usize, to: usize) -> Result<(), Fail> {
-        assert!(rt; from < self.accounts.len());
-        assert!(rt; to < self.accounts.len());
-        assert!(rt; from < self.lists.len());
-        assert!(rt; to < self.lists.len());
+        holds(rt, from < self.accounts.len(), "a row of the accounts");
+        holds(rt, to < self.accounts.len(), "a row of the accounts");
+        holds(rt, from < self.lists.len(), "a row of the lists");
+        holds(rt, to < self.lists.len(), "a row of the lists");
         self.accounts.copy(from, to);
         let copy = self.lists[from].clone()?;
         self.lists[to] = copy;
@@ -63,21 +65,12 @@ impl Played {
         message: u64,
         moment: u64,
     ) -> Result<(), Fail> {
-        assert!(rt; to <= self.accounts.len());
+        holds(rt, to <= self.accounts.len(), "rows of the accounts");
         self.accounts.push_paid(from, to, message, moment)?;
         for row in from..to {
-            assert!(rt; row < self.lists.len());
-            let mut left = self.lists[row].clone()?;
-            let first = left
-                .iter()
-                .position(|debt| debt.message == message && moment <= debt.deadline);
-            let timely = is_timely(&left, moment);
-            if let Some(first) = first {
-                left.remove(first);
-                left.retain(|debt| debt.must || moment <= debt.deadline);
-                if timely {
-                    self.lists.push(left)?;
-                }
+            holds(rt, row < self.lists.len(), "a row of the lists");
+            if let Some(left) = left_of(&self.lists[row], message, moment)? {
+                self.lists.push(left)?;
             }
         }
         Ok(())
@@ -91,10 +84,10 @@ impl Played {
         to: usize,
         moment: u64,
     ) -> Result<(), Fail> {
-        assert!(rt; to <= self.accounts.len());
+        holds(rt, to <= self.accounts.len(), "rows of the accounts");
         self.accounts.push_timely(from, to, moment)?;
         for row in from..to {
-            assert!(rt; row < self.lists.len());
+            holds(rt, row < self.lists.len(), "a row of the lists");
             if is_timely(&self.lists[row], moment) {
                 let copy = self.lists[row].clone()?;
                 self.lists.push(copy)?;
@@ -107,7 +100,7 @@ impl Played {
     fn gain_each(&mut self, rt: &impl Abort, from: usize, debt: Debt) -> Result<(), Fail> {
         self.accounts.gain_each(from, debt)?;
         for row in from..self.lists.len() {
-            assert!(rt; row < self.lists.len());
+            holds(rt, row < self.lists.len(), "a row of the lists");
             self.lists[row].push(debt)?;
         }
         Ok(())
@@ -117,15 +110,15 @@ impl Played {
     fn expire_each(&mut self, rt: &impl Abort, from: usize, moment: u64) -> Result<(), Fail> {
         self.accounts.expire_each(from, moment)?;
         for row in from..self.lists.len() {
-            assert!(rt; row < self.lists.len());
+            holds(rt, row < self.lists.len(), "a row of the lists");
             self.lists[row].retain(|debt| debt.must || moment <= debt.deadline);
         }
         Ok(())
     }
 
     fn expire(&mut self, rt: &impl Abort, row: usize, moment: u64) -> Result<(), Fail> {
-        assert!(rt; row < self.accounts.len());
-        assert!(rt; row < self.lists.len());
+        holds(rt, row < self.accounts.len(), "a row of the accounts");
+        holds(rt, row < self.lists.len(), "a row of the lists");
         self.accounts.expire(row, moment)?;
         self.lists[row].retain(|debt| debt.must || moment <= debt.deadline);
         Ok(())
@@ -138,8 +131,8 @@ impl Played {
         debt: Debt,
         moment: u64,
     ) -> Result<(), Fail> {
-        assert!(rt; row < self.accounts.len());
-        assert!(rt; row < self.lists.len());
+        holds(rt, row < self.accounts.len(), "a row of the accounts");
+        holds(rt, row < self.lists.len(), "a row of the lists");
         self.accounts.gain_and_expire(row, debt, moment)?;
         self.lists[row].push(debt)?;
         self.lists[row].retain(|debt| debt.must || moment <= debt.deadline);
@@ -153,13 +146,13 @@ impl Played {
         message: u64,
         moment: u64,
     ) -> Result<(), Fail> {
-        assert!(rt; row < self.accounts.len());
-        assert!(rt; row < self.lists.len());
+        holds(rt, row < self.accounts.len(), "a row of the accounts");
+        holds(rt, row < self.lists.len(), "a row of the lists");
         let first = self.lists[row]
             .iter()
             .position(|debt| debt.message == message && moment <= debt.deadline);
         let can = self.accounts.can_pay(row, message, moment);
-        assert!(rt; can == first.is_some());
+        holds(rt, can == first.is_some(), "whether it can pay");
         self.accounts.pay_and_expire(row, message, moment)?;
         if let Some(first) = first {
             self.lists[row].remove(first);
@@ -169,8 +162,8 @@ impl Played {
     }
 
     fn soften(&mut self, rt: &impl Abort, row: usize) {
-        assert!(rt; row < self.accounts.len());
-        assert!(rt; row < self.lists.len());
+        holds(rt, row < self.accounts.len(), "a row of the accounts");
+        holds(rt, row < self.lists.len(), "a row of the lists");
         self.accounts.soften(row);
         for debt in self.lists[row].iter_mut() {
             debt.must = false;
@@ -178,8 +171,8 @@ impl Played {
     }
 
     fn clear(&mut self, rt: &impl Abort, row: usize) {
-        assert!(rt; row < self.accounts.len());
-        assert!(rt; row < self.lists.len());
+        holds(rt, row < self.accounts.len(), "a row of the accounts");
+        holds(rt, row < self.lists.len(), "a row of the lists");
         self.accounts.clear(row);
         self.lists[row].clear();
     }
@@ -193,7 +186,7 @@ impl Played {
 
     /// The first row goes.
     fn drop_first(&mut self, rt: &impl Abort) {
-        assert!(rt; 0 < self.lists.len());
+        holds(rt, 0 < self.lists.len(), "a list");
         self.accounts.drop_first(1);
         self.lists.remove(0);
     }
@@ -214,7 +207,7 @@ impl Played {
 
     /// What the row owes.
     fn debts(&self, rt: &(impl Abort + AllocGlobal), row: usize) -> Result<Vec<Debt>, Fail> {
-        assert!(rt; row < self.accounts.len());
+        holds(rt, row < self.accounts.len(), "a row of the accounts");
         let runs = self.accounts.runs(rt.alloc(), row)?;
         let mut debts = Vec::new(rt.alloc());
         for run in &runs {
@@ -225,30 +218,62 @@ impl Played {
         Ok(debts)
     }
 
-    /// The row owes this list, whatever it is asked.
-    fn owes(&self, rt: &(impl Abort + AllocGlobal), row: usize, list: &[Debt]) -> Result<(), Fail> {
+    /// The debts of the row are those of this list.
+    fn owes_debts(
+        &self,
+        rt: &(impl Abort + AllocGlobal),
+        row: usize,
+        list: &[Debt],
+    ) -> Result<(), Fail> {
         let debts = self.debts(rt, row)?;
-        assert!(rt; debts.as_slice() == list, "{row}");
-        assert!(rt; row < self.accounts.len());
-        assert!(rt; self.accounts.owes_nothing(row) == list.is_empty(), "{row}");
-        self.owes_first(rt, row, list)?;
+        holds_of(rt, debts.as_slice() == list, "debts", row);
+        Ok(())
+    }
+
+    /// The row has something past where this list has.
+    fn owes_in_time(
+        &self,
+        rt: &(impl Abort + AllocGlobal),
+        row: usize,
+        list: &[Debt],
+    ) -> Result<(), Fail> {
+        holds(rt, row < self.accounts.len(), "a row of the accounts");
+        let owes_nothing = self.accounts.owes_nothing(row);
+        holds_of(rt, owes_nothing == list.is_empty(), "owes nothing", row);
         let least = earliest_must(list);
-        assert!(rt; self.accounts.earliest_must(row) == least, "{row}");
+        let earliest = self.accounts.earliest_must(row);
+        holds_of(rt, earliest == least, "earliest must", row);
         let moment = least.unwrap_or(0);
         self.pays_one_first(rt, row, list, moment)?;
-        assert!(rt; self.accounts.is_timely(row, moment), "{row}");
-        let late = moment.saturating_add(1);
-        assert!(rt;
-            self.accounts.is_timely(row, late) == least.is_none(),
-            "{row}"
-        );
+        holds_of(rt, self.accounts.is_timely(row, moment), "timely", row);
+        let late = self.accounts.is_timely(row, moment.saturating_add(1));
+        holds_of(rt, late == least.is_none(), "late", row);
+        Ok(())
+    }
+
+    /// The row names the messages of this list.
+    fn owes_names(
+        &self,
+        rt: &(impl Abort + AllocGlobal),
+        row: usize,
+        list: &[Debt],
+    ) -> Result<(), Fail> {
+        holds(rt, row < self.accounts.len(), "a row of the accounts");
         let mut names = Vec::new(rt.alloc());
         self.accounts.names(rt.alloc(), row, &mut names)?;
-        assert!(rt; names.len() == list.len());
+        holds_of(rt, names.len() == list.len(), "count of names", row);
         for (name, debt) in names.iter().zip(list) {
-            assert!(rt; *name == debt.message, "{row}");
+            holds_of(rt, *name == debt.message, "name", row);
         }
         Ok(())
+    }
+
+    /// The row owes this list, whatever it is asked.
+    fn owes(&self, rt: &(impl Abort + AllocGlobal), row: usize, list: &[Debt]) -> Result<(), Fail> {
+        self.owes_debts(rt, row, list)?;
+        self.owes_first(rt, row, list)?;
+        self.owes_in_time(rt, row, list)?;
+        self.owes_names(rt, row, list)
     }
 
     /// What the row owes first is what stands first in this list, whether fewer or more debts are asked for than it owes.
@@ -259,10 +284,10 @@ impl Played {
         list: &[Debt],
     ) -> Result<(), Fail> {
         for most in [list.len() / 2, list.len(), usize::MAX] {
-            assert!(rt; row < self.accounts.len());
+            holds(rt, row < self.accounts.len(), "a row of the accounts");
             let debts = self.accounts.first_debts(rt.alloc(), row, most)?;
             let wants = list.get(..most).unwrap_or(list);
-            assert!(rt; debts.as_slice() == wants, "{row}");
+            holds_of(rt, debts.as_slice() == wants, "first debts", row);
         }
         Ok(())
     }
@@ -290,13 +315,13 @@ impl Played {
                 })
                 .map(|debt| debt.message);
             for most in 0..4 {
-                assert!(rt; row < self.accounts.len());
+                holds(rt, row < self.accounts.len(), "a row of the accounts");
                 let first = self.accounts.first_payable(row, &index, 7, moment, most);
                 let told = match first {
                     Some(first) => first == wants && most > 0,
                     None => most < 3,
                 };
-                assert!(rt; told, "{row} in {most}");
+                holds_of(rt, told, "first payable", row);
             }
         }
         Ok(())
@@ -304,46 +329,80 @@ impl Played {
 
     /// Rows are told to owe the same where their lists are the same.
     fn compares(&self, rt: &impl Abort, prints: &[u64], row: usize, other: usize) {
-        assert!(rt; row < self.accounts.len());
-        assert!(rt; other < self.accounts.len());
-        assert!(rt; row < self.lists.len());
-        assert!(rt; other < self.lists.len());
+        holds(rt, row < self.accounts.len(), "a row of the accounts");
+        holds(rt, other < self.accounts.len(), "a row of the accounts");
+        holds(rt, row < self.lists.len(), "a row of the lists");
+        holds(rt, other < self.lists.len(), "a row of the lists");
         let same = self.lists[row] == self.lists[other];
-        assert!(rt; self.accounts.same(row, other) == same, "{row} and {other}");
-        assert!(rt; row < prints.len());
-        assert!(rt; other < prints.len());
-        assert!(rt; !same || prints[row] == prints[other]);
+        holds_of(
+            rt,
+            self.accounts.same(row, other) == same,
+            "the same as",
+            row,
+        );
+        holds(rt, row < prints.len(), "a print");
+        holds(rt, other < prints.len(), "a print");
+        holds(rt, !same || prints[row] == prints[other], "prints");
+    }
+
+    /// The messages that rows owe, from the least on, each once.
+    fn messages(&self, alloc: Global) -> Result<Vec<u64>, AllocError> {
+        let mut messages = Vec::new(alloc);
+        for list in &self.lists {
+            for debt in list {
+                messages.push(debt.message)?;
+            }
+        }
+        messages.sort_unstable();
+        messages.dedup();
+        Ok(messages)
     }
 
     /// The messages that rows owe are told, from the least on, each once.
     fn names_all(&self, rt: &(impl Abort + AllocGlobal)) -> Result<(), Fail> {
+        let wants = self.messages(rt.alloc())?;
         let mut names = Vec::new(rt.alloc());
         self.accounts.all_names(&mut names)?;
-        let mut wants = Vec::new(rt.alloc());
-        for list in &self.lists {
-            for debt in list {
-                wants.push(debt.message)?;
+        holds(rt, names.as_slice() == wants.as_slice(), "all names");
+        Ok(())
+    }
+
+    /// All rows owe their lists, and these are their prints.
+    fn agree_on(&self, rt: &(impl Abort + AllocGlobal), prints: &[u64]) -> Result<(), Fail> {
+        for (row, list) in self.lists.iter().enumerate() {
+            self.owes(rt, row, list)?;
+            for other in 0..self.lists.len() {
+                self.compares(rt, prints, row, other);
             }
         }
-        wants.sort_unstable();
-        wants.dedup();
-        assert!(rt; names.as_slice() == wants.as_slice());
         Ok(())
     }
 
     /// All rows owe their lists.
     fn agree(&self, rt: &(impl Abort + AllocGlobal)) -> Result<(), Fail> {
-        assert!(rt; self.accounts.len() == self.lists.len());
+        let is_as_long = self.accounts.len() == self.lists.len();
+        holds(rt, is_as_long, "count of rows");
         self.names_all(rt)?;
         let prints = self.accounts.prints(rt.alloc(), 0)?;
-        for (row, list) in self.lists.iter().enumerate() {
-            self.owes(rt, row, list)?;
-            for other in 0..self.lists.len() {
-                self.compares(rt, &prints, row, other);
-            }
-        }
-        Ok(())
+        self.agree_on(rt, &prints)
     }
+}
+
+/// What is left of a list that pays, unless it pays nothing or must send what is past.
+fn left_of(list: &Vec<Debt>, message: u64, moment: u64) -> Result<Option<Vec<Debt>>, AllocError> {
+    let mut left = list.clone()?;
+    let first = left
+        .iter()
+        .position(|debt| debt.message == message && moment <= debt.deadline);
+    let Some(first) = first else {
+        return Ok(None);
+    };
+    if !is_timely(&left, moment) {
+        return Ok(None);
+    }
+    left.remove(first);
+    left.retain(|debt| debt.must || moment <= debt.deadline);
+    Ok(Some(left))
 }
 
 /// The least deadline of what must be sent.
@@ -445,36 +504,58 @@ fn change_many(
     }
 }
 
-/// So many steps from this number on. Deadlines rise, or do not.
-fn play(rt: &(impl Abort + AllocGlobal), seed: u64, steps: u64, rises: bool) -> Result<(), Fail> {
-    let mut chance = Chance::new(seed);
-    let mut played = Played::new(rt)?;
-    let mut now: u64 = 0;
-    for _ in 0..steps {
-        let row = played.row(rt, &mut chance);
-        let moment = if rises { now } else { chance.below(40) };
-        match chance.below(22) {
-            0 => played.soften(rt, row),
-            1 => now = now.saturating_add(chance.below(3)),
-            2 | 3 => played.expire(rt, row, moment)?,
-            4..11 => {
-                let message = chance.below(4);
-                played.pay_and_expire(rt, row, message, moment)?;
-            }
-            11..15 => change_rows(rt, &mut chance, &mut played)?,
-            15..17 => change_many(rt, &mut chance, &mut played, moment)?,
-            _ => {
-                let deadline = if rises {
-                    now.saturating_add(5)
-                } else {
-                    10 * (moment / 10)
-                };
-                gain_some(rt, &mut chance, &mut played, deadline)?;
-            }
+/// A step by chance. Deadlines rise, or do not.
+fn step(
+    rt: &(impl Abort + AllocGlobal),
+    chance: &mut Chance,
+    played: &mut Played,
+    now: &mut u64,
+    rises: bool,
+) -> Result<(), Fail> {
+    let row = played.row(rt, chance);
+    let moment = if rises { *now } else { chance.below(40) };
+    match chance.below(22) {
+        0 => played.soften(rt, row),
+        1 => *now = now.saturating_add(chance.below(3)),
+        2 | 3 => played.expire(rt, row, moment)?,
+        4..11 => {
+            let message = chance.below(4);
+            played.pay_and_expire(rt, row, message, moment)?;
         }
-        played.agree(rt)?;
+        11..15 => change_rows(rt, chance, played)?,
+        15..17 => change_many(rt, chance, played, moment)?,
+        _ => {
+            let deadline = if rises {
+                now.saturating_add(5)
+            } else {
+                10 * (moment / 10)
+            };
+            gain_some(rt, chance, played, deadline)?;
+        }
+    }
+    played.agree(rt)
+}
+
+/// So many steps from this number on.
+fn steps(
+    rt: &(impl Abort + AllocGlobal),
+    played: &mut Played,
+    seed: u64,
+    count: u64,
+    rises: bool,
+) -> Result<(), Fail> {
+    let mut chance = Chance::new(seed);
+    let mut now: u64 = 0;
+    for _ in 0..count {
+        step(rt, &mut chance, played, &mut now, rises)?;
     }
     Ok(())
+}
+
+/// So many steps from this number on, on new accounts.
+fn play(rt: &(impl Abort + AllocGlobal), seed: u64, count: u64, rises: bool) -> Result<(), Fail> {
+    let mut played = Played::new(rt)?;
+    steps(rt, &mut played, seed, count, rises)
 }
 
 #[test]
@@ -485,31 +566,51 @@ fn accounts_owe_what_plain_lists_have(rt: HostRuntime) -> Result<(), Fail> {
     Ok(())
 }
 
-/// So many steps from this number on, in each of which a row gains or pays, and loses what is past.
-fn play_with_past(rt: &(impl Abort + AllocGlobal), seed: u64, steps: u64) -> Result<(), Fail> {
-    let mut chance = Chance::new(seed);
-    let mut played = Played::new(rt)?;
-    let mut now: u64 = 0;
-    for _ in 0..steps {
-        let row = played.row(rt, &mut chance);
-        let message = chance.below(3);
-        match chance.below(6) {
-            0 => now = now.saturating_add(chance.below(4)),
-            1 if played.lists.len() < 6 => played.push_copy(rt, row)?,
-            1 => played.soften(rt, row),
-            2 | 3 => {
-                let debt = Debt {
-                    message,
-                    deadline: now.saturating_add(5),
-                    must: chance.below(2) == 0,
-                };
-                played.gain_and_expire(rt, row, debt, now)?;
-            }
-            _ => played.pay_and_expire(rt, row, message, now)?,
+/// A step by chance, in which a row gains or pays, and loses what is past.
+fn step_with_past(
+    rt: &(impl Abort + AllocGlobal),
+    chance: &mut Chance,
+    played: &mut Played,
+    now: &mut u64,
+) -> Result<(), Fail> {
+    let row = played.row(rt, chance);
+    let message = chance.below(3);
+    match chance.below(6) {
+        0 => *now = now.saturating_add(chance.below(4)),
+        1 if played.lists.len() < 6 => played.push_copy(rt, row)?,
+        1 => played.soften(rt, row),
+        2 | 3 => {
+            let debt = Debt {
+                message,
+                deadline: now.saturating_add(5),
+                must: chance.below(2) == 0,
+            };
+            played.gain_and_expire(rt, row, debt, *now)?;
         }
-        played.agree(rt)?;
+        _ => played.pay_and_expire(rt, row, message, *now)?,
+    }
+    played.agree(rt)
+}
+
+/// So many steps from this number on, in each of which a row gains or pays, and loses what is past.
+fn steps_with_past(
+    rt: &(impl Abort + AllocGlobal),
+    played: &mut Played,
+    seed: u64,
+    count: u64,
+) -> Result<(), Fail> {
+    let mut chance = Chance::new(seed);
+    let mut now: u64 = 0;
+    for _ in 0..count {
+        step_with_past(rt, &mut chance, played, &mut now)?;
     }
     Ok(())
+}
+
+/// So many steps from this number on, on new accounts.
+fn play_with_past(rt: &(impl Abort + AllocGlobal), seed: u64, count: u64) -> Result<(), Fail> {
+    let mut played = Played::new(rt)?;
+    steps_with_past(rt, &mut played, seed, count)
 }
 
 #[test]
@@ -520,25 +621,69 @@ fn rows_gain_and_pay_and_lose_what_is_past(rt: HostRuntime) -> Result<(), Fail> 
     Ok(())
 }
 
-/// A row owes equal debts as often as it gained them, also about the counts at which a word of 64 bits would end.
-#[test]
-fn equal_debts_count_as_often_as_they_were_gained(rt: HostRuntime) -> Result<(), Fail> {
+/// The first row gains so many equal debts, and pays them and one more.
+fn gains_and_pays(
+    rt: &(impl Abort + AllocGlobal),
+    played: &mut Played,
+    count: usize,
+) -> Result<(), Fail> {
     let debt = Debt {
         message: 7,
         deadline: 10,
         must: true,
     };
+    for _ in 0..count {
+        played.gain_and_expire(rt, 0, debt, 0)?;
+    }
+    played.agree(rt)?;
+    for _ in 0..count {
+        played.pay_and_expire(rt, 0, 7, 10)?;
+    }
+    played.pay_and_expire(rt, 0, 7, 10)?;
+    played.agree(rt)
+}
+
+/// A row of new accounts gains so many equal debts, and pays them and one more.
+fn gains_and_pays_anew(rt: &(impl Abort + AllocGlobal), count: usize) -> Result<(), Fail> {
+    let mut played = Played::new(rt)?;
+    gains_and_pays(rt, &mut played, count)
+}
+
+/// A row owes equal debts as often as it gained them, also about the counts at which a word of 64 bits would end.
+#[test]
+fn equal_debts_count_as_often_as_they_were_gained(rt: HostRuntime) -> Result<(), Fail> {
     for count in [0, 1, 63, 64, 65] {
-        let mut played = Played::new(&rt)?;
-        for _ in 0..count {
-            played.gain_and_expire(&rt, 0, debt, 0)?;
-        }
-        played.agree(&rt)?;
-        for _ in 0..count {
-            played.pay_and_expire(&rt, 0, 7, 10)?;
-        }
-        played.pay_and_expire(&rt, 0, 7, 10)?;
-        played.agree(&rt)?;
+        gains_and_pays_anew(&rt, count)?;
+    }
+    Ok(())
+}
+
+/// A moment at which debts come to both rows, and the rows pay or let others expire.
+fn lives(rt: &(impl Abort + AllocGlobal), played: &mut Played, moment: u64) -> Result<(), Fail> {
+    let debt = Debt {
+        message: moment % 5,
+        deadline: moment.saturating_add(3),
+        must: moment % 7 == 0,
+    };
+    played.gain_and_expire(rt, 0, debt, 0)?;
+    played.gain_and_expire(rt, 1, debt, 0)?;
+    played.pay_and_expire(rt, 0, moment.saturating_add(3) % 5, moment)?;
+    played.pay_and_expire(rt, 1, moment.saturating_add(4) % 5, moment)?;
+    played.expire(rt, 0, moment)?;
+    played.expire(rt, 1, moment)?;
+    played.accounts.tidy();
+    played.agree(rt)
+}
+
+/// Two rows live for so many moments.
+fn lives_long(
+    rt: &(impl Abort + AllocGlobal),
+    played: &mut Played,
+    moments: u64,
+) -> Result<(), Fail> {
+    played.push_copy(rt, 0)?;
+    for moment in 0..moments {
+        lives(rt, played, moment)?;
     }
     Ok(())
 }
@@ -547,21 +692,23 @@ fn equal_debts_count_as_often_as_they_were_gained(rt: HostRuntime) -> Result<(),
 #[test]
 fn what_is_owed_is_told_after_a_long_life(rt: HostRuntime) -> Result<(), Fail> {
     let mut played = Played::new(&rt)?;
-    played.push_copy(&rt, 0)?;
-    for moment in 0..150_u64 {
+    lives_long(&rt, &mut played, 150)
+}
+
+/// The first row comes to owe a hundred messages, and pays them in a mixed order.
+fn pays_in_any_order(rt: &(impl Abort + AllocGlobal), played: &mut Played) -> Result<(), Fail> {
+    for message in 0..100 {
         let debt = Debt {
-            message: moment % 5,
-            deadline: moment + 3,
-            must: moment % 7 == 0,
+            message,
+            deadline: 10,
+            must: message % 2 == 0,
         };
-        played.gain_and_expire(&rt, 0, debt, 0)?;
-        played.gain_and_expire(&rt, 1, debt, 0)?;
-        played.pay_and_expire(&rt, 0, (moment + 3) % 5, moment)?;
-        played.pay_and_expire(&rt, 1, (moment + 4) % 5, moment)?;
-        played.expire(&rt, 0, moment)?;
-        played.expire(&rt, 1, moment)?;
+        played.gain_and_expire(rt, 0, debt, 0)?;
+    }
+    for step in 0..100_u64 {
+        played.pay_and_expire(rt, 0, step * 37 % 100, 5)?;
         played.accounts.tidy();
-        played.agree(&rt)?;
+        played.agree(rt)?;
     }
     Ok(())
 }
@@ -570,18 +717,5 @@ fn what_is_owed_is_told_after_a_long_life(rt: HostRuntime) -> Result<(), Fail> {
 #[test]
 fn one_row_pays_in_any_order(rt: HostRuntime) -> Result<(), Fail> {
     let mut played = Played::new(&rt)?;
-    for message in 0..100 {
-        let debt = Debt {
-            message,
-            deadline: 10,
-            must: message % 2 == 0,
-        };
-        played.gain_and_expire(&rt, 0, debt, 0)?;
-    }
-    for step in 0..100_u64 {
-        played.pay_and_expire(&rt, 0, step * 37 % 100, 5)?;
-        played.accounts.tidy();
-        played.agree(&rt)?;
-    }
-    Ok(())
+    pays_in_any_order(&rt, &mut played)
 }

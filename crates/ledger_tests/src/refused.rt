@@ -1,6 +1,6 @@
 //! Calls on accounts in which a growth is refused. `tests/growths` refuses each growth in turn: the test then fails with want of memory, once it has
 //! seen that the call left all as it was, and that the same call succeeds with memory.
-use crate::wants::is;
+use crate::wants::{holds, holds_of, is};
 use sip_ledger::{Accounts, Debt};
 use std::alloc::AllocError;
 use std::process::Abort;
@@ -14,10 +14,10 @@ fn alike(
 ) -> Result<(), Fail> {
     is(rt, accounts.len(), twin.len());
     for row in 0..accounts.len() {
-        assert!(rt; row < twin.len());
+        holds(rt, row < twin.len(), "a row of the twin");
         let owed = accounts.runs(rt.alloc(), row)?;
         let owes = twin.runs(rt.alloc(), row)?;
-        assert!(rt; owed.as_slice() == owes.as_slice(), "{row}");
+        holds_of(rt, owed.as_slice() == owes.as_slice(), "debts", row);
     }
     Ok(())
 }
@@ -32,7 +32,7 @@ fn step(rt: &impl Abort, accounts: &mut Accounts, number: u32) -> Result<(), All
         must: number % 2 == 0,
     };
     let rows = accounts.len();
-    assert!(rt; 1 < rows);
+    holds(rt, 1 < rows, "two rows");
     match number % 8 {
         0 => accounts.push(),
         1 => accounts.push_copy(0),
@@ -66,26 +66,28 @@ fn names_again(rt: &(impl Abort + AllocGlobal), accounts: &Accounts) -> Result<(
     let mut names = Vec::new(rt.alloc());
     let asked = accounts.all_names(&mut names);
     if asked.is_err() {
-        assert!(rt; names.is_empty());
+        holds(rt, names.is_empty(), "no names");
         accounts.all_names(&mut names)?;
     }
     for number in &names {
-        assert!(rt; *number < 3);
+        holds(rt, *number < 3, "a name");
     }
     Ok(asked?)
 }
 
-#[test]
-fn accounts_are_as_before_after_a_refused_growth(rt: HostRuntime) -> Result<(), Fail> {
-    let mut accounts = Accounts::new(rt.alloc());
-    let mut twin = Accounts::new(rt.alloc());
+/// Does 48 steps on two rows, each by a second call where memory was refused, and keeps the rows few.
+fn go_on(
+    rt: &(impl Abort + AllocGlobal),
+    accounts: &mut Accounts,
+    twin: &mut Accounts,
+) -> Result<(), Fail> {
     for _ in 0..2 {
         accounts.push()?;
         twin.push()?;
     }
     for number in 0..48_u32 {
-        step_again(&rt, &mut accounts, &mut twin, number)?;
-        names_again(&rt, &accounts)?;
+        step_again(rt, accounts, twin, number)?;
+        names_again(rt, accounts)?;
         if number % 8 == 7 {
             accounts.tidy();
             twin.tidy();
@@ -94,4 +96,11 @@ fn accounts_are_as_before_after_a_refused_growth(rt: HostRuntime) -> Result<(), 
         }
     }
     Ok(())
+}
+
+#[test]
+fn accounts_are_as_before_after_a_refused_growth(rt: HostRuntime) -> Result<(), Fail> {
+    let mut accounts = Accounts::new(rt.alloc());
+    let mut twin = Accounts::new(rt.alloc());
+    go_on(&rt, &mut accounts, &mut twin)
 }

@@ -11,13 +11,14 @@ pub fn led_branch(text: &[u8]) -> Option<&[u8]>
     ensures { option_copied result ≡ led_branch text.now }
 {
     let line = via_line(text)?;
-    if line.starts_with(b"Via:") {
-        return branch_from_stop(&line[4..]);
-    }
-    if line.starts_with(b"v:") {
-        return branch_from_stop(&line[2..]);
-    }
-    None
+    let past = if line.starts_with(b"Via:") {
+        4
+    } else if line.starts_with(b"v:") {
+        2
+    } else {
+        return None;
+    };
+    branch_from_stop(&line[past..])
 }
 
 /// The text from the first line that begins as a Via does, after the first line of all.

@@ -1,5 +1,5 @@
 //! The parts of a log that is cut by branch.
-ghost use Rattle.std.specs.Prelude.{◌≡◌, ◌≤◌, ◌<◌, MatchOption, IfOk, List, ℕ, None, option_copied};
+ghost use Rattle.std.specs.Prelude.{◌≡◌, ◌≤◌, ◌<◌, ◌*◌, ◌%◌, ◌^◌, MatchOption, IfOk, List, ℕ, None, bit_xor, fold, option_copied};
 ghost use Rattle.sip_standard.specs.Case.{folded};
 ghost use Rattle.sip_part.specs.Led.{led_branch};
 ghost use Rattle.sip_part.specs.Part.{PartOf, TellsBranch, compared, falls_into, fnv1a};
@@ -81,11 +81,25 @@ impl Part {
     }
 }
 
+/// The sum with which FNV-1a goes on after the cookie `z9hG4bK` in lower case, with which nearly every branch begins.
+const COOKIE_SUM: u32 = 838_142_484;
+
 /// FNV-1a of 32 bits of the bytes of the text in lower case.
 fn fnv1a(text: &[u8]) -> u32
     ensures { result ≡ fnv1a (folded text.now) }
 {
-    let mut sum: u32 = 2_166_136_261;
+    if text.starts_with(b"z9hG4bK") {
+        return joined(COOKIE_SUM, &text[7..]);
+    }
+    joined(2_166_136_261, text)
+}
+
+/// The sum with which FNV-1a goes on from this one after the bytes of the text in lower case.
+#[inline(always)]
+fn joined(start: u32, text: &[u8]) -> u32
+    ensures { result ≡ fold (λ sum byte. (bit_xor sum byte * 16777619) % 2 ^ 32) start (folded text.now) }
+{
+    let mut sum = start;
     for byte in text {
         sum = (sum ^ u32::from(lower(*byte))).wrapping_mul(16_777_619);
     }

@@ -1,5 +1,5 @@
 //! What an entry of a log says to the judge.
-ghost use Rattle.std.specs.Prelude.{◌≤◌, ◌<◌, ◌≡◌, ℕ, List, IfOk, OnErr};
+ghost use Rattle.std.specs.Prelude.{◌≤◌, ◌<◌, ◌≡◌, ℕ, List, Some, IfOk, OnErr};
 ghost use Rattle.sip_standard.specs.Times.{last_moment};
 ghost use Rattle.sip_machine.specs.Texts.{Keeps};
 ghost use Rattle.sip_standard.specs.Key.{KeyParts};
@@ -90,6 +90,27 @@ pub(crate) fn observe(alloc: Global, book: &mut Book, entry: &Entry) -> Result<O
     let Some(direction) = direction_of(entry.action) else {
         return Ok(told_without_message(entry.action));
     };
+    observe_message(alloc, book, entry, direction)
+}
+
+/// Reads the message of an entry, which went this way, and keeps it in the book if it concerns a transaction. So an entry without a message needs
+/// no place for one. On an error the book is as before.
+#[inline]
+fn observe_message(
+    alloc: Global,
+    book: &mut Book,
+    entry: &Entry,
+    direction: Direction,
+) -> Result<Observed, AllocError>
+    requires limit { entry.now.moment ≤ last_moment }
+    requires numbered { (n : ℕ) → Keeps book.old n → n < entry.now.number }
+    requires direction { direction_of entry.now.action ≡ Some direction }
+    ensures observed { IfOk result (λ told. (es : List (Observation KeyParts)) → (e : Observation KeyParts) × Sees es (item entry.now) e
+        × IsObserved book.new es (item entry.now) told e) }
+    ensures heard { IfOk result (IsHeard book.new entry.now.moment) }
+    ensures kept { IfOk result (IsKept book.old book.new entry.now) }
+    ensures err { OnErr result (book.new ≡ book.old) }
+{
     let message = match Message::read(alloc, entry.bytes.as_slice()) {
         Ok(message) => message,
         Err(ReadError::Fault(fault)) => return Ok(Observed::Fault(fault)),

@@ -121,7 +121,8 @@ pub(crate) fn cut_to(
     Ok(())
 }
 
-/// Reads on after the header to the end of the log, and writes what is found. Every entry is read into the same buffer.
+/// Reads on after the header to the end of the log, and writes what is found. Every entry is read into the same buffer, and made anew of its
+/// parts, as in `walk`.
 fn write_entries<R: Source, W: Sink, H: BuildHasher + Drop>(
     alloc: Global,
     survey: &mut Survey<H>,
@@ -145,7 +146,13 @@ fn write_entries<R: Source, W: Sink, H: BuildHasher + Drop>(
     let mut count = 0;
     loop {
         match read_next(progress, buffer, reader)? {
-            Next::Entry(mut entry) => {
+            Next::Entry(entry) => {
+                let mut entry = Entry {
+                    number: entry.number,
+                    moment: entry.moment,
+                    action: entry.action,
+                    bytes: entry.bytes,
+                };
                 count = entry.number;
                 found.clear();
                 cut_to(alloc, part, &mut entry)?;

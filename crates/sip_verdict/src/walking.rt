@@ -59,7 +59,8 @@ fn judge_on<H: BuildHasher>(
 }
 
 /// Reads a log and judges it, entry by entry. It answers what is listed of the entry that is the aim, or the verdict if the walk ends before
-/// it. Every entry is read into the same buffer.
+/// it. Every entry is read into the same buffer. It is made anew of its parts, since a move of the whole would also copy the unused bytes
+/// beside its action, once for each answer that it passes through.
 pub(crate) fn walk<R: Source, H: BuildHasher + Drop>(
     alloc: Global,
     reader: &mut R,
@@ -84,6 +85,12 @@ pub(crate) fn walk<R: Source, H: BuildHasher + Drop>(
     loop {
         match read_next(&mut progress, buffer, reader)? {
             Next::Entry(entry) => {
+                let entry = Entry {
+                    number: entry.number,
+                    moment: entry.moment,
+                    action: entry.action,
+                    bytes: entry.bytes,
+                };
                 if aim.is_entry(entry.number) {
                     return Ok(Ok(standing.list(alloc, &entry)?));
                 }

@@ -1,10 +1,8 @@
-use Rattle.std.proofs.Common.{[], inl, inr, refl, sym, ap, ◌∙◌}
-use Rattle.sip_message.specs.SaidOf.{said_of}
+use Rattle.std.proofs.Common.{refl, sym, ◌∙◌}
 use Rattle.sip_log.specs.Told.{item}
 use Rattle.sip_standard.specs.Observation.{silent_observation}
 use Rattle.sip_standard.specs.VerdictOf.{keys_in}
-use Rattle.sip_verdict.specs.inner.Concerned.{each}
-use Rattle.sip_verdict.proofs.judges.ObservingLemmas.{going, going_on, observes, observes_silent, silent_observed, silent_heard, silent_kept, observes_fault, observes_no_cookie, keyless_observation, observes_none, observes_heard, concerns_some, each_some, event_fits, going_says, event_kept}
+use Rattle.sip_verdict.proofs.judges.ObservingLemmas.{observes_silent, silent_observed, silent_heard, silent_kept}
 use Rattle.sip_verdict.proofs.observing.observe.Goals as goal
 
 pub returns-in_default-clause-observed : goal.returns-in_default-clause-observed
@@ -18,71 +16,3 @@ returns-in_default-clause-heard c = rw c.told_without_message.ensures (silent_he
 
 pub returns-in_default-clause-kept : goal.returns-in_default-clause-kept
 returns-in_default-clause-kept c = rw c.told_without_message.ensures (silent_kept c.args.book.now c.args.book.now c.args.entry.now (sym c.direction_of.ensures ∙ c.in_default.is) refl)
-
-pub returns-in-None-clause-observed : goal.returns-in-None-clause-observed
-returns-in-None-clause-observed c es =
-    let i = item c.args.entry.now in
-    let keys = rw c.in-None.is at c.in-Ok-keys_of.ensures in (
-      keyless_observation i (said_of c.in-Ok.message),
-      observes es i _ c.in-Some.direction (sym c.direction_of.ensures ∙ c.in-Some.is)
-          (observes_none i c.in-Some.direction c.as_slice.result.now c.in-Ok.message c.as_slice.ensures.value c.in-Ok.ensures keys.0 keys.1),
-      (refl, refl, refl),
-    )
-
-pub returns-in-Err-Fault-clause-observed : goal.returns-in-Err-Fault-clause-observed
-returns-in-Err-Fault-clause-observed c es =
-    let i = item c.args.entry.now in
-    rw c.in-Err-Fault.fault-is (
-      _,
-      observes es i _ c.in-Some.direction (sym c.direction_of.ensures ∙ c.in-Some.is)
-          (observes_fault i c.in-Some.direction c.as_slice.result.now _ c.as_slice.ensures.value (rw c.in-Err-Fault.field-0-is at c.in-Err-Fault.ensures)),
-      refl,
-    )
-
-pub returns-in-Err-NoCookie-clause-observed : goal.returns-in-Err-NoCookie-clause-observed
-returns-in-Err-NoCookie-clause-observed c es =
-    let i = item c.args.entry.now in (
-      _,
-      observes es i _ c.in-Some.direction (sym c.direction_of.ensures ∙ c.in-Some.is)
-          (observes_no_cookie i c.in-Some.direction c.as_slice.result.now c.in-Ok.message c.as_slice.ensures.value c.in-Ok.ensures (rw c.in-Err-NoCookie.field-0-is at c.in-Err-NoCookie.ensures)),
-      refl,
-    )
-
-pub of-event-requires-clause-action : goal.of-event-requires-clause-action
-of-event-requires-clause-action c = going c.args.entry.now.action c.in-Some.direction (sym c.direction_of.ensures ∙ c.in-Some.is)
-
-pub of-event-requires-clause-message : goal.of-event-requires-clause-message
-of-event-requires-clause-message c = going_on c.args.entry.now.action c.in-Some.direction (sym c.direction_of.ensures ∙ c.in-Some.is)
-
-pub keep_to-requires-clause-read : goal.keep_to-requires-clause-read
-keep_to-requires-clause-read c = rw (c.in_ok-number.ensures.ok.1, c.as_slice-2.ensures.value, ← c.as_slice.ensures.value) c.in-Ok.ensures
-
-pub returns-clause-observed : goal.returns-clause-observed
-returns-clause-observed c es =
-    let i = item c.args.entry.now in
-    rw c.keep_to.ensures (
-      _,
-      observes es i _ c.in-Some.direction (sym c.direction_of.ensures ∙ c.in-Some.is)
-          (observes_heard i c.in-Some.direction c.as_slice.result.now c.in-Ok.message c.add.new.self c.of-event.result c.in_ok-number.number (each c.in-Ok-keys_of.concerned)
-          c.as_slice.ensures.value c.in-Ok.ensures c.in-Ok-keys_of.ensures.0 c.in-Ok-keys_of.ensures.1 c.of-event.ensures (c.in_ok-number.ensures.ok.1 ∙ c.as_slice-2.ensures.value)),
-      refl,
-    )
-
-pub returns-clause-heard : goal.returns-clause-heard
-returns-clause-heard c =
-    let fits = event_fits (item c.args.entry.now) c.in-Ok.message c.add.new.self c.of-event.result c.in_ok-number.number c.of-event.ensures c.in_ok-number.ensures.ok.0 c.requires.limit in
-    rw c.keep_to.ensures (fits.0, fits.1, c.in-Ok-keys_of.ensures.2, c.in-Ok-keys_of.ensures.3)
-
-pub returns-clause-kept : goal.returns-clause-kept
-returns-clause-kept c =
-    let i = item c.args.entry.now in
-    let seen = returns-clause-observed c [] in
-    let kept = event_kept i c.in-Ok.message c.add.new.self c.of-event.result c.in_ok-number.number _ c.of-event.ensures c.in_ok-number.ensures.ok.0 (c.in_ok-number.ensures.ok.1 ∙ c.as_slice-2.ensures.value) in
-    let some = concerns_some i (each c.in-Ok-keys_of.concerned) seen.0 seen.1 (ap (λ o. o.keys) seen.2) (each_some c.in-Ok-keys_of.concerned c.in-Ok-keys_of.ensures.3 c.in_default-concerned.not-None) in
-    rw c.keep_to.ensures (
-      going_says i.action c.in-Some.direction (sym c.direction_of.ensures ∙ c.in-Some.is),
-      some,
-      kept.0,
-      kept.1,
-      elim (rw c.as_slice-2.ensures.value at c.in_ok-number.ensures.grows) [ inl h ↦ inl h.0 | inr h ↦ inr h.0 ],
-    )

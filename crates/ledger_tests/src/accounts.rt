@@ -312,10 +312,22 @@ impl Played {
         Ok(())
     }
 
+    /// The messages that rows owe are between two numbers.
+    fn spans(&self, rt: &impl Abort) {
+        let (low, high) = self.accounts.span();
+        for list in &self.lists {
+            for debt in list {
+                assert!(rt; low <= debt.message);
+                assert!(rt; debt.message <= high);
+            }
+        }
+    }
+
     /// All rows owe their lists.
     fn agree(&self, rt: &(impl Abort + AllocGlobal)) -> Result<(), Fail> {
         assert!(rt; self.accounts.len() == self.lists.len());
         self.names_all(rt)?;
+        self.spans(rt);
         let prints = self.accounts.prints(rt.alloc(), 0)?;
         for (row, list) in self.lists.iter().enumerate() {
             self.owes(rt, row, list)?;

@@ -378,11 +378,23 @@ impl Played {
         Ok(())
     }
 
+    /// The messages that rows owe are between two numbers.
+    fn spans(&self, rt: &impl Abort) {
+        let (low, high) = self.accounts.span();
+        for list in &self.lists {
+            for debt in list {
+                assert!(rt; low <= debt.message);
+                assert!(rt; debt.message <= high);
+            }
+        }
+    }
+
     /// All rows owe their lists.
     fn agree(&self, rt: &(impl Abort + AllocGlobal)) -> Result<(), Fail> {
         let is_as_long = self.accounts.len() == self.lists.len();
         holds(rt, is_as_long, "count of rows");
         self.names_all(rt)?;
+        self.spans(rt);
         let prints = self.accounts.prints(rt.alloc(), 0)?;
         self.agree_on(rt, &prints)
     }
